@@ -1,0 +1,5 @@
+pub mod Attempts
+pub mod Levels
+pub mod Names
+pub mod Stats
+pub mod Statuses

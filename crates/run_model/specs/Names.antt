@@ -1,0 +1,33 @@
+-- The parts of a test's name.
+use Rattle.std.specs.Prelude.{ℕ, ◌+◌, List, [], ◌∷◌, ◌&&◌, ◌==◌, Bool, true, false, Option, None, Some, take, drop, suc}
+use Rattle.std.specs.Option.{option_map, option_map_or}
+use Rattle.std.specs.Borrow.{Bor}
+
+-- the text begins with `::`
+abbrev pub begins_with_colons : List ℕ → Bool
+begins_with_colons [] = false
+begins_with_colons (c ∷ []) = false
+begins_with_colons (c ∷ d ∷ t) = (c == 58) && (d == 58)
+
+-- a place in a text with one byte more in front: the place 0 where there is no later one and the flag is set
+abbrev pub place_after : Bool → Option ℕ → Option ℕ
+place_after here (Some i) = Some (suc i)
+place_after true None = Some 0
+place_after false None = None
+
+-- where the text has its last `::`
+unfoldable pub last_colons : List ℕ → Option ℕ
+last_colons [] = None
+last_colons (c ∷ t) = place_after (begins_with_colons (c ∷ t)) (last_colons t)
+
+-- what stands before the last `::`
+abbrev pub module_path_of : List ℕ → Option (List ℕ)
+module_path_of t = option_map (λ i. take i t) (last_colons t)
+
+-- what stands after the last `::`, all where there is none
+abbrev pub last_name_of : List ℕ → List ℕ
+last_name_of t = option_map_or (λ i. drop (i + 2) t) (last_colons t) t
+
+-- what the reference points to
+abbrev pub option_text : Option (Bor (List ℕ)) → Option (List ℕ)
+option_text o = option_map (λ (s : Bor (List ℕ)). s.now) o

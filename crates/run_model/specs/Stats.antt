@@ -1,0 +1,44 @@
+-- What the statistics of a run come to.
+use Rattle.std.specs.Prelude.{◌-◌, Bool, Option, None, Some, ◌||◌, ◌==◌, nat_lt, if◌then◌else◌}
+use Rattle.run_model.specs.declared.level.CancelReason.{CancelReason}
+use Rattle.run_model.specs.declared.stats.RunStats.{RunStats}
+use Rattle.run_model.specs.declared.stats.RunStatsFailureKind.{RunStatsFailureKind}
+use Rattle.run_model.specs.declared.stats.RunStatsFailureKind.TheVariants.{SetupScript, Test}
+use Rattle.run_model.specs.declared.stats.FinalRunStats.{FinalRunStats}
+use Rattle.run_model.specs.declared.stats.FinalRunStats.TheVariants.{Success, NoTestsRun, Cancelled, Failed}
+use Rattle.run_model.specs.declared.stats.RunFinishedStats.{RunFinishedStats}
+use Rattle.run_model.specs.declared.stats.RunFinishedStats.TheVariants.{Single}
+
+-- a setup script failed, could not be started or timed out
+abbrev pub has_setup_failures : RunStats → Bool
+has_setup_failures s =
+    nat_lt 0 s.setup_scripts_failed || (nat_lt 0 s.setup_scripts_exec_failed || nat_lt 0 s.setup_scripts_timed_out)
+
+-- the same of a test or a setup script
+abbrev pub has_failures : RunStats → Bool
+has_failures s = nat_lt 0 s.failed || (nat_lt 0 s.exec_failed || (nat_lt 0 s.timed_out || has_setup_failures s))
+
+-- whether a setup script stands behind a failure, else how many tests did not run
+abbrev pub failure_kind : RunStats → RunStatsFailureKind
+failure_kind s =
+    if has_setup_failures s then SetupScript
+    else Test s.initial_run_count (s.initial_run_count - s.finished_count)
+
+-- without a reason: failures, no tests, too few tests, or a success
+abbrev pub uncancelled_stats_of : RunStats → FinalRunStats
+uncancelled_stats_of s =
+    if has_failures s then Failed (failure_kind s)
+    else (if s.initial_run_count == 0 then NoTestsRun
+    else (if nat_lt s.finished_count s.initial_run_count then Cancelled None (failure_kind s) else Success))
+
+abbrev pub stats_under : Option CancelReason → RunStats → FinalRunStats
+stats_under None s = uncancelled_stats_of s
+stats_under (Some reason) s = Cancelled (Some reason) (failure_kind s)
+
+-- what the run came to: a reason stands above all else
+abbrev pub final_stats_of : RunStats → FinalRunStats
+final_stats_of s = stats_under s.cancel_reason s
+
+-- what the statistics that end a run come to
+abbrev pub final_stats_of_run : RunFinishedStats → FinalRunStats
+final_stats_of_run (Single s) = final_stats_of s

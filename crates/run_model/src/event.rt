@@ -1,0 +1,55 @@
+//! What happens in a run.
+
+use crate::name::{ProfileName, TestInstanceId};
+use crate::stats::{RunFinishedStats, RunStats};
+use crate::status::ExecutionStatuses;
+use crate::time::Nanos;
+use uuid::Uuid;
+
+/// An event of a run.
+#[derive(Debug, Drop)]
+pub struct TestEvent<'a> {
+    /// How long the run has taken.
+    pub elapsed: Nanos,
+    /// What happened.
+    pub kind: TestEventKind<'a>,
+}
+
+/// What happened.
+#[derive(Debug, Drop)]
+pub enum TestEventKind<'a> {
+    /// The run has started.
+    RunStarted {
+        /// How many tests and binaries there are.
+        test_list: TestCounts,
+        /// The run's id.
+        run_id: Uuid,
+        /// The profile's name.
+        profile_name: ProfileName,
+    },
+    /// A test has finished.
+    TestFinished {
+        /// The test.
+        test_instance: TestInstanceId<'a>,
+        /// Its attempts.
+        run_statuses: ExecutionStatuses,
+        /// The counts of the run, this test among them.
+        current_stats: RunStats,
+    },
+    /// The run has finished.
+    RunFinished {
+        /// How long it took.
+        elapsed: Nanos,
+        /// What it came to.
+        run_stats: RunFinishedStats,
+    },
+}
+
+/// How many tests and binaries a run has.
+#[derive(Clone, Copy, Debug, PartialEq, Eq)]
+pub struct TestCounts {
+    /// The tests that are to run.
+    pub run_count: usize,
+    /// The binaries that were listed.
+    pub listed_binary_count: usize,
+}

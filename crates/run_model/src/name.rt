@@ -1,0 +1,153 @@
+//! Names, which contracts see as the bytes of their texts.
+
+ghost use Rattle.std.specs.Prelude.{◌≡◌, IfOk, MatchOption};
+ghost use Rattle.std.specs.Ordering.{nat_cmp};
+ghost use Rattle.std.specs.Cmp.Lexicographic.{slice_cmp};
+ghost use Rattle.run_model.specs.Names.{module_path_of, last_name_of, option_text};
+
+use crate::memory::OutOfMemory;
+use std::alloc::Global;
+use std::cmp::Ordering;
+use std::marker::Model;
+
+/// The id of a test binary, as `alpha` or `alpha::bin/beta`.
+#[derive(Debug, Drop)]
+pub struct RustBinaryId {
+    text: String,
+}
+
+impl Model for RustBinaryId {
+    ghost use Rattle.std.specs.Prelude.{List, ℕ, string_bytes};
+
+    ghost Value = { List ℕ };
+
+    ghost view = { λ id. string_bytes id.text };
+}
+
+impl RustBinaryId {
+    /// Copies the text.
+    pub fn new(alloc: Global, text: &str) -> Result<Self, OutOfMemory>
+        ensures { IfOk result (λ id. id ≡ text.now) }
+    {
+        Ok(RustBinaryId {
+            text: String::from_str(alloc, text)?,
+        })
+    }
+
+    /// The text.
+    pub fn as_str(&self) -> &str
+        ensures { result.now ≡ self.now }
+    {
+        self.text.as_str()
+    }
+
+    /// Compares the bytes of the texts.
+    pub fn compare(&self, other: &RustBinaryId) -> Ordering
+        ensures { result ≡ slice_cmp nat_cmp self.now other.now }
+    {
+        self.as_str().cmp(&other.as_str())
+    }
+}
+
+/// The name of a test within its binary, as `module::name`.
+#[derive(Debug, Drop)]
+pub struct TestCaseName {
+    text: String,
+}
+
+impl Model for TestCaseName {
+    ghost use Rattle.std.specs.Prelude.{List, ℕ, string_bytes};
+
+    ghost Value = { List ℕ };
+
+    ghost view = { λ name. string_bytes name.text };
+}
+
+impl TestCaseName {
+    /// Copies the text.
+    pub fn new(alloc: Global, text: &str) -> Result<Self, OutOfMemory>
+        ensures { IfOk result (λ name. name ≡ text.now) }
+    {
+        Ok(TestCaseName {
+            text: String::from_str(alloc, text)?,
+        })
+    }
+
+    /// The text.
+    pub fn as_str(&self) -> &str
+        ensures { result.now ≡ self.now }
+    {
+        self.text.as_str()
+    }
+
+    /// Compares the bytes of the texts.
+    pub fn compare(&self, other: &TestCaseName) -> Ordering
+        ensures { result ≡ slice_cmp nat_cmp self.now other.now }
+    {
+        self.as_str().cmp(&other.as_str())
+    }
+
+    /// The text cut at its last `::`: the module path, if there is one, and the name in it.
+    ///
+    /// ```
+    /// name.module_path_and_name() // (Some("a::b"), "c") for a::b::c
+    /// ```
+    pub fn module_path_and_name(&self) -> (Option<&str>, &str)
+        ensures path { option_text result.0 ≡ module_path_of self.now }
+        ensures name { result.1.now ≡ last_name_of self.now }
+    {
+        cut_at_last_colons(self.as_str())
+    }
+}
+
+// The text cut at its last `::`.
+fn cut_at_last_colons(text: &str) -> (Option<&str>, &str)
+    ensures path { option_text result.0 ≡ module_path_of text.now }
+    ensures name { result.1.now ≡ last_name_of text.now }
+{
+    match text.rsplit_once("::") {
+        Some((module_path, name)) => (Some(module_path), name),
+        None => (None, text),
+    }
+}
+
+/// The name of a profile.
+#[derive(Debug, Drop)]
+pub struct ProfileName {
+    text: String,
+}
+
+impl Model for ProfileName {
+    ghost use Rattle.std.specs.Prelude.{List, ℕ, string_bytes};
+
+    ghost Value = { List ℕ };
+
+    ghost view = { λ name. string_bytes name.text };
+}
+
+impl ProfileName {
+    /// Copies the text.
+    pub fn new(alloc: Global, text: &str) -> Result<Self, OutOfMemory>
+        ensures { IfOk result (λ name. name ≡ text.now) }
+    {
+        Ok(ProfileName {
+            text: String::from_str(alloc, text)?,
+        })
+    }
+
+    /// The text.
+    pub fn as_str(&self) -> &str
+        ensures { result.now ≡ self.now }
+    {
+        self.text.as_str()
+    }
+}
+
+/// A test: its binary's id and its name in it.
+#[derive(Clone, Copy, Debug)]
+pub struct TestInstanceId<'a> {
+    /// The binary's id.
+    pub binary_id: &'a RustBinaryId,
+    /// The test's name.
+    pub test_name: &'a TestCaseName,
+}

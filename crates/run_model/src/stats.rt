@@ -1,0 +1,150 @@
+//! How many tests of a run passed, failed and so on, and what that makes of the run.
+
+ghost use Rattle.std.specs.Prelude.{◌≡◌};
+ghost use Rattle.run_model.specs.Stats.{has_failures, failure_kind, final_stats_of, final_stats_of_run};
+
+use crate::level::CancelReason;
+
+/// The counts of a run so far.
+#[derive(Clone, Copy, Debug, PartialEq, Eq)]
+pub struct RunStats {
+    /// How many tests were to run at first.
+    pub initial_run_count: usize,
+    /// How many tests have finished.
+    pub finished_count: usize,
+    /// Tests that passed, those below among them.
+    pub passed: usize,
+    /// Tests that passed and were slow.
+    pub passed_slow: usize,
+    /// Tests that passed after earlier attempts.
+    pub flaky: usize,
+    /// Tests that passed and leaked handles.
+    pub leaky: usize,
+    /// Tests that failed.
+    pub failed: usize,
+    /// Tests that failed since they leaked handles.
+    pub leaky_failed: usize,
+    /// Tests that could not be started.
+    pub exec_failed: usize,
+    /// Tests that timed out.
+    pub timed_out: usize,
+    /// Tests that were skipped.
+    pub skipped: usize,
+    /// Setup scripts that failed.
+    pub setup_scripts_failed: usize,
+    /// Setup scripts that could not be started.
+    pub setup_scripts_exec_failed: usize,
+    /// Setup scripts that timed out.
+    pub setup_scripts_timed_out: usize,
+    /// Why the run was cancelled, if it was.
+    pub cancel_reason: Option<CancelReason>,
+}
+
+impl RunStats {
+    /// Whether a test or a setup script failed, could not be started or timed out.
+    pub fn has_failures(&self) -> bool
+        ensures { result ≡ has_failures self.now }
+    {
+        self.failed > 0
+            || self.exec_failed > 0
+            || self.timed_out > 0
+            || self.setup_scripts_failed > 0
+            || self.setup_scripts_exec_failed > 0
+            || self.setup_scripts_timed_out > 0
+    }
+
+    /// What the run came to: cancelled for a reason, failed, without tests, cut short or a success, the first that holds.
+    pub fn summarize_final(&self) -> FinalRunStats
+        ensures { result ≡ final_stats_of self.now }
+    {
+        if self.cancel_reason.is_some() {
+            FinalRunStats::Cancelled {
+                reason: self.cancel_reason,
+                kind: self.failure_kind(),
+            }
+        } else if self.has_failures() {
+            FinalRunStats::Failed {
+                kind: self.failure_kind(),
+            }
+        } else if self.initial_run_count == 0 {
+            FinalRunStats::NoTestsRun
+        } else if self.finished_count < self.initial_run_count {
+            FinalRunStats::Cancelled {
+                reason: None,
+                kind: self.failure_kind(),
+            }
+        } else {
+            FinalRunStats::Success
+        }
+    }
+
+    // Whether a setup script stands behind a failure, else how many tests did not run.
+    fn failure_kind(&self) -> RunStatsFailureKind
+        ensures { result ≡ failure_kind self.now }
+    {
+        if self.setup_scripts_failed > 0
+            || self.setup_scripts_exec_failed > 0
+            || self.setup_scripts_timed_out > 0
+        {
+            RunStatsFailureKind::SetupScript
+        } else {
+            RunStatsFailureKind::Test {
+                initial_run_count: self.initial_run_count,
+                not_run: self.initial_run_count.saturating_sub(self.finished_count),
+            }
+        }
+    }
+}
+
+/// What a run came to.
+#[derive(Clone, Copy, Debug, PartialEq, Eq)]
+pub enum FinalRunStats {
+    /// All tests ran, and none failed.
+    Success,
+    /// There was no test to run.
+    NoTestsRun,
+    /// The run was cancelled, or fewer tests finished than were to run.
+    Cancelled {
+        /// Why, where it is known.
+        reason: Option<CancelReason>,
+        /// What was left undone.
+        kind: RunStatsFailureKind,
+    },
+    /// A test or a setup script failed.
+    Failed {
+        /// What was left undone.
+        kind: RunStatsFailureKind,
+    },
+}
+
+/// Where a run failed.
+#[derive(Clone, Copy, Debug, PartialEq, Eq)]
+pub enum RunStatsFailureKind {
+    /// In a setup script.
+    SetupScript,
+    /// In a test.
+    Test {
+        /// How many tests were to run.
+        initial_run_count: usize,
+        /// How many of them did not finish.
+        not_run: usize,
+    },
+}
+
+/// The statistics that end a run.
+#[derive(Clone, Copy, Debug, PartialEq, Eq)]
+pub enum RunFinishedStats {
+    /// Of a single run.
+    Single(RunStats),
+}
+
+impl RunFinishedStats {
+    /// What the run came to.
+    pub fn final_stats(&self) -> FinalRunStats
+        ensures { result ≡ final_stats_of_run self.now }
+    {
+        match self {
+            RunFinishedStats::Single(stats) => stats.summarize_final(),
+        }
+    }
+}
