@@ -6,7 +6,7 @@ use Rattle.std.proofs.KnownBytes.{Appends-nil, Appends-trans}
 use Rattle.report_text.specs.Writer.{Meaning, WriterLaws, AppendsFront, one_further}
 use Rattle.report_text.specs.declared.write_str.WriteFault.{WriteFault}
 use Rattle.report_text.specs.declared.write_str.WriteFault.TheVariants.{Memory, Device}
-use Rattle.report_text.specs.declared.text_buffer.TextBuffer.{TextBuffer}
+use Rattle.report_text.specs.declared.write_str.text_buffer.TextBuffer.{TextBuffer}
 
 module _ {W : Type 0} (contents : W → Option (List ℕ)) where
   -- what was delivered, if it is known, and then what is pending

@@ -1,12 +1,21 @@
 //! Writers of text.
+//!
+//! A writer says what it accepted, also where a device fails in the middle of a text, so that what reaches a terminal
+//! or a file is always a beginning of the text that was meant.
+
 ghost use Rattle.std.specs.Prelude.{◌≡◌, ℕ, List, Bool, [], ◌++◌, take, MatchResult, OnOk, encode_utf8, string_bytes};
 ghost use Rattle.report_text.specs.Accept.{string_meaning, string_laws};
+ghost use Rattle.report_text.specs.Words.{strs};
 ghost use Rattle.report_text.specs.Writer.{Meaning, WriterLaws, Puts};
-ghost use Rattle.report_text.specs.declared.write_str.WriteFault.{WriteFault};
 
+mod on_formatter;
+mod text_buffer;
+
+pub use on_formatter::OnFormatter;
 use std::alloc::AllocError;
+pub use text_buffer::{CAPACITY, TextBuffer};
 
-/// Why a text could not be written whole.
+/// Why a text could not be written whole. A beginning of it was accepted.
 #[derive(Clone, Copy, Debug, PartialEq, Eq)]
 pub enum WriteFault {
     /// The device failed.
@@ -16,13 +25,18 @@ pub enum WriteFault {
 }
 
 /// A writer of text.
+///
+/// What acceptance means is said by `meaning`, with laws that hold of any writer: two texts in turn are accepted as
+/// one, a fault leaves a beginning, and `Device` and `Memory` come only where a device failed or memory may be refused.
 pub trait WriteStr {
     /// What a text does to the writer.
     ghost meaning: { Meaning Self };
 
+    /// Writes a text.
     fn write_str(&mut self, s: &str) -> Result<(), WriteFault>
         ensures { Puts meaning self.old s.now result self.new };
 
+    /// Writes a character.
     fn write_char(&mut self, c: char) -> Result<(), WriteFault>
         ensures { Puts meaning self.old (encode_utf8 c) result self.new }
     {
@@ -30,6 +44,7 @@ pub trait WriteStr {
         self.write_str(c.encode_utf8(&mut bytes))
     }
 
+    /// Delivers all that was accepted to where the writer writes.
     fn write_str_flush(&mut self) -> Result<(), WriteFault>
         ensures text { Puts meaning self.old [] result self.new }
         ensures delivered { OnOk result (meaning.is_delivered self.new) };
@@ -38,6 +53,7 @@ pub trait WriteStr {
     ghost laws: { WriterLaws meaning };
 }
 
+/// Accepts by growing; memory may be refused.
 impl WriteStr for String {
     ghost meaning = { string_meaning };
 
@@ -53,4 +69,18 @@ impl WriteStr for String {
     fn write_str_flush(&mut self) -> Result<(), WriteFault> {
         Ok(())
     }
+}
+
+/// Writes the texts in turn.
+///
+/// ```
+/// write_strs(w, &["(", current, "/", total, ") "])?;
+/// ```
+pub fn write_strs<W: WriteStr>(w: &mut W, texts: &[&str]) -> Result<(), WriteFault>
+    ensures { Puts W.meaning w.old (strs texts.now) result w.new }
+{
+    for text in texts {
+        w.write_str(text)?;
+    }
+    Ok(())
 }

@@ -1,12 +1,10 @@
 -- Where a text has its last `::`.
-use Rattle.std.proofs.Common.{◌≡◌, ◌≢◌, ℕ, zero, suc, ◌+◌, ◌<◌, ◌≤◌, List, [], ◌∷◌, ◌++◌, Bool, true, false, ◌==◌, length, take, drop, refl, sym, ap, ◌∙◌, arith, inl, inr, Option, Some, None, MatchOption}
-use Rattle.std.specs.Option.{option_map, option_map_or}
-use Rattle.std.specs.Borrow.{Bor}
+use Rattle.std.proofs.Common.{◌≡◌, ◌≢◌, ℕ, zero, suc, ◌+◌, ◌<◌, ◌≤◌, List, [], ◌∷◌, true, false, length, drop, refl, ap, ◌∙◌, arith, inl, inr, Some, None}
 use Rattle.std.specs.Str.Pattern.{RFindsText, LacksTextAt, SplitsAroundMatch}
 use Rattle.std.proofs.lemmas.Bool.{cases_lt}
 use Rattle.std.proofs.lemmas.List.{drop_all}
 use Rattle.std.proofs.lemmas.Bool.Decides.{eqb_tells}
-use Rattle.run_model.specs.Names.{begins_with_colons, place_after, last_colons, module_path_of, last_name_of, option_text}
+use Rattle.run_model.specs.Names.{begins_with_colons, last_colons, module_path_of, last_name_of}
 
 -- no place has them
 last_colons-none : (t : List ℕ) → ((k : ℕ) → begins_with_colons (drop k t) ≡ false) → last_colons t ≡ None

@@ -1,5 +1,5 @@
 -- What the attempts of a test come to, and the levels of that.
-use Rattle.std.specs.Prelude.{Bool, true, false, List, length, ◌==◌, if◌then◌else◌}
+use Rattle.std.specs.Prelude.{Bool, true, false, length, ◌==◌, if◌then◌else◌}
 use Rattle.run_model.specs.Attempts.{Attempts}
 use Rattle.run_model.specs.declared.level.StatusLevel.{StatusLevel}
 use Rattle.run_model.specs.declared.level.StatusLevel.TheVariants as status

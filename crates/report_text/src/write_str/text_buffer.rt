@@ -1,16 +1,23 @@
 //! Text that is gathered for a device.
+//!
+//! Reports are made of short texts, so a call for each would cost more than the texts do. The memory is reserved once,
+//! and no later call takes any.
+
 ghost use Rattle.std.specs.Prelude.{◌≡◌, ℕ, ◌+◌, ◌-◌, ◌≤◌, ◌<◌, ◌++◌, [], List, length, take, drop, vec_len, vec_capacity};
 ghost use Rattle.std.specs.Bool.{OnTrue};
 ghost use Rattle.std.specs.Io.KnownBytes.{Appends, Keeps};
 
-use crate::write_str::{WriteFault, WriteStr};
+use super::{WriteFault, WriteStr};
 use std::alloc::{AllocError, Global};
 use std::io::Write;
 
 /// How many bytes are gathered before they are delivered.
 pub const CAPACITY: usize = 8192;
 
-/// Gathers text and delivers it to a device.
+/// Gathers text and delivers it to a device, as a file or standard output.
+///
+/// Its accepted text is what was delivered followed by what is pending. A device fails where it answers an error of any
+/// kind, or takes none of the bytes that it was given; what was not delivered then stays pending.
 #[derive(Drop)]
 pub struct TextBuffer<W> {
     writer: W,
@@ -25,7 +32,7 @@ impl<W: Write> TextBuffer<W> {
     ghost use Rattle.report_text.specs.Buffer.{buffer_meaning};
     ghost use Rattle.report_text.specs.Writer.{Puts};
 
-    /// Reserves the memory, once.
+    /// Reserves the memory, 8,192 bytes, once. Where that is refused, the device is given back.
     pub fn new(alloc: Global, writer: W) -> Result<TextBuffer<W>, (AllocError, W)>
         ensures ok { IfOk result (λ b. (b.writer ≡ writer) × (b.pending.items ≡ []) × (b.failures ≡ 0)) }
     {
@@ -61,9 +68,9 @@ impl<W: Write> TextBuffer<W> {
         Ok(())
     }
 
-    /// Gathers bytes.
+    // Gathers bytes.
     #[inline]
-    pub fn write_bytes(&mut self, bytes: &[u8]) -> Result<(), WriteFault>
+    fn write_bytes(&mut self, bytes: &[u8]) -> Result<(), WriteFault>
         ensures { Puts (buffer_meaning W.contents) self.old bytes.now result self.new }
     {
         if bytes.len() <= CAPACITY - self.pending.len() {

@@ -1,7 +1,7 @@
 use Rattle.std.proofs.Common.{length}
 use Rattle.report_text.specs.Buffer.{buffer_meaning}
 use Rattle.report_text.specs.Writer.{Owes}
-use Rattle.report_text.proofs.text_buffer.TextBuffer.write_long.Given as goal
+use Rattle.report_text.proofs.write_str.text_buffer.TextBuffer.write_long.Given as goal
 
 -- what is left is owed
 abbrev pub invariant-loop-rest : goal.invariant-loop-rest

@@ -1,7 +1,7 @@
 use Rattle.std.proofs.Common.{[]}
 use Rattle.report_text.proofs.Steps.{at_exit}
 use Rattle.report_text.specs.Buffer.{buffer_laws}
-use Rattle.report_text.proofs.text_buffer.TextBuffer.write_piece.Goals as goal
+use Rattle.report_text.proofs.write_str.text_buffer.TextBuffer.write_piece.Goals as goal
 
 pub returns-in_err-deliver : goal.returns-in_err-deliver
 returns-in_err-deliver g c =

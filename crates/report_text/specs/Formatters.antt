@@ -7,7 +7,7 @@ use Rattle.std.specs.declared.fmt.Formatter.{Formatter}
 use Rattle.report_text.specs.Writer.{Meaning, WriterLaws, one_further}
 use Rattle.report_text.specs.declared.write_str.WriteFault.{WriteFault}
 use Rattle.report_text.specs.declared.write_str.WriteFault.TheVariants.{Memory, Device}
-use Rattle.report_text.specs.declared.forms.OnFormatter.{OnFormatter}
+use Rattle.report_text.specs.declared.write_str.on_formatter.OnFormatter.{OnFormatter}
 
 folds_append : {W : Type 0} (took : W → List ℕ → W → Type 0) (s t u : W) (xs ys : List (List ℕ)) → FoldsTo took s xs t → FoldsTo took t ys u → FoldsTo took s (xs ++ ys) u
 folds_append took s t u [] ys p q = subst (λ x. FoldsTo took x ys u) (sym p) q

@@ -1,0 +1,12 @@
+-- Spaces in several writes.
+use Rattle.std.proofs.Common.{◌≡◌, ℕ, ◌+◌, ◌-◌, ◌≤◌, ◌++◌, sym, ap, ◌∙◌, arith}
+use Rattle.std.proofs.lemmas.List.{replicate-append-replicate}
+use Rattle.report_text.specs.Words.{Text, spaces}
+
+-- some spaces, and those that are left
+pub spaces-split : (n k : ℕ) → k ≤ n → spaces n ≡ spaces k ++ spaces (n - k)
+spaces-split n k within = let e : n ≡ k + (n - k) = omega arith in ap spaces e ∙ sym (replicate-append-replicate k (n - k) 32)
+
+-- the first spaces are those of another text
+pub spaces_first : (n k : ℕ) (t : Text) → t ≡ spaces k → k ≤ n → spaces n ≡ t ++ spaces (n - k)
+spaces_first n k t is within = spaces-split n k within ∙ ap (λ u. u ++ spaces (n - k)) (sym is)
