@@ -3,6 +3,7 @@ pub mod Buffer
 pub mod Formatters
 pub mod Instances
 pub mod Numbers
+pub mod Plural
 pub mod Styles
 pub mod Words
 pub mod Writer

@@ -4,6 +4,8 @@ ghost use Rattle.std.specs.Prelude.{◌≡◌, Some};
 ghost use Rattle.report_text.specs.Instances.{instance_text, name_text};
 ghost use Rattle.report_text.specs.Writer.{Puts};
 
+pub mod plural;
+
 use crate::style::{ListStyles, plain, write_parts};
 use crate::write_str::{OnFormatter, WriteFault, WriteStr};
 use run_model::name::{TestCaseName, TestInstanceId};

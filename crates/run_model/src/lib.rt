@@ -11,4 +11,5 @@ pub mod memory;
 pub mod name;
 pub mod stats;
 pub mod status;
+pub mod stress;
 pub mod time;
