@@ -8,7 +8,7 @@ ghost use Rattle.report_text.specs.Words.{right_in};
 ghost use Rattle.report_text.specs.Styles.{PartText, style_prefix, style_suffix, reset_color, part_text, part_of, painted, styles_of, list_styles_of};
 ghost use Rattle.report_text.specs.Writer.{Puts};
 
-use crate::numbers::write_right;
+use crate::numbers::{write_right, write_right_joined};
 use crate::write_str::{WriteFault, WriteStr};
 
 /// The sequence that ends every style but the plain one: ESC `[0m`.
@@ -86,6 +86,43 @@ impl Style {
     {
         Part::Right(self, columns, text)
     }
+
+    /// Writes a text right in so many columns.
+    #[tactic(auto, unfolding(crate::specs::Styles::part_text))]
+    pub fn write_right<W: WriteStr>(
+        self,
+        w: &mut W,
+        columns: usize,
+        text: &str,
+    ) -> Result<(), WriteFault>
+        ensures { Puts W.meaning w.old (part_text (PartText.Styled self (right_in columns text.now))) result w.new }
+    {
+        w.write_str(self.prefix())?;
+        write_right(w, columns, text)?;
+        w.write_str(self.suffix())
+    }
+
+    /// Writes four texts joined, right in so many columns.
+    ///
+    /// ```
+    /// styles.fail.write_right_joined(w, 12, "TRY ", "2", " ", "FAIL") // "  TRY 2 FAIL" in the style
+    /// ```
+    #[tactic(auto, unfolding(crate::specs::Styles::part_text))]
+    pub fn write_right_joined<W: WriteStr>(
+        self,
+        w: &mut W,
+        columns: usize,
+        first: &str,
+        second: &str,
+        third: &str,
+        fourth: &str,
+    ) -> Result<(), WriteFault>
+        ensures { Puts W.meaning w.old (part_text (PartText.Styled self (right_in columns (first.now ++ (second.now ++ (third.now ++ fourth.now)))))) result w.new }
+    {
+        w.write_str(self.prefix())?;
+        write_right_joined(w, columns, first, second, third, fourth)?;
+        w.write_str(self.suffix())
+    }
 }
 
 /// A stretch of a text.
@@ -132,11 +169,7 @@ pub fn write_part<W: WriteStr>(w: &mut W, part: Part<'_>) -> Result<(), WriteFau
             w.write_str(text)?;
             w.write_str(style.suffix())
         }
-        Part::Right(style, columns, text) => {
-            w.write_str(style.prefix())?;
-            write_right(w, columns, text)?;
-            w.write_str(style.suffix())
-        }
+        Part::Right(style, columns, text) => style.write_right(w, columns, text),
     }
 }
 
