@@ -1,4 +1,3 @@
 pub mod Decimals
 pub mod Steps
 pub mod Spaces
-pub mod Paints
