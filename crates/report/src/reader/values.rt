@@ -1,5 +1,8 @@
 //! What the fields of a scene may hold. Each function answers None for a bad field.
 
+ghost use Rattle.std.specs.Prelude.{◌≡◌};
+ghost use Rattle.report.specs.Values.{ReadsWord, flag_word, final_level_word, reason_word};
+
 use super::numbers::{read_code, read_count};
 use run_model::config::TestOutputDisplay;
 use run_model::level::{CancelReason, FinalStatusLevel};
@@ -45,7 +48,9 @@ pub fn read_absent(field: &str) -> Option<()> {
 }
 
 /// Yes or no, as `1` or `0`.
-pub fn read_flag(field: &str) -> Option<bool> {
+pub fn read_flag(field: &str) -> Option<bool>
+    ensures { ReadsWord flag_word field.now result }
+{
     match field {
         "0" => Some(false),
         "1" => Some(true),
@@ -54,7 +59,9 @@ pub fn read_flag(field: &str) -> Option<bool> {
 }
 
 /// The level from which on the summary lists a test.
-pub fn read_final_level(field: &str) -> Option<FinalStatusLevel> {
+pub fn read_final_level(field: &str) -> Option<FinalStatusLevel>
+    ensures { ReadsWord final_level_word field.now result }
+{
     match field {
         "none" => Some(FinalStatusLevel::None),
         "fail" => Some(FinalStatusLevel::Fail),
@@ -98,7 +105,9 @@ pub fn read_result(field: &str) -> Option<ExecutionResultDescription> {
 }
 
 /// Why a run is cancelled.
-pub fn read_reason(field: &str) -> Option<CancelReason> {
+pub fn read_reason(field: &str) -> Option<CancelReason>
+    ensures { ReadsWord reason_word field.now result }
+{
     match field {
         "setup-script-failure" => Some(CancelReason::SetupScriptFailure),
         "test-failure" => Some(CancelReason::TestFailure),
