@@ -8,6 +8,8 @@ mod fault;
 mod program;
 mod reader;
 mod scene;
+#[cfg(test)]
+mod tests;
 mod words;
 
 use fault::Fault;
