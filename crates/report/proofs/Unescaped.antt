@@ -1,20 +1,8 @@
 -- What a text stands for, step by step.
-use Rattle.std.proofs.Common.{◌≡◌, ◌≢◌, ℕ, zero, suc, ◌<◌, List, [], ◌∷◌, ◌++◌, Bool, true, false, length, get_or, drop, refl, ap, sym, ◌∙◌, arith, append_assoc, Option, Some, None, MatchOption, inl, inr, lit<}
+use Rattle.std.proofs.Common.{◌≡◌, ℕ, zero, suc, List, [], ◌∷◌, ◌++◌, Bool, true, false, drop, refl, ap, sym, ◌∙◌, append_assoc, Option, Some, None, MatchOption}
 use Rattle.std.specs.Borrow.{Bor}
 use Rattle.std.specs.Option.{option_map, is_some}
-use Rattle.std.proofs.lemmas.Bool.Decides.{eqb_tells}
-use Rattle.std.proofs.lemmas.Str.Pattern.{split_parts, IsSplitOnceResult}
 use Rattle.report.specs.Texts.{IsPlain, escape_byte, escape_len, prepended, unescaped_after, unescaped, AddsStretch}
-
--- no byte is a backslash
-IsPlain-from_each : (t : List ℕ) → ((i : ℕ) → i < length t → get_or t i 0 ≢ 92) → IsPlain t
-IsPlain-from_each [] h = tt
-IsPlain-from_each (c ∷ t) h = (elim (eqb_tells c 92) [ inl p ↦ absurd (h 0 (omega arith) p.1) | inr p ↦ p.0 ], IsPlain-from_each t (λ i l. h (suc i) (omega arith)))
-
--- the parts that `split_once` gives at a backslash
-pub split_at_backslash : (t : List ℕ) (r : Option (Bor (List ℕ) × Bor (List ℕ))) → IsSplitOnceResult 92 t r → MatchOption r (IsPlain t) (λ x. IsPlain x.0.now × (t ≡ x.0.now ++ (92 ∷ x.1.now)))
-split_at_backslash t None h = IsPlain-from_each t (split_parts 92 t None h (lit< tt))
-split_at_backslash t (Some x) h = let p = split_parts 92 t (Some x) h (lit< tt) in (IsPlain-from_each x.0.now p.1, p.0)
 
 -- bytes are passed over
 skipped : (most k : ℕ) (t : List ℕ) → unescaped_after most k t ≡ unescaped most (drop k t)

@@ -12,10 +12,14 @@ abbrev pub cow_text : CowStr Global → List ℕ
 cow_text (Borrowed t) = t.now
 cow_text (Owned t) = string_bytes t
 
+-- the byte is not in the text
+abbrev pub Lacks : ℕ → List ℕ → Type 0
+Lacks b [] = ⊤
+Lacks b (c ∷ t) = ((c == b) ≡ false) × Lacks b t
+
 -- no escape begins in the text
 abbrev pub IsPlain : List ℕ → Type 0
-IsPlain [] = ⊤
-IsPlain (c ∷ t) = ((c == 92) ≡ false) × IsPlain t
+IsPlain t = Lacks 92 t
 
 -- the number, unless it is above this
 abbrev pub up_to : ℕ → ℕ → Option ℕ

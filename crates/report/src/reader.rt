@@ -7,6 +7,7 @@
 mod fields;
 mod lines;
 mod numbers;
+mod split;
 mod texts;
 mod values;
 

@@ -1,8 +1,9 @@
 //! A line of a scene, taken apart from left to right.
 
+use super::split::split_at_byte;
 use super::texts::read_text;
 use crate::fault::{LineError, LineFault};
-use memchr::{memchr, memchr_iter};
+use memchr::memchr_iter;
 use std::alloc::Global;
 use std::borrow::CowStr;
 
@@ -38,7 +39,7 @@ impl<'a> Fields<'a> {
             return Err(LineFault::WrongNumberOfFields);
         };
         self.number = self.number.saturating_add(1);
-        match split_field(rest) {
+        match split_at_byte(rest, b'\t') {
             Some((field, rest)) => {
                 self.rest = Some(rest);
                 Ok(field)
@@ -69,10 +70,4 @@ impl<'a> Fields<'a> {
             None => Err(LineError::Fault(LineFault::BadField(self.number))),
         }
     }
-}
-
-// A text cut at its first tab.
-fn split_field(text: &str) -> Option<(&str, &str)> {
-    let at = memchr(b'\t', text.as_bytes())?;
-    Some((&text[..at], &text[at + 1..]))
 }

@@ -8,6 +8,7 @@ ghost use Rattle.std.specs.Char.{digit_value};
 ghost use Rattle.std.specs.Option.{option_map, SomeIff};
 ghost use Rattle.report.specs.Texts.{cow_text, AddsStretch, IsPlain, escape_byte, escape_len, unescaped};
 
+use super::split::split_at_byte;
 use run_model::memory::OutOfMemory;
 use std::alloc::Global;
 use std::borrow::CowStr;
@@ -23,12 +24,12 @@ const ASCII: u8 = 0x7f;
 pub fn read_text(alloc: Global, field: &str) -> Result<Option<CowStr<'_, Global>>, OutOfMemory>
     ensures { IfOk result (λ text. option_map cow_text text ≡ unescaped 127 field.now) }
 {
-    if split_escape(field).is_none() {
+    if split_at_byte(field, b'\\').is_none() {
         return Ok(Some(CowStr::Borrowed(field)));
     }
     let mut text = String::with_capacity(alloc, field.len())?;
     let mut rest = field;
-    while let Some((plain, escape)) = split_escape(rest) {
+    while let Some((plain, escape)) = split_at_byte(rest, b'\\') {
         let Some(after) = push_stretch(&mut text, plain, escape)? else {
             return Ok(None);
         };
@@ -59,20 +60,13 @@ pub fn is_output(field: &str) -> bool
     ensures { result ≡ is_some (unescaped 255 field.now) }
 {
     let mut rest = field;
-    while let Some((_, escape)) = split_escape(rest) {
+    while let Some((_, escape)) = split_at_byte(rest, b'\\') {
         let Some((_, after)) = read_escape(escape, u8::MAX) else {
             return false;
         };
         rest = after;
     }
     true
-}
-
-// What stands before the first backslash of a text, and what follows it.
-fn split_escape(text: &str) -> Option<(&str, &str)>
-    ensures { MatchOption result (IsPlain text.now) (λ x. IsPlain x.0.now × (text.now ≡ x.0.now ++ (92 ∷ x.1.now))) }
-{
-    text.split_once('\\')
 }
 
 // What an escape gives, without its backslash, each byte by digits at most `most`; and what follows the escape.

@@ -3,7 +3,7 @@ use Rattle.report.proofs.Unescaped.{plain_text, read_stretch, read_bad_escape, r
 use Rattle.report.proofs.reader.texts.read_text.Goals as goal
 
 pub returns-then-is_none : goal.returns-then-is_none
-returns-then-is_none c = plain_text 127 _ (of_none _ _ c.if-is_none.ensures c.split_escape.ensures)
+returns-then-is_none c = plain_text 127 _ (of_none _ _ c.if-is_none.ensures c.split_at_byte.ensures)
 
 pub returns-in_default-2 : goal.returns-in_default-2
 returns-in_default-2 c = sym (read_bad_escape _ _ _ c.loop-plain.invariant.1 _ _ c.in-Some.ensures.1 c.in-Some.ensures.0 (rw c.in_default-2.is at c.in_ok-after.ensures))
