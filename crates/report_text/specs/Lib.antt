@@ -4,6 +4,7 @@ pub mod Formatters
 pub mod Instances
 pub mod Numbers
 pub mod Plural
+pub mod Repeated
 pub mod Styles
 pub mod Words
 pub mod Writer

@@ -48,7 +48,11 @@ pub fn tests_plural(mode: NextestRunMode) -> &'static str
 pub fn setup_scripts_str(count: usize) -> &'static str
     ensures { result.now ≡ setup_scripts_word count }
 {
-    if count == 1 { "setup script" } else { "setup scripts" }
+    if count == 1 {
+        "setup script"
+    } else {
+        "setup scripts"
+    }
 }
 
 /// "binary" for 1, "binaries" for any other number.
@@ -80,7 +84,11 @@ pub fn files_str(count: usize) -> &'static str
 pub fn directories_str(count: usize) -> &'static str
     ensures { result.now ≡ directories_word count }
 {
-    if count == 1 { "directory" } else { "directories" }
+    if count == 1 {
+        "directory"
+    } else {
+        "directories"
+    }
 }
 
 /// "this crate" for 1, "these crates" for any other number.
@@ -88,7 +96,11 @@ pub fn directories_str(count: usize) -> &'static str
 pub fn this_crate_str(count: usize) -> &'static str
     ensures { result.now ≡ this_crate_word count }
 {
-    if count == 1 { "this crate" } else { "these crates" }
+    if count == 1 {
+        "this crate"
+    } else {
+        "these crates"
+    }
 }
 
 /// "library" for 1, "libraries" for any other number.
@@ -120,7 +132,11 @@ pub fn sections_str(count: usize) -> &'static str
 pub fn iterations_str(count: u32) -> &'static str
     ensures { result.now ≡ iterations_word count }
 {
-    if count == 1 { "iteration" } else { "iterations" }
+    if count == 1 {
+        "iteration"
+    } else {
+        "iterations"
+    }
 }
 
 /// "run" for 1, "runs" for any other number.
