@@ -6,7 +6,8 @@ ghost use Rattle.report_text.specs.Writer.{Puts};
 
 use crate::helpers::repeated::write_repeated;
 use crate::style::{ListStyles, Style, plain, write_parts};
-use crate::write_str::{OnFormatter, WriteFault, WriteStr};
+use crate::show_written;
+use crate::write_str::{WriteFault, WriteStr};
 use itoa::Buffer;
 use run_model::name::{TestCaseName, TestInstanceId};
 use run_model::stress::StressIndex;
@@ -72,14 +73,7 @@ impl fmt::Display for DisplayTestInstance<'_> {
     ghost output = { λ t. Some (instance_text t.styles t.stress_index t.counter_index t.instance) };
 
     fn fmt<W: fmt::Write>(&self, f: &mut Formatter<W>) -> fmt::Result {
-        let mut out = OnFormatter::new(f);
-        let result = self.write_to(&mut out);
-        let back = out.into_inner();
-        let _ = &*back;
-        match result {
-            Ok(()) => Ok(()),
-            Err(_) => Err(fmt::Error),
-        }
+        show_written!(self, f)
     }
 }
 
@@ -126,14 +120,7 @@ impl fmt::Display for DisplayStressIndex {
     ghost output = { λ t. Some (stress_text t.count_style t.stress_index) };
 
     fn fmt<W: fmt::Write>(&self, f: &mut Formatter<W>) -> fmt::Result {
-        let mut out = OnFormatter::new(f);
-        let result = self.write_to(&mut out);
-        let back = out.into_inner();
-        let _ = &*back;
-        match result {
-            Ok(()) => Ok(()),
-            Err(_) => Err(fmt::Error),
-        }
+        show_written!(self, f)
     }
 }
 
@@ -239,14 +226,7 @@ impl fmt::Display for DisplayCounterIndex {
     ghost output = { λ c. Some (counter_text c) };
 
     fn fmt<W: fmt::Write>(&self, f: &mut Formatter<W>) -> fmt::Result {
-        let mut out = OnFormatter::new(f);
-        let result = self.write_to(&mut out);
-        let back = out.into_inner();
-        let _ = &*back;
-        match result {
-            Ok(()) => Ok(()),
-            Err(_) => Err(fmt::Error),
-        }
+        show_written!(self, f)
     }
 }
 
@@ -302,14 +282,7 @@ impl fmt::Display for DisplayTestName<'_> {
     ghost output = { λ t. Some (name_text t.styles t.name.now) };
 
     fn fmt<W: fmt::Write>(&self, f: &mut Formatter<W>) -> fmt::Result {
-        let mut out = OnFormatter::new(f);
-        let result = self.write_to(&mut out);
-        let back = out.into_inner();
-        let _ = &*back;
-        match result {
-            Ok(()) => Ok(()),
-            Err(_) => Err(fmt::Error),
-        }
+        show_written!(self, f)
     }
 }
 
