@@ -1,3 +1,4 @@
+pub mod Decimals
 pub mod Steps
 pub mod Spaces
 pub mod Repeated

@@ -3,10 +3,11 @@
 ghost use Rattle.std.specs.Prelude.{◌≡◌, ◌+◌, ◌/◌, ◌%◌, ◌<◌, ◌≤◌, ◌∷◌, [], ◌++◌, ◌-◌, length, chars};
 ghost use Rattle.std.specs.Fmt.{decimal};
 ghost use Rattle.report_text.specs.Words.{spaces, right_in};
-ghost use Rattle.report_text.specs.Numbers.{rounded};
+ghost use Rattle.report_text.specs.Numbers.{rounded, seconds};
 ghost use Rattle.report_text.specs.Writer.{Puts};
 
-use crate::write_str::{WriteFault, WriteStr};
+use crate::write_str::{WriteFault, WriteStr, write_strs};
+use itoa::Buffer;
 
 /// The nearest whole number of units, ties up. No sum overflows, also at the greatest number.
 pub fn round_to(unit: u128, n: u128) -> u128
@@ -91,4 +92,52 @@ pub fn write_right<W: WriteStr>(w: &mut W, columns: usize, text: &str) -> Result
 {
     write_spaces(w, columns.saturating_sub(char_count(text)))?;
     w.write_str(text)
+}
+
+/// Writes nanoseconds as seconds with three decimals, right in so many columns, between two texts.
+///
+/// The nearest thousandth is written, of two that are as near the greater one.
+///
+/// ```
+/// write_seconds_between(w, "[", 8, 5_000_000, "s] ") // "[   0.005s] "
+/// ```
+pub fn write_seconds_between<W: WriteStr>(
+    w: &mut W,
+    before: &str,
+    columns: usize,
+    nanos: u128,
+    after: &str,
+) -> Result<(), WriteFault>
+    requires { columns ≤ 16 }
+    ensures { Puts W.meaning w.old (before.now ++ (right_in columns (seconds 3 nanos) ++ after.now)) result w.new }
+{
+    w.write_str(before)?;
+    write_seconds_right(w, columns, nanos)?;
+    w.write_str(after)
+}
+
+// Writes nanoseconds as seconds with three decimals, right in so many columns.
+fn write_seconds_right<W: WriteStr>(
+    w: &mut W,
+    columns: usize,
+    nanos: u128,
+) -> Result<(), WriteFault>
+    requires { columns ≤ 16 }
+    ensures { Puts W.meaning w.old (right_in columns (seconds 3 nanos)) result w.new }
+{
+    let thousandths = round_to(1_000_000, nanos);
+    let mut buffer = Buffer::new();
+    let whole = buffer.format(thousandths / 1000);
+    let padding = spaces_str(columns.saturating_sub(4).saturating_sub(whole.len()));
+    write_strs(
+        w,
+        &[
+            padding,
+            whole,
+            ".",
+            digit_str(thousandths / 100 % 10),
+            digit_str(thousandths / 10 % 10),
+            digit_str(thousandths % 10),
+        ],
+    )
 }
