@@ -1,10 +1,12 @@
 pub mod Accept
 pub mod Buffer
+pub mod Durations
 pub mod Formatters
 pub mod Instances
 pub mod Numbers
 pub mod Plural
 pub mod Repeated
 pub mod Styles
+pub mod Theme
 pub mod Words
 pub mod Writer

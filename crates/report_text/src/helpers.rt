@@ -4,12 +4,18 @@
 //! it where a fault came. Its `Display` shows that very text.
 
 pub mod decimal;
+pub mod durations;
 pub mod instance;
 pub mod plural;
 pub mod repeated;
+pub mod theme;
 
 pub use crate::style::RESET_COLOR;
 pub use decimal::{Unsigned, decimal_char_width};
+pub use durations::{
+    DurationRounding, FormattedDuration, FormattedHhMmSs, FormattedRelativeDuration,
+};
 pub use instance::{
     DisplayCounterIndex, DisplayStressIndex, DisplayTestInstance, DisplayTestName, write_test_name,
 };
+pub use theme::ThemeCharacters;

@@ -5,8 +5,8 @@ ghost use Rattle.report_text.specs.Instances.{counter_prefix, counter_text, inst
 ghost use Rattle.report_text.specs.Writer.{Puts};
 
 use crate::helpers::repeated::write_repeated;
-use crate::style::{ListStyles, Style, plain, write_parts};
 use crate::show_written;
+use crate::style::{ListStyles, Style, plain, write_parts};
 use crate::write_str::{WriteFault, WriteStr};
 use itoa::Buffer;
 use run_model::name::{TestCaseName, TestInstanceId};
