@@ -1,11 +1,12 @@
 //! Durations as text, from nanoseconds. Every number of them is taken.
 
-ghost use Rattle.std.specs.Prelude.{◌≡◌, Some, codes, [], nat_lt, if◌then◌else◌};
+ghost use Rattle.std.specs.Prelude.{◌≡◌, ◌≤◌, ◌++◌, Some, chars, length};
 ghost use Rattle.report_text.specs.Durations.{clock_text, duration_text, leading_zero, relative_text, time_units, unit_name, unit_nanos, unit_within, whole_seconds};
 ghost use Rattle.report_text.specs.Numbers.{seconds};
+ghost use Rattle.report_text.specs.Words.{right_in};
 ghost use Rattle.report_text.specs.Writer.{Puts};
 
-use crate::numbers::{digit_str, round_to};
+use crate::numbers::{digit_str, round_to, spaces_str};
 use crate::show_written;
 use crate::write_str::{WriteFault, WriteStr, write_strs};
 use itoa::Buffer;
@@ -154,6 +155,49 @@ pub fn write_clock<W: WriteStr>(w: &mut W, seconds: u128) -> Result<(), WriteFau
             digit_str(seconds % 60 % 10),
         ],
     )
+}
+
+/// Writes seconds as hours, minutes and seconds, right in so many columns, between two texts.
+///
+/// ```
+/// write_clock_between(w, "[", 9, 12, "] ") // "[ 00:00:12] "
+/// ```
+pub fn write_clock_between<W: WriteStr>(
+    w: &mut W,
+    before: &str,
+    columns: usize,
+    seconds: u128,
+    after: &str,
+) -> Result<(), WriteFault>
+    requires { columns ≤ 12 }
+    ensures { Puts W.meaning w.old (before.now ++ (right_in columns (clock_text seconds) ++ after.now)) result w.new }
+{
+    w.write_str(before)?;
+    write_clock_right(w, columns, seconds)?;
+    w.write_str(after)
+}
+
+// Writes seconds as hours, minutes and seconds, right in so many columns.
+#[tactic(auto, unfolding(crate::specs::Words::right_in))]
+fn write_clock_right<W: WriteStr>(
+    w: &mut W,
+    columns: usize,
+    seconds: u128,
+) -> Result<(), WriteFault>
+    requires { columns ≤ 12 }
+    ensures { Puts W.meaning w.old (right_in columns (clock_text seconds)) result w.new }
+{
+    w.write_str(spaces_str(columns.saturating_sub(clock_width(seconds))))?;
+    write_clock(w, seconds)
+}
+
+// How many columns hours, minutes and seconds take.
+#[tactic(auto, using(crate::proofs::Clocks::clock_columns))]
+fn clock_width(seconds: u128) -> usize
+    ensures { result ≡ length (chars (clock_text seconds)) }
+{
+    let hours = seconds / 60 / 60;
+    leading_zero(hours).len() + Buffer::new().format(hours).len() + 6
 }
 
 // A zero before a number of one digit.
