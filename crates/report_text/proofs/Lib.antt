@@ -1,5 +1,6 @@
-pub mod Decimals
-pub mod Steps
-pub mod Spaces
-pub mod Repeated
 pub mod Clocks
+pub mod Decimals
+pub mod Paints
+pub mod Repeated
+pub mod Spaces
+pub mod Steps

@@ -141,3 +141,37 @@ fn write_seconds_right<W: WriteStr>(
         ],
     )
 }
+
+/// Writes four texts joined, right in so many columns, one for each character.
+///
+/// ```
+/// write_right_joined(w, 12, "TRY ", "2", " ", "FAIL") // "  TRY 2 FAIL"
+/// ```
+#[tactic(auto, unfolding(crate::specs::Words::right_in))]
+pub fn write_right_joined<W: WriteStr>(
+    w: &mut W,
+    columns: usize,
+    first: &str,
+    second: &str,
+    third: &str,
+    fourth: &str,
+) -> Result<(), WriteFault>
+    ensures { Puts W.meaning w.old (right_in columns (first.now ++ (second.now ++ (third.now ++ fourth.now)))) result w.new }
+{
+    write_spaces(w, columns_left(columns, first, second, third, fourth))?;
+    w.write_str(first)?;
+    w.write_str(second)?;
+    w.write_str(third)?;
+    w.write_str(fourth)
+}
+
+// How many of the columns four texts leave.
+fn columns_left(columns: usize, first: &str, second: &str, third: &str, fourth: &str) -> usize
+    ensures { result ≡ columns - length (chars (first.now ++ (second.now ++ (third.now ++ fourth.now)))) }
+{
+    columns
+        .saturating_sub(char_count(first))
+        .saturating_sub(char_count(second))
+        .saturating_sub(char_count(third))
+        .saturating_sub(char_count(fourth))
+}

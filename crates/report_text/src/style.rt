@@ -4,11 +4,12 @@
 //! kinds of report.
 
 ghost use Rattle.std.specs.Prelude.{◌≡◌, ◌++◌, ◌∷◌, [], true, false, codes};
+ghost use Rattle.std.specs.List.{flat_map};
 ghost use Rattle.report_text.specs.Words.{right_in};
-ghost use Rattle.report_text.specs.Styles.{PartText, style_prefix, style_suffix, reset_color, part_text, part_of, painted, styles_of, list_styles_of};
+ghost use Rattle.report_text.specs.Styles.{PartText, style_prefix, style_suffix, reset_color, part_text, part_of, paint, painted, styles_of, list_styles_of};
 ghost use Rattle.report_text.specs.Writer.{Puts};
 
-use crate::numbers::write_right;
+use crate::numbers::{write_right, write_right_joined};
 use crate::write_str::{WriteFault, WriteStr};
 
 /// The sequence that ends every style but the plain one: ESC `[0m`.
@@ -86,6 +87,43 @@ impl Style {
     {
         Part::Right(self, columns, text)
     }
+
+    /// Writes a text right in so many columns.
+    #[tactic(auto, unfolding(crate::specs::Styles::paint, crate::specs::Styles::part_text))]
+    pub fn write_right<W: WriteStr>(
+        self,
+        w: &mut W,
+        columns: usize,
+        text: &str,
+    ) -> Result<(), WriteFault>
+        ensures { Puts W.meaning w.old (paint (PartText.Styled self (right_in columns text.now) ∷ [])) result w.new }
+    {
+        w.write_str(self.prefix())?;
+        write_right(w, columns, text)?;
+        w.write_str(self.suffix())
+    }
+
+    /// Writes four texts joined, right in so many columns.
+    ///
+    /// ```
+    /// styles.fail.write_right_joined(w, 12, "TRY ", "2", " ", "FAIL") // "  TRY 2 FAIL" in the style
+    /// ```
+    #[tactic(auto, unfolding(crate::specs::Styles::paint, crate::specs::Styles::part_text))]
+    pub fn write_right_joined<W: WriteStr>(
+        self,
+        w: &mut W,
+        columns: usize,
+        first: &str,
+        second: &str,
+        third: &str,
+        fourth: &str,
+    ) -> Result<(), WriteFault>
+        ensures { Puts W.meaning w.old (paint (PartText.Styled self (right_in columns (first.now ++ (second.now ++ (third.now ++ fourth.now)))) ∷ [])) result w.new }
+    {
+        w.write_str(self.prefix())?;
+        write_right_joined(w, columns, first, second, third, fourth)?;
+        w.write_str(self.suffix())
+    }
 }
 
 /// A stretch of a text.
@@ -113,6 +151,13 @@ pub fn plain(text: &str) -> Part<'_>
 /// ```
 pub fn write_parts<W: WriteStr>(w: &mut W, parts: &[Part<'_>]) -> Result<(), WriteFault>
     ensures { Puts W.meaning w.old (painted parts.now) result w.new }
+{
+    write_each_part(w, parts)
+}
+
+// Writes the parts in turn. The clause is by each part, as the loop goes.
+fn write_each_part<W: WriteStr>(w: &mut W, parts: &[Part<'_>]) -> Result<(), WriteFault>
+    ensures { Puts W.meaning w.old (flat_map (λ part. part_text (part_of part)) parts.now) result w.new }
 {
     for part in parts {
         write_part(w, *part)?;
