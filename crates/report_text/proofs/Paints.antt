@@ -1,5 +1,5 @@
 -- Painted parts.
-use Rattle.std.proofs.Common.{◌≡◌, List, [], ◌∷◌, ◌++◌, refl, ap, map}
+use Rattle.std.proofs.Common.{◌≡◌, List, [], ◌∷◌, ◌++◌, refl, ap}
 use Rattle.std.specs.List.{flat_map}
 use Rattle.report_text.specs.Styles.{part_text, part_of, paint, painted}
 use Rattle.report_text.specs.declared.style.Part.{Part}

@@ -6,7 +6,7 @@ use Rattle.std.specs.Int.NonZero.{non_zero_u32_get}
 use Rattle.run_model.specs.Names.{module_path_of, last_name_of}
 use Rattle.run_model.specs.declared.name.TestInstanceId.{TestInstanceId}
 use Rattle.run_model.specs.declared.stress.StressIndex.{StressIndex}
-use Rattle.report_text.specs.Repeated.{repeated}
+use Rattle.std.specs.List.{repeat}
 use Rattle.report_text.specs.Words.{Text, right_in}
 use Rattle.report_text.specs.Styles.{PartText, Plain, Styled, paint}
 use Rattle.report_text.specs.declared.style.Style.{Style}
@@ -44,7 +44,7 @@ unfoldable pub counter_text : DisplayCounterIndex → Text
 counter_text (Counter current total) =
     paint (Plain (codes "(") ∷ Styled style.Plain (right_in (length (decimal total)) (decimal current)) ∷ Plain (codes "/") ∷ Plain (decimal total) ∷ Plain (codes ")") ∷ [])
 counter_text (Padded character width) =
-    paint (Plain (codes "(") ∷ []) ++ (repeated width character ++ (repeated width character ++ (encode_utf8 character ++ paint (Plain (codes ")") ∷ []))))
+    paint (Plain (codes "(") ∷ []) ++ (repeat width (encode_utf8 character) ++ (repeat width (encode_utf8 character) ++ (encode_utf8 character ++ paint (Plain (codes ")") ∷ []))))
 
 -- the counter and a space, if there is one
 unfoldable pub counter_prefix : Option DisplayCounterIndex → Text

@@ -5,7 +5,6 @@ pub mod Formatters
 pub mod Instances
 pub mod Numbers
 pub mod Plural
-pub mod Repeated
 pub mod Styles
 pub mod Theme
 pub mod Words

@@ -1,6 +1,6 @@
 -- Bars and trees, in Unicode or in ASCII.
-use Rattle.std.specs.Prelude.{ℕ, Bool, true, false, codes, encode_utf8_all}
-use Rattle.report_text.specs.Repeated.{repeated}
+use Rattle.std.specs.Prelude.{ℕ, Bool, true, false, codes, encode_utf8, encode_utf8_all}
+use Rattle.std.specs.List.{repeat}
 use Rattle.report_text.specs.Words.{Text}
 
 -- the character of a bar: a light horizontal line, or a hyphen
@@ -10,7 +10,7 @@ hbar_character false = 45
 
 -- a bar of so many characters
 unfoldable pub hbar_text : Bool → ℕ → Text
-hbar_text is_unicode width = repeated width (hbar_character is_unicode)
+hbar_text is_unicode width = repeat width (encode_utf8 (hbar_character is_unicode))
 
 -- a full block, blocks of seven eighths down to one, and a space; or the end of an arrow, its head and a space
 abbrev pub progress_text : Bool → Text

@@ -1,7 +1,7 @@
 //! A character again and again, as in a bar.
 
-ghost use Rattle.std.specs.Prelude.{◌≡◌};
-ghost use Rattle.report_text.specs.Repeated.{repeated};
+ghost use Rattle.std.specs.Prelude.{encode_utf8};
+ghost use Rattle.std.specs.List.{repeat};
 ghost use Rattle.report_text.specs.Writer.{Puts};
 
 use crate::write_str::{WriteFault, WriteStr};
@@ -12,7 +12,7 @@ pub fn write_repeated<W: WriteStr>(
     count: usize,
     character: char,
 ) -> Result<(), WriteFault>
-    ensures { Puts W.meaning w.old (repeated count character) result w.new }
+    ensures { Puts W.meaning w.old (repeat count (encode_utf8 character)) result w.new }
 {
     let mut left = count;
     while left > 0 {
