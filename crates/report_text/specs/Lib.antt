@@ -5,6 +5,7 @@ pub mod Formatters
 pub mod Instances
 pub mod Numbers
 pub mod Plural
+pub mod Quoting
 pub mod Styles
 pub mod Theme
 pub mod Words

@@ -7,6 +7,7 @@ pub mod decimal;
 pub mod durations;
 pub mod instance;
 pub mod plural;
+pub mod quoting;
 pub mod repeated;
 pub mod theme;
 
