@@ -1,5 +1,6 @@
 -- Styles, and texts that are painted in them.
-use Rattle.std.specs.Prelude.{Bool, true, false, List, [], ◌∷◌, ◌++◌, codes, map}
+use Rattle.std.specs.Prelude.{Bool, true, false, List, [], ◌∷◌, ◌++◌, codes}
+use Rattle.std.specs.List.{flat_map}
 use Rattle.report_text.specs.Words.{Text, right_in}
 use Rattle.report_text.specs.declared.style.Style.{Style}
 use Rattle.report_text.specs.declared.style.Style.TheVariants as style
@@ -44,8 +45,15 @@ unfoldable pub part_text : PartText → Text
 part_text (Plain t) = t
 part_text (Styled s t) = style_prefix s ++ (t ++ style_suffix s)
 
+-- a text as it is, and one in a style: words that a proof sees as wholes
+abbrev pub plain : Text → Text
+plain t = part_text (Plain t)
+
+abbrev pub styled : Style → Text → Text
+styled s t = part_text (Styled s t)
+
 -- what the parts are painted to
-unfoldable pub paint : List PartText → Text
+abbrev pub paint : List PartText → Text
 paint [] = []
 paint (p ∷ ps) = part_text p ++ paint ps
 
@@ -57,7 +65,7 @@ part_of (part.Right s n t) = Styled s (right_in n t.now)
 
 -- what the parts of the code are painted to
 abbrev pub painted : List Part → Text
-painted ps = paint (map part_of ps)
+painted ps = flat_map (λ p. part_text (part_of p)) ps
 
 -- the styles of a report: all plain, or with colours
 abbrev pub list_styles_of : Bool → ListStyles

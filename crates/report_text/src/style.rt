@@ -4,13 +4,14 @@
 //! kinds of report.
 
 ghost use Rattle.std.specs.Prelude.{◌≡◌, ◌++◌, ◌∷◌, [], true, false, codes};
-ghost use Rattle.std.specs.List.{flat_map};
+ghost use Rattle.std.specs.Fmt.{decimal};
 ghost use Rattle.report_text.specs.Words.{right_in};
-ghost use Rattle.report_text.specs.Styles.{PartText, style_prefix, style_suffix, reset_color, part_text, part_of, paint, painted, styles_of, list_styles_of};
+ghost use Rattle.report_text.specs.Styles.{PartText, style_prefix, style_suffix, reset_color, part_text, part_of, painted, styles_of, list_styles_of};
 ghost use Rattle.report_text.specs.Writer.{Puts};
 
 use crate::numbers::{write_right, write_right_joined};
 use crate::write_str::{WriteFault, WriteStr};
+use itoa::Buffer;
 
 /// The sequence that ends every style but the plain one: ESC `[0m`.
 pub const RESET_COLOR: &str = "\x1b[0m";
@@ -88,15 +89,36 @@ impl Style {
         Part::Right(self, columns, text)
     }
 
+    /// Writes a text in this style.
+    #[tactic(auto, unfolding(crate::specs::Styles::part_text))]
+    pub fn write<W: WriteStr>(self, w: &mut W, text: &str) -> Result<(), WriteFault>
+        ensures { Puts W.meaning w.old (part_text (PartText.Styled self text.now)) result w.new }
+    {
+        w.write_str(self.prefix())?;
+        w.write_str(text)?;
+        w.write_str(self.suffix())
+    }
+
+    /// Writes a number in decimal in this style.
+    #[tactic(auto, unfolding(crate::specs::Styles::part_text))]
+    pub fn write_number<W: WriteStr>(self, w: &mut W, number: u128) -> Result<(), WriteFault>
+        ensures { Puts W.meaning w.old (part_text (PartText.Styled self (decimal number))) result w.new }
+    {
+        let mut buffer = Buffer::new();
+        w.write_str(self.prefix())?;
+        w.write_str(buffer.format(number))?;
+        w.write_str(self.suffix())
+    }
+
     /// Writes a text right in so many columns.
-    #[tactic(auto, unfolding(crate::specs::Styles::paint, crate::specs::Styles::part_text))]
+    #[tactic(auto, unfolding(crate::specs::Styles::part_text))]
     pub fn write_right<W: WriteStr>(
         self,
         w: &mut W,
         columns: usize,
         text: &str,
     ) -> Result<(), WriteFault>
-        ensures { Puts W.meaning w.old (paint (PartText.Styled self (right_in columns text.now) ∷ [])) result w.new }
+        ensures { Puts W.meaning w.old (part_text (PartText.Styled self (right_in columns text.now))) result w.new }
     {
         w.write_str(self.prefix())?;
         write_right(w, columns, text)?;
@@ -108,7 +130,7 @@ impl Style {
     /// ```
     /// styles.fail.write_right_joined(w, 12, "TRY ", "2", " ", "FAIL") // "  TRY 2 FAIL" in the style
     /// ```
-    #[tactic(auto, unfolding(crate::specs::Styles::paint, crate::specs::Styles::part_text))]
+    #[tactic(auto, unfolding(crate::specs::Styles::part_text))]
     pub fn write_right_joined<W: WriteStr>(
         self,
         w: &mut W,
@@ -118,7 +140,7 @@ impl Style {
         third: &str,
         fourth: &str,
     ) -> Result<(), WriteFault>
-        ensures { Puts W.meaning w.old (paint (PartText.Styled self (right_in columns (first.now ++ (second.now ++ (third.now ++ fourth.now)))) ∷ [])) result w.new }
+        ensures { Puts W.meaning w.old (part_text (PartText.Styled self (right_in columns (first.now ++ (second.now ++ (third.now ++ fourth.now)))))) result w.new }
     {
         w.write_str(self.prefix())?;
         write_right_joined(w, columns, first, second, third, fourth)?;
@@ -144,6 +166,14 @@ pub fn plain(text: &str) -> Part<'_>
     Part::Plain(text)
 }
 
+/// Writes a text as it is.
+#[tactic(auto, unfolding(crate::specs::Styles::part_text))]
+pub fn write_plain<W: WriteStr>(w: &mut W, text: &str) -> Result<(), WriteFault>
+    ensures { Puts W.meaning w.old (part_text (PartText.Plain text.now)) result w.new }
+{
+    w.write_str(text)
+}
+
 /// Writes the parts in turn.
 ///
 /// ```
@@ -151,13 +181,6 @@ pub fn plain(text: &str) -> Part<'_>
 /// ```
 pub fn write_parts<W: WriteStr>(w: &mut W, parts: &[Part<'_>]) -> Result<(), WriteFault>
     ensures { Puts W.meaning w.old (painted parts.now) result w.new }
-{
-    write_each_part(w, parts)
-}
-
-// Writes the parts in turn. The clause is by each part, as the loop goes.
-fn write_each_part<W: WriteStr>(w: &mut W, parts: &[Part<'_>]) -> Result<(), WriteFault>
-    ensures { Puts W.meaning w.old (flat_map (λ part. part_text (part_of part)) parts.now) result w.new }
 {
     for part in parts {
         write_part(w, *part)?;

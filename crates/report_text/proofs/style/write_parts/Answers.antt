@@ -1,5 +1,5 @@
-use Rattle.report_text.proofs.Paints.{flat_map-parts}
+use Rattle.report_text.proofs.Steps.{owes_at_end}
 use Rattle.report_text.proofs.style.write_parts.Goals as goal
 
 pub returns : goal.returns
-returns g c = rw (flat_map-parts c.args.parts.now) at c.write_each_part.ensures
+returns g c = owes_at_end g.met.W.WriteStr.laws _ _ _ _ _ _ c.loop-part-test.false c.loop-part.invariant
