@@ -52,6 +52,15 @@ counter_prefix None = []
 counter_prefix (Some c) = counter_text c ++ paint (Plain (codes " ") ∷ [])
 
 -- a test: its iteration, its counter, its binary's id with a space and its name
-unfoldable pub instance_text : ListStyles → Option StressIndex → Option DisplayCounterIndex → TestInstanceId → Text
-instance_text s stress counter i =
-    stress_prefix s.count stress ++ (counter_prefix counter ++ (paint (Styled s.binary_id i.binary_id.now ∷ Plain (codes " ") ∷ []) ++ name_text s i.test_name.now))
+unfoldable pub test_text : ListStyles → Option StressIndex → Option DisplayCounterIndex → Text → Text → Text
+test_text s stress counter binary_id name =
+    stress_prefix s.count stress ++ (counter_prefix counter ++ (paint (Styled s.binary_id binary_id ∷ Plain (codes " ") ∷ []) ++ name_text s name))
+
+-- the same of a test whose names are borrowed
+abbrev pub instance_text : ListStyles → Option StressIndex → Option DisplayCounterIndex → TestInstanceId → Text
+instance_text s stress counter i = test_text s stress counter i.binary_id.now i.test_name.now
+
+-- a setup script: its iteration, its id and its command
+unfoldable pub script_text : Style → Style → Option StressIndex → Text → Text → Text
+script_text id_style count_style stress id command =
+    stress_prefix count_style stress ++ (paint (Styled id_style id ∷ Plain (codes ": ") ∷ []) ++ command)

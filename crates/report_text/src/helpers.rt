@@ -5,10 +5,13 @@
 
 pub mod decimal;
 pub mod durations;
+pub mod failure;
 pub mod instance;
 pub mod plural;
 pub mod quoting;
 pub mod repeated;
+pub mod run_id;
+pub mod script;
 pub mod theme;
 
 pub use crate::style::RESET_COLOR;

@@ -50,7 +50,7 @@ impl<'a> DisplayTestInstance<'a> {
     }
 
     /// Writes what it shows.
-    #[tactic(auto, unfolding(crate::specs::Instances::instance_text))]
+    #[tactic(auto, unfolding(crate::specs::Instances::test_text))]
     pub fn write_to<W: WriteStr>(&self, w: &mut W) -> Result<(), WriteFault>
         ensures { Puts W.meaning w.old (instance_text self.now.styles self.now.stress_index self.now.counter_index self.now.instance) result w.new }
     {
