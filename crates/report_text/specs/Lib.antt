@@ -4,6 +4,7 @@ pub mod Durations
 pub mod Failures
 pub mod Formatters
 pub mod Instances
+pub mod Interceptors
 pub mod Numbers
 pub mod Plural
 pub mod Quoting

@@ -7,6 +7,7 @@ pub mod decimal;
 pub mod durations;
 pub mod failure;
 pub mod instance;
+pub mod interceptor;
 pub mod plural;
 pub mod quoting;
 pub mod repeated;
