@@ -1,4 +1,5 @@
 pub mod Clocks
+pub mod Colons
 pub mod Commands
 pub mod Decimals
 pub mod Quotes

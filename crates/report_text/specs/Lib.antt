@@ -6,6 +6,7 @@ pub mod Formatters
 pub mod Instances
 pub mod Interceptors
 pub mod Numbers
+pub mod Paths
 pub mod Plural
 pub mod Quoting
 pub mod RunIds
