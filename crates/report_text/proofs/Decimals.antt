@@ -8,11 +8,11 @@ use Rattle.report_text.specs.Words.{Text, spaces, right_in}
 use Rattle.report_text.specs.Numbers.{rounded, last_digits, with_point, seconds}
 
 -- one byte, and a list with one more in front
-IsAscii-cons : (c : ℕ) (t : Text) → c < 128 → IsAscii t → IsAscii (c ∷ t)
+pub IsAscii-cons : (c : ℕ) (t : Text) → c < 128 → IsAscii t → IsAscii (c ∷ t)
 IsAscii-cons c t h rest zero = h
 IsAscii-cons c t h rest (suc i) = rest i
 
-IsAscii-none : IsAscii []
+pub IsAscii-none : IsAscii []
 IsAscii-none i = omega arith
 
 -- a point and three digits

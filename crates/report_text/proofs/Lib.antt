@@ -1,3 +1,8 @@
+pub mod Clocks
+pub mod Colons
+pub mod Commands
 pub mod Decimals
-pub mod Steps
+pub mod Quotes
+pub mod Repeated
 pub mod Spaces
+pub mod Steps

@@ -1,9 +1,16 @@
 pub mod Accept
 pub mod Buffer
+pub mod Durations
+pub mod Failures
 pub mod Formatters
 pub mod Instances
+pub mod Interceptors
 pub mod Numbers
+pub mod Paths
 pub mod Plural
+pub mod Quoting
+pub mod RunIds
 pub mod Styles
+pub mod Theme
 pub mod Words
 pub mod Writer

@@ -4,6 +4,7 @@
 //! hold no text of a report and write nothing: a reporter is handed a [`event::TestEvent`] and decides what to show.
 #![tactic(auto)]
 
+pub mod abort;
 pub mod config;
 pub mod event;
 pub mod level;
