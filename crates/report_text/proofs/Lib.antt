@@ -1,2 +1,4 @@
-pub mod Steps
+pub mod Feeds
+pub mod Indents
 pub mod Spaces
+pub mod Steps

@@ -1,7 +1,10 @@
 pub mod Accept
 pub mod Buffer
 pub mod Formatters
+pub mod Indent
+pub mod Indented
 pub mod Instances
+pub mod Lines
 pub mod Numbers
 pub mod Styles
 pub mod Words

@@ -5,6 +5,7 @@
 #![tactic(auto)]
 
 pub mod helpers;
+pub mod indenter;
 pub mod numbers;
 pub mod style;
 pub mod write_str;
