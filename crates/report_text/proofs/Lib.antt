@@ -1,4 +1,5 @@
 pub mod Feeds
+pub mod IndentedCalls
 pub mod Indents
 pub mod Spaces
 pub mod Steps

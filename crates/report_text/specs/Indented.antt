@@ -1,5 +1,6 @@
 -- What an `Indented` accepts.
 use Rattle.std.specs.Prelude.{◌≡◌, ◌≢◌, ℕ, List, [], ◌∷◌, ◌++◌, Bool, true, false, cond, ◌==◌, Result, refl}
+use Rattle.std.specs.Fmt.{WritesInCalls}
 use Rattle.std.specs.List.{onto_first, join_with_byte}
 use Rattle.std.proofs.Common.{sym, ap, ◌∙◌, append_assoc, subst, inl, inr}
 use Rattle.std.proofs.lemmas.Bool.{cases_Bool, eqb-true}
@@ -19,6 +20,10 @@ indent_onward p b (c ∷ t) = cond (c == 10) (10 ∷ indent_onward p true t) (co
 abbrev pub after_onward : Bool → Text → Bool
 after_onward b [] = b
 after_onward b (c ∷ t) = after_onward (c == 10) t
+
+-- indentation by lines is that scan
+abbrev pub IndentsByBytes : Type 0
+IndentsByBytes = (p : Text) (b : Bool) (t : Text) → (indent p b t ≡ indent_onward p b t) × (after b t ≡ after_onward b t)
 
 some_lines : (t : Text) → lines t ≢ []
 some_lines [] = λ e. cc
@@ -91,11 +96,11 @@ indent-append p b t u = rw (indent-onward p b (t ++ u), indent-onward p b t, ind
 pub after-append : (b : Bool) (t u : Text) → after b (t ++ u) ≡ after (after b t) u
 after-append b t u = rw (after-onward b (t ++ u), after-onward (after b t) u, after-onward b t) (after_onward-append b t u)
 
-indent-none : (p : Text) (b : Bool) → indent p b [] ≡ []
+pub indent-none : (p : Text) (b : Bool) → indent p b [] ≡ []
 unfolding indent
 indent-none p b = refl
 
-after-none : (b : Bool) → after b [] ≡ b
+pub after-none : (b : Bool) → after b [] ≡ b
 unfolding after
 after-none b = refl
 
@@ -164,3 +169,18 @@ indented_laws m laws = record {
   device = λ a b t p. laws.device a.inner.now b.inner.now _ p.below;
   memory = λ a b t p. laws.memory a.inner.now b.inner.now _ p.below;
 }
+
+module _ {W : Type 0} (took : W → Text → W → Type 0) where
+  -- calls of the writer below took the indented text
+  pub record IndentedTakes (a : Indented W) (t : Text) (b : Indented W) : Type 0 where
+    pub below : WritesInCalls took a.inner.now (indent a.indentation.now a.needs_indent t) b.inner.now
+    pub line : b.needs_indent ≡ after a.needs_indent t
+    pub indentation : b.indentation.now ≡ a.indentation.now
+    pub same : b.inner.ghost_name ≡ a.inner.ghost_name
+
+  -- calls of the writer below took what stands before the line, and all else stays
+  pub record TakesMargin (a : Indented W) (t : Text) (b : Indented W) : Type 0 where
+    pub below : WritesInCalls took a.inner.now (margin a.indentation.now a.needs_indent t) b.inner.now
+    pub line : b.needs_indent ≡ a.needs_indent
+    pub indentation : b.indentation.now ≡ a.indentation.now
+    pub same : b.inner.ghost_name ≡ a.inner.ghost_name

@@ -4,6 +4,12 @@
 //! into calls, the writer below gets the same bytes.
 
 ghost use Rattle.std.specs.Prelude.{◌≡◌, true, codes};
+ghost use Rattle.std.specs.Option.{option_map};
+ghost use Rattle.report_text.specs.Indent.{indent, IndentsInPieces};
+ghost use Rattle.report_text.specs.Indented.{IndentsByBytes};
+
+use std::fmt;
+use std::fmt::{Formatter, Write};
 
 mod indentation;
 
@@ -25,4 +31,32 @@ pub fn indented<W>(inner: &mut W) -> Indented<'_, W>
         needs_indent: true,
         indentation: "    ",
     }
+}
+
+/// An item whose text is indented where it is displayed, as an error of several lines.
+#[derive(Clone, Copy, Debug, Drop)]
+pub struct DisplayIndented<T> {
+    /// What is displayed.
+    pub item: T,
+    /// What stands before each line that is not empty.
+    pub indent: &'static str,
+}
+
+impl<T: fmt::Display> fmt::Display for DisplayIndented<T> {
+    ghost output = { λ d. option_map (indent d.indent.now true) (T.output d.item) };
+
+    fn fmt<W: fmt::Write>(&self, f: &mut Formatter<W>) -> fmt::Result {
+        let mut out = indented(f).with_str(self.indent);
+        let result = out.write(&self.item);
+        let back = out.into_inner();
+        let _ = &*back;
+        result
+    }
+}
+
+/// What indentation is: a text may be cut anywhere, and a scan with one flag indents it.
+pub fn indent_laws()
+    ensures pieces { IndentsInPieces }
+    ensures bytes { IndentsByBytes }
+{
 }

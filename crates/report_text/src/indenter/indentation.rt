@@ -2,13 +2,14 @@
 //!
 //! It stands in a module of its own, since its name and that of the function `indented` differ only in case.
 
-ghost use Rattle.std.specs.Prelude.{◌≡◌, ◌<◌, ◌++◌, false, length};
-ghost use Rattle.report_text.specs.Indented.{PutsMargin, indented_meaning, indented_laws};
+ghost use Rattle.std.specs.Prelude.{◌≡◌, ◌<◌, ◌++◌, false, length, OnOk};
+ghost use Rattle.report_text.specs.Indented.{PutsMargin, TakesMargin, IndentedTakes, indented_meaning, indented_laws};
 ghost use Rattle.report_text.specs.Lines.{IsOneLine};
 ghost use Rattle.report_text.specs.Writer.{Puts};
 
 use crate::write_str::{WriteFault, WriteStr};
 use memchr::memchr;
+use std::fmt;
 
 /// Indents each line of what is written to the writer below.
 ///
@@ -106,5 +107,44 @@ impl<W: WriteStr> WriteStr for Indented<'_, W> {
 
     fn write_str_flush(&mut self) -> Result<(), WriteFault> {
         self.inner.write_str_flush()
+    }
+}
+
+impl<W: fmt::Write> Indented<'_, W> {
+    // As `write_margin`, over a destination of `fmt`.
+    fn fmt_margin(&mut self, line: &str) -> fmt::Result
+        requires { IsOneLine line.now }
+        ensures { OnOk result (TakesMargin W.write_str_gives self.old line.now self.new) }
+    {
+        if !self.needs_indent || line == "\n" {
+            return Ok(());
+        }
+        self.inner.write_str(self.indentation)
+    }
+
+    // As `write_line`, over a destination of `fmt`.
+    fn fmt_line(&mut self, line: &str) -> fmt::Result
+        requires { IsOneLine line.now }
+        ensures { OnOk result (IndentedTakes W.write_str_gives self.old line.now self.new) }
+    {
+        self.fmt_margin(line)?;
+        self.inner.write_str(line)?;
+        self.needs_indent = line.ends_with('\n');
+        Ok(())
+    }
+}
+
+/// The same over a destination of `fmt`. Nothing is said of what a failure leaves, as `fmt` says nothing of it.
+impl<W: fmt::Write> fmt::Write for Indented<'_, W> {
+    ghost write_str_gives = { IndentedTakes W.write_str_gives };
+
+    fn write_str(&mut self, s: &str) -> fmt::Result {
+        let mut rest = s;
+        while !rest.is_empty() {
+            let (line, more) = split_line(rest);
+            self.fmt_line(line)?;
+            rest = more;
+        }
+        Ok(())
     }
 }
