@@ -1,5 +1,5 @@
 -- Lines that are indented.
-use Rattle.std.proofs.Common.{◌≡◌, ◌≢◌, ℕ, zero, suc, ◌+◌, ◌-◌, ◌<◌, List, [], ◌∷◌, ◌++◌, Bool, true, false, cond, not, ◌&&◌, ◌==◌, nat_eq, length, take, get_or, get_or-take, length-take-le, refl, ap, sym, ◌∙◌, arith, inl, inr, Result, Ok, Err, subst}
+use Rattle.std.proofs.Common.{◌≡◌, ◌≢◌, ℕ, suc, ◌+◌, ◌-◌, ◌<◌, [], ◌∷◌, ◌++◌, Bool, true, false, ◌==◌, nat_eq, length, take, get_or, get_or-take, length-take-le, refl, ap, sym, ◌∙◌, arith, inl, inr, Result, Ok, Err}
 use Rattle.std.proofs.lemmas.Bool.{cases_Bool, and_parts}
 use Rattle.std.proofs.lemmas.Bool.Decides.{eqb_tells}
 use lib.Pointwise.{pointwise}

@@ -1,4 +1,6 @@
+pub mod Chunked
 pub mod Feeds
+pub mod Highlighted
 pub mod IndentedCalls
 pub mod Indents
 pub mod Spaces

@@ -1,6 +1,9 @@
 pub mod Accept
 pub mod Buffer
+pub mod ChunkEnds
+pub mod Chunks
 pub mod Formatters
+pub mod Highlights
 pub mod Indent
 pub mod Indented
 pub mod Instances

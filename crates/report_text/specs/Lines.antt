@@ -1,5 +1,5 @@
 -- Lines of a text.
-use Rattle.std.specs.Prelude.{ℕ, ◌-◌, ◌<◌, ◌≢◌, ◌==◌, List, length, take}
+use Rattle.std.specs.Prelude.{◌-◌, ◌<◌, ◌≢◌, ◌==◌, List, length, take}
 use Rattle.std.specs.List.{All, slice_split}
 use Rattle.report_text.specs.Words.{Text}
 

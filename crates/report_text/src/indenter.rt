@@ -12,6 +12,8 @@ use std::fmt;
 use std::fmt::{Formatter, Write};
 
 mod indentation;
+#[cfg(test)]
+mod tests;
 
 pub use indentation::Indented;
 
@@ -58,5 +60,4 @@ impl<T: fmt::Display> fmt::Display for DisplayIndented<T> {
 pub fn indent_laws()
     ensures pieces { IndentsInPieces }
     ensures bytes { IndentsByBytes }
-{
-}
+{}

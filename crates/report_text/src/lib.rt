@@ -7,5 +7,6 @@
 pub mod helpers;
 pub mod indenter;
 pub mod numbers;
+pub mod reporter_helpers;
 pub mod style;
 pub mod write_str;
