@@ -1,7 +1,10 @@
 pub mod Chunked
+pub mod Cuts
 pub mod Feeds
 pub mod Highlighted
 pub mod IndentedCalls
 pub mod Indents
+pub mod Pieces
+pub mod ScannerSteps
 pub mod Spaces
 pub mod Steps

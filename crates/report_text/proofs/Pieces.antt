@@ -1,5 +1,5 @@
 -- The pieces of a text.
-use Rattle.std.proofs.Common.{◌≡◌, ◌≢◌, ℕ, zero, suc, ◌+◌, ◌<◌, ◌≤◌, Bool, false, not, ◌==◌, inl, inr, [], ◌∷◌, ◌++◌, refl, ap, arith, length, take, drop, lit<, add-one}
+use Rattle.std.proofs.Common.{◌≡◌, ◌≢◌, ℕ, zero, suc, ◌+◌, ◌<◌, ◌≤◌, Bool, true, false, not, ◌==◌, inl, inr, [], ◌∷◌, ◌++◌, refl, ap, arith, length, get_or, take, drop, ◌⊎◌, lit<, add-one}
 use Rattle.std.proofs.lemmas.Bool.{cases_Bool, and_parts, not-true}
 use Rattle.std.proofs.lemmas.Bool.Decides.{eqb_tells}
 use Rattle.std.proofs.lemmas.List.{take-append-drop}
@@ -8,6 +8,7 @@ use Rattle.std.specs.Str.{IsUtf8, IsCharBoundary}
 use Rattle.report_text.specs.Words.{Text}
 use Rattle.report_text.specs.Escapes.{front_len, is_visible, sequence_len, pieces_after, pieces, joined, stretches, visible_after, visible, has_no_escape, HasNoEscape}
 use Rattle.report_text.specs.Escapes.PieceText.{SequenceText, StretchText}
+use Rattle.memchr.specs.Find.{Nowhere, NoneBefore, Passes, is_byte}
 use Rattle.report_text.proofs.Cuts.{IsCut, sequence_len-cut}
 
 pub front_len-le : (p : ℕ → Bool) (t : Text) → front_len p t ≤ length t
@@ -145,3 +146,20 @@ module _ (bs after : Text) (first count : ℕ) (e : bs ≡ first ∷ after) wher
     stretch_first front back p q = rw (p, q, e, h, add-one) (pieces-stretch first after (elim (eqb_tells first 27) [ inl y ↦ absurd (i y.1) | inr n ↦ n.0 ]))
 
 pub ruleset piece_laws = (joined-pieces, stretches-pieces)
+
+-- the bytes before the first escape character
+front_at : (t : Text) (n : ℕ) → n ≤ length t → ((k : ℕ) → k < n → (get_or t k 0 == 27) ≡ false) → (n ≡ length t) ⊎ ((get_or t n 0 == 27) ≡ true) → n ≡ front_len is_visible t
+front_at [] n h before ends = omega arith
+front_at (c ∷ t) zero h before ends = elim ends [ inl e ↦ absurd (omega arith) | inr e ↦ rw e refl ]
+front_at (c ∷ t) (suc n) h before ends =
+    let first : (c == 27) ≡ false = before 0 (omega arith) in
+    rw first (ap suc (front_at t n (omega arith) (λ k l. before (suc k) (omega arith)) (elim ends [ inl e ↦ inl (omega arith) | inr e ↦ inr e ])))
+
+not_escape : (c : ℕ) → ((c == 27) ≡ true → ⊥) → (c == 27) ≡ false
+not_escape c h = elim (eqb_tells c 27) [ inl y ↦ absurd (h y.0) | inr n ↦ n.0 ]
+
+pub stretch_at : (t : Text) (i : ℕ) → NoneBefore (Passes (is_byte 27) t) 0 (length t) i × Passes (is_byte 27) t i → i ≡ front_len is_visible t
+stretch_at t i found = front_at t i (omega (arith, found.0.high)) (λ k l. not_escape (get_or t k 0) (found.0.before k (omega arith) l)) (inr found.1)
+
+pub stretch_whole : (t : Text) → Nowhere (Passes (is_byte 27) t) 0 (length t) → length t ≡ front_len is_visible t
+stretch_whole t none = front_at t (length t) (omega arith) (λ k l. not_escape (get_or t k 0) (none k (omega arith) l)) (inl refl)

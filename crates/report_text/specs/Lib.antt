@@ -2,6 +2,7 @@ pub mod Accept
 pub mod Buffer
 pub mod ChunkEnds
 pub mod Chunks
+pub mod Escapes
 pub mod Formatters
 pub mod Highlights
 pub mod Indent
@@ -9,6 +10,8 @@ pub mod Indented
 pub mod Instances
 pub mod Lines
 pub mod Numbers
+pub mod Piece
+pub mod Scanner
 pub mod Styles
 pub mod Words
 pub mod Writer

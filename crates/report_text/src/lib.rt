@@ -4,6 +4,7 @@
 //! where a fault came. No function here takes memory of its own while it writes.
 #![tactic(auto)]
 
+pub mod escapes;
 pub mod helpers;
 pub mod indenter;
 pub mod numbers;
