@@ -1,6 +1,7 @@
 pub mod Chunked
 pub mod Cuts
 pub mod Feeds
+pub mod Fits
 pub mod Highlighted
 pub mod IndentedCalls
 pub mod Indents
@@ -8,3 +9,4 @@ pub mod Pieces
 pub mod ScannerSteps
 pub mod Spaces
 pub mod Steps
+pub mod Widths

@@ -5,6 +5,7 @@
 #![tactic(auto)]
 
 pub mod escapes;
+pub mod fitting;
 pub mod helpers;
 pub mod indenter;
 pub mod numbers;
