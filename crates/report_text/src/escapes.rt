@@ -9,12 +9,13 @@
 //! A sequence that is not finished ends before the first character that does not fit. All else is text. A text is
 //! scanned once, and its pieces are slices of it.
 
-ghost use Rattle.std.specs.Prelude.{◌≡◌, ℕ, [], ◌∷◌, List, IfOk, MatchOption, string_bytes};
+ghost use Rattle.std.specs.Prelude.{◌≡◌, ℕ, false, [], ◌∷◌, List, IfOk, MatchOption, string_bytes};
 ghost use Rattle.std.specs.Iterator.{YieldsFirstBy, item_count};
 ghost use Rattle.report_text.specs.Escapes.{sequence_len, front_len, is_visible, pieces, visible, joined, stretches, HasNoEscape};
 ghost use Rattle.report_text.specs.Piece.{piece_text};
-ghost use Rattle.report_text.specs.Scanner.{rest_len, is_before_backslash, StepCounts};
+ghost use Rattle.report_text.specs.Scanner.{rest_len, is_before_backslash, StepCounts, step_of, short_step_of, final_step_of, advanced};
 ghost use Rattle.report_text.specs.Writer.{Puts};
+ghost use Rattle.report_text.specs.declared.escapes.Mode.TheVariants.{Text};
 ghost use Rattle.report_text.specs.declared.escapes.State.TheVariants.{Parameters, Intermediates, Command, Short};
 
 #[cfg(test)]
@@ -150,7 +151,7 @@ fn sequence_len(after: &[u8]) -> usize
     let mut rest = after;
     let mut count = 0;
     while let Some((&byte, tail)) = rest.split_first() {
-        match next_step(state, byte, tail.first() == Some(&b'\\')) {
+        match next_step(state, u32::from(byte), tail.first() == Some(&b'\\')) {
             Step::Inside(next) => state = next,
             Step::Ends(more) => return count + more,
         }
@@ -161,8 +162,8 @@ fn sequence_len(after: &[u8]) -> usize
 }
 
 // Where a scan of a sequence stands, after its escape character.
-#[derive(Clone, Copy)]
-enum State {
+#[derive(Clone, Copy, Debug, PartialEq, Eq)]
+pub enum State {
     // Nothing else is read.
     Start,
     // In a control sequence, parameters may come.
@@ -175,38 +176,40 @@ enum State {
     Short,
 }
 
-// What a byte does to a scan.
+// What a character does to a scan of a sequence.
 enum Step {
-    // The byte belongs to the sequence, which goes on.
+    // The character belongs to the sequence, which goes on.
     Inside(State),
-    // So many bytes more belong to the sequence.
+    // So many characters more belong to the sequence, this one with them.
     Ends(usize),
 }
 
 // A step of a scan.
 #[tactic(auto, using(crate::proofs::ScannerSteps::steps), unfolding(crate::specs::Escapes::sequence_len))]
-fn next_step(state: State, byte: u8, precedes_backslash: bool) -> Step
-    ensures { (t : List ℕ) → precedes_backslash ≡ is_before_backslash t → StepCounts result (rest_len state (byte ∷ t)) t }
+fn next_step(state: State, code: u32, precedes_backslash: bool) -> Step
+    ensures counts { (t : List ℕ) → precedes_backslash ≡ is_before_backslash t → StepCounts result (rest_len state (code ∷ t)) t }
+    ensures table { result ≡ step_of state code precedes_backslash }
 {
     match state {
-        State::Start => match byte {
-            b'[' => Step::Inside(State::Parameters),
-            b']' => Step::Inside(State::Command),
-            _ => short_step(byte),
+        State::Start => match code {
+            0x5B => Step::Inside(State::Parameters),
+            0x5D => Step::Inside(State::Command),
+            _ => short_step(code),
         },
-        State::Parameters => parameter_step(byte),
-        State::Intermediates => final_step(byte),
-        State::Command => command_step(byte, precedes_backslash),
-        State::Short => short_step(byte),
+        State::Parameters => parameter_step(code),
+        State::Intermediates => final_step(code),
+        State::Command => command_step(code, precedes_backslash),
+        State::Short => short_step(code),
     }
 }
 
 // A step where a parameter may come.
 #[tactic(auto, using(crate::proofs::ScannerSteps::steps))]
-fn parameter_step(byte: u8) -> Step
-    ensures { (t : List ℕ) → StepCounts result (rest_len Parameters (byte ∷ t)) t }
+fn parameter_step(code: u32) -> Step
+    ensures counts { (t : List ℕ) → StepCounts result (rest_len Parameters (code ∷ t)) t }
+    ensures table { result ≡ step_of Parameters code false }
 {
-    match byte {
+    match code {
         0x30..=0x3F => Step::Inside(State::Parameters),
         0x20..=0x2F => Step::Inside(State::Intermediates),
         0x40..=0x7E => Step::Ends(1),
@@ -214,12 +217,13 @@ fn parameter_step(byte: u8) -> Step
     }
 }
 
-// A step where an intermediate or the final byte may come.
+// A step where an intermediate or the final character may come.
 #[tactic(auto, using(crate::proofs::ScannerSteps::steps))]
-fn final_step(byte: u8) -> Step
-    ensures { (t : List ℕ) → StepCounts result (rest_len Intermediates (byte ∷ t)) t }
+fn final_step(code: u32) -> Step
+    ensures counts { (t : List ℕ) → StepCounts result (rest_len Intermediates (code ∷ t)) t }
+    ensures table { result ≡ final_step_of code }
 {
-    match byte {
+    match code {
         0x20..=0x2F => Step::Inside(State::Intermediates),
         0x40..=0x7E => Step::Ends(1),
         _ => Step::Ends(0),
@@ -228,10 +232,11 @@ fn final_step(byte: u8) -> Step
 
 // A step of a command.
 #[tactic(auto, using(crate::proofs::ScannerSteps::steps))]
-fn command_step(byte: u8, precedes_backslash: bool) -> Step
-    ensures { (t : List ℕ) → precedes_backslash ≡ is_before_backslash t → StepCounts result (rest_len Command (byte ∷ t)) t }
+fn command_step(code: u32, precedes_backslash: bool) -> Step
+    ensures counts { (t : List ℕ) → precedes_backslash ≡ is_before_backslash t → StepCounts result (rest_len Command (code ∷ t)) t }
+    ensures table { result ≡ step_of Command code precedes_backslash }
 {
-    match byte {
+    match code {
         0x07 => Step::Ends(1),
         0x1B if precedes_backslash => Step::Ends(2),
         0x00..=0x1F | 0x7F => Step::Ends(0),
@@ -241,12 +246,54 @@ fn command_step(byte: u8, precedes_backslash: bool) -> Step
 
 // A step of any other sequence.
 #[tactic(auto, using(crate::proofs::ScannerSteps::steps))]
-fn short_step(byte: u8) -> Step
-    ensures { (t : List ℕ) → StepCounts result (rest_len Short (byte ∷ t)) t }
+fn short_step(code: u32) -> Step
+    ensures counts { (t : List ℕ) → StepCounts result (rest_len Short (code ∷ t)) t }
+    ensures table { result ≡ short_step_of code }
 {
-    match byte {
+    match code {
         0x20..=0x2F => Step::Inside(State::Short),
         0x30..=0x7E => Step::Ends(1),
         _ => Step::Ends(0),
+    }
+}
+
+/// Where a scan of a text stands between two characters.
+#[derive(Clone, Copy, Debug, PartialEq, Eq)]
+pub enum Mode {
+    /// Outside sequences.
+    Text,
+    /// In a sequence.
+    Sequence(State),
+    /// In a command, after an escape character that a backslash makes its end.
+    Terminator,
+}
+
+/// Where a scan stands after a character that belongs to a sequence, and `None` at one that belongs to none. So a text
+/// can be scanned in pieces, each from where the one before it left off.
+pub fn advance(mode: Mode, c: char) -> Option<Mode>
+    ensures { result ≡ advanced mode c }
+{
+    let state = match mode {
+        Mode::Text => return begin(c),
+        Mode::Terminator if c == '\\' => return Some(Mode::Text),
+        Mode::Terminator => State::Start,
+        Mode::Sequence(State::Command) if c == '\x1b' => return Some(Mode::Terminator),
+        Mode::Sequence(state) => state,
+    };
+    match next_step(state, u32::from(c), false) {
+        Step::Inside(next) => Some(Mode::Sequence(next)),
+        Step::Ends(0) => begin(c),
+        Step::Ends(_) => Some(Mode::Text),
+    }
+}
+
+// The mode after a character that may begin a sequence.
+fn begin(c: char) -> Option<Mode>
+    ensures { result ≡ advanced Text c }
+{
+    if c == '\x1b' {
+        Some(Mode::Sequence(State::Start))
+    } else {
+        None
     }
 }
