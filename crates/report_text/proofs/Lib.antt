@@ -2,9 +2,11 @@ pub mod Chunked
 pub mod Cuts
 pub mod Feeds
 pub mod Fits
+pub mod FittedPuts
 pub mod Highlighted
 pub mod IndentedCalls
 pub mod Indents
+pub mod Marks
 pub mod Pieces
 pub mod ScannerSteps
 pub mod Spaces

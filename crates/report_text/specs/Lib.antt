@@ -3,6 +3,7 @@ pub mod Buffer
 pub mod ChunkEnds
 pub mod Chunks
 pub mod Escapes
+pub mod Fitted
 pub mod Fitting
 pub mod Formatters
 pub mod Highlights

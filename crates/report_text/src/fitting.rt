@@ -1,14 +1,18 @@
 //! Columns of a text, and texts that are cut to some of them.
 //!
 //! A character has the columns that `unicode_width` gives it alone, a control character none, a sequence none. A cut text
-//! keeps every sequence.
+//! keeps every sequence. What is cut is cut while it is written, character by character, so that no memory is taken and
+//! stretches that meet across two writes are one.
 
 ghost use Rattle.std.specs.Prelude.{◌≡◌, ℕ, ◌-◌, ◌≤◌, ◌++◌, List};
 ghost use Rattle.std.specs.Str.{IsUtf8};
 ghost use Rattle.report_text.specs.Escapes.{HasNoEscape, pieces};
-ghost use Rattle.report_text.specs.Fitting.{char_columns, columns, fit, shrunk_parts, sequences, part_sequences, IsPainted, ArePainted};
+ghost use Rattle.report_text.specs.Fitting.{columns, fit, shrunk_parts, sequences, part_sequences, IsPainted, ArePainted};
 
-use unicode_width::UnicodeWidthChar;
+mod fitted;
+mod standing;
+
+pub use fitted::Fitted;
 
 /// How wide cut texts are, and that they keep each sequence: of texts each of whose sequences ends by itself.
 #[tactic(auto, using(crate::proofs::Widths::width_laws))]
@@ -20,13 +24,4 @@ pub fn width_laws()
     ensures plain { (t : List ℕ) → IsUtf8 t → HasNoEscape t → IsPainted t }
     ensures joined { (a b : List ℕ) → IsPainted a → IsPainted b → IsPainted (a ++ b) }
 {
-}
-
-// The columns of a character.
-#[tactic(auto, unfolding(crate::specs::Fitting::char_columns))]
-fn char_columns(c: char) -> u128
-    ensures value { result ≡ char_columns c }
-    ensures bound { result ≤ 3 }
-{
-    c.width().unwrap_or(0) as u128
 }
