@@ -17,10 +17,10 @@ first_scalar t rest c u e =
     let scalars : all_scalars (c ∷ parts.0) ≡ true = sym (ap all_scalars parts.1) ∙ u.1.0 in
     (and_parts (scalar c) (all_scalars parts.0) scalars).0
 
-one_utf8 : (c : ℕ) → scalar c ≡ true → IsUtf8 (encode_utf8 c)
+pub one_utf8 : (c : ℕ) → scalar c ≡ true → IsUtf8 (encode_utf8 c)
 one_utf8 c h = (c ∷ [], (rw h refl, append-nil (encode_utf8 c)))
 
-one_char : (c : ℕ) → scalar c ≡ true → chars (encode_utf8 c) ≡ c ∷ []
+pub one_char : (c : ℕ) → scalar c ≡ true → chars (encode_utf8 c) ≡ c ∷ []
 one_char c h = ap chars (sym (append-nil (encode_utf8 c))) ∙ chars-encodes (c ∷ []) (rw h refl)
 
 module _ {W : Type 0} (m : Meaning W) where
