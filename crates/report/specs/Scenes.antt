@@ -20,3 +20,4 @@ SaysSame event other = ⊥
 -- a call of a reporter that is an event of a scene. Only the end of a run says how long it took
 abbrev pub IsCallOf : SceneEvent → ReportCall → Type 0
 IsCallOf event (Event e) = (e.elapsed.0 ≡ 0) × SaysSame event e.kind
+IsCallOf event call = ⊥
