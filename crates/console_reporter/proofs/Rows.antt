@@ -55,9 +55,21 @@ start = refl
 -- two tests ran, one passed and one failed
 abbrev stats : RunStats
 stats = record {
-  initial_run_count = 2; finished_count = 2; passed = 1; passed_slow = 0; flaky = 0; leaky = 0; failed = 1; leaky_failed = 0;
-  exec_failed = 0; timed_out = 0; skipped = 0; setup_scripts_failed = 0; setup_scripts_exec_failed = 0;
-  setup_scripts_timed_out = 0; cancel_reason = None;
+  initial_run_count = 2;
+  finished_count = 2;
+  passed = 1;
+  passed_slow = 0;
+  flaky = 0;
+  leaky = 0;
+  failed = 1;
+  leaky_failed = 0;
+  exec_failed = 0;
+  timed_out = 0;
+  skipped = 0;
+  setup_scripts_failed = 0;
+  setup_scripts_exec_failed = 0;
+  setup_scripts_timed_out = 0;
+  cancel_reason = None;
 }
 
 summary : run_finished_text settings 1520000000 (Single stats) ≡ codes "------------\n     Summary [   1.520s] 2 tests run: 1 passed, 1 failed, 0 skipped\n"

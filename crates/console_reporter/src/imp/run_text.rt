@@ -52,7 +52,10 @@ pub fn write_run_finished<W: WriteStr>(
 
 // Writes a bar of twelve characters.
 #[tactic(auto, unfolding(crate::specs::RunTexts::bar_line))]
-fn write_bar_line<W: WriteStr>(w: &mut W, theme_characters: ThemeCharacters) -> Result<(), WriteFault>
+fn write_bar_line<W: WriteStr>(
+    w: &mut W,
+    theme_characters: ThemeCharacters,
+) -> Result<(), WriteFault>
     ensures { Puts W.meaning w.old (bar_line theme_characters) result w.new }
 {
     theme_characters.write_hbar(w, 12)?;
