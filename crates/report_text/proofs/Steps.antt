@@ -43,6 +43,10 @@ module _ {S : Type 0} {m : Meaning S} (laws : WriterLaws m) where
   pub owes_at_end : {X : Type 0} (f : X → List ℕ) (xs : List X) (i : ℕ) (a b : S) (text : List ℕ) → length xs ≤ i → Owes m a text b (flat_map f (drop i xs)) → m.accepts a text b
   owes_at_end f xs i a b text l o = o (Ok tt) b (subst (λ ys. m.accepts b (flat_map f ys) b) (sym (drop_all i xs l)) (laws.nothing b))
 
+  -- What is owed is the empty text.
+  pub owes_nothing : (a b : S) (text rest : List ℕ) → Owes m a text b rest → rest ≡ [] → m.accepts a text b
+  owes_nothing a b text rest o e = o (Ok tt) b (subst (λ t. m.accepts b t b) (sym e) (laws.nothing b))
+
 -- what `split_at` gives
 pub split_parts : {X : Type 0} (n : ℕ) (xs ys zs : List X) → ys ≡ take n xs → zs ≡ drop n xs → xs ≡ ys ++ zs
 split_parts n xs ys zs p q = rw (p, q) (sym (take-append-drop n xs))

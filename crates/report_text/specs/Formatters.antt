@@ -9,16 +9,17 @@ use Rattle.report_text.specs.declared.write_str.WriteFault.{WriteFault}
 use Rattle.report_text.specs.declared.write_str.WriteFault.TheVariants.{Memory, Device}
 use Rattle.report_text.specs.declared.write_str.on_formatter.OnFormatter.{OnFormatter}
 
-folds_append : {W : Type 0} (took : W → List ℕ → W → Type 0) (s t u : W) (xs ys : List (List ℕ)) → FoldsTo took s xs t → FoldsTo took t ys u → FoldsTo took s (xs ++ ys) u
+-- steps, and then more steps
+pub folds_append : {W : Type 0} (took : W → List ℕ → W → Type 0) (s t u : W) (xs ys : List (List ℕ)) → FoldsTo took s xs t → FoldsTo took t ys u → FoldsTo took s (xs ++ ys) u
 folds_append took s t u [] ys p q = subst (λ x. FoldsTo took x ys u) (sym p) q
 folds_append took s t u (x ∷ xs) ys p q = (p.0, p.1, folds_append took p.0 t u xs ys p.2 q)
 
-concat_append : (xs ys : List (List ℕ)) → concat (xs ++ ys) ≡ concat xs ++ concat ys
+pub concat_append : (xs ys : List (List ℕ)) → concat (xs ++ ys) ≡ concat xs ++ concat ys
 concat_append [] ys = refl
 concat_append (x ∷ xs) ys = ap (λ l. x ++ l) (concat_append xs ys) ∙ sym (append_assoc x (concat xs) (concat ys))
 
 -- two writes in a row
-written_twice : {W : Type 0} (took : W → List ℕ → W → Type 0) (f g h : Formatter W) (t u : List ℕ) → HasWritten took f t g → HasWritten took g u h → HasWritten took f (t ++ u) h
+pub written_twice : {W : Type 0} (took : W → List ℕ → W → Type 0) (f g h : Formatter W) (t u : List ℕ) → HasWritten took f t g → HasWritten took g u h → HasWritten took f (t ++ u) h
 written_twice took f g h t u p q = record {
   wrote = record {
     parts = p.wrote.parts ++ q.wrote.parts;

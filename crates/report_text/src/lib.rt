@@ -4,7 +4,11 @@
 //! where a fault came. No function here takes memory of its own while it writes.
 #![tactic(auto)]
 
+pub mod escapes;
+pub mod fitting;
 pub mod helpers;
+pub mod indenter;
 pub mod numbers;
+pub mod reporter_helpers;
 pub mod style;
 pub mod write_str;

@@ -4,3 +4,4 @@ pub mod Names
 pub mod Stats
 pub mod Statuses
 pub mod Stress
+pub mod UniquePrefixes
