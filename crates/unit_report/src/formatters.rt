@@ -6,6 +6,9 @@ ghost use Rattle.report_text.specs.Numbers.{seconds};
 ghost use Rattle.report_text.specs.Writer.{Puts};
 ghost use Rattle.unit_report.specs.Durations.{bracketed_clock, bracketed_duration, duration_by, slow_duration};
 
+#[cfg(test)]
+mod tests;
+
 use report_text::helpers::durations::write_clock_between;
 use report_text::numbers::write_seconds_between;
 use report_text::show_written;
