@@ -1,7 +1,8 @@
 //! Each form once with the text that nextest prints, and the greatest numbers.
 
 use crate::helpers::paths::is_relative;
-use crate::helpers::{plural, *};
+use crate::helpers::plural::*;
+use crate::helpers::*;
 use crate::style::{ListStyles, Style, Styles, plain, write_parts};
 use run_model::abort::{AbortDescription, DescriptionText};
 use run_model::config::NextestRunMode;
@@ -11,6 +12,14 @@ use run_model::time::Nanos;
 use std::num::NonZeroU32;
 use std::test::Fail;
 
+// The iteration after so many, of a total that is known if it is not 0.
+fn stress(current: u32, total: u32) -> StressIndex {
+    StressIndex {
+        current,
+        total: NonZeroU32::new(total),
+    }
+}
+
 fn list_styles() -> ListStyles {
     let mut styles = ListStyles::default();
     styles.colorize();
@@ -18,107 +27,55 @@ fn list_styles() -> ListStyles {
 }
 
 #[test]
-fn words_are_singular_for_one_alone(rt: HostRuntime) {
-    let words = [
-        (
-            plural::setup_scripts_str(1),
-            plural::setup_scripts_str(0),
-            "setup script",
-            "setup scripts",
-        ),
-        (
-            plural::binaries_str(1),
-            plural::binaries_str(2),
-            "binary",
-            "binaries",
-        ),
-        (plural::paths_str(1), plural::paths_str(2), "path", "paths"),
-        (plural::files_str(1), plural::files_str(2), "file", "files"),
-        (
-            plural::directories_str(1),
-            plural::directories_str(2),
-            "directory",
-            "directories",
-        ),
-        (
-            plural::this_crate_str(1),
-            plural::this_crate_str(2),
-            "this crate",
-            "these crates",
-        ),
-        (
-            plural::libraries_str(1),
-            plural::libraries_str(2),
-            "library",
-            "libraries",
-        ),
-        (
-            plural::filters_str(1),
-            plural::filters_str(2),
-            "filter",
-            "filters",
-        ),
-        (
-            plural::sections_str(1),
-            plural::sections_str(2),
-            "section",
-            "sections",
-        ),
-        (
-            plural::iterations_str(1),
-            plural::iterations_str(0),
-            "iteration",
-            "iterations",
-        ),
-        (plural::runs_str(1), plural::runs_str(2), "run", "runs"),
-        (
-            plural::orphans_str(1),
-            plural::orphans_str(2),
-            "orphan",
-            "orphans",
-        ),
-        (
-            plural::errors_str(1),
-            plural::errors_str(2),
-            "error",
-            "errors",
-        ),
-        (
-            plural::exist_str(1),
-            plural::exist_str(2),
-            "exists",
-            "exist",
-        ),
-        (plural::end_str(1), plural::end_str(2), "ends", "end"),
-        (
-            plural::remain_str(1),
-            plural::remain_str(2),
-            "remains",
-            "remain",
-        ),
-        (
-            plural::were_plural_if(false),
-            plural::were_plural_if(true),
-            "was",
-            "were",
-        ),
-    ];
-    for (singular, other, one, several) in words {
-        assert_eq!(rt; singular, one);
-        assert_eq!(rt; other, several);
-    }
+fn things_are_singular_for_one_alone(rt: HostRuntime) {
+    assert_eq!(rt;
+        [setup_scripts_str(1), setup_scripts_str(0)],
+        ["setup script", "setup scripts"]
+    );
+    assert_eq!(rt; [binaries_str(1), binaries_str(2)], ["binary", "binaries"]);
+    assert_eq!(rt; [paths_str(1), paths_str(2)], ["path", "paths"]);
+    assert_eq!(rt; [files_str(1), files_str(2)], ["file", "files"]);
+    assert_eq!(rt;
+        [directories_str(1), directories_str(2)],
+        ["directory", "directories"]
+    );
+    assert_eq!(rt;
+        [this_crate_str(1), this_crate_str(2)],
+        ["this crate", "these crates"]
+    );
+    assert_eq!(rt;
+        [libraries_str(1), libraries_str(2)],
+        ["library", "libraries"]
+    );
+    assert_eq!(rt; [filters_str(1), filters_str(2)], ["filter", "filters"]);
+    assert_eq!(rt; [sections_str(1), sections_str(2)], ["section", "sections"]);
+    assert_eq!(rt;
+        [iterations_str(1), iterations_str(0)],
+        ["iteration", "iterations"]
+    );
+    assert_eq!(rt; [runs_str(1), runs_str(2)], ["run", "runs"]);
+    assert_eq!(rt; [orphans_str(1), orphans_str(2)], ["orphan", "orphans"]);
+    assert_eq!(rt; [errors_str(1), errors_str(2)], ["error", "errors"]);
+}
+
+#[test]
+fn verbs_are_singular_for_one_alone(rt: HostRuntime) {
+    assert_eq!(rt; [exist_str(1), exist_str(2)], ["exists", "exist"]);
+    assert_eq!(rt; [end_str(1), end_str(2)], ["ends", "end"]);
+    assert_eq!(rt; [remain_str(1), remain_str(2)], ["remains", "remain"]);
+    assert_eq!(rt;
+        [were_plural_if(false), were_plural_if(true)],
+        ["was", "were"]
+    );
 }
 
 #[test]
 fn tests_are_benchmarks_in_benchmark_mode(rt: HostRuntime) {
-    assert_eq!(rt; plural::tests_str(NextestRunMode::Test, 1), "test");
-    assert_eq!(rt; plural::tests_str(NextestRunMode::Test, 0), "tests");
+    assert_eq!(rt; tests_str(NextestRunMode::Test, 1), "test");
+    assert_eq!(rt; tests_str(NextestRunMode::Test, 0), "tests");
+    assert_eq!(rt; tests_plural(NextestRunMode::Benchmark), "benchmarks");
     assert_eq!(rt;
-        plural::tests_plural(NextestRunMode::Benchmark),
-        "benchmarks"
-    );
-    assert_eq!(rt;
-        plural::tests_plural_if(NextestRunMode::Benchmark, false),
+        tests_plural_if(NextestRunMode::Benchmark, false),
         "benchmark"
     );
 }
@@ -194,58 +151,58 @@ fn clocks(rt: HostRuntime) -> Result<(), Fail> {
 }
 
 #[test]
-fn instances(rt: HostRuntime) -> Result<(), Fail> {
+fn instances_with_counters(rt: HostRuntime) -> Result<(), Fail> {
     let binary_id = RustBinaryId::new(rt.alloc(), "my-binary-id")?;
     let test_name = TestCaseName::new(rt.alloc(), "test1")?;
     let instance = TestInstanceId {
         binary_id: &binary_id,
         test_name: &test_name,
     };
-    let first = StressIndex {
-        current: 1,
-        total: None,
+    let padded = Some(DisplayCounterIndex::new_padded('─', 4));
+    let counter = Some(DisplayCounterIndex::new_counter(20, 5000));
+    let styles = ListStyles::default();
+    for (stress_index, counter_index, text) in [
+        (None, None, "my-binary-id test1"),
+        (
+            Some(stress(1, 0)),
+            padded,
+            "[2] (─────────) my-binary-id test1",
+        ),
+        (
+            Some(stress(2, 3)),
+            counter,
+            "[3/3] (  20/5000) my-binary-id test1",
+        ),
+    ] {
+        let shown = DisplayTestInstance::new(stress_index, counter_index, instance, &styles);
+        assert_eq!(rt; shown.to_string(rt.alloc())?.as_str(), text);
+    }
+    Ok(())
+}
+
+#[test]
+fn the_greatest_numbers_before_an_instance(rt: HostRuntime) -> Result<(), Fail> {
+    let binary_id = RustBinaryId::new(rt.alloc(), "b")?;
+    let test_name = TestCaseName::new(rt.alloc(), "日本x")?;
+    let instance = TestInstanceId {
+        binary_id: &binary_id,
+        test_name: &test_name,
     };
-    let second = StressIndex {
-        current: 2,
-        total: NonZeroU32::new(3),
-    };
-    let greatest = StressIndex {
-        current: u32::MAX,
-        total: None,
-    };
-    let padded = DisplayCounterIndex::new_padded('─', 4);
-    let counter = DisplayCounterIndex::new_counter(20, 5000);
     let beyond = DisplayCounterIndex::Counter {
         current: usize::MAX as u128 + 1,
         total: usize::MAX as u128,
     };
-    for (stress_index, counter_index, text) in [
-        (None, None, "my-binary-id test1"),
-        (
-            Some(first),
-            Some(padded),
-            "[2] (─────────) my-binary-id test1",
-        ),
-        (
-            Some(second),
-            Some(counter),
-            "[3/3] (  20/5000) my-binary-id test1",
-        ),
-        (Some(greatest), None, "[4294967296] my-binary-id test1"),
-        (
-            None,
-            Some(beyond),
-            "(18446744073709551616/18446744073709551615) my-binary-id test1",
-        ),
-    ] {
-        let shown = DisplayTestInstance::new(
-            stress_index,
-            counter_index,
-            instance,
-            &ListStyles::default(),
-        );
-        assert_eq!(rt; shown.to_string(rt.alloc())?.as_str(), text);
-    }
+    let styles = ListStyles::default();
+    let counted = DisplayTestInstance::new(None, Some(beyond), instance, &styles);
+    assert_eq!(rt;
+        counted.to_string(rt.alloc())?.as_str(),
+        "(18446744073709551616/18446744073709551615) b 日本x"
+    );
+    let stressed = DisplayTestInstance::new(Some(stress(u32::MAX, 0)), None, instance, &styles);
+    assert_eq!(rt;
+        stressed.to_string(rt.alloc())?.as_str(),
+        "[4294967296] b 日本x"
+    );
     Ok(())
 }
 
@@ -285,14 +242,9 @@ fn names_in_colours(rt: HostRuntime) -> Result<(), Fail> {
         coloured.as_str(),
         "\x1b[36mmod\x1b[0m\x1b[36m::\x1b[0m\x1b[34;1mt2\x1b[0m"
     );
-    let stress_index = StressIndex {
-        current: 1,
-        total: NonZeroU32::new(10),
-    };
-    let count_style = Style::Bold;
     let shown = DisplayStressIndex {
-        stress_index,
-        count_style,
+        stress_index: stress(1, 10),
+        count_style: Style::Bold,
     };
     assert_eq!(rt;
         shown.to_string(rt.alloc())?.as_str(),
@@ -307,13 +259,9 @@ fn commands(rt: HostRuntime) -> Result<(), Fail> {
     assert_eq!(rt; joined.as_str(), "cargo '' 'it'\\''s' a=b");
     let args = [String::from_str(rt.alloc(), "an argument")?];
     let script_id = ScriptId::new(rt.alloc(), "s1")?;
-    let stress_index = StressIndex {
-        current: 0,
-        total: None,
-    };
     let shown = DisplayScriptInstance::new(
         rt.alloc(),
-        Some(stress_index),
+        Some(stress(0, 0)),
         script_id,
         "cmd",
         &args,
