@@ -1,12 +1,12 @@
 -- A text that is cut while it is written.
-use Rattle.std.proofs.Common.{◌≡◌, ℕ, List, [], ◌∷◌, ◌++◌, true, refl, sym, ap, ◌∙◌, subst, append-nil, chars, encode_utf8, encode_utf8_all, Result, Ok, Err}
+use Rattle.std.proofs.Common.{◌≡◌, ℕ, [], ◌∷◌, ◌++◌, true, refl, sym, ap, ◌∙◌, append-nil, chars, encode_utf8, Result, Ok, Err}
 use Rattle.std.proofs.lemmas.Bool.{and_parts}
 use Rattle.std.proofs.lemmas.Str.{chars-encodes, chars-nil, IsUtf8-nil, cons_from_encodes}
 use Rattle.std.specs.Str.{IsUtf8, all_scalars}
 use lib.Utf8.{scalar}
 use Rattle.report_text.specs.Words.{Text}
-use Rattle.report_text.specs.Fitted.{kept_char, kept_from, kept_text, kept_text-nil, standing_after, moved, FittedAccepts, FittedStops, PutsChar, fitted_meaning}
-use Rattle.report_text.specs.Writer.{Meaning, WriterLaws, Puts}
+use Rattle.report_text.specs.Fitted.{kept_char, kept_from, kept_text, kept_text-nil, standing_after, PutsChar, fitted_meaning}
+use Rattle.report_text.specs.Writer.{Meaning, Puts}
 use Rattle.report_text.specs.declared.fitting.fitted.Fitted.{Fitted}
 use Rattle.report_text.specs.declared.write_str.WriteFault.{WriteFault}
 

@@ -4,6 +4,7 @@ pub mod Colons
 pub mod Commands
 pub mod Cuts
 pub mod Decimals
+pub mod Deliveries
 pub mod Feeds
 pub mod Fits
 pub mod FittedPuts

@@ -1,5 +1,5 @@
 -- The characters of a text with what the scan says of each: that a sequence holds it, or that none does.
-use Rattle.std.proofs.Common.{◌≡◌, ℕ, zero, suc, ◌+◌, ◌<◌, ◌≤◌, Bool, true, false, cond, ◌&&◌, ◌==◌, inl, inr, List, [], ◌∷◌, ◌++◌, map, refl, sym, ap, ◌∙◌, arith, length, take, drop, append_assoc, Option, Some, None, is_some, unwrap_or, chars, encode_utf8, encode_utf8_all, lit<, nat_lt, subst, ◌/◌, add-one, add-suc, zero-add}
+use Rattle.std.proofs.Common.{◌≡◌, ℕ, zero, suc, ◌+◌, ◌≤◌, Bool, true, false, cond, ◌==◌, inl, inr, List, [], ◌∷◌, ◌++◌, refl, sym, ap, ◌∙◌, arith, length, take, drop, Some, is_some, unwrap_or, chars, encode_utf8, encode_utf8_all, lit<, nat_lt, subst, ◌/◌}
 use Rattle.std.proofs.lemmas.Bool.{cases_Bool, and_parts, cases_lt}
 use Rattle.std.proofs.lemmas.Bool.Decides.{nat_tests, eqb_tells}
 use Rattle.std.proofs.lemmas.Str.{chars-append, chars-nil, encode_ascii, scalars-chars, encodes-chars}
@@ -14,7 +14,6 @@ use Rattle.report_text.proofs.Pieces.{pieces-sequence, pieces-stretch}
 use Rattle.report_text.proofs.ScannerSteps.{then_len-inside, then_len-past, osc_len-bell, osc_len-terminator, osc_len-control, osc_len-inside}
 use Rattle.report_text.specs.declared.escapes.Mode.{Mode}
 use Rattle.report_text.specs.declared.escapes.Mode.TheVariants as mode
-use Rattle.report_text.specs.declared.escapes.State.{State}
 use Rattle.report_text.specs.declared.escapes.State.TheVariants.{Start, Parameters, Intermediates, Command, Short}
 use Rattle.report_text.specs.declared.escapes.Step.{Step}
 use Rattle.report_text.specs.declared.escapes.Step.TheVariants.{Inside, Ends}
