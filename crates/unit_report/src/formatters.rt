@@ -2,6 +2,8 @@
 
 mod durations;
 mod skip_counts;
+#[cfg(test)]
+mod tests;
 mod unit_kind;
 mod warnings;
 
