@@ -1,17 +1,17 @@
 -- A text that is cut while it is written.
-use Rattle.std.proofs.Common.{◌≡◌, ℕ, List, [], ◌∷◌, ◌++◌, true, refl, sym, ap, ◌∙◌, subst, append-nil, chars, encode_utf8, encode_utf8_all, Result, Ok, Err}
+use Rattle.std.proofs.Common.{◌≡◌, ℕ, [], ◌∷◌, ◌++◌, true, refl, sym, ap, ◌∙◌, append-nil, chars, encode_utf8, Result, Ok, Err}
 use Rattle.std.proofs.lemmas.Bool.{and_parts}
 use Rattle.std.proofs.lemmas.Str.{chars-encodes, chars-nil, IsUtf8-nil, cons_from_encodes}
 use Rattle.std.specs.Str.{IsUtf8, all_scalars}
 use lib.Utf8.{scalar}
 use Rattle.report_text.specs.Words.{Text}
-use Rattle.report_text.specs.Fitted.{kept_char, kept_from, kept_text, kept_text-nil, standing_after, moved, FittedAccepts, FittedStops, PutsChar, fitted_meaning}
-use Rattle.report_text.specs.Writer.{Meaning, WriterLaws, Puts}
+use Rattle.report_text.specs.Fitted.{kept_char, kept_from, kept_text, kept_text-nil, standing_after, PutsChar, fitted_meaning}
+use Rattle.report_text.specs.Writer.{Meaning, Puts}
 use Rattle.report_text.specs.declared.fitting.fitted.Fitted.{Fitted}
 use Rattle.report_text.specs.declared.write_str.WriteFault.{WriteFault}
 
 -- a character that a text begins with
-first_scalar : (t rest : Text) (c : ℕ) → IsUtf8 t → t ≡ encode_utf8 c ++ rest → scalar c ≡ true
+pub first_scalar : (t rest : Text) (c : ℕ) → IsUtf8 t → t ≡ encode_utf8 c ++ rest → scalar c ≡ true
 first_scalar t rest c u e =
     let parts = cons_from_encodes u.0 rest c (u.1.1 ∙ e) in
     let scalars : all_scalars (c ∷ parts.0) ≡ true = sym (ap all_scalars parts.1) ∙ u.1.0 in

@@ -1,6 +1,9 @@
 pub mod Chunked
+pub mod CounterPuts
 pub mod Cuts
 pub mod Feeds
+pub mod FitMarks
+pub mod FittedTexts
 pub mod Fits
 pub mod FittedPuts
 pub mod Highlighted

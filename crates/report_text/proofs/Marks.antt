@@ -1,5 +1,5 @@
 -- The characters of a text with what the scan says of each: that a sequence holds it, or that none does.
-use Rattle.std.proofs.Common.{◌≡◌, ℕ, zero, suc, ◌+◌, ◌<◌, ◌≤◌, Bool, true, false, cond, ◌&&◌, ◌==◌, inl, inr, List, [], ◌∷◌, ◌++◌, map, refl, sym, ap, ◌∙◌, arith, length, take, drop, append_assoc, Option, Some, None, is_some, unwrap_or, chars, encode_utf8, encode_utf8_all, lit<, nat_lt, subst, ◌/◌, add-one, add-suc, zero-add}
+use Rattle.std.proofs.Common.{◌≡◌, ℕ, zero, suc, ◌+◌, ◌≤◌, Bool, true, false, cond, ◌==◌, inl, inr, List, [], ◌∷◌, ◌++◌, refl, sym, ap, ◌∙◌, arith, length, take, drop, Some, is_some, unwrap_or, chars, encode_utf8, encode_utf8_all, lit<, nat_lt, subst, ◌/◌}
 use Rattle.std.proofs.lemmas.Bool.{cases_Bool, and_parts, cases_lt}
 use Rattle.std.proofs.lemmas.Bool.Decides.{nat_tests, eqb_tells}
 use Rattle.std.proofs.lemmas.Str.{chars-append, chars-nil, encode_ascii, scalars-chars, encodes-chars}
@@ -8,13 +8,12 @@ use lib.Utf8.{scalar, encode, next}
 use Rattle.report_text.specs.Words.{Text}
 use Rattle.report_text.specs.Escapes.{is_within, is_parameter, is_intermediate, is_control, is_visible, front_len, then_len, one_len, csi_len, osc_len, short_len, sequence_len, PieceText, pieces, pieces_after}
 use Rattle.report_text.specs.Escapes.PieceText.{SequenceText, StretchText}
-use Rattle.report_text.specs.Scanner.{rest_len, is_before_backslash, StepCounts, step_of, short_step_of, final_step_of, begun, mode_after_step, advanced}
+use Rattle.report_text.specs.Scanner.{rest_len, is_before_backslash, StepCounts, step_of, short_step_of, final_step_of, begun, mode_after_step, advanced, mode_after}
 use Rattle.report_text.proofs.FittedPuts.{one_utf8, one_char}
 use Rattle.report_text.proofs.Pieces.{pieces-sequence, pieces-stretch}
 use Rattle.report_text.proofs.ScannerSteps.{then_len-inside, then_len-past, osc_len-bell, osc_len-terminator, osc_len-control, osc_len-inside}
 use Rattle.report_text.specs.declared.escapes.Mode.{Mode}
 use Rattle.report_text.specs.declared.escapes.Mode.TheVariants as mode
-use Rattle.report_text.specs.declared.escapes.State.{State}
 use Rattle.report_text.specs.declared.escapes.State.TheVariants.{Start, Parameters, Intermediates, Command, Short}
 use Rattle.report_text.specs.declared.escapes.Step.{Step}
 use Rattle.report_text.specs.declared.escapes.Step.TheVariants.{Inside, Ends}
@@ -114,9 +113,6 @@ high_front (b ∷ bs) t h = let l = h.0 in let q : (b == 27) ≡ false = grind (
 abbrev pub Mark : Type 0
 Mark = Bool × ℕ
 
-abbrev pub mode_after : Mode → ℕ → Mode
-mode_after m c = unwrap_or (advanced m c) mode.Text
-
 abbrev pub marks : Mode → List ℕ → List Mark
 marks m [] = []
 marks m (c ∷ cs) = (is_some (advanced m c), c) ∷ marks (mode_after m c) cs
@@ -152,7 +148,7 @@ drop_past : (xs t : Text) (n : ℕ) → drop (length xs + n) (xs ++ t) ≡ drop 
 drop_past [] t n = let e : length {A = ℕ} [] + n ≡ n = omega arith in rw e refl
 drop_past (x ∷ xs) t n = let e : length (x ∷ xs) + n ≡ suc (length xs + n) = omega arith in rw e (drop_past xs t n)
 
-chars_past : (c : ℕ) (t : Text) → scalar c ≡ true → chars (encode_utf8 c ++ t) ≡ c ∷ chars t
+pub chars_past : (c : ℕ) (t : Text) → scalar c ≡ true → chars (encode_utf8 c ++ t) ≡ c ∷ chars t
 chars_past c t h = chars-append (encode_utf8 c) t (one_utf8 c h) ∙ ap (λ x. x ++ chars t) (one_char c h)
 
 -- the marks of a stretch, and those after it
@@ -225,7 +221,7 @@ seq_step step len counts high near c t s = elim (cases_lt c 128) [
       let e = encode-high c l in
       let none : len (encode_utf8 c ++ t) ≡ 0 = rw e.2 (rw (high e.0 e.3.0) at (counts e.0 (e.1 ++ t))) in
       rw (high c l) (subst (λ n. view_at n (encode_utf8 c ++ t) ≡ (is_some (begun c), c) ∷ view_at (pending (unwrap_or (begun c) mode.Text) t) t) (sym none) (text_step c t s))
-  )
+      )
 ]
 
 near_start : (c : ℕ) → IsNear (step_of Start c false)
@@ -255,7 +251,7 @@ command_step c t s = elim (eqb_tells c 27) [
         let len : osc_len (encode_utf8 c ++ t) ≡ length (encode_utf8 c) + osc_len t = rw e.2 (high_osc (e.0 ∷ e.1) t e.3) in
         subst (λ o. view_at (osc_len (encode_utf8 c ++ t)) (encode_utf8 c ++ t) ≡ (is_some o, c) ∷ view_at (pending (unwrap_or o mode.Text) t) t) (sym (high_command c l))
         (subst (λ k. view_at k (encode_utf8 c ++ t) ≡ (true, c) ∷ view_at (osc_len t) t) (sym len) (inside_step c (osc_len t) t s))
-    )
+        )
   ]
 ]
 

@@ -6,7 +6,7 @@ use Rattle.std.proofs.lemmas.Str.{chars-append, chars-nil, IsUtf8-append, IsUtf8
 use Rattle.report_text.specs.Words.{Text}
 use Rattle.report_text.specs.Scanner.{advanced}
 use Rattle.report_text.specs.Fitting.{char_columns}
-use Rattle.report_text.specs.Writer.{Meaning, WriterLaws, Puts, AppendsFront}
+use Rattle.report_text.specs.Writer.{Meaning, WriterLaws, Puts}
 use Rattle.report_text.specs.declared.escapes.Mode.{Mode}
 use Rattle.report_text.specs.declared.escapes.Mode.TheVariants as mode
 use Rattle.report_text.specs.declared.fitting.standing.Standing.{Standing}
