@@ -1,10 +1,19 @@
--- Names as a report shows them.
-use Rattle.std.specs.Prelude.{List, [], ◌∷◌, ◌++◌, Option, None, Some, codes}
+-- Names, iterations and counters as a report shows them.
+use Rattle.std.specs.Prelude.{ℕ, ◌+◌, List, [], ◌∷◌, ◌++◌, Option, None, Some, length, codes, encode_utf8}
+use Rattle.std.specs.Fmt.{decimal}
+use Rattle.std.specs.declared.num.NonZeroU32.{NonZeroU32}
+use Rattle.std.specs.Int.NonZero.{non_zero_u32_get}
 use Rattle.run_model.specs.Names.{module_path_of, last_name_of}
 use Rattle.run_model.specs.declared.name.TestInstanceId.{TestInstanceId}
-use Rattle.report_text.specs.Words.{Text}
+use Rattle.run_model.specs.declared.stress.StressIndex.{StressIndex}
+use Rattle.std.specs.List.{repeat}
+use Rattle.report_text.specs.Words.{Text, right_in}
 use Rattle.report_text.specs.Styles.{PartText, Plain, Styled, paint}
+use Rattle.report_text.specs.declared.style.Style.{Style}
+use Rattle.report_text.specs.declared.style.Style.TheVariants as style
 use Rattle.report_text.specs.declared.style.ListStyles.{ListStyles}
+use Rattle.report_text.specs.declared.helpers.instance.DisplayCounterIndex.{DisplayCounterIndex}
+use Rattle.report_text.specs.declared.helpers.instance.DisplayCounterIndex.TheVariants.{Counter, Padded}
 
 -- a name of which the module path and the last part are known
 abbrev pub name_parts : ListStyles → Option Text → Text → List PartText
@@ -15,6 +24,43 @@ name_parts s (Some path) last = Styled s.module_path path ∷ Styled s.module_pa
 unfoldable pub name_text : ListStyles → Text → Text
 name_text s name = paint (name_parts s (module_path_of name) (last_name_of name))
 
--- a test: its binary's id, a space and its name
-unfoldable pub instance_text : ListStyles → TestInstanceId → Text
-instance_text s i = paint (Styled s.binary_id i.binary_id.now ∷ Plain (codes " ") ∷ []) ++ name_text s i.test_name.now
+-- an iteration's number from 1, and with a total right in its width, before a slash and the total
+abbrev pub stress_parts : Style → ℕ → Option NonZeroU32 → List PartText
+stress_parts s number None = Styled s (decimal number) ∷ []
+stress_parts s number (Some total) =
+    Styled s (right_in (length (decimal (non_zero_u32_get total))) (decimal number)) ∷ Plain (codes "/") ∷ Styled s (decimal (non_zero_u32_get total)) ∷ []
+
+-- an iteration of a stress run
+unfoldable pub stress_text : Style → StressIndex → Text
+stress_text s i = paint (stress_parts s (i.current + 1) i.total)
+
+-- what stands before the rest of a line: the iteration between brackets and a space, if there is one
+unfoldable pub stress_prefix : Style → Option StressIndex → Text
+stress_prefix s None = []
+stress_prefix s (Some i) = paint (Plain (codes "[") ∷ []) ++ (stress_text s i ++ paint (Plain (codes "] ") ∷ []))
+
+-- a number right in the width of its total, or one character for each column of that
+unfoldable pub counter_text : DisplayCounterIndex → Text
+counter_text (Counter current total) =
+    paint (Plain (codes "(") ∷ Styled style.Plain (right_in (length (decimal total)) (decimal current)) ∷ Plain (codes "/") ∷ Plain (decimal total) ∷ Plain (codes ")") ∷ [])
+counter_text (Padded character width) =
+    paint (Plain (codes "(") ∷ []) ++ (repeat width (encode_utf8 character) ++ (repeat width (encode_utf8 character) ++ (encode_utf8 character ++ paint (Plain (codes ")") ∷ []))))
+
+-- the counter and a space, if there is one
+unfoldable pub counter_prefix : Option DisplayCounterIndex → Text
+counter_prefix None = []
+counter_prefix (Some c) = counter_text c ++ paint (Plain (codes " ") ∷ [])
+
+-- a test: its iteration, its counter, its binary's id with a space and its name
+unfoldable pub test_text : ListStyles → Option StressIndex → Option DisplayCounterIndex → Text → Text → Text
+test_text s stress counter binary_id name =
+    stress_prefix s.count stress ++ (counter_prefix counter ++ (paint (Styled s.binary_id binary_id ∷ Plain (codes " ") ∷ []) ++ name_text s name))
+
+-- the same of a test whose names are borrowed
+abbrev pub instance_text : ListStyles → Option StressIndex → Option DisplayCounterIndex → TestInstanceId → Text
+instance_text s stress counter i = test_text s stress counter i.binary_id.now i.test_name.now
+
+-- a setup script: its iteration, its id and its command
+unfoldable pub script_text : Style → Style → Option StressIndex → Text → Text → Text
+script_text id_style count_style stress id command =
+    stress_prefix count_style stress ++ (paint (Styled id_style id ∷ Plain (codes ": ") ∷ []) ++ command)

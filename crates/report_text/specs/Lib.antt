@@ -3,7 +3,9 @@ pub mod Buffer
 pub mod ChunkEnds
 pub mod Chunks
 pub mod Counted
+pub mod Durations
 pub mod Escapes
+pub mod Failures
 pub mod Fitted
 pub mod Fitting
 pub mod Formatters
@@ -11,10 +13,16 @@ pub mod Highlights
 pub mod Indent
 pub mod Indented
 pub mod Instances
+pub mod Interceptors
 pub mod Lines
 pub mod Numbers
+pub mod Paths
 pub mod Piece
+pub mod Plural
+pub mod Quoting
+pub mod RunIds
 pub mod Scanner
 pub mod Styles
+pub mod Theme
 pub mod Words
 pub mod Writer

@@ -45,6 +45,13 @@ unfoldable pub part_text : PartText → Text
 part_text (Plain t) = t
 part_text (Styled s t) = style_prefix s ++ (t ++ style_suffix s)
 
+-- a text as it is, and one in a style: words that a proof sees as wholes
+abbrev pub plain : Text → Text
+plain t = part_text (Plain t)
+
+abbrev pub styled : Style → Text → Text
+styled s t = part_text (Styled s t)
+
 -- what the parts are painted to
 abbrev pub paint : List PartText → Text
 paint [] = []

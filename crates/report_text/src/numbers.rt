@@ -3,10 +3,11 @@
 ghost use Rattle.std.specs.Prelude.{◌≡◌, ◌+◌, ◌/◌, ◌%◌, ◌<◌, ◌≤◌, ◌∷◌, [], ◌++◌, ◌-◌, length, chars};
 ghost use Rattle.std.specs.Fmt.{decimal};
 ghost use Rattle.report_text.specs.Words.{spaces, right_in};
-ghost use Rattle.report_text.specs.Numbers.{rounded};
+ghost use Rattle.report_text.specs.Numbers.{rounded, seconds};
 ghost use Rattle.report_text.specs.Writer.{Puts};
 
-use crate::write_str::{WriteFault, WriteStr};
+use crate::write_str::{WriteFault, WriteStr, write_strs};
+use itoa::Buffer;
 
 /// The nearest whole number of units, ties up. No sum overflows, also at the greatest number.
 pub fn round_to(unit: u128, n: u128) -> u128
@@ -91,4 +92,86 @@ pub fn write_right<W: WriteStr>(w: &mut W, columns: usize, text: &str) -> Result
 {
     write_spaces(w, columns.saturating_sub(char_count(text)))?;
     w.write_str(text)
+}
+
+/// Writes nanoseconds as seconds with three decimals, right in so many columns, between two texts.
+///
+/// The nearest thousandth is written, of two that are as near the greater one.
+///
+/// ```
+/// write_seconds_between(w, "[", 8, 5_000_000, "s] ") // "[   0.005s] "
+/// ```
+pub fn write_seconds_between<W: WriteStr>(
+    w: &mut W,
+    before: &str,
+    columns: usize,
+    nanos: u128,
+    after: &str,
+) -> Result<(), WriteFault>
+    requires { columns ≤ 16 }
+    ensures { Puts W.meaning w.old (before.now ++ (right_in columns (seconds 3 nanos) ++ after.now)) result w.new }
+{
+    w.write_str(before)?;
+    write_seconds_right(w, columns, nanos)?;
+    w.write_str(after)
+}
+
+// Writes nanoseconds as seconds with three decimals, right in so many columns.
+fn write_seconds_right<W: WriteStr>(
+    w: &mut W,
+    columns: usize,
+    nanos: u128,
+) -> Result<(), WriteFault>
+    requires { columns ≤ 16 }
+    ensures { Puts W.meaning w.old (right_in columns (seconds 3 nanos)) result w.new }
+{
+    let thousandths = round_to(1_000_000, nanos);
+    let mut buffer = Buffer::new();
+    let whole = buffer.format(thousandths / 1000);
+    let padding = spaces_str(columns.saturating_sub(4).saturating_sub(whole.len()));
+    write_strs(
+        w,
+        &[
+            padding,
+            whole,
+            ".",
+            digit_str(thousandths / 100 % 10),
+            digit_str(thousandths / 10 % 10),
+            digit_str(thousandths % 10),
+        ],
+    )
+}
+
+/// Writes four texts joined, right in so many columns, one for each character.
+///
+/// ```
+/// write_right_joined(w, 12, "TRY ", "2", " ", "FAIL") // "  TRY 2 FAIL"
+/// ```
+#[tactic(auto, unfolding(crate::specs::Words::right_in))]
+pub fn write_right_joined<W: WriteStr>(
+    w: &mut W,
+    columns: usize,
+    first: &str,
+    second: &str,
+    third: &str,
+    fourth: &str,
+) -> Result<(), WriteFault>
+    ensures { Puts W.meaning w.old (right_in columns (first.now ++ (second.now ++ (third.now ++ fourth.now)))) result w.new }
+{
+    write_spaces(w, columns_left(columns, first, second, third, fourth))?;
+    w.write_str(first)?;
+    w.write_str(second)?;
+    w.write_str(third)?;
+    w.write_str(fourth)
+}
+
+// How many of the columns four texts leave.
+fn columns_left(columns: usize, first: &str, second: &str, third: &str, fourth: &str) -> usize
+    ensures { result ≡ columns - length (chars (first.now ++ (second.now ++ (third.now ++ fourth.now)))) }
+{
+    columns
+        .saturating_sub(char_count(first))
+        .saturating_sub(char_count(second))
+        .saturating_sub(char_count(third))
+        .saturating_sub(char_count(fourth))
 }

@@ -4,12 +4,14 @@
 //! kinds of report.
 
 ghost use Rattle.std.specs.Prelude.{◌≡◌, ◌++◌, ◌∷◌, [], true, false, codes};
+ghost use Rattle.std.specs.Fmt.{decimal};
 ghost use Rattle.report_text.specs.Words.{right_in};
 ghost use Rattle.report_text.specs.Styles.{PartText, style_prefix, style_suffix, reset_color, part_text, part_of, painted, styles_of, list_styles_of};
 ghost use Rattle.report_text.specs.Writer.{Puts};
 
-use crate::numbers::write_right;
+use crate::numbers::{write_right, write_right_joined};
 use crate::write_str::{WriteFault, WriteStr};
+use itoa::Buffer;
 
 /// The sequence that ends every style but the plain one: ESC `[0m`.
 pub const RESET_COLOR: &str = "\x1b[0m";
@@ -86,6 +88,64 @@ impl Style {
     {
         Part::Right(self, columns, text)
     }
+
+    /// Writes a text in this style.
+    #[tactic(auto, unfolding(crate::specs::Styles::part_text))]
+    pub fn write<W: WriteStr>(self, w: &mut W, text: &str) -> Result<(), WriteFault>
+        ensures { Puts W.meaning w.old (part_text (PartText.Styled self text.now)) result w.new }
+    {
+        w.write_str(self.prefix())?;
+        w.write_str(text)?;
+        w.write_str(self.suffix())
+    }
+
+    /// Writes a number in decimal in this style.
+    #[tactic(auto, unfolding(crate::specs::Styles::part_text))]
+    pub fn write_number<W: WriteStr>(self, w: &mut W, number: u128) -> Result<(), WriteFault>
+        ensures { Puts W.meaning w.old (part_text (PartText.Styled self (decimal number))) result w.new }
+    {
+        let mut buffer = Buffer::new();
+        w.write_str(self.prefix())?;
+        w.write_str(buffer.format(number))?;
+        w.write_str(self.suffix())
+    }
+
+    /// Writes a text right in so many columns.
+    #[tactic(auto, unfolding(crate::specs::Styles::part_text))]
+    pub fn write_right<W: WriteStr>(
+        self,
+        w: &mut W,
+        columns: usize,
+        text: &str,
+    ) -> Result<(), WriteFault>
+        ensures { Puts W.meaning w.old (part_text (PartText.Styled self (right_in columns text.now))) result w.new }
+    {
+        w.write_str(self.prefix())?;
+        write_right(w, columns, text)?;
+        w.write_str(self.suffix())
+    }
+
+    /// Writes four texts joined, right in so many columns.
+    ///
+    /// ```
+    /// styles.fail.write_right_joined(w, 12, "TRY ", "2", " ", "FAIL") // "  TRY 2 FAIL" in the style
+    /// ```
+    #[tactic(auto, unfolding(crate::specs::Styles::part_text))]
+    pub fn write_right_joined<W: WriteStr>(
+        self,
+        w: &mut W,
+        columns: usize,
+        first: &str,
+        second: &str,
+        third: &str,
+        fourth: &str,
+    ) -> Result<(), WriteFault>
+        ensures { Puts W.meaning w.old (part_text (PartText.Styled self (right_in columns (first.now ++ (second.now ++ (third.now ++ fourth.now)))))) result w.new }
+    {
+        w.write_str(self.prefix())?;
+        write_right_joined(w, columns, first, second, third, fourth)?;
+        w.write_str(self.suffix())
+    }
 }
 
 /// A stretch of a text.
@@ -104,6 +164,14 @@ pub fn plain(text: &str) -> Part<'_>
     ensures { part_of result ≡ PartText.Plain text.now }
 {
     Part::Plain(text)
+}
+
+/// Writes a text as it is.
+#[tactic(auto, unfolding(crate::specs::Styles::part_text))]
+pub fn write_plain<W: WriteStr>(w: &mut W, text: &str) -> Result<(), WriteFault>
+    ensures { Puts W.meaning w.old (part_text (PartText.Plain text.now)) result w.new }
+{
+    w.write_str(text)
 }
 
 /// Writes the parts in turn.

@@ -2,7 +2,7 @@
 //!
 //! The order of the variants is their order: the later one is the greater.
 
-ghost use Rattle.std.specs.Prelude.{◌≡◌, IsTrue, ◌↔◌, ◌≤◌};
+ghost use Rattle.std.specs.Prelude.{◌≡◌, IsTrue, ◌↔◌, ◌≤◌, ◌-◌};
 ghost use Rattle.run_model.specs.Levels.{reason_words, status_rank, final_rank};
 
 /// The least status level that is shown while the run goes on. Each level shows what those before it show.
@@ -64,19 +64,20 @@ impl FinalStatusLevel {
         self <= shown
     }
 
-    /// How high the level stands, from 0 for `None` to 7 for `All`.
-    pub fn rank(self) -> u8
-        ensures { result ≡ final_rank self }
+    /// How far the level stands below `All`, from 0 for `All` to 7 for `None`. A summary lists by this number, so that
+    /// failures come last, next to the prompt.
+    pub fn below_all(self) -> u8
+        ensures { result ≡ 7 - final_rank self }
     {
         match self {
-            FinalStatusLevel::None => 0,
-            FinalStatusLevel::Fail => 1,
-            FinalStatusLevel::Flaky => 2,
-            FinalStatusLevel::Slow => 3,
-            FinalStatusLevel::Skip => 4,
-            FinalStatusLevel::Leak => 5,
-            FinalStatusLevel::Pass => 6,
-            FinalStatusLevel::All => 7,
+            FinalStatusLevel::None => 7,
+            FinalStatusLevel::Fail => 6,
+            FinalStatusLevel::Flaky => 5,
+            FinalStatusLevel::Slow => 4,
+            FinalStatusLevel::Skip => 3,
+            FinalStatusLevel::Leak => 2,
+            FinalStatusLevel::Pass => 1,
+            FinalStatusLevel::All => 0,
         }
     }
 }

@@ -4,11 +4,14 @@
 //! hold no text of a report and write nothing: a reporter is handed a [`event::TestEvent`] and decides what to show.
 #![tactic(auto)]
 
+pub mod abort;
 pub mod config;
 pub mod event;
 pub mod level;
 pub mod memory;
 pub mod name;
+pub mod run_id;
 pub mod stats;
 pub mod status;
+pub mod stress;
 pub mod time;

@@ -143,6 +143,38 @@ impl ProfileName {
     }
 }
 
+/// The id of a setup script.
+#[derive(Debug, Drop)]
+pub struct ScriptId {
+    text: String,
+}
+
+impl Model for ScriptId {
+    ghost use Rattle.std.specs.Prelude.{List, ℕ, string_bytes};
+
+    ghost Value = { List ℕ };
+
+    ghost view = { λ id. string_bytes id.text };
+}
+
+impl ScriptId {
+    /// Copies the text.
+    pub fn new(alloc: Global, text: &str) -> Result<Self, OutOfMemory>
+        ensures { IfOk result (λ id. id ≡ text.now) }
+    {
+        Ok(ScriptId {
+            text: String::from_str(alloc, text)?,
+        })
+    }
+
+    /// The text.
+    pub fn as_str(&self) -> &str
+        ensures { result.now ≡ self.now }
+    {
+        self.text.as_str()
+    }
+}
+
 /// A test: its binary's id and its name in it.
 #[derive(Clone, Copy, Debug)]
 pub struct TestInstanceId<'a> {
@@ -150,4 +182,26 @@ pub struct TestInstanceId<'a> {
     pub binary_id: &'a RustBinaryId,
     /// The test's name.
     pub test_name: &'a TestCaseName,
+}
+
+/// A test whose names are its own.
+#[derive(Debug, Drop)]
+pub struct OwnedTestInstanceId {
+    /// The binary's id.
+    pub binary_id: RustBinaryId,
+    /// The test's name.
+    pub test_name: TestCaseName,
+}
+
+impl OwnedTestInstanceId {
+    /// The test, its names borrowed.
+    pub fn as_ref(&self) -> TestInstanceId<'_>
+        ensures binary_id { result.binary_id.now ≡ self.now.binary_id }
+        ensures test_name { result.test_name.now ≡ self.now.test_name }
+    {
+        TestInstanceId {
+            binary_id: &self.binary_id,
+            test_name: &self.test_name,
+        }
+    }
 }

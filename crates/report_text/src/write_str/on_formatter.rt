@@ -7,15 +7,29 @@ use super::{WriteFault, WriteStr};
 use std::fmt;
 use std::fmt::Formatter;
 
-/// A formatter, as a writer: what a text function writes to it is what `Display` shows.
+/// Shows in a formatter what a value's `write_to` writes: the body of its `Display`.
 ///
 /// ```
-/// let mut out = OnFormatter::new(f);
-/// let result = self.write_to(&mut out);
-/// let back = out.into_inner();
-/// let _ = &*back;
-/// result.map_err(|_| fmt::Error)
+/// fn fmt<W: fmt::Write>(&self, f: &mut Formatter<W>) -> fmt::Result {
+///     show_written!(self, f)
+/// }
 /// ```
+#[macro_export]
+macro_rules! show_written {
+    ($value:expr, $formatter:expr) => {{
+        let mut out = $crate::write_str::OnFormatter::new($formatter);
+        let result = $value.write_to(&mut out);
+        // The formatter is given back, so that what it shows is known.
+        let back = out.into_inner();
+        let _ = &*back;
+        match result {
+            Ok(()) => Ok(()),
+            Err(_) => Err(std::fmt::Error),
+        }
+    }};
+}
+
+/// A formatter, as a writer: what a text function writes to it is what `Display` shows.
 #[derive(Drop)]
 pub struct OnFormatter<'a, W> {
     formatter: &'a mut Formatter<W>,

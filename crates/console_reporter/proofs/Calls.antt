@@ -1,0 +1,84 @@
+-- Calls in turn.
+use Rattle.std.proofs.Common.{◌≡◌, ℕ, ◌+◌, ◌<◌, ◌≤◌, List, [], ◌∷◌, length, reverse, take, get_or, sym, ap, ◌∙◌, subst, append-nil, arith, Result, Ok, Err, inl}
+use Rattle.std.specs.Option.{option_map_or}
+use Rattle.std.proofs.lemmas.List.{take_more, take_all, reverse-append}
+use Rattle.std.proofs.lemmas.Option.{slice_get-get_or, slice_get_past}
+use Rattle.report_text.specs.Writer.{Meaning, WriterLaws, Puts, one_further}
+use Rattle.report_text.specs.declared.write_str.WriteFault.{WriteFault}
+use Rattle.console_reporter.specs.declared.imp.faults.WriteEventError.{WriteEventError}
+use Rattle.console_reporter.specs.declared.imp.faults.WriteEventError.TheVariants.{Io, Failed}
+use Rattle.console_reporter.specs.Report.{text, text_at, past_at, report}
+use Rattle.console_reporter.specs.Configuration.{Configuration}
+use Rattle.console_reporter.specs.declared.imp.calls.ReportCall.{ReportCall}
+use Rattle.report_text.specs.declared.write_str.WriteFault.TheVariants.{Device, Memory as RefusedMemory}
+use Rattle.console_reporter.specs.Outcomes.{Stops, StopsAfter, error_for}
+
+-- the past of the next position
+pub past_more : (calls : List ReportCall) (i : ℕ) (d : ReportCall) → i < length calls → past_at calls (i + 1) ≡ get_or calls i d ∷ past_at calls i
+past_more calls i d within = ap reverse (take_more calls i d within) ∙ reverse-append (take i calls) (get_or calls i d ∷ [])
+
+-- the same by the call that is read there
+pub past_read : (calls : List ReportCall) (i : ℕ) (call : ReportCall) → call ≡ get_or calls i call → i < length calls → past_at calls (i + 1) ≡ call ∷ past_at calls i
+past_read calls i call is within = past_more calls i call within ∙ ap (λ c. c ∷ past_at calls i) (sym is)
+
+-- past the last position all calls are past
+pub past_all : (calls : List ReportCall) (i : ℕ) → length calls ≤ i → past_at calls i ≡ reverse calls
+past_all calls i h = ap reverse (take_all i calls h)
+
+-- the text at a position, by the call that is read there
+pub text_read : (config : Configuration) (calls : List ReportCall) (i : ℕ) (call : ReportCall) → call ≡ get_or calls i call → i < length calls → text_at config calls i ≡ text config (past_at calls i) call
+text_read config calls i call is within =
+    ap (λ o. option_map_or (text config (past_at calls i)) o []) (slice_get-get_or calls i call within) ∙ ap (text config (past_at calls i)) (sym is)
+
+-- past the end there is no text
+pub text_past : (config : Configuration) (calls : List ReportCall) (i : ℕ) → length calls ≤ i → text_at config calls i ≡ []
+text_past config calls i h = ap (λ o. option_map_or (text config (past_at calls i)) o []) (slice_get_past calls i h)
+
+module _ {S : Type 0} {m : Meaning S} (laws : WriterLaws m) where
+  -- a text, and then a flush
+  pub puts_flushed : (a b c : S) (t : List ℕ) (r : Result (Unit {0}) WriteFault) → m.accepts a t b → Puts m b [] r c → Puts m a t r c
+  puts_flushed a b c t (Ok x) p q = subst (λ u. m.accepts a u c) (append-nil t) (laws.joins a b c t [] p q)
+  puts_flushed a b c t (Err e) p q = subst (λ u. m.stops a u e c) (append-nil t) (laws.goes_on a b c t [] e p q)
+
+  module _ (config : Configuration) (calls : List ReportCall) (i : ℕ) (a b c : S) (before : m.accepts a (report config (past_at calls i)) b) where
+    -- one call more was reported
+    pub accepted_more : (call : ReportCall) → call ≡ get_or calls i call → i < length calls → m.accepts b (text config (past_at calls i) call) c → m.accepts a (report config (past_at calls (i + 1))) c
+    accepted_more call is within here =
+        subst (λ past. m.accepts a (report config past) c) (sym (past_read calls i call is within)) (laws.joins a b c _ _ before here)
+
+    -- the call at a position was stopped
+    pub stopped_at : (call : ReportCall) (e : WriteEventError) → call ≡ get_or calls i call → i < length calls → Stops m b (text config (past_at calls i) call) e c → StopsAfter m a (report config (past_at calls i)) (text_at config calls i) e c
+    stopped_at call e is within here = record {
+      mid = b;
+      accepted = before;
+      stopped = subst (λ t. Stops m b t e c) (sym (text_read config calls i call is within)) here;
+    }
+
+    -- all calls were reported
+    pub accepted_all : length calls ≤ i → m.accepts b [] c → m.accepts a (report config (reverse calls)) c
+    accepted_all h here =
+        subst (λ past. m.accepts a (report config past) c) (past_all calls i h)
+        (subst (λ t. m.accepts a t c) (append-nil _) (laws.joins a b c _ [] before here))
+
+    -- the end was stopped
+    pub stopped_past : (e : WriteEventError) → i ≡ length calls → Stops m b [] e c → StopsAfter m a (report config (past_at calls (length calls))) (text_at config calls (length calls)) e c
+    stopped_past e at here = record {
+      mid = b;
+      accepted = subst (λ n. m.accepts a (report config (past_at calls n)) b) at before;
+      stopped = subst (λ t. Stops m b t e c) (sym (text_past config calls (length calls) (omega arith))) here;
+    }
+
+  -- what the causes of a stop say
+  module _ (a c : S) (t u : List ℕ) (e : WriteEventError) (h : StopsAfter m a t u e c) where
+    pub stopped_io : e ≡ Io → m.failures c ≡ one_further (m.failures a)
+    stopped_io is =
+        laws.device h.mid c u (subst (λ x. Stops m h.mid u x c) is h.stopped)
+        ∙ ap one_further (laws.kept a h.mid t h.accepted).0
+
+    pub stopped_known : e ≡ Failed → ⊥
+    stopped_known is = subst (λ x. Stops m h.mid u x c) is h.stopped
+
+-- a fault of the writer, as the caller of a reporter sees it
+pub stops_error : {S : Type 0} (m : Meaning S) (a b : S) (t : List ℕ) (fault : WriteFault) (e : WriteEventError) → e ≡ error_for fault → m.stops a t fault b → Stops m a t e b
+stops_error m a b t Device e is h = subst (λ x. Stops m a t x b) (sym is) h
+stops_error m a b t RefusedMemory e is h = subst (λ x. Stops m a t x b) (sym is) (inl h)

@@ -1,0 +1,9 @@
+-- The order of entries by their keys.
+use Rattle.std.specs.Cmp.{IsStrictWeakOrder}
+use Rattle.std.specs.Cmp.Lexicographic.{nat_list_cmp_total, lists_total}
+use Rattle.std.proofs.lemmas.List.Sorted.{ranks_by}
+use Rattle.console_reporter.specs.Entries.{entry_key, is_before}
+use Rattle.console_reporter.specs.declared.imp.kept.KeptEntry.{KeptEntry}
+
+pub is_before-ranks : IsStrictWeakOrder is_before
+is_before-ranks = ranks_by (lists_total nat_list_cmp_total) (λ (e : KeptEntry). entry_key e)

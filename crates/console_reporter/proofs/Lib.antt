@@ -1,0 +1,5 @@
+pub mod Calls
+pub mod Keys
+pub mod Orders
+pub mod Pasts
+pub mod Whole

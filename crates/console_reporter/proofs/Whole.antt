@@ -1,0 +1,116 @@
+-- Texts that are empty or end in a line feed.
+use Rattle.run_model.specs.UniquePrefixes.{UniquePrefix}
+use Rattle.run_model.specs.Levels.{status_rank}
+use Rattle.std.specs.Prelude.{nat_lt, nat_le}
+use Rattle.std.proofs.Common.{◌≡◌, ℕ, Bool, true, false, List, [], ◌∷◌, ◌++◌, refl, sym, ap, subst, ◌∙◌, append_assoc, append-nil, Option, inl, inr, codes}
+use Rattle.std.specs.List.{flat_map}
+use Rattle.std.proofs.lemmas.Bool.{cases_Bool}
+use Rattle.run_model.specs.declared.config.NextestRunMode.{NextestRunMode}
+use Rattle.run_model.specs.declared.event.TestCounts.{TestCounts}
+use Rattle.run_model.specs.declared.event.TestEventKind.{TestEventKind}
+use Rattle.run_model.specs.declared.event.TestEventKind.TheVariants.{RunStarted, TestFinished, RunFinished}
+use Rattle.run_model.specs.declared.name.TestInstanceId.{TestInstanceId}
+use Rattle.run_model.specs.declared.stats.RunFinishedStats.{RunFinishedStats}
+use Rattle.run_model.specs.declared.stats.RunFinishedStats.TheVariants.{Single}
+use Rattle.run_model.specs.declared.stats.RunStats.{RunStats}
+use Rattle.run_model.specs.declared.status.StatusCase.{StatusCase}
+use Rattle.run_model.specs.declared.status.StatusSummary.{StatusSummary}
+use Rattle.run_model.specs.Statuses.{summary_of, status_level_of}
+use Rattle.report_text.specs.Words.{Text}
+use Rattle.report_text.specs.Styles.{part_text, plain}
+use Rattle.report_text.specs.declared.style.Styles.{Styles}
+use Rattle.console_reporter.specs.Configuration.{Configuration}
+use Rattle.console_reporter.specs.Entries.{hiding_rank, entry_text, listed_text}
+use Rattle.console_reporter.specs.Outcomes.{IsOfLines}
+use Rattle.console_reporter.specs.Report.{test_finished_text, event_text, text}
+use Rattle.console_reporter.specs.RunTexts.{starting_line, run_started_text, run_counts_text, summary_line, run_finished_text}
+use Rattle.console_reporter.specs.StatusLines.{is_flaky_failure, flaky_note, flaky_failure_line, status_line}
+use Rattle.console_reporter.specs.declared.imp.calls.ReportCall.{ReportCall}
+use Rattle.console_reporter.specs.declared.imp.calls.ReportCall.TheVariants.{Event, Prefix}
+use Rattle.console_reporter.specs.declared.imp.kept.KeptEntry.{KeptEntry}
+use Rattle.console_reporter.specs.declared.imp.settings.Settings.{Settings}
+
+-- the text ends in a line feed
+record EndsLine (t : Text) : Type 0 where
+  pub front : Text
+  pub is : t ≡ front ++ 10 ∷ []
+
+ends_after : (t u : Text) → EndsLine u → EndsLine (t ++ u)
+ends_after t u e = record { front = t ++ e.front; is = ap (λ x. t ++ x) e.is ∙ sym (append_assoc t e.front (10 ∷ [])) }
+
+-- a text that ends in a line feed is of lines
+of_line : (t : Text) → EndsLine t → IsOfLines t
+of_line t e = inr (e.front, e.is)
+
+ends_before : (t u : Text) → EndsLine t → IsOfLines u → EndsLine (t ++ u)
+ends_before t u e (inl none) = record { front = e.front; is = ap (λ x. t ++ x) none ∙ append-nil t ∙ e.is }
+ends_before t u e (inr more) = ends_after t u (record { front = more.0; is = more.1 })
+
+of_lines-append : (t u : Text) → IsOfLines t → IsOfLines u → IsOfLines (t ++ u)
+of_lines-append t u (inl nothing) p = subst IsOfLines (ap (λ x. x ++ u) (sym nothing)) p
+of_lines-append t u (inr e) p = of_line (t ++ u) (ends_before t u (record { front = e.0; is = e.1 }) p)
+
+ends-feed : EndsLine (plain (codes "\n"))
+unfolding part_text
+ends-feed = record { front = []; is = refl }
+
+ends-if_flaky : EndsLine (plain (codes " if flaky\n"))
+unfolding part_text
+ends-if_flaky = record { front = codes " if flaky"; is = refl }
+
+ends-flaky_note : (s : Styles) → EndsLine (flaky_note s)
+unfolding flaky_note
+ends-flaky_note s = search (ends_after, ends-if_flaky) depth 12
+
+of_lines-flaky_failure_line : (s : Styles) (is_final : Bool) (x : StatusCase) → IsOfLines (flaky_failure_line s is_final x)
+unfolding flaky_failure_line
+of_lines-flaky_failure_line s true x = inl refl
+of_lines-flaky_failure_line s false x = elim (cases_Bool (is_flaky_failure x)) [ inl y ↦ rw y (of_line _ (ends-flaky_note s)) | inr n ↦ rw n (inl refl) ]
+
+ends-status_end : (s : Styles) (is_final : Bool) (x : StatusCase) → EndsLine (plain (codes "\n") ++ flaky_failure_line s is_final x)
+ends-status_end s is_final x = ends_before (plain (codes "\n")) (flaky_failure_line s is_final x) ends-feed (of_lines-flaky_failure_line s is_final x)
+
+ends-status_line : (s : Styles) (is_final : Bool) (instance : TestInstanceId) (x : StatusSummary) → EndsLine (status_line s is_final instance x)
+unfolding status_line
+ends-status_line s is_final instance x = search (ends_after, ends-status_end) depth 12
+
+ends-starting_line : (s : Styles) (mode : NextestRunMode) (c : TestCounts) → EndsLine (starting_line s mode c)
+unfolding starting_line
+ends-starting_line s mode c = search (ends_after, ends-feed) depth 12
+
+ends-run_started_text : (s : Settings) (known : Option UniquePrefix) (c : TestCounts) (id : List ℕ) (profile : Text) → EndsLine (run_started_text s known c id profile)
+unfolding run_started_text
+ends-run_started_text s known c id profile = search (ends_after, ends-starting_line) depth 12
+
+ends-run_counts_text : (s : Styles) (mode : NextestRunMode) (x : RunStats) → EndsLine (run_counts_text s mode x)
+unfolding run_counts_text
+ends-run_counts_text s mode x = search (ends_after, ends-feed) depth 12
+
+ends-run_finished_text : (s : Settings) (elapsed : ℕ) (stats : RunFinishedStats) → EndsLine (run_finished_text s elapsed stats)
+unfolding run_finished_text summary_line
+ends-run_finished_text s elapsed (Single x) = search (ends_after, ends-run_counts_text) depth 12
+
+of_lines-entries : (s : Settings) (es : List KeptEntry) → IsOfLines (flat_map (entry_text s) es)
+of_lines-entries s [] = inl refl
+of_lines-entries s (e ∷ es) = of_lines-append (entry_text s e) (flat_map (entry_text s) es) (of_line _ (ends-status_line s.styles true e.instance e.summary)) (of_lines-entries s es)
+
+of_lines-listed_text : (s : Settings) (reason : ℕ) (es : List KeptEntry) → IsOfLines (listed_text s reason es)
+unfolding listed_text
+of_lines-listed_text s reason es = elim (cases_Bool (nat_lt reason hiding_rank)) [ inl y ↦ rw y (of_lines-entries s es) | inr n ↦ rw n (inl refl) ]
+
+of_lines-test_finished_text : (s : Settings) (instance : TestInstanceId) (x : StatusSummary) → IsOfLines (test_finished_text s instance x)
+unfolding test_finished_text
+of_lines-test_finished_text s instance x =
+    elim (cases_Bool (nat_le (status_rank (status_level_of x)) (status_rank s.status_levels.status_level)))
+    [ inl y ↦ rw y (of_line _ (ends-status_line s.styles false instance x)) | inr n ↦ rw n (inl refl) ]
+
+of_lines-event_text : (s : Settings) (known : Option UniquePrefix) (reason : ℕ) (es : List KeptEntry) (e : TestEventKind) → IsOfLines (event_text s known reason es e)
+unfolding event_text
+of_lines-event_text s known reason es (RunStarted c id profile) = of_line _ (ends-run_started_text s known c id profile)
+of_lines-event_text s known reason es (TestFinished instance statuses stats) = of_lines-test_finished_text s instance (summary_of statuses)
+of_lines-event_text s known reason es (RunFinished elapsed stats) = of_line _ (ends_before _ _ (ends-run_finished_text s elapsed.0 stats) (of_lines-listed_text s reason es))
+
+-- the text of each call
+pub of_lines-text : (config : Configuration) (past : List ReportCall) (call : ReportCall) → IsOfLines (text config past call)
+of_lines-text config past (Event e) = of_lines-event_text _ _ _ _ e.kind
+of_lines-text config past (Prefix p) = inl refl

@@ -1,0 +1,29 @@
+use Rattle.std.proofs.Common.{rules, arith, subst, sym}
+use Rattle.console_reporter.specs.Standing.{StandsAfter}
+use Rattle.console_reporter.proofs.Calls.{past_read, accepted_more, stopped_at, accepted_all, stopped_past}
+use Rattle.console_reporter.proofs.imp.reporter.DisplayReporter.make_calls.Goals as goal
+
+pub returns-in-Err-clause-err : goal.returns-in-Err-clause-err
+returns-in-Err-clause-err g c = λ config stands.
+    let i = c.loop-position.invariant in
+    stopped_at g.met.W.WriteStr.laws config _ _ _ _ _ (i.accepted config stands) _ _ c.index-calls-position.is c.loop-position-test.true (c.in-Err.ensures.err config _ (i.stands config stands))
+
+pub loop-position-preserved : goal.loop-position-preserved
+loop-position-preserved g c = record {
+  same_writer = search rules;
+  accepted = λ config stands.
+      let i = c.loop-position.invariant in
+      accepted_more g.met.W.WriteStr.laws config _ _ _ _ _ (i.accepted config stands) _ c.index-calls-position.is c.loop-position-test.true (c.in-Ok.ensures.accepted config _ (i.stands config stands));
+  stands = λ config stands.
+      let i = c.loop-position.invariant in
+      subst (λ past. StandsAfter config past c.make_call.new.self) (sym (past_read _ c.loop-position.position _ c.index-calls-position.is c.loop-position-test.true)) (c.in-Ok.ensures.stands config _ (i.stands config stands));
+}
+
+pub returns-in-Ok-finish-clause-ok : goal.returns-in-Ok-finish-clause-ok
+returns-in-Ok-finish-clause-ok g c = λ config stands.
+    accepted_all g.met.W.WriteStr.laws config _ c.loop-position.position _ _ _ (c.loop-position.invariant.accepted config stands) (omega arith) c.in-Ok-finish.ensures.ok
+
+pub returns-in-Err-finish-clause-err : goal.returns-in-Err-finish-clause-err
+returns-in-Err-finish-clause-err g c = λ config stands.
+    let i = c.loop-position.invariant in
+    stopped_past g.met.W.WriteStr.laws config _ c.loop-position.position _ _ _ (i.accepted config stands) _ (omega arith) (c.in-Err-finish.ensures.err config _ (i.stands config stands))

@@ -1,0 +1,19 @@
+use Rattle.std.proofs.Common.{rules}
+use Rattle.std.proofs.lemmas.Result.{on_ok_weaker, IfErr-weaker}
+use Rattle.console_reporter.proofs.Calls.{stopped_io, stopped_known}
+use Rattle.console_reporter.proofs.imp.reporter.run_report.Goals as goal
+
+pub returns-clause-ok : goal.returns-clause-ok
+returns-clause-ok g c = search rules
+
+pub returns-clause-err : goal.returns-clause-err
+returns-clause-err g c = search rules
+
+pub returns-clause-kept : goal.returns-clause-kept
+returns-clause-kept g c = on_ok_weaker _ (λ h. (g.met.W.WriteStr.laws.kept _ _ _ h).0) (returns-clause-ok g c)
+
+pub returns-clause-io : goal.returns-clause-io
+returns-clause-io g c = IfErr-weaker _ _ _ (λ stop h. stopped_io g.met.W.WriteStr.laws _ _ _ _ _ h) (returns-clause-err g c)
+
+pub returns-clause-known : goal.returns-clause-known
+returns-clause-known g c = IfErr-weaker _ _ _ (λ stop h. stopped_known g.met.W.WriteStr.laws _ _ _ _ _ h) (returns-clause-err g c)

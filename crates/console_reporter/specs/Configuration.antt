@@ -1,0 +1,32 @@
+-- A configuration of a reporter, and what it comes to.
+use Rattle.std.specs.Prelude.{Bool}
+use Rattle.report_text.specs.Styles.{styles_of}
+use Rattle.unit_report.specs.Levels.{resolved_display}
+use Rattle.console_reporter.specs.declared.imp.builder.DisplayReporterBuilder.{DisplayReporterBuilder}
+use Rattle.console_reporter.specs.declared.imp.settings.Settings.{Settings}
+
+-- the builder's fields, and what the caller knows of the terminal and of the environment
+pub record Configuration : Type 0 where
+  pub builder : DisplayReporterBuilder
+  pub use_unicode : Bool
+  pub is_terminal : Bool
+  pub is_ci : Bool
+  pub display_empty_outputs : Bool
+
+abbrev pub configured : DisplayReporterBuilder → Bool → Bool → Bool → Bool → Configuration
+configured builder use_unicode is_terminal is_ci display_empty_outputs = record {
+  builder = builder;
+  use_unicode = use_unicode;
+  is_terminal = is_terminal;
+  is_ci = is_ci;
+  display_empty_outputs = display_empty_outputs;
+}
+
+-- what a reporter of this configuration goes by
+abbrev pub settings_of : Configuration → Settings
+settings_of c = record {
+  mode = c.builder.mode;
+  status_levels = (resolved_display c.builder.display_config c.is_terminal c.is_ci).status_levels;
+  styles = styles_of c.builder.should_colorize;
+  use_unicode = c.use_unicode;
+}

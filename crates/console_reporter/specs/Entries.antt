@@ -1,0 +1,109 @@
+-- What is kept of the calls for the summary, and how the summary lists it.
+use Rattle.std.specs.Prelude.{ℕ, ◌-◌, Bool, true, List, [], ◌∷◌, ◌++◌, ◌&&◌, Option, Some, None, max, nat_le, nat_lt, if◌then◌else◌}
+use Rattle.std.specs.Option.{option_to_list}
+use Rattle.std.specs.declared.cmp.Ordering.{Ordering}
+use Rattle.std.specs.Ordering.{is_lt, nat_cmp, on, then_cmp}
+use Rattle.std.specs.Cmp.Lexicographic.{slice_cmp}
+use Rattle.std.specs.List.{flat_map}
+use Rattle.std.specs.List.Sorted.{IsSorted, IsStable}
+use Rattle.run_model.specs.Levels.{final_rank}
+use Rattle.run_model.specs.Statuses.{summary_of, final_level_of}
+use Rattle.run_model.specs.UniquePrefixes.{UniquePrefix}
+use Rattle.run_model.specs.declared.event.TestEventKind.{TestEventKind}
+use Rattle.run_model.specs.declared.event.TestEventKind.TheVariants.{RunStarted, TestFinished, RunFinished}
+use Rattle.run_model.specs.declared.name.TestInstanceId.{TestInstanceId}
+use Rattle.run_model.specs.declared.status.StatusSummary.{StatusSummary}
+use Rattle.report_text.specs.Words.{Text}
+use Rattle.console_reporter.specs.Order.{key_cmp, ordered_by}
+use Rattle.console_reporter.specs.StatusLines.{status_line}
+use Rattle.console_reporter.specs.declared.imp.calls.ReportCall.{ReportCall}
+use Rattle.console_reporter.specs.declared.imp.calls.ReportCall.TheVariants.{Event, Prefix}
+use Rattle.console_reporter.specs.declared.imp.kept.KeptEntry.{KeptEntry}
+use Rattle.console_reporter.specs.declared.imp.settings.Settings.{Settings}
+
+-- the rank of the reason that an event cancels the run for, 0 where it does not
+abbrev pub own_reason : TestEventKind → ℕ
+own_reason (RunStarted counts id profile) = 0
+own_reason (TestFinished instance statuses stats) = 0
+own_reason (RunFinished elapsed stats) = 0
+
+-- the greatest reason that a call of a past carries; the latest call of a past is its first
+unfoldable pub cancel : List ReportCall → ℕ
+cancel [] = 0
+cancel (Event e ∷ past) = max (own_reason e.kind) (cancel past)
+cancel (Prefix p ∷ past) = cancel past
+
+-- the unique prefix of the run's id that the last such call of a past gave
+unfoldable pub prefix : List ReportCall → Option UniquePrefix
+prefix [] = None
+prefix (Event e ∷ past) = prefix past
+prefix (Prefix p ∷ past) = Some p
+
+-- the rank from which on a reason hides tests and their entries: an interrupt
+abbrev pub hiding_rank : ℕ
+hiding_rank = 7
+
+-- a finished test is kept where no hiding reason was given and its final level is wanted
+abbrev pub is_kept : Settings → ℕ → StatusSummary → Bool
+is_kept s reason x = nat_lt reason hiding_rank && nat_le (final_rank (final_level_of x)) (final_rank s.status_levels.final_status_level)
+
+abbrev pub entry_if : Bool → KeptEntry → Option KeptEntry
+entry_if b e = if b then Some e else None
+
+-- what is kept of an event under a reason
+unfoldable pub entry_of : Settings → ℕ → TestEventKind → Option KeptEntry
+entry_of s reason (RunStarted counts id profile) = None
+entry_of s reason (TestFinished instance statuses stats) =
+    entry_if (is_kept s reason (summary_of statuses)) (record { instance = instance; summary = summary_of statuses })
+entry_of s reason (RunFinished elapsed stats) = None
+
+-- the same as a list, where no reason was given
+abbrev pub keeps : Settings → TestEventKind → List KeptEntry
+keeps s e = option_to_list (entry_of s 0 e)
+
+-- the entries of a past, each by the reason that stood before it, in the order of the calls
+unfoldable pub kept : Settings → List ReportCall → List KeptEntry
+kept s [] = []
+kept s (Event e ∷ past) = kept s past ++ option_to_list (entry_of s (cancel past) e.kind)
+kept s (Prefix p ∷ past) = kept s past
+
+-- the key of an entry: the final level, the greatest first, then the bytes of the binary's id and of the test's name
+abbrev pub entry_key : KeptEntry → List (List ℕ)
+entry_key e = ((7 - final_rank (final_level_of e.summary)) ∷ []) ∷ e.instance.binary_id.now ∷ e.instance.test_name.now ∷ []
+
+-- the same without the level
+abbrev pub instance_cmp : TestInstanceId → TestInstanceId → Ordering
+instance_cmp a b = then_cmp (on (λ i. i.binary_id.now) (slice_cmp nat_cmp)) (on (λ i. i.test_name.now) (slice_cmp nat_cmp)) a b
+
+abbrev pub entry_cmp : KeptEntry → KeptEntry → Ordering
+entry_cmp a b = key_cmp (entry_key a) (entry_key b)
+
+-- whether an entry's key is less than another's
+abbrev pub is_before : KeptEntry → KeptEntry → Bool
+is_before a b = is_lt (entry_cmp a b)
+
+-- the order is by key, and entries of one key stand as they were kept
+abbrev pub IsFinalOrder : List KeptEntry → List KeptEntry → Type 0
+IsFinalOrder entries order = IsSorted entry_cmp order × IsStable entry_cmp entries order
+
+-- the one final order
+abbrev pub final_order : List KeptEntry → List KeptEntry
+final_order entries = ordered_by is_before entries
+
+-- how the summary shows an entry
+abbrev pub entry_text : Settings → KeptEntry → Text
+entry_text s e = status_line s.styles true e.instance e.summary
+
+-- the entries as they stand, one after another
+abbrev pub entries_text : Settings → List KeptEntry → Text
+entries_text s es = flat_map (entry_text s) es
+
+-- the entries, where no hiding reason was given
+unfoldable pub listed_text : Settings → ℕ → List KeptEntry → Text
+listed_text s reason es = if nat_lt reason hiding_rank then entries_text s es else []
+
+-- the entries are in their order where the event lists them
+abbrev pub IsListed : TestEventKind → List KeptEntry → Type 0
+IsListed (RunStarted counts id profile) es = Unit {0}
+IsListed (TestFinished instance statuses stats) es = Unit {0}
+IsListed (RunFinished elapsed stats) es = IsSorted entry_cmp es

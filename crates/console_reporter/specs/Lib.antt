@@ -1,0 +1,10 @@
+pub mod Bars
+pub mod Configuration
+pub mod Entries
+pub mod Order
+pub mod Outcomes
+pub mod Report
+pub mod RunTexts
+pub mod Standing
+pub mod StatsTexts
+pub mod StatusLines

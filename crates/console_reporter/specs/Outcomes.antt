@@ -1,0 +1,37 @@
+-- How a call of a reporter ends.
+use Rattle.std.specs.Prelude.{◌≡◌, [], ◌∷◌, ◌++◌, ◌⊎◌}
+use Rattle.report_text.specs.Words.{Text}
+use Rattle.report_text.specs.Writer.{Meaning}
+use Rattle.report_text.specs.declared.write_str.WriteFault.{WriteFault}
+use Rattle.report_text.specs.declared.write_str.WriteFault.TheVariants.{Device, Memory as RefusedMemory}
+use Rattle.console_reporter.specs.declared.imp.faults.WriteEventError.{WriteEventError}
+use Rattle.console_reporter.specs.declared.imp.faults.WriteEventError.TheVariants.{Io, Memory, Failed}
+
+-- a beginning of the text was accepted
+pub record HasFront {S : Type 0} (m : Meaning S) (old : S) (text : Text) (new : S) : Type 0 where
+  pub front : Text
+  pub rest : Text
+  pub whole : text ≡ front ++ rest
+  pub accepted : m.accepts old front new
+
+-- From old, the error stopped the text, of which a beginning was accepted, and left new. Memory is refused by the writer or to the reporter itself.
+abbrev pub Stops : {S : Type 0} → Meaning S → S → Text → WriteEventError → S → Type 0
+Stops m old text Io new = m.stops old text Device new
+Stops m old text Memory new = m.stops old text RefusedMemory new ⊎ HasFront m old text new
+Stops m old text Failed new = ⊥
+
+-- One text was accepted, and the error stopped the one after it.
+pub record StopsAfter {S : Type 0} (m : Meaning S) (old : S) (before here : Text) (e : WriteEventError) (new : S) : Type 0 where
+  -- the writer in between
+  pub mid : S
+  pub accepted : m.accepts old before mid
+  pub stopped : Stops m mid here e new
+
+-- the text is empty or ends in a line feed
+abbrev pub IsOfLines : Text → Type 0
+IsOfLines t = (t ≡ []) ⊎ ((front : Text) × (t ≡ front ++ 10 ∷ []))
+
+-- what a fault of the writer is to the caller of a reporter
+abbrev pub error_for : WriteFault → WriteEventError
+error_for Device = Io
+error_for RefusedMemory = Memory

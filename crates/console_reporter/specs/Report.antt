@@ -1,0 +1,64 @@
+-- The report: the text of each call, from the call, the configuration and the calls before it.
+use Rattle.std.specs.Prelude.{ℕ, List, [], ◌∷◌, ◌++◌, Option, reverse, take, slice_get, nat_le, false, if◌then◌else◌}
+use Rattle.std.specs.List.{AllByRecursion}
+use Rattle.std.specs.Option.{option_map_or}
+use Rattle.run_model.specs.Levels.{status_rank}
+use Rattle.run_model.specs.Statuses.{summary_of, status_level_of}
+use Rattle.run_model.specs.UniquePrefixes.{UniquePrefix}
+use Rattle.run_model.specs.declared.event.TestEventKind.{TestEventKind}
+use Rattle.run_model.specs.declared.event.TestEventKind.TheVariants.{RunStarted, TestFinished, RunFinished}
+use Rattle.run_model.specs.declared.name.TestInstanceId.{TestInstanceId}
+use Rattle.run_model.specs.declared.status.StatusSummary.{StatusSummary}
+use Rattle.report_text.specs.Words.{Text}
+use Rattle.console_reporter.specs.Configuration.{Configuration, settings_of}
+use Rattle.console_reporter.specs.Entries.{cancel, prefix, kept, final_order, listed_text}
+use Rattle.console_reporter.specs.RunTexts.{run_started_text, run_finished_text}
+use Rattle.console_reporter.specs.StatusLines.{status_line}
+use Rattle.console_reporter.specs.declared.imp.calls.ReportCall.{ReportCall}
+use Rattle.console_reporter.specs.declared.imp.calls.ReportCall.TheVariants.{Event, Prefix}
+use Rattle.console_reporter.specs.declared.imp.kept.KeptEntry.{KeptEntry}
+use Rattle.console_reporter.specs.declared.imp.settings.Settings.{Settings}
+
+-- a finished test: its line, where the status level is at least the test's
+unfoldable pub test_finished_text : Settings → TestInstanceId → StatusSummary → Text
+test_finished_text s instance x =
+    if nat_le (status_rank (status_level_of x)) (status_rank s.status_levels.status_level)
+    then status_line s.styles false instance x else []
+
+-- the text of an event, by what stands of the past: the prefix of the run's id, the reason, and the kept entries in their final order
+unfoldable pub event_text : Settings → Option UniquePrefix → ℕ → List KeptEntry → TestEventKind → Text
+event_text s known reason ordered (RunStarted counts id profile) = run_started_text s known counts id profile
+event_text s known reason ordered (TestFinished instance statuses stats) = test_finished_text s instance (summary_of statuses)
+event_text s known reason ordered (RunFinished elapsed stats) = run_finished_text s elapsed.0 stats ++ listed_text s reason ordered
+
+-- the text of a call after a past, a list of calls with the latest first
+abbrev pub text : Configuration → List ReportCall → ReportCall → Text
+text config past (Event e) =
+    event_text (settings_of config) (prefix past) (cancel past) (final_order (kept (settings_of config) past)) e.kind
+text config past (Prefix p) = []
+
+-- the texts of the calls of a past, in the order of the calls
+unfoldable pub texts : Configuration → List ReportCall → List Text
+texts config [] = []
+texts config (call ∷ past) = texts config past ++ text config past call ∷ []
+
+-- the report of a past: the texts of its calls, joined
+abbrev pub report : Configuration → List ReportCall → Text
+report config [] = []
+report config (call ∷ past) = report config past ++ text config past call
+
+-- what stood before a place of a list of calls
+abbrev pub past_at : List ReportCall → ℕ → List ReportCall
+past_at calls i = reverse (take i calls)
+
+-- the text of the call at a place; past the end there is none
+abbrev pub text_at : Configuration → List ReportCall → ℕ → Text
+text_at config calls i = option_map_or (text config (past_at calls i)) (slice_get calls i) []
+
+-- a call that the reporter does not refuse: of these kinds each one
+abbrev pub IsAccepted : Configuration → ReportCall → Type 0
+IsAccepted config (Event e) = Unit {0}
+IsAccepted config (Prefix p) = Unit {0}
+
+abbrev pub AreAccepted : Configuration → List ReportCall → Type 0
+AreAccepted config calls = AllByRecursion (IsAccepted config) calls

@@ -1,0 +1,35 @@
+-- What a reporter holds after a past.
+use Rattle.std.specs.Prelude.{◌≡◌, List, Bool, true, false, IsTrue}
+use Rattle.std.specs.List.Sorted.{IsStable}
+use Rattle.console_reporter.specs.Configuration.{Configuration, settings_of}
+use Rattle.run_model.specs.Statuses.{summary_of}
+use Rattle.run_model.specs.declared.event.TestEvent.{TestEvent}
+use Rattle.run_model.specs.declared.event.TestEventKind.{TestEventKind}
+use Rattle.run_model.specs.declared.event.TestEventKind.TheVariants.{RunStarted, TestFinished, RunFinished}
+use Rattle.console_reporter.specs.Entries.{entry_cmp, prefix, kept, is_kept}
+use Rattle.console_reporter.specs.declared.imp.settings.Settings.{Settings}
+use Rattle.console_reporter.specs.declared.imp.calls.ReportCall.{ReportCall}
+use Rattle.console_reporter.specs.declared.imp.reporter.DisplayReporter.{DisplayReporter}
+
+-- the reporter works, and holds what the texts after this past need; its entries may stand in another order where their keys differ
+pub record StandsAfter {W : Type 0} (config : Configuration) (past : List ReportCall) (reporter : DisplayReporter W) : Type 0 where
+  pub settings : reporter.state.settings ≡ settings_of config
+  pub prefix : reporter.state.unique_prefix ≡ prefix past
+  pub kept : IsStable entry_cmp (kept (settings_of config) past) reporter.state.kept.items
+  pub works : reporter.state.has_failed ≡ false
+
+abbrev pub HasFailed : {W : Type 0} → DisplayReporter W → Type 0
+HasFailed reporter = reporter.state.has_failed ≡ true
+
+-- both have the same writer
+abbrev pub IsSameWriter : {W : Type 0} → DisplayReporter W → DisplayReporter W → Type 0
+IsSameWriter old new = new.writer.ghost_name ≡ old.writer.ghost_name
+
+-- the reporter may take memory of its own for the event: to keep an entry, or to order those that it lists
+abbrev pub may_grow_for : Settings → TestEventKind → Bool
+may_grow_for s (RunStarted counts id profile) = false
+may_grow_for s (TestFinished instance statuses stats) = is_kept s 0 (summary_of statuses)
+may_grow_for s (RunFinished elapsed stats) = true
+
+abbrev pub MayGrow : {W : Type 0} → DisplayReporter W → TestEvent → Type 0
+MayGrow reporter event = IsTrue (may_grow_for reporter.state.settings event.kind)

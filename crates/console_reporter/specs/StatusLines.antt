@@ -1,0 +1,88 @@
+-- The line of a finished test.
+use Rattle.std.specs.Prelude.{ℕ, Bool, true, false, [], ◌++◌, ◌&&◌, ◌==◌, codes, if◌then◌else◌}
+use Rattle.std.specs.Fmt.{decimal}
+use Rattle.run_model.specs.declared.name.TestInstanceId.{TestInstanceId}
+use Rattle.run_model.specs.declared.status.ExecutionResultDescription.{ExecutionResultDescription}
+use Rattle.run_model.specs.declared.status.ExecutionResultDescription.TheVariants as outcome
+use Rattle.run_model.specs.declared.status.FlakyResult.{FlakyResult}
+use Rattle.run_model.specs.declared.status.FlakyResult.TheVariants as flaky
+use Rattle.run_model.specs.declared.status.RetryData.{RetryData}
+use Rattle.run_model.specs.declared.status.StatusCase.{StatusCase}
+use Rattle.run_model.specs.declared.status.StatusCase.TheVariants.{Success, Flaky, Failure}
+use Rattle.run_model.specs.declared.status.StatusSummary.{StatusSummary}
+use Rattle.report_text.specs.Words.{Text, right_in}
+use Rattle.report_text.specs.Instances.{instance_text}
+use Rattle.report_text.specs.Styles.{plain, styled}
+use Rattle.report_text.specs.declared.style.Style.{Style}
+use Rattle.report_text.specs.declared.style.Styles.{Styles}
+use Rattle.unit_report.specs.Durations.{bracketed_duration}
+
+-- the word of a result
+abbrev pub result_word : ExecutionResultDescription → Text
+result_word outcome.Pass = codes "PASS"
+result_word (outcome.Fail failure) = codes "FAIL"
+
+-- a word after the number of its attempt
+abbrev pub attempt_words : ℕ → Text → Text
+attempt_words attempt word = codes "TRY " ++ (decimal attempt ++ (codes " " ++ word))
+
+-- a success after earlier attempts: as it is shown at once, and in the summary
+abbrev pub flaky_style : Styles → FlakyResult → Style
+flaky_style s flaky.Pass = s.skip
+flaky_style s flaky.Fail = s.fail
+
+abbrev pub flaky_label : FlakyResult → Text
+flaky_label flaky.Pass = codes "FLAKY "
+flaky_label flaky.Fail = codes "FLKY-FL "
+
+abbrev pub flaky_words : Bool → FlakyResult → RetryData → Text
+flaky_words false result retry = attempt_words retry.attempt (codes "PASS")
+flaky_words true result retry = flaky_label result ++ (decimal retry.attempt ++ (codes "/" ++ decimal retry.total_attempts))
+
+-- a success at the first attempt: that it was slow is said in the summary alone
+abbrev pub success_text : Styles → Bool → Text
+success_text s true = styled s.skip (right_in 12 (codes "SLOW"))
+success_text s false = styled s.pass (right_in 12 (codes "PASS"))
+
+-- a failure, after its attempt's number where that is not 1
+abbrev pub failure_words : ℕ → ExecutionResultDescription → Text
+failure_words attempt result =
+    if attempt == 1 then result_word result else attempt_words attempt (result_word result)
+
+-- what begins the line, by what the attempts came to
+abbrev pub status_words : Styles → Bool → StatusCase → StatusSummary → Text
+status_words s is_final Success x = success_text s (is_final && x.is_slow)
+status_words s is_final (Flaky result) x = styled (flaky_style s result) (right_in 12 (flaky_words is_final result x.retry_data))
+status_words s is_final Failure x = styled s.fail (right_in 12 (failure_words x.retry_data.attempt x.result))
+
+-- the word of the line, and a space
+unfoldable pub status_prefix : Styles → Bool → StatusSummary → Text
+status_prefix s is_final x = status_words s is_final x.case x ++ plain (codes " ")
+
+-- a success after earlier attempts counts as a failure
+abbrev pub is_flaky_failure : StatusCase → Bool
+is_flaky_failure Success = false
+is_flaky_failure (Flaky flaky.Pass) = false
+is_flaky_failure (Flaky flaky.Fail) = true
+is_flaky_failure Failure = false
+
+-- what is said of that
+unfoldable pub configured_to : Text
+configured_to = plain (codes "           - test configured to ")
+
+unfoldable pub flaky_note : Styles → Text
+flaky_note s = configured_to ++ (styled s.fail (codes "fail") ++ plain (codes " if flaky\n"))
+
+-- it is said after the line that is shown at once
+unfoldable pub flaky_failure_line : Styles → Bool → StatusCase → Text
+flaky_failure_line s true x = []
+flaky_failure_line s false x = if is_flaky_failure x then flaky_note s else []
+
+-- the line of a finished test, as it is shown at once or, where the flag is set, in the summary
+unfoldable pub status_line : Styles → Bool → TestInstanceId → StatusSummary → Text
+status_line s is_final instance x =
+    status_prefix s is_final x
+    ++ (bracketed_duration x.time_taken.0
+    ++ (instance_text s.list_styles instance
+    ++ (plain (codes "\n")
+    ++ flaky_failure_line s is_final x.case)))

@@ -1,0 +1,13 @@
+//! What a reporter is asked.
+
+use run_model::event::TestEvent;
+use run_model::run_id::ShortestRunIdPrefix;
+
+/// A call of a reporter.
+#[derive(Debug, Drop)]
+pub enum ReportCall<'a> {
+    /// Writes the text of an event.
+    Event(TestEvent<'a>),
+    /// Takes the unique prefix of the run's id, which later starts of a run show. It writes nothing.
+    Prefix(ShortestRunIdPrefix),
+}

@@ -1,0 +1,26 @@
+//! Why a call of a reporter fails.
+
+use thiserror::Error;
+
+/// Why a call of a reporter failed. What went out before is a beginning of the report.
+#[derive(Clone, Copy, Debug, PartialEq, Eq, Error)]
+pub enum WriteEventError {
+    /// The writer's device failed in this call. A beginning of the call's text was accepted.
+    #[error("the report could not be written")]
+    Io,
+    /// Memory was refused in this call. A beginning of the call's text was accepted.
+    #[error("out of memory")]
+    Memory,
+    /// An earlier call failed by its device or for want of memory. Nothing was written.
+    #[error("the report has failed before")]
+    Failed,
+}
+
+/// Where a run of calls stopped, and why.
+#[derive(Clone, Copy, Debug, PartialEq, Eq)]
+pub struct RunFault {
+    /// The place of the call from 0, or the number of calls where the end of the report failed.
+    pub position: usize,
+    /// Why it stopped.
+    pub fault: WriteEventError,
+}

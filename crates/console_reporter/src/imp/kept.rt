@@ -1,0 +1,72 @@
+//! What is kept of a run for its summary, and the order in which the summary lists it.
+
+ghost use Rattle.std.specs.Prelude.{◌≡◌, ◌++◌, OnOk, OnErr};
+ghost use Rattle.std.specs.List.Sorted.{IsSorted, IsStable};
+ghost use Rattle.report_text.specs.Writer.{Puts};
+ghost use Rattle.console_reporter.specs.Entries.{entry_cmp, instance_cmp, entries_text};
+
+use super::settings::Settings;
+use super::status_line::write_status_line;
+use report_text::write_str::{WriteFault, WriteStr};
+use run_model::name::TestInstanceId;
+use run_model::status::StatusSummary;
+use std::alloc::AllocError;
+use std::cmp::Ordering;
+
+/// What is kept of a finished test.
+#[derive(Clone, Copy, Debug)]
+pub struct KeptEntry<'a> {
+    /// The test.
+    pub instance: TestInstanceId<'a>,
+    /// What its attempts came to.
+    pub summary: StatusSummary,
+}
+
+/// Compares the entries as the summary lists them: by the final level, the greatest first, then by the bytes of the
+/// binary's id and of the test's name.
+pub fn compare_entries(left: &KeptEntry<'_>, right: &KeptEntry<'_>) -> Ordering
+    ensures { result ≡ entry_cmp left.now right.now }
+{
+    let left_level = left.summary.final_status_level().below_all();
+    let right_level = right.summary.final_status_level().below_all();
+    match left_level.cmp(&right_level) {
+        Ordering::Less => Ordering::Less,
+        Ordering::Equal => compare_instances(left.instance, right.instance),
+        Ordering::Greater => Ordering::Greater,
+    }
+}
+
+// Compares the bytes of the binaries' ids, then of the tests' names.
+fn compare_instances(left: TestInstanceId<'_>, right: TestInstanceId<'_>) -> Ordering
+    ensures { result ≡ instance_cmp left.entry right.entry }
+{
+    match left.binary_id.compare(right.binary_id) {
+        Ordering::Less => Ordering::Less,
+        Ordering::Equal => left.test_name.compare(right.test_name),
+        Ordering::Greater => Ordering::Greater,
+    }
+}
+
+/// Puts the entries into the order in which the summary lists them; those that tie stay as they came.
+pub fn sort_entries(kept: &mut Vec<KeptEntry<'_>>) -> Result<(), AllocError>
+    ensures sorted { OnOk result (IsSorted entry_cmp kept.new.items) }
+    ensures stable { OnOk result (IsStable entry_cmp kept.old.items kept.new.items) }
+    ensures err { OnErr result (kept.new.items ≡ kept.old.items) }
+{
+    kept.sort_by(|left, right| compare_entries(left, right))?;
+    Ok(())
+}
+
+/// Writes the entries as they stand.
+pub fn write_entries<W: WriteStr>(
+    w: &mut W,
+    settings: &Settings,
+    entries: &[KeptEntry<'_>],
+) -> Result<(), WriteFault>
+    ensures { Puts W.meaning w.old (entries_text settings.now entries.now) result w.new }
+{
+    for entry in entries {
+        write_status_line(w, &settings.styles, true, entry.instance, &entry.summary)?;
+    }
+    Ok(())
+}

@@ -1,0 +1,393 @@
+//! The calls of a reporter, and the run of a list of calls.
+
+ghost use Rattle.std.specs.Prelude.{◌≡◌, ◌≤◌, ◌⊎◌, List, ℕ, [], ◌∷◌, ◌++◌, OnOk, OnErr, IfErr, IsErrOf, length, reverse, true, false};
+ghost use Rattle.std.specs.Option.{option_to_list};
+ghost use Rattle.std.specs.List.Sorted.{IsStable};
+ghost use Rattle.report_text.specs.Writer.{Puts, one_further};
+ghost use Rattle.console_reporter.specs.declared.imp.calls.ReportCall.{ReportCall};
+ghost use Rattle.console_reporter.specs.declared.imp.faults.WriteEventError.{WriteEventError};
+ghost use Rattle.console_reporter.specs.Configuration.{Configuration, configured};
+ghost use Rattle.console_reporter.specs.Entries.{entry_cmp, entry_if, is_kept, keeps, listed_text, IsListed};
+ghost use Rattle.console_reporter.specs.Outcomes.{Stops, StopsAfter, IsOfLines, error_for};
+ghost use Rattle.console_reporter.specs.Report.{event_text, test_finished_text, text, report, past_at, text_at, AreAccepted};
+ghost use Rattle.console_reporter.specs.Standing.{StandsAfter, HasFailed, IsSameWriter, MayGrow, may_grow_for};
+
+use super::builder::DisplayReporterBuilder;
+use super::calls::ReportCall;
+use super::faults::{RunFault, WriteEventError};
+use super::kept::{KeptEntry, sort_entries, write_entries};
+use super::run_text::{write_run_finished, write_run_started};
+use super::settings::{Settings, styles_for};
+use super::status_line::write_status_line;
+use report_text::write_str::{WriteFault, WriteStr};
+use run_model::event::{TestEvent, TestEventKind};
+use run_model::memory::OutOfMemory;
+use run_model::name::TestInstanceId;
+use run_model::run_id::ShortestRunIdPrefix;
+use run_model::status::StatusSummary;
+use std::alloc::{AllocError, Global};
+
+/// Reports events to a writer.
+///
+/// After a call that answered `Io` or `Memory` the reporter has failed: every later call answers `Failed` and writes
+/// nothing.
+#[derive(Drop)]
+pub struct DisplayReporter<'a, W> {
+    writer: &'a mut W,
+    state: ReporterState<'a>,
+}
+
+// What a reporter knows of the calls before.
+#[derive(Drop)]
+struct ReporterState<'a> {
+    kept: Vec<KeptEntry<'a>>,
+    unique_prefix: Option<ShortestRunIdPrefix>,
+    settings: Settings,
+    has_failed: bool,
+}
+
+impl DisplayReporterBuilder {
+    /// A reporter to a writer, to which nothing is written yet. It takes no memory.
+    pub fn build<'a, W: WriteStr>(
+        self,
+        alloc: Global,
+        writer: &'a mut W,
+        use_unicode: bool,
+        is_terminal: bool,
+        is_ci: bool,
+        display_empty_outputs: bool,
+    ) -> DisplayReporter<'a, W>
+        ensures same_reference { result.writer.ghost_name ≡ writer.entry.ghost_name }
+        ensures untouched { result.writer.now ≡ writer.old }
+        ensures stands { StandsAfter (configured self use_unicode is_terminal is_ci display_empty_outputs) [] result }
+    {
+        let resolved = self.display_config.resolve(is_terminal, is_ci);
+        DisplayReporter {
+            writer,
+            state: ReporterState {
+                kept: Vec::new(alloc),
+                unique_prefix: None,
+                settings: Settings {
+                    mode: self.mode,
+                    status_levels: resolved.status_levels,
+                    styles: styles_for(self.should_colorize),
+                    use_unicode,
+                },
+                has_failed: false,
+            },
+        }
+    }
+}
+
+impl<'a, W: WriteStr> DisplayReporter<'a, W> {
+    /// Writes the text of an event, and delivers it.
+    ///
+    /// ```
+    /// let mut reporter = builder.build(alloc, &mut writer, use_unicode, is_terminal, is_ci, false);
+    /// reporter.write_event(&event)?;
+    /// reporter.finish()?;
+    /// ```
+    pub fn write_event(&mut self, event: &TestEvent<'a>) -> Result<(), WriteEventError>
+        ensures same_writer { IsSameWriter self.old self.new }
+        ensures accepted { OnOk result ((config : Configuration) (past : List ReportCall) → StandsAfter config past self.old →
+            W.meaning.accepts self.old.writer.now (text config past (ReportCall.Event event.now)) self.new.writer.now) }
+        ensures lines { (config : Configuration) (past : List ReportCall) → IsOfLines (text config past (ReportCall.Event event.now)) }
+        ensures stands { OnOk result ((config : Configuration) (past : List ReportCall) → StandsAfter config past self.old →
+            StandsAfter config (ReportCall.Event event.now ∷ past) self.new) }
+        ensures delivered { OnOk result (W.meaning.is_delivered self.new.writer.now) }
+        ensures err { IfErr result (λ e. (config : Configuration) (past : List ReportCall) → StandsAfter config past self.old →
+            Stops W.meaning self.old.writer.now (text config past (ReportCall.Event event.now)) e self.new.writer.now) }
+        ensures io { IsErrOf result WriteEventError.Io → W.meaning.failures self.new.writer.now ≡ one_further (W.meaning.failures self.old.writer.now) }
+        ensures memory { IsErrOf result WriteEventError.Memory → W.meaning.may_refuse self.old.writer.now ⊎ MayGrow self.old event.now }
+        ensures fails { OnErr result (HasFailed self.new) }
+        ensures failed { HasFailed self.old → (result ≡ Err WriteEventError.Failed) × (self.new ≡ self.old) }
+    {
+        if self.state.has_failed {
+            return Err(WriteEventError::Failed);
+        }
+        if let Err(AllocError) = self.state.prepare(event) {
+            self.state.has_failed = true;
+            return Err(WriteEventError::Memory);
+        }
+        if let Err(fault) = write_delivered(self.writer, &self.state, event) {
+            self.state.has_failed = true;
+            return Err(error_of(fault));
+        }
+        match self.state.keep(event) {
+            Ok(()) => Ok(()),
+            Err(AllocError) => {
+                self.state.has_failed = true;
+                Err(WriteEventError::Memory)
+            }
+        }
+    }
+
+    /// Takes the unique prefix of the run's id, which later starts of a run show. It takes no memory and writes nothing.
+    pub fn set_run_id_unique_prefix(&mut self, prefix: ShortestRunIdPrefix)
+        ensures same_writer { IsSameWriter self.old self.new }
+        ensures untouched { self.new.writer.now ≡ self.old.writer.now }
+        ensures stands { (config : Configuration) (past : List ReportCall) → StandsAfter config past self.old →
+            StandsAfter config (ReportCall.Prefix prefix ∷ past) self.new }
+        ensures failed { self.new.state.has_failed ≡ self.old.state.has_failed }
+    {
+        self.state.unique_prefix = Some(prefix);
+    }
+
+    /// Ends the report: all that was written is delivered, and no text is added.
+    pub fn finish(&mut self) -> Result<(), WriteEventError>
+        ensures same_writer { IsSameWriter self.old self.new }
+        ensures ok { OnOk result (W.meaning.accepts self.old.writer.now [] self.new.writer.now) }
+        ensures stands { OnOk result ((config : Configuration) (past : List ReportCall) → StandsAfter config past self.old → StandsAfter config past self.new) }
+        ensures delivered { OnOk result (W.meaning.is_delivered self.new.writer.now) }
+        ensures err { IfErr result (λ e. (config : Configuration) (past : List ReportCall) → StandsAfter config past self.old →
+            Stops W.meaning self.old.writer.now [] e self.new.writer.now) }
+        ensures io { IsErrOf result WriteEventError.Io → W.meaning.failures self.new.writer.now ≡ one_further (W.meaning.failures self.old.writer.now) }
+        ensures memory { IsErrOf result WriteEventError.Memory → W.meaning.may_refuse self.old.writer.now }
+        ensures fails { OnErr result (HasFailed self.new) }
+        ensures failed { HasFailed self.old → (result ≡ Err WriteEventError.Failed) × (self.new ≡ self.old) }
+    {
+        if self.state.has_failed {
+            return Err(WriteEventError::Failed);
+        }
+        match self.writer.write_str_flush() {
+            Ok(()) => Ok(()),
+            Err(fault) => {
+                self.state.has_failed = true;
+                Err(error_of(fault))
+            }
+        }
+    }
+
+    // Makes the calls, and stops at the first fault.
+    fn make_calls(&mut self, alloc: Global, calls: &[ReportCall<'a>]) -> Result<(), RunFault>
+        ensures same_writer { IsSameWriter self.old self.new }
+        ensures ok { OnOk result ((config : Configuration) → StandsAfter config [] self.old →
+            W.meaning.accepts self.old.writer.now (report config (reverse calls.now)) self.new.writer.now) }
+        ensures delivered { OnOk result (W.meaning.is_delivered self.new.writer.now) }
+        ensures position { IfErr result (λ stop. stop.position ≤ length calls.now) }
+        ensures err { IfErr result (λ stop. (config : Configuration) → StandsAfter config [] self.old →
+            StopsAfter W.meaning self.old.writer.now (report config (past_at calls.now stop.position)) (text_at config calls.now stop.position) stop.fault self.new.writer.now) }
+    {
+        for position in 0..calls.len() {
+            match self.make_call(alloc, &calls[position]) {
+                Ok(()) => {}
+                Err(fault) => return Err(RunFault { position, fault }),
+            }
+        }
+        match self.finish() {
+            Ok(()) => Ok(()),
+            Err(fault) => Err(RunFault {
+                position: calls.len(),
+                fault,
+            }),
+        }
+    }
+
+    // Makes one call. A prefix is copied.
+    fn make_call(&mut self, alloc: Global, call: &ReportCall<'a>) -> Result<(), WriteEventError>
+        ensures same_writer { IsSameWriter self.old self.new }
+        ensures accepted { OnOk result ((config : Configuration) (past : List ReportCall) → StandsAfter config past self.old →
+            W.meaning.accepts self.old.writer.now (text config past call.now) self.new.writer.now) }
+        ensures stands { OnOk result ((config : Configuration) (past : List ReportCall) → StandsAfter config past self.old →
+            StandsAfter config (call.now ∷ past) self.new) }
+        ensures err { IfErr result (λ e. (config : Configuration) (past : List ReportCall) → StandsAfter config past self.old →
+            Stops W.meaning self.old.writer.now (text config past call.now) e self.new.writer.now) }
+    {
+        match call {
+            ReportCall::Event(event) => self.write_event(event),
+            ReportCall::Prefix(prefix) => match prefix.copy(alloc) {
+                Ok(prefix) => {
+                    self.set_run_id_unique_prefix(prefix);
+                    Ok(())
+                }
+                Err(OutOfMemory) => Err(WriteEventError::Memory),
+            },
+        }
+    }
+}
+
+impl<'a> ReporterState<'a> {
+    // Puts the entries into their final order where the event lists them.
+    fn prepare(&mut self, event: &TestEvent<'a>) -> Result<(), AllocError>
+        ensures settings { self.new.settings ≡ self.old.settings }
+        ensures prefix { self.new.unique_prefix ≡ self.old.unique_prefix }
+        ensures works { self.new.has_failed ≡ self.old.has_failed }
+        ensures listed { OnOk result (IsListed event.now.kind self.new.kept.items) }
+        ensures stable { OnOk result (IsStable entry_cmp self.old.kept.items self.new.kept.items) }
+        ensures hidden { OnErr result (may_grow_for self.old.settings event.now.kind ≡ true) }
+    {
+        match &event.kind {
+            TestEventKind::RunFinished { .. } => sort_entries(&mut self.kept),
+            TestEventKind::RunStarted { .. } => Ok(()),
+            TestEventKind::TestFinished { .. } => Ok(()),
+        }
+    }
+
+    // Keeps what the summary needs of the event.
+    fn keep(&mut self, event: &TestEvent<'a>) -> Result<(), AllocError>
+        ensures settings { self.new.settings ≡ self.old.settings }
+        ensures prefix { self.new.unique_prefix ≡ self.old.unique_prefix }
+        ensures works { self.new.has_failed ≡ self.old.has_failed }
+        ensures kept { OnOk result (self.new.kept.items ≡ self.old.kept.items ++ keeps self.old.settings event.now.kind) }
+        ensures hidden { OnErr result (may_grow_for self.old.settings event.now.kind ≡ true) }
+    {
+        match &event.kind {
+            TestEventKind::RunStarted { .. } => Ok(()),
+            TestEventKind::TestFinished {
+                test_instance,
+                run_statuses,
+                ..
+            } => self.keep_test(*test_instance, run_statuses.summary()),
+            TestEventKind::RunFinished { .. } => Ok(()),
+        }
+    }
+
+    // Keeps a finished test where its final level is shown.
+    fn keep_test(
+        &mut self,
+        instance: TestInstanceId<'a>,
+        summary: StatusSummary,
+    ) -> Result<(), AllocError>
+        ensures settings { self.new.settings ≡ self.old.settings }
+        ensures prefix { self.new.unique_prefix ≡ self.old.unique_prefix }
+        ensures works { self.new.has_failed ≡ self.old.has_failed }
+        ensures kept { OnOk result (self.new.kept.items ≡ self.old.kept.items ++ option_to_list (entry_if (is_kept self.old.settings 0 summary) (record { instance = instance.entry; summary = summary }))) }
+        ensures hidden { OnErr result (is_kept self.old.settings 0 summary ≡ true) }
+    {
+        let shown = self.settings.status_levels.final_status_level;
+        if !summary.final_status_level().is_shown_at(shown) {
+            return Ok(());
+        }
+        self.kept.push(KeptEntry { instance, summary })?;
+        Ok(())
+    }
+}
+
+// What a fault of the writer is to the caller of a reporter.
+fn error_of(fault: WriteFault) -> WriteEventError
+    ensures { result ≡ error_for fault }
+{
+    match fault {
+        WriteFault::Device => WriteEventError::Io,
+        WriteFault::Memory => WriteEventError::Memory,
+    }
+}
+
+// Writes the text of an event, and delivers it.
+fn write_delivered<W: WriteStr>(
+    w: &mut W,
+    state: &ReporterState<'_>,
+    event: &TestEvent<'_>,
+) -> Result<(), WriteFault>
+    ensures text { Puts W.meaning w.old (event_text state.now.settings state.now.unique_prefix 0 state.now.kept.items event.now.kind) result w.new }
+    ensures delivered { OnOk result (W.meaning.is_delivered w.new) }
+{
+    write_event_text(w, state, event)?;
+    w.write_str_flush()
+}
+
+// Writes the text of an event. The entries stand in their final order where the event lists them.
+#[tactic(auto, unfolding(crate::specs::Report::event_text))]
+fn write_event_text<W: WriteStr>(
+    w: &mut W,
+    state: &ReporterState<'_>,
+    event: &TestEvent<'_>,
+) -> Result<(), WriteFault>
+    ensures { Puts W.meaning w.old (event_text state.now.settings state.now.unique_prefix 0 state.now.kept.items event.now.kind) result w.new }
+{
+    let settings = &state.settings;
+    match &event.kind {
+        TestEventKind::RunStarted {
+            test_list,
+            run_id,
+            profile_name,
+        } => write_run_started(
+            w,
+            settings,
+            &state.unique_prefix,
+            test_list,
+            run_id,
+            profile_name,
+        ),
+        TestEventKind::TestFinished {
+            test_instance,
+            run_statuses,
+            ..
+        } => write_test_finished(w, settings, *test_instance, &run_statuses.summary()),
+        TestEventKind::RunFinished { elapsed, run_stats } => {
+            write_run_finished(w, settings, *elapsed, run_stats)?;
+            write_listed(w, settings, &state.kept)
+        }
+    }
+}
+
+// Writes the line of a finished test, where its level is shown.
+#[tactic(auto, unfolding(crate::specs::Report::test_finished_text))]
+fn write_test_finished<W: WriteStr>(
+    w: &mut W,
+    settings: &Settings,
+    instance: TestInstanceId<'_>,
+    summary: &StatusSummary,
+) -> Result<(), WriteFault>
+    ensures { Puts W.meaning w.old (test_finished_text settings.now instance.entry summary.now) result w.new }
+{
+    if summary
+        .status_level()
+        .is_shown_at(settings.status_levels.status_level)
+    {
+        write_status_line(w, &settings.styles, false, instance, summary)
+    } else {
+        Ok(())
+    }
+}
+
+// Writes the entries of a summary as they stand.
+#[tactic(auto, unfolding(crate::specs::Entries::listed_text))]
+fn write_listed<W: WriteStr>(
+    w: &mut W,
+    settings: &Settings,
+    entries: &[KeptEntry<'_>],
+) -> Result<(), WriteFault>
+    ensures { Puts W.meaning w.old (listed_text settings.now 0 entries.now) result w.new }
+{
+    write_entries(w, settings, entries)
+}
+
+/// Makes the calls in order on a reporter of its own, ends the report, and stops at the first fault.
+///
+/// On `Ok` the writer has accepted the report of the calls and delivered it. On a fault at a place it has accepted the
+/// report of the calls before that place and a beginning of the text of the call there.
+pub fn run_report<'a, W: WriteStr>(
+    alloc: Global,
+    builder: DisplayReporterBuilder,
+    writer: &mut W,
+    use_unicode: bool,
+    is_terminal: bool,
+    is_ci: bool,
+    display_empty_outputs: bool,
+    calls: &'a [ReportCall<'a>],
+) -> Result<(), RunFault>
+    ensures ok { let config = configured builder use_unicode is_terminal is_ci display_empty_outputs in
+        OnOk result (W.meaning.accepts writer.old (report config (reverse calls.now)) writer.new) }
+    ensures delivered { OnOk result (W.meaning.is_delivered writer.new) }
+    ensures position { IfErr result (λ stop. stop.position ≤ length calls.now) }
+    ensures err { let config = configured builder use_unicode is_terminal is_ci display_empty_outputs in
+        IfErr result (λ stop. StopsAfter W.meaning writer.old (report config (past_at calls.now stop.position)) (text_at config calls.now stop.position) stop.fault writer.new) }
+    ensures kept { OnOk result (W.meaning.failures writer.new ≡ W.meaning.failures writer.old) }
+    ensures io { IfErr result (λ stop. stop.fault ≡ WriteEventError.Io → W.meaning.failures writer.new ≡ one_further (W.meaning.failures writer.old)) }
+    ensures known { IfErr result (λ stop. stop.fault ≡ WriteEventError.Failed → ⊥) }
+{
+    let mut reporter = builder.build(
+        alloc,
+        writer,
+        use_unicode,
+        is_terminal,
+        is_ci,
+        display_empty_outputs,
+    );
+    let outcome = reporter.make_calls(alloc, &*calls);
+    let DisplayReporter { writer, state } = reporter;
+    drop(state);
+    let _writer = writer;
+    outcome
+}

@@ -1,0 +1,185 @@
+//! The line of a finished test, as it is shown at once and in the summary.
+
+ghost use Rattle.std.specs.Prelude.{◌≡◌};
+ghost use Rattle.report_text.specs.Writer.{Puts};
+ghost use Rattle.report_text.specs.Styles.{styled};
+ghost use Rattle.report_text.specs.Words.{right_in};
+ghost use Rattle.console_reporter.specs.StatusLines.{result_word, flaky_style, flaky_words, failure_words, success_text, is_flaky_failure, status_prefix, configured_to, flaky_note, flaky_failure_line, status_line};
+
+use itoa::Buffer;
+use report_text::helpers::DisplayTestInstance;
+use report_text::style::{Styles, write_plain};
+use report_text::write_str::{WriteFault, WriteStr};
+use run_model::name::TestInstanceId;
+use run_model::status::{
+    ExecutionResultDescription, FlakyResult, RetryData, StatusCase, StatusSummary,
+};
+use unit_report::formatters::DisplayBracketedDuration;
+
+/// Writes the line of a finished test, as it is shown at once or, where `is_final` is set, in the summary.
+#[tactic(auto, unfolding(crate::specs::StatusLines::status_line))]
+pub fn write_status_line<W: WriteStr>(
+    w: &mut W,
+    styles: &Styles,
+    is_final: bool,
+    instance: TestInstanceId<'_>,
+    summary: &StatusSummary,
+) -> Result<(), WriteFault>
+    ensures { Puts W.meaning w.old (status_line styles.now is_final instance.entry summary.now) result w.new }
+{
+    write_status_prefix(w, styles, is_final, summary)?;
+    DisplayBracketedDuration(summary.time_taken).write_to(w)?;
+    DisplayTestInstance::new(instance, &styles.list_styles).write_to(w)?;
+    write_plain(w, "\n")?;
+    write_flaky_failure_line(w, styles, is_final, summary.case)
+}
+
+// Writes the word that begins the line, and a space.
+#[tactic(auto, unfolding(crate::specs::StatusLines::status_prefix))]
+fn write_status_prefix<W: WriteStr>(
+    w: &mut W,
+    styles: &Styles,
+    is_final: bool,
+    summary: &StatusSummary,
+) -> Result<(), WriteFault>
+    ensures { Puts W.meaning w.old (status_prefix styles.now is_final summary.now) result w.new }
+{
+    match summary.case {
+        StatusCase::Success => {
+            write_success_word(w, styles, is_final && summary.is_slow)?;
+            write_plain(w, " ")
+        }
+        StatusCase::Flaky { result } => {
+            write_flaky_word(w, styles, is_final, result, summary.retry_data)?;
+            write_plain(w, " ")
+        }
+        StatusCase::Failure => {
+            write_failure_word(w, styles, summary.retry_data.attempt, summary.result)?;
+            write_plain(w, " ")
+        }
+    }
+}
+
+// Writes the word of a success, right in twelve columns.
+fn write_success_word<W: WriteStr>(
+    w: &mut W,
+    styles: &Styles,
+    is_slow: bool,
+) -> Result<(), WriteFault>
+    ensures { Puts W.meaning w.old (success_text styles.now is_slow) result w.new }
+{
+    if is_slow {
+        styles.skip.write_right(w, 12, "SLOW")
+    } else {
+        styles.pass.write_right(w, 12, "PASS")
+    }
+}
+
+// Writes the words of a success after earlier attempts, right in twelve columns.
+fn write_flaky_word<W: WriteStr>(
+    w: &mut W,
+    styles: &Styles,
+    is_final: bool,
+    flaky_result: FlakyResult,
+    retry_data: RetryData,
+) -> Result<(), WriteFault>
+    ensures { Puts W.meaning w.old (styled (flaky_style styles.now flaky_result) (right_in 12 (flaky_words is_final flaky_result retry_data))) result w.new }
+{
+    let mut attempt = Buffer::new();
+    let mut total = Buffer::new();
+    let (style, label) = match flaky_result {
+        FlakyResult::Pass => (styles.skip, "FLAKY "),
+        FlakyResult::Fail => (styles.fail, "FLKY-FL "),
+    };
+    let attempt = attempt.format(retry_data.attempt);
+    if is_final {
+        style.write_right_joined(
+            w,
+            12,
+            label,
+            attempt,
+            "/",
+            total.format(retry_data.total_attempts),
+        )
+    } else {
+        style.write_right_joined(w, 12, "TRY ", attempt, " ", "PASS")
+    }
+}
+
+// Writes the words of a failure, right in twelve columns.
+fn write_failure_word<W: WriteStr>(
+    w: &mut W,
+    styles: &Styles,
+    attempt: u32,
+    failed: ExecutionResultDescription,
+) -> Result<(), WriteFault>
+    ensures { Puts W.meaning w.old (styled styles.now.fail (right_in 12 (failure_words attempt failed))) result w.new }
+{
+    let word = result_str(failed);
+    if attempt == 1 {
+        return styles.fail.write_right(w, 12, word);
+    }
+    let mut number = Buffer::new();
+    styles
+        .fail
+        .write_right_joined(w, 12, "TRY ", number.format(attempt), " ", word)
+}
+
+// The word of a result.
+fn result_str(outcome: ExecutionResultDescription) -> &'static str
+    ensures { result.now ≡ result_word outcome }
+{
+    match outcome {
+        ExecutionResultDescription::Pass => "PASS",
+        ExecutionResultDescription::Fail { .. } => "FAIL",
+    }
+}
+
+// Writes that a success counts as a failure, where it does and the line is shown at once.
+#[tactic(auto, unfolding(crate::specs::StatusLines::flaky_failure_line))]
+fn write_flaky_failure_line<W: WriteStr>(
+    w: &mut W,
+    styles: &Styles,
+    is_final: bool,
+    case: StatusCase,
+) -> Result<(), WriteFault>
+    ensures { Puts W.meaning w.old (flaky_failure_line styles.now is_final case) result w.new }
+{
+    if is_final {
+        return Ok(());
+    }
+    if is_flaky_failure(case) {
+        write_flaky_note(w, styles)
+    } else {
+        Ok(())
+    }
+}
+
+// Writes that a success counts as a failure.
+#[tactic(auto, unfolding(crate::specs::StatusLines::flaky_note))]
+fn write_flaky_note<W: WriteStr>(w: &mut W, styles: &Styles) -> Result<(), WriteFault>
+    ensures { Puts W.meaning w.old (flaky_note styles.now) result w.new }
+{
+    write_configured_to(w)?;
+    styles.fail.write(w, "fail")?;
+    write_plain(w, " if flaky\n")
+}
+
+// Writes the words before the style changes.
+#[tactic(auto, unfolding(crate::specs::StatusLines::configured_to))]
+fn write_configured_to<W: WriteStr>(w: &mut W) -> Result<(), WriteFault>
+    ensures { Puts W.meaning w.old configured_to result w.new }
+{
+    write_plain(w, "           - test configured to ")
+}
+
+// Whether a success counts as a failure since it came after earlier attempts.
+fn is_flaky_failure(case: StatusCase) -> bool
+    ensures { result ≡ is_flaky_failure case }
+{
+    match case {
+        StatusCase::Success => false,
+        StatusCase::Flaky { result } => result == FlakyResult::Fail,
+        StatusCase::Failure => false,
+    }
+}

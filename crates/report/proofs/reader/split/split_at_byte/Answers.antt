@@ -1,0 +1,21 @@
+use Rattle.std.proofs.Common.{◌≡◌, ◌<◌, length, get_or, take, arith, ◌∙◌}
+use Rattle.std.proofs.lemmas.Bool.Decides.{nat_tests}
+use Rattle.std.proofs.lemmas.Str.{IsCharBoundary-after_ascii}
+use Rattle.report.proofs.Cuts.{Lacks-from_each, cut_at}
+use Rattle.report.proofs.reader.split.split_at_byte.Goals as goal
+
+pub range_from-requires : goal.range_from-requires
+range_from-requires c above =
+    let found = rw c.as_bytes.ensures.value at c.in-Some.ensures in
+    let within : c.in-Some.at < length c.args.text.now = omega (arith, found.0) in
+    let here : get_or c.args.text.now c.in-Some.at 0 ≡ c.args.byte = grind (arith, nat_tests, found.1) in
+    IsCharBoundary-after_ascii c.args.text.now c.in-Some.at c.utf8.text within (omega arith)
+
+pub returns-in_default : goal.returns-in_default
+returns-in_default c = Lacks-from_each c.args.byte c.args.text.now (rw c.as_bytes.ensures.value at c.in_default.ensures)
+
+pub returns : goal.returns
+returns c =
+    let found = rw c.as_bytes.ensures.value at c.in-Some.ensures in
+    let front : c.range.result.now ≡ take c.in-Some.at c.args.text.now = c.range.ensures.value ∙ grind arith in
+    rw (front, c.range_from.ensures.value) (cut_at c.args.byte c.args.text.now c.in-Some.at found.0 found.1)

@@ -1,0 +1,61 @@
+//! The program `report`: it reads a scene, which is a run written as text, and prints nextest's console report of it.
+//!
+//! What goes wrong is one line on standard error and the status, and nothing stands on standard output unless the whole
+//! scene was accepted.
+#![tactic(auto)]
+
+mod fault;
+mod program;
+mod reader;
+mod scene;
+#[cfg(test)]
+mod tests;
+mod words;
+
+use fault::Fault;
+use program::judge;
+use std::fs::File;
+use std::process::ExitCode;
+use std::{env, io};
+use words::words;
+
+fn main(rt: HostRuntime) -> ExitCode {
+    let status = match command_line(&rt) {
+        Ok(args) => match run(&rt, args.as_slice()) {
+            Ok(()) => 0,
+            Err(fault) => tell(&rt, fault),
+        },
+        Err(fault) => tell(&rt, fault),
+    };
+    ExitCode::from(status)
+}
+
+// The words that follow the program's name.
+fn command_line(rt: &HostRuntime) -> Result<Vec<String>, Fault<'static>> {
+    match env::args(rt) {
+        Ok(args) => args
+            .skip(1)
+            .collect(rt.alloc())
+            .map_err(|_| Fault::OutOfMemory),
+        Err(e) if e.kind() == io::ErrorKind::OutOfMemory => Err(Fault::OutOfMemory),
+        Err(_) => Err(Fault::Usage),
+    }
+}
+
+// Prints the line of a fault, and answers the status to end with.
+fn tell(rt: &HostRuntime, fault: Fault<'_>) -> u8 {
+    let _ = rt.eprintln(fault);
+    fault.status()
+}
+
+// Runs the program on its words.
+fn run<'a>(rt: &HostRuntime, args: &'a [String]) -> Result<(), Fault<'a>> {
+    let Some(options) = words(args) else {
+        return Err(Fault::Usage);
+    };
+    let Ok(file) = File::open(rt, options.file) else {
+        return Err(Fault::CannotRead { file: options.file });
+    };
+    let _scene = judge(rt.alloc(), &options, file)?;
+    Ok(())
+}

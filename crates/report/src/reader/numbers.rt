@@ -1,0 +1,60 @@
+//! Numbers as a scene writes them.
+//!
+//! They are decimal, and zeros may stand in front. A plus never does, and a minus only where a number may be negative.
+
+ghost use Rattle.std.specs.Prelude.{◌≡◌, ◌<◌, ◌^◌};
+ghost use Rattle.std.specs.Option.{SomeIff};
+ghost use Rattle.std.specs.Str.Parse.{IsNumeral, digits_value, signed_digits_value};
+ghost use Rattle.report.specs.Numbers.{IsSigned};
+
+use run_model::time::Nanos;
+
+/// A count, which is anything that a `usize` holds.
+///
+/// ```
+/// read_count("007") // Some(7)
+/// read_count("+7") // None
+/// ```
+pub fn read_count(text: &str) -> Option<usize>
+    ensures { SomeIff result (IsNumeral 10 text.now × (digits_value 10 text.now < 2 ^ 64)) (digits_value 10 text.now) }
+{
+    if text.starts_with('+') {
+        return None;
+    }
+    text.parse().ok()
+}
+
+/// A number of attempts or the like, which is anything that a `u32` holds.
+pub fn read_small_count(text: &str) -> Option<u32>
+    ensures { SomeIff result (IsNumeral 10 text.now × (digits_value 10 text.now < 2 ^ 32)) (digits_value 10 text.now) }
+{
+    if text.starts_with('+') {
+        return None;
+    }
+    text.parse().ok()
+}
+
+/// A duration in nanoseconds.
+pub fn read_nanos(text: &str) -> Option<Nanos>
+    ensures { SomeIff result (IsNumeral 10 text.now × (digits_value 10 text.now < 2 ^ 128)) (record { 0 = digits_value 10 text.now }) }
+{
+    if text.starts_with('+') {
+        return None;
+    }
+    let nanos = text.parse().ok()?;
+    Some(Nanos(nanos))
+}
+
+/// An exit code or the like, which may have a minus in front.
+///
+/// ```
+/// read_code("-0") // Some(0)
+/// ```
+pub fn read_code(text: &str) -> Option<i32>
+    ensures { SomeIff result (IsSigned text.now) (signed_digits_value 10 text.now) }
+{
+    if text.starts_with('+') {
+        return None;
+    }
+    text.parse().ok()
+}

@@ -1,0 +1,245 @@
+//! The program over scenes and writers in memory.
+
+use crate::fault::Fault;
+use crate::program::judge;
+use crate::words::{Options, words};
+use std::alloc::Global;
+use std::io;
+use std::io::{ErrorKind, Read};
+use std::test::Fail;
+
+const RUN: &str = "run\t00000000-0000-4000-8000-000000000001\tdefault\t2\t1\t-";
+
+const DONE: &str =
+    "done\t-\talpha\tt1\tnever\tnever\tpass\tinitial=2 finished=1 passed=1\t1\tpass\t5000000\t0\tsplit\t\t\t-\t-";
+
+const END: &str = "end\t1520000000\tinitial=2 finished=2 passed=1 failed=1\t0\t-";
+
+const OPTIONS: Options<'static> = Options { file: "FILE" };
+
+// The line that the program prints of a scene, empty where the scene is accepted.
+fn line_of(alloc: Global, scene: &[u8]) -> Result<String, Fail> {
+    match judge(alloc, &OPTIONS, scene) {
+        Ok(_) => Ok(String::new(alloc)),
+        Err(fault) => Ok(fault.to_string(alloc)?),
+    }
+}
+
+// A line with another text in the place of a field, which is counted from 1.
+fn with_field(alloc: Global, line: &str, field: usize, text: &str) -> Result<String, Fail> {
+    let mut changed = String::new(alloc);
+    for (index, part) in line.split('\t').enumerate() {
+        if index > 0 {
+            changed.push('\t')?;
+        }
+        changed.push_str(if index + 1 == field { text } else { part })?;
+    }
+    Ok(changed)
+}
+
+#[test]
+fn tells_the_fault_of_a_line(rt: HostRuntime) -> Result<(), Fail> {
+    let scenes: [(&[u8], &str); 14] = [
+        (b"", ""),
+        (b"\n# \xff\n#\tx\n\n", ""),
+        (b"# a comment\nbogus\n", "report: line 2: unknown event"),
+        (
+            b"config\tfinal\tall\nbogus\xff\n",
+            "report: line 2: not UTF-8",
+        ),
+        (b"bogus\tconfig", "report: line 1: unknown event"),
+        (b" end\t1\t-\t0\t-", "report: line 1: unknown event"),
+        (b"\r\n", "report: line 1: unknown event"),
+        (b"done\t-\ta", "report: line 1: wrong number of fields"),
+        (
+            b"end\t1\t-\t0\t-\t",
+            "report: line 1: wrong number of fields",
+        ),
+        (b"config", "report: line 1: wrong number of fields"),
+        (
+            b"end\tx\t-\t0\t-\nconfig\tfinal\tall",
+            "report: line 1: bad field 2",
+        ),
+        (
+            b"end\t1\t-\t0\t-\nconfig\tloud",
+            "report: line 2: config after an event",
+        ),
+        (b"end\t1\t-\t0\t-\r\n", "report: line 1: bad field 5"),
+        (b"end\t1\t-\tx\ty\n", "report: line 1: bad field 4"),
+    ];
+    for (scene, line) in scenes {
+        assert_eq!(rt; line_of(rt.alloc(), scene)?.as_str(), line);
+    }
+    Ok(())
+}
+
+#[test]
+fn tells_the_first_bad_field(rt: HostRuntime) -> Result<(), Fail> {
+    let alloc = rt.alloc();
+    let fields: [(&str, usize, &[&str]); 18] = [
+        ("config\tfinal\tfail", 2, &["", "Final", "loud"]),
+        ("config\tfinal\tfail", 3, &["", "-", "Fail", "retry"]),
+        (RUN, 2, &["", "-", "00000000-0000-4000-8000-00000000000"]),
+        (RUN, 3, &["a\\", "\\q", "\\x80", "\\x4", "\\,"]),
+        (RUN, 4, &["", "-", "+1", "-0", "1 ", "18446744073709551616"]),
+        (RUN, 6, &["", "foo=1", "tests"]),
+        (DONE, 2, &["", "x", "0/0"]),
+        (DONE, 4, &["\\", "\\xe9"]),
+        (DONE, 5, &["", "-", "Never"]),
+        (DONE, 7, &["", "-", "flaky"]),
+        (
+            DONE,
+            8,
+            &[
+                "",
+                "passed=1  failed=1",
+                "passed=1 passed=1",
+                "passed",
+                "Passed=1",
+                "cancel=x",
+                "cancel=signal cancel=signal",
+            ],
+        ),
+        (DONE, 9, &["4294967296"]),
+        (
+            DONE,
+            10,
+            &[
+                "",
+                "-",
+                "fail",
+                "fail:",
+                "fail:+1",
+                "fail:2147483648",
+                "pass:0",
+            ],
+        ),
+        (DONE, 11, &["-1", "340282366920938463463374607431768211456"]),
+        (DONE, 12, &["", "2", "01"]),
+        (DONE, 13, &["", "-", "Split"]),
+        (DONE, 14, &["\\", "\\xg0", "\\,"]),
+        (END, 4, &["", "-", "-1"]),
+    ];
+    for (line, field, texts) in fields {
+        for text in texts {
+            let scene = with_field(alloc, line, field, text)?;
+            let fault = format!(in alloc; "report: line 1: bad field {field}")?;
+            assert_eq!(rt;
+                line_of(alloc, scene.as_bytes())?.as_str(),
+                fault.as_str(),
+                "{text}"
+            );
+        }
+    }
+    Ok(())
+}
+
+#[test]
+fn takes_every_form_of_a_value(rt: HostRuntime) -> Result<(), Fail> {
+    let alloc = rt.alloc();
+    let fields: [(&str, usize, &[&str]); 9] = [
+        (
+            "config\tfinal\tfail",
+            3,
+            &["none", "flaky", "slow", "skip", "leak", "pass", "all"],
+        ),
+        (RUN, 2, &["00000000000040008000000000000001"]),
+        (RUN, 3, &["", "-", "\\n\\t\\r\\e\\\\\\x7f\\x4A"]),
+        (RUN, 4, &["007", "18446744073709551615"]),
+        (
+            DONE,
+            8,
+            &[
+                "-",
+                "setupfailed=1 setupexec=1 setuptimedout=1 cancel=second-signal",
+            ],
+        ),
+        (DONE, 10, &["fail:-2147483648", "fail:-0", "fail:007"]),
+        (DONE, 11, &["340282366920938463463374607431768211455"]),
+        (DONE, 12, &["1"]),
+        (DONE, 15, &["-", "\\xff\\xFF", "-\\n"]),
+    ];
+    for (line, field, texts) in fields {
+        for text in texts {
+            let scene = with_field(alloc, line, field, text)?;
+            assert_eq!(rt; line_of(alloc, scene.as_bytes())?.as_str(), "", "{text}");
+        }
+    }
+    Ok(())
+}
+
+// A reader that gives at most seven bytes a read, and fails at one of them.
+#[derive(Drop)]
+struct Failing<'a> {
+    text: &'a [u8],
+    reads_before: usize,
+}
+
+impl Read for Failing<'_> {
+    fn read(&mut self, buf: &mut [u8]) -> io::Result<usize> {
+        if self.reads_before == 0 {
+            return Err(io::Error::from(ErrorKind::Other));
+        }
+        self.reads_before -= 1;
+        let n = buf.len().min(self.text.len()).min(7);
+        let (front, rest) = self.text.split_at(n);
+        buf[..n].copy_from_slice(front);
+        self.text = rest;
+        Ok(n)
+    }
+}
+
+#[test]
+fn cannot_read_a_failing_file(rt: HostRuntime) -> Result<(), Fail> {
+    let text = END.as_bytes();
+    for reads_before in 0..12 {
+        let reader = Failing { text, reads_before };
+        match judge(rt.alloc(), &OPTIONS, reader) {
+            Ok(_) => assert!(rt; reads_before > text.len().div_ceil(7)),
+            Err(fault) => {
+                assert_eq!(rt;
+                    fault.to_string(rt.alloc())?.as_str(),
+                    "report: cannot read FILE"
+                );
+                assert_eq!(rt; fault.status(), 2);
+                assert!(rt; reads_before <= text.len().div_ceil(7));
+            }
+        }
+    }
+    Ok(())
+}
+
+// What the words ask for: the file, or the usage fault.
+fn file_of<'a>(args: &'a [String]) -> Result<&'a str, Fault<'a>> {
+    match words(args) {
+        Some(options) => Ok(options.file),
+        None => Err(Fault::Usage),
+    }
+}
+
+#[test]
+fn takes_one_word(rt: HostRuntime) -> Result<(), Fail> {
+    let alloc = rt.alloc();
+    let usage =
+        "report: usage: report [--color] [--counter] [--replay] [--unload] [--level L] FILE";
+    let lines: [(&[&str], Option<&str>); 4] = [
+        (&["first.scene"], Some("first.scene")),
+        (&["--color"], Some("--color")),
+        (&[], None),
+        (&["--bogus", "first.scene"], None),
+    ];
+    for (args, file) in lines {
+        let mut texts = Vec::new(alloc);
+        for arg in args {
+            texts.push(String::from_str(alloc, arg)?)?;
+        }
+        match file_of(texts.as_slice()) {
+            Ok(named) => assert_eq!(rt; Some(named), file),
+            Err(fault) => {
+                assert_eq!(rt; file, None);
+                assert_eq!(rt; fault.to_string(alloc)?.as_str(), usage);
+            }
+        }
+    }
+    Ok(())
+}

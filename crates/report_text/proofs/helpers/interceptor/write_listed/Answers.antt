@@ -1,0 +1,5 @@
+use Rattle.report_text.proofs.Steps.{owes_at_end}
+use Rattle.report_text.proofs.helpers.interceptor.write_listed.Goals as goal
+
+pub returns : goal.returns
+returns g c = owes_at_end g.met.W.WriteStr.laws _ _ _ _ _ _ c.loop-test_instance-test.false c.loop-test_instance.invariant

@@ -1,0 +1,8 @@
+use Rattle.report_text.proofs.Quotes.{quoted_parts, after_shorter}
+use Rattle.report_text.proofs.helpers.quoting.split_quote.Goals as goal
+
+pub returns : goal.returns
+returns c = record {
+  parts = quoted_parts _ _ c.split_once.ensures.cases;
+  shorter = after_shorter _ _ c.split_once.ensures.cases;
+}

@@ -1,0 +1,27 @@
+-- Paths of files and directories.
+use Rattle.std.specs.Prelude.{ℕ, Bool, false, ◌==◌, List, [], ◌∷◌, ◌++◌, Option, None, Some, codes, if◌then◌else◌}
+use Rattle.report_text.specs.Words.{Text}
+
+-- the path begins with a slash
+abbrev pub is_absolute : Text → Bool
+is_absolute [] = false
+is_absolute (c ∷ t) = c == 47
+
+-- a byte in front of the first path
+abbrev pub in_first : ℕ → List Text → List Text
+in_first c [] = (c ∷ []) ∷ []
+in_first c (path ∷ paths) = (c ∷ path) ∷ paths
+
+-- what stands between the colons of a text, also where that is nothing
+unfoldable pub between_colons : Text → List Text
+between_colons [] = [] ∷ []
+between_colons (c ∷ t) = if c == 58 then [] ∷ between_colons t else in_first c (between_colons t)
+
+-- the paths of a list of them, if there is one
+abbrev pub search_paths : Option Text → List Text
+search_paths None = []
+search_paths (Some list) = between_colons list
+
+-- one path below another
+abbrev pub joined_path : Text → Text → Text
+joined_path path below = path ++ (codes "/" ++ below)

@@ -1,0 +1,224 @@
+//! How a process ended, as a message says it.
+
+ghost use Rattle.std.specs.Prelude.{◌≡◌, ◌<◌, ◌∷◌, [], IfOk, string_bytes};
+ghost use Rattle.run_model.specs.Names.{option_text};
+ghost use Rattle.report_text.specs.Failures.{abort_details, abort_text, abort_words, exit_details, exit_text, exit_words, hex_digit, last_hex_digits, message_text, nt_status_text, signal_name_text};
+ghost use Rattle.report_text.specs.Writer.{Puts};
+
+use crate::style::{plain, write_parts, write_plain};
+use crate::write_str::{WriteFault, WriteStr};
+use itoa::Buffer;
+use run_model::abort::{AbortDescription, DescriptionText};
+use run_model::memory::OutOfMemory;
+use std::alloc::Global;
+
+/// How a process ended.
+#[derive(Debug, Drop)]
+pub enum ExitDescription {
+    /// With a code.
+    Code(i32),
+    /// It was ended from outside.
+    Abort(AbortDescription),
+    /// The system does not say.
+    Unknown,
+}
+
+/// How a process ended.
+///
+/// ```
+/// display_exited_with(alloc, &ExitDescription::Code(3)) // exited with exit code 3
+/// ```
+///
+/// # Errors
+///
+/// Memory was refused. A writer takes the text without any: [`write_exited_with`].
+pub fn display_exited_with(alloc: Global, exit: &ExitDescription) -> Result<String, OutOfMemory>
+    ensures { IfOk result (λ text. string_bytes text ≡ exit_text exit.now) }
+{
+    let mut text = String::new(alloc);
+    match write_exited_with(&mut text, exit) {
+        Ok(()) => Ok(text),
+        Err(_) => Err(OutOfMemory),
+    }
+}
+
+/// Writes how a process ended.
+#[tactic(auto, unfolding(crate::specs::Failures::exit_text))]
+pub fn write_exited_with<W: WriteStr>(w: &mut W, exit: &ExitDescription) -> Result<(), WriteFault>
+    ensures { Puts W.meaning w.old (exit_text exit.now) result w.new }
+{
+    write_plain(w, exit_words(exit))?;
+    write_exit_details(w, exit)
+}
+
+// What is said first of how a process ended.
+#[tactic(auto, unfolding(crate::specs::Failures::exit_words))]
+fn exit_words(exit: &ExitDescription) -> &'static str
+    ensures { result.now ≡ exit_words exit.now }
+{
+    match exit {
+        ExitDescription::Code(_) => "exited with exit code ",
+        ExitDescription::Abort(_) => "",
+        ExitDescription::Unknown => "exited with an unknown error",
+    }
+}
+
+// Writes what is said then: the code, or how the process was ended.
+#[tactic(auto, unfolding(crate::specs::Failures::exit_details))]
+fn write_exit_details<W: WriteStr>(w: &mut W, exit: &ExitDescription) -> Result<(), WriteFault>
+    ensures { Puts W.meaning w.old (exit_details exit.now) result w.new }
+{
+    match exit {
+        ExitDescription::Code(code) => {
+            let mut buffer = Buffer::new();
+            write_plain(w, buffer.format(*code))
+        }
+        ExitDescription::Abort(abort) => write_abort_status(w, abort),
+        ExitDescription::Unknown => Ok(()),
+    }
+}
+
+/// How a process was ended from outside.
+///
+/// ```
+/// display_abort_status(alloc, &abort) // aborted with signal 11 (SIGSEGV)
+/// ```
+///
+/// # Errors
+///
+/// Memory was refused. A writer takes the text without any: [`write_abort_status`].
+pub fn display_abort_status(alloc: Global, abort: &AbortDescription) -> Result<String, OutOfMemory>
+    ensures { IfOk result (λ text. string_bytes text ≡ abort_text abort.now) }
+{
+    let mut text = String::new(alloc);
+    match write_abort_status(&mut text, abort) {
+        Ok(()) => Ok(text),
+        Err(_) => Err(OutOfMemory),
+    }
+}
+
+/// Writes how a process was ended from outside.
+#[tactic(auto, unfolding(crate::specs::Failures::abort_text))]
+pub fn write_abort_status<W: WriteStr>(
+    w: &mut W,
+    abort: &AbortDescription,
+) -> Result<(), WriteFault>
+    ensures { Puts W.meaning w.old (abort_text abort.now) result w.new }
+{
+    write_plain(w, abort_words(abort))?;
+    write_abort_details(w, abort)
+}
+
+// What is said first of a process that was ended from outside.
+#[tactic(auto, unfolding(crate::specs::Failures::abort_words))]
+fn abort_words(abort: &AbortDescription) -> &'static str
+    ensures { result.now ≡ abort_words abort.now }
+{
+    match abort {
+        AbortDescription::UnixSignal { .. } => "aborted with signal ",
+        AbortDescription::WindowsNtStatus { .. } => "aborted with code ",
+        AbortDescription::WindowsJobObject => "terminated via job object",
+    }
+}
+
+// Writes what is said then: the signal or the status.
+#[tactic(auto, unfolding(crate::specs::Failures::abort_details))]
+fn write_abort_details<W: WriteStr>(w: &mut W, abort: &AbortDescription) -> Result<(), WriteFault>
+    ensures { Puts W.meaning w.old (abort_details abort.now) result w.new }
+{
+    match abort {
+        AbortDescription::UnixSignal { signal, name } => {
+            let mut buffer = Buffer::new();
+            write_plain(w, buffer.format(*signal))?;
+            write_signal_name(w, text_of(name))
+        }
+        AbortDescription::WindowsNtStatus { code, message } => {
+            write_nt_status(w, *code)?;
+            write_message(w, text_of(message))
+        }
+        AbortDescription::WindowsJobObject => Ok(()),
+    }
+}
+
+// The text, if there is one.
+fn text_of(text: &Option<DescriptionText>) -> Option<&str>
+    ensures { option_text result ≡ text.now }
+{
+    match text {
+        None => None,
+        Some(text) => Some(text.as_str()),
+    }
+}
+
+// Writes the signal's name between parentheses, if it is known.
+#[tactic(auto, unfolding(crate::specs::Failures::signal_name_text))]
+fn write_signal_name<W: WriteStr>(w: &mut W, name: Option<&str>) -> Result<(), WriteFault>
+    ensures { Puts W.meaning w.old (signal_name_text (option_text name.entry)) result w.new }
+{
+    match name {
+        None => Ok(()),
+        Some(name) => write_parts(w, &[plain(" (SIG"), plain(name), plain(")")]),
+    }
+}
+
+// Writes what the system says of a status, if it is known.
+#[tactic(auto, unfolding(crate::specs::Failures::message_text))]
+fn write_message<W: WriteStr>(w: &mut W, message: Option<&str>) -> Result<(), WriteFault>
+    ensures { Puts W.meaning w.old (message_text (option_text message.entry)) result w.new }
+{
+    match message {
+        None => Ok(()),
+        Some(message) => write_parts(w, &[plain(": "), plain(message)]),
+    }
+}
+
+/// Writes a status of Windows as `0x` and eight digits in base 16, in lower case.
+///
+/// ```
+/// write_nt_status(w, -1073741819) // 0xc0000005
+/// ```
+#[tactic(auto, unfolding(crate::specs::Failures::hex_text))]
+pub fn write_nt_status<W: WriteStr>(w: &mut W, code: i32) -> Result<(), WriteFault>
+    ensures { Puts W.meaning w.old (nt_status_text code) result w.new }
+{
+    write_plain(w, "0x")?;
+    write_hex_digits(w, 8, code.cast_unsigned())
+}
+
+// Writes the last digits in base 16, so many of them.
+#[tactic(auto, unfolding(crate::specs::Failures::last_hex_digits))]
+fn write_hex_digits<W: WriteStr>(w: &mut W, count: usize, n: u32) -> Result<(), WriteFault>
+    ensures { Puts W.meaning w.old (last_hex_digits count n) result w.new }
+{
+    if count == 0 {
+        return Ok(());
+    }
+    write_hex_digits(w, count - 1, n / 16)?;
+    w.write_str(hex_digit_str(n % 16))
+}
+
+// The text of a digit in base 16.
+fn hex_digit_str(digit: u32) -> &'static str
+    requires { digit < 16 }
+    ensures { result.now ≡ hex_digit digit ∷ [] }
+{
+    match digit {
+        0 => "0",
+        1 => "1",
+        2 => "2",
+        3 => "3",
+        4 => "4",
+        5 => "5",
+        6 => "6",
+        7 => "7",
+        8 => "8",
+        9 => "9",
+        10 => "a",
+        11 => "b",
+        12 => "c",
+        13 => "d",
+        14 => "e",
+        15 => "f",
+        _ => unreachable!(),
+    }
+}

@@ -1,0 +1,310 @@
+//! Tests as a report shows them.
+
+ghost use Rattle.std.specs.Prelude.{◌≡◌, Some};
+ghost use Rattle.report_text.specs.Instances.{counter_prefix, counter_text, instance_text, name_text, stress_prefix, stress_text};
+ghost use Rattle.report_text.specs.Writer.{Puts};
+
+use crate::helpers::repeated::write_repeated;
+use crate::show_written;
+use crate::style::{ListStyles, Style, plain, write_parts};
+use crate::write_str::{WriteFault, WriteStr};
+use itoa::Buffer;
+use run_model::name::{TestCaseName, TestInstanceId};
+use run_model::stress::StressIndex;
+use std::fmt;
+use std::fmt::Formatter;
+
+/// A test as a report shows it: its iteration of a stress run and its counter, where there are any, its binary's id and
+/// its name.
+///
+/// ```
+/// DisplayTestInstance::new(None, Some(DisplayCounterIndex::new_counter(1, 2)), instance, &styles.list_styles) // (1/2) alpha mod::t2
+/// ```
+#[derive(Clone, Copy, Debug)]
+pub struct DisplayTestInstance<'a> {
+    stress_index: Option<StressIndex>,
+    counter_index: Option<DisplayCounterIndex>,
+    instance: TestInstanceId<'a>,
+    styles: ListStyles,
+}
+
+impl<'a> DisplayTestInstance<'a> {
+    /// Shows the test in these styles.
+    pub fn new(
+        stress_index: Option<StressIndex>,
+        counter_index: Option<DisplayCounterIndex>,
+        instance: TestInstanceId<'a>,
+        styles: &ListStyles,
+    ) -> DisplayTestInstance<'a>
+        ensures stress_index { result.stress_index ≡ stress_index }
+        ensures counter_index { result.counter_index ≡ counter_index }
+        ensures instance { result.instance ≡ instance.entry }
+        ensures styles { result.styles ≡ styles.now }
+    {
+        DisplayTestInstance {
+            stress_index,
+            counter_index,
+            instance,
+            styles: *styles,
+        }
+    }
+
+    /// Writes what it shows.
+    #[tactic(auto, unfolding(crate::specs::Instances::test_text))]
+    pub fn write_to<W: WriteStr>(&self, w: &mut W) -> Result<(), WriteFault>
+        ensures { Puts W.meaning w.old (instance_text self.now.styles self.now.stress_index self.now.counter_index self.now.instance) result w.new }
+    {
+        write_stress_prefix(w, self.styles.count, self.stress_index)?;
+        write_counter_prefix(w, self.counter_index)?;
+        write_parts(
+            w,
+            &[
+                self.styles
+                    .binary_id
+                    .paint(self.instance.binary_id.as_str()),
+                plain(" "),
+            ],
+        )?;
+        write_test_name(self.instance.test_name, &self.styles, w)
+    }
+}
+
+impl fmt::Display for DisplayTestInstance<'_> {
+    ghost output = { λ t. Some (instance_text t.styles t.stress_index t.counter_index t.instance) };
+
+    fn fmt<W: fmt::Write>(&self, f: &mut Formatter<W>) -> fmt::Result {
+        show_written!(self, f)
+    }
+}
+
+/// An iteration of a stress run: its number from 1, and its total where there is one.
+///
+/// ```
+/// DisplayStressIndex { stress_index, count_style } // 3, or with a total " 3/10"
+/// ```
+#[derive(Clone, Copy, Debug)]
+pub struct DisplayStressIndex {
+    /// The iteration.
+    pub stress_index: StressIndex,
+    /// The style of its numbers; the padding of the first stands inside it.
+    pub count_style: Style,
+}
+
+impl DisplayStressIndex {
+    /// Writes what it shows.
+    #[tactic(auto, unfolding(crate::specs::Instances::stress_text))]
+    pub fn write_to<W: WriteStr>(&self, w: &mut W) -> Result<(), WriteFault>
+        ensures { Puts W.meaning w.old (stress_text self.now.count_style self.now.stress_index) result w.new }
+    {
+        let mut current = Buffer::new();
+        let number = current.format(self.stress_index.current as u64 + 1);
+        match self.stress_index.total {
+            None => write_parts(w, &[self.count_style.paint(number)]),
+            Some(total) => {
+                let mut buffer = Buffer::new();
+                let total = buffer.format(total.get());
+                write_parts(
+                    w,
+                    &[
+                        self.count_style.right(total.len(), number),
+                        plain("/"),
+                        self.count_style.paint(total),
+                    ],
+                )
+            }
+        }
+    }
+}
+
+impl fmt::Display for DisplayStressIndex {
+    ghost output = { λ t. Some (stress_text t.count_style t.stress_index) };
+
+    fn fmt<W: fmt::Write>(&self, f: &mut Formatter<W>) -> fmt::Result {
+        show_written!(self, f)
+    }
+}
+
+/// Writes the iteration between brackets and a space, if there is one.
+#[tactic(auto, unfolding(crate::specs::Instances::stress_prefix))]
+pub fn write_stress_prefix<W: WriteStr>(
+    w: &mut W,
+    count_style: Style,
+    stress_index: Option<StressIndex>,
+) -> Result<(), WriteFault>
+    ensures { Puts W.meaning w.old (stress_prefix count_style stress_index) result w.new }
+{
+    match stress_index {
+        None => Ok(()),
+        Some(stress_index) => {
+            write_parts(w, &[plain("[")])?;
+            DisplayStressIndex {
+                stress_index,
+                count_style,
+            }
+            .write_to(w)?;
+            write_parts(w, &[plain("] ")])
+        }
+    }
+}
+
+/// How far a run is, before a test.
+///
+/// ```
+/// DisplayCounterIndex::new_counter(20, 5000) // (  20/5000)
+/// DisplayCounterIndex::new_padded('-', 4)    // (---------)
+/// ```
+#[derive(Clone, Copy, Debug, PartialEq, Eq)]
+pub enum DisplayCounterIndex {
+    /// A number and its total.
+    Counter {
+        /// The number. It is wider than a count, so that one further than each count can be shown.
+        current: u128,
+        /// The total.
+        total: u128,
+    },
+    /// A line of one character, as wide as a counter.
+    Padded {
+        /// The character.
+        character: char,
+        /// How many digits the total of that counter has.
+        width: usize,
+    },
+}
+
+impl DisplayCounterIndex {
+    /// A number and its total.
+    pub fn new_counter(current: usize, total: usize) -> DisplayCounterIndex
+        ensures { result ≡ DisplayCounterIndex.Counter current total }
+    {
+        DisplayCounterIndex::Counter {
+            current: current as u128,
+            total: total as u128,
+        }
+    }
+
+    /// A line as wide as a counter whose total has so many digits.
+    pub fn new_padded(character: char, width: usize) -> DisplayCounterIndex
+        ensures { result ≡ DisplayCounterIndex.Padded character width }
+    {
+        DisplayCounterIndex::Padded { character, width }
+    }
+
+    /// Writes what it shows.
+    #[tactic(auto, unfolding(crate::specs::Instances::counter_text))]
+    pub fn write_to<W: WriteStr>(&self, w: &mut W) -> Result<(), WriteFault>
+        ensures { Puts W.meaning w.old (counter_text self.now) result w.new }
+    {
+        match *self {
+            DisplayCounterIndex::Counter { current, total } => {
+                let mut current_buffer = Buffer::new();
+                let current = current_buffer.format(current);
+                let mut total_buffer = Buffer::new();
+                let total = total_buffer.format(total);
+                write_parts(
+                    w,
+                    &[
+                        plain("("),
+                        Style::Plain.right(total.len(), current),
+                        plain("/"),
+                        plain(total),
+                        plain(")"),
+                    ],
+                )
+            }
+            DisplayCounterIndex::Padded { character, width } => {
+                write_parts(w, &[plain("(")])?;
+                write_repeated(w, width, character)?;
+                write_repeated(w, width, character)?;
+                w.write_char(character)?;
+                write_parts(w, &[plain(")")])
+            }
+        }
+    }
+}
+
+impl fmt::Display for DisplayCounterIndex {
+    ghost output = { λ c. Some (counter_text c) };
+
+    fn fmt<W: fmt::Write>(&self, f: &mut Formatter<W>) -> fmt::Result {
+        show_written!(self, f)
+    }
+}
+
+/// Writes the counter and a space, if there is one.
+#[tactic(auto, unfolding(crate::specs::Instances::counter_prefix))]
+fn write_counter_prefix<W: WriteStr>(
+    w: &mut W,
+    counter_index: Option<DisplayCounterIndex>,
+) -> Result<(), WriteFault>
+    ensures { Puts W.meaning w.old (counter_prefix counter_index) result w.new }
+{
+    match counter_index {
+        None => Ok(()),
+        Some(counter_index) => {
+            counter_index.write_to(w)?;
+            write_parts(w, &[plain(" ")])
+        }
+    }
+}
+
+/// A test's name in these styles.
+///
+/// ```
+/// DisplayTestName::new(name, &styles.list_styles) // mod::t2
+/// ```
+#[derive(Clone, Copy, Debug)]
+pub struct DisplayTestName<'a> {
+    name: &'a TestCaseName,
+    styles: ListStyles,
+}
+
+impl<'a> DisplayTestName<'a> {
+    /// Shows the name in these styles.
+    pub fn new(name: &'a TestCaseName, styles: &ListStyles) -> DisplayTestName<'a>
+        ensures name { result.name.now ≡ name.now }
+        ensures styles { result.styles ≡ styles.now }
+    {
+        DisplayTestName {
+            name,
+            styles: *styles,
+        }
+    }
+
+    /// Writes what it shows.
+    pub fn write_to<W: WriteStr>(&self, w: &mut W) -> Result<(), WriteFault>
+        ensures { Puts W.meaning w.old (name_text self.now.styles self.now.name.now) result w.new }
+    {
+        write_test_name(self.name, &self.styles, w)
+    }
+}
+
+impl fmt::Display for DisplayTestName<'_> {
+    ghost output = { λ t. Some (name_text t.styles t.name.now) };
+
+    fn fmt<W: fmt::Write>(&self, f: &mut Formatter<W>) -> fmt::Result {
+        show_written!(self, f)
+    }
+}
+
+/// Writes a test's name: the module path and its `::`, if there is one, and the name in it.
+#[tactic(auto, unfolding(crate::specs::Instances::name_text))]
+pub fn write_test_name<W: WriteStr>(
+    name: &TestCaseName,
+    styles: &ListStyles,
+    w: &mut W,
+) -> Result<(), WriteFault>
+    ensures { Puts W.meaning w.old (name_text styles.now name.now) result w.new }
+{
+    let (module_path, last) = name.module_path_and_name();
+    match module_path {
+        None => write_parts(w, &[styles.test_name.paint(last)]),
+        Some(module_path) => write_parts(
+            w,
+            &[
+                styles.module_path.paint(module_path),
+                styles.module_path.paint("::"),
+                styles.test_name.paint(last),
+            ],
+        ),
+    }
+}

@@ -1,0 +1,187 @@
+//! What is said where an interceptor, as a debugger or a tracer, would get more than one test.
+
+ghost use Rattle.std.specs.Prelude.{◌≡◌, IfOk, string_bytes};
+ghost use Rattle.std.specs.List.{flat_map};
+ghost use Rattle.report_text.specs.Interceptors.{and_words, listed_text, option_text, requires_words, rest_text, selected_text, selected_words, too_many_tests_text, unlisted_text};
+ghost use Rattle.report_text.specs.Writer.{Puts};
+
+use crate::helpers::instance::DisplayTestInstance;
+use crate::helpers::plural::{tests_plural_if, tests_str};
+use crate::style::{ListStyles, Style, write_plain};
+use crate::write_str::{WriteFault, WriteStr};
+use run_model::config::NextestRunMode;
+use run_model::memory::OutOfMemory;
+use run_model::name::OwnedTestInstanceId;
+use std::alloc::Global;
+
+/// What is said where an interceptor would get more than one test: its option, how many tests there are, those that are
+/// listed, and how many more there are.
+///
+/// ```
+/// format_interceptor_too_many_tests(alloc, "debugger", NextestRunMode::Test, 3, &[instance], &list_styles, count_style)
+/// // --debugger requires exactly one test, but 3 tests were selected:
+/// //   a t1
+/// //   ... and 2 more tests
+/// ```
+///
+/// # Errors
+///
+/// Memory was refused. A writer takes the text without any: [`write_interceptor_too_many_tests`].
+pub fn format_interceptor_too_many_tests(
+    alloc: Global,
+    cli_opt_name: &str,
+    mode: NextestRunMode,
+    test_count: usize,
+    test_instances: &[OwnedTestInstanceId],
+    list_styles: &ListStyles,
+    count_style: Style,
+) -> Result<String, OutOfMemory>
+    ensures { IfOk result (λ text. string_bytes text ≡ too_many_tests_text cli_opt_name.now mode test_count test_instances.now list_styles.now count_style) }
+{
+    let mut text = String::new(alloc);
+    let written = write_interceptor_too_many_tests(
+        &mut text,
+        cli_opt_name,
+        mode,
+        test_count,
+        test_instances,
+        list_styles,
+        count_style,
+    );
+    match written {
+        Ok(()) => Ok(text),
+        Err(_) => Err(OutOfMemory),
+    }
+}
+
+/// Writes what [`format_interceptor_too_many_tests`] says.
+#[tactic(auto, unfolding(crate::specs::Interceptors::too_many_tests_text))]
+pub fn write_interceptor_too_many_tests<W: WriteStr>(
+    w: &mut W,
+    cli_opt_name: &str,
+    mode: NextestRunMode,
+    test_count: usize,
+    test_instances: &[OwnedTestInstanceId],
+    list_styles: &ListStyles,
+    count_style: Style,
+) -> Result<(), WriteFault>
+    ensures { Puts W.meaning w.old (too_many_tests_text cli_opt_name.now mode test_count test_instances.now list_styles.now count_style) result w.new }
+{
+    write_option(w, cli_opt_name, mode)?;
+    write_selected(w, mode, test_count, count_style)?;
+    write_listed(w, test_instances, list_styles)?;
+    write_unlisted(w, mode, test_count, test_instances.len(), count_style)
+}
+
+// Writes the option, and that it takes one test.
+#[tactic(auto, unfolding(crate::specs::Interceptors::option_text))]
+fn write_option<W: WriteStr>(
+    w: &mut W,
+    cli_opt_name: &str,
+    mode: NextestRunMode,
+) -> Result<(), WriteFault>
+    ensures { Puts W.meaning w.old (option_text cli_opt_name.now mode) result w.new }
+{
+    write_plain(w, "--")?;
+    write_plain(w, cli_opt_name)?;
+    write_plain(w, requires_words())?;
+    write_plain(w, tests_plural_if(mode, false))
+}
+
+#[tactic(auto, unfolding(crate::specs::Interceptors::requires_words))]
+fn requires_words() -> &'static str
+    ensures { result.now ≡ requires_words }
+{
+    " requires exactly one "
+}
+
+// Writes how many tests there are.
+#[tactic(auto, unfolding(crate::specs::Interceptors::selected_text))]
+fn write_selected<W: WriteStr>(
+    w: &mut W,
+    mode: NextestRunMode,
+    test_count: usize,
+    count_style: Style,
+) -> Result<(), WriteFault>
+    ensures { Puts W.meaning w.old (selected_text mode test_count count_style) result w.new }
+{
+    write_plain(w, ", but ")?;
+    count_style.write_number(w, test_count as u128)?;
+    write_plain(w, " ")?;
+    write_plain(w, tests_str(mode, test_count))?;
+    write_plain(w, selected_words())
+}
+
+#[tactic(auto, unfolding(crate::specs::Interceptors::selected_words))]
+fn selected_words() -> &'static str
+    ensures { result.now ≡ selected_words }
+{
+    " were selected:"
+}
+
+// Writes the tests, each on a line of its own.
+fn write_listed<W: WriteStr>(
+    w: &mut W,
+    test_instances: &[OwnedTestInstanceId],
+    list_styles: &ListStyles,
+) -> Result<(), WriteFault>
+    ensures { Puts W.meaning w.old (flat_map (listed_text list_styles.now) test_instances.now) result w.new }
+{
+    for test_instance in test_instances {
+        write_listed_test(w, test_instance, list_styles)?;
+    }
+    Ok(())
+}
+
+// Writes a test on a line of its own, after two spaces.
+#[tactic(auto, unfolding(crate::specs::Interceptors::listed_text))]
+fn write_listed_test<W: WriteStr>(
+    w: &mut W,
+    test_instance: &OwnedTestInstanceId,
+    list_styles: &ListStyles,
+) -> Result<(), WriteFault>
+    ensures { Puts W.meaning w.old (listed_text list_styles.now test_instance.now) result w.new }
+{
+    write_plain(w, "\n  ")?;
+    DisplayTestInstance::new(None, None, test_instance.as_ref(), list_styles).write_to(w)
+}
+
+// Writes how many tests are not listed, if there are any.
+#[tactic(auto, using(std::proofs::lemmas::Bool::Decides::nat_tests), unfolding(crate::specs::Interceptors::unlisted_text))]
+fn write_unlisted<W: WriteStr>(
+    w: &mut W,
+    mode: NextestRunMode,
+    test_count: usize,
+    listed_count: usize,
+    count_style: Style,
+) -> Result<(), WriteFault>
+    ensures { Puts W.meaning w.old (unlisted_text mode test_count listed_count count_style) result w.new }
+{
+    if test_count > listed_count {
+        return write_rest(w, mode, test_count - listed_count, count_style);
+    }
+    Ok(())
+}
+
+// Writes how many tests are not listed.
+#[tactic(auto, unfolding(crate::specs::Interceptors::rest_text))]
+fn write_rest<W: WriteStr>(
+    w: &mut W,
+    mode: NextestRunMode,
+    rest_count: usize,
+    count_style: Style,
+) -> Result<(), WriteFault>
+    ensures { Puts W.meaning w.old (rest_text mode rest_count count_style) result w.new }
+{
+    write_plain(w, and_words())?;
+    count_style.write_number(w, rest_count as u128)?;
+    write_plain(w, " more ")?;
+    write_plain(w, tests_str(mode, rest_count))
+}
+
+#[tactic(auto, unfolding(crate::specs::Interceptors::and_words))]
+fn and_words() -> &'static str
+    ensures { result.now ≡ and_words }
+{
+    "\n  ... and "
+}

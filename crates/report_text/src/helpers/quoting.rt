@@ -1,0 +1,164 @@
+//! Words between quotes, as a shell reads them or as a message shows them.
+
+ghost use Rattle.std.specs.Prelude.{◌≡◌, ℕ, List, ◌∷◌, ◌++◌, ◌<◌, IfOk, IfSome, MatchOption, codes, length, map, string_bytes};
+ghost use Rattle.std.specs.List.{flat_map};
+ghost use Rattle.report_text.specs.Quoting.{is_unquoted, is_unquoted_byte, quoted_text, shell_word, shell_words};
+ghost use Rattle.report_text.specs.Writer.{Puts};
+
+use crate::write_str::{WriteFault, WriteStr, write_strs};
+use run_model::memory::OutOfMemory;
+use std::alloc::Global;
+
+/// A word of a command.
+pub trait CommandWord {
+    /// Its text.
+    ghost text: { Self → List ℕ };
+
+    /// Its text.
+    fn as_text(&self) -> &str
+        ensures { result.now ≡ text self.now };
+}
+
+impl CommandWord for String {
+    ghost text = { string_bytes };
+
+    fn as_text(&self) -> &str {
+        self.as_str()
+    }
+}
+
+impl CommandWord for &str {
+    ghost text = { λ word. word.now };
+
+    fn as_text(&self) -> &str {
+        self
+    }
+}
+
+/// The words as a shell reads them, with one space between each two.
+///
+/// ```
+/// shell_join(alloc, &["cargo", "", "it's", "a=b"]) // cargo '' 'it'\''s' a=b
+/// ```
+///
+/// # Errors
+///
+/// Memory was refused. A writer takes the words without any: [`write_shell_words`].
+pub fn shell_join<T: CommandWord>(alloc: Global, words: &[T]) -> Result<String, OutOfMemory>
+    ensures { IfOk result (λ joined. string_bytes joined ≡ shell_words (map T.text words.now)) }
+{
+    let mut joined = String::new(alloc);
+    match write_shell_words(&mut joined, words) {
+        Ok(()) => Ok(joined),
+        Err(_) => Err(OutOfMemory),
+    }
+}
+
+/// Writes words as a shell reads them, with one space between each two.
+#[tactic(auto, unfolding(crate::specs::Quoting::shell_words))]
+pub fn write_shell_words<W: WriteStr, T: CommandWord>(
+    w: &mut W,
+    words: &[T],
+) -> Result<(), WriteFault>
+    ensures { Puts W.meaning w.old (shell_words (map T.text words.now)) result w.new }
+{
+    match words.split_first() {
+        None => Ok(()),
+        Some((command, args)) => write_shell_command(w, command.as_text(), args),
+    }
+}
+
+/// Writes a command and its arguments as a shell reads them, with one space between each two.
+pub fn write_shell_command<W: WriteStr, T: CommandWord>(
+    w: &mut W,
+    command: &str,
+    args: &[T],
+) -> Result<(), WriteFault>
+    ensures { Puts W.meaning w.old (shell_words (command.now ∷ map T.text args.now)) result w.new }
+{
+    write_shell_word(w, command)?;
+    write_words_after(w, " ", args)
+}
+
+// Writes each word after the separator.
+fn write_words_after<W: WriteStr, T: CommandWord>(
+    w: &mut W,
+    separator: &str,
+    words: &[T],
+) -> Result<(), WriteFault>
+    ensures { Puts W.meaning w.old (flat_map (λ word. separator.now ++ shell_word (T.text word)) words.now) result w.new }
+{
+    for word in words {
+        write_word_after(w, separator, word.as_text())?;
+    }
+    Ok(())
+}
+
+// Writes the separator and the word.
+fn write_word_after<W: WriteStr>(w: &mut W, separator: &str, word: &str) -> Result<(), WriteFault>
+    ensures { Puts W.meaning w.old (separator.now ++ shell_word word.now) result w.new }
+{
+    w.write_str(separator)?;
+    write_shell_word(w, word)
+}
+
+/// Writes a word as a shell reads it.
+///
+/// A word of ASCII letters, digits and `_-=/,.+:@` stands as it is. Each other one stands in single quotes, also the
+/// empty word, and a quote in it as `'\''`.
+///
+/// ```
+/// write_shell_word(w, "it's") // 'it'\''s'
+/// ```
+#[tactic(auto, unfolding(crate::specs::Quoting::shell_word))]
+pub fn write_shell_word<W: WriteStr>(w: &mut W, word: &str) -> Result<(), WriteFault>
+    ensures { Puts W.meaning w.old (shell_word word.now) result w.new }
+{
+    if is_unquoted(word) {
+        return w.write_str(word);
+    }
+    write_between_quotes(w, "'", word)
+}
+
+// Writes a word between two quotes.
+fn write_between_quotes<W: WriteStr>(w: &mut W, quote: &str, word: &str) -> Result<(), WriteFault>
+    ensures { Puts W.meaning w.old (quote.now ++ (quoted_text word.now ++ quote.now)) result w.new }
+{
+    w.write_str(quote)?;
+    write_quoted(w, word)?;
+    w.write_str(quote)
+}
+
+// Whether the word means itself to a shell.
+fn is_unquoted(word: &str) -> bool
+    ensures { result ≡ is_unquoted word.now }
+{
+    !word.is_empty() && word.as_bytes().iter().all(|byte| is_unquoted_byte(*byte))
+}
+
+// Whether the byte means itself to a shell.
+fn is_unquoted_byte(byte: u8) -> bool
+    ensures { result ≡ is_unquoted_byte byte }
+{
+    byte.is_ascii_alphanumeric() || b"_-=/,.+:@".contains(&byte)
+}
+
+// Writes what stands between the quotes of a word.
+fn write_quoted<W: WriteStr>(w: &mut W, text: &str) -> Result<(), WriteFault>
+    ensures { Puts W.meaning w.old (quoted_text text.now) result w.new }
+{
+    let mut rest = text;
+    while let Some((front, after)) = split_quote(rest) {
+        write_strs(w, &[front, "'\\''"])?;
+        rest = after;
+    }
+    w.write_str(rest)
+}
+
+// The text cut at its first quote.
+fn split_quote(text: &str) -> Option<(&str, &str)>
+    ensures parts { MatchOption result (quoted_text text.now ≡ text.now) (λ parts. quoted_text text.now ≡ (parts.0.now ++ codes "'\\''") ++ quoted_text parts.1.now) }
+    ensures shorter { IfSome result (λ parts. length parts.1.now < length text.now) }
+{
+    text.split_once('\'')
+}

@@ -1,0 +1,112 @@
+//! Setup scripts as a report shows them.
+
+ghost use Rattle.std.specs.Prelude.{◌≡◌, ◌∷◌, IfOk, Some, map, string_bytes};
+ghost use Rattle.report_text.specs.Instances.{script_text};
+ghost use Rattle.report_text.specs.Quoting.{shell_words};
+ghost use Rattle.report_text.specs.Writer.{Puts};
+
+use crate::helpers::instance::write_stress_prefix;
+use crate::helpers::quoting::{CommandWord, write_shell_command};
+use crate::show_written;
+use crate::style::{Style, plain, write_parts};
+use crate::write_str::{WriteFault, WriteStr};
+use run_model::memory::OutOfMemory;
+use run_model::name::ScriptId;
+use run_model::stress::StressIndex;
+use std::alloc::Global;
+use std::fmt;
+use std::fmt::Formatter;
+
+/// A setup script as a report shows it: its iteration of a stress run, if there is one, its id and its command as a
+/// shell reads it.
+///
+/// [`write_script_instance`] writes the same and takes no memory.
+///
+/// ```
+/// DisplayScriptInstance::new(alloc, None, script_id, "cmd", &args, script_id_style, count_style)? // s1: cmd 'an argument'
+/// ```
+#[derive(Debug, Drop)]
+pub struct DisplayScriptInstance {
+    stress_index: Option<StressIndex>,
+    script_id: ScriptId,
+    full_command: String,
+    script_id_style: Style,
+    count_style: Style,
+}
+
+impl DisplayScriptInstance {
+    /// Shows the script in these styles.
+    ///
+    /// # Errors
+    ///
+    /// Memory was refused.
+    pub fn new(
+        alloc: Global,
+        stress_index: Option<StressIndex>,
+        script_id: ScriptId,
+        command: &str,
+        args: &[String],
+        script_id_style: Style,
+        count_style: Style,
+    ) -> Result<DisplayScriptInstance, OutOfMemory>
+        ensures stress_index { IfOk result (λ shown. shown.stress_index ≡ stress_index) }
+        ensures script_id { IfOk result (λ shown. shown.script_id ≡ script_id) }
+        ensures command { IfOk result (λ shown. string_bytes shown.full_command ≡ shell_words (command.now ∷ map string_bytes args.now)) }
+        ensures script_id_style { IfOk result (λ shown. shown.script_id_style ≡ script_id_style) }
+        ensures count_style { IfOk result (λ shown. shown.count_style ≡ count_style) }
+    {
+        let mut full_command = String::new(alloc);
+        match write_shell_command(&mut full_command, command, args) {
+            Ok(()) => Ok(DisplayScriptInstance {
+                stress_index,
+                script_id,
+                full_command,
+                script_id_style,
+                count_style,
+            }),
+            Err(_) => Err(OutOfMemory),
+        }
+    }
+
+    /// Writes what it shows.
+    #[tactic(auto, unfolding(crate::specs::Instances::script_text))]
+    pub fn write_to<W: WriteStr>(&self, w: &mut W) -> Result<(), WriteFault>
+        ensures { Puts W.meaning w.old (script_text self.now.script_id_style self.now.count_style self.now.stress_index self.now.script_id (string_bytes self.now.full_command)) result w.new }
+    {
+        write_stress_prefix(w, self.count_style, self.stress_index)?;
+        write_parts(
+            w,
+            &[
+                self.script_id_style.paint(self.script_id.as_str()),
+                plain(": "),
+            ],
+        )?;
+        w.write_str(self.full_command.as_str())
+    }
+}
+
+impl fmt::Display for DisplayScriptInstance {
+    ghost output = { λ s. Some (script_text s.script_id_style s.count_style s.stress_index s.script_id (string_bytes s.full_command)) };
+
+    fn fmt<W: fmt::Write>(&self, f: &mut Formatter<W>) -> fmt::Result {
+        show_written!(self, f)
+    }
+}
+
+/// Writes a setup script as [`DisplayScriptInstance`] shows it.
+#[tactic(auto, unfolding(crate::specs::Instances::script_text))]
+pub fn write_script_instance<W: WriteStr, T: CommandWord>(
+    w: &mut W,
+    stress_index: Option<StressIndex>,
+    script_id: &ScriptId,
+    command: &str,
+    args: &[T],
+    script_id_style: Style,
+    count_style: Style,
+) -> Result<(), WriteFault>
+    ensures { Puts W.meaning w.old (script_text script_id_style count_style stress_index script_id.now (shell_words (command.now ∷ map T.text args.now))) result w.new }
+{
+    write_stress_prefix(w, count_style, stress_index)?;
+    write_parts(w, &[script_id_style.paint(script_id.as_str()), plain(": ")])?;
+    write_shell_command(w, command, args)
+}

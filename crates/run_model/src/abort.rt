@@ -1,0 +1,60 @@
+//! How a process was ended from outside.
+
+ghost use Rattle.std.specs.Prelude.{◌≡◌, IfOk};
+
+use crate::memory::OutOfMemory;
+use std::alloc::Global;
+use std::marker::Model;
+
+/// How a process was ended from outside.
+#[derive(Debug, Drop)]
+pub enum AbortDescription {
+    /// By a signal, on Unix.
+    UnixSignal {
+        /// The signal's number.
+        signal: i32,
+        /// Its name without the `SIG` in front, if it is known.
+        name: Option<DescriptionText>,
+    },
+    /// With a status that tells of a fault, on Windows.
+    WindowsNtStatus {
+        /// The status.
+        code: i32,
+        /// What the system says of it, if it is known.
+        message: Option<DescriptionText>,
+    },
+    /// With the job that it belonged to, on Windows.
+    WindowsJobObject,
+}
+
+/// A text of a description, which contracts see as its bytes.
+#[derive(Debug, Drop)]
+pub struct DescriptionText {
+    text: String,
+}
+
+impl Model for DescriptionText {
+    ghost use Rattle.std.specs.Prelude.{List, ℕ, string_bytes};
+
+    ghost Value = { List ℕ };
+
+    ghost view = { λ description. string_bytes description.text };
+}
+
+impl DescriptionText {
+    /// Copies the text.
+    pub fn new(alloc: Global, text: &str) -> Result<Self, OutOfMemory>
+        ensures { IfOk result (λ description. description ≡ text.now) }
+    {
+        Ok(DescriptionText {
+            text: String::from_str(alloc, text)?,
+        })
+    }
+
+    /// The text.
+    pub fn as_str(&self) -> &str
+        ensures { result.now ≡ self.now }
+    {
+        self.text.as_str()
+    }
+}

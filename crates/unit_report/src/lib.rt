@@ -1,0 +1,6 @@
+//! What is shown of a test or a setup script: the settings, the durations and the captured output.
+#![tactic(auto)]
+
+pub mod config;
+pub mod formatters;
+pub mod unit_output;
