@@ -1,4 +1,5 @@
 pub mod Chunked
+pub mod Closed
 pub mod Clocks
 pub mod Colons
 pub mod Commands
@@ -14,6 +15,7 @@ pub mod Highlighted
 pub mod IndentedCalls
 pub mod Indents
 pub mod Marks
+pub mod NameWidths
 pub mod Pieces
 pub mod Quotes
 pub mod Repeated

@@ -20,11 +20,11 @@ use Rattle.report_text.specs.declared.escapes.Step.TheVariants.{Inside, Ends}
 
 -- the bytes of a character past ASCII
 
-abbrev AreHigh : List ℕ → Type 0
+abbrev pub AreHigh : List ℕ → Type 0
 AreHigh [] = Unit {0}
 AreHigh (b ∷ bs) = (128 ≤ b) × AreHigh bs
 
-encode-high : (c : ℕ) → 128 ≤ c → (b : ℕ) × (bs : List ℕ) × (encode_utf8 c ≡ b ∷ bs) × AreHigh (b ∷ bs)
+pub encode-high : (c : ℕ) → 128 ≤ c → (b : ℕ) × (bs : List ℕ) × (encode_utf8 c ≡ b ∷ bs) × AreHigh (b ∷ bs)
 unfolding encode
 encode-high c h = elim (cases_lt c 128) [
   | inl l ↦ absurd (omega arith)

@@ -4,11 +4,11 @@
 //! keeps every sequence. What is cut is cut while it is written, character by character, so that no memory is taken and
 //! stretches that meet across two writes are one.
 
-ghost use Rattle.std.specs.Prelude.{◌≡◌, ℕ, ◌-◌, ◌^◌, ◌<◌, ◌≤◌, ◌++◌, List};
+ghost use Rattle.std.specs.Prelude.{◌≡◌, ℕ, ◌-◌, ◌^◌, ◌<◌, ◌≤◌, ◌++◌, List, false, true};
 ghost use Rattle.std.specs.Str.{IsUtf8};
 ghost use Rattle.report_text.specs.Counted.{saturated};
 ghost use Rattle.report_text.specs.Escapes.{HasNoEscape, pieces};
-ghost use Rattle.report_text.specs.Fitting.{columns, fit, shrunk_parts, sequences, part_sequences, IsPainted, ArePainted};
+ghost use Rattle.report_text.specs.Fitting.{columns, fit, shrunk, shrunk_parts, sequences, part_sequences, IsPainted, ArePainted};
 ghost use Rattle.report_text.specs.Writer.{Puts};
 
 mod column_counter;
@@ -70,4 +70,42 @@ pub fn write_fitted<T: WriteText, W: WriteStr>(
     let back = out.into_inner();
     let _ = &*back;
     result
+}
+
+/// Writes a text that is so wide, or where there is less room its front.
+#[tactic(auto, using(std::proofs::lemmas::Bool::Decides::nat_tests))]
+pub fn write_front<T: WriteText, W: WriteStr>(
+    w: &mut W,
+    part: &T,
+    width: u128,
+    room: u128,
+) -> Result<(), WriteFault>
+    requires utf8 { IsUtf8 (T.text part.now) }
+    requires width { width ≡ saturated (columns (T.text part.now)) }
+    requires bounded { room < 2 ^ 127 }
+    ensures { Puts W.meaning w.old (shrunk false (T.text part.now) room) result w.new }
+{
+    if width <= room {
+        return part.write_to(w);
+    }
+    write_fitted(w, part, 0, room)
+}
+
+/// Writes a text that is so wide, or where there is less room its end.
+#[tactic(auto, using(std::proofs::lemmas::Bool::Decides::nat_tests))]
+pub fn write_back<T: WriteText, W: WriteStr>(
+    w: &mut W,
+    part: &T,
+    width: u128,
+    room: u128,
+) -> Result<(), WriteFault>
+    requires utf8 { IsUtf8 (T.text part.now) }
+    requires width { width ≡ columns (T.text part.now) }
+    requires bounded { width < 2 ^ 127 }
+    ensures { Puts W.meaning w.old (shrunk true (T.text part.now) room) result w.new }
+{
+    if width <= room {
+        return part.write_to(w);
+    }
+    write_fitted(w, part, width - room, width)
 }
