@@ -14,6 +14,7 @@ pub mod FittedTexts
 pub mod Highlighted
 pub mod IndentedCalls
 pub mod Indents
+pub mod InstanceWidths
 pub mod Marks
 pub mod NameWidths
 pub mod Pieces

@@ -16,11 +16,11 @@ pub free_both : (xs ys : Text) → HasNoEscape xs → HasNoEscape ys → HasNoEs
 free_both [] ys h k = k
 free_both (c ∷ xs) ys h k = let both = and_parts (not (c == 27)) (has_no_escape xs) h in rw (both.0, free_both xs ys both.1 k) refl
 
-free_front : (xs ys : Text) → HasNoEscape (xs ++ ys) → HasNoEscape xs
+pub free_front : (xs ys : Text) → HasNoEscape (xs ++ ys) → HasNoEscape xs
 free_front [] ys h = refl
 free_front (c ∷ xs) ys h = let both = and_parts (not (c == 27)) (has_no_escape (xs ++ ys)) h in rw (both.0, free_front xs ys both.1) refl
 
-free_back : (xs ys : Text) → HasNoEscape (xs ++ ys) → HasNoEscape ys
+pub free_back : (xs ys : Text) → HasNoEscape (xs ++ ys) → HasNoEscape ys
 free_back [] ys h = h
 free_back (c ∷ xs) ys h = free_back xs ys (and_parts (not (c == 27)) (has_no_escape (xs ++ ys)) h).1
 

@@ -1,5 +1,5 @@
 -- Columns, and a text cut to some of them.
-use Rattle.std.specs.Prelude.{◌≡◌, ℕ, ◌+◌, ◌-◌, Bool, true, false, ◌&&◌, List, [], ◌∷◌, ◌++◌, nat_le, nat_lt, chars, encode_utf8_all, unwrap_or, sum_by, if◌then◌else◌}
+use Rattle.std.specs.Prelude.{◌≡◌, ℕ, ◌+◌, ◌-◌, ◌≤◌, Bool, true, false, ◌&&◌, List, [], ◌∷◌, ◌++◌, nat_le, nat_lt, chars, encode_utf8_all, unwrap_or, sum_by, if◌then◌else◌}
 use Rattle.std.specs.Str.{IsUtf8}
 use Rattle.unicode_width.specs.Width.{char_width}
 use Rattle.report_text.specs.Words.{Text}
@@ -80,3 +80,8 @@ ArePainted (t ∷ ts) = IsPainted t × ArePainted ts
 abbrev pub part_sequences : List Text → List Text
 part_sequences [] = []
 part_sequences (t ∷ ts) = sequences (pieces t) ++ part_sequences ts
+
+-- parts cut to a width have at most so many columns, and all their sequences
+pub record FitsWidth (width : ℕ) (ts : List Text) (name : Text) : Type 0 where
+  pub narrow : columns (shrunk_parts ts name width) ≤ width
+  pub complete : sequences (pieces (shrunk_parts ts name width)) ≡ part_sequences ts ++ sequences (pieces name)

@@ -1,5 +1,5 @@
 -- Names, iterations and counters as a report shows them.
-use Rattle.std.specs.Prelude.{ℕ, ◌+◌, List, [], ◌∷◌, ◌++◌, Option, None, Some, length, codes, encode_utf8}
+use Rattle.std.specs.Prelude.{◌≢◌, ℕ, ◌+◌, List, [], ◌∷◌, ◌++◌, Option, None, Some, length, codes, encode_utf8}
 use Rattle.std.specs.Fmt.{decimal}
 use Rattle.std.specs.declared.num.NonZeroU32.{NonZeroU32}
 use Rattle.std.specs.Int.NonZero.{non_zero_u32_get}
@@ -8,6 +8,7 @@ use Rattle.run_model.specs.declared.name.TestInstanceId.{TestInstanceId}
 use Rattle.run_model.specs.declared.stress.StressIndex.{StressIndex}
 use Rattle.std.specs.List.{repeat}
 use Rattle.report_text.specs.Words.{Text, right_in}
+use Rattle.report_text.specs.Escapes.{HasNoEscape}
 use Rattle.report_text.specs.Fitting.{shrunk_parts}
 use Rattle.report_text.specs.Styles.{PartText, Plain, Styled, paint}
 use Rattle.report_text.specs.declared.style.Style.{Style}
@@ -76,6 +77,15 @@ instance_text s stress counter i = test_text s stress counter i.binary_id.now i.
 
 abbrev pub shown_instance : Option ℕ → ListStyles → Option StressIndex → Option DisplayCounterIndex → TestInstanceId → Text
 shown_instance width s stress counter i = shown_text width s stress counter i.binary_id.now i.test_name.now
+
+-- no escape character is in the counter's character, the binary's id and the name
+abbrev pub HasPlainCounter : Option DisplayCounterIndex → Type 0
+HasPlainCounter None = Unit {0}
+HasPlainCounter (Some (Counter current total)) = Unit {0}
+HasPlainCounter (Some (Padded character width)) = character ≢ 27
+
+abbrev pub HasPlainWords : Option DisplayCounterIndex → Text → Text → Type 0
+HasPlainWords counter binary_id name = HasPlainCounter counter × HasNoEscape binary_id × HasNoEscape name
 
 -- a setup script: its iteration, its id and its command
 unfoldable pub script_text : Style → Style → Option StressIndex → Text → Text → Text

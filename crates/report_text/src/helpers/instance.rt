@@ -1,7 +1,8 @@
 //! Tests as a report shows them.
 
-ghost use Rattle.std.specs.Prelude.{◌≡◌, None, Some};
-ghost use Rattle.report_text.specs.Instances.{counter_prefix, counter_text, id_prefix, instance_text, name_text, shown_instance, stress_prefix, stress_text};
+ghost use Rattle.std.specs.Prelude.{◌≡◌, ℕ, None, Some};
+ghost use Rattle.report_text.specs.Fitting.{FitsWidth};
+ghost use Rattle.report_text.specs.Instances.{HasPlainWords, counter_prefix, counter_text, front_parts, id_prefix, instance_text, name_text, shown_instance, stress_prefix, stress_text};
 ghost use Rattle.report_text.specs.Writer.{Puts};
 
 use crate::helpers::max_width::{CounterPart, IdPart, StressPart, write_within};
@@ -68,7 +69,8 @@ impl<'a> DisplayTestInstance<'a> {
 
     /// Writes what it shows.
     pub fn write_to<W: WriteStr>(&self, w: &mut W) -> Result<(), WriteFault>
-        ensures { Puts W.meaning w.old (shown_instance self.now.max_width self.now.styles self.now.stress_index self.now.counter_index self.now.instance) result w.new }
+        ensures text { Puts W.meaning w.old (shown_instance self.now.max_width self.now.styles self.now.stress_index self.now.counter_index self.now.instance) result w.new }
+        ensures law { (width : ℕ) → self.now.max_width ≡ Some width → HasPlainWords self.now.counter_index self.now.instance.binary_id.now self.now.instance.test_name.now → FitsWidth width (front_parts self.now.styles self.now.stress_index self.now.counter_index self.now.instance.binary_id.now) (name_text self.now.styles self.now.instance.test_name.now) }
     {
         match self.max_width {
             None => self.write_whole(w),
@@ -78,7 +80,8 @@ impl<'a> DisplayTestInstance<'a> {
 
     // Writes it cut to so many columns.
     fn write_within<W: WriteStr>(&self, w: &mut W, width: usize) -> Result<(), WriteFault>
-        ensures { Puts W.meaning w.old (shown_instance (Some width) self.now.styles self.now.stress_index self.now.counter_index self.now.instance) result w.new }
+        ensures text { Puts W.meaning w.old (shown_instance (Some width) self.now.styles self.now.stress_index self.now.counter_index self.now.instance) result w.new }
+        ensures law { HasPlainWords self.now.counter_index self.now.instance.binary_id.now self.now.instance.test_name.now → FitsWidth width (front_parts self.now.styles self.now.stress_index self.now.counter_index self.now.instance.binary_id.now) (name_text self.now.styles self.now.instance.test_name.now) }
     {
         let stress = StressPart {
             count_style: self.styles.count,

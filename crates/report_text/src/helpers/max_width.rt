@@ -4,8 +4,8 @@
 //! its end, and the name, cut at its beginning. So nothing is left after a part that is cut.
 
 ghost use Rattle.std.specs.Prelude.{◌≡◌, ◌<◌, ◌^◌, ◌∷◌, [], List};
-ghost use Rattle.report_text.specs.Fitting.{columns, shrunk_parts};
-ghost use Rattle.report_text.specs.Instances.{counter_prefix, id_prefix, name_text, stress_prefix};
+ghost use Rattle.report_text.specs.Fitting.{FitsWidth, columns, shrunk_parts};
+ghost use Rattle.report_text.specs.Instances.{HasPlainWords, counter_prefix, id_prefix, name_text, stress_prefix};
 ghost use Rattle.report_text.specs.Writer.{Puts};
 
 use crate::fitting::{WriteText, count_columns, write_back, write_front};
@@ -84,7 +84,8 @@ pub fn write_within<W: WriteStr>(
     width: usize,
 ) -> Result<(), WriteFault>
     requires { columns (name_text name.now.styles name.now.name.now) < 2 ^ 127 }
-    ensures { Puts W.meaning w.old (shrunk_parts (stress_prefix stress.now.count_style stress.now.stress_index ∷ counter_prefix counter.now.counter_index ∷ id_prefix id.now.id_style id.now.binary_id.now ∷ []) (name_text name.now.styles name.now.name.now) width) result w.new }
+    ensures text { Puts W.meaning w.old (shrunk_parts (stress_prefix stress.now.count_style stress.now.stress_index ∷ counter_prefix counter.now.counter_index ∷ id_prefix id.now.id_style id.now.binary_id.now ∷ []) (name_text name.now.styles name.now.name.now) width) result w.new }
+    ensures law { HasPlainWords counter.now.counter_index id.now.binary_id.now name.now.name.now → FitsWidth width (stress_prefix stress.now.count_style stress.now.stress_index ∷ counter_prefix counter.now.counter_index ∷ id_prefix id.now.id_style id.now.binary_id.now ∷ []) (name_text name.now.styles name.now.name.now) }
 {
     let room = width as u128;
     let stress_width = count_columns(stress);
