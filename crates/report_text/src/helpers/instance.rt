@@ -1,6 +1,7 @@
 //! Tests as a report shows them.
 
 ghost use Rattle.std.specs.Prelude.{◌≡◌, ℕ, None, Some};
+ghost use Rattle.std.specs.Fmt.{DisplaysOnOk, DisplaysStyledOnOk};
 ghost use Rattle.report_text.specs.Fitting.{FitsWidth};
 ghost use Rattle.report_text.specs.Instances.{HasPlainWords, counter_prefix, counter_text, front_parts, id_prefix, instance_text, name_text, shown_instance, stress_prefix, stress_text};
 ghost use Rattle.report_text.specs.Writer.{Puts};
@@ -115,7 +116,12 @@ impl<'a> DisplayTestInstance<'a> {
 impl fmt::Display for DisplayTestInstance<'_> {
     ghost output = { λ t. Some (shown_instance t.max_width t.styles t.stress_index t.counter_index t.instance) };
 
-    fn fmt<W: fmt::Write>(&self, f: &mut Formatter<W>) -> fmt::Result {
+    // Where the names have no escape character, what is shown is within the greatest width.
+    fn fmt<W: fmt::Write>(&self, f: &mut Formatter<W>) -> fmt::Result
+        ensures writes { DisplaysOnOk W.write_str_gives f.old result (Some (shown_instance self.now.max_width self.now.styles self.now.stress_index self.now.counter_index self.now.instance)) f.new }
+        ensures styled { DisplaysStyledOnOk W.write_str_gives f.old result None f.new }
+        ensures law { (width : ℕ) → self.now.max_width ≡ Some width → HasPlainWords self.now.counter_index self.now.instance.binary_id.now self.now.instance.test_name.now → FitsWidth width (front_parts self.now.styles self.now.stress_index self.now.counter_index self.now.instance.binary_id.now) (name_text self.now.styles self.now.instance.test_name.now) }
+    {
         show_written!(self, f)
     }
 }
