@@ -14,6 +14,8 @@ ghost use Rattle.report_text.specs.Writer.{Puts};
 mod column_counter;
 mod fitted;
 mod standing;
+#[cfg(test)]
+mod tests;
 
 use crate::write_str::{WriteFault, WriteStr};
 pub use column_counter::ColumnCounter;
