@@ -45,6 +45,7 @@ pub record CounterAccepts (a : ColumnCounter) (t : Text) (b : ColumnCounter) : T
   pub mode : b.mode ≡ modes_after a.mode (chars t)
   pub columns : b.columns ≡ saturated (a.columns + columns_from a.mode (chars t))
 
+-- every text is accepted, and nothing is told of it but the count
 abbrev pub counter_meaning : Meaning ColumnCounter
 counter_meaning = record {
   accepts = CounterAccepts;

@@ -55,6 +55,7 @@ sequences (StretchText s ∷ ps) = sequences ps
 abbrev pub IsClosed : Text → Type 0
 IsClosed s = (u : Text) → pieces (s ++ u) ≡ SequenceText s ∷ pieces u
 
+-- each of the sequences ends by itself
 abbrev pub AreClosed : List Text → Type 0
 AreClosed [] = Unit {0}
 AreClosed (s ∷ ss) = IsClosed s × AreClosed ss
@@ -72,6 +73,7 @@ abbrev pub shrunk_parts : List Text → Text → ℕ → Text
 shrunk_parts [] name r = shrunk true name r
 shrunk_parts (t ∷ ts) name r = shrunk false t r ++ shrunk_parts ts name (r - columns t)
 
+-- each of the parts is such a text
 abbrev pub ArePainted : List Text → Type 0
 ArePainted [] = Unit {0}
 ArePainted (t ∷ ts) = IsPainted t × ArePainted ts

@@ -31,6 +31,7 @@ StepCounts (Ends k) n t = n ≡ k
 abbrev pub final_step_of : ℕ → Step
 final_step_of c = if is_intermediate c then Inside Intermediates else (if is_within 0x40 0x7E c then Ends 1 else Ends 0)
 
+-- the steps of a sequence that is neither a control sequence nor a command
 abbrev pub short_step_of : ℕ → Step
 short_step_of c = if is_intermediate c then Inside Short else (if is_within 0x30 0x7E c then Ends 1 else Ends 0)
 

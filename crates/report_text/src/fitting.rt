@@ -18,8 +18,8 @@ mod standing;
 mod tests;
 
 use crate::write_str::{WriteFault, WriteStr};
-pub use column_counter::ColumnCounter;
-pub use fitted::Fitted;
+use column_counter::ColumnCounter;
+use fitted::Fitted;
 
 /// How wide cut texts are, and that they keep each sequence: of texts each of whose sequences ends by itself.
 #[tactic(auto, using(crate::proofs::Widths::width_laws))]

@@ -8,7 +8,7 @@ use crate::write_str::{WriteFault, WriteStr};
 
 /// Counts the columns of what is written to it, up to `u128::MAX`. Nothing else becomes of it, and no write fails.
 #[derive(Drop)]
-pub struct ColumnCounter {
+pub(super) struct ColumnCounter {
     columns: u128,
     mode: Mode,
     ghost bounded: { columns < 2 ^ 128 },
@@ -20,7 +20,7 @@ impl ColumnCounter {
     ghost use Rattle.report_text.specs.Scanner.{advanced, mode_after};
 
     /// Begins to count.
-    pub fn new() -> ColumnCounter
+    pub(super) fn new() -> ColumnCounter
         ensures columns { result.columns ≡ 0 }
         ensures mode { result.mode ≡ Mode.Text }
     {
@@ -31,7 +31,7 @@ impl ColumnCounter {
     }
 
     /// The columns so far.
-    pub fn columns(&self) -> u128
+    pub(super) fn columns(&self) -> u128
         ensures { result ≡ self.now.columns }
     {
         self.columns

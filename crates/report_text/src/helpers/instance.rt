@@ -198,7 +198,7 @@ pub fn write_stress_prefix<W: WriteStr>(
 
 /// Writes a binary's id and a space.
 #[tactic(auto, unfolding(crate::specs::Instances::id_prefix))]
-pub fn write_id_prefix<W: WriteStr>(
+pub(super) fn write_id_prefix<W: WriteStr>(
     w: &mut W,
     id_style: Style,
     binary_id: &str,
@@ -293,7 +293,7 @@ impl fmt::Display for DisplayCounterIndex {
 
 /// Writes the counter and a space, if there is one.
 #[tactic(auto, unfolding(crate::specs::Instances::counter_prefix))]
-pub fn write_counter_prefix<W: WriteStr>(
+pub(super) fn write_counter_prefix<W: WriteStr>(
     w: &mut W,
     counter_index: Option<DisplayCounterIndex>,
 ) -> Result<(), WriteFault>

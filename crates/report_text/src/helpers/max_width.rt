@@ -19,11 +19,11 @@ use run_model::stress::StressIndex;
 
 /// The iteration of a stress run, between brackets and a space.
 #[derive(Clone, Copy)]
-pub struct StressPart {
+pub(super) struct StressPart {
     /// The style of its numbers.
-    pub count_style: Style,
+    pub(super) count_style: Style,
     /// The iteration, if there is one.
-    pub stress_index: Option<StressIndex>,
+    pub(super) stress_index: Option<StressIndex>,
 }
 
 impl WriteText for StressPart {
@@ -36,9 +36,9 @@ impl WriteText for StressPart {
 
 /// The counter and a space.
 #[derive(Clone, Copy)]
-pub struct CounterPart {
+pub(super) struct CounterPart {
     /// The counter, if there is one.
-    pub counter_index: Option<DisplayCounterIndex>,
+    pub(super) counter_index: Option<DisplayCounterIndex>,
 }
 
 impl WriteText for CounterPart {
@@ -51,11 +51,11 @@ impl WriteText for CounterPart {
 
 /// A binary's id and a space.
 #[derive(Clone, Copy)]
-pub struct IdPart<'a> {
+pub(super) struct IdPart<'a> {
     /// The style of the id.
-    pub id_style: Style,
+    pub(super) id_style: Style,
     /// The id.
-    pub binary_id: &'a str,
+    pub(super) binary_id: &'a str,
 }
 
 impl WriteText for IdPart<'_> {
@@ -75,7 +75,7 @@ impl WriteText for DisplayTestName<'_> {
 }
 
 /// Writes the parts, cut to so many columns together.
-pub fn write_within<W: WriteStr>(
+pub(super) fn write_within<W: WriteStr>(
     w: &mut W,
     stress: &StressPart,
     counter: &CounterPart,
