@@ -1,5 +1,5 @@
 -- Calls in turn.
-use Rattle.std.proofs.Common.{◌≡◌, ℕ, ◌+◌, ◌<◌, ◌≤◌, List, [], ◌∷◌, length, reverse, take, get_or, sym, ap, ◌∙◌, subst, append-nil, arith, Result, Ok, Err, inl}
+use Rattle.std.proofs.Common.{◌≡◌, ℕ, ◌+◌, ◌<◌, ◌≤◌, List, [], ◌∷◌, length, reverse, take, get_or, sym, ap, ◌∙◌, subst, append-nil, arith, Result, Ok, Err, IfErr, inl}
 use Rattle.std.specs.Option.{option_map_or}
 use Rattle.std.proofs.lemmas.List.{take_more, take_all, reverse-append}
 use Rattle.std.proofs.lemmas.Option.{slice_get-get_or, slice_get_past}
@@ -7,11 +7,24 @@ use Rattle.report_text.specs.Writer.{Meaning, WriterLaws, Puts, one_further}
 use Rattle.report_text.specs.declared.write_str.WriteFault.{WriteFault}
 use Rattle.console_reporter.specs.declared.imp.faults.WriteEventError.{WriteEventError}
 use Rattle.console_reporter.specs.declared.imp.faults.WriteEventError.TheVariants.{Io, Failed}
-use Rattle.console_reporter.specs.Report.{text, text_at, past_at, report}
+use Rattle.console_reporter.specs.declared.imp.faults.RunFault.{RunFault}
+use Rattle.console_reporter.specs.Report.{text, text_at, past_at, report, AreAccepted}
 use Rattle.console_reporter.specs.Configuration.{Configuration}
 use Rattle.console_reporter.specs.declared.imp.calls.ReportCall.{ReportCall}
+use Rattle.console_reporter.specs.declared.imp.calls.ReportCall.TheVariants.{Event, Prefix}
 use Rattle.report_text.specs.declared.write_str.WriteFault.TheVariants.{Device, Memory as RefusedMemory}
 use Rattle.console_reporter.specs.Outcomes.{Stops, StopsAfter, error_for}
+
+-- no call of these kinds is refused
+pub all_accepted : (config : Configuration) (calls : List ReportCall) → AreAccepted config calls
+all_accepted config [] = tt
+all_accepted config (Event e ∷ calls) = (tt, all_accepted config calls)
+all_accepted config (Prefix p ∷ calls) = (tt, all_accepted config calls)
+
+-- nor one before a fault, or at it
+pub accepted_until : (config : Configuration) (calls : List ReportCall) (r : Result (Unit {0}) RunFault) → IfErr r (λ stop. AreAccepted config (take (stop.position + 1) calls))
+accepted_until config calls (Ok x) = tt
+accepted_until config calls (Err stop) = all_accepted config (take (stop.position + 1) calls)
 
 -- the past of the next position
 pub past_more : (calls : List ReportCall) (i : ℕ) (d : ReportCall) → i < length calls → past_at calls (i + 1) ≡ get_or calls i d ∷ past_at calls i

@@ -2,4 +2,5 @@ pub mod Calls
 pub mod Keys
 pub mod Orders
 pub mod Pasts
+pub mod Rows
 pub mod Whole

@@ -7,14 +7,14 @@ use Rattle.run_model.specs.declared.event.TestEvent.{TestEvent}
 use Rattle.run_model.specs.declared.event.TestEventKind.{TestEventKind}
 use Rattle.run_model.specs.declared.event.TestEventKind.TheVariants.{RunStarted, TestFinished, RunFinished}
 use Rattle.console_reporter.specs.Configuration.{Configuration, settings_of}
-use Rattle.console_reporter.specs.Entries.{own_reason, cancel, prefix, kept, keeps, entry_cmp, is_before, final_order, IsListed}
+use Rattle.console_reporter.specs.Entries.{own_reason, cancel, prefix, kept, keeps, entry_cmp, is_before, final_order, IsFinalOrder, IsListed}
 use Rattle.console_reporter.specs.Report.{event_text, text}
 use Rattle.console_reporter.specs.declared.imp.calls.ReportCall.{ReportCall}
 use Rattle.console_reporter.specs.declared.imp.calls.ReportCall.TheVariants.{Event, Prefix}
 use Rattle.console_reporter.specs.declared.imp.kept.KeptEntry.{KeptEntry}
 use Rattle.console_reporter.specs.declared.imp.settings.Settings.{Settings}
 use Rattle.console_reporter.proofs.Keys.{is_before-ranks}
-use Rattle.console_reporter.proofs.Orders.{ordered_only}
+use Rattle.console_reporter.proofs.Orders.{is_ordered, ordered_only}
 
 -- no event of these kinds cancels a run
 own_reason-none : (e : TestEventKind) → own_reason e ≡ 0
@@ -44,6 +44,9 @@ stable-append xs ys more p z =
 -- the entries in their order are the final order
 pub final_order-is : (es order : List KeptEntry) → IsSorted entry_cmp order → IsStable entry_cmp es order → order ≡ final_order es
 final_order-is es order up stable = ordered_only is_before is_before-ranks es order up stable
+
+pub final_order-holds : (es : List KeptEntry) → IsFinalOrder es (final_order es)
+final_order-holds es = is_ordered is_before is_before-ranks es
 
 event_text-ordered : (s : Settings) (known : Option UniquePrefix) (es order : List KeptEntry) (e : TestEventKind) → IsListed e order → IsStable entry_cmp es order → event_text s known 0 order e ≡ event_text s known 0 (final_order es) e
 unfolding event_text

@@ -1,5 +1,5 @@
 -- The line of a finished test.
-use Rattle.std.specs.Prelude.{ℕ, Bool, true, false, [], ◌++◌, ◌&&◌, ◌==◌, codes, if◌then◌else◌}
+use Rattle.std.specs.Prelude.{ℕ, Bool, true, false, None, [], ◌++◌, ◌&&◌, ◌==◌, codes, if◌then◌else◌}
 use Rattle.std.specs.Fmt.{decimal}
 use Rattle.run_model.specs.declared.name.TestInstanceId.{TestInstanceId}
 use Rattle.run_model.specs.declared.status.ExecutionResultDescription.{ExecutionResultDescription}
@@ -83,6 +83,6 @@ unfoldable pub status_line : Styles → Bool → TestInstanceId → StatusSummar
 status_line s is_final instance x =
     status_prefix s is_final x
     ++ (bracketed_duration x.time_taken.0
-    ++ (instance_text s.list_styles instance
+    ++ (instance_text s.list_styles None None instance
     ++ (plain (codes "\n")
     ++ flaky_failure_line s is_final x.case)))

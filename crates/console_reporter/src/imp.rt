@@ -17,5 +17,6 @@ mod status_line;
 pub use builder::DisplayReporterBuilder;
 pub use calls::ReportCall;
 pub use faults::{RunFault, WriteEventError};
+pub use kept::one_final_order;
 pub use reporter::{DisplayReporter, run_report};
 pub use unit_report::unit_output::DisplayerKind;

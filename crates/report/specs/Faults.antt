@@ -1,5 +1,5 @@
 -- What the program says of a fault, and the status that it ends with.
-use Rattle.std.specs.Prelude.{ℕ, List, ◌++◌, codes, decimal}
+use Rattle.std.specs.Prelude.{◌≡◌, ℕ, List, ◌++◌, codes, decimal, ⊤}
 use Rattle.report.specs.declared.fault.Fault.{Fault}
 use Rattle.report.specs.declared.fault.Fault.TheVariants as fault
 use Rattle.report.specs.declared.fault.LineFault.{LineFault}
@@ -28,3 +28,19 @@ status_of (fault.CannotRead file) = 2
 status_of (fault.Line n f) = 2
 status_of fault.WriteFailed = 3
 status_of fault.OutOfMemory = 3
+
+-- a line of a scene is wrong, or memory was refused
+abbrev pub IsSceneFault : Fault → Type 0
+IsSceneFault fault.Usage = ⊥
+IsSceneFault (fault.CannotRead file) = ⊥
+IsSceneFault (fault.Line n f) = ⊤
+IsSceneFault fault.WriteFailed = ⊥
+IsSceneFault fault.OutOfMemory = ⊤
+
+-- the same, or this file cannot be read
+abbrev pub IsJudgeFault : List ℕ → Fault → Type 0
+IsJudgeFault file fault.Usage = ⊥
+IsJudgeFault file (fault.CannotRead f) = f.now ≡ file
+IsJudgeFault file (fault.Line n f) = ⊤
+IsJudgeFault file fault.WriteFailed = ⊥
+IsJudgeFault file fault.OutOfMemory = ⊤

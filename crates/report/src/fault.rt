@@ -1,10 +1,11 @@
 //! What can go wrong, the line that says so, and the status that the program then ends with.
 
 ghost use Rattle.std.specs.Prelude.{◌≡◌, Some};
+ghost use Rattle.report.specs.declared.fault.Fault.TheVariants.{OutOfMemory};
 ghost use Rattle.report.specs.Faults.{fault_text, line_fault_text, status_of};
 
 use run_model::memory::OutOfMemory;
-use std::alloc::AllocFailed;
+use std::alloc::{AllocError, AllocFailed};
 use std::error::Error;
 use std::fmt;
 use std::fmt::Formatter;
@@ -98,7 +99,25 @@ impl fmt::Display for Fault<'_> {
 impl Error for Fault<'_> {}
 
 impl From<OutOfMemory> for Fault<'_> {
+    ghost from_gives = { λ _ fault. fault ≡ OutOfMemory };
+
     fn from(_refused: OutOfMemory) -> Self {
+        Fault::OutOfMemory
+    }
+}
+
+impl From<AllocError> for Fault<'_> {
+    ghost from_gives = { λ _ fault. fault ≡ OutOfMemory };
+
+    fn from(_refused: AllocError) -> Self {
+        Fault::OutOfMemory
+    }
+}
+
+impl<T: Drop> From<AllocFailed<T>> for Fault<'_> {
+    ghost from_gives = { λ _ fault. fault ≡ OutOfMemory };
+
+    fn from(_refused: AllocFailed<T>) -> Self {
         Fault::OutOfMemory
     }
 }

@@ -13,7 +13,7 @@ mod tests;
 mod words;
 
 use fault::Fault;
-use program::judge;
+use program::{judge, write_report};
 use std::fs::File;
 use std::process::ExitCode;
 use std::{env, io};
@@ -56,6 +56,6 @@ fn run<'a>(rt: &HostRuntime, args: &'a [String]) -> Result<(), Fault<'a>> {
     let Ok(file) = File::open(rt, options.file) else {
         return Err(Fault::CannotRead { file: options.file });
     };
-    let _scene = judge(rt.alloc(), &options, file)?;
-    Ok(())
+    let scene = judge(rt.alloc(), &options, file)?;
+    write_report(rt.alloc(), &options, &scene, io::writer(rt))
 }

@@ -1,11 +1,21 @@
 //! What the program does with a scene, over any reader and any writer.
 
+ghost use Rattle.std.specs.Prelude.{◌≡◌, IfErr};
+ghost use Rattle.report.specs.Faults.{IsJudgeFault, status_of};
+
 use crate::fault::Fault;
 use crate::reader::read_scene;
 use crate::scene::Scene;
 use crate::words::Options;
+use console_reporter::config::{DisplayConfig, ShowProgress};
+use console_reporter::imp::{DisplayReporterBuilder, DisplayerKind, WriteEventError, run_report};
+use console_reporter::write_str::TextBuffer;
+use run_model::config::{CompiledDefaultFilter, CompiledDefaultFilterSection, NextestRunMode};
+use run_model::level::StatusLevel;
+use run_model::memory::OutOfMemory;
+use run_model::name::ProfileName;
 use std::alloc::Global;
-use std::io::{ErrorKind, Read};
+use std::io::{ErrorKind, Read, Write};
 
 /// Reads a scene to its end, and judges it whole. It answers the fault of the first line that has one, that the file
 /// cannot be read, or that memory is refused.
@@ -13,7 +23,9 @@ pub fn judge<'a, R: Read + Drop>(
     alloc: Global,
     options: &Options<'a>,
     reader: R,
-) -> Result<Scene, Fault<'a>> {
+) -> Result<Scene, Fault<'a>>
+    ensures { IfErr result (IsJudgeFault options.now.file.now) }
+{
     let mut reader = reader;
     let mut text = Vec::new(alloc);
     if let Err(e) = reader.read_to_end(&mut text) {
@@ -23,4 +35,68 @@ pub fn judge<'a, R: Read + Drop>(
         });
     }
     read_scene(alloc, text.as_slice())
+}
+
+/// Writes the report of a scene. On a fault a beginning of it was written.
+pub fn write_report<W: Write + Drop>(
+    alloc: Global,
+    options: &Options<'_>,
+    scene: &Scene,
+    writer: W,
+) -> Result<(), Fault<'static>>
+    ensures { IfErr result (λ fault. status_of fault ≡ 3) }
+{
+    let calls = scene.calls(alloc, options)?;
+    let builder = builder_of(alloc, scene)?;
+    let Ok(mut out) = TextBuffer::new(alloc, writer) else {
+        return Err(Fault::OutOfMemory);
+    };
+    let (use_unicode, is_terminal, is_ci, display_empty_outputs) = (false, false, false, false);
+    match run_report(
+        alloc,
+        builder,
+        &mut out,
+        use_unicode,
+        is_terminal,
+        is_ci,
+        display_empty_outputs,
+        calls.as_slice(),
+    ) {
+        Ok(()) => Ok(()),
+        Err(stopped) => Err(fault_of(stopped.fault)),
+    }
+}
+
+// What the scene's reporter is built from: test mode, plain, status level Pass and no counter.
+fn builder_of(alloc: Global, scene: &Scene) -> Result<DisplayReporterBuilder, OutOfMemory> {
+    Ok(DisplayReporterBuilder {
+        mode: NextestRunMode::Test,
+        default_filter: CompiledDefaultFilter {
+            profile: ProfileName::new(alloc, "default")?,
+            section: CompiledDefaultFilterSection::Profile,
+        },
+        display_config: DisplayConfig::with_overrides(
+            ShowProgress::None,
+            false,
+            StatusLevel::Pass,
+            scene.config.final_status_level,
+        ),
+        run_count: 0,
+        success_output: None,
+        failure_output: None,
+        should_colorize: false,
+        verbose: false,
+        no_output_indent: false,
+        displayer_kind: DisplayerKind::Live,
+    })
+}
+
+// The program's fault where its report stopped.
+fn fault_of(error: WriteEventError) -> Fault<'static>
+    ensures { status_of result ≡ 3 }
+{
+    match error {
+        WriteEventError::Io | WriteEventError::Failed => Fault::WriteFailed,
+        WriteEventError::Memory => Fault::OutOfMemory,
+    }
 }

@@ -4,6 +4,9 @@
 //! the kind of the event. Each module knows one thing: `lines` which kinds there are and what fields they have, `values`
 //! what each field may hold, `fields` how a line is taken apart, and `texts` and `numbers` how those are written.
 
+ghost use Rattle.std.specs.Prelude.{IfErr};
+ghost use Rattle.report.specs.Faults.{IsSceneFault};
+
 mod fields;
 mod lines;
 mod numbers;
@@ -25,7 +28,9 @@ use std::alloc::Global;
 /// ```
 /// read_scene(alloc, b"# a run of no test\nconfig\tfinal\tall\n")
 /// ```
-pub fn read_scene(alloc: Global, text: &[u8]) -> Result<Scene, Fault<'static>> {
+pub fn read_scene(alloc: Global, text: &[u8]) -> Result<Scene, Fault<'static>>
+    ensures { IfErr result IsSceneFault }
+{
     let config = SceneConfig {
         final_status_level: FinalStatusLevel::Flaky,
     };

@@ -1,11 +1,11 @@
 //! The program over scenes and writers in memory.
 
 use crate::fault::Fault;
-use crate::program::judge;
+use crate::program::{judge, write_report};
 use crate::words::{Options, words};
 use std::alloc::Global;
 use std::io;
-use std::io::{ErrorKind, Read};
+use std::io::{ErrorKind, Read, Write};
 use std::test::Fail;
 
 const RUN: &str = "run\t00000000-0000-4000-8000-000000000001\tdefault\t2\t1\t-";
@@ -16,6 +16,92 @@ const DONE: &str =
 const END: &str = "end\t1520000000\tinitial=2 finished=2 passed=1 failed=1\t0\t-";
 
 const OPTIONS: Options<'static> = Options { file: "FILE" };
+
+// Two tests, one of which fails, and the end of the run.
+const TWO_TESTS: &str = "config\tfinal\tfail\n\
+run\t00000000-0000-4000-8000-000000000001\tdefault\t2\t1\t-\n\
+done\t-\talpha\tt1\tnever\tnever\tpass\tinitial=2 finished=1 passed=1\t1\tpass\t5000000\t0\tsplit\t\t\t-\t-\n\
+done\t-\talpha\tmod::t2\tnever\tnever\tpass\tinitial=2 finished=2 passed=1 failed=1\t1\tfail:1\t1500000000\t0\tsplit\t\t\t-\t-\n\
+end\t1520000000\tinitial=2 finished=2 passed=1 failed=1\t0\t-\n";
+
+const BEGINNING: &str = "------------
+ Nextest run ID 00000000-0000-4000-8000-000000000001 with nextest profile: default
+    Starting 2 tests across 1 binary
+        PASS [   0.005s] alpha t1
+        FAIL [   1.500s] alpha mod::t2
+";
+
+const SUMMARY: &str = "------------
+     Summary [   1.520s] 2 tests run: 1 passed, 1 failed, 0 skipped
+        FAIL [   1.500s] alpha mod::t2
+";
+
+// What the program prints of a scene that it accepts.
+fn report_of(alloc: Global, scene: &[u8]) -> Result<Vec<u8>, Fail> {
+    let mut printed = Vec::new(alloc);
+    let scene = judge(alloc, &OPTIONS, scene)?;
+    write_report(alloc, &OPTIONS, &scene, &mut printed)?;
+    Ok(printed)
+}
+
+#[test]
+fn prints_a_run(rt: HostRuntime) -> Result<(), Fail> {
+    let alloc = rt.alloc();
+    let once = format!(in alloc; "{BEGINNING}{SUMMARY}")?;
+    assert_eq!(rt;
+        report_of(alloc, TWO_TESTS.as_bytes())?.as_slice(),
+        once.as_bytes()
+    );
+    let ends_twice = format!(in alloc; "{TWO_TESTS}{END}")?;
+    let twice = format!(in alloc; "{BEGINNING}{SUMMARY}{SUMMARY}")?;
+    assert_eq!(rt;
+        report_of(alloc, ends_twice.as_bytes())?.as_slice(),
+        twice.as_bytes()
+    );
+    assert!(rt; report_of(alloc, b"")?.is_empty());
+    Ok(())
+}
+
+// A device that takes so many bytes and then fails.
+#[derive(Drop)]
+struct Short {
+    taken: Vec<u8>,
+    room: usize,
+}
+
+impl Write for Short {
+    fn write(&mut self, buf: &[u8]) -> io::Result<usize> {
+        let n = self.room.min(buf.len());
+        if n == 0 {
+            return Err(io::Error::from(ErrorKind::Other));
+        }
+        let (front, _) = buf.split_at(n);
+        self.taken.extend_from_slice(front)?;
+        self.room -= n;
+        Ok(n)
+    }
+
+    fn flush(&mut self) -> io::Result<()> {
+        Ok(())
+    }
+}
+
+#[test]
+fn stops_where_the_device_fails(rt: HostRuntime) -> Result<(), Fail> {
+    let alloc = rt.alloc();
+    let scene = judge(alloc, &OPTIONS, TWO_TESTS.as_bytes())?;
+    let mut device = Short {
+        taken: Vec::new(alloc),
+        room: 10,
+    };
+    let Err(fault) = write_report(alloc, &OPTIONS, &scene, &mut device) else {
+        return Err(Fail::from("the device failed"));
+    };
+    assert_eq!(rt; fault.to_string(alloc)?.as_str(), "report: write failed");
+    assert_eq!(rt; fault.status(), 3);
+    assert_eq!(rt; device.taken.as_slice(), b"----------".as_slice());
+    Ok(())
+}
 
 // The line that the program prints of a scene, empty where the scene is accepted.
 fn line_of(alloc: Global, scene: &[u8]) -> Result<String, Fail> {

@@ -6,6 +6,7 @@ pub mod Commands
 pub mod CounterPuts
 pub mod Cuts
 pub mod Decimals
+pub mod Deliveries
 pub mod Feeds
 pub mod FitMarks
 pub mod Fits

@@ -8,6 +8,13 @@ use Rattle.report_text.specs.declared.write_str.WriteFault.{WriteFault}
 use Rattle.report_text.specs.declared.write_str.WriteFault.TheVariants.{Memory, Device}
 use Rattle.report_text.specs.declared.write_str.text_buffer.TextBuffer.{TextBuffer}
 
+-- bytes grew by a beginning of the text
+pub record GrowsWithin (old new text : List ℕ) : Type 0 where
+  pub front : List ℕ
+  pub rest : List ℕ
+  pub whole : text ≡ front ++ rest
+  pub grown : new ≡ old ++ front
+
 module _ {W : Type 0} (contents : W → Option (List ℕ)) where
   -- what was delivered, if it is known, and then what is pending
   abbrev pub buffer_text : TextBuffer W → Option (List ℕ)

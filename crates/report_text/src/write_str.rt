@@ -8,9 +8,11 @@ ghost use Rattle.report_text.specs.Accept.{string_meaning, string_laws};
 ghost use Rattle.report_text.specs.Words.{strs};
 ghost use Rattle.report_text.specs.Writer.{Meaning, WriterLaws, Puts};
 
+mod delivery;
 mod on_formatter;
 mod text_buffer;
 
+pub use delivery::delivery_law;
 pub use on_formatter::OnFormatter;
 use std::alloc::AllocError;
 pub use text_buffer::{CAPACITY, TextBuffer};

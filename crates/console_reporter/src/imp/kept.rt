@@ -1,9 +1,10 @@
 //! What is kept of a run for its summary, and the order in which the summary lists it.
 
-ghost use Rattle.std.specs.Prelude.{◌≡◌, ◌++◌, OnOk, OnErr};
+ghost use Rattle.std.specs.Prelude.{◌≡◌, List, OnOk, OnErr};
 ghost use Rattle.std.specs.List.Sorted.{IsSorted, IsStable};
 ghost use Rattle.report_text.specs.Writer.{Puts};
-ghost use Rattle.console_reporter.specs.Entries.{entry_cmp, instance_cmp, entries_text};
+ghost use Rattle.console_reporter.specs.Entries.{entry_cmp, instance_cmp, entries_text, final_order, IsFinalOrder};
+ghost use Rattle.console_reporter.specs.declared.imp.kept.KeptEntry.{KeptEntry};
 
 use super::settings::Settings;
 use super::status_line::write_status_line;
@@ -56,6 +57,14 @@ pub fn sort_entries(kept: &mut Vec<KeptEntry<'_>>) -> Result<(), AllocError>
     kept.sort_by(|left, right| compare_entries(left, right))?;
     Ok(())
 }
+
+/// Whatever was kept, it has exactly one final order: by key, and entries of one key as they were kept.
+///
+/// A summary is defined by that list, so however a reporter orders what it keeps, there is one text that is right.
+pub fn one_final_order()
+    ensures exists { (kept : List KeptEntry) → IsFinalOrder kept (final_order kept) }
+    ensures only { (kept order : List KeptEntry) → IsFinalOrder kept order → order ≡ final_order kept }
+{}
 
 /// Writes the entries as they stand.
 pub fn write_entries<W: WriteStr>(

@@ -1,6 +1,6 @@
 //! The calls of a reporter, and the run of a list of calls.
 
-ghost use Rattle.std.specs.Prelude.{◌≡◌, ◌≤◌, ◌⊎◌, List, ℕ, [], ◌∷◌, ◌++◌, OnOk, OnErr, IfErr, IsErrOf, length, reverse, true, false};
+ghost use Rattle.std.specs.Prelude.{◌≡◌, ◌≤◌, ◌⊎◌, ◌+◌, List, ℕ, [], ◌∷◌, ◌++◌, OnOk, OnErr, IfErr, IsErrOf, length, reverse, take, true, false};
 ghost use Rattle.std.specs.Option.{option_to_list};
 ghost use Rattle.std.specs.List.Sorted.{IsStable};
 ghost use Rattle.report_text.specs.Writer.{Puts, one_further};
@@ -17,7 +17,7 @@ use super::calls::ReportCall;
 use super::faults::{RunFault, WriteEventError};
 use super::kept::{KeptEntry, sort_entries, write_entries};
 use super::run_text::{write_run_finished, write_run_started};
-use super::settings::{Settings, styles_for};
+use super::settings::{Settings, styles_for, theme_for};
 use super::status_line::write_status_line;
 use report_text::write_str::{WriteFault, WriteStr};
 use run_model::event::{TestEvent, TestEventKind};
@@ -71,7 +71,7 @@ impl DisplayReporterBuilder {
                     mode: self.mode,
                     status_levels: resolved.status_levels,
                     styles: styles_for(self.should_colorize),
-                    use_unicode,
+                    theme_characters: theme_for(use_unicode),
                 },
                 has_failed: false,
             },
@@ -357,6 +357,7 @@ fn write_listed<W: WriteStr>(
 ///
 /// On `Ok` the writer has accepted the report of the calls and delivered it. On a fault at a place it has accepted the
 /// report of the calls before that place and a beginning of the text of the call there.
+#[tactic(auto, using(crate::proofs::Calls::all_accepted))]
 pub fn run_report<'a, W: WriteStr>(
     alloc: Global,
     builder: DisplayReporterBuilder,
@@ -370,7 +371,11 @@ pub fn run_report<'a, W: WriteStr>(
     ensures ok { let config = configured builder use_unicode is_terminal is_ci display_empty_outputs in
         OnOk result (W.meaning.accepts writer.old (report config (reverse calls.now)) writer.new) }
     ensures delivered { OnOk result (W.meaning.is_delivered writer.new) }
+    ensures accepted { let config = configured builder use_unicode is_terminal is_ci display_empty_outputs in
+        OnOk result (AreAccepted config calls.now) }
     ensures position { IfErr result (λ stop. stop.position ≤ length calls.now) }
+    ensures accepted_before { let config = configured builder use_unicode is_terminal is_ci display_empty_outputs in
+        IfErr result (λ stop. AreAccepted config (take (stop.position + 1) calls.now)) }
     ensures err { let config = configured builder use_unicode is_terminal is_ci display_empty_outputs in
         IfErr result (λ stop. StopsAfter W.meaning writer.old (report config (past_at calls.now stop.position)) (text_at config calls.now stop.position) stop.fault writer.new) }
     ensures kept { OnOk result (W.meaning.failures writer.new ≡ W.meaning.failures writer.old) }

@@ -29,7 +29,7 @@ pub fn write_status_line<W: WriteStr>(
 {
     write_status_prefix(w, styles, is_final, summary)?;
     DisplayBracketedDuration(summary.time_taken).write_to(w)?;
-    DisplayTestInstance::new(instance, &styles.list_styles).write_to(w)?;
+    DisplayTestInstance::new(None, None, instance, &styles.list_styles).write_to(w)?;
     write_plain(w, "\n")?;
     write_flaky_failure_line(w, styles, is_final, summary.case)
 }

@@ -1,7 +1,7 @@
 //! What the fields of a scene may hold. Each function answers None for a bad field.
 
-ghost use Rattle.std.specs.Prelude.{◌≡◌};
-ghost use Rattle.report.specs.Values.{ReadsWord, flag_word, final_level_word, reason_word};
+ghost use Rattle.std.specs.Prelude.{◌≡◌, ◌↔◌, IsSome, codes};
+ghost use Rattle.report.specs.Values.{Reads, ReadsOnly, ReadsWord, IsResultText, config_key_word, flag_word, final_level_word, output_form_word, reason_word};
 
 use super::numbers::{read_code, read_count};
 use run_model::config::TestOutputDisplay;
@@ -17,7 +17,9 @@ pub enum ConfigKey {
 }
 
 /// The key of a `config` line.
-pub fn read_config_key(field: &str) -> Option<ConfigKey> {
+pub fn read_config_key(field: &str) -> Option<ConfigKey>
+    ensures { ReadsWord config_key_word field.now result }
+{
     match field {
         "final" => Some(ConfigKey::Final),
         _ => None,
@@ -32,7 +34,9 @@ pub enum OutputForm {
 }
 
 /// The form of an output.
-pub fn read_output_form(field: &str) -> Option<OutputForm> {
+pub fn read_output_form(field: &str) -> Option<OutputForm>
+    ensures { ReadsWord output_form_word field.now result }
+{
     match field {
         "split" => Some(OutputForm::Split),
         _ => None,
@@ -40,7 +44,9 @@ pub fn read_output_form(field: &str) -> Option<OutputForm> {
 }
 
 /// The absent value, `-`.
-pub fn read_absent(field: &str) -> Option<()> {
+pub fn read_absent(field: &str) -> Option<()>
+    ensures { IsSome result ↔ (field.now ≡ codes "-") }
+{
     match field {
         "-" => Some(()),
         _ => None,
@@ -76,7 +82,9 @@ pub fn read_final_level(field: &str) -> Option<FinalStatusLevel>
 }
 
 /// When an output is shown.
-pub fn read_display(field: &str) -> Option<TestOutputDisplay> {
+pub fn read_display(field: &str) -> Option<TestOutputDisplay>
+    ensures { ReadsOnly TestOutputDisplay.Never (codes "never") field.now result }
+{
     match field {
         "never" => Some(TestOutputDisplay::Never),
         _ => None,
@@ -84,7 +92,9 @@ pub fn read_display(field: &str) -> Option<TestOutputDisplay> {
 }
 
 /// What a success after earlier attempts counts as.
-pub fn read_flaky_result(field: &str) -> Option<FlakyResult> {
+pub fn read_flaky_result(field: &str) -> Option<FlakyResult>
+    ensures { ReadsOnly FlakyResult.Pass (codes "pass") field.now result }
+{
     match field {
         "pass" => Some(FlakyResult::Pass),
         _ => None,
@@ -92,7 +102,9 @@ pub fn read_flaky_result(field: &str) -> Option<FlakyResult> {
 }
 
 /// How an attempt ended: `pass`, or `fail:` and an exit code.
-pub fn read_result(field: &str) -> Option<ExecutionResultDescription> {
+pub fn read_result(field: &str) -> Option<ExecutionResultDescription>
+    ensures { Reads IsResultText field.now result }
+{
     match field.split_once(':') {
         None if field == "pass" => Some(ExecutionResultDescription::Pass),
         Some(("fail", code)) => Some(ExecutionResultDescription::Fail {

@@ -1,6 +1,7 @@
 use Rattle.std.proofs.Common.{rules}
 use Rattle.std.proofs.lemmas.Result.{on_ok_weaker, IfErr-weaker}
-use Rattle.console_reporter.proofs.Calls.{stopped_io, stopped_known}
+use Rattle.console_reporter.specs.Configuration.{configured}
+use Rattle.console_reporter.proofs.Calls.{accepted_until, stopped_io, stopped_known}
 use Rattle.console_reporter.proofs.imp.reporter.run_report.Goals as goal
 
 pub returns-clause-ok : goal.returns-clause-ok
@@ -17,3 +18,6 @@ returns-clause-io g c = IfErr-weaker _ _ _ (λ stop h. stopped_io g.met.W.WriteS
 
 pub returns-clause-known : goal.returns-clause-known
 returns-clause-known g c = IfErr-weaker _ _ _ (λ stop h. stopped_known g.met.W.WriteStr.laws _ _ _ _ _ h) (returns-clause-err g c)
+
+pub returns-clause-accepted_before : goal.returns-clause-accepted_before
+returns-clause-accepted_before g c = accepted_until (configured c.args.builder c.args.use_unicode c.args.is_terminal c.args.is_ci c.args.display_empty_outputs) c.args.calls.now c.make_calls-outcome.result

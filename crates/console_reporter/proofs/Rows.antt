@@ -1,0 +1,114 @@
+-- Worked rows: what the definitions say of a run that is written out.
+use Rattle.std.proofs.Common.{◌≡◌, ℕ, Bool, true, false, List, [], ◌∷◌, codes, refl, None}
+use Rattle.std.specs.Fmt.{digits}
+use Rattle.std.specs.Str.{chars}
+use Rattle.uuid.specs.Text.{by_index}
+use Rattle.run_model.specs.declared.config.NextestRunMode.TheVariants.{Test}
+use Rattle.run_model.specs.declared.event.TestEvent.{TestEvent}
+use Rattle.run_model.specs.declared.event.TestEventKind.TheVariants.{TestFinished, RunFinished}
+use Rattle.run_model.specs.declared.level.StatusLevel.TheVariants as status
+use Rattle.run_model.specs.declared.level.FinalStatusLevel.TheVariants as final
+use Rattle.run_model.specs.declared.name.TestInstanceId.{TestInstanceId}
+use Rattle.run_model.specs.declared.stats.RunFinishedStats.TheVariants.{Single}
+use Rattle.run_model.specs.declared.stats.RunStats.{RunStats}
+use Rattle.run_model.specs.declared.status.ExecutionResultDescription.TheVariants as outcome
+use Rattle.run_model.specs.declared.status.FailureDescription.{FailureDescription}
+use Rattle.run_model.specs.declared.status.FlakyResult.TheVariants as flaky
+use Rattle.run_model.specs.declared.time.Nanos.{Nanos}
+use Rattle.run_model.specs.Names.{last_colons}
+use Rattle.run_model.specs.Attempts.{Attempts}
+use Rattle.run_model.specs.Statuses.{summary_of}
+use Rattle.report_text.specs.Plural.{tests_word_if, binaries_word}
+use Rattle.report_text.specs.Styles.{part_text, styles_of}
+use Rattle.report_text.specs.Words.{right_in}
+use Rattle.report_text.specs.Theme.{hbar_text}
+use Rattle.console_reporter.specs.Configuration.{theme_of}
+use Rattle.console_reporter.specs.Order.{ordered_by, put_in}
+use Rattle.console_reporter.specs.Entries.{cancel, entry_of, kept, final_order}
+use Rattle.console_reporter.specs.RunTexts.{bar_line, run_id_text, id_text, with_profile, run_id_line, starting_line, run_started_text, initial_count_text, run_counts_text, summary_line, run_finished_text}
+use Rattle.console_reporter.specs.StatusLines.{status_prefix, flaky_failure_line, status_line}
+use Rattle.console_reporter.specs.declared.imp.calls.ReportCall.TheVariants.{Event}
+use Rattle.console_reporter.specs.declared.imp.settings.Settings.{Settings}
+use Rattle.console_reporter.specs.StatsTexts.{summary_text, counted_text, passed_notes, passed_note, notes_end, failed_counts, failed_count, leaky_failed_note, exec_failed_count, timed_out_count, other_failed_count}
+use Rattle.report_text.specs.Numbers.{seconds, with_point}
+use Rattle.report_text.specs.Instances.{test_text, stress_prefix, counter_prefix, name_text}
+use Rattle.unit_report.specs.Durations.{bracketed_duration}
+
+-- level Pass, final level Fail, and no colour
+abbrev settings : Settings
+settings = record {
+  mode = Test;
+  status_levels = record { status_level = status.Pass; final_status_level = final.Fail };
+  styles = styles_of false;
+  theme_characters = theme_of false;
+}
+
+-- the run's id 00000000-0000-4000-8000-000000000001
+abbrev run_id : List ℕ
+run_id = 0 ∷ 0 ∷ 0 ∷ 0 ∷ 0 ∷ 0 ∷ 64 ∷ 0 ∷ 128 ∷ 0 ∷ 0 ∷ 0 ∷ 0 ∷ 0 ∷ 0 ∷ 1 ∷ []
+
+start : run_started_text settings None (record { run_count = 2; listed_binary_count = 1 }) run_id (codes "default")
+    ≡ codes "------------\n Nextest run ID 00000000-0000-4000-8000-000000000001 with nextest profile: default\n    Starting 2 tests across 1 binary\n"
+unfolding run_started_text run_id_line id_text run_id_text with_profile starting_line bar_line hbar_text lib.Utf8.encode part_text right_in chars by_index digits tests_word_if binaries_word
+start = refl
+
+-- two tests ran, one passed and one failed
+abbrev stats : RunStats
+stats = record {
+  initial_run_count = 2;
+  finished_count = 2;
+  passed = 1;
+  passed_slow = 0;
+  flaky = 0;
+  leaky = 0;
+  failed = 1;
+  leaky_failed = 0;
+  exec_failed = 0;
+  timed_out = 0;
+  skipped = 0;
+  setup_scripts_failed = 0;
+  setup_scripts_exec_failed = 0;
+  setup_scripts_timed_out = 0;
+  cancel_reason = None;
+}
+
+summary : run_finished_text settings 1520000000 (Single stats) ≡ codes "------------\n     Summary [   1.520s] 2 tests run: 1 passed, 1 failed, 0 skipped\n"
+unfolding run_finished_text summary_line run_counts_text initial_count_text bar_line hbar_text lib.Utf8.encode part_text right_in chars digits tests_word_if bracketed_duration seconds with_point
+    summary_text counted_text passed_notes passed_note notes_end failed_counts failed_count leaky_failed_note exec_failed_count timed_out_count other_failed_count
+summary = refl
+
+-- a test that failed at its one attempt, after so long
+abbrev failed : FailureDescription → Nanos → Attempts
+failed failure time = record {
+  earlier = [];
+  last = record {
+    retry_data = record { attempt = 1; total_attempts = 1 };
+    result = outcome.Fail failure;
+    time_taken = time;
+    is_slow = false;
+  };
+  flaky_result = flaky.Fail;
+}
+
+lasted : bracketed_duration 1500000000 ≡ codes "[   1.500s] "
+unfolding bracketed_duration seconds with_point part_text right_in chars digits
+lasted = refl
+
+named : test_text settings.styles.list_styles None None (codes "alpha") (codes "mod::t2") ≡ codes "alpha mod::t2"
+unfolding test_text stress_prefix counter_prefix name_text part_text last_colons
+named = refl
+
+-- its line, at once and in the summary
+failed_line : (is_final : Bool) (test : TestInstanceId) (failure : FailureDescription) (time : Nanos) →
+    test.binary_id.now ≡ codes "alpha" → test.test_name.now ≡ codes "mod::t2" → time.0 ≡ 1500000000 →
+    status_line settings.styles is_final test (summary_of (failed failure time)) ≡ codes "        FAIL [   1.500s] alpha mod::t2\n"
+unfolding status_line status_prefix flaky_failure_line part_text right_in chars
+failed_line true test failure time binary name after = rw (binary, name, after, lasted, named) refl
+failed_line false test failure time binary name after = rw (binary, name, after, lasted, named) refl
+
+-- what a second end of the run finds kept: the same entries
+twice : (event finish : TestEvent) (test : TestInstanceId) (failure : FailureDescription) (time elapsed : Nanos) →
+    event.kind ≡ TestFinished test (failed failure time) stats → finish.kind ≡ RunFinished elapsed (Single stats) →
+    final_order (kept settings (Event finish ∷ Event event ∷ [])) ≡ record { instance = test; summary = summary_of (failed failure time) } ∷ []
+unfolding kept entry_of cancel ordered_by put_in
+twice event finish test failure time elapsed is end = rw (is, end) refl
