@@ -8,6 +8,7 @@ pub mod durations;
 pub mod failure;
 pub mod instance;
 pub mod interceptor;
+mod max_width;
 pub mod paths;
 pub mod plural;
 pub mod quoting;
