@@ -34,7 +34,7 @@ use Rattle.console_reporter.specs.declared.imp.calls.ReportCall.TheVariants.{Eve
 use Rattle.console_reporter.specs.declared.imp.settings.Settings.{Settings}
 use Rattle.console_reporter.specs.StatsTexts.{summary_text, counted_text, passed_notes, passed_note, notes_end, failed_counts, failed_count, leaky_failed_note, exec_failed_count, timed_out_count, other_failed_count}
 use Rattle.report_text.specs.Numbers.{seconds, with_point}
-use Rattle.report_text.specs.Instances.{test_text, stress_prefix, counter_prefix, id_prefix, name_text}
+use Rattle.report_text.specs.Instances.{test_text, stress_prefix, counter_prefix, name_text}
 use Rattle.unit_report.specs.Durations.{bracketed_duration}
 
 -- level Pass, final level Fail, and no colour
@@ -110,7 +110,7 @@ unfolding bracketed_duration seconds with_point part_text right_in chars digits
 lasted = refl
 
 named : test_text settings.styles.list_styles None None (codes "alpha") (codes "mod::t2") ≡ codes "alpha mod::t2"
-unfolding test_text stress_prefix counter_prefix id_prefix name_text part_text last_colons
+unfolding test_text stress_prefix counter_prefix name_text part_text last_colons
 named = refl
 
 -- its line, at once and in the summary

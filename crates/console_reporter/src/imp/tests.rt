@@ -87,18 +87,15 @@ fn attempt(attempt: u32, total_attempts: u32, has_passed: bool) -> ExecuteStatus
     }
 }
 
-// A test whose attempts passed or failed, the earliest first.
+// A test that finished after these attempts.
 fn finished<'a>(
     alloc: Global,
     binary_id: &'a RustBinaryId,
     test_name: &'a TestCaseName,
-    outcomes: &[bool],
+    attempts: &[ExecuteStatus],
 ) -> Result<ReportCall<'a>, Fail> {
     let mut statuses = Vec::new(alloc);
-    let total = outcomes.len() as u32;
-    for (index, has_passed) in outcomes.iter().enumerate() {
-        statuses.push(attempt(index as u32 + 1, total, *has_passed))?;
-    }
+    statuses.extend_from_slice(attempts)?;
     let Some(run_statuses) = ExecutionStatuses::new(statuses, FlakyResult::Pass) else {
         return Err(Fail::from("there are attempts"));
     };
@@ -125,16 +122,58 @@ fn run_finished<'a>() -> ReportCall<'a> {
     })
 }
 
-#[test]
-fn a_summary_is_the_same_in_all_six_orders(rt: HostRuntime) -> Result<(), Fail> {
-    let alloc = rt.alloc();
-    let binary = RustBinaryId::new(alloc, "a")?;
+// The test of a place: one failed, one passed at its second attempt, one passed.
+fn test_at<'a>(
+    alloc: Global,
+    place: usize,
+    binary_id: &'a RustBinaryId,
+    names: &'a [TestCaseName; 3],
+) -> Result<ReportCall<'a>, Fail> {
+    match place {
+        0 => finished(alloc, binary_id, &names[0], &[attempt(1, 1, false)]),
+        1 => {
+            let attempts = [attempt(1, 2, false), attempt(2, 2, true)];
+            finished(alloc, binary_id, &names[1], &attempts)
+        }
+        _ => finished(alloc, binary_id, &names[2], &[attempt(1, 1, true)]),
+    }
+}
+
+// What is printed of the tests in this order, and of the end of their run.
+fn report_of(alloc: Global, order: [usize; 3]) -> Result<String, Fail> {
+    let binary_id = RustBinaryId::new(alloc, "a")?;
     let names = [
         TestCaseName::new(alloc, "t1")?,
         TestCaseName::new(alloc, "t2")?,
         TestCaseName::new(alloc, "t3")?,
     ];
-    let outcomes: [&[bool]; 3] = [&[false], &[false, true], &[true]];
+    let mut calls = Vec::new(alloc);
+    for place in order {
+        calls.push(test_at(alloc, place, &binary_id, &names)?)?;
+    }
+    calls.push(run_finished())?;
+    printed(alloc, calls.as_slice())
+}
+
+// What is printed of these calls.
+fn printed<'a>(alloc: Global, calls: &'a [ReportCall<'a>]) -> Result<String, Fail> {
+    let mut report = String::new(alloc);
+    let builder = builder(alloc)?;
+    run_report(
+        alloc,
+        builder,
+        &mut report,
+        false,
+        false,
+        false,
+        false,
+        calls,
+    )?;
+    Ok(report)
+}
+
+#[test]
+fn a_summary_is_the_same_in_all_six_orders(rt: HostRuntime) -> Result<(), Fail> {
     let orders = [
         [0, 1, 2],
         [0, 2, 1],
@@ -144,24 +183,7 @@ fn a_summary_is_the_same_in_all_six_orders(rt: HostRuntime) -> Result<(), Fail> 
         [2, 1, 0],
     ];
     for order in orders {
-        let mut calls = Vec::new(alloc);
-        for index in order {
-            calls.push(finished(alloc, &binary, &names[index], outcomes[index])?)?;
-        }
-        calls.push(run_finished())?;
-        let mut report = String::new(alloc);
-        let builder = builder(alloc)?;
-        run_report(
-            alloc,
-            builder,
-            &mut report,
-            false,
-            false,
-            false,
-            false,
-            calls.as_slice(),
-        )?;
-        assert_eq!(rt; report.as_str(), SUMMARY);
+        assert_eq!(rt; report_of(rt.alloc(), order)?.as_str(), SUMMARY);
     }
     Ok(())
 }
