@@ -43,51 +43,47 @@ fn settings() -> [(ShowProgress, ResolvedDisplay, ResolvedDisplay); 5] {
     ]
 }
 
+// Without capture, on a terminal, in CI: and whether there can be a bar.
+const SURROUNDINGS: [(bool, bool, bool, bool); 8] = [
+    (false, true, false, true),
+    (false, true, true, false),
+    (false, false, false, false),
+    (false, false, true, false),
+    (true, true, false, false),
+    (true, true, true, false),
+    (true, false, false, false),
+    (true, false, true, false),
+];
+
+// The levels that are asked for; the status level that comes of them with capture and without, and the final level.
+type LevelRow = (
+    Option<StatusLevel>,
+    Option<FinalStatusLevel>,
+    StatusLevel,
+    StatusLevel,
+    FinalStatusLevel,
+);
+
+// What is asked for, where these levels come of the setting alone.
+fn level_rows(levels: StatusLevels) -> [LevelRow; 4] {
+    let (fail, pass, all) = (StatusLevel::Fail, StatusLevel::Pass, StatusLevel::All);
+    let (final_slow, final_fail) = (FinalStatusLevel::Slow, FinalStatusLevel::Fail);
+    let (status_level, final_status_level) = (levels.status_level, levels.final_status_level);
+    [
+        (None, None, status_level, pass, final_status_level),
+        (Some(fail), None, fail, pass, final_status_level),
+        (None, Some(final_slow), status_level, pass, final_slow),
+        (Some(all), Some(final_fail), all, all, final_fail),
+    ]
+}
+
 #[test]
 fn every_setting_comes_to_its_row(rt: HostRuntime) {
     for (show_progress, with_bar, without_bar) in settings() {
-        for (no_capture, is_terminal, is_ci, expected) in [
-            (false, true, false, with_bar),
-            (false, true, true, without_bar),
-            (false, false, false, without_bar),
-            (false, false, true, without_bar),
-            (true, true, false, without_bar),
-            (true, true, true, without_bar),
-            (true, false, false, without_bar),
-            (true, false, true, without_bar),
-        ] {
-            let levels = expected.status_levels;
-            // The levels asked for, and those that come of them, the status level with capture and without.
-            for (status_level, final_status_level, captured, uncaptured, at_end) in [
-                (
-                    None,
-                    None,
-                    levels.status_level,
-                    StatusLevel::Pass,
-                    levels.final_status_level,
-                ),
-                (
-                    Some(StatusLevel::Fail),
-                    None,
-                    StatusLevel::Fail,
-                    StatusLevel::Pass,
-                    levels.final_status_level,
-                ),
-                (
-                    None,
-                    Some(FinalStatusLevel::Slow),
-                    levels.status_level,
-                    StatusLevel::Pass,
-                    FinalStatusLevel::Slow,
-                ),
-                (
-                    Some(StatusLevel::All),
-                    Some(FinalStatusLevel::Fail),
-                    StatusLevel::All,
-                    StatusLevel::All,
-                    FinalStatusLevel::Fail,
-                ),
-            ] {
+        for (no_capture, is_terminal, is_ci, can_bar) in SURROUNDINGS {
+            let expected = if can_bar { with_bar } else { without_bar };
+            for row in level_rows(expected.status_levels) {
+                let (status_level, final_status_level, captured, uncaptured, at_end) = row;
                 let config = DisplayConfig {
                     show_progress,
                     no_capture,

@@ -41,81 +41,80 @@ fn written(
     Ok(text)
 }
 
-#[test]
-fn skipped_for_one_reason(rt: HostRuntime) -> Result<(), Fail> {
-    for (tests, binaries, section, text) in [
-        ((0, 0, 0), (0, 0), PROFILE, ""),
-        ((0, 1, 0), (0, 0), PROFILE, " (1 test skipped)"),
-        ((0, 0, 0), (1, 0), PROFILE, " (1 binary skipped)"),
-        (
-            (5, 5, 0),
-            (0, 0),
-            PROFILE,
-            " (5 tests skipped that already passed)",
-        ),
-        (
-            (0, 2, 2),
-            (0, 0),
-            PROFILE,
-            " (2 tests skipped via profile.my-profile.default-filter)",
-        ),
-        (
-            (0, 0, 0),
-            (2, 2),
-            OVERRIDE,
-            " (2 binaries skipped via default-filter in profile.my-profile.overrides)",
-        ),
-    ] {
-        let skip_counts = counts(tests, binaries);
-        let styles = Styles::default();
-        let shown = written(
-            rt.alloc(),
-            NextestRunMode::Test,
-            &skip_counts,
-            section,
-            &styles,
-        )?;
-        assert_eq!(rt; shown.as_str(), text);
-    }
-    Ok(())
-}
+// Tests, binaries, the filter's section, and what is written of them.
+type Row = (
+    (usize, usize, usize),
+    (usize, usize),
+    CompiledDefaultFilterSection,
+    &'static str,
+);
+
+const ONE_REASON: [Row; 6] = [
+    ((0, 0, 0), (0, 0), PROFILE, ""),
+    ((0, 1, 0), (0, 0), PROFILE, " (1 test skipped)"),
+    ((0, 0, 0), (1, 0), PROFILE, " (1 binary skipped)"),
+    (
+        (5, 5, 0),
+        (0, 0),
+        PROFILE,
+        " (5 tests skipped that already passed)",
+    ),
+    (
+        (0, 2, 2),
+        (0, 0),
+        PROFILE,
+        " (2 tests skipped via profile.my-profile.default-filter)",
+    ),
+    (
+        (0, 0, 0),
+        (2, 2),
+        OVERRIDE,
+        " (2 binaries skipped via default-filter in profile.my-profile.overrides)",
+    ),
+];
+
+const SEVERAL_REASONS: [Row; 5] = [
+    (
+        (0, 1, 0),
+        (1, 1),
+        OVERRIDE,
+        " (1 test and 1 binary skipped, including 1 binary via default-filter in profile.my-profile.overrides)",
+    ),
+    (
+        (0, 3, 2),
+        (1, 0),
+        PROFILE,
+        " (3 tests and 1 binary skipped, including 2 tests via profile.my-profile.default-filter)",
+    ),
+    (
+        (3, 5, 0),
+        (0, 0),
+        PROFILE,
+        " (5 tests skipped, including 3 tests that already passed)",
+    ),
+    (
+        (2, 2, 0),
+        (1, 1),
+        PROFILE,
+        " (2 tests and 1 binary skipped, including 2 tests that already passed, and 1 binary via profile.my-profile.default-filter)",
+    ),
+    (
+        (2, 6, 3),
+        (2, 1),
+        OVERRIDE,
+        " (6 tests and 2 binaries skipped, including 2 tests that already passed, and 3 tests and 1 binary via default-filter in profile.my-profile.overrides)",
+    ),
+];
 
 #[test]
-fn skipped_for_several_reasons(rt: HostRuntime) -> Result<(), Fail> {
-    for (tests, binaries, section, text) in [
-        (
-            (0, 1, 0),
-            (1, 1),
-            OVERRIDE,
-            " (1 test and 1 binary skipped, including 1 binary via default-filter in profile.my-profile.overrides)",
-        ),
-        (
-            (0, 3, 2),
-            (1, 0),
-            PROFILE,
-            " (3 tests and 1 binary skipped, including 2 tests via profile.my-profile.default-filter)",
-        ),
-        (
-            (3, 5, 0),
-            (0, 0),
-            PROFILE,
-            " (5 tests skipped, including 3 tests that already passed)",
-        ),
-        (
-            (2, 2, 0),
-            (1, 1),
-            PROFILE,
-            " (2 tests and 1 binary skipped, including 2 tests that already passed, and 1 binary via profile.my-profile.default-filter)",
-        ),
-        (
-            (2, 6, 3),
-            (2, 1),
-            OVERRIDE,
-            " (6 tests and 2 binaries skipped, including 2 tests that already passed, and 3 tests and 1 binary via default-filter in profile.my-profile.overrides)",
-        ),
-    ] {
+fn skipped_for_reasons(rt: HostRuntime) -> Result<(), Fail> {
+    let styles = Styles::default();
+    for (tests, binaries, section, text) in ONE_REASON
+        .iter()
+        .chain(SEVERAL_REASONS.iter())
+        .copied()
+    {
         let skip_counts = counts(tests, binaries);
-        let styles = Styles::default();
         let shown = written(
             rt.alloc(),
             NextestRunMode::Test,
