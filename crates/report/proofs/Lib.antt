@@ -1,3 +1,4 @@
 pub mod Cuts
+pub mod Options
 pub mod Unescaped
 pub mod Zips

@@ -47,7 +47,7 @@ pub fn write_report<W: Write + Drop>(
     ensures { IfErr result (λ fault. status_of fault ≡ 3) }
 {
     let calls = scene.calls(alloc, options)?;
-    let builder = builder_of(alloc, scene)?;
+    let builder = builder_of(alloc, options, scene)?;
     let Ok(mut out) = TextBuffer::new(alloc, writer) else {
         return Err(Fault::OutOfMemory);
     };
@@ -67,8 +67,12 @@ pub fn write_report<W: Write + Drop>(
     }
 }
 
-// What the scene's reporter is built from: test mode, plain, status level Pass and no counter.
-fn builder_of(alloc: Global, scene: &Scene) -> Result<DisplayReporterBuilder, OutOfMemory> {
+// What the scene's reporter is built from: test mode, status level Pass and no counter.
+fn builder_of(
+    alloc: Global,
+    options: &Options<'_>,
+    scene: &Scene,
+) -> Result<DisplayReporterBuilder, OutOfMemory> {
     Ok(DisplayReporterBuilder {
         mode: NextestRunMode::Test,
         default_filter: CompiledDefaultFilter {
@@ -84,7 +88,7 @@ fn builder_of(alloc: Global, scene: &Scene) -> Result<DisplayReporterBuilder, Ou
         run_count: 0,
         success_output: None,
         failure_output: None,
-        should_colorize: false,
+        should_colorize: options.should_colorize,
         verbose: false,
         no_output_indent: false,
         displayer_kind: DisplayerKind::Live,

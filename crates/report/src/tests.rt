@@ -3,6 +3,7 @@
 use crate::fault::Fault;
 use crate::program::{judge, write_report};
 use crate::words::{Options, words};
+use bstr::ByteSlice;
 use std::alloc::Global;
 use std::io;
 use std::io::{ErrorKind, Read, Write};
@@ -15,7 +16,15 @@ const DONE: &str =
 
 const END: &str = "end\t1520000000\tinitial=2 finished=2 passed=1 failed=1\t0\t-";
 
-const OPTIONS: Options<'static> = Options { file: "FILE" };
+const OPTIONS: Options<'static> = Options {
+    should_colorize: false,
+    file: "FILE",
+};
+
+const IN_COLOUR: Options<'static> = Options {
+    should_colorize: true,
+    ..OPTIONS
+};
 
 // Two tests, one of which fails, and the end of the run.
 const TWO_TESTS: &str = "config\tfinal\tfail\n\
@@ -37,11 +46,20 @@ const SUMMARY: &str = "------------
 ";
 
 // What the program prints of a scene that it accepts.
-fn report_of(alloc: Global, scene: &[u8]) -> Result<Vec<u8>, Fail> {
+fn report_of(alloc: Global, options: &Options<'_>, scene: &[u8]) -> Result<Vec<u8>, Fail> {
     let mut printed = Vec::new(alloc);
-    let scene = judge(alloc, &OPTIONS, scene)?;
-    write_report(alloc, &OPTIONS, &scene, &mut printed)?;
+    let scene = judge(alloc, options, scene)?;
+    write_report(alloc, options, &scene, &mut printed)?;
     Ok(printed)
+}
+
+// The texts, as the words of a command line.
+fn words_of(alloc: Global, texts: &[&str]) -> Result<Vec<String>, Fail> {
+    let mut args = Vec::with_capacity(alloc, texts.len())?;
+    for text in texts {
+        args.push(String::from_str(alloc, text)?)?;
+    }
+    Ok(args)
 }
 
 #[test]
@@ -49,16 +67,32 @@ fn prints_a_run(rt: HostRuntime) -> Result<(), Fail> {
     let alloc = rt.alloc();
     let once = format!(in alloc; "{BEGINNING}{SUMMARY}")?;
     assert_eq!(rt;
-        report_of(alloc, TWO_TESTS.as_bytes())?.as_slice(),
+        report_of(alloc, &OPTIONS, TWO_TESTS.as_bytes())?.as_slice(),
         once.as_bytes()
     );
     let ends_twice = format!(in alloc; "{TWO_TESTS}{END}")?;
     let twice = format!(in alloc; "{BEGINNING}{SUMMARY}{SUMMARY}")?;
     assert_eq!(rt;
-        report_of(alloc, ends_twice.as_bytes())?.as_slice(),
+        report_of(alloc, &OPTIONS, ends_twice.as_bytes())?.as_slice(),
         twice.as_bytes()
     );
-    assert!(rt; report_of(alloc, b"")?.is_empty());
+    assert!(rt; report_of(alloc, &OPTIONS, b"")?.is_empty());
+    Ok(())
+}
+
+#[test]
+fn prints_in_colour(rt: HostRuntime) -> Result<(), Fail> {
+    let args = words_of(rt.alloc(), &["--color", "FILE"])?;
+    let Some(options) = words(args.as_slice()) else {
+        return Err(Fail::from("these are words of the program"));
+    };
+    let printed = report_of(rt.alloc(), &options, TWO_TESTS.as_bytes())?;
+    let line =
+        "\x1b[32;1m        PASS\x1b[0m [   0.005s] \x1b[35;1malpha\x1b[0m \x1b[34;1mt1\x1b[0m";
+    assert_eq!(rt;
+        printed.as_slice().split_str(b"\n").nth(3),
+        Some(line.as_bytes())
+    );
     Ok(())
 }
 
@@ -295,37 +329,32 @@ fn cannot_read_a_failing_file(rt: HostRuntime) -> Result<(), Fail> {
     Ok(())
 }
 
-// What the words ask for: the file, or the usage fault.
-fn file_of<'a>(args: &'a [String]) -> Result<&'a str, Fault<'a>> {
-    match words(args) {
-        Some(options) => Ok(options.file),
-        None => Err(Fault::Usage),
-    }
-}
-
 #[test]
-fn takes_one_word(rt: HostRuntime) -> Result<(), Fail> {
+fn reads_words(rt: HostRuntime) -> Result<(), Fail> {
     let alloc = rt.alloc();
-    let usage =
-        "report: usage: report [--color] [--counter] [--replay] [--unload] [--level L] FILE";
-    let lines: [(&[&str], Option<&str>); 4] = [
-        (&["first.scene"], Some("first.scene")),
-        (&["--color"], Some("--color")),
+    let lines: [(&[&str], Option<Options<'static>>); 8] = [
+        (&["FILE"], Some(OPTIONS)),
+        (&["--color", "FILE"], Some(IN_COLOUR)),
+        (
+            &["--color", "--color"],
+            Some(Options {
+                file: "--color",
+                ..IN_COLOUR
+            }),
+        ),
         (&[], None),
-        (&["--bogus", "first.scene"], None),
+        (&["--bogus", "FILE"], None),
+        (&["FILE", "--color"], None),
+        (&["--color", "--color", "FILE"], None),
+        (&["--Color", "FILE"], None),
     ];
-    for (args, file) in lines {
-        let mut texts = Vec::new(alloc);
-        for arg in args {
-            texts.push(String::from_str(alloc, arg)?)?;
-        }
-        match file_of(texts.as_slice()) {
-            Ok(named) => assert_eq!(rt; Some(named), file),
-            Err(fault) => {
-                assert_eq!(rt; file, None);
-                assert_eq!(rt; fault.to_string(alloc)?.as_str(), usage);
-            }
-        }
+    for (texts, options) in lines {
+        let args = words_of(alloc, texts)?;
+        assert_eq!(rt; words(args.as_slice()), options);
     }
+    assert_eq!(rt;
+        Fault::Usage.to_string(alloc)?.as_str(),
+        "report: usage: report [--color] [--counter] [--replay] [--unload] [--level L] FILE"
+    );
     Ok(())
 }
