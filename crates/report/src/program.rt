@@ -1,7 +1,9 @@
 //! What the program does with a scene, over any reader and any writer.
 
-ghost use Rattle.std.specs.Prelude.{◌≡◌, IfErr};
+ghost use Rattle.std.specs.Prelude.{◌≡◌, ◌⊎◌, IfOk, IfErr, OnOk};
 ghost use Rattle.report.specs.Faults.{IsJudgeFault, status_of};
+ghost use Rattle.report.specs.Reports.{AcceptsReport, IsRefused, StopsReport, builder_for, fault_for};
+ghost use Rattle.report.specs.declared.fault.Fault.{Fault};
 
 use crate::fault::Fault;
 use crate::reader::read_scene;
@@ -9,10 +11,9 @@ use crate::scene::Scene;
 use crate::words::Options;
 use console_reporter::config::{DisplayConfig, ShowProgress};
 use console_reporter::imp::{DisplayReporterBuilder, DisplayerKind, WriteEventError, run_report};
-use console_reporter::write_str::TextBuffer;
+use console_reporter::write_str::{TextBuffer, WriteStr};
 use run_model::config::{CompiledDefaultFilter, CompiledDefaultFilterSection, NextestRunMode};
 use run_model::level::StatusLevel;
-use run_model::memory::OutOfMemory;
 use run_model::name::ProfileName;
 use std::alloc::Global;
 use std::io::{ErrorKind, Read, Write};
@@ -37,7 +38,7 @@ pub fn judge<'a, R: Read + Drop>(
     read_scene(alloc, text.as_slice())
 }
 
-/// Writes the report of a scene. On a fault a beginning of it was written.
+/// Writes the report of a scene to a device. On a fault a beginning of it was written.
 pub fn write_report<W: Write + Drop>(
     alloc: Global,
     options: &Options<'_>,
@@ -46,16 +47,32 @@ pub fn write_report<W: Write + Drop>(
 ) -> Result<(), Fault<'static>>
     ensures { IfErr result (λ fault. status_of fault ≡ 3) }
 {
-    let calls = scene.calls(alloc, options)?;
-    let builder = builder_of(alloc, options, scene)?;
     let Ok(mut out) = TextBuffer::new(alloc, writer) else {
         return Err(Fault::OutOfMemory);
     };
+    report_to(alloc, options, scene, &mut out)
+}
+
+/// Writes the report of a scene, and delivers it. On a fault the writer has accepted a beginning of the report, which is
+/// the empty one where memory is refused for the scene's calls.
+pub fn report_to<W: WriteStr>(
+    alloc: Global,
+    options: &Options<'_>,
+    scene: &Scene,
+    writer: &mut W,
+) -> Result<(), Fault<'static>>
+    ensures ok { OnOk result (AcceptsReport W.meaning options.now scene.now writer.old writer.new) }
+    ensures delivered { OnOk result (W.meaning.is_delivered writer.new) }
+    ensures err { IfErr result (λ fault. IsRefused writer.old fault writer.new ⊎ StopsReport W.meaning options.now scene.now writer.old fault writer.new) }
+    ensures status { IfErr result (λ fault. status_of fault ≡ 3) }
+{
+    let calls = scene.calls(alloc, options)?;
+    let builder = builder_of(alloc, options, scene)?;
     let (use_unicode, is_terminal, is_ci, display_empty_outputs) = (false, false, false, false);
     match run_report(
         alloc,
         builder,
-        &mut out,
+        writer,
         use_unicode,
         is_terminal,
         is_ci,
@@ -72,7 +89,10 @@ fn builder_of(
     alloc: Global,
     options: &Options<'_>,
     scene: &Scene,
-) -> Result<DisplayReporterBuilder, OutOfMemory> {
+) -> Result<DisplayReporterBuilder, Fault<'static>>
+    ensures ok { IfOk result (λ builder. builder ≡ builder_for options.now scene.now) }
+    ensures err { IfErr result (λ fault. fault ≡ Fault.OutOfMemory) }
+{
     Ok(DisplayReporterBuilder {
         mode: NextestRunMode::Test,
         default_filter: CompiledDefaultFilter {
@@ -97,7 +117,7 @@ fn builder_of(
 
 // The program's fault where its report stopped.
 fn fault_of(error: WriteEventError) -> Fault<'static>
-    ensures { status_of result ≡ 3 }
+    ensures { result ≡ fault_for error }
 {
     match error {
         WriteEventError::Io | WriteEventError::Failed => Fault::WriteFailed,
