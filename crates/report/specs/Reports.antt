@@ -1,10 +1,9 @@
 -- What the program writes of a scene.
-use Rattle.std.specs.Prelude.{◌≡◌, List, reverse, false, None, codes}
+use Rattle.std.specs.Prelude.{◌≡◌, List, reverse, false, if◌then◌else◌, None, codes}
 use Rattle.std.specs.List.{AllZip}
-use Rattle.run_model.specs.declared.config.NextestRunMode.TheVariants.{Test}
 use Rattle.run_model.specs.declared.config.CompiledDefaultFilterSection.TheVariants.{Profile}
-use Rattle.run_model.specs.declared.level.StatusLevel.TheVariants as status
 use Rattle.unit_report.specs.Levels.{overridden}
+use Rattle.unit_report.specs.declared.config.ShowProgress.{ShowProgress}
 use Rattle.unit_report.specs.declared.config.ShowProgress.TheVariants as progress
 use Rattle.unit_report.specs.declared.unit_output.DisplayerKind.TheVariants.{Live}
 use Rattle.report_text.specs.Words.{Text}
@@ -26,13 +25,17 @@ use Rattle.report.specs.declared.words.Options.{Options}
 abbrev pub AreCallsOf : Scene → List ReportCall → Type 0
 AreCallsOf scene calls = AllZip IsCallOf scene.events.items calls
 
--- what a scene's reporter is built from: a test run without counter, shown from status level Pass on
+-- a counter, or nothing
+abbrev pub progress_for : Options → ShowProgress
+progress_for options = if options.show_counter then progress.Counter else progress.None
+
+-- what a scene's reporter is built from; the default filter is the default profile's own
 abbrev pub builder_for : Options → Scene → DisplayReporterBuilder
 builder_for options scene = record {
-  mode = Test;
+  mode = scene.config.mode;
   default_filter = record { profile = codes "default"; section = Profile };
-  display_config = overridden progress.None false status.Pass scene.config.final_status_level;
-  run_count = 0;
+  display_config = overridden (progress_for options) false options.status_level scene.config.final_status_level;
+  run_count = scene.config.run_count;
   success_output = None;
   failure_output = None;
   should_colorize = options.should_colorize;

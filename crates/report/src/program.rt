@@ -2,7 +2,7 @@
 
 ghost use Rattle.std.specs.Prelude.{◌≡◌, ◌⊎◌, IfOk, IfErr, OnOk};
 ghost use Rattle.report.specs.Faults.{IsJudgeFault, status_of};
-ghost use Rattle.report.specs.Reports.{AcceptsReport, IsRefused, StopsReport, builder_for, fault_for};
+ghost use Rattle.report.specs.Reports.{AcceptsReport, IsRefused, StopsReport, builder_for, fault_for, progress_for};
 ghost use Rattle.report.specs.declared.fault.Fault.{Fault};
 
 use crate::fault::Fault;
@@ -12,8 +12,7 @@ use crate::words::Options;
 use console_reporter::config::{DisplayConfig, ShowProgress};
 use console_reporter::imp::{DisplayReporterBuilder, DisplayerKind, WriteEventError, run_report};
 use console_reporter::write_str::{TextBuffer, WriteStr};
-use run_model::config::{CompiledDefaultFilter, CompiledDefaultFilterSection, NextestRunMode};
-use run_model::level::StatusLevel;
+use run_model::config::{CompiledDefaultFilter, CompiledDefaultFilterSection};
 use run_model::name::ProfileName;
 use std::alloc::Global;
 use std::io::{ErrorKind, Read, Write};
@@ -84,7 +83,7 @@ pub fn report_to<W: WriteStr>(
     }
 }
 
-// What the scene's reporter is built from: test mode, status level Pass and no counter.
+// What the scene's reporter is built from.
 fn builder_of(
     alloc: Global,
     options: &Options<'_>,
@@ -94,18 +93,18 @@ fn builder_of(
     ensures err { IfErr result (λ fault. fault ≡ Fault.OutOfMemory) }
 {
     Ok(DisplayReporterBuilder {
-        mode: NextestRunMode::Test,
+        mode: scene.config.mode,
         default_filter: CompiledDefaultFilter {
             profile: ProfileName::new(alloc, "default")?,
             section: CompiledDefaultFilterSection::Profile,
         },
         display_config: DisplayConfig::with_overrides(
-            ShowProgress::None,
+            progress_for(options),
             false,
-            StatusLevel::Pass,
+            options.status_level,
             scene.config.final_status_level,
         ),
-        run_count: 0,
+        run_count: scene.config.run_count,
         success_output: None,
         failure_output: None,
         should_colorize: options.should_colorize,
@@ -113,6 +112,17 @@ fn builder_of(
         no_output_indent: false,
         displayer_kind: DisplayerKind::Live,
     })
+}
+
+// A counter, or nothing.
+fn progress_for(options: &Options<'_>) -> ShowProgress
+    ensures { result ≡ progress_for options.now }
+{
+    if options.show_counter {
+        ShowProgress::Counter
+    } else {
+        ShowProgress::None
+    }
 }
 
 // The program's fault where its report stopped.

@@ -19,6 +19,7 @@ use crate::scene::{Scene, SceneConfig};
 use bstr::ByteSlice;
 use fields::Fields;
 use lines::{LineKind, read_config, read_done, read_end, read_run};
+use run_model::config::NextestRunMode;
 use run_model::level::FinalStatusLevel;
 use std::alloc::Global;
 
@@ -33,6 +34,8 @@ pub fn read_scene(alloc: Global, text: &[u8]) -> Result<Scene, Fault<'static>>
 {
     let config = SceneConfig {
         final_status_level: FinalStatusLevel::Flaky,
+        run_count: 0,
+        mode: NextestRunMode::Test,
     };
     let mut scene = Scene {
         config,

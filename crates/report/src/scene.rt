@@ -5,6 +5,7 @@ ghost use Rattle.std.specs.Prelude.{◌≡◌, [], IfOk, IfErr};
 use crate::fault::Fault;
 use crate::words::Options;
 use console_reporter::imp::ReportCall;
+use run_model::config::NextestRunMode;
 use run_model::event::{TestCounts, TestEvent, TestEventKind};
 use run_model::level::FinalStatusLevel;
 use run_model::memory::OutOfMemory;
@@ -29,6 +30,10 @@ pub struct Scene {
 pub struct SceneConfig {
     /// The level from which on the summary lists a test.
     pub final_status_level: FinalStatusLevel,
+    /// How many tests the run has, which decides the width of a counter that is not known.
+    pub run_count: usize,
+    /// Whether the run runs tests or benchmarks.
+    pub mode: NextestRunMode,
 }
 
 /// An event of a run.

@@ -4,6 +4,7 @@ use crate::fault::Fault;
 use crate::program::{judge, write_report};
 use crate::words::{Options, words};
 use bstr::ByteSlice;
+use run_model::level::StatusLevel;
 use std::alloc::Global;
 use std::io;
 use std::io::{ErrorKind, Read, Write};
@@ -18,6 +19,8 @@ const END: &str = "end\t1520000000\tinitial=2 finished=2 passed=1 failed=1\t0\t-
 
 const OPTIONS: Options<'static> = Options {
     should_colorize: false,
+    show_counter: false,
+    status_level: StatusLevel::Pass,
     file: "FILE",
 };
 
@@ -93,6 +96,27 @@ fn prints_in_colour(rt: HostRuntime) -> Result<(), Fail> {
         printed.as_slice().split_str(b"\n").nth(3),
         Some(line.as_bytes())
     );
+    Ok(())
+}
+
+#[test]
+fn shows_benchmarks_from_a_level_on(rt: HostRuntime) -> Result<(), Fail> {
+    let alloc = rt.alloc();
+    let options = Options {
+        status_level: StatusLevel::Fail,
+        ..OPTIONS
+    };
+    let scene = format!(in alloc; "config\tbench\t1\n{TWO_TESTS}")?;
+    let printed = report_of(alloc, &options, scene.as_bytes())?;
+    let lines = "------------
+ Nextest run ID 00000000-0000-4000-8000-000000000001 with nextest profile: default
+    Starting 2 benchmarks across 1 binary
+        FAIL [   1.500s] alpha mod::t2
+------------
+     Summary [   1.520s] 2 benchmarks run: 1 passed, 1 failed, 0 skipped
+        FAIL [   1.500s] alpha mod::t2
+";
+    assert_eq!(rt; printed.as_slice(), lines.as_bytes());
     Ok(())
 }
 
@@ -196,9 +220,11 @@ fn tells_the_fault_of_a_line(rt: HostRuntime) -> Result<(), Fail> {
 #[test]
 fn tells_the_first_bad_field(rt: HostRuntime) -> Result<(), Fail> {
     let alloc = rt.alloc();
-    let fields: [(&str, usize, &[&str]); 18] = [
+    let fields: [(&str, usize, &[&str]); 20] = [
         ("config\tfinal\tfail", 2, &["", "Final", "loud"]),
         ("config\tfinal\tfail", 3, &["", "-", "Fail", "retry"]),
+        ("config\truns\t2", 3, &["", "-", "-1"]),
+        ("config\tbench\t1", 3, &["", "-", "2"]),
         (RUN, 2, &["", "-", "00000000-0000-4000-8000-00000000000"]),
         (RUN, 3, &["a\\", "\\q", "\\x80", "\\x4", "\\,"]),
         (RUN, 4, &["", "-", "+1", "-0", "1 ", "18446744073709551616"]),
@@ -257,12 +283,14 @@ fn tells_the_first_bad_field(rt: HostRuntime) -> Result<(), Fail> {
 #[test]
 fn takes_every_form_of_a_value(rt: HostRuntime) -> Result<(), Fail> {
     let alloc = rt.alloc();
-    let fields: [(&str, usize, &[&str]); 9] = [
+    let fields: [(&str, usize, &[&str]); 11] = [
         (
             "config\tfinal\tfail",
             3,
             &["none", "flaky", "slow", "skip", "leak", "pass", "all"],
         ),
+        ("config\truns\t2", 3, &["18446744073709551615"]),
+        ("config\tbench\t1", 3, &["0"]),
         (RUN, 2, &["00000000000040008000000000000001"]),
         (RUN, 3, &["", "-", "\\n\\t\\r\\e\\\\\\x7f\\x4A"]),
         (RUN, 4, &["007", "18446744073709551615"]),
@@ -330,30 +358,59 @@ fn cannot_read_a_failing_file(rt: HostRuntime) -> Result<(), Fail> {
 }
 
 #[test]
-fn reads_words(rt: HostRuntime) -> Result<(), Fail> {
-    let alloc = rt.alloc();
-    let lines: [(&[&str], Option<Options<'static>>); 8] = [
-        (&["FILE"], Some(OPTIONS)),
-        (&["--color", "FILE"], Some(IN_COLOUR)),
+fn takes_options_in_any_order(rt: HostRuntime) -> Result<(), Fail> {
+    let all = Options {
+        show_counter: true,
+        status_level: StatusLevel::Skip,
+        ..IN_COLOUR
+    };
+    let lines: [(&[&str], Options<'static>); 6] = [
+        (&["FILE"], OPTIONS),
+        (&["--color", "FILE"], IN_COLOUR),
         (
             &["--color", "--color"],
-            Some(Options {
+            Options {
                 file: "--color",
                 ..IN_COLOUR
-            }),
+            },
         ),
-        (&[], None),
-        (&["--bogus", "FILE"], None),
-        (&["FILE", "--color"], None),
-        (&["--color", "--color", "FILE"], None),
-        (&["--Color", "FILE"], None),
+        (&["--level", "skip", "--color", "--counter", "FILE"], all),
+        (&["--counter", "--color", "--level", "skip", "FILE"], all),
+        (
+            &["--level", "none", "--level"],
+            Options {
+                status_level: StatusLevel::None,
+                file: "--level",
+                ..OPTIONS
+            },
+        ),
     ];
     for (texts, options) in lines {
-        let args = words_of(alloc, texts)?;
-        assert_eq!(rt; words(args.as_slice()), options);
+        let args = words_of(rt.alloc(), texts)?;
+        assert_eq!(rt; words(args.as_slice()), Some(options));
+    }
+    Ok(())
+}
+
+#[test]
+fn refuses_other_words(rt: HostRuntime) -> Result<(), Fail> {
+    let lines: [&[&str]; 9] = [
+        &[],
+        &["--bogus", "FILE"],
+        &["FILE", "--color"],
+        &["--color", "--color", "FILE"],
+        &["--level", "pass"],
+        &["--level", "Pass", "FILE"],
+        &["--level", "pass", "--level", "pass", "FILE"],
+        &["--level=pass", "FILE"],
+        &["--replay", "FILE"],
+    ];
+    for texts in lines {
+        let args = words_of(rt.alloc(), texts)?;
+        assert!(rt; words(args.as_slice()).is_none());
     }
     assert_eq!(rt;
-        Fault::Usage.to_string(alloc)?.as_str(),
+        Fault::Usage.to_string(rt.alloc())?.as_str(),
         "report: usage: report [--color] [--counter] [--replay] [--unload] [--level L] FILE"
     );
     Ok(())

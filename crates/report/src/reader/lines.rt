@@ -5,7 +5,7 @@ use super::numbers::{read_count, read_nanos, read_small_count};
 use super::texts::is_output;
 use super::values::{
     ConfigKey, OutputForm, read_absent, read_config_key, read_display, read_final_level, read_flag,
-    read_flaky_result, read_output_form, read_result, read_stats,
+    read_flaky_result, read_mode, read_output_form, read_result, read_stats,
 };
 use crate::fault::{LineError, LineFault};
 use crate::scene::{SceneConfig, SceneEvent};
@@ -54,6 +54,8 @@ impl LineKind {
 pub fn read_config(fields: &mut Fields<'_>, config: &mut SceneConfig) -> Result<(), LineFault> {
     match fields.read(read_config_key)? {
         ConfigKey::Final => config.final_status_level = fields.read(read_final_level)?,
+        ConfigKey::Runs => config.run_count = fields.read(read_count)?,
+        ConfigKey::Bench => config.mode = fields.read(read_mode)?,
     }
     Ok(())
 }

@@ -1,10 +1,10 @@
 //! What the fields of a scene may hold. Each function answers None for a bad field.
 
 ghost use Rattle.std.specs.Prelude.{◌≡◌, ◌↔◌, IsSome, codes};
-ghost use Rattle.report.specs.Values.{Reads, ReadsOnly, ReadsWord, IsResultText, config_key_word, flag_word, final_level_word, output_form_word, reason_word};
+ghost use Rattle.report.specs.Values.{Reads, ReadsOnly, ReadsWord, IsResultText, config_key_word, flag_word, mode_word, final_level_word, output_form_word, reason_word};
 
 use super::numbers::{read_code, read_count};
-use run_model::config::TestOutputDisplay;
+use run_model::config::{NextestRunMode, TestOutputDisplay};
 use run_model::level::{CancelReason, FinalStatusLevel};
 use run_model::stats::RunStats;
 use run_model::status::{ExecutionResultDescription, FailureDescription, FlakyResult};
@@ -14,6 +14,10 @@ use run_model::status::{ExecutionResultDescription, FailureDescription, FlakyRes
 pub enum ConfigKey {
     /// The level from which on the summary lists a test.
     Final,
+    /// How many tests the run has, which decides the width of a counter that is not known.
+    Runs,
+    /// Whether the run runs benchmarks.
+    Bench,
 }
 
 /// The key of a `config` line.
@@ -22,6 +26,8 @@ pub fn read_config_key(field: &str) -> Option<ConfigKey>
 {
     match field {
         "final" => Some(ConfigKey::Final),
+        "runs" => Some(ConfigKey::Runs),
+        "bench" => Some(ConfigKey::Bench),
         _ => None,
     }
 }
@@ -60,6 +66,17 @@ pub fn read_flag(field: &str) -> Option<bool>
     match field {
         "0" => Some(false),
         "1" => Some(true),
+        _ => None,
+    }
+}
+
+/// Whether a run runs tests or benchmarks, as `0` or `1`.
+pub fn read_mode(field: &str) -> Option<NextestRunMode>
+    ensures { ReadsWord mode_word field.now result }
+{
+    match field {
+        "0" => Some(NextestRunMode::Test),
+        "1" => Some(NextestRunMode::Benchmark),
         _ => None,
     }
 }
