@@ -1,13 +1,11 @@
 -- Worked rows: what the definitions say of a run that is written out.
-use Rattle.std.proofs.Common.{◌≡◌, ℕ, Bool, true, false, List, [], ◌∷◌, ◌++◌, codes, refl, None, Some}
-use Rattle.std.specs.Fmt.{decimal, digits}
+use Rattle.std.proofs.Common.{◌≡◌, ℕ, Bool, true, false, List, [], ◌∷◌, codes, refl, None}
+use Rattle.std.specs.Fmt.{digits}
 use Rattle.std.specs.Str.{chars}
-use Rattle.uuid.specs.Text.{hyphenated_text, lower, by_index}
+use Rattle.uuid.specs.Text.{by_index}
 use Rattle.run_model.specs.declared.config.NextestRunMode.TheVariants.{Test}
-use Rattle.run_model.specs.declared.event.TestCounts.{TestCounts}
 use Rattle.run_model.specs.declared.event.TestEvent.{TestEvent}
-use Rattle.run_model.specs.declared.event.TestEventKind.{TestEventKind}
-use Rattle.run_model.specs.declared.event.TestEventKind.TheVariants.{RunStarted, TestFinished, RunFinished}
+use Rattle.run_model.specs.declared.event.TestEventKind.TheVariants.{TestFinished, RunFinished}
 use Rattle.run_model.specs.declared.level.StatusLevel.TheVariants as status
 use Rattle.run_model.specs.declared.level.FinalStatusLevel.TheVariants as final
 use Rattle.run_model.specs.declared.name.TestInstanceId.{TestInstanceId}
@@ -20,17 +18,16 @@ use Rattle.run_model.specs.declared.time.Nanos.{Nanos}
 use Rattle.run_model.specs.Names.{last_colons}
 use Rattle.run_model.specs.Attempts.{Attempts}
 use Rattle.run_model.specs.Statuses.{summary_of}
-use Rattle.report_text.specs.Plural.{tests_word, tests_word_if, binaries_word}
-use Rattle.report_text.specs.Styles.{part_text, plain, styled, styles_of}
-use Rattle.report_text.specs.Words.{Text, right_in}
-use Rattle.console_reporter.specs.Bars.{bar_line}
+use Rattle.report_text.specs.Plural.{tests_word_if, binaries_word}
+use Rattle.report_text.specs.Styles.{part_text, styles_of}
+use Rattle.report_text.specs.Words.{right_in}
+use Rattle.report_text.specs.Theme.{hbar_text}
+use Rattle.console_reporter.specs.Configuration.{theme_of}
 use Rattle.console_reporter.specs.Order.{ordered_by, put_in}
 use Rattle.console_reporter.specs.Entries.{cancel, entry_of, kept, final_order}
-use Rattle.console_reporter.specs.RunTexts.{run_id_text, id_text, with_profile, run_id_line, starting_line, run_started_text, initial_count_text, run_counts_text, summary_line, run_finished_text}
+use Rattle.console_reporter.specs.RunTexts.{bar_line, run_id_text, id_text, with_profile, run_id_line, starting_line, run_started_text, initial_count_text, run_counts_text, summary_line, run_finished_text}
 use Rattle.console_reporter.specs.StatusLines.{status_prefix, flaky_failure_line, status_line}
-use Rattle.console_reporter.specs.declared.imp.calls.ReportCall.{ReportCall}
 use Rattle.console_reporter.specs.declared.imp.calls.ReportCall.TheVariants.{Event}
-use Rattle.console_reporter.specs.declared.imp.kept.KeptEntry.{KeptEntry}
 use Rattle.console_reporter.specs.declared.imp.settings.Settings.{Settings}
 use Rattle.console_reporter.specs.StatsTexts.{summary_text, counted_text, passed_notes, passed_note, notes_end, failed_counts, failed_count, leaky_failed_note, exec_failed_count, timed_out_count, other_failed_count}
 use Rattle.report_text.specs.Numbers.{seconds, with_point}
@@ -43,7 +40,7 @@ settings = record {
   mode = Test;
   status_levels = record { status_level = status.Pass; final_status_level = final.Fail };
   styles = styles_of false;
-  use_unicode = false;
+  theme_characters = theme_of false;
 }
 
 -- the run's id 00000000-0000-4000-8000-000000000001
@@ -52,19 +49,31 @@ run_id = 0 ∷ 0 ∷ 0 ∷ 0 ∷ 0 ∷ 0 ∷ 64 ∷ 0 ∷ 128 ∷ 0 ∷ 0 ∷ 0 
 
 start : run_started_text settings None (record { run_count = 2; listed_binary_count = 1 }) run_id (codes "default")
     ≡ codes "------------\n Nextest run ID 00000000-0000-4000-8000-000000000001 with nextest profile: default\n    Starting 2 tests across 1 binary\n"
-unfolding run_started_text run_id_line id_text run_id_text with_profile starting_line bar_line part_text right_in chars by_index digits tests_word_if binaries_word
+unfolding run_started_text run_id_line id_text run_id_text with_profile starting_line bar_line hbar_text lib.Utf8.encode part_text right_in chars by_index digits tests_word_if binaries_word
 start = refl
 
 -- two tests ran, one passed and one failed
 abbrev stats : RunStats
 stats = record {
-  initial_run_count = 2; finished_count = 2; passed = 1; passed_slow = 0; flaky = 0; leaky = 0; failed = 1; leaky_failed = 0;
-  exec_failed = 0; timed_out = 0; skipped = 0; setup_scripts_failed = 0; setup_scripts_exec_failed = 0;
-  setup_scripts_timed_out = 0; cancel_reason = None;
+  initial_run_count = 2;
+  finished_count = 2;
+  passed = 1;
+  passed_slow = 0;
+  flaky = 0;
+  leaky = 0;
+  failed = 1;
+  leaky_failed = 0;
+  exec_failed = 0;
+  timed_out = 0;
+  skipped = 0;
+  setup_scripts_failed = 0;
+  setup_scripts_exec_failed = 0;
+  setup_scripts_timed_out = 0;
+  cancel_reason = None;
 }
 
 summary : run_finished_text settings 1520000000 (Single stats) ≡ codes "------------\n     Summary [   1.520s] 2 tests run: 1 passed, 1 failed, 0 skipped\n"
-unfolding run_finished_text summary_line run_counts_text initial_count_text bar_line part_text right_in chars digits tests_word_if bracketed_duration seconds with_point
+unfolding run_finished_text summary_line run_counts_text initial_count_text bar_line hbar_text lib.Utf8.encode part_text right_in chars digits tests_word_if bracketed_duration seconds with_point
     summary_text counted_text passed_notes passed_note notes_end failed_counts failed_count leaky_failed_note exec_failed_count timed_out_count other_failed_count
 summary = refl
 

@@ -1,6 +1,7 @@
 -- A configuration of a reporter, and what it comes to.
 use Rattle.std.specs.Prelude.{Bool}
 use Rattle.report_text.specs.Styles.{styles_of}
+use Rattle.report_text.specs.declared.helpers.theme.ThemeCharacters.{ThemeCharacters}
 use Rattle.unit_report.specs.Levels.{resolved_display}
 use Rattle.console_reporter.specs.declared.imp.builder.DisplayReporterBuilder.{DisplayReporterBuilder}
 use Rattle.console_reporter.specs.declared.imp.settings.Settings.{Settings}
@@ -22,11 +23,14 @@ configured builder use_unicode is_terminal is_ci display_empty_outputs = record 
   display_empty_outputs = display_empty_outputs;
 }
 
+abbrev pub theme_of : Bool → ThemeCharacters
+theme_of is_unicode = record { is_unicode = is_unicode }
+
 -- what a reporter of this configuration goes by
 abbrev pub settings_of : Configuration → Settings
 settings_of c = record {
   mode = c.builder.mode;
   status_levels = (resolved_display c.builder.display_config c.is_terminal c.is_ci).status_levels;
   styles = styles_of c.builder.should_colorize;
-  use_unicode = c.use_unicode;
+  theme_characters = theme_of c.use_unicode;
 }

@@ -1,4 +1,3 @@
-pub mod Bars
 pub mod Configuration
 pub mod Entries
 pub mod Order

@@ -14,12 +14,17 @@ use Rattle.run_model.specs.declared.stats.RunFinishedStats.TheVariants.{Single}
 use Rattle.report_text.specs.Words.{Text, right_in}
 use Rattle.report_text.specs.Plural.{tests_word, tests_word_if, binaries_word}
 use Rattle.report_text.specs.Styles.{plain, styled}
+use Rattle.report_text.specs.Theme.{hbar_text}
+use Rattle.report_text.specs.declared.helpers.theme.ThemeCharacters.{ThemeCharacters}
 use Rattle.report_text.specs.declared.style.Style.{Style}
 use Rattle.report_text.specs.declared.style.Styles.{Styles}
 use Rattle.unit_report.specs.Durations.{bracketed_duration}
-use Rattle.console_reporter.specs.Bars.{bar_line}
 use Rattle.console_reporter.specs.StatsTexts.{summary_text}
 use Rattle.console_reporter.specs.declared.imp.settings.Settings.{Settings}
+
+-- the line of a bar of twelve characters
+unfoldable pub bar_line : ThemeCharacters → Text
+bar_line theme = hbar_text theme.is_unicode 12 ++ plain (codes "\n")
 
 -- a run's id, hyphenated in lower case
 unfoldable pub run_id_text : List ℕ → Text
@@ -53,7 +58,7 @@ starting_line s mode c =
 -- the start of a run
 unfoldable pub run_started_text : Settings → Option UniquePrefix → TestCounts → List ℕ → Text → Text
 run_started_text s prefix counts run_id profile_name =
-    bar_line s.use_unicode ++ (run_id_line s.styles prefix run_id profile_name ++ starting_line s.styles s.mode counts)
+    bar_line s.theme_characters ++ (run_id_line s.styles prefix run_id profile_name ++ starting_line s.styles s.mode counts)
 
 -- the style of what a run came to
 abbrev pub outcome_style : Styles → FinalRunStats → Style
@@ -85,4 +90,4 @@ summary_line s elapsed (Single x) =
 
 -- the end of a run, before its entries
 unfoldable pub run_finished_text : Settings → ℕ → RunFinishedStats → Text
-run_finished_text s elapsed stats = bar_line s.use_unicode ++ summary_line s elapsed stats
+run_finished_text s elapsed stats = bar_line s.theme_characters ++ summary_line s elapsed stats

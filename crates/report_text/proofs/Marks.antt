@@ -224,7 +224,7 @@ seq_step step len counts high near c t s = elim (cases_lt c 128) [
       let e = encode-high c l in
       let none : len (encode_utf8 c ++ t) ≡ 0 = rw e.2 (rw (high e.0 e.3.0) at (counts e.0 (e.1 ++ t))) in
       rw (high c l) (subst (λ n. view_at n (encode_utf8 c ++ t) ≡ (is_some (begun c), c) ∷ view_at (pending (unwrap_or (begun c) mode.Text) t) t) (sym none) (text_step c t s))
-  )
+      )
 ]
 
 near_start : (c : ℕ) → IsNear (step_of Start c false)
@@ -254,7 +254,7 @@ command_step c t s = elim (eqb_tells c 27) [
         let len : osc_len (encode_utf8 c ++ t) ≡ length (encode_utf8 c) + osc_len t = rw e.2 (high_osc (e.0 ∷ e.1) t e.3) in
         subst (λ o. view_at (osc_len (encode_utf8 c ++ t)) (encode_utf8 c ++ t) ≡ (is_some o, c) ∷ view_at (pending (unwrap_or o mode.Text) t) t) (sym (high_command c l))
         (subst (λ k. view_at k (encode_utf8 c ++ t) ≡ (true, c) ∷ view_at (osc_len t) t) (sym len) (inside_step c (osc_len t) t s))
-    )
+        )
   ]
 ]
 

@@ -23,5 +23,4 @@ pub fn width_laws()
     ensures part_sequences { (ts : List (List ℕ)) (name : List ℕ) (width : ℕ) → ArePainted ts → IsPainted name → sequences (pieces (shrunk_parts ts name width)) ≡ part_sequences ts ++ sequences (pieces name) }
     ensures plain { (t : List ℕ) → IsUtf8 t → HasNoEscape t → IsPainted t }
     ensures joined { (a b : List ℕ) → IsPainted a → IsPainted b → IsPainted (a ++ b) }
-{
-}
+{}

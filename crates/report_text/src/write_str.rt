@@ -14,8 +14,8 @@ mod text_buffer;
 
 pub use delivery::delivery_law;
 pub use on_formatter::OnFormatter;
-pub use text_buffer::{CAPACITY, TextBuffer};
 use std::alloc::AllocError;
+pub use text_buffer::{CAPACITY, TextBuffer};
 
 /// Why a text could not be written whole. A beginning of it was accepted.
 #[derive(Clone, Copy, Debug, PartialEq, Eq)]

@@ -17,7 +17,7 @@ use super::calls::ReportCall;
 use super::faults::{RunFault, WriteEventError};
 use super::kept::{KeptEntry, sort_entries, write_entries};
 use super::run_text::{write_run_finished, write_run_started};
-use super::settings::{Settings, styles_for};
+use super::settings::{Settings, styles_for, theme_for};
 use super::status_line::write_status_line;
 use report_text::write_str::{WriteFault, WriteStr};
 use run_model::event::{TestEvent, TestEventKind};
@@ -71,7 +71,7 @@ impl DisplayReporterBuilder {
                     mode: self.mode,
                     status_levels: resolved.status_levels,
                     styles: styles_for(self.should_colorize),
-                    use_unicode,
+                    theme_characters: theme_for(use_unicode),
                 },
                 has_failed: false,
             },

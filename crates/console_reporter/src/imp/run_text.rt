@@ -2,11 +2,11 @@
 
 ghost use Rattle.std.specs.Prelude.{◌≡◌, ◌≤◌, length};
 ghost use Rattle.report_text.specs.Writer.{Puts};
-ghost use Rattle.console_reporter.specs.Bars.{bar_line};
-ghost use Rattle.console_reporter.specs.RunTexts.{run_id_text, with_profile, id_text, run_id_line, starting_line, run_started_text, outcome_style, initial_count_text, run_counts_text, summary_line, run_finished_text};
+ghost use Rattle.console_reporter.specs.RunTexts.{bar_line, run_id_text, with_profile, id_text, run_id_line, starting_line, run_started_text, outcome_style, initial_count_text, run_counts_text, summary_line, run_finished_text};
 
 use super::settings::Settings;
 use super::stats_text::write_summary_text;
+use report_text::helpers::ThemeCharacters;
 use report_text::helpers::plural::{binaries_str, tests_plural_if, tests_str};
 use report_text::style::{Style, Styles, write_plain};
 use report_text::write_str::{WriteFault, WriteStr};
@@ -31,7 +31,7 @@ pub fn write_run_started<W: WriteStr>(
 ) -> Result<(), WriteFault>
     ensures { Puts W.meaning w.old (run_started_text settings.now unique_prefix.now test_list.now run_id.now profile_name.now) result w.new }
 {
-    write_bar_line(w, settings.use_unicode)?;
+    write_bar_line(w, settings.theme_characters)?;
     write_run_id_line(w, &settings.styles, unique_prefix, run_id, profile_name)?;
     write_starting_line(w, &settings.styles, settings.mode, test_list)
 }
@@ -46,20 +46,20 @@ pub fn write_run_finished<W: WriteStr>(
 ) -> Result<(), WriteFault>
     ensures { Puts W.meaning w.old (run_finished_text settings.now elapsed.0 run_stats.now) result w.new }
 {
-    write_bar_line(w, settings.use_unicode)?;
+    write_bar_line(w, settings.theme_characters)?;
     write_summary_line(w, settings, elapsed, run_stats)
 }
 
 // Writes a bar of twelve characters.
-#[tactic(auto, unfolding(crate::specs::Bars::bar_line))]
-fn write_bar_line<W: WriteStr>(w: &mut W, use_unicode: bool) -> Result<(), WriteFault>
-    ensures { Puts W.meaning w.old (bar_line use_unicode) result w.new }
+#[tactic(auto, unfolding(crate::specs::RunTexts::bar_line))]
+fn write_bar_line<W: WriteStr>(
+    w: &mut W,
+    theme_characters: ThemeCharacters,
+) -> Result<(), WriteFault>
+    ensures { Puts W.meaning w.old (bar_line theme_characters) result w.new }
 {
-    if use_unicode {
-        w.write_str("────────────\n")
-    } else {
-        w.write_str("------------\n")
-    }
+    theme_characters.write_hbar(w, 12)?;
+    write_plain(w, "\n")
 }
 
 // The run's id, hyphenated in lower case.

@@ -2,7 +2,9 @@
 
 ghost use Rattle.std.specs.Prelude.{◌≡◌};
 ghost use Rattle.report_text.specs.Styles.{styles_of};
+ghost use Rattle.console_reporter.specs.Configuration.{theme_of};
 
+use report_text::helpers::ThemeCharacters;
 use report_text::style::Styles;
 use run_model::config::NextestRunMode;
 use unit_report::config::StatusLevels;
@@ -16,8 +18,8 @@ pub struct Settings {
     pub status_levels: StatusLevels,
     /// The styles of the report.
     pub styles: Styles,
-    /// Whether bars are drawn by box characters.
-    pub use_unicode: bool,
+    /// The characters of bars.
+    pub theme_characters: ThemeCharacters,
 }
 
 /// The styles of a report with colours or without.
@@ -29,4 +31,15 @@ pub fn styles_for(should_colorize: bool) -> Styles
         styles.colorize();
     }
     styles
+}
+
+/// The characters of a report in Unicode or in ASCII.
+pub fn theme_for(use_unicode: bool) -> ThemeCharacters
+    ensures { result ≡ theme_of use_unicode }
+{
+    let mut theme_characters = ThemeCharacters::default();
+    if use_unicode {
+        theme_characters.use_unicode();
+    }
+    theme_characters
 }

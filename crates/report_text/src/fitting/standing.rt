@@ -42,7 +42,10 @@ impl Standing {
             return (next, false);
         }
         next.place = self.place + char_columns(c);
-        (next, next.is_open && start <= self.place && next.place <= end)
+        (
+            next,
+            next.is_open && start <= self.place && next.place <= end,
+        )
     }
 }
 
