@@ -1,5 +1,6 @@
 -- What the program writes of a scene.
-use Rattle.std.specs.Prelude.{◌≡◌, List, reverse, false, if◌then◌else◌, None, codes}
+use Rattle.std.specs.Prelude.{◌≡◌, ℕ, List, reverse, false, if◌then◌else◌, Option, None, codes}
+use Rattle.std.specs.Io.KnownBytes.{Appends}
 use Rattle.std.specs.List.{AllZip}
 use Rattle.run_model.specs.declared.config.CompiledDefaultFilterSection.TheVariants.{Profile}
 use Rattle.unit_report.specs.Levels.{overridden}
@@ -63,6 +64,12 @@ pub record AcceptsReport {S : Type 0} (m : Meaning S) (options : Options) (scene
   pub calls : List ReportCall
   pub of_scene : AreCallsOf scene calls
   pub accepted : m.accepts old (report_of options scene calls) new
+
+-- bytes that are known grew by the report of the scene
+pub record PrintsReport (options : Options) (scene : Scene) (old new : Option (List ℕ)) : Type 0 where
+  pub calls : List ReportCall
+  pub of_scene : AreCallsOf scene calls
+  pub printed : Appends old new (report_of options scene calls)
 
 -- from old, the fault stopped the report of the scene, of which a beginning was accepted, and left new
 pub record StopsReport {S : Type 0} (m : Meaning S) (options : Options) (scene : Scene) (old : S) (fault : Fault) (new : S) : Type 0 where

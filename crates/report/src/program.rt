@@ -2,7 +2,7 @@
 
 ghost use Rattle.std.specs.Prelude.{◌≡◌, ◌⊎◌, IfOk, IfErr, OnOk};
 ghost use Rattle.report.specs.Faults.{IsJudgeFault, status_of};
-ghost use Rattle.report.specs.Reports.{AcceptsReport, IsRefused, StopsReport, builder_for, fault_for, progress_for};
+ghost use Rattle.report.specs.Reports.{AcceptsReport, PrintsReport, IsRefused, StopsReport, builder_for, fault_for, progress_for};
 ghost use Rattle.report.specs.declared.fault.Fault.{Fault};
 
 use crate::fault::Fault;
@@ -14,7 +14,7 @@ use console_reporter::imp::{DisplayReporterBuilder, DisplayerKind, WriteEventErr
 use console_reporter::write_str::{TextBuffer, WriteStr};
 use run_model::config::{CompiledDefaultFilter, CompiledDefaultFilterSection};
 use run_model::name::ProfileName;
-use std::alloc::Global;
+use std::alloc::{AllocError, Global};
 use std::io::{ErrorKind, Read, Write};
 
 /// Reads a scene to its end, and judges it whole. It answers the fault of the first line that has one, that the file
@@ -46,10 +46,28 @@ pub fn write_report<W: Write + Drop>(
 ) -> Result<(), Fault<'static>>
     ensures { IfErr result (λ fault. status_of fault ≡ 3) }
 {
-    let Ok(mut out) = TextBuffer::new(alloc, writer) else {
-        return Err(Fault::OutOfMemory);
+    let (outcome, _writer) = write_and_return(alloc, options, scene, writer);
+    outcome
+}
+
+/// Writes the report of a scene to a device, and gives the device back. Once all went well, the device holds the report
+/// after what it held before.
+pub fn write_and_return<W: Write>(
+    alloc: Global,
+    options: &Options<'_>,
+    scene: &Scene,
+    writer: W,
+) -> (Result<(), Fault<'static>>, W)
+    ensures ok { OnOk result.0 (PrintsReport options.now scene.now (W.contents writer) (W.contents result.1)) }
+    ensures status { IfErr result.0 (λ fault. status_of fault ≡ 3) }
+{
+    let mut out = match TextBuffer::new(alloc, writer) {
+        Ok(out) => out,
+        Err((AllocError, writer)) => return (Err(Fault::OutOfMemory), writer),
     };
-    report_to(alloc, options, scene, &mut out)
+    let outcome = report_to(alloc, options, scene, &mut out);
+    let (writer, _pending) = out.into_inner();
+    (outcome, writer)
 }
 
 /// Writes the report of a scene, and delivers it. On a fault the writer has accepted a beginning of the report, which is
