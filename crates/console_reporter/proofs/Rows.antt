@@ -4,6 +4,9 @@ use Rattle.std.specs.Fmt.{digits}
 use Rattle.std.specs.Str.{chars}
 use Rattle.uuid.specs.Text.{by_index}
 use Rattle.run_model.specs.declared.config.NextestRunMode.TheVariants.{Test}
+use Rattle.run_model.specs.declared.config.CompiledDefaultFilterSection.TheVariants.{Profile}
+use Rattle.run_model.specs.declared.event.SkipCounts.{SkipCounts}
+use Rattle.unit_report.specs.SkipCounts.{skip_note}
 use Rattle.run_model.specs.declared.event.TestEvent.{TestEvent}
 use Rattle.run_model.specs.declared.event.TestEventKind.TheVariants.{TestFinished, RunFinished}
 use Rattle.run_model.specs.declared.level.StatusLevel.TheVariants as status
@@ -25,7 +28,7 @@ use Rattle.report_text.specs.Theme.{hbar_text}
 use Rattle.console_reporter.specs.Configuration.{theme_of}
 use Rattle.console_reporter.specs.Order.{ordered_by, put_in}
 use Rattle.console_reporter.specs.Entries.{cancel, entry_of, kept, final_order}
-use Rattle.console_reporter.specs.RunTexts.{bar_line, run_id_text, id_text, with_profile, run_id_line, starting_line, run_started_text, initial_count_text, run_counts_text, summary_line, run_finished_text}
+use Rattle.console_reporter.specs.RunTexts.{bar_line, run_id_text, id_text, with_profile, run_id_line, test_counts_text, starting_line, run_started_text, initial_count_text, run_counts_text, summary_line, run_finished_text}
 use Rattle.console_reporter.specs.StatusLines.{status_prefix, flaky_failure_line, status_line}
 use Rattle.console_reporter.specs.declared.imp.calls.ReportCall.TheVariants.{Event}
 use Rattle.console_reporter.specs.declared.imp.settings.Settings.{Settings}
@@ -40,16 +43,28 @@ settings = record {
   mode = Test;
   status_levels = record { status_level = status.Pass; final_status_level = final.Fail };
   styles = styles_of false;
+  counter_width = None;
+  default_filter = record { profile = codes "default"; section = Profile };
   theme_characters = theme_of false;
+}
+
+abbrev none_skipped : SkipCounts
+none_skipped = record {
+  skipped_tests = 0;
+  skipped_tests_rerun = 0;
+  skipped_tests_non_benchmark = 0;
+  skipped_tests_default_filter = 0;
+  skipped_binaries = 0;
+  skipped_binaries_default_filter = 0;
 }
 
 -- the run's id 00000000-0000-4000-8000-000000000001
 abbrev run_id : List ℕ
 run_id = 0 ∷ 0 ∷ 0 ∷ 0 ∷ 0 ∷ 0 ∷ 64 ∷ 0 ∷ 128 ∷ 0 ∷ 0 ∷ 0 ∷ 0 ∷ 0 ∷ 0 ∷ 1 ∷ []
 
-start : run_started_text settings None (record { run_count = 2; listed_binary_count = 1 }) run_id (codes "default")
+start : run_started_text settings None (record { run_count = 2; listed_binary_count = 1; skip_counts = none_skipped }) run_id (codes "default")
     ≡ codes "------------\n Nextest run ID 00000000-0000-4000-8000-000000000001 with nextest profile: default\n    Starting 2 tests across 1 binary\n"
-unfolding run_started_text run_id_line id_text run_id_text with_profile starting_line bar_line hbar_text lib.Utf8.encode part_text right_in chars by_index digits tests_word_if binaries_word
+unfolding run_started_text run_id_line id_text run_id_text with_profile starting_line test_counts_text skip_note bar_line hbar_text lib.Utf8.encode part_text right_in chars by_index digits tests_word_if binaries_word
 start = refl
 
 -- two tests ran, one passed and one failed
@@ -101,7 +116,7 @@ named = refl
 -- its line, at once and in the summary
 failed_line : (is_final : Bool) (test : TestInstanceId) (failure : FailureDescription) (time : Nanos) →
     test.binary_id.now ≡ codes "alpha" → test.test_name.now ≡ codes "mod::t2" → time.0 ≡ 1500000000 →
-    status_line settings.styles is_final test (summary_of (failed failure time)) ≡ codes "        FAIL [   1.500s] alpha mod::t2\n"
+    status_line settings.styles is_final None test (summary_of (failed failure time)) ≡ codes "        FAIL [   1.500s] alpha mod::t2\n"
 unfolding status_line status_prefix flaky_failure_line part_text right_in chars
 failed_line true test failure time binary name after = rw (binary, name, after, lasted, named) refl
 failed_line false test failure time binary name after = rw (binary, name, after, lasted, named) refl
@@ -109,6 +124,6 @@ failed_line false test failure time binary name after = rw (binary, name, after,
 -- what a second end of the run finds kept: the same entries
 twice : (event finish : TestEvent) (test : TestInstanceId) (failure : FailureDescription) (time elapsed : Nanos) →
     event.kind ≡ TestFinished test (failed failure time) stats → finish.kind ≡ RunFinished elapsed (Single stats) →
-    final_order (kept settings (Event finish ∷ Event event ∷ [])) ≡ record { instance = test; summary = summary_of (failed failure time) } ∷ []
+    final_order (kept settings (Event finish ∷ Event event ∷ [])) ≡ record { counter = None; instance = test; summary = summary_of (failed failure time) } ∷ []
 unfolding kept entry_of cancel ordered_by put_in
 twice event finish test failure time elapsed is end = rw (is, end) refl

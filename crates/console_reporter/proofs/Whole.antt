@@ -1,8 +1,8 @@
 -- Texts that are empty or end in a line feed.
 use Rattle.run_model.specs.UniquePrefixes.{UniquePrefix}
 use Rattle.run_model.specs.Levels.{status_rank}
-use Rattle.std.specs.Prelude.{nat_lt, nat_le}
-use Rattle.std.proofs.Common.{◌≡◌, ℕ, Bool, true, false, List, [], ◌∷◌, ◌++◌, refl, sym, ap, subst, ◌∙◌, append_assoc, append-nil, Option, inl, inr, codes}
+use Rattle.std.specs.Prelude.{nat_lt, nat_le, ◌==◌}
+use Rattle.std.proofs.Common.{◌≡◌, ℕ, Bool, true, false, List, [], ◌∷◌, ◌++◌, refl, sym, ap, subst, ◌∙◌, append_assoc, append-nil, Option, Some, inl, inr, codes}
 use Rattle.std.specs.List.{flat_map}
 use Rattle.std.proofs.lemmas.Bool.{cases_Bool}
 use Rattle.run_model.specs.declared.config.NextestRunMode.{NextestRunMode}
@@ -16,6 +16,15 @@ use Rattle.run_model.specs.declared.stats.RunStats.{RunStats}
 use Rattle.run_model.specs.declared.status.StatusCase.{StatusCase}
 use Rattle.run_model.specs.declared.status.StatusSummary.{StatusSummary}
 use Rattle.run_model.specs.Statuses.{summary_of, status_level_of}
+use Rattle.run_model.specs.Stats.{final_stats_of_run}
+use Rattle.run_model.specs.declared.level.CancelReason.{CancelReason}
+use Rattle.run_model.specs.declared.level.CancelReason.TheVariants as reason
+use Rattle.run_model.specs.declared.stats.FinalRunStats.{FinalRunStats}
+use Rattle.run_model.specs.declared.stats.FinalRunStats.TheVariants.{Success, NoTestsRun, Cancelled, Failed}
+use Rattle.run_model.specs.declared.stats.RunStatsFailureKind.TheVariants.{SetupScript, Test}
+use Rattle.unit_report.specs.Warnings.{not_run_warning, final_warnings}
+use Rattle.report_text.specs.declared.helpers.instance.DisplayCounterIndex.{DisplayCounterIndex}
+use Rattle.console_reporter.specs.Counters.{finished_counter}
 use Rattle.report_text.specs.Words.{Text}
 use Rattle.report_text.specs.Styles.{part_text, plain}
 use Rattle.report_text.specs.declared.style.Styles.{Styles}
@@ -70,13 +79,13 @@ of_lines-flaky_failure_line s false x = elim (cases_Bool (is_flaky_failure x)) [
 ends-status_end : (s : Styles) (is_final : Bool) (x : StatusCase) → EndsLine (plain (codes "\n") ++ flaky_failure_line s is_final x)
 ends-status_end s is_final x = ends_before (plain (codes "\n")) (flaky_failure_line s is_final x) ends-feed (of_lines-flaky_failure_line s is_final x)
 
-ends-status_line : (s : Styles) (is_final : Bool) (instance : TestInstanceId) (x : StatusSummary) → EndsLine (status_line s is_final instance x)
+ends-status_line : (s : Styles) (is_final : Bool) (counter : Option DisplayCounterIndex) (instance : TestInstanceId) (x : StatusSummary) → EndsLine (status_line s is_final counter instance x)
 unfolding status_line
-ends-status_line s is_final instance x = search (ends_after, ends-status_end) depth 12
+ends-status_line s is_final counter instance x = search (ends_after, ends-status_end) depth 12
 
-ends-starting_line : (s : Styles) (mode : NextestRunMode) (c : TestCounts) → EndsLine (starting_line s mode c)
+ends-starting_line : (s : Settings) (c : TestCounts) → EndsLine (starting_line s c)
 unfolding starting_line
-ends-starting_line s mode c = search (ends_after, ends-feed) depth 12
+ends-starting_line s c = search (ends_after, ends-feed) depth 12
 
 ends-run_started_text : (s : Settings) (known : Option UniquePrefix) (c : TestCounts) (id : List ℕ) (profile : Text) → EndsLine (run_started_text s known c id profile)
 unfolding run_started_text
@@ -90,25 +99,40 @@ ends-run_finished_text : (s : Settings) (elapsed : ℕ) (stats : RunFinishedStat
 unfolding run_finished_text summary_line
 ends-run_finished_text s elapsed (Single x) = search (ends_after, ends-run_counts_text) depth 12
 
+ends-not_run_warning : (s : Styles) (mode : NextestRunMode) (why : Option CancelReason) (initial not_run : ℕ) → IsOfLines (not_run_warning s mode why initial not_run)
+unfolding not_run_warning
+ends-not_run_warning s mode why initial not_run =
+    elim (cases_Bool (not_run == 0)) [ inl y ↦ rw y (inl refl) | inr n ↦ rw n (of_line _ (search (ends_after, ends-feed) depth 12)) ]
+
+of_lines-final_warnings : (s : Styles) (mode : NextestRunMode) (x : FinalRunStats) → IsOfLines (final_warnings s mode x)
+unfolding final_warnings
+of_lines-final_warnings s mode Success = inl refl
+of_lines-final_warnings s mode NoTestsRun = inl refl
+of_lines-final_warnings s mode (Cancelled why SetupScript) = inl refl
+of_lines-final_warnings s mode (Cancelled why (Test initial not_run)) = ends-not_run_warning s mode why initial not_run
+of_lines-final_warnings s mode (Failed SetupScript) = inl refl
+of_lines-final_warnings s mode (Failed (Test initial not_run)) = ends-not_run_warning s mode (Some reason.TestFailure) initial not_run
+
 of_lines-entries : (s : Settings) (es : List KeptEntry) → IsOfLines (flat_map (entry_text s) es)
 of_lines-entries s [] = inl refl
-of_lines-entries s (e ∷ es) = of_lines-append (entry_text s e) (flat_map (entry_text s) es) (of_line _ (ends-status_line s.styles true e.instance e.summary)) (of_lines-entries s es)
+of_lines-entries s (e ∷ es) = of_lines-append (entry_text s e) (flat_map (entry_text s) es) (of_line _ (ends-status_line s.styles true e.counter e.instance e.summary)) (of_lines-entries s es)
 
 of_lines-listed_text : (s : Settings) (reason : ℕ) (es : List KeptEntry) → IsOfLines (listed_text s reason es)
 unfolding listed_text
 of_lines-listed_text s reason es = elim (cases_Bool (nat_lt reason hiding_rank)) [ inl y ↦ rw y (of_lines-entries s es) | inr n ↦ rw n (inl refl) ]
 
-of_lines-test_finished_text : (s : Settings) (instance : TestInstanceId) (x : StatusSummary) → IsOfLines (test_finished_text s instance x)
+of_lines-test_finished_text : (s : Settings) (counter : Option DisplayCounterIndex) (instance : TestInstanceId) (x : StatusSummary) → IsOfLines (test_finished_text s counter instance x)
 unfolding test_finished_text
-of_lines-test_finished_text s instance x =
+of_lines-test_finished_text s counter instance x =
     elim (cases_Bool (nat_le (status_rank (status_level_of x)) (status_rank s.status_levels.status_level)))
-    [ inl y ↦ rw y (of_line _ (ends-status_line s.styles false instance x)) | inr n ↦ rw n (inl refl) ]
+    [ inl y ↦ rw y (of_line _ (ends-status_line s.styles false counter instance x)) | inr n ↦ rw n (inl refl) ]
 
 of_lines-event_text : (s : Settings) (known : Option UniquePrefix) (reason : ℕ) (es : List KeptEntry) (e : TestEventKind) → IsOfLines (event_text s known reason es e)
 unfolding event_text
 of_lines-event_text s known reason es (RunStarted c id profile) = of_line _ (ends-run_started_text s known c id profile)
-of_lines-event_text s known reason es (TestFinished instance statuses stats) = of_lines-test_finished_text s instance (summary_of statuses)
-of_lines-event_text s known reason es (RunFinished elapsed stats) = of_line _ (ends_before _ _ (ends-run_finished_text s elapsed.0 stats) (of_lines-listed_text s reason es))
+of_lines-event_text s known reason es (TestFinished instance statuses stats) = of_lines-test_finished_text s (finished_counter s stats) instance (summary_of statuses)
+of_lines-event_text s known reason es (RunFinished elapsed stats) = of_line _ (ends_before _ _ (ends-run_finished_text s elapsed.0 stats)
+    (of_lines-append (listed_text s reason es) (final_warnings s.styles s.mode (final_stats_of_run stats)) (of_lines-listed_text s reason es) (of_lines-final_warnings s.styles s.mode (final_stats_of_run stats))))
 
 -- the text of each call
 pub of_lines-text : (config : Configuration) (past : List ReportCall) (call : ReportCall) → IsOfLines (text config past call)

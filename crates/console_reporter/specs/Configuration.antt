@@ -1,8 +1,12 @@
 -- A configuration of a reporter, and what it comes to.
-use Rattle.std.specs.Prelude.{Bool}
+use Rattle.std.specs.Prelude.{ℕ, Bool, Option, None, Some, length}
+use Rattle.std.specs.Fmt.{decimal}
 use Rattle.report_text.specs.Styles.{styles_of}
 use Rattle.report_text.specs.declared.helpers.theme.ThemeCharacters.{ThemeCharacters}
 use Rattle.unit_report.specs.Levels.{resolved_display}
+use Rattle.unit_report.specs.declared.config.ProgressDisplay.{ProgressDisplay}
+use Rattle.unit_report.specs.declared.config.ProgressDisplay.TheVariants as shown
+use Rattle.unit_report.specs.declared.config.ResolvedDisplay.{ResolvedDisplay}
 use Rattle.console_reporter.specs.declared.imp.builder.DisplayReporterBuilder.{DisplayReporterBuilder}
 use Rattle.console_reporter.specs.declared.imp.settings.Settings.{Settings}
 
@@ -26,11 +30,22 @@ configured builder use_unicode is_terminal is_ci display_empty_outputs = record 
 abbrev pub theme_of : Bool → ThemeCharacters
 theme_of is_unicode = record { is_unicode = is_unicode }
 
+-- how wide a counter's numbers are, where counters are shown: as wide as the number of tests
+abbrev pub counter_width_of : ProgressDisplay → ℕ → Option ℕ
+counter_width_of shown.Counter run_count = Some (length (decimal run_count))
+counter_width_of shown.Bar run_count = None
+counter_width_of shown.None run_count = None
+
+abbrev pub resolved_of : Configuration → ResolvedDisplay
+resolved_of c = resolved_display c.builder.display_config c.is_terminal c.is_ci
+
 -- what a reporter of this configuration goes by
 abbrev pub settings_of : Configuration → Settings
 settings_of c = record {
   mode = c.builder.mode;
-  status_levels = (resolved_display c.builder.display_config c.is_terminal c.is_ci).status_levels;
+  status_levels = (resolved_of c).status_levels;
   styles = styles_of c.builder.should_colorize;
+  counter_width = counter_width_of (resolved_of c).progress_display c.builder.run_count;
+  default_filter = c.builder.default_filter;
   theme_characters = theme_of c.use_unicode;
 }

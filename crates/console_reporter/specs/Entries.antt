@@ -14,6 +14,7 @@ use Rattle.run_model.specs.declared.event.TestEventKind.TheVariants.{RunStarted,
 use Rattle.run_model.specs.declared.name.TestInstanceId.{TestInstanceId}
 use Rattle.run_model.specs.declared.status.StatusSummary.{StatusSummary}
 use Rattle.report_text.specs.Words.{Text}
+use Rattle.console_reporter.specs.Counters.{counter_key, finished_counter}
 use Rattle.console_reporter.specs.Order.{key_cmp, ordered_by}
 use Rattle.console_reporter.specs.StatusLines.{status_line}
 use Rattle.console_reporter.specs.declared.imp.calls.ReportCall.{ReportCall}
@@ -54,7 +55,7 @@ entry_if b e = if b then Some e else None
 unfoldable pub entry_of : Settings → ℕ → TestEventKind → Option KeptEntry
 entry_of s reason (RunStarted counts id profile) = None
 entry_of s reason (TestFinished instance statuses stats) =
-    entry_if (is_kept s reason (summary_of statuses)) (record { instance = instance; summary = summary_of statuses })
+    entry_if (is_kept s reason (summary_of statuses)) (record { counter = finished_counter s stats; instance = instance; summary = summary_of statuses })
 entry_of s reason (RunFinished elapsed stats) = None
 
 -- the same as a list, where no reason was given
@@ -67,13 +68,17 @@ kept s [] = []
 kept s (Event e ∷ past) = kept s past ++ option_to_list (entry_of s (cancel past) e.kind)
 kept s (Prefix p ∷ past) = kept s past
 
--- the key of an entry: the final level, the greatest first, then the bytes of the binary's id and of the test's name
+-- the key of an entry: the final level, the greatest first, then the counter where one is shown, then the bytes of the
+-- binary's id and of the test's name
 abbrev pub entry_key : KeptEntry → List (List ℕ)
-entry_key e = ((7 - final_rank (final_level_of e.summary)) ∷ []) ∷ e.instance.binary_id.now ∷ e.instance.test_name.now ∷ []
+entry_key e = ((7 - final_rank (final_level_of e.summary)) ∷ []) ∷ counter_key e.counter ∷ e.instance.binary_id.now ∷ e.instance.test_name.now ∷ []
 
--- the same without the level
+-- the order of instances, and that of all but the level
 abbrev pub instance_cmp : TestInstanceId → TestInstanceId → Ordering
 instance_cmp a b = then_cmp (on (λ i. i.binary_id.now) (slice_cmp nat_cmp)) (on (λ i. i.test_name.now) (slice_cmp nat_cmp)) a b
+
+abbrev pub counted_cmp : KeptEntry → KeptEntry → Ordering
+counted_cmp a b = then_cmp (on (λ e. counter_key e.counter) (slice_cmp nat_cmp)) (λ x y. instance_cmp x.instance y.instance) a b
 
 abbrev pub entry_cmp : KeptEntry → KeptEntry → Ordering
 entry_cmp a b = key_cmp (entry_key a) (entry_key b)
@@ -92,7 +97,7 @@ final_order entries = ordered_by is_before entries
 
 -- how the summary shows an entry
 abbrev pub entry_text : Settings → KeptEntry → Text
-entry_text s e = status_line s.styles true e.instance e.summary
+entry_text s e = status_line s.styles true e.counter e.instance e.summary
 
 -- the entries as they stand, one after another
 abbrev pub entries_text : Settings → List KeptEntry → Text

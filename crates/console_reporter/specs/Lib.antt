@@ -1,4 +1,5 @@
 pub mod Configuration
+pub mod Counters
 pub mod Entries
 pub mod Order
 pub mod Outcomes

@@ -3,6 +3,7 @@ use Rattle.std.specs.Prelude.{ℕ, List, [], ◌∷◌, ◌++◌, Option, revers
 use Rattle.std.specs.List.{AllByRecursion}
 use Rattle.std.specs.Option.{option_map_or}
 use Rattle.run_model.specs.Levels.{status_rank}
+use Rattle.run_model.specs.Stats.{final_stats_of_run}
 use Rattle.run_model.specs.Statuses.{summary_of, status_level_of}
 use Rattle.run_model.specs.UniquePrefixes.{UniquePrefix}
 use Rattle.run_model.specs.declared.event.TestEventKind.{TestEventKind}
@@ -10,7 +11,10 @@ use Rattle.run_model.specs.declared.event.TestEventKind.TheVariants.{RunStarted,
 use Rattle.run_model.specs.declared.name.TestInstanceId.{TestInstanceId}
 use Rattle.run_model.specs.declared.status.StatusSummary.{StatusSummary}
 use Rattle.report_text.specs.Words.{Text}
+use Rattle.report_text.specs.declared.helpers.instance.DisplayCounterIndex.{DisplayCounterIndex}
 use Rattle.console_reporter.specs.Configuration.{Configuration, settings_of}
+use Rattle.unit_report.specs.Warnings.{final_warnings}
+use Rattle.console_reporter.specs.Counters.{finished_counter}
 use Rattle.console_reporter.specs.Entries.{cancel, prefix, kept, final_order, listed_text}
 use Rattle.console_reporter.specs.RunTexts.{run_started_text, run_finished_text}
 use Rattle.console_reporter.specs.StatusLines.{status_line}
@@ -20,16 +24,17 @@ use Rattle.console_reporter.specs.declared.imp.kept.KeptEntry.{KeptEntry}
 use Rattle.console_reporter.specs.declared.imp.settings.Settings.{Settings}
 
 -- a finished test: its line, where the status level is at least the test's
-unfoldable pub test_finished_text : Settings → TestInstanceId → StatusSummary → Text
-test_finished_text s instance x =
+unfoldable pub test_finished_text : Settings → Option DisplayCounterIndex → TestInstanceId → StatusSummary → Text
+test_finished_text s counter instance x =
     if nat_le (status_rank (status_level_of x)) (status_rank s.status_levels.status_level)
-    then status_line s.styles false instance x else []
+    then status_line s.styles false counter instance x else []
 
 -- the text of an event, by what stands of the past: the prefix of the run's id, the reason, and the kept entries in their final order
 unfoldable pub event_text : Settings → Option UniquePrefix → ℕ → List KeptEntry → TestEventKind → Text
 event_text s known reason ordered (RunStarted counts id profile) = run_started_text s known counts id profile
-event_text s known reason ordered (TestFinished instance statuses stats) = test_finished_text s instance (summary_of statuses)
-event_text s known reason ordered (RunFinished elapsed stats) = run_finished_text s elapsed.0 stats ++ listed_text s reason ordered
+event_text s known reason ordered (TestFinished instance statuses stats) = test_finished_text s (finished_counter s stats) instance (summary_of statuses)
+event_text s known reason ordered (RunFinished elapsed stats) =
+    run_finished_text s elapsed.0 stats ++ (listed_text s reason ordered ++ final_warnings s.styles s.mode (final_stats_of_run stats))
 
 -- the text of a call after a past, a list of calls with the latest first
 abbrev pub text : Configuration → List ReportCall → ReportCall → Text

@@ -18,6 +18,7 @@ use Rattle.report_text.specs.Theme.{hbar_text}
 use Rattle.report_text.specs.declared.helpers.theme.ThemeCharacters.{ThemeCharacters}
 use Rattle.report_text.specs.declared.style.Style.{Style}
 use Rattle.report_text.specs.declared.style.Styles.{Styles}
+use Rattle.unit_report.specs.SkipCounts.{skip_counts_text}
 use Rattle.unit_report.specs.Durations.{bracketed_duration}
 use Rattle.console_reporter.specs.StatsTexts.{summary_text}
 use Rattle.console_reporter.specs.declared.imp.settings.Settings.{Settings}
@@ -47,18 +48,24 @@ run_id_line s prefix run_id profile_name =
     ++ (with_profile ++ (styled s.count profile_name ++ plain (codes "\n")))))
 
 -- how many tests and binaries there are
-unfoldable pub starting_line : Styles → NextestRunMode → TestCounts → Text
-starting_line s mode c =
-    styled s.pass (right_in 12 (codes "Starting"))
-    ++ (plain (codes " ") ++ (styled s.count (decimal c.run_count)
+unfoldable pub test_counts_text : Styles → NextestRunMode → TestCounts → Text
+test_counts_text s mode c =
+    styled s.count (decimal c.run_count)
     ++ (plain (codes " ") ++ (plain (tests_word mode c.run_count)
     ++ (plain (codes " across ") ++ (styled s.count (decimal c.listed_binary_count)
-    ++ (plain (codes " ") ++ (plain (binaries_word c.listed_binary_count) ++ plain (codes "\n")))))))))
+    ++ (plain (codes " ") ++ plain (binaries_word c.listed_binary_count))))))
+
+-- how many tests and binaries there are, and what is skipped
+unfoldable pub starting_line : Settings → TestCounts → Text
+starting_line s c =
+    styled s.styles.pass (right_in 12 (codes "Starting"))
+    ++ (plain (codes " ") ++ (test_counts_text s.styles s.mode c
+    ++ (skip_counts_text s.styles s.mode c.skip_counts s.default_filter ++ plain (codes "\n"))))
 
 -- the start of a run
 unfoldable pub run_started_text : Settings → Option UniquePrefix → TestCounts → List ℕ → Text → Text
 run_started_text s prefix counts run_id profile_name =
-    bar_line s.theme_characters ++ (run_id_line s.styles prefix run_id profile_name ++ starting_line s.styles s.mode counts)
+    bar_line s.theme_characters ++ (run_id_line s.styles prefix run_id profile_name ++ starting_line s counts)
 
 -- the style of what a run came to
 abbrev pub outcome_style : Styles → FinalRunStats → Style

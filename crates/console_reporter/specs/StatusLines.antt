@@ -1,5 +1,5 @@
 -- The line of a finished test.
-use Rattle.std.specs.Prelude.{ℕ, Bool, true, false, None, [], ◌++◌, ◌&&◌, ◌==◌, codes, if◌then◌else◌}
+use Rattle.std.specs.Prelude.{ℕ, Bool, true, false, Option, None, [], ◌++◌, ◌&&◌, ◌==◌, codes, if◌then◌else◌}
 use Rattle.std.specs.Fmt.{decimal}
 use Rattle.run_model.specs.declared.name.TestInstanceId.{TestInstanceId}
 use Rattle.run_model.specs.declared.status.ExecutionResultDescription.{ExecutionResultDescription}
@@ -13,6 +13,7 @@ use Rattle.run_model.specs.declared.status.StatusSummary.{StatusSummary}
 use Rattle.report_text.specs.Words.{Text, right_in}
 use Rattle.report_text.specs.Instances.{instance_text}
 use Rattle.report_text.specs.Styles.{plain, styled}
+use Rattle.report_text.specs.declared.helpers.instance.DisplayCounterIndex.{DisplayCounterIndex}
 use Rattle.report_text.specs.declared.style.Style.{Style}
 use Rattle.report_text.specs.declared.style.Styles.{Styles}
 use Rattle.unit_report.specs.Durations.{bracketed_duration}
@@ -79,10 +80,10 @@ flaky_failure_line s true x = []
 flaky_failure_line s false x = if is_flaky_failure x then flaky_note s else []
 
 -- the line of a finished test, as it is shown at once or, where the flag is set, in the summary
-unfoldable pub status_line : Styles → Bool → TestInstanceId → StatusSummary → Text
-status_line s is_final instance x =
+unfoldable pub status_line : Styles → Bool → Option DisplayCounterIndex → TestInstanceId → StatusSummary → Text
+status_line s is_final counter instance x =
     status_prefix s is_final x
     ++ (bracketed_duration x.time_taken.0
-    ++ (instance_text s.list_styles None None instance
+    ++ (instance_text s.list_styles None counter instance
     ++ (plain (codes "\n")
     ++ flaky_failure_line s is_final x.case)))

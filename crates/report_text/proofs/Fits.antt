@@ -84,7 +84,7 @@ fit_pieces-past start end pos place (StretchText s ∷ ps) h k =
 pub fit_pieces-skipped : (start end pos : ℕ) (s : Text) (ps : List PieceText) → end ≤ pos → fit_pieces start end pos (StretchText s ∷ ps) ≡ fit_pieces start end pos ps
 fit_pieces-skipped start end pos s ps h = rw (kept_stretch-past start end pos s h) (fit_pieces-past start end (pos + columns_of (chars s)) pos ps (omega arith) h)
 
-columns_of-le : (cs : List ℕ) → columns_of cs ≤ 3 * length cs
+pub columns_of-le : (cs : List ℕ) → columns_of cs ≤ 3 * length cs
 columns_of-le [] = omega arith
 columns_of-le (c ∷ cs) = rw (columns_of-cons c cs) (omega (arith, char_columns-le c, columns_of-le cs))
 

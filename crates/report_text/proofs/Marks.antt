@@ -8,7 +8,7 @@ use lib.Utf8.{scalar, encode, next}
 use Rattle.report_text.specs.Words.{Text}
 use Rattle.report_text.specs.Escapes.{is_within, is_parameter, is_intermediate, is_control, is_visible, front_len, then_len, one_len, csi_len, osc_len, short_len, sequence_len, PieceText, pieces, pieces_after}
 use Rattle.report_text.specs.Escapes.PieceText.{SequenceText, StretchText}
-use Rattle.report_text.specs.Scanner.{rest_len, is_before_backslash, StepCounts, step_of, short_step_of, final_step_of, begun, mode_after_step, advanced}
+use Rattle.report_text.specs.Scanner.{rest_len, is_before_backslash, StepCounts, step_of, short_step_of, final_step_of, begun, mode_after_step, advanced, mode_after}
 use Rattle.report_text.proofs.FittedPuts.{one_utf8, one_char}
 use Rattle.report_text.proofs.Pieces.{pieces-sequence, pieces-stretch}
 use Rattle.report_text.proofs.ScannerSteps.{then_len-inside, then_len-past, osc_len-bell, osc_len-terminator, osc_len-control, osc_len-inside}
@@ -20,11 +20,11 @@ use Rattle.report_text.specs.declared.escapes.Step.TheVariants.{Inside, Ends}
 
 -- the bytes of a character past ASCII
 
-abbrev AreHigh : List ℕ → Type 0
+abbrev pub AreHigh : List ℕ → Type 0
 AreHigh [] = Unit {0}
 AreHigh (b ∷ bs) = (128 ≤ b) × AreHigh bs
 
-encode-high : (c : ℕ) → 128 ≤ c → (b : ℕ) × (bs : List ℕ) × (encode_utf8 c ≡ b ∷ bs) × AreHigh (b ∷ bs)
+pub encode-high : (c : ℕ) → 128 ≤ c → (b : ℕ) × (bs : List ℕ) × (encode_utf8 c ≡ b ∷ bs) × AreHigh (b ∷ bs)
 unfolding encode
 encode-high c h = elim (cases_lt c 128) [
   | inl l ↦ absurd (omega arith)
@@ -113,9 +113,6 @@ high_front (b ∷ bs) t h = let l = h.0 in let q : (b == 27) ≡ false = grind (
 abbrev pub Mark : Type 0
 Mark = Bool × ℕ
 
-abbrev pub mode_after : Mode → ℕ → Mode
-mode_after m c = unwrap_or (advanced m c) mode.Text
-
 abbrev pub marks : Mode → List ℕ → List Mark
 marks m [] = []
 marks m (c ∷ cs) = (is_some (advanced m c), c) ∷ marks (mode_after m c) cs
@@ -151,7 +148,7 @@ drop_past : (xs t : Text) (n : ℕ) → drop (length xs + n) (xs ++ t) ≡ drop 
 drop_past [] t n = let e : length {A = ℕ} [] + n ≡ n = omega arith in rw e refl
 drop_past (x ∷ xs) t n = let e : length (x ∷ xs) + n ≡ suc (length xs + n) = omega arith in rw e (drop_past xs t n)
 
-chars_past : (c : ℕ) (t : Text) → scalar c ≡ true → chars (encode_utf8 c ++ t) ≡ c ∷ chars t
+pub chars_past : (c : ℕ) (t : Text) → scalar c ≡ true → chars (encode_utf8 c ++ t) ≡ c ∷ chars t
 chars_past c t h = chars-append (encode_utf8 c) t (one_utf8 c h) ∙ ap (λ x. x ++ chars t) (one_char c h)
 
 -- the marks of a stretch, and those after it

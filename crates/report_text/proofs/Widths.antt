@@ -12,15 +12,15 @@ use Rattle.report_text.specs.Escapes.{PieceText, pieces, pieces_after, stretches
 use Rattle.report_text.specs.Escapes.PieceText.{SequenceText, StretchText}
 use Rattle.report_text.specs.Fitting.{char_columns, columns_of, columns, kept_chars, kept_stretch, fit_pieces, fit, sequences, IsClosed, AreClosed, IsPainted, ArePainted, shrunk, shrunk_parts, part_sequences}
 
-free_both : (xs ys : Text) → HasNoEscape xs → HasNoEscape ys → HasNoEscape (xs ++ ys)
+pub free_both : (xs ys : Text) → HasNoEscape xs → HasNoEscape ys → HasNoEscape (xs ++ ys)
 free_both [] ys h k = k
 free_both (c ∷ xs) ys h k = let both = and_parts (not (c == 27)) (has_no_escape xs) h in rw (both.0, free_both xs ys both.1 k) refl
 
-free_front : (xs ys : Text) → HasNoEscape (xs ++ ys) → HasNoEscape xs
+pub free_front : (xs ys : Text) → HasNoEscape (xs ++ ys) → HasNoEscape xs
 free_front [] ys h = refl
 free_front (c ∷ xs) ys h = let both = and_parts (not (c == 27)) (has_no_escape (xs ++ ys)) h in rw (both.0, free_front xs ys both.1) refl
 
-free_back : (xs ys : Text) → HasNoEscape (xs ++ ys) → HasNoEscape ys
+pub free_back : (xs ys : Text) → HasNoEscape (xs ++ ys) → HasNoEscape ys
 free_back [] ys h = h
 free_back (c ∷ xs) ys h = free_back xs ys (and_parts (not (c == 27)) (has_no_escape (xs ++ ys)) h).1
 
@@ -91,7 +91,7 @@ stretch-free (c ∷ t) = elim (cases_Bool (c == 27)) [
   | inr n ↦ rw n (rw (n, stretch-free t) refl)
 ]
 
-free_after : (n : ℕ) (t : Text) → AreFree (pieces_after n t)
+pub free_after : (n : ℕ) (t : Text) → AreFree (pieces_after n t)
 unfolding pieces_after
 free_after zero [] = tt
 free_after (suc n) [] = tt
@@ -180,7 +180,7 @@ visible-joined [] t f k = refl
 visible-joined (SequenceText s ∷ ps) t f k = simp append_assoc (visible-closed_append s (joined ps ++ t) k.0 ∙ visible-joined ps t f k.1)
 visible-joined (StretchText s ∷ ps) t f k = simp append_assoc (visible-free_append s (joined ps ++ t) f.0 ∙ ap (λ x. s ++ x) (visible-joined ps t f.1 k))
 
-sequences-joined : (ps : List PieceText) (t : Text) → AreFree ps → AreClosed (sequences ps) → sequences (pieces (joined ps ++ t)) ≡ sequences ps ++ sequences (pieces t)
+pub sequences-joined : (ps : List PieceText) (t : Text) → AreFree ps → AreClosed (sequences ps) → sequences (pieces (joined ps ++ t)) ≡ sequences ps ++ sequences (pieces t)
 sequences-joined [] t f k = refl
 sequences-joined (SequenceText s ∷ ps) t f k = simp append_assoc (sequences-closed_append s (joined ps ++ t) k.0 ∙ ap (λ x. s ∷ x) (sequences-joined ps t f k.1))
 sequences-joined (StretchText s ∷ ps) t f k = simp append_assoc (sequences-free_append s (joined ps ++ t) f.0 ∙ sequences-joined ps t f.1 k)
@@ -191,11 +191,11 @@ visible-utf8 t u = rw (← stretches-pieces t) (stretches-utf8 (pieces t) (texts
 cases_le_tells : (m n : ℕ) → ((nat_le m n ≡ true) × (m ≤ n)) ⊎ ((nat_le m n ≡ false) × (n < m))
 cases_le_tells m n = elim (cases_lt n m) [ inl h ↦ inr (grind (arith, nat_tests), h) | inr h ↦ inl (grind (arith, nat_tests), h) ]
 
-closed_both : (ss ts : List Text) → AreClosed ss → AreClosed ts → AreClosed (ss ++ ts)
+pub closed_both : (ss ts : List Text) → AreClosed ss → AreClosed ts → AreClosed (ss ++ ts)
 closed_both [] ts h k = k
 closed_both (s ∷ ss) ts h k = (h.0, closed_both ss ts h.1 k)
 
-sequences-free : (t : Text) → HasNoEscape t → sequences (pieces t) ≡ []
+pub sequences-free : (t : Text) → HasNoEscape t → sequences (pieces t) ≡ []
 unfolding pieces_after
 sequences-free t h = ap (λ x. sequences (pieces x)) (sym (append-nil t)) ∙ sequences-free_append t [] h
 

@@ -25,5 +25,6 @@ pub record EndsText (bytes : Text) (n : ℕ) : Type 0 where
   pub whole : n ≡ length bytes
   pub none : (k : ℕ) → k < length bytes → slice_index bytes k ≢ 10
 
+-- the first chunk of a text ends there
 abbrev pub IsChunkEnd : ℕ → Text → ℕ → Type 0
 IsChunkEnd limit bytes n = EndsNear limit bytes n ⊎ (EndsFar limit bytes n ⊎ EndsText bytes n)

@@ -22,6 +22,7 @@ abbrev pub moved_by : ℕ → Standing → ℕ → Option Mode → Standing
 moved_by end s c (Some m) = record { mode = m; place = s.place; is_open = false }
 moved_by end s c None = record { mode = mode.Text; place = next_place end s.place (char_columns c); is_open = s.is_open || nat_lt s.place end }
 
+-- the same at what the scan says of the character
 abbrev pub moved : ℕ → Standing → ℕ → Standing
 moved end s c = moved_by end s c (advanced s.mode c)
 
@@ -30,9 +31,11 @@ abbrev pub is_kept_by : ℕ → ℕ → Standing → ℕ → Option Mode → Boo
 is_kept_by start end s c (Some m) = true
 is_kept_by start end s c None = (s.is_open || nat_lt s.place end) && (nat_le start s.place && nat_le (s.place + char_columns c) end)
 
+-- the same at what the scan says of the character
 abbrev pub is_kept : ℕ → ℕ → Standing → ℕ → Bool
 is_kept start end s c = is_kept_by start end s c (advanced s.mode c)
 
+-- what is kept of the character
 abbrev pub kept_char : ℕ → ℕ → Standing → ℕ → Text
 kept_char start end s c = if is_kept start end s c then encode_utf8 c else []
 
@@ -97,6 +100,7 @@ module _ {W : Type 0} (m : Meaning W) where
     pub end : b.end ≡ a.end
     pub same : b.inner.ghost_name ≡ a.inner.ghost_name
 
+  -- a text is accepted as what is kept of it is by the writer below, of which all else is known
   abbrev pub fitted_meaning : Meaning (Fitted W)
   fitted_meaning = record {
     accepts = FittedAccepts;

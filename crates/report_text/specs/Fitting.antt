@@ -1,5 +1,5 @@
 -- Columns, and a text cut to some of them.
-use Rattle.std.specs.Prelude.{◌≡◌, ℕ, ◌+◌, ◌-◌, Bool, true, false, ◌&&◌, List, [], ◌∷◌, ◌++◌, nat_le, nat_lt, chars, encode_utf8_all, unwrap_or, sum_by, if◌then◌else◌}
+use Rattle.std.specs.Prelude.{◌≡◌, ℕ, ◌+◌, ◌-◌, ◌≤◌, Bool, true, false, ◌&&◌, List, [], ◌∷◌, ◌++◌, nat_le, nat_lt, chars, encode_utf8_all, unwrap_or, sum_by, if◌then◌else◌}
 use Rattle.std.specs.Str.{IsUtf8}
 use Rattle.unicode_width.specs.Width.{char_width}
 use Rattle.report_text.specs.Words.{Text}
@@ -55,6 +55,7 @@ sequences (StretchText s ∷ ps) = sequences ps
 abbrev pub IsClosed : Text → Type 0
 IsClosed s = (u : Text) → pieces (s ++ u) ≡ SequenceText s ∷ pieces u
 
+-- each of the sequences ends by itself
 abbrev pub AreClosed : List Text → Type 0
 AreClosed [] = Unit {0}
 AreClosed (s ∷ ss) = IsClosed s × AreClosed ss
@@ -72,6 +73,7 @@ abbrev pub shrunk_parts : List Text → Text → ℕ → Text
 shrunk_parts [] name r = shrunk true name r
 shrunk_parts (t ∷ ts) name r = shrunk false t r ++ shrunk_parts ts name (r - columns t)
 
+-- each of the parts is such a text
 abbrev pub ArePainted : List Text → Type 0
 ArePainted [] = Unit {0}
 ArePainted (t ∷ ts) = IsPainted t × ArePainted ts
@@ -80,3 +82,8 @@ ArePainted (t ∷ ts) = IsPainted t × ArePainted ts
 abbrev pub part_sequences : List Text → List Text
 part_sequences [] = []
 part_sequences (t ∷ ts) = sequences (pieces t) ++ part_sequences ts
+
+-- parts cut to a width have at most so many columns, and all their sequences
+pub record FitsWidth (width : ℕ) (ts : List Text) (name : Text) : Type 0 where
+  pub narrow : columns (shrunk_parts ts name width) ≤ width
+  pub complete : sequences (pieces (shrunk_parts ts name width)) ≡ part_sequences ts ++ sequences (pieces name)

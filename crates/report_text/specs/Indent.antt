@@ -4,6 +4,7 @@ use Rattle.std.specs.List.{join_with_byte}
 use Rattle.report_text.specs.Words.{Text}
 use Rattle.report_text.specs.Lines.{lines}
 
+-- no byte is in the text
 abbrev pub is_empty : Text → Bool
 is_empty [] = true
 is_empty (c ∷ t) = false

@@ -125,6 +125,7 @@ module _ {W : Type 0} (m : Meaning W) where
     pub indentation : b.indentation.now ≡ a.indentation.now
     pub same : b.inner.ghost_name ≡ a.inner.ghost_name
 
+  -- a text is accepted as its indentation is by the writer below, of which all else is known
   abbrev pub indented_meaning : Meaning (Indented W)
   indented_meaning = record {
     accepts = IndentedAccepts;

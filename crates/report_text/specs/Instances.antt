@@ -1,5 +1,5 @@
 -- Names, iterations and counters as a report shows them.
-use Rattle.std.specs.Prelude.{ℕ, ◌+◌, List, [], ◌∷◌, ◌++◌, Option, None, Some, length, codes, encode_utf8}
+use Rattle.std.specs.Prelude.{◌≢◌, ℕ, ◌+◌, List, [], ◌∷◌, ◌++◌, Option, None, Some, length, codes, encode_utf8}
 use Rattle.std.specs.Fmt.{decimal}
 use Rattle.std.specs.declared.num.NonZeroU32.{NonZeroU32}
 use Rattle.std.specs.Int.NonZero.{non_zero_u32_get}
@@ -8,6 +8,8 @@ use Rattle.run_model.specs.declared.name.TestInstanceId.{TestInstanceId}
 use Rattle.run_model.specs.declared.stress.StressIndex.{StressIndex}
 use Rattle.std.specs.List.{repeat}
 use Rattle.report_text.specs.Words.{Text, right_in}
+use Rattle.report_text.specs.Escapes.{HasNoEscape}
+use Rattle.report_text.specs.Fitting.{shrunk_parts}
 use Rattle.report_text.specs.Styles.{PartText, Plain, Styled, paint}
 use Rattle.report_text.specs.declared.style.Style.{Style}
 use Rattle.report_text.specs.declared.style.Style.TheVariants as style
@@ -51,14 +53,39 @@ unfoldable pub counter_prefix : Option DisplayCounterIndex → Text
 counter_prefix None = []
 counter_prefix (Some c) = counter_text c ++ paint (Plain (codes " ") ∷ [])
 
+-- a binary's id and a space
+unfoldable pub id_prefix : Style → Text → Text
+id_prefix s id = paint (Styled s id ∷ Plain (codes " ") ∷ [])
+
 -- a test: its iteration, its counter, its binary's id with a space and its name
 unfoldable pub test_text : ListStyles → Option StressIndex → Option DisplayCounterIndex → Text → Text → Text
 test_text s stress counter binary_id name =
-    stress_prefix s.count stress ++ (counter_prefix counter ++ (paint (Styled s.binary_id binary_id ∷ Plain (codes " ") ∷ []) ++ name_text s name))
+    stress_prefix s.count stress ++ (counter_prefix counter ++ (id_prefix s.binary_id binary_id ++ name_text s name))
+
+-- what stands before its name, in parts
+abbrev pub front_parts : ListStyles → Option StressIndex → Option DisplayCounterIndex → Text → List Text
+front_parts s stress counter binary_id = stress_prefix s.count stress ∷ counter_prefix counter ∷ id_prefix s.binary_id binary_id ∷ []
+
+-- a test, cut to a greatest width if there is one: each part takes what those before it left of it
+abbrev pub shown_text : Option ℕ → ListStyles → Option StressIndex → Option DisplayCounterIndex → Text → Text → Text
+shown_text None s stress counter binary_id name = test_text s stress counter binary_id name
+shown_text (Some width) s stress counter binary_id name = shrunk_parts (front_parts s stress counter binary_id) (name_text s name) width
 
 -- the same of a test whose names are borrowed
 abbrev pub instance_text : ListStyles → Option StressIndex → Option DisplayCounterIndex → TestInstanceId → Text
 instance_text s stress counter i = test_text s stress counter i.binary_id.now i.test_name.now
+
+abbrev pub shown_instance : Option ℕ → ListStyles → Option StressIndex → Option DisplayCounterIndex → TestInstanceId → Text
+shown_instance width s stress counter i = shown_text width s stress counter i.binary_id.now i.test_name.now
+
+-- no escape character is in the counter's character, the binary's id and the name
+abbrev pub HasPlainCounter : Option DisplayCounterIndex → Type 0
+HasPlainCounter None = Unit {0}
+HasPlainCounter (Some (Counter current total)) = Unit {0}
+HasPlainCounter (Some (Padded character width)) = character ≢ 27
+
+abbrev pub HasPlainWords : Option DisplayCounterIndex → Text → Text → Type 0
+HasPlainWords counter binary_id name = HasPlainCounter counter × HasNoEscape binary_id × HasNoEscape name
 
 -- a setup script: its iteration, its id and its command
 unfoldable pub script_text : Style → Style → Option StressIndex → Text → Text → Text

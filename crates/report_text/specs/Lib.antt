@@ -2,6 +2,7 @@ pub mod Accept
 pub mod Buffer
 pub mod ChunkEnds
 pub mod Chunks
+pub mod Counted
 pub mod Durations
 pub mod Escapes
 pub mod Failures

@@ -27,3 +27,7 @@ shell_word t = if is_unquoted t then t else codes "'" ++ (quoted_text t ++ codes
 -- words with one space between each two
 unfoldable pub shell_words : List Text → Text
 shell_words ts = join_by shell_word (codes " ") ts
+
+-- a text between single quotes, whatever is in it
+abbrev pub in_single_quotes : Text → Text
+in_single_quotes t = codes "'" ++ (t ++ codes "'")

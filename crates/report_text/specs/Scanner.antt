@@ -1,5 +1,5 @@
 -- What the scanner's states and steps mean.
-use Rattle.std.specs.Prelude.{◌≡◌, ℕ, suc, Bool, false, ◌==◌, ◌&&◌, [], ◌∷◌, Option, None, Some, if◌then◌else◌}
+use Rattle.std.specs.Prelude.{◌≡◌, ℕ, suc, Bool, false, ◌==◌, ◌&&◌, [], ◌∷◌, Option, None, Some, unwrap_or, if◌then◌else◌}
 use Rattle.report_text.specs.Words.{Text}
 use Rattle.report_text.specs.Escapes.{csi_len, osc_len, short_len, sequence_len, then_len, front_len, one_len, is_within, is_parameter, is_intermediate, is_control}
 use Rattle.report_text.specs.declared.escapes.Mode.{Mode}
@@ -31,6 +31,7 @@ StepCounts (Ends k) n t = n ≡ k
 abbrev pub final_step_of : ℕ → Step
 final_step_of c = if is_intermediate c then Inside Intermediates else (if is_within 0x40 0x7E c then Ends 1 else Ends 0)
 
+-- the steps of a sequence that is neither a control sequence nor a command
 abbrev pub short_step_of : ℕ → Step
 short_step_of c = if is_intermediate c then Inside Short else (if is_within 0x30 0x7E c then Ends 1 else Ends 0)
 
@@ -60,3 +61,7 @@ advanced (mode.Sequence Parameters) c = mode_after_step c (step_of Parameters c 
 advanced (mode.Sequence Intermediates) c = mode_after_step c (step_of Intermediates c false)
 advanced (mode.Sequence Command) c = if c == 27 then Some mode.Terminator else mode_after_step c (step_of Command c false)
 advanced (mode.Sequence Short) c = mode_after_step c (step_of Short c false)
+
+-- the mode after a character
+abbrev pub mode_after : Mode → ℕ → Mode
+mode_after m c = unwrap_or (advanced m c) mode.Text

@@ -161,18 +161,18 @@ fn sequence_len(after: &[u8]) -> usize
     count
 }
 
-// Where a scan of a sequence stands, after its escape character.
-#[derive(Clone, Copy, Debug, PartialEq, Eq)]
-pub enum State {
-    // Nothing else is read.
+/// Where a scan of a sequence stands, after its escape character.
+#[derive(Clone, Copy)]
+pub(crate) enum State {
+    /// Nothing else is read.
     Start,
-    // In a control sequence, parameters may come.
+    /// In a control sequence, parameters may come.
     Parameters,
-    // In a control sequence, intermediates may come.
+    /// In a control sequence, intermediates may come.
     Intermediates,
-    // In a command.
+    /// In a command.
     Command,
-    // In any other sequence.
+    /// In any other sequence.
     Short,
 }
 
@@ -258,8 +258,8 @@ fn short_step(code: u32) -> Step
 }
 
 /// Where a scan of a text stands between two characters.
-#[derive(Clone, Copy, Debug, PartialEq, Eq)]
-pub enum Mode {
+#[derive(Clone, Copy)]
+pub(crate) enum Mode {
     /// Outside sequences.
     Text,
     /// In a sequence.
@@ -270,7 +270,7 @@ pub enum Mode {
 
 /// Where a scan stands after a character that belongs to a sequence, and `None` at one that belongs to none. So a text
 /// can be scanned in pieces, each from where the one before it left off.
-pub fn advance(mode: Mode, c: char) -> Option<Mode>
+pub(crate) fn advance(mode: Mode, c: char) -> Option<Mode>
     ensures { result ≡ advanced mode c }
 {
     let state = match mode {

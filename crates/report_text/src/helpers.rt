@@ -1,6 +1,6 @@
 //! Words, numbers, durations and names as a report shows them.
 //!
-//! Each type here has `write_to`, which takes no memory and has one clause: the text that was written, or a beginning of
+//! Each type whose text is its own has `write_to`, which takes no memory and has one clause: the text that was written, or a beginning of
 //! it where a fault came. Its `Display` shows that very text.
 
 pub mod decimal;
@@ -8,12 +8,15 @@ pub mod durations;
 pub mod failure;
 pub mod instance;
 pub mod interceptor;
+mod max_width;
 pub mod paths;
 pub mod plural;
 pub mod quoting;
 pub mod repeated;
 pub mod run_id;
 pub mod script;
+#[cfg(test)]
+mod tests;
 pub mod theme;
 
 pub use crate::style::RESET_COLOR;
@@ -21,7 +24,16 @@ pub use decimal::{Unsigned, decimal_char_width};
 pub use durations::{
     DurationRounding, FormattedDuration, FormattedHhMmSs, FormattedRelativeDuration,
 };
+pub use failure::{ExitDescription, display_abort_status, display_exited_with};
 pub use instance::{
     DisplayCounterIndex, DisplayStressIndex, DisplayTestInstance, DisplayTestName, write_test_name,
 };
+pub use interceptor::format_interceptor_too_many_tests;
+pub use paths::{
+    convert_rel_path_to_forward_slash, convert_rel_path_to_main_sep, dylib_path, dylib_path_envvar,
+    rel_path_join,
+};
+pub use quoting::{CommandWord, QuotedDisplay, shell_join};
+pub use run_id::force_or_new_run_id;
+pub use script::{DisplayScriptInstance, write_script_instance};
 pub use theme::ThemeCharacters;

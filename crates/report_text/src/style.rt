@@ -125,6 +125,28 @@ impl Style {
         w.write_str(self.suffix())
     }
 
+    /// Writes three texts joined, in this style.
+    ///
+    /// ```
+    /// styles.count.write_joined(w, "profile.", "ci", ".overrides") // "profile.ci.overrides" in the style
+    /// ```
+    #[tactic(auto, unfolding(crate::specs::Styles::part_text))]
+    pub fn write_joined<W: WriteStr>(
+        self,
+        w: &mut W,
+        first: &str,
+        second: &str,
+        third: &str,
+    ) -> Result<(), WriteFault>
+        ensures { Puts W.meaning w.old (part_text (PartText.Styled self (first.now ++ (second.now ++ third.now)))) result w.new }
+    {
+        w.write_str(self.prefix())?;
+        w.write_str(first)?;
+        w.write_str(second)?;
+        w.write_str(third)?;
+        w.write_str(self.suffix())
+    }
+
     /// Writes four texts joined, right in so many columns.
     ///
     /// ```

@@ -52,4 +52,23 @@ pub struct TestCounts {
     pub run_count: usize,
     /// The binaries that were listed.
     pub listed_binary_count: usize,
+    /// What is not to run.
+    pub skip_counts: SkipCounts,
+}
+
+/// How many tests and binaries a run skips, and why.
+#[derive(Clone, Copy, Debug, Default, PartialEq, Eq)]
+pub struct SkipCounts {
+    /// Tests that are skipped, those below among them.
+    pub skipped_tests: usize,
+    /// Tests that passed in a run before.
+    pub skipped_tests_rerun: usize,
+    /// Tests that are no benchmarks.
+    pub skipped_tests_non_benchmark: usize,
+    /// Tests that the default filter leaves out.
+    pub skipped_tests_default_filter: usize,
+    /// Binaries that are skipped, those below among them.
+    pub skipped_binaries: usize,
+    /// Binaries that the default filter leaves out.
+    pub skipped_binaries_default_filter: usize,
 }

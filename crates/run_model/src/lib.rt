@@ -15,3 +15,4 @@ pub mod stats;
 pub mod status;
 pub mod stress;
 pub mod time;
+pub mod unit;

@@ -1,2 +1,5 @@
 pub mod Durations
 pub mod Levels
+pub mod SkipCounts
+pub mod UnitKinds
+pub mod Warnings

@@ -1,126 +1,15 @@
-//! Durations as the lines of a report show them.
+//! Durations, counts and warnings as the lines of a report show them.
 
-ghost use Rattle.std.specs.Prelude.{◌≡◌, ◌++◌, Some, codes};
-ghost use Rattle.report_text.specs.Words.{right_in};
-ghost use Rattle.report_text.specs.Numbers.{seconds};
-ghost use Rattle.report_text.specs.Writer.{Puts};
-ghost use Rattle.unit_report.specs.Durations.{bracketed_clock, bracketed_duration, duration_by, slow_duration};
+mod durations;
+mod skip_counts;
+#[cfg(test)]
+mod tests;
+mod unit_kind;
+mod warnings;
 
-use report_text::helpers::durations::write_clock_between;
-use report_text::numbers::write_seconds_between;
-use report_text::show_written;
-use report_text::write_str::{WriteFault, WriteStr};
-use run_model::time::Nanos;
-use std::fmt;
-use std::fmt::Formatter;
-
-/// A duration between brackets, and a space: seconds with three decimals, right in eight columns.
-///
-/// The nearest thousandth is shown, of two that are as near the greater one.
-///
-/// ```
-/// DisplayBracketedDuration(Nanos(5_000_000)) // "[   0.005s] "
-/// ```
-#[derive(Clone, Copy, Debug)]
-pub struct DisplayBracketedDuration(pub Nanos);
-
-impl DisplayBracketedDuration {
-    /// Writes what it shows.
-    #[tactic(auto, unfolding(crate::specs::Durations::bracketed_duration))]
-    pub fn write_to<W: WriteStr>(&self, w: &mut W) -> Result<(), WriteFault>
-        ensures { Puts W.meaning w.old (bracketed_duration self.now.0.0) result w.new }
-    {
-        let Nanos(nanos) = self.0;
-        write_seconds_between(w, "[", 8, nanos, "s] ")
-    }
-}
-
-impl fmt::Display for DisplayBracketedDuration {
-    ghost output = { λ d. Some (bracketed_duration d.0.0) };
-
-    fn fmt<W: fmt::Write>(&self, f: &mut Formatter<W>) -> fmt::Result {
-        show_written!(self, f)
-    }
-}
-
-/// How long a run has taken, between brackets and a space: hours, minutes and seconds, right in nine columns. A part of a
-/// second is left out.
-///
-/// ```
-/// DisplayBracketedHhMmSs(Nanos(12_000_000_000)) // "[ 00:00:12] "
-/// ```
-#[derive(Clone, Copy, Debug)]
-pub struct DisplayBracketedHhMmSs(pub Nanos);
-
-impl DisplayBracketedHhMmSs {
-    /// Writes what it shows.
-    #[tactic(auto, unfolding(crate::specs::Durations::bracketed_clock))]
-    pub fn write_to<W: WriteStr>(&self, w: &mut W) -> Result<(), WriteFault>
-        ensures { Puts W.meaning w.old (bracketed_clock self.now.0.0) result w.new }
-    {
-        let Nanos(nanos) = self.0;
-        write_clock_between(w, "[", 9, nanos / 1_000_000_000, "] ")
-    }
-}
-
-impl fmt::Display for DisplayBracketedHhMmSs {
-    ghost output = { λ d. Some (bracketed_clock d.0.0) };
-
-    fn fmt<W: fmt::Write>(&self, f: &mut Formatter<W>) -> fmt::Result {
-        show_written!(self, f)
-    }
-}
-
-/// The delay after which something comes: seconds with three decimals, right in seven columns.
-///
-/// ```
-/// DisplayDurationBy(Nanos(1_000_000_000)) // "by   1.000s "
-/// ```
-#[derive(Clone, Copy, Debug)]
-pub struct DisplayDurationBy(pub Nanos);
-
-impl DisplayDurationBy {
-    /// Writes what it shows.
-    #[tactic(auto, unfolding(crate::specs::Durations::duration_by))]
-    pub fn write_to<W: WriteStr>(&self, w: &mut W) -> Result<(), WriteFault>
-        ensures { Puts W.meaning w.old (duration_by self.now.0.0) result w.new }
-    {
-        let Nanos(nanos) = self.0;
-        write_seconds_between(w, "by ", 7, nanos, "s ")
-    }
-}
-
-impl fmt::Display for DisplayDurationBy {
-    ghost output = { λ d. Some (duration_by d.0.0) };
-
-    fn fmt<W: fmt::Write>(&self, f: &mut Formatter<W>) -> fmt::Result {
-        show_written!(self, f)
-    }
-}
-
-/// A duration that was exceeded, between brackets and a space: seconds with three decimals, right in seven columns.
-///
-/// ```
-/// DisplaySlowDuration(Nanos(60_000_000_000)) // "[> 60.000s] "
-/// ```
-#[derive(Clone, Copy, Debug)]
-pub struct DisplaySlowDuration(pub Nanos);
-
-impl DisplaySlowDuration {
-    /// Writes what it shows.
-    #[tactic(auto, unfolding(crate::specs::Durations::slow_duration))]
-    pub fn write_to<W: WriteStr>(&self, w: &mut W) -> Result<(), WriteFault>
-        ensures { Puts W.meaning w.old (slow_duration self.now.0.0) result w.new }
-    {
-        let Nanos(nanos) = self.0;
-        write_seconds_between(w, "[>", 7, nanos, "s] ")
-    }
-}
-
-impl fmt::Display for DisplaySlowDuration {
-    ghost output = { λ d. Some (slow_duration d.0.0) };
-
-    fn fmt<W: fmt::Write>(&self, f: &mut Formatter<W>) -> fmt::Result {
-        show_written!(self, f)
-    }
-}
+pub use durations::{
+    DisplayBracketedDuration, DisplayBracketedHhMmSs, DisplayDurationBy, DisplaySlowDuration,
+};
+pub use skip_counts::write_skip_counts;
+pub use unit_kind::DisplayUnitKind;
+pub use warnings::write_final_warnings;

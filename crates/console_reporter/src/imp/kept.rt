@@ -1,13 +1,17 @@
 //! What is kept of a run for its summary, and the order in which the summary lists it.
 
-ghost use Rattle.std.specs.Prelude.{◌≡◌, List, OnOk, OnErr};
+ghost use Rattle.std.specs.Prelude.{◌≡◌, List, OnOk, OnErr, Some};
+ghost use Rattle.std.specs.Ordering.{nat_cmp};
+ghost use Rattle.std.specs.Cmp.Lexicographic.{slice_cmp};
 ghost use Rattle.std.specs.List.Sorted.{IsSorted, IsStable};
 ghost use Rattle.report_text.specs.Writer.{Puts};
-ghost use Rattle.console_reporter.specs.Entries.{entry_cmp, instance_cmp, entries_text, final_order, IsFinalOrder};
+ghost use Rattle.console_reporter.specs.Counters.{counter_key};
+ghost use Rattle.console_reporter.specs.Entries.{counted_cmp, entry_cmp, instance_cmp, entries_text, final_order, IsFinalOrder};
 ghost use Rattle.console_reporter.specs.declared.imp.kept.KeptEntry.{KeptEntry};
 
 use super::settings::Settings;
 use super::status_line::write_status_line;
+use report_text::helpers::DisplayCounterIndex;
 use report_text::write_str::{WriteFault, WriteStr};
 use run_model::name::TestInstanceId;
 use run_model::status::StatusSummary;
@@ -17,14 +21,16 @@ use std::cmp::Ordering;
 /// What is kept of a finished test.
 #[derive(Clone, Copy, Debug)]
 pub struct KeptEntry<'a> {
+    /// Its counter, where counters are shown.
+    pub counter: Option<DisplayCounterIndex>,
     /// The test.
     pub instance: TestInstanceId<'a>,
     /// What its attempts came to.
     pub summary: StatusSummary,
 }
 
-/// Compares the entries as the summary lists them: by the final level, the greatest first, then by the bytes of the
-/// binary's id and of the test's name.
+/// Compares the entries as the summary lists them: by the final level, the greatest first, then by the counter where
+/// one is shown, then by the bytes of the binary's id and of the test's name.
 pub fn compare_entries(left: &KeptEntry<'_>, right: &KeptEntry<'_>) -> Ordering
     ensures { result ≡ entry_cmp left.now right.now }
 {
@@ -32,8 +38,56 @@ pub fn compare_entries(left: &KeptEntry<'_>, right: &KeptEntry<'_>) -> Ordering
     let right_level = right.summary.final_status_level().below_all();
     match left_level.cmp(&right_level) {
         Ordering::Less => Ordering::Less,
+        Ordering::Equal => compare_counted(left, right),
+        Ordering::Greater => Ordering::Greater,
+    }
+}
+
+// Compares the counters, then the instances.
+fn compare_counted(left: &KeptEntry<'_>, right: &KeptEntry<'_>) -> Ordering
+    ensures { result ≡ counted_cmp left.now right.now }
+{
+    match compare_counters(left.counter, right.counter) {
+        Ordering::Less => Ordering::Less,
         Ordering::Equal => compare_instances(left.instance, right.instance),
         Ordering::Greater => Ordering::Greater,
+    }
+}
+
+// Compares counters: none first, then by their numbers, then padding.
+fn compare_counters(
+    left: Option<DisplayCounterIndex>,
+    right: Option<DisplayCounterIndex>,
+) -> Ordering
+    ensures { result ≡ slice_cmp nat_cmp (counter_key left) (counter_key right) }
+{
+    match (left, right) {
+        (None, None) => Ordering::Equal,
+        (None, Some(_)) => Ordering::Less,
+        (Some(_), None) => Ordering::Greater,
+        (Some(left), Some(right)) => compare_shown_counters(left, right),
+    }
+}
+
+fn compare_shown_counters(left: DisplayCounterIndex, right: DisplayCounterIndex) -> Ordering
+    ensures { result ≡ slice_cmp nat_cmp (counter_key (Some left)) (counter_key (Some right)) }
+{
+    match (left, right) {
+        (
+            DisplayCounterIndex::Counter { current, total },
+            DisplayCounterIndex::Counter {
+                current: right_current,
+                total: right_total,
+            },
+        ) => match current.cmp(&right_current) {
+            Ordering::Less => Ordering::Less,
+            Ordering::Equal => total.cmp(&right_total),
+            Ordering::Greater => Ordering::Greater,
+        },
+        (DisplayCounterIndex::Counter { .. }, DisplayCounterIndex::Padded { .. }) => Ordering::Less,
+        (DisplayCounterIndex::Padded { .. }, DisplayCounterIndex::Counter { .. }) =>
+            Ordering::Greater,
+        (DisplayCounterIndex::Padded { .. }, DisplayCounterIndex::Padded { .. }) => Ordering::Equal,
     }
 }
 
@@ -75,7 +129,14 @@ pub fn write_entries<W: WriteStr>(
     ensures { Puts W.meaning w.old (entries_text settings.now entries.now) result w.new }
 {
     for entry in entries {
-        write_status_line(w, &settings.styles, true, entry.instance, &entry.summary)?;
+        write_status_line(
+            w,
+            &settings.styles,
+            true,
+            entry.counter,
+            entry.instance,
+            &entry.summary,
+        )?;
     }
     Ok(())
 }

@@ -17,8 +17,9 @@ use super::calls::ReportCall;
 use super::faults::{RunFault, WriteEventError};
 use super::kept::{KeptEntry, sort_entries, write_entries};
 use super::run_text::{write_run_finished, write_run_started};
-use super::settings::{Settings, styles_for, theme_for};
+use super::settings::{Settings, counter_width_for, styles_for, theme_for};
 use super::status_line::write_status_line;
+use report_text::helpers::DisplayCounterIndex;
 use report_text::write_str::{WriteFault, WriteStr};
 use run_model::event::{TestEvent, TestEventKind};
 use run_model::memory::OutOfMemory;
@@ -26,6 +27,7 @@ use run_model::name::TestInstanceId;
 use run_model::run_id::ShortestRunIdPrefix;
 use run_model::status::StatusSummary;
 use std::alloc::{AllocError, Global};
+use unit_report::formatters::write_final_warnings;
 
 /// Reports events to a writer.
 ///
@@ -71,6 +73,8 @@ impl DisplayReporterBuilder {
                     mode: self.mode,
                     status_levels: resolved.status_levels,
                     styles: styles_for(self.should_colorize),
+                    counter_width: counter_width_for(resolved.progress_display, self.run_count),
+                    default_filter: self.default_filter,
                     theme_characters: theme_for(use_unicode),
                 },
                 has_failed: false,
@@ -236,8 +240,11 @@ impl<'a> ReporterState<'a> {
             TestEventKind::TestFinished {
                 test_instance,
                 run_statuses,
-                ..
-            } => self.keep_test(*test_instance, run_statuses.summary()),
+                current_stats,
+            } => {
+                let counter = self.settings.finished_counter(current_stats);
+                self.keep_test(counter, *test_instance, run_statuses.summary())
+            }
             TestEventKind::RunFinished { .. } => Ok(()),
         }
     }
@@ -245,20 +252,25 @@ impl<'a> ReporterState<'a> {
     // Keeps a finished test where its final level is shown.
     fn keep_test(
         &mut self,
+        counter: Option<DisplayCounterIndex>,
         instance: TestInstanceId<'a>,
         summary: StatusSummary,
     ) -> Result<(), AllocError>
         ensures settings { self.new.settings ≡ self.old.settings }
         ensures prefix { self.new.unique_prefix ≡ self.old.unique_prefix }
         ensures works { self.new.has_failed ≡ self.old.has_failed }
-        ensures kept { OnOk result (self.new.kept.items ≡ self.old.kept.items ++ option_to_list (entry_if (is_kept self.old.settings 0 summary) (record { instance = instance.entry; summary = summary }))) }
+        ensures kept { OnOk result (self.new.kept.items ≡ self.old.kept.items ++ option_to_list (entry_if (is_kept self.old.settings 0 summary) (record { counter = counter; instance = instance.entry; summary = summary }))) }
         ensures hidden { OnErr result (is_kept self.old.settings 0 summary ≡ true) }
     {
         let shown = self.settings.status_levels.final_status_level;
         if !summary.final_status_level().is_shown_at(shown) {
             return Ok(());
         }
-        self.kept.push(KeptEntry { instance, summary })?;
+        self.kept.push(KeptEntry {
+            counter,
+            instance,
+            summary,
+        })?;
         Ok(())
     }
 }
@@ -312,11 +324,16 @@ fn write_event_text<W: WriteStr>(
         TestEventKind::TestFinished {
             test_instance,
             run_statuses,
-            ..
-        } => write_test_finished(w, settings, *test_instance, &run_statuses.summary()),
+            current_stats,
+        } => {
+            let counter = settings.finished_counter(current_stats);
+            let summary = run_statuses.summary();
+            write_test_finished(w, settings, counter, *test_instance, &summary)
+        }
         TestEventKind::RunFinished { elapsed, run_stats } => {
             write_run_finished(w, settings, *elapsed, run_stats)?;
-            write_listed(w, settings, &state.kept)
+            write_listed(w, settings, &state.kept)?;
+            write_final_warnings(settings.mode, run_stats.final_stats(), &settings.styles, w)
         }
     }
 }
@@ -326,16 +343,17 @@ fn write_event_text<W: WriteStr>(
 fn write_test_finished<W: WriteStr>(
     w: &mut W,
     settings: &Settings,
+    counter: Option<DisplayCounterIndex>,
     instance: TestInstanceId<'_>,
     summary: &StatusSummary,
 ) -> Result<(), WriteFault>
-    ensures { Puts W.meaning w.old (test_finished_text settings.now instance.entry summary.now) result w.new }
+    ensures { Puts W.meaning w.old (test_finished_text settings.now counter instance.entry summary.now) result w.new }
 {
     if summary
         .status_level()
         .is_shown_at(settings.status_levels.status_level)
     {
-        write_status_line(w, &settings.styles, false, instance, summary)
+        write_status_line(w, &settings.styles, false, counter, instance, summary)
     } else {
         Ok(())
     }

@@ -2,7 +2,7 @@
 
 ghost use Rattle.std.specs.Prelude.{◌≡◌, ◌≤◌, length};
 ghost use Rattle.report_text.specs.Writer.{Puts};
-ghost use Rattle.console_reporter.specs.RunTexts.{bar_line, run_id_text, with_profile, id_text, run_id_line, starting_line, run_started_text, outcome_style, initial_count_text, run_counts_text, summary_line, run_finished_text};
+ghost use Rattle.console_reporter.specs.RunTexts.{bar_line, run_id_text, with_profile, id_text, run_id_line, test_counts_text, starting_line, run_started_text, outcome_style, initial_count_text, run_counts_text, summary_line, run_finished_text};
 
 use super::settings::Settings;
 use super::stats_text::write_summary_text;
@@ -16,7 +16,7 @@ use run_model::name::ProfileName;
 use run_model::run_id::ShortestRunIdPrefix;
 use run_model::stats::{FinalRunStats, RunFinishedStats, RunStats};
 use run_model::time::Nanos;
-use unit_report::formatters::DisplayBracketedDuration;
+use unit_report::formatters::{DisplayBracketedDuration, write_skip_counts};
 use uuid::Uuid;
 
 /// Writes the start of a run: its id and profile, and how many tests and binaries there are.
@@ -33,7 +33,7 @@ pub fn write_run_started<W: WriteStr>(
 {
     write_bar_line(w, settings.theme_characters)?;
     write_run_id_line(w, &settings.styles, unique_prefix, run_id, profile_name)?;
-    write_starting_line(w, &settings.styles, settings.mode, test_list)
+    write_starting_line(w, settings, test_list)
 }
 
 /// Writes the end of a run before its entries: how long it took and its counts.
@@ -120,18 +120,39 @@ fn write_run_id<W: WriteStr>(
     }
 }
 
-// Writes how many tests and binaries there are.
+// Writes how many tests and binaries there are, and what is skipped.
 #[tactic(auto, unfolding(crate::specs::RunTexts::starting_line))]
 fn write_starting_line<W: WriteStr>(
+    w: &mut W,
+    settings: &Settings,
+    counts: &TestCounts,
+) -> Result<(), WriteFault>
+    ensures { Puts W.meaning w.old (starting_line settings.now counts.now) result w.new }
+{
+    let (mode, styles) = (settings.mode, &settings.styles);
+    styles.pass.write_right(w, 12, "Starting")?;
+    write_plain(w, " ")?;
+    write_test_counts(w, styles, mode, counts)?;
+    write_skip_counts(
+        mode,
+        &counts.skip_counts,
+        &settings.default_filter,
+        styles,
+        w,
+    )?;
+    write_plain(w, "\n")
+}
+
+// Writes how many tests and binaries there are.
+#[tactic(auto, unfolding(crate::specs::RunTexts::test_counts_text))]
+fn write_test_counts<W: WriteStr>(
     w: &mut W,
     styles: &Styles,
     mode: NextestRunMode,
     counts: &TestCounts,
 ) -> Result<(), WriteFault>
-    ensures { Puts W.meaning w.old (starting_line styles.now mode counts.now) result w.new }
+    ensures { Puts W.meaning w.old (test_counts_text styles.now mode counts.now) result w.new }
 {
-    styles.pass.write_right(w, 12, "Starting")?;
-    write_plain(w, " ")?;
     styles.count.write_number(w, counts.run_count as u128)?;
     write_plain(w, " ")?;
     write_plain(w, tests_str(mode, counts.run_count))?;
@@ -140,8 +161,7 @@ fn write_starting_line<W: WriteStr>(
         .count
         .write_number(w, counts.listed_binary_count as u128)?;
     write_plain(w, " ")?;
-    write_plain(w, binaries_str(counts.listed_binary_count))?;
-    write_plain(w, "\n")
+    write_plain(w, binaries_str(counts.listed_binary_count))
 }
 
 // Writes the statistics that end a run, after its bar.

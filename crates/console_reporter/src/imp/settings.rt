@@ -2,15 +2,17 @@
 
 ghost use Rattle.std.specs.Prelude.{◌≡◌};
 ghost use Rattle.report_text.specs.Styles.{styles_of};
-ghost use Rattle.console_reporter.specs.Configuration.{theme_of};
+ghost use Rattle.console_reporter.specs.Configuration.{counter_width_of, theme_of};
+ghost use Rattle.console_reporter.specs.Counters.{finished_counter};
 
-use report_text::helpers::ThemeCharacters;
+use report_text::helpers::{DisplayCounterIndex, ThemeCharacters, decimal_char_width};
 use report_text::style::Styles;
-use run_model::config::NextestRunMode;
-use unit_report::config::StatusLevels;
+use run_model::config::{CompiledDefaultFilter, NextestRunMode};
+use run_model::stats::RunStats;
+use unit_report::config::{ProgressDisplay, StatusLevels};
 
 /// What a reporter goes by. It stays the same over all calls.
-#[derive(Clone, Copy, Debug)]
+#[derive(Debug, Drop)]
 pub struct Settings {
     /// Whether the run runs tests or benchmarks.
     pub mode: NextestRunMode,
@@ -18,8 +20,37 @@ pub struct Settings {
     pub status_levels: StatusLevels,
     /// The styles of the report.
     pub styles: Styles,
+    /// How wide a counter's numbers are, where counters are shown.
+    pub counter_width: Option<usize>,
+    /// Where the default filter stands, which the start of a run names.
+    pub default_filter: CompiledDefaultFilter,
     /// The characters of bars.
     pub theme_characters: ThemeCharacters,
+}
+
+impl Settings {
+    /// The counter of a finished test, where counters are shown: how many of the tests have finished.
+    pub fn finished_counter(&self, stats: &RunStats) -> Option<DisplayCounterIndex>
+        ensures { result ≡ finished_counter self.now stats.now }
+    {
+        match self.counter_width {
+            None => None,
+            Some(_) => Some(DisplayCounterIndex::new_counter(
+                stats.finished_count,
+                stats.initial_run_count,
+            )),
+        }
+    }
+}
+
+/// How wide the numbers of a counter are where counters are shown: as wide as the number of tests.
+pub fn counter_width_for(progress_display: ProgressDisplay, run_count: usize) -> Option<usize>
+    ensures { result ≡ counter_width_of progress_display run_count }
+{
+    match progress_display {
+        ProgressDisplay::Counter => Some(decimal_char_width(run_count)),
+        ProgressDisplay::Bar | ProgressDisplay::None => None,
+    }
 }
 
 /// The styles of a report with colours or without.

@@ -7,7 +7,7 @@ ghost use Rattle.report_text.specs.Words.{right_in};
 ghost use Rattle.console_reporter.specs.StatusLines.{result_word, flaky_style, flaky_words, failure_words, success_text, is_flaky_failure, status_prefix, configured_to, flaky_note, flaky_failure_line, status_line};
 
 use itoa::Buffer;
-use report_text::helpers::DisplayTestInstance;
+use report_text::helpers::{DisplayCounterIndex, DisplayTestInstance};
 use report_text::style::{Styles, write_plain};
 use report_text::write_str::{WriteFault, WriteStr};
 use run_model::name::TestInstanceId;
@@ -22,14 +22,15 @@ pub fn write_status_line<W: WriteStr>(
     w: &mut W,
     styles: &Styles,
     is_final: bool,
+    counter: Option<DisplayCounterIndex>,
     instance: TestInstanceId<'_>,
     summary: &StatusSummary,
 ) -> Result<(), WriteFault>
-    ensures { Puts W.meaning w.old (status_line styles.now is_final instance.entry summary.now) result w.new }
+    ensures { Puts W.meaning w.old (status_line styles.now is_final counter instance.entry summary.now) result w.new }
 {
     write_status_prefix(w, styles, is_final, summary)?;
     DisplayBracketedDuration(summary.time_taken).write_to(w)?;
-    DisplayTestInstance::new(None, None, instance, &styles.list_styles).write_to(w)?;
+    DisplayTestInstance::new(None, counter, instance, &styles.list_styles).write_to(w)?;
     write_plain(w, "\n")?;
     write_flaky_failure_line(w, styles, is_final, summary.case)
 }

@@ -8,7 +8,7 @@ use crate::write_str::{WriteFault, WriteStr};
 
 /// Lets through what lies between two columns of what is written, and every sequence.
 #[derive(Drop)]
-pub struct Fitted<'a, W> {
+pub(super) struct Fitted<'a, W> {
     inner: &'a mut W,
     start: u128,
     end: u128,
@@ -18,7 +18,7 @@ pub struct Fitted<'a, W> {
 
 impl<'a, W> Fitted<'a, W> {
     /// Cuts to the columns from `start` to `end`, of what is written from now on.
-    pub fn new(inner: &'a mut W, start: u128, end: u128) -> Fitted<'a, W>
+    pub(super) fn new(inner: &'a mut W, start: u128, end: u128) -> Fitted<'a, W>
         requires { end < 2 ^ 127 }
         ensures same { result.inner.ghost_name ≡ inner.entry.ghost_name }
         ensures now { result.inner.now ≡ inner.old }
@@ -42,7 +42,7 @@ impl<'a, W> Fitted<'a, W> {
     }
 
     /// The writer below.
-    pub fn into_inner(self) -> &'a mut W
+    pub(super) fn into_inner(self) -> &'a mut W
         ensures now { result.now ≡ self.entry.inner.now }
         ensures same { result.ghost_name ≡ self.entry.inner.ghost_name }
     {

@@ -1,9 +1,12 @@
 //! Tests as a report shows them.
 
-ghost use Rattle.std.specs.Prelude.{◌≡◌, Some};
-ghost use Rattle.report_text.specs.Instances.{counter_prefix, counter_text, instance_text, name_text, stress_prefix, stress_text};
+ghost use Rattle.std.specs.Prelude.{◌≡◌, ℕ, None, Some};
+ghost use Rattle.std.specs.Fmt.{DisplaysOnOk, DisplaysStyledOnOk};
+ghost use Rattle.report_text.specs.Fitting.{FitsWidth};
+ghost use Rattle.report_text.specs.Instances.{HasPlainWords, counter_prefix, counter_text, front_parts, id_prefix, instance_text, name_text, shown_instance, stress_prefix, stress_text};
 ghost use Rattle.report_text.specs.Writer.{Puts};
 
+use crate::helpers::max_width::{CounterPart, IdPart, StressPart, write_within};
 use crate::helpers::repeated::write_repeated;
 use crate::show_written;
 use crate::style::{ListStyles, Style, plain, write_parts};
@@ -26,10 +29,11 @@ pub struct DisplayTestInstance<'a> {
     counter_index: Option<DisplayCounterIndex>,
     instance: TestInstanceId<'a>,
     styles: ListStyles,
+    max_width: Option<usize>,
 }
 
 impl<'a> DisplayTestInstance<'a> {
-    /// Shows the test in these styles.
+    /// Shows the test in these styles, however wide it is.
     pub fn new(
         stress_index: Option<StressIndex>,
         counter_index: Option<DisplayCounterIndex>,
@@ -40,39 +44,84 @@ impl<'a> DisplayTestInstance<'a> {
         ensures counter_index { result.counter_index ≡ counter_index }
         ensures instance { result.instance ≡ instance.entry }
         ensures styles { result.styles ≡ styles.now }
+        ensures whole { result.max_width ≡ None }
     {
         DisplayTestInstance {
             stress_index,
             counter_index,
             instance,
             styles: *styles,
+            max_width: None,
         }
     }
 
+    /// Shows at most so many columns. The iteration, the counter and the binary's id take of them in this order, each
+    /// cut at its end; the name takes what is left, cut at its beginning.
+    pub fn with_max_width(mut self, max_width: usize) -> DisplayTestInstance<'a>
+        ensures width { result.max_width ≡ Some max_width }
+        ensures stress_index { result.stress_index ≡ self.entry.stress_index }
+        ensures counter_index { result.counter_index ≡ self.entry.counter_index }
+        ensures instance { result.instance ≡ self.entry.instance }
+        ensures styles { result.styles ≡ self.entry.styles }
+    {
+        self.max_width = Some(max_width);
+        self
+    }
+
     /// Writes what it shows.
-    #[tactic(auto, unfolding(crate::specs::Instances::test_text))]
     pub fn write_to<W: WriteStr>(&self, w: &mut W) -> Result<(), WriteFault>
+        ensures text { Puts W.meaning w.old (shown_instance self.now.max_width self.now.styles self.now.stress_index self.now.counter_index self.now.instance) result w.new }
+        ensures law { (width : ℕ) → self.now.max_width ≡ Some width → HasPlainWords self.now.counter_index self.now.instance.binary_id.now self.now.instance.test_name.now → FitsWidth width (front_parts self.now.styles self.now.stress_index self.now.counter_index self.now.instance.binary_id.now) (name_text self.now.styles self.now.instance.test_name.now) }
+    {
+        match self.max_width {
+            None => self.write_whole(w),
+            Some(width) => self.write_within(w, width),
+        }
+    }
+
+    // Writes it cut to so many columns.
+    fn write_within<W: WriteStr>(&self, w: &mut W, width: usize) -> Result<(), WriteFault>
+        ensures text { Puts W.meaning w.old (shown_instance (Some width) self.now.styles self.now.stress_index self.now.counter_index self.now.instance) result w.new }
+        ensures law { HasPlainWords self.now.counter_index self.now.instance.binary_id.now self.now.instance.test_name.now → FitsWidth width (front_parts self.now.styles self.now.stress_index self.now.counter_index self.now.instance.binary_id.now) (name_text self.now.styles self.now.instance.test_name.now) }
+    {
+        let stress = StressPart {
+            count_style: self.styles.count,
+            stress_index: self.stress_index,
+        };
+        let counter = CounterPart {
+            counter_index: self.counter_index,
+        };
+        let id = IdPart {
+            id_style: self.styles.binary_id,
+            binary_id: self.instance.binary_id.as_str(),
+        };
+        let name = DisplayTestName::new(self.instance.test_name, &self.styles);
+        // The name fits memory, so its columns are far from the greatest number.
+        let _bytes = self.instance.test_name.as_str().len();
+        write_within(w, &stress, &counter, &id, &name, width)
+    }
+
+    // Writes all of it, however wide it is.
+    #[tactic(auto, unfolding(crate::specs::Instances::test_text))]
+    fn write_whole<W: WriteStr>(&self, w: &mut W) -> Result<(), WriteFault>
         ensures { Puts W.meaning w.old (instance_text self.now.styles self.now.stress_index self.now.counter_index self.now.instance) result w.new }
     {
         write_stress_prefix(w, self.styles.count, self.stress_index)?;
         write_counter_prefix(w, self.counter_index)?;
-        write_parts(
-            w,
-            &[
-                self.styles
-                    .binary_id
-                    .paint(self.instance.binary_id.as_str()),
-                plain(" "),
-            ],
-        )?;
+        write_id_prefix(w, self.styles.binary_id, self.instance.binary_id.as_str())?;
         write_test_name(self.instance.test_name, &self.styles, w)
     }
 }
 
 impl fmt::Display for DisplayTestInstance<'_> {
-    ghost output = { λ t. Some (instance_text t.styles t.stress_index t.counter_index t.instance) };
+    ghost output = { λ t. Some (shown_instance t.max_width t.styles t.stress_index t.counter_index t.instance) };
 
-    fn fmt<W: fmt::Write>(&self, f: &mut Formatter<W>) -> fmt::Result {
+    // Where the names have no escape character, what is shown is within the greatest width.
+    fn fmt<W: fmt::Write>(&self, f: &mut Formatter<W>) -> fmt::Result
+        ensures writes { DisplaysOnOk W.write_str_gives f.old result (Some (shown_instance self.now.max_width self.now.styles self.now.stress_index self.now.counter_index self.now.instance)) f.new }
+        ensures styled { DisplaysStyledOnOk W.write_str_gives f.old result None f.new }
+        ensures law { (width : ℕ) → self.now.max_width ≡ Some width → HasPlainWords self.now.counter_index self.now.instance.binary_id.now self.now.instance.test_name.now → FitsWidth width (front_parts self.now.styles self.now.stress_index self.now.counter_index self.now.instance.binary_id.now) (name_text self.now.styles self.now.instance.test_name.now) }
+    {
         show_written!(self, f)
     }
 }
@@ -145,6 +194,18 @@ pub fn write_stress_prefix<W: WriteStr>(
             write_parts(w, &[plain("] ")])
         }
     }
+}
+
+/// Writes a binary's id and a space.
+#[tactic(auto, unfolding(crate::specs::Instances::id_prefix))]
+pub(super) fn write_id_prefix<W: WriteStr>(
+    w: &mut W,
+    id_style: Style,
+    binary_id: &str,
+) -> Result<(), WriteFault>
+    ensures { Puts W.meaning w.old (id_prefix id_style binary_id.now) result w.new }
+{
+    write_parts(w, &[id_style.paint(binary_id), plain(" ")])
 }
 
 /// How far a run is, before a test.
@@ -232,7 +293,7 @@ impl fmt::Display for DisplayCounterIndex {
 
 /// Writes the counter and a space, if there is one.
 #[tactic(auto, unfolding(crate::specs::Instances::counter_prefix))]
-fn write_counter_prefix<W: WriteStr>(
+pub(super) fn write_counter_prefix<W: WriteStr>(
     w: &mut W,
     counter_index: Option<DisplayCounterIndex>,
 ) -> Result<(), WriteFault>

@@ -2,12 +2,15 @@
 
 ghost use Rattle.std.specs.Prelude.{◌≡◌, ℕ, List, ◌∷◌, ◌++◌, ◌<◌, IfOk, IfSome, MatchOption, codes, length, map, string_bytes};
 ghost use Rattle.std.specs.List.{flat_map};
-ghost use Rattle.report_text.specs.Quoting.{is_unquoted, is_unquoted_byte, quoted_text, shell_word, shell_words};
+ghost use Rattle.std.specs.Option.{option_map};
+ghost use Rattle.report_text.specs.Quoting.{in_single_quotes, is_unquoted, is_unquoted_byte, quoted_text, shell_word, shell_words};
 ghost use Rattle.report_text.specs.Writer.{Puts};
 
 use crate::write_str::{WriteFault, WriteStr, write_strs};
 use run_model::memory::OutOfMemory;
 use std::alloc::Global;
+use std::fmt;
+use std::fmt::Formatter;
 
 /// A word of a command.
 pub trait CommandWord {
@@ -161,4 +164,22 @@ fn split_quote(text: &str) -> Option<(&str, &str)>
     ensures shorter { IfSome result (λ parts. length parts.1.now < length text.now) }
 {
     text.split_once('\'')
+}
+
+/// A value between single quotes, which are not escaped in it.
+///
+/// ```
+/// QuotedDisplay(&script_id) // 's1'
+/// ```
+#[derive(Clone, Copy, Debug)]
+pub struct QuotedDisplay<'a, T>(pub &'a T);
+
+impl<T: fmt::Display> fmt::Display for QuotedDisplay<'_, T> {
+    ghost output = { λ quoted. option_map in_single_quotes (T.output quoted.0.now) };
+
+    fn fmt<W: fmt::Write>(&self, f: &mut Formatter<W>) -> fmt::Result {
+        f.write_str("'")?;
+        fmt::Display::fmt(self.0, f)?;
+        f.write_str("'")
+    }
 }

@@ -116,7 +116,7 @@ impl<W: fmt::Write> Indented<'_, W> {
         requires { IsOneLine line.now }
         ensures { OnOk result (TakesMargin W.write_str_gives self.old line.now self.new) }
     {
-        if !self.needs_indent || line == "\n" {
+        if line == "\n" || !self.needs_indent {
             return Ok(());
         }
         self.inner.write_str(self.indentation)

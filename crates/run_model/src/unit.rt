@@ -1,0 +1,10 @@
+//! Units: what a run starts as processes.
+
+/// Whether a unit is a test or a setup script.
+#[derive(Clone, Copy, Debug, PartialEq, Eq)]
+pub enum UnitKind {
+    /// A test, or a benchmark.
+    Test,
+    /// A setup script.
+    Script,
+}

@@ -1,0 +1,12 @@
+-- The words for units.
+use Rattle.std.specs.Prelude.{codes}
+use Rattle.run_model.specs.declared.config.NextestRunMode.{NextestRunMode}
+use Rattle.run_model.specs.declared.config.NextestRunMode.TheVariants as mode
+use Rattle.run_model.specs.declared.unit.UnitKind.{UnitKind}
+use Rattle.run_model.specs.declared.unit.UnitKind.TheVariants as kind
+use Rattle.report_text.specs.Words.{Text}
+
+unfoldable pub unit_word : NextestRunMode → UnitKind → Text
+unit_word mode.Test kind.Test = codes "test"
+unit_word mode.Benchmark kind.Test = codes "benchmark"
+unit_word m kind.Script = codes "script"

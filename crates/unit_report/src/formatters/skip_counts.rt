@@ -1,0 +1,281 @@
+//! How many tests and binaries a run skips, and why.
+
+ghost use Rattle.std.specs.Prelude.{◌≡◌};
+ghost use Rattle.report_text.specs.Writer.{Puts};
+ghost use Rattle.unit_report.specs.SkipCounts.{already_passed, between, binaries_text, default_filter_word, filter_name, filtered_text, has_no_filtered, in_profile, included_text, rerun_text, skip_counts_text, skip_note, skip_reason, skipped_tests_in, tests_and_binaries, tests_text, via_filter};
+
+use report_text::helpers::plural::{binaries_str, tests_str};
+use report_text::style::{Styles, write_plain};
+use report_text::write_str::{WriteFault, WriteStr};
+use run_model::config::{CompiledDefaultFilter, CompiledDefaultFilterSection, NextestRunMode};
+use run_model::event::SkipCounts;
+
+/// Writes what a run skips, between parentheses and after a space; nothing where it skips nothing.
+///
+/// ```
+/// // " (2 tests and 1 binary skipped, including 1 test that already passed)"
+/// write_skip_counts(NextestRunMode::Test, &skip_counts, &default_filter, &styles, w)?;
+/// ```
+pub fn write_skip_counts<W: WriteStr>(
+    mode: NextestRunMode,
+    skip_counts: &SkipCounts,
+    default_filter: &CompiledDefaultFilter,
+    styles: &Styles,
+    w: &mut W,
+) -> Result<(), WriteFault>
+    ensures { Puts W.meaning w.old (skip_counts_text styles.now mode skip_counts.now default_filter.now) result w.new }
+{
+    let tests = skipped_tests(mode, skip_counts);
+    write_skip_note(w, styles, mode, tests, skip_counts, default_filter)
+}
+
+// The tests that are skipped, in benchmark mode without those that are no benchmarks.
+fn skipped_tests(mode: NextestRunMode, skip_counts: &SkipCounts) -> usize
+    ensures { result ≡ skipped_tests_in mode skip_counts.now }
+{
+    match mode {
+        NextestRunMode::Test => skip_counts.skipped_tests,
+        NextestRunMode::Benchmark => skip_counts
+            .skipped_tests
+            .saturating_sub(skip_counts.skipped_tests_non_benchmark),
+    }
+}
+
+// Writes the note, where so many tests and the binaries are not none.
+#[tactic(auto, unfolding(crate::specs::SkipCounts::skip_note))]
+fn write_skip_note<W: WriteStr>(
+    w: &mut W,
+    styles: &Styles,
+    mode: NextestRunMode,
+    tests: usize,
+    counts: &SkipCounts,
+    filter: &CompiledDefaultFilter,
+) -> Result<(), WriteFault>
+    ensures { Puts W.meaning w.old (skip_note styles.now mode tests counts.now filter.now) result w.new }
+{
+    if tests == 0 && counts.skipped_binaries == 0 {
+        return Ok(());
+    }
+    write_plain(w, " (")?;
+    write_tests_and_binaries(w, styles, mode, tests, counts.skipped_binaries)?;
+    write_plain(w, " ")?;
+    styles.skip.write(w, "skipped")?;
+    write_skip_reason(w, styles, mode, tests, counts, filter)?;
+    write_plain(w, ")")
+}
+
+// Writes why: the one reason, or the parts that have one.
+#[tactic(auto, unfolding(crate::specs::SkipCounts::skip_reason))]
+fn write_skip_reason<W: WriteStr>(
+    w: &mut W,
+    styles: &Styles,
+    mode: NextestRunMode,
+    tests: usize,
+    counts: &SkipCounts,
+    filter: &CompiledDefaultFilter,
+) -> Result<(), WriteFault>
+    ensures { Puts W.meaning w.old (skip_reason styles.now mode tests counts.now filter.now) result w.new }
+{
+    if tests == counts.skipped_tests_rerun && counts.skipped_binaries == 0 {
+        write_already_passed(w)
+    } else if tests == counts.skipped_tests_default_filter
+        && counts.skipped_binaries == counts.skipped_binaries_default_filter
+    {
+        write_via_filter(w, styles, filter)
+    } else {
+        write_included(w, styles, mode, counts, filter)
+    }
+}
+
+// Writes, of what is skipped, what passed before and what the default filter leaves out.
+#[tactic(auto, unfolding(crate::specs::SkipCounts::included_text))]
+fn write_included<W: WriteStr>(
+    w: &mut W,
+    styles: &Styles,
+    mode: NextestRunMode,
+    counts: &SkipCounts,
+    filter: &CompiledDefaultFilter,
+) -> Result<(), WriteFault>
+    ensures { Puts W.meaning w.old (included_text styles.now mode counts.now filter.now) result w.new }
+{
+    let has_no_rerun = counts.skipped_tests_rerun == 0;
+    let has_no_filtered = has_no_filtered(counts);
+    if has_no_rerun && has_no_filtered {
+        return Ok(());
+    }
+    write_plain(w, ", including ")?;
+    write_rerun(w, styles, mode, counts.skipped_tests_rerun)?;
+    write_between(w, ", and ", has_no_rerun, has_no_filtered)?;
+    write_filtered(w, styles, mode, counts, filter)
+}
+
+// Whether the default filter leaves nothing out.
+fn has_no_filtered(counts: &SkipCounts) -> bool
+    ensures { result ≡ has_no_filtered counts.now }
+{
+    counts.skipped_tests_default_filter == 0 && counts.skipped_binaries_default_filter == 0
+}
+
+// Writes the tests that passed in a run before, unless there are none.
+#[tactic(auto, unfolding(crate::specs::SkipCounts::rerun_text))]
+fn write_rerun<W: WriteStr>(
+    w: &mut W,
+    styles: &Styles,
+    mode: NextestRunMode,
+    count: usize,
+) -> Result<(), WriteFault>
+    ensures { Puts W.meaning w.old (rerun_text styles.now mode count) result w.new }
+{
+    if count == 0 {
+        return Ok(());
+    }
+    write_tests(w, styles, mode, count)?;
+    write_already_passed(w)
+}
+
+// Writes what the default filter leaves out, unless that is nothing.
+#[tactic(auto, unfolding(crate::specs::SkipCounts::filtered_text))]
+fn write_filtered<W: WriteStr>(
+    w: &mut W,
+    styles: &Styles,
+    mode: NextestRunMode,
+    counts: &SkipCounts,
+    filter: &CompiledDefaultFilter,
+) -> Result<(), WriteFault>
+    ensures { Puts W.meaning w.old (filtered_text styles.now mode counts.now filter.now) result w.new }
+{
+    if has_no_filtered(counts) {
+        return Ok(());
+    }
+    let tests = counts.skipped_tests_default_filter;
+    write_tests_and_binaries(
+        w,
+        styles,
+        mode,
+        tests,
+        counts.skipped_binaries_default_filter,
+    )?;
+    write_via_filter(w, styles, filter)
+}
+
+#[tactic(auto, unfolding(crate::specs::SkipCounts::already_passed))]
+fn write_already_passed<W: WriteStr>(w: &mut W) -> Result<(), WriteFault>
+    ensures { Puts W.meaning w.old already_passed result w.new }
+{
+    write_plain(w, " that already passed")
+}
+
+// Writes the name of the default filter after " via ".
+#[tactic(auto, unfolding(crate::specs::SkipCounts::via_filter))]
+fn write_via_filter<W: WriteStr>(
+    w: &mut W,
+    styles: &Styles,
+    filter: &CompiledDefaultFilter,
+) -> Result<(), WriteFault>
+    ensures { Puts W.meaning w.old (via_filter styles.now filter.now) result w.new }
+{
+    write_plain(w, " via ")?;
+    write_filter_name(w, styles, filter.profile.as_str(), filter.section)
+}
+
+#[tactic(auto, unfolding(crate::specs::SkipCounts::filter_name))]
+fn write_filter_name<W: WriteStr>(
+    w: &mut W,
+    styles: &Styles,
+    profile: &str,
+    section: CompiledDefaultFilterSection,
+) -> Result<(), WriteFault>
+    ensures { Puts W.meaning w.old (filter_name styles.now profile.now section) result w.new }
+{
+    match section {
+        CompiledDefaultFilterSection::Profile => {
+            write_in_profile(w, styles, profile, ".default-filter")
+        }
+        CompiledDefaultFilterSection::Override(_) => {
+            write_default_filter_word(w, styles)?;
+            write_plain(w, " in ")?;
+            write_in_profile(w, styles, profile, ".overrides")
+        }
+    }
+}
+
+#[tactic(auto, unfolding(crate::specs::SkipCounts::in_profile))]
+fn write_in_profile<W: WriteStr>(
+    w: &mut W,
+    styles: &Styles,
+    profile: &str,
+    rest: &str,
+) -> Result<(), WriteFault>
+    ensures { Puts W.meaning w.old (in_profile styles.now profile.now rest.now) result w.new }
+{
+    styles.count.write_joined(w, "profile.", profile, rest)
+}
+
+#[tactic(auto, unfolding(crate::specs::SkipCounts::default_filter_word))]
+fn write_default_filter_word<W: WriteStr>(w: &mut W, styles: &Styles) -> Result<(), WriteFault>
+    ensures { Puts W.meaning w.old (default_filter_word styles.now) result w.new }
+{
+    styles.count.write(w, "default-filter")
+}
+
+// Writes so many tests and binaries, those that are not 0.
+#[tactic(auto, unfolding(crate::specs::SkipCounts::tests_and_binaries))]
+fn write_tests_and_binaries<W: WriteStr>(
+    w: &mut W,
+    styles: &Styles,
+    mode: NextestRunMode,
+    tests: usize,
+    binaries: usize,
+) -> Result<(), WriteFault>
+    ensures { Puts W.meaning w.old (tests_and_binaries styles.now mode tests binaries) result w.new }
+{
+    write_tests(w, styles, mode, tests)?;
+    write_between(w, " and ", tests == 0, binaries == 0)?;
+    write_binaries(w, styles, binaries)
+}
+
+// Writes what stands between two numbers, where neither is 0.
+#[tactic(auto, unfolding(crate::specs::SkipCounts::between))]
+fn write_between<W: WriteStr>(
+    w: &mut W,
+    text: &str,
+    left_is_zero: bool,
+    right_is_zero: bool,
+) -> Result<(), WriteFault>
+    ensures { Puts W.meaning w.old (between text.now left_is_zero right_is_zero) result w.new }
+{
+    if left_is_zero || right_is_zero {
+        Ok(())
+    } else {
+        write_plain(w, text)
+    }
+}
+
+#[tactic(auto, unfolding(crate::specs::SkipCounts::tests_text))]
+fn write_tests<W: WriteStr>(
+    w: &mut W,
+    styles: &Styles,
+    mode: NextestRunMode,
+    count: usize,
+) -> Result<(), WriteFault>
+    ensures { Puts W.meaning w.old (tests_text styles.now mode count) result w.new }
+{
+    if count == 0 {
+        return Ok(());
+    }
+    styles.count.write_number(w, count as u128)?;
+    write_plain(w, " ")?;
+    write_plain(w, tests_str(mode, count))
+}
+
+#[tactic(auto, unfolding(crate::specs::SkipCounts::binaries_text))]
+fn write_binaries<W: WriteStr>(w: &mut W, styles: &Styles, count: usize) -> Result<(), WriteFault>
+    ensures { Puts W.meaning w.old (binaries_text styles.now count) result w.new }
+{
+    if count == 0 {
+        return Ok(());
+    }
+    styles.count.write_number(w, count as u128)?;
+    write_plain(w, " ")?;
+    write_plain(w, binaries_str(count))
+}

@@ -1,0 +1,60 @@
+//! The word for a unit.
+
+ghost use Rattle.std.specs.Prelude.{◌≡◌, Some};
+ghost use Rattle.report_text.specs.Writer.{Puts};
+ghost use Rattle.unit_report.specs.UnitKinds.{unit_word};
+
+use report_text::show_written;
+use report_text::write_str::{WriteFault, WriteStr};
+use run_model::config::NextestRunMode;
+use run_model::unit::UnitKind;
+use std::fmt;
+use std::fmt::Formatter;
+
+/// The word for a unit: "test", in benchmark mode "benchmark", or "script".
+///
+/// ```
+/// DisplayUnitKind::new(NextestRunMode::Benchmark, UnitKind::Test) // "benchmark"
+/// ```
+#[derive(Clone, Copy, Debug)]
+pub struct DisplayUnitKind {
+    mode: NextestRunMode,
+    kind: UnitKind,
+}
+
+impl DisplayUnitKind {
+    /// Of a unit in a run of this mode.
+    pub fn new(mode: NextestRunMode, kind: UnitKind) -> DisplayUnitKind
+        ensures mode { result.mode ≡ mode }
+        ensures kind { result.kind ≡ kind }
+    {
+        DisplayUnitKind { mode, kind }
+    }
+
+    /// Writes what it shows.
+    pub fn write_to<W: WriteStr>(&self, w: &mut W) -> Result<(), WriteFault>
+        ensures { Puts W.meaning w.old (unit_word self.now.mode self.now.kind) result w.new }
+    {
+        w.write_str(self.word())
+    }
+
+    // The word.
+    #[tactic(auto, unfolding(crate::specs::UnitKinds::unit_word))]
+    fn word(&self) -> &'static str
+        ensures { result.now ≡ unit_word self.now.mode self.now.kind }
+    {
+        match (self.kind, self.mode) {
+            (UnitKind::Script, _) => "script",
+            (UnitKind::Test, NextestRunMode::Test) => "test",
+            (UnitKind::Test, NextestRunMode::Benchmark) => "benchmark",
+        }
+    }
+}
+
+impl fmt::Display for DisplayUnitKind {
+    ghost output = { λ d. Some (unit_word d.mode d.kind) };
+
+    fn fmt<W: fmt::Write>(&self, f: &mut Formatter<W>) -> fmt::Result {
+        show_written!(self, f)
+    }
+}

@@ -1,0 +1,175 @@
+//! What a run left undone.
+
+ghost use Rattle.std.specs.Prelude.{◌≡◌};
+ghost use Rattle.report_text.specs.Writer.{Puts};
+ghost use Rattle.unit_report.specs.Warnings.{due_to, final_warnings, hint_after, max_fail, no_fail_fast, not_run_count, not_run_warning, options_hint, run_with, to_run_all, warning_of};
+
+use report_text::helpers::plural::{tests_plural_if, were_plural_if};
+use report_text::style::{Styles, write_plain};
+use report_text::write_str::{WriteFault, WriteStr};
+use run_model::config::NextestRunMode;
+use run_model::level::CancelReason;
+use run_model::stats::{FinalRunStats, RunStatsFailureKind};
+
+/// Writes a line that warns of tests that were not run; nothing where all ran, or where a setup script failed.
+///
+/// ```
+/// // "warning: 1/1 test was not run due to interrupt" and a line feed
+/// write_final_warnings(NextestRunMode::Test, final_stats, &styles, w)?;
+/// ```
+#[tactic(auto, unfolding(crate::specs::Warnings::final_warnings))]
+pub fn write_final_warnings<W: WriteStr>(
+    mode: NextestRunMode,
+    final_stats: FinalRunStats,
+    styles: &Styles,
+    w: &mut W,
+) -> Result<(), WriteFault>
+    ensures { Puts W.meaning w.old (final_warnings styles.now mode final_stats) result w.new }
+{
+    match final_stats {
+        FinalRunStats::Success => Ok(()),
+        FinalRunStats::NoTestsRun => Ok(()),
+        FinalRunStats::Cancelled { reason, kind } => write_warning(w, styles, mode, reason, kind),
+        FinalRunStats::Failed { kind } => {
+            write_warning(w, styles, mode, Some(CancelReason::TestFailure), kind)
+        }
+    }
+}
+
+// Writes the warning of a run that failed in this way.
+fn write_warning<W: WriteStr>(
+    w: &mut W,
+    styles: &Styles,
+    mode: NextestRunMode,
+    reason: Option<CancelReason>,
+    kind: RunStatsFailureKind,
+) -> Result<(), WriteFault>
+    ensures { Puts W.meaning w.old (warning_of styles.now mode reason kind) result w.new }
+{
+    match kind {
+        RunStatsFailureKind::SetupScript => Ok(()),
+        RunStatsFailureKind::Test {
+            initial_run_count,
+            not_run,
+        } => write_not_run_warning(w, styles, mode, reason, initial_run_count, not_run),
+    }
+}
+
+// Writes that tests were not run, where there are such.
+#[tactic(auto, unfolding(crate::specs::Warnings::not_run_warning))]
+fn write_not_run_warning<W: WriteStr>(
+    w: &mut W,
+    styles: &Styles,
+    mode: NextestRunMode,
+    reason: Option<CancelReason>,
+    initial: usize,
+    not_run: usize,
+) -> Result<(), WriteFault>
+    ensures { Puts W.meaning w.old (not_run_warning styles.now mode reason initial not_run) result w.new }
+{
+    if not_run == 0 {
+        return Ok(());
+    }
+    styles.skip.write(w, "warning")?;
+    write_plain(w, ": ")?;
+    write_not_run_count(w, styles, mode, initial, not_run)?;
+    write_due_to(w, styles, reason)?;
+    write_hint_after(w, styles, reason)?;
+    write_plain(w, "\n")
+}
+
+// Writes how many of how many tests were not run.
+#[tactic(auto, unfolding(crate::specs::Warnings::not_run_count))]
+fn write_not_run_count<W: WriteStr>(
+    w: &mut W,
+    styles: &Styles,
+    mode: NextestRunMode,
+    initial: usize,
+    not_run: usize,
+) -> Result<(), WriteFault>
+    ensures { Puts W.meaning w.old (not_run_count styles.now mode initial not_run) result w.new }
+{
+    let plural = !(not_run == 1 && initial == 1);
+    styles.count.write_number(w, not_run as u128)?;
+    write_plain(w, "/")?;
+    styles.count.write_number(w, initial as u128)?;
+    write_plain(w, " ")?;
+    write_plain(w, tests_plural_if(mode, plural))?;
+    write_plain(w, " ")?;
+    write_plain(w, were_plural_if(plural))?;
+    write_plain(w, " not run")
+}
+
+// Writes the reason, where it is known.
+#[tactic(auto, unfolding(crate::specs::Warnings::due_to))]
+fn write_due_to<W: WriteStr>(
+    w: &mut W,
+    styles: &Styles,
+    reason: Option<CancelReason>,
+) -> Result<(), WriteFault>
+    ensures { Puts W.meaning w.old (due_to styles.now reason) result w.new }
+{
+    match reason {
+        None => Ok(()),
+        Some(reason) => {
+            write_plain(w, " due to ")?;
+            styles.skip.write(w, reason.as_str())
+        }
+    }
+}
+
+// Writes which options would run all tests, where a test's failure ended the run.
+#[tactic(auto, unfolding(crate::specs::Warnings::hint_after))]
+fn write_hint_after<W: WriteStr>(
+    w: &mut W,
+    styles: &Styles,
+    reason: Option<CancelReason>,
+) -> Result<(), WriteFault>
+    ensures { Puts W.meaning w.old (hint_after styles.now reason) result w.new }
+{
+    match reason {
+        Some(CancelReason::TestFailure | CancelReason::TestFailureImmediate) => {
+            write_options_hint(w, styles)
+        }
+        _ => Ok(()),
+    }
+}
+
+#[tactic(auto, unfolding(crate::specs::Warnings::options_hint))]
+fn write_options_hint<W: WriteStr>(w: &mut W, styles: &Styles) -> Result<(), WriteFault>
+    ensures { Puts W.meaning w.old (options_hint styles.now) result w.new }
+{
+    write_run_with(w)?;
+    write_no_fail_fast(w, styles)?;
+    write_to_run_all(w)?;
+    write_max_fail(w, styles)?;
+    write_plain(w, ")")
+}
+
+#[tactic(auto, unfolding(crate::specs::Warnings::run_with))]
+fn write_run_with<W: WriteStr>(w: &mut W) -> Result<(), WriteFault>
+    ensures { Puts W.meaning w.old run_with result w.new }
+{
+    write_plain(w, " (run with ")
+}
+
+#[tactic(auto, unfolding(crate::specs::Warnings::no_fail_fast))]
+fn write_no_fail_fast<W: WriteStr>(w: &mut W, styles: &Styles) -> Result<(), WriteFault>
+    ensures { Puts W.meaning w.old (no_fail_fast styles.now) result w.new }
+{
+    styles.count.write(w, "--no-fail-fast")
+}
+
+#[tactic(auto, unfolding(crate::specs::Warnings::max_fail))]
+fn write_max_fail<W: WriteStr>(w: &mut W, styles: &Styles) -> Result<(), WriteFault>
+    ensures { Puts W.meaning w.old (max_fail styles.now) result w.new }
+{
+    styles.count.write(w, "--max-fail")
+}
+
+#[tactic(auto, unfolding(crate::specs::Warnings::to_run_all))]
+fn write_to_run_all<W: WriteStr>(w: &mut W) -> Result<(), WriteFault>
+    ensures { Puts W.meaning w.old to_run_all result w.new }
+{
+    write_plain(w, " to run all tests, or run with ")
+}
