@@ -13,6 +13,8 @@ mod run_text;
 mod settings;
 mod stats_text;
 mod status_line;
+#[cfg(test)]
+mod tests;
 
 pub use builder::DisplayReporterBuilder;
 pub use calls::ReportCall;

@@ -52,7 +52,6 @@ counter_closed (Some (Padded character width)) h =
     (paint_closed (Plain (codes " ") ∷ []) (refl, tt))
 
 id_closed : (s : Style) (id : Text) → HasNoEscape id → IsClosedText (id_prefix s id)
-unfolding id_prefix
 id_closed s id h = paint_closed (Styled s id ∷ Plain (codes " ") ∷ []) (h, (refl, tt))
 
 name_closed : (s : ListStyles) (name : Text) → HasNoEscape name → IsClosedText (name_text s name)

@@ -54,7 +54,7 @@ counter_prefix None = []
 counter_prefix (Some c) = counter_text c ++ paint (Plain (codes " ") ∷ [])
 
 -- a binary's id and a space
-unfoldable pub id_prefix : Style → Text → Text
+abbrev pub id_prefix : Style → Text → Text
 id_prefix s id = paint (Styled s id ∷ Plain (codes " ") ∷ [])
 
 -- a test: its iteration, its counter, its binary's id with a space and its name

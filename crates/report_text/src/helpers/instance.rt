@@ -197,7 +197,6 @@ pub fn write_stress_prefix<W: WriteStr>(
 }
 
 /// Writes a binary's id and a space.
-#[tactic(auto, unfolding(crate::specs::Instances::id_prefix))]
 pub(super) fn write_id_prefix<W: WriteStr>(
     w: &mut W,
     id_style: Style,
