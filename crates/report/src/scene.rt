@@ -45,10 +45,8 @@ pub enum SceneEvent {
         run_id: Uuid,
         /// The profile's name.
         profile_name: ProfileName,
-        /// How many tests are to run.
-        run_count: usize,
-        /// How many binaries were listed.
-        listed_binary_count: usize,
+        /// How many tests and binaries it has.
+        test_list: TestCounts,
     },
     /// A test has finished.
     TestFinished {
@@ -104,13 +102,9 @@ impl SceneEvent {
             SceneEvent::RunStarted {
                 run_id,
                 profile_name,
-                run_count,
-                listed_binary_count,
+                test_list,
             } => TestEventKind::RunStarted {
-                test_list: TestCounts {
-                    run_count: *run_count,
-                    listed_binary_count: *listed_binary_count,
-                },
+                test_list: *test_list,
                 run_id: *run_id,
                 profile_name: ProfileName::new(alloc, profile_name.as_str())?,
             },

@@ -83,19 +83,34 @@ fn prints_a_run(rt: HostRuntime) -> Result<(), Fail> {
     Ok(())
 }
 
-#[test]
-fn prints_in_colour(rt: HostRuntime) -> Result<(), Fail> {
-    let args = words_of(rt.alloc(), &["--color", "FILE"])?;
+// What the program prints of a scene where it is given these words.
+fn report_with(alloc: Global, texts: &[&str], scene: &[u8]) -> Result<Vec<u8>, Fail> {
+    let args = words_of(alloc, texts)?;
     let Some(options) = words(args.as_slice()) else {
         return Err(Fail::from("these are words of the program"));
     };
-    let printed = report_of(rt.alloc(), &options, TWO_TESTS.as_bytes())?;
-    let line =
-        "\x1b[32;1m        PASS\x1b[0m [   0.005s] \x1b[35;1malpha\x1b[0m \x1b[34;1mt1\x1b[0m";
-    assert_eq!(rt;
-        printed.as_slice().split_str(b"\n").nth(3),
-        Some(line.as_bytes())
-    );
+    report_of(alloc, &options, scene)
+}
+
+#[test]
+fn prints_what_options_ask_for(rt: HostRuntime) -> Result<(), Fail> {
+    let alloc = rt.alloc();
+    let scene = format!(in alloc; "config\truns\t2\n{TWO_TESTS}")?;
+    let lines: [(&[&str], &str); 3] = [
+        (&["FILE"], "\n        PASS [   0.005s] alpha t1\n"),
+        (
+            &["--color", "FILE"],
+            "\n\x1b[32;1m        PASS\x1b[0m [   0.005s] \x1b[35;1malpha\x1b[0m \x1b[34;1mt1\x1b[0m\n",
+        ),
+        (
+            &["--counter", "FILE"],
+            "\n        PASS [   0.005s] (1/2) alpha t1\n",
+        ),
+    ];
+    for (texts, line) in lines {
+        let printed = report_with(alloc, texts, scene.as_bytes())?;
+        assert!(rt; printed.as_slice().contains_str(line.as_bytes()));
+    }
     Ok(())
 }
 
@@ -228,7 +243,19 @@ fn tells_the_first_bad_field(rt: HostRuntime) -> Result<(), Fail> {
         (RUN, 2, &["", "-", "00000000-0000-4000-8000-00000000000"]),
         (RUN, 3, &["a\\", "\\q", "\\x80", "\\x4", "\\,"]),
         (RUN, 4, &["", "-", "+1", "-0", "1 ", "18446744073709551616"]),
-        (RUN, 6, &["", "foo=1", "tests"]),
+        (
+            RUN,
+            6,
+            &[
+                "",
+                "foo=1",
+                "tests",
+                "tests=",
+                "tests=1  rerun=1",
+                "tests=1 tests=1",
+                "initial=1",
+            ],
+        ),
         (DONE, 2, &["", "x", "0/0"]),
         (DONE, 4, &["\\", "\\xe9"]),
         (DONE, 5, &["", "-", "Never"]),
@@ -283,7 +310,7 @@ fn tells_the_first_bad_field(rt: HostRuntime) -> Result<(), Fail> {
 #[test]
 fn takes_every_form_of_a_value(rt: HostRuntime) -> Result<(), Fail> {
     let alloc = rt.alloc();
-    let fields: [(&str, usize, &[&str]); 11] = [
+    let fields: [(&str, usize, &[&str]); 12] = [
         (
             "config\tfinal\tfail",
             3,
@@ -294,6 +321,11 @@ fn takes_every_form_of_a_value(rt: HostRuntime) -> Result<(), Fail> {
         (RUN, 2, &["00000000000040008000000000000001"]),
         (RUN, 3, &["", "-", "\\n\\t\\r\\e\\\\\\x7f\\x4A"]),
         (RUN, 4, &["007", "18446744073709551615"]),
+        (
+            RUN,
+            6,
+            &["rerun=1 nonbench=1 tests=1 filter=1 binaries=1 binfilter=1"],
+        ),
         (
             DONE,
             8,
