@@ -1,3 +1,5 @@
 pub mod Cuts
+pub mod Options
+pub mod Reports
 pub mod Unescaped
 pub mod Zips

@@ -10,8 +10,7 @@ use Rattle.report.specs.declared.scene.SceneEvent.TheVariants as scene
 
 -- a reporter's event says what a scene's does
 abbrev pub SaysSame : SceneEvent → TestEventKind → Type 0
-SaysSame (scene.RunStarted id profile tests binaries) (kind.RunStarted counts run_id profile_name) =
-    (counts ≡ record { run_count = tests; listed_binary_count = binaries }) × (run_id ≡ id) × (profile_name ≡ profile)
+SaysSame (scene.RunStarted id profile counts) (kind.RunStarted test_list run_id profile_name) = (test_list ≡ counts) × (run_id ≡ id) × (profile_name ≡ profile)
 SaysSame (scene.TestFinished binary name status flaky stats) (kind.TestFinished test statuses current_stats) =
     (test.binary_id.now ≡ binary) × (test.test_name.now ≡ name) × (statuses ≡ record { earlier = []; last = status; flaky_result = flaky }) × (current_stats ≡ stats)
 SaysSame (scene.RunFinished time stats) (kind.RunFinished elapsed run_stats) = (elapsed ≡ time) × (run_stats ≡ Single stats)

@@ -9,6 +9,8 @@ use Rattle.report.specs.declared.reader.values.ConfigKey.{ConfigKey}
 use Rattle.report.specs.declared.reader.values.ConfigKey.TheVariants as key
 use Rattle.report.specs.declared.reader.values.OutputForm.{OutputForm}
 use Rattle.report.specs.declared.reader.values.OutputForm.TheVariants as form
+use Rattle.run_model.specs.declared.config.NextestRunMode.{NextestRunMode}
+use Rattle.run_model.specs.declared.config.NextestRunMode.TheVariants as mode
 use Rattle.run_model.specs.declared.level.FinalStatusLevel.{FinalStatusLevel}
 use Rattle.run_model.specs.declared.level.FinalStatusLevel.TheVariants as final
 use Rattle.run_model.specs.declared.level.CancelReason.{CancelReason}
@@ -33,6 +35,8 @@ IsResultText (outcome.Fail (failure.ExitCode code)) t = (digits : List ℕ) × (
 
 abbrev pub config_key_word : ConfigKey → List ℕ
 config_key_word key.Final = codes "final"
+config_key_word key.Runs = codes "runs"
+config_key_word key.Bench = codes "bench"
 
 abbrev pub output_form_word : OutputForm → List ℕ
 output_form_word form.Split = codes "split"
@@ -40,6 +44,10 @@ output_form_word form.Split = codes "split"
 abbrev pub flag_word : Bool → List ℕ
 flag_word false = codes "0"
 flag_word true = codes "1"
+
+abbrev pub mode_word : NextestRunMode → List ℕ
+mode_word mode.Test = codes "0"
+mode_word mode.Benchmark = codes "1"
 
 abbrev pub final_level_word : FinalStatusLevel → List ℕ
 final_level_word final.None = codes "none"

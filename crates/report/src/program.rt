@@ -1,7 +1,9 @@
 //! What the program does with a scene, over any reader and any writer.
 
-ghost use Rattle.std.specs.Prelude.{◌≡◌, IfErr};
+ghost use Rattle.std.specs.Prelude.{◌≡◌, ◌⊎◌, IfOk, IfErr, OnOk};
 ghost use Rattle.report.specs.Faults.{IsJudgeFault, status_of};
+ghost use Rattle.report.specs.Reports.{AcceptsReport, PrintsReport, IsRefused, StopsReport, builder_for, fault_for, progress_for};
+ghost use Rattle.report.specs.declared.fault.Fault.{Fault};
 
 use crate::fault::Fault;
 use crate::reader::read_scene;
@@ -9,12 +11,10 @@ use crate::scene::Scene;
 use crate::words::Options;
 use console_reporter::config::{DisplayConfig, ShowProgress};
 use console_reporter::imp::{DisplayReporterBuilder, DisplayerKind, WriteEventError, run_report};
-use console_reporter::write_str::TextBuffer;
-use run_model::config::{CompiledDefaultFilter, CompiledDefaultFilterSection, NextestRunMode};
-use run_model::level::StatusLevel;
-use run_model::memory::OutOfMemory;
+use console_reporter::write_str::{TextBuffer, WriteStr};
+use run_model::config::{CompiledDefaultFilter, CompiledDefaultFilterSection};
 use run_model::name::ProfileName;
-use std::alloc::Global;
+use std::alloc::{AllocError, Global};
 use std::io::{ErrorKind, Read, Write};
 
 /// Reads a scene to its end, and judges it whole. It answers the fault of the first line that has one, that the file
@@ -37,7 +37,7 @@ pub fn judge<'a, R: Read + Drop>(
     read_scene(alloc, text.as_slice())
 }
 
-/// Writes the report of a scene. On a fault a beginning of it was written.
+/// Writes the report of a scene to a device. On a fault a beginning of it was written.
 pub fn write_report<W: Write + Drop>(
     alloc: Global,
     options: &Options<'_>,
@@ -46,16 +46,50 @@ pub fn write_report<W: Write + Drop>(
 ) -> Result<(), Fault<'static>>
     ensures { IfErr result (λ fault. status_of fault ≡ 3) }
 {
-    let calls = scene.calls(alloc, options)?;
-    let builder = builder_of(alloc, scene)?;
-    let Ok(mut out) = TextBuffer::new(alloc, writer) else {
-        return Err(Fault::OutOfMemory);
+    let (outcome, _writer) = write_and_return(alloc, options, scene, writer);
+    outcome
+}
+
+/// Writes the report of a scene to a device, and gives the device back. Once all went well, the device holds the report
+/// after what it held before.
+pub fn write_and_return<W: Write>(
+    alloc: Global,
+    options: &Options<'_>,
+    scene: &Scene,
+    writer: W,
+) -> (Result<(), Fault<'static>>, W)
+    ensures ok { OnOk result.0 (PrintsReport options.now scene.now (W.contents writer) (W.contents result.1)) }
+    ensures status { IfErr result.0 (λ fault. status_of fault ≡ 3) }
+{
+    let mut out = match TextBuffer::new(alloc, writer) {
+        Ok(out) => out,
+        Err((AllocError, writer)) => return (Err(Fault::OutOfMemory), writer),
     };
+    let outcome = report_to(alloc, options, scene, &mut out);
+    let (writer, _pending) = out.into_inner();
+    (outcome, writer)
+}
+
+/// Writes the report of a scene, and delivers it. On a fault the writer has accepted a beginning of the report, which is
+/// the empty one where memory is refused for the scene's calls.
+pub fn report_to<W: WriteStr>(
+    alloc: Global,
+    options: &Options<'_>,
+    scene: &Scene,
+    writer: &mut W,
+) -> Result<(), Fault<'static>>
+    ensures ok { OnOk result (AcceptsReport W.meaning options.now scene.now writer.old writer.new) }
+    ensures delivered { OnOk result (W.meaning.is_delivered writer.new) }
+    ensures err { IfErr result (λ fault. IsRefused writer.old fault writer.new ⊎ StopsReport W.meaning options.now scene.now writer.old fault writer.new) }
+    ensures status { IfErr result (λ fault. status_of fault ≡ 3) }
+{
+    let calls = scene.calls(alloc, options)?;
+    let builder = builder_of(alloc, options, scene)?;
     let (use_unicode, is_terminal, is_ci, display_empty_outputs) = (false, false, false, false);
     match run_report(
         alloc,
         builder,
-        &mut out,
+        writer,
         use_unicode,
         is_terminal,
         is_ci,
@@ -67,33 +101,51 @@ pub fn write_report<W: Write + Drop>(
     }
 }
 
-// What the scene's reporter is built from: test mode, plain, status level Pass and no counter.
-fn builder_of(alloc: Global, scene: &Scene) -> Result<DisplayReporterBuilder, OutOfMemory> {
+// What the scene's reporter is built from.
+fn builder_of(
+    alloc: Global,
+    options: &Options<'_>,
+    scene: &Scene,
+) -> Result<DisplayReporterBuilder, Fault<'static>>
+    ensures ok { IfOk result (λ builder. builder ≡ builder_for options.now scene.now) }
+    ensures err { IfErr result (λ fault. fault ≡ Fault.OutOfMemory) }
+{
     Ok(DisplayReporterBuilder {
-        mode: NextestRunMode::Test,
+        mode: scene.config.mode,
         default_filter: CompiledDefaultFilter {
             profile: ProfileName::new(alloc, "default")?,
             section: CompiledDefaultFilterSection::Profile,
         },
         display_config: DisplayConfig::with_overrides(
-            ShowProgress::None,
+            progress_for(options),
             false,
-            StatusLevel::Pass,
+            options.status_level,
             scene.config.final_status_level,
         ),
-        run_count: 0,
+        run_count: scene.config.run_count,
         success_output: None,
         failure_output: None,
-        should_colorize: false,
+        should_colorize: options.should_colorize,
         verbose: false,
         no_output_indent: false,
         displayer_kind: DisplayerKind::Live,
     })
 }
 
+// A counter, or nothing.
+fn progress_for(options: &Options<'_>) -> ShowProgress
+    ensures { result ≡ progress_for options.now }
+{
+    if options.show_counter {
+        ShowProgress::Counter
+    } else {
+        ShowProgress::None
+    }
+}
+
 // The program's fault where its report stopped.
 fn fault_of(error: WriteEventError) -> Fault<'static>
-    ensures { status_of result ≡ 3 }
+    ensures { result ≡ fault_for error }
 {
     match error {
         WriteEventError::Io | WriteEventError::Failed => Fault::WriteFailed,

@@ -2,11 +2,12 @@
 //!
 //! A scene is lines of fields that are parted by tabs. The first field names an event, and what follows it is read by
 //! the kind of the event. Each module knows one thing: `lines` which kinds there are and what fields they have, `values`
-//! what each field may hold, `fields` how a line is taken apart, and `texts` and `numbers` how those are written.
+//! what each field may hold, `counts` the counts of a field that has several, `fields` how a line is taken apart, and `texts` and `numbers` how those are written.
 
 ghost use Rattle.std.specs.Prelude.{IfErr};
 ghost use Rattle.report.specs.Faults.{IsSceneFault};
 
+mod counts;
 mod fields;
 mod lines;
 mod numbers;
@@ -19,6 +20,7 @@ use crate::scene::{Scene, SceneConfig};
 use bstr::ByteSlice;
 use fields::Fields;
 use lines::{LineKind, read_config, read_done, read_end, read_run};
+use run_model::config::NextestRunMode;
 use run_model::level::FinalStatusLevel;
 use std::alloc::Global;
 
@@ -33,6 +35,8 @@ pub fn read_scene(alloc: Global, text: &[u8]) -> Result<Scene, Fault<'static>>
 {
     let config = SceneConfig {
         final_status_level: FinalStatusLevel::Flaky,
+        run_count: 0,
+        mode: NextestRunMode::Test,
     };
     let mut scene = Scene {
         config,

@@ -5,6 +5,7 @@ ghost use Rattle.std.specs.Prelude.{◌≡◌, [], IfOk, IfErr};
 use crate::fault::Fault;
 use crate::words::Options;
 use console_reporter::imp::ReportCall;
+use run_model::config::NextestRunMode;
 use run_model::event::{TestCounts, TestEvent, TestEventKind};
 use run_model::level::FinalStatusLevel;
 use run_model::memory::OutOfMemory;
@@ -29,6 +30,10 @@ pub struct Scene {
 pub struct SceneConfig {
     /// The level from which on the summary lists a test.
     pub final_status_level: FinalStatusLevel,
+    /// How many tests the run has, which decides the width of a counter that is not known.
+    pub run_count: usize,
+    /// Whether the run runs tests or benchmarks.
+    pub mode: NextestRunMode,
 }
 
 /// An event of a run.
@@ -40,10 +45,8 @@ pub enum SceneEvent {
         run_id: Uuid,
         /// The profile's name.
         profile_name: ProfileName,
-        /// How many tests are to run.
-        run_count: usize,
-        /// How many binaries were listed.
-        listed_binary_count: usize,
+        /// How many tests and binaries it has.
+        test_list: TestCounts,
     },
     /// A test has finished.
     TestFinished {
@@ -99,13 +102,9 @@ impl SceneEvent {
             SceneEvent::RunStarted {
                 run_id,
                 profile_name,
-                run_count,
-                listed_binary_count,
+                test_list,
             } => TestEventKind::RunStarted {
-                test_list: TestCounts {
-                    run_count: *run_count,
-                    listed_binary_count: *listed_binary_count,
-                },
+                test_list: *test_list,
                 run_id: *run_id,
                 profile_name: ProfileName::new(alloc, profile_name.as_str())?,
             },

@@ -3,6 +3,8 @@
 use crate::fault::Fault;
 use crate::program::{judge, write_report};
 use crate::words::{Options, words};
+use bstr::ByteSlice;
+use run_model::level::StatusLevel;
 use std::alloc::Global;
 use std::io;
 use std::io::{ErrorKind, Read, Write};
@@ -15,7 +17,17 @@ const DONE: &str =
 
 const END: &str = "end\t1520000000\tinitial=2 finished=2 passed=1 failed=1\t0\t-";
 
-const OPTIONS: Options<'static> = Options { file: "FILE" };
+const OPTIONS: Options<'static> = Options {
+    should_colorize: false,
+    show_counter: false,
+    status_level: StatusLevel::Pass,
+    file: "FILE",
+};
+
+const IN_COLOUR: Options<'static> = Options {
+    should_colorize: true,
+    ..OPTIONS
+};
 
 // Two tests, one of which fails, and the end of the run.
 const TWO_TESTS: &str = "config\tfinal\tfail\n\
@@ -37,11 +49,20 @@ const SUMMARY: &str = "------------
 ";
 
 // What the program prints of a scene that it accepts.
-fn report_of(alloc: Global, scene: &[u8]) -> Result<Vec<u8>, Fail> {
+fn report_of(alloc: Global, options: &Options<'_>, scene: &[u8]) -> Result<Vec<u8>, Fail> {
     let mut printed = Vec::new(alloc);
-    let scene = judge(alloc, &OPTIONS, scene)?;
-    write_report(alloc, &OPTIONS, &scene, &mut printed)?;
+    let scene = judge(alloc, options, scene)?;
+    write_report(alloc, options, &scene, &mut printed)?;
     Ok(printed)
+}
+
+// The texts, as the words of a command line.
+fn words_of(alloc: Global, texts: &[&str]) -> Result<Vec<String>, Fail> {
+    let mut args = Vec::with_capacity(alloc, texts.len())?;
+    for text in texts {
+        args.push(String::from_str(alloc, text)?)?;
+    }
+    Ok(args)
 }
 
 #[test]
@@ -49,16 +70,68 @@ fn prints_a_run(rt: HostRuntime) -> Result<(), Fail> {
     let alloc = rt.alloc();
     let once = format!(in alloc; "{BEGINNING}{SUMMARY}")?;
     assert_eq!(rt;
-        report_of(alloc, TWO_TESTS.as_bytes())?.as_slice(),
+        report_of(alloc, &OPTIONS, TWO_TESTS.as_bytes())?.as_slice(),
         once.as_bytes()
     );
     let ends_twice = format!(in alloc; "{TWO_TESTS}{END}")?;
     let twice = format!(in alloc; "{BEGINNING}{SUMMARY}{SUMMARY}")?;
     assert_eq!(rt;
-        report_of(alloc, ends_twice.as_bytes())?.as_slice(),
+        report_of(alloc, &OPTIONS, ends_twice.as_bytes())?.as_slice(),
         twice.as_bytes()
     );
-    assert!(rt; report_of(alloc, b"")?.is_empty());
+    assert!(rt; report_of(alloc, &OPTIONS, b"")?.is_empty());
+    Ok(())
+}
+
+// What the program prints of a scene where it is given these words.
+fn report_with(alloc: Global, texts: &[&str], scene: &[u8]) -> Result<Vec<u8>, Fail> {
+    let args = words_of(alloc, texts)?;
+    let Some(options) = words(args.as_slice()) else {
+        return Err(Fail::from("these are words of the program"));
+    };
+    report_of(alloc, &options, scene)
+}
+
+#[test]
+fn prints_what_options_ask_for(rt: HostRuntime) -> Result<(), Fail> {
+    let alloc = rt.alloc();
+    let scene = format!(in alloc; "config\truns\t2\n{TWO_TESTS}")?;
+    let lines: [(&[&str], &str); 3] = [
+        (&["FILE"], "\n        PASS [   0.005s] alpha t1\n"),
+        (
+            &["--color", "FILE"],
+            "\n\x1b[32;1m        PASS\x1b[0m [   0.005s] \x1b[35;1malpha\x1b[0m \x1b[34;1mt1\x1b[0m\n",
+        ),
+        (
+            &["--counter", "FILE"],
+            "\n        PASS [   0.005s] (1/2) alpha t1\n",
+        ),
+    ];
+    for (texts, line) in lines {
+        let printed = report_with(alloc, texts, scene.as_bytes())?;
+        assert!(rt; printed.as_slice().contains_str(line.as_bytes()));
+    }
+    Ok(())
+}
+
+#[test]
+fn shows_benchmarks_from_a_level_on(rt: HostRuntime) -> Result<(), Fail> {
+    let alloc = rt.alloc();
+    let options = Options {
+        status_level: StatusLevel::Fail,
+        ..OPTIONS
+    };
+    let scene = format!(in alloc; "config\tbench\t1\n{TWO_TESTS}")?;
+    let printed = report_of(alloc, &options, scene.as_bytes())?;
+    let lines = "------------
+ Nextest run ID 00000000-0000-4000-8000-000000000001 with nextest profile: default
+    Starting 2 benchmarks across 1 binary
+        FAIL [   1.500s] alpha mod::t2
+------------
+     Summary [   1.520s] 2 benchmarks run: 1 passed, 1 failed, 0 skipped
+        FAIL [   1.500s] alpha mod::t2
+";
+    assert_eq!(rt; printed.as_slice(), lines.as_bytes());
     Ok(())
 }
 
@@ -162,13 +235,27 @@ fn tells_the_fault_of_a_line(rt: HostRuntime) -> Result<(), Fail> {
 #[test]
 fn tells_the_first_bad_field(rt: HostRuntime) -> Result<(), Fail> {
     let alloc = rt.alloc();
-    let fields: [(&str, usize, &[&str]); 18] = [
+    let fields: [(&str, usize, &[&str]); 20] = [
         ("config\tfinal\tfail", 2, &["", "Final", "loud"]),
         ("config\tfinal\tfail", 3, &["", "-", "Fail", "retry"]),
+        ("config\truns\t2", 3, &["", "-", "-1"]),
+        ("config\tbench\t1", 3, &["", "-", "2"]),
         (RUN, 2, &["", "-", "00000000-0000-4000-8000-00000000000"]),
         (RUN, 3, &["a\\", "\\q", "\\x80", "\\x4", "\\,"]),
         (RUN, 4, &["", "-", "+1", "-0", "1 ", "18446744073709551616"]),
-        (RUN, 6, &["", "foo=1", "tests"]),
+        (
+            RUN,
+            6,
+            &[
+                "",
+                "foo=1",
+                "tests",
+                "tests=",
+                "tests=1  rerun=1",
+                "tests=1 tests=1",
+                "initial=1",
+            ],
+        ),
         (DONE, 2, &["", "x", "0/0"]),
         (DONE, 4, &["\\", "\\xe9"]),
         (DONE, 5, &["", "-", "Never"]),
@@ -223,15 +310,22 @@ fn tells_the_first_bad_field(rt: HostRuntime) -> Result<(), Fail> {
 #[test]
 fn takes_every_form_of_a_value(rt: HostRuntime) -> Result<(), Fail> {
     let alloc = rt.alloc();
-    let fields: [(&str, usize, &[&str]); 9] = [
+    let fields: [(&str, usize, &[&str]); 12] = [
         (
             "config\tfinal\tfail",
             3,
             &["none", "flaky", "slow", "skip", "leak", "pass", "all"],
         ),
+        ("config\truns\t2", 3, &["18446744073709551615"]),
+        ("config\tbench\t1", 3, &["0"]),
         (RUN, 2, &["00000000000040008000000000000001"]),
         (RUN, 3, &["", "-", "\\n\\t\\r\\e\\\\\\x7f\\x4A"]),
         (RUN, 4, &["007", "18446744073709551615"]),
+        (
+            RUN,
+            6,
+            &["rerun=1 nonbench=1 tests=1 filter=1 binaries=1 binfilter=1"],
+        ),
         (
             DONE,
             8,
@@ -295,37 +389,61 @@ fn cannot_read_a_failing_file(rt: HostRuntime) -> Result<(), Fail> {
     Ok(())
 }
 
-// What the words ask for: the file, or the usage fault.
-fn file_of<'a>(args: &'a [String]) -> Result<&'a str, Fault<'a>> {
-    match words(args) {
-        Some(options) => Ok(options.file),
-        None => Err(Fault::Usage),
+#[test]
+fn takes_options_in_any_order(rt: HostRuntime) -> Result<(), Fail> {
+    let all = Options {
+        show_counter: true,
+        status_level: StatusLevel::Skip,
+        ..IN_COLOUR
+    };
+    let lines: [(&[&str], Options<'static>); 6] = [
+        (&["FILE"], OPTIONS),
+        (&["--color", "FILE"], IN_COLOUR),
+        (
+            &["--color", "--color"],
+            Options {
+                file: "--color",
+                ..IN_COLOUR
+            },
+        ),
+        (&["--level", "skip", "--color", "--counter", "FILE"], all),
+        (&["--counter", "--color", "--level", "skip", "FILE"], all),
+        (
+            &["--level", "none", "--level"],
+            Options {
+                status_level: StatusLevel::None,
+                file: "--level",
+                ..OPTIONS
+            },
+        ),
+    ];
+    for (texts, options) in lines {
+        let args = words_of(rt.alloc(), texts)?;
+        assert_eq!(rt; words(args.as_slice()), Some(options));
     }
+    Ok(())
 }
 
 #[test]
-fn takes_one_word(rt: HostRuntime) -> Result<(), Fail> {
-    let alloc = rt.alloc();
-    let usage =
-        "report: usage: report [--color] [--counter] [--replay] [--unload] [--level L] FILE";
-    let lines: [(&[&str], Option<&str>); 4] = [
-        (&["first.scene"], Some("first.scene")),
-        (&["--color"], Some("--color")),
-        (&[], None),
-        (&["--bogus", "first.scene"], None),
+fn refuses_other_words(rt: HostRuntime) -> Result<(), Fail> {
+    let lines: [&[&str]; 9] = [
+        &[],
+        &["--bogus", "FILE"],
+        &["FILE", "--color"],
+        &["--color", "--color", "FILE"],
+        &["--level", "pass"],
+        &["--level", "Pass", "FILE"],
+        &["--level", "pass", "--level", "pass", "FILE"],
+        &["--level=pass", "FILE"],
+        &["--replay", "FILE"],
     ];
-    for (args, file) in lines {
-        let mut texts = Vec::new(alloc);
-        for arg in args {
-            texts.push(String::from_str(alloc, arg)?)?;
-        }
-        match file_of(texts.as_slice()) {
-            Ok(named) => assert_eq!(rt; Some(named), file),
-            Err(fault) => {
-                assert_eq!(rt; file, None);
-                assert_eq!(rt; fault.to_string(alloc)?.as_str(), usage);
-            }
-        }
+    for texts in lines {
+        let args = words_of(rt.alloc(), texts)?;
+        assert!(rt; words(args.as_slice()).is_none());
     }
+    assert_eq!(rt;
+        Fault::Usage.to_string(rt.alloc())?.as_str(),
+        "report: usage: report [--color] [--counter] [--replay] [--unload] [--level L] FILE"
+    );
     Ok(())
 }

@@ -1,14 +1,16 @@
 //! The kinds of line that a scene has, and the fields of each.
 
+use super::counts::{read_skips, read_stats};
 use super::fields::Fields;
 use super::numbers::{read_count, read_nanos, read_small_count};
 use super::texts::is_output;
 use super::values::{
     ConfigKey, OutputForm, read_absent, read_config_key, read_display, read_final_level, read_flag,
-    read_flaky_result, read_output_form, read_result, read_stats,
+    read_flaky_result, read_mode, read_output_form, read_result,
 };
 use crate::fault::{LineError, LineFault};
 use crate::scene::{SceneConfig, SceneEvent};
+use run_model::event::TestCounts;
 use run_model::name::{ProfileName, RustBinaryId, TestCaseName};
 use run_model::status::{ExecuteStatus, RetryData};
 use std::alloc::Global;
@@ -54,22 +56,27 @@ impl LineKind {
 pub fn read_config(fields: &mut Fields<'_>, config: &mut SceneConfig) -> Result<(), LineFault> {
     match fields.read(read_config_key)? {
         ConfigKey::Final => config.final_status_level = fields.read(read_final_level)?,
+        ConfigKey::Runs => config.run_count = fields.read(read_count)?,
+        ConfigKey::Bench => config.mode = fields.read(read_mode)?,
     }
     Ok(())
 }
 
-/// Reads a `run` line: run id, profile, how many tests and binaries, and the skips, of which there are none.
+/// Reads a `run` line: run id, profile, how many tests and binaries, and what is skipped.
 pub fn read_run(alloc: Global, fields: &mut Fields<'_>) -> Result<SceneEvent, LineError> {
     let run_id = fields.read(|id| Uuid::parse_str(id).ok())?;
     let profile = fields.read_text(alloc)?;
     let run_count = fields.read(read_count)?;
     let listed_binary_count = fields.read(read_count)?;
-    fields.read(read_absent)?;
+    let skip_counts = fields.read(read_skips)?;
     Ok(SceneEvent::RunStarted {
         run_id,
         profile_name: ProfileName::new(alloc, profile.as_str())?,
-        run_count,
-        listed_binary_count,
+        test_list: TestCounts {
+            run_count,
+            listed_binary_count,
+            skip_counts,
+        },
     })
 }
 
