@@ -6,7 +6,6 @@ ghost use Rattle.std.specs.Option.{IfSome};
 ghost use Rattle.report_text.specs.Escapes.{visible};
 
 use report_text::escapes::{strip, write_stripped};
-use report_text::write_str::WriteFault;
 use run_model::memory::OutOfMemory;
 use std::alloc::Global;
 use std::io;
