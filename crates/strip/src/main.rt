@@ -1,0 +1,21 @@
+//! The program `strip`: it writes standard input without its escape sequences, whatever they are.
+//!
+//! `strip TURNS` does the work so often, each time into the same memory, and writes what the last turn gave. So a bench
+//! can tell the work from the reading and the writing.
+#![tactic(auto)]
+
+mod filter;
+
+use filter::filter;
+use std::{env, io};
+
+fn main(rt: HostRuntime) -> io::Result<()> {
+    let turns = match env::args(&rt)?.nth(1) {
+        Some(word) => match word.parse::<u32>() {
+            Ok(turns) => turns,
+            Err(_) => return Err(io::Error::other("usage: strip [TURNS]")),
+        },
+        None => 1,
+    };
+    filter(rt.alloc(), rt.reader(), &mut io::writer(&rt), turns)
+}
