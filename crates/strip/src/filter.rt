@@ -12,7 +12,8 @@ use std::io;
 use std::io::{ErrorKind, Read, Write};
 
 /// Writes what the reader has left, without its escape sequences. The work is done once, and as often as `turns` says
-/// where that is more. An error says that the text is not UTF-8, or that reading, writing or memory failed.
+/// where that is more. An error says that the text is not UTF-8, or that reading, writing or memory failed; only where
+/// writing failed may a beginning be written.
 ///
 /// ```
 /// filter(alloc, "\x1b[1mhi".as_bytes(), &mut out, 1)? // out holds "hi"
