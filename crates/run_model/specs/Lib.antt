@@ -1,6 +1,8 @@
 pub mod Attempts
+pub mod ErrorChains
 pub mod Levels
 pub mod Names
+pub mod Outputs
 pub mod Stats
 pub mod Statuses
 pub mod Stress

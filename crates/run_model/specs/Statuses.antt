@@ -8,6 +8,8 @@ use Rattle.run_model.specs.declared.level.FinalStatusLevel.TheVariants as final
 use Rattle.run_model.specs.declared.status.ExecutionResultDescription.{ExecutionResultDescription}
 use Rattle.run_model.specs.declared.status.ExecutionResultDescription.TheVariants as outcome
 use Rattle.run_model.specs.declared.status.FlakyResult.TheVariants as flaky
+use Rattle.run_model.specs.declared.status.LeakTimeoutResult.TheVariants as leak
+use Rattle.run_model.specs.declared.status.SlowTimeoutResult.TheVariants as slow
 use Rattle.run_model.specs.declared.status.StatusCase.{StatusCase}
 use Rattle.run_model.specs.declared.status.StatusCase.TheVariants.{Success, Flaky, Failure}
 use Rattle.run_model.specs.declared.status.StatusSummary.{StatusSummary}
@@ -15,7 +17,12 @@ use Rattle.run_model.specs.declared.status.StatusSummary.{StatusSummary}
 -- the attempt counts as a success
 abbrev pub is_success : ExecutionResultDescription → Bool
 is_success outcome.Pass = true
-is_success (outcome.Fail failure) = false
+is_success (outcome.Leak leak.Pass) = true
+is_success (outcome.Leak leak.Fail) = false
+is_success (outcome.Fail failure leaked) = false
+is_success outcome.ExecFail = false
+is_success (outcome.Timeout slow.Pass) = true
+is_success (outcome.Timeout slow.Fail) = false
 
 -- one attempt that succeeded, a success after earlier attempts, or a failure
 abbrev pub case_of : Attempts → StatusCase

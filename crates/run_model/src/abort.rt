@@ -27,6 +27,39 @@ pub enum AbortDescription {
     WindowsJobObject,
 }
 
+impl AbortDescription {
+    /// Takes memory for another one, where it holds a text.
+    pub fn copy(&self, alloc: Global) -> Result<Self, OutOfMemory>
+        ensures { IfOk result (λ a. a ≡ self.now) }
+    {
+        Ok(match self {
+            AbortDescription::UnixSignal { signal, name } => AbortDescription::UnixSignal {
+                signal: *signal,
+                name: copy_text(alloc, name)?,
+            },
+            AbortDescription::WindowsNtStatus { code, message } =>
+                AbortDescription::WindowsNtStatus {
+                    code: *code,
+                    message: copy_text(alloc, message)?,
+                },
+            AbortDescription::WindowsJobObject => AbortDescription::WindowsJobObject,
+        })
+    }
+}
+
+// Takes memory for another text, where there is one.
+fn copy_text(
+    alloc: Global,
+    text: &Option<DescriptionText>,
+) -> Result<Option<DescriptionText>, OutOfMemory>
+    ensures { IfOk result (λ t. t ≡ text.now) }
+{
+    match text {
+        Some(text) => Ok(Some(text.copy(alloc)?)),
+        None => Ok(None),
+    }
+}
+
 /// A text of a description, which contracts see as its bytes.
 #[derive(Debug, Drop)]
 pub struct DescriptionText {
@@ -56,5 +89,12 @@ impl DescriptionText {
         ensures { result.now ≡ self.now }
     {
         self.text.as_str()
+    }
+
+    /// Takes memory for another one.
+    pub fn copy(&self, alloc: Global) -> Result<Self, OutOfMemory>
+        ensures { IfOk result (λ description. description ≡ self.now) }
+    {
+        DescriptionText::new(alloc, self.as_str())
     }
 }

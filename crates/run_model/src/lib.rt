@@ -10,6 +10,7 @@ pub mod event;
 pub mod level;
 pub mod memory;
 pub mod name;
+pub mod output;
 pub mod run_id;
 pub mod stats;
 pub mod status;

@@ -1,10 +1,13 @@
 //! How the attempts of a test ended.
 
-ghost use Rattle.std.specs.Prelude.{◌≡◌, ◌≤◌, IfSome, IfNone, [], ◌∷◌, ◌++◌, IsTrue, ◌↔◌};
-ghost use Rattle.run_model.specs.Statuses.{is_success, summary_of, final_level_of, status_level_of};
+ghost use Rattle.std.specs.Prelude.{◌≡◌, ◌≤◌, IfSome, IfNone, IfOk, [], ◌∷◌, ◌++◌, IsTrue, ◌↔◌};
+ghost use Rattle.run_model.specs.Statuses.{is_success, case_of, summary_of, final_level_of, status_level_of};
 
+use crate::abort::AbortDescription;
 use crate::level::{FinalStatusLevel, StatusLevel};
+use crate::memory::OutOfMemory;
 use crate::time::Nanos;
+use std::alloc::Global;
 use std::marker::Model;
 
 /// Which attempt of a test this is.
@@ -26,41 +29,121 @@ impl RetryData {
 }
 
 /// How an attempt ended.
-#[derive(Clone, Copy, Debug, PartialEq, Eq)]
+#[derive(Debug, Drop)]
 pub enum ExecutionResultDescription {
     /// It passed.
     Pass,
+    /// It passed, but left handles open.
+    Leak {
+        /// What that counts as.
+        result: LeakTimeoutResult,
+    },
     /// It failed.
     Fail {
         /// How.
         failure: FailureDescription,
+        /// Whether it left handles open.
+        leaked: bool,
+    },
+    /// Its process could not be started.
+    ExecFail,
+    /// It ran for too long, and was ended.
+    Timeout {
+        /// What that counts as.
+        result: SlowTimeoutResult,
     },
 }
 
 impl ExecutionResultDescription {
     /// Whether it counts as a success.
-    pub fn is_success(self) -> bool
-        ensures { result ≡ is_success self }
+    pub fn is_success(&self) -> bool
+        ensures { result ≡ is_success self.now }
     {
         match self {
             ExecutionResultDescription::Pass => true,
-            ExecutionResultDescription::Fail { .. } => false,
+            ExecutionResultDescription::Leak { result } => matches!(
+                result,
+                LeakTimeoutResult::Pass
+            ),
+            ExecutionResultDescription::Timeout { result } => matches!(
+                result,
+                SlowTimeoutResult::Pass
+            ),
+            ExecutionResultDescription::Fail { .. } | ExecutionResultDescription::ExecFail => false,
         }
+    }
+
+    /// Takes memory for another one, where it holds a text.
+    pub fn copy(&self, alloc: Global) -> Result<Self, OutOfMemory>
+        ensures { IfOk result (λ r. r ≡ self.now) }
+    {
+        Ok(match self {
+            ExecutionResultDescription::Pass => ExecutionResultDescription::Pass,
+            ExecutionResultDescription::Leak { result } => ExecutionResultDescription::Leak {
+                result: *result,
+            },
+            ExecutionResultDescription::Fail { failure, leaked } =>
+                ExecutionResultDescription::Fail {
+                    failure: failure.copy(alloc)?,
+                    leaked: *leaked,
+                },
+            ExecutionResultDescription::ExecFail => ExecutionResultDescription::ExecFail,
+            ExecutionResultDescription::Timeout { result } => ExecutionResultDescription::Timeout {
+                result: *result,
+            },
+        })
     }
 }
 
-/// How an attempt failed.
+/// What a test counts as that passed but left handles open.
 #[derive(Clone, Copy, Debug, PartialEq, Eq)]
+pub enum LeakTimeoutResult {
+    /// A success.
+    Pass,
+    /// A failure.
+    Fail,
+}
+
+/// What a test counts as that ran for too long.
+#[derive(Clone, Copy, Debug, PartialEq, Eq)]
+pub enum SlowTimeoutResult {
+    /// A success.
+    Pass,
+    /// A failure.
+    Fail,
+}
+
+/// How an attempt failed.
+#[derive(Debug, Drop)]
 pub enum FailureDescription {
     /// Its process ended with a code other than 0.
     ExitCode {
         /// The code.
         code: i32,
     },
+    /// Its process was ended from outside.
+    Abort {
+        /// How.
+        abort: AbortDescription,
+    },
+}
+
+impl FailureDescription {
+    /// Takes memory for another one, where it holds a text.
+    pub fn copy(&self, alloc: Global) -> Result<Self, OutOfMemory>
+        ensures { IfOk result (λ f. f ≡ self.now) }
+    {
+        Ok(match self {
+            FailureDescription::ExitCode { code } => FailureDescription::ExitCode { code: *code },
+            FailureDescription::Abort { abort } => FailureDescription::Abort {
+                abort: abort.copy(alloc)?,
+            },
+        })
+    }
 }
 
 /// An attempt of a test.
-#[derive(Clone, Copy, Debug, PartialEq, Eq)]
+#[derive(Debug, Drop)]
 pub struct ExecuteStatus {
     /// Which attempt it is.
     pub retry_data: RetryData,
@@ -82,7 +165,7 @@ pub enum FlakyResult {
 }
 
 /// What a test came to, without what it wrote.
-#[derive(Clone, Copy, Debug, PartialEq, Eq)]
+#[derive(Debug, Drop)]
 pub struct StatusSummary {
     /// What the attempts came to.
     pub case: StatusCase,
@@ -189,11 +272,24 @@ impl ExecutionStatuses {
         &self.last
     }
 
-    /// What the attempts came to.
-    pub fn summary(&self) -> StatusSummary
-        ensures { result ≡ summary_of self.now }
+    /// What the attempts came to. It takes memory where the last result holds a text.
+    pub fn summary(&self, alloc: Global) -> Result<StatusSummary, OutOfMemory>
+        ensures { IfOk result (λ s. s ≡ summary_of self.now) }
     {
-        let case = if !self.last.result.is_success() {
+        Ok(StatusSummary {
+            case: self.case(),
+            retry_data: self.last.retry_data,
+            result: self.last.result.copy(alloc)?,
+            time_taken: self.last.time_taken,
+            is_slow: self.last.is_slow,
+        })
+    }
+
+    // One attempt that succeeded, a success after earlier attempts, or a failure.
+    fn case(&self) -> StatusCase
+        ensures { result ≡ case_of self.now }
+    {
+        if !self.last.result.is_success() {
             StatusCase::Failure
         } else if self.earlier.is_empty() {
             StatusCase::Success
@@ -201,13 +297,6 @@ impl ExecutionStatuses {
             StatusCase::Flaky {
                 result: self.flaky_result,
             }
-        };
-        StatusSummary {
-            case,
-            retry_data: self.last.retry_data,
-            result: self.last.result,
-            time_taken: self.last.time_taken,
-            is_slow: self.last.is_slow,
         }
     }
 }

@@ -1,0 +1,58 @@
+-- What is known of captured output.
+use Rattle.std.specs.Prelude.{ℕ, Bool, true, false, not, ◌||◌, List, Option, None, Some}
+use Rattle.std.specs.Option.{option_map, is_some}
+use Rattle.run_model.specs.Statuses.{is_success}
+use Rattle.run_model.specs.declared.status.ExecutionResultDescription.{ExecutionResultDescription}
+use Rattle.run_model.specs.declared.output.ByteSubslice.{ByteSubslice}
+use Rattle.run_model.specs.declared.output.ChildExecutionOutputDescription.{ChildExecutionOutputDescription}
+use Rattle.run_model.specs.declared.output.ChildExecutionOutputDescription.TheVariants.{Output, StartError}
+use Rattle.run_model.specs.declared.output.Highlight.{Highlight}
+use Rattle.run_model.specs.declared.output.HighlightStream.{HighlightStream}
+use Rattle.run_model.specs.declared.output.HighlightStream.TheVariants.{Stdout, Stderr, Combined}
+
+-- a part of some bytes: where it starts, and its own bytes
+pub record Part : Type 0 where
+  pub start : ℕ
+  pub bytes : List ℕ
+
+-- what the reference points to
+abbrev pub subslice_value : Option ByteSubslice → Option Part
+subslice_value o = option_map (λ (s : ByteSubslice). record { start = s.start; bytes = s.slice.now }) o
+
+abbrev pub part_of : Highlight → Part
+part_of h = record { start = h.start; bytes = h.slice }
+
+-- the part, where the highlight stands in the stream
+abbrev pub stdout_in : HighlightStream → Highlight → Option Part
+stdout_in Stdout h = Some (part_of h)
+stdout_in Stderr h = None
+stdout_in Combined h = None
+
+abbrev pub stderr_in : HighlightStream → Highlight → Option Part
+stderr_in Stdout h = None
+stderr_in Stderr h = Some (part_of h)
+stderr_in Combined h = None
+
+abbrev pub combined_in : HighlightStream → Highlight → Option Part
+combined_in Stdout h = None
+combined_in Stderr h = None
+combined_in Combined h = Some (part_of h)
+
+abbrev pub stdout_part : Highlight → Option Part
+stdout_part h = stdout_in h.stream h
+
+abbrev pub stderr_part : Highlight → Option Part
+stderr_part h = stderr_in h.stream h
+
+abbrev pub combined_part : Highlight → Option Part
+combined_part h = combined_in h.stream h
+
+-- there is a result, and it is no success
+abbrev pub is_known_failure : Option ExecutionResultDescription → Bool
+is_known_failure None = false
+is_known_failure (Some result) = not (is_success result)
+
+-- a start error, errors while it was run, or a result that is no success
+abbrev pub has_errors : {S O : Type 0} → ChildExecutionOutputDescription S O → Bool
+has_errors (StartError chain) = true
+has_errors (Output result output errors highlight) = is_some errors || is_known_failure result

@@ -1,0 +1,266 @@
+//! What a test or a setup script wrote, as it was captured, and what went wrong with it.
+
+ghost use Rattle.std.specs.Prelude.{◌≡◌, length, ◌==◌, is_ok, true, IfOk};
+ghost use Rattle.std.specs.Cow.{cow_str_bytes, IsOwnedStr};
+ghost use Rattle.std.specs.Str.{encode_utf8_all, IsUtf8};
+ghost use Rattle.bstr.specs.Utf8.{lossy_chars};
+ghost use Rattle.run_model.specs.Outputs.{subslice_value, stdout_part, stderr_part, combined_part, has_errors};
+
+use crate::abort::DescriptionText;
+use crate::memory::OutOfMemory;
+use crate::status::ExecutionResultDescription;
+use bstr::ByteSlice;
+use bytes::Bytes;
+use std::alloc::Global;
+use std::borrow::CowStr;
+use std::marker::Model;
+
+/// Where captured output is held: in memory, or by name in the archive of a recorded run.
+pub trait OutputSpec {
+    /// The captured output of a child process.
+    type ChildOutput;
+}
+
+/// Output of a run that is going on.
+#[derive(Clone, Copy, Debug, PartialEq, Eq)]
+pub struct LiveSpec;
+
+impl OutputSpec for LiveSpec {
+    type ChildOutput = ChildOutputDescription;
+}
+
+/// Output of a recorded run.
+#[derive(Clone, Copy, Debug, PartialEq, Eq)]
+pub struct RecordingSpec;
+
+impl OutputSpec for RecordingSpec {
+    type ChildOutput = RecordedOutput;
+}
+
+/// The bytes of one stream, or of several that were captured together. Contracts see the bytes.
+#[derive(Debug, Drop)]
+pub struct ChildSingleOutput {
+    bytes: Bytes,
+}
+
+impl Model for ChildSingleOutput {
+    ghost use Rattle.std.specs.Prelude.{List, ℕ};
+
+    ghost Value = { List ℕ };
+
+    ghost view = { λ output. output.bytes };
+}
+
+impl ChildSingleOutput {
+    /// The output with these bytes. It takes no memory.
+    pub fn new(bytes: Bytes) -> Self
+        ensures { result ≡ bytes }
+    {
+        ChildSingleOutput { bytes }
+    }
+
+    /// The bytes.
+    pub fn as_bytes(&self) -> &[u8]
+        ensures { result.now ≡ self.now }
+    {
+        self.bytes.as_slice()
+    }
+
+    /// Whether there are no bytes.
+    pub fn is_empty(&self) -> bool
+        ensures { result ≡ (length self.now == 0) }
+    {
+        self.bytes.is_empty()
+    }
+
+    /// The text of the bytes, with U+FFFD for what is no character. It takes no memory where the bytes are UTF-8.
+    pub fn as_str_lossy(&self, alloc: Global) -> Result<CowStr<'_, Global>, OutOfMemory>
+        ensures text { IfOk result (λ t. cow_str_bytes t ≡ encode_utf8_all (lossy_chars self.now)) }
+        ensures borrowed { IsUtf8 self.now → (is_ok result ≡ true) × IfOk result (λ t. IsOwnedStr t → ⊥) }
+    {
+        Ok(self.as_bytes().to_str_lossy(alloc)?)
+    }
+}
+
+/// What a process wrote, as it was captured.
+#[derive(Debug, Drop)]
+pub enum ChildOutputDescription {
+    /// Each stream by itself.
+    Split {
+        /// Standard output, if it was captured.
+        stdout: Option<ChildSingleOutput>,
+        /// Standard error, if it was captured.
+        stderr: Option<ChildSingleOutput>,
+    },
+    /// Both streams together, in the order in which they were written.
+    Combined {
+        /// Their bytes.
+        output: ChildSingleOutput,
+    },
+}
+
+/// Where the archive of a recorded run holds what a process wrote.
+#[derive(Debug, Drop)]
+pub enum RecordedOutput {
+    /// Each stream by itself.
+    Split {
+        /// The name of the member with standard output, if it was captured.
+        stdout: Option<DescriptionText>,
+        /// The name of the member with standard error, if it was captured.
+        stderr: Option<DescriptionText>,
+    },
+    /// Both streams together.
+    Combined {
+        /// The name of their member.
+        output: DescriptionText,
+    },
+}
+
+/// What an attempt wrote, or why it could not be started.
+#[derive(Debug, Drop)]
+pub enum ChildExecutionOutputDescription<S: OutputSpec> {
+    /// The process was started.
+    Output {
+        /// How it ended, where it has.
+        result: Option<ExecutionResultDescription>,
+        /// What it wrote.
+        output: S::ChildOutput,
+        /// What went wrong while it was run.
+        errors: Option<ErrorChain>,
+        /// The part of the output to point out.
+        highlight: Option<Highlight>,
+    },
+    /// The process could not be started.
+    StartError(ErrorChain),
+}
+
+impl<S: OutputSpec> ChildExecutionOutputDescription<S> {
+    /// Whether something went wrong: a start error, errors while it was run, or a result that is no success.
+    pub fn has_errors(&self) -> bool
+        ensures { result ≡ has_errors self.now }
+    {
+        match self {
+            ChildExecutionOutputDescription::StartError(_) => true,
+            ChildExecutionOutputDescription::Output { result, errors, .. } => {
+                errors.is_some()
+                    || match result {
+                        Some(result) => !result.is_success(),
+                        None => false,
+                    }
+            }
+        }
+    }
+}
+
+/// An error, and its causes from the nearest to the farthest.
+#[derive(Debug, Drop)]
+pub struct ErrorChain {
+    message: DescriptionText,
+    causes: Vec<DescriptionText>,
+}
+
+impl Model for ErrorChain {
+    ghost use Rattle.run_model.specs.ErrorChains.{MessageAndCauses};
+
+    ghost Value = { MessageAndCauses };
+
+    ghost view = { λ chain. record { message = chain.message; causes = chain.causes.items } };
+}
+
+impl ErrorChain {
+    /// The error with this message and these causes. It takes no memory.
+    pub fn new(message: DescriptionText, causes: Vec<DescriptionText>) -> Self
+        ensures message { result.message ≡ message }
+        ensures causes { result.causes ≡ causes.items }
+    {
+        ErrorChain { message, causes }
+    }
+
+    /// What went wrong.
+    pub fn message(&self) -> &str
+        ensures { result.now ≡ self.now.message }
+    {
+        self.message.as_str()
+    }
+
+    /// Why, from the nearest cause on.
+    pub fn causes(&self) -> &[DescriptionText]
+        ensures { result.now ≡ self.now.causes }
+    {
+        self.causes.as_slice()
+    }
+}
+
+/// The stream that a highlight stands in.
+#[derive(Clone, Copy, Debug, PartialEq, Eq)]
+pub enum HighlightStream {
+    /// Standard output.
+    Stdout,
+    /// Standard error.
+    Stderr,
+    /// Both, captured together.
+    Combined,
+}
+
+/// A part of the captured output to point out, as the lines of a panic.
+#[derive(Debug, Drop)]
+pub struct Highlight {
+    /// Where it stands.
+    pub stream: HighlightStream,
+    /// The place of its first byte in the stream.
+    pub start: usize,
+    /// Its bytes.
+    pub slice: Bytes,
+}
+
+/// A part of some bytes.
+#[derive(Clone, Copy, Debug, PartialEq, Eq)]
+pub struct ByteSubslice<'a> {
+    /// The bytes of the part.
+    pub slice: &'a [u8],
+    /// The place of the first one.
+    pub start: usize,
+}
+
+impl Highlight {
+    /// The part, where it stands in standard output.
+    pub fn stdout_subslice(&self) -> Option<ByteSubslice<'_>>
+        ensures { subslice_value result ≡ stdout_part self.now }
+    {
+        match self.stream {
+            HighlightStream::Stdout => Some(self.subslice()),
+            HighlightStream::Stderr | HighlightStream::Combined => None,
+        }
+    }
+
+    /// The part, where it stands in standard error.
+    pub fn stderr_subslice(&self) -> Option<ByteSubslice<'_>>
+        ensures { subslice_value result ≡ stderr_part self.now }
+    {
+        match self.stream {
+            HighlightStream::Stderr => Some(self.subslice()),
+            HighlightStream::Stdout | HighlightStream::Combined => None,
+        }
+    }
+
+    /// The part, where it stands in streams that were captured together.
+    pub fn combined_subslice(&self) -> Option<ByteSubslice<'_>>
+        ensures { subslice_value result ≡ combined_part self.now }
+    {
+        match self.stream {
+            HighlightStream::Combined => Some(self.subslice()),
+            HighlightStream::Stdout | HighlightStream::Stderr => None,
+        }
+    }
+
+    // The part, whatever the stream.
+    fn subslice(&self) -> ByteSubslice<'_>
+        ensures start { result.start ≡ self.now.start }
+        ensures slice { result.slice.now ≡ self.now.slice }
+    {
+        ByteSubslice {
+            slice: self.slice.as_slice(),
+            start: self.start,
+        }
+    }
+}
