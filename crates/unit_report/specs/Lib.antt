@@ -1,4 +1,5 @@
 pub mod Durations
+pub mod HighlightedLines
 pub mod Levels
 pub mod SkipCounts
 pub mod UnitKinds

@@ -1,5 +1,7 @@
 //! What a test wrote, as a report shows it.
 
+mod highlighted_lines;
+
 pub use run_model::config::TestOutputDisplay;
 
 /// Whether a report is made while the run goes on or from its record.

@@ -1,0 +1,16 @@
+use Rattle.std.proofs.Common.{length}
+use denote.Text.{Utf8}
+use denote.Shadow.{shadow}
+use Rattle.report_text.specs.Writer.{Owes}
+use Rattle.unit_report.specs.HighlightedLines.{highlighted_lines}
+use Rattle.unit_report.proofs.unit_output.highlighted_lines.write_highlighted_lines.Given as goal
+
+-- the lines that are left are owed
+abbrev pub invariant-loop-rest : goal.invariant-loop-rest
+invariant-loop-rest g l = record {
+  text : shadow (Utf8 l.rest);
+  owed : Owes g.W.WriteStr.meaning l.fn.w (highlighted_lines l.style l.fn.text) l.w (highlighted_lines l.style l.rest);
+}
+
+abbrev pub decreases-loop-rest : goal.decreases-loop-rest
+decreases-loop-rest g l = length l.rest

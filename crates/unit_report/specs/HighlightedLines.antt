@@ -1,0 +1,39 @@
+-- Lines in the style of a highlight.
+use Rattle.std.specs.Prelude.{ℕ, suc, Bool, true, ◌&&◌, ◌||◌, ◌==◌, List, [], ◌∷◌, ◌++◌, take, drop, if◌then◌else◌}
+use Rattle.std.specs.List.{flat_map}
+use Rattle.report_text.specs.Escapes.{visible}
+use Rattle.report_text.specs.Styles.{style_prefix, style_suffix}
+use Rattle.report_text.specs.Words.{Text}
+use Rattle.report_text.specs.declared.style.Style.{Style}
+
+-- the byte before the lines of a text: it joins the first one
+abbrev pub onto_first_line : ℕ → List Text → List Text
+onto_first_line c [] = (c ∷ []) ∷ []
+onto_first_line c (l ∷ ls) = (c ∷ l) ∷ ls
+
+-- the lines of a text, each with its line feed; nothing after a closing line feed is one
+unfoldable pub whole_lines : Text → List Text
+whole_lines [] = []
+whole_lines (c ∷ t) = if c == 10 then (10 ∷ []) ∷ whole_lines t else onto_first_line c (whole_lines t)
+
+-- a line feed or a carriage return
+abbrev pub closes_line : ℕ → Bool
+closes_line c = (c == 10) || (c == 13)
+
+-- such bytes alone
+abbrev pub is_line_end : Text → Bool
+is_line_end [] = true
+is_line_end (c ∷ t) = closes_line c && is_line_end t
+
+-- how many bytes a line has before the line feeds and carriage returns that close it
+unfoldable pub body_len : Text → ℕ
+body_len [] = 0
+body_len (c ∷ t) = if is_line_end (c ∷ t) then 0 else suc (body_len t)
+
+-- a line in the style of a highlight: without its escape sequences, and what closes it after the style
+unfoldable pub highlighted_line : Style → Text → Text
+highlighted_line s l = style_prefix s ++ (visible (take (body_len l) l) ++ (style_suffix s ++ drop (body_len l) l))
+
+-- a text in the style of a highlight, line by line
+unfoldable pub highlighted_lines : Style → Text → Text
+highlighted_lines s t = flat_map (highlighted_line s) (whole_lines t)

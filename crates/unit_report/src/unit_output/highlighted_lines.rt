@@ -1,0 +1,81 @@
+//! The lines of a highlight. Each has the style for itself, since some viewers end a style with the line.
+
+ghost use Rattle.std.specs.Prelude.{◌≡◌, ◌<◌, ◌++◌, ◌∷◌, length, take, drop};
+ghost use Rattle.report_text.specs.Writer.{Puts};
+ghost use Rattle.unit_report.specs.HighlightedLines.{body_len, closes_line, highlighted_line, highlighted_lines, whole_lines};
+
+use memchr::memchr;
+use report_text::escapes::write_stripped;
+use report_text::style::Style;
+use report_text::write_str::{WriteFault, WriteStr};
+
+/// Writes a text line by line in this style, without its escape sequences.
+pub(super) fn write_highlighted_lines<W: WriteStr>(
+    w: &mut W,
+    style: Style,
+    text: &str,
+) -> Result<(), WriteFault>
+    ensures { Puts W.meaning w.old (highlighted_lines style text.now) result w.new }
+{
+    let mut rest = text;
+    while !rest.is_empty() {
+        let (line, after) = split_line(rest);
+        write_highlighted_line(w, style, line)?;
+        rest = after;
+    }
+    Ok(())
+}
+
+// The first line of a text with its line feed, and what follows it.
+fn split_line(text: &str) -> (&str, &str)
+    requires { 0 < length text.now }
+    ensures lines { whole_lines text.now ≡ result.0.now ∷ whole_lines result.1.now }
+    ensures shorter { length result.1.now < length text.now }
+{
+    match memchr(b'\n', text.as_bytes()) {
+        Some(place) => text.split_at(place + 1),
+        None => text.split_at(text.len()),
+    }
+}
+
+// Writes a line in this style, and what closes it after the style.
+#[tactic(auto, unfolding(crate::specs::HighlightedLines::highlighted_line))]
+fn write_highlighted_line<W: WriteStr>(
+    w: &mut W,
+    style: Style,
+    line: &str,
+) -> Result<(), WriteFault>
+    ensures { Puts W.meaning w.old (highlighted_line style line.now) result w.new }
+{
+    let (body, line_end) = split_body(line);
+    w.write_str(style.prefix())?;
+    write_stripped(w, body)?;
+    w.write_str(style.suffix())?;
+    w.write_str(line_end)
+}
+
+// A line, and the line feeds and carriage returns that close it.
+fn split_body(line: &str) -> (&str, &str)
+    ensures body { result.0.now ≡ take (body_len line.now) line.now }
+    ensures end { result.1.now ≡ drop (body_len line.now) line.now }
+{
+    line.split_at(body_len(line.as_bytes()))
+}
+
+// How many bytes a line has before the line feeds and carriage returns that close it.
+fn body_len(line: &[u8]) -> usize
+    ensures { result ≡ body_len line.now }
+{
+    let mut len = line.len();
+    while len > 0 && closes_line(line[len - 1]) {
+        len -= 1;
+    }
+    len
+}
+
+// A line feed or a carriage return.
+fn closes_line(byte: u8) -> bool
+    ensures { result ≡ closes_line byte }
+{
+    byte == b'\n' || byte == b'\r'
+}
