@@ -1,12 +1,20 @@
 -- What the attempts of a test come to, and the levels of that.
-use Rattle.std.specs.Prelude.{Bool, true, false, length, ◌==◌, if◌then◌else◌}
+use Rattle.std.specs.Prelude.{Bool, true, false, List, [], length, ◌==◌, if◌then◌else◌}
+use Rattle.std.specs.Option.{is_some}
 use Rattle.run_model.specs.Attempts.{Attempts}
+use Rattle.run_model.specs.declared.abort.AbortDescription.{AbortDescription}
+use Rattle.run_model.specs.declared.abort.AbortDescription.TheVariants as abort
 use Rattle.run_model.specs.declared.level.StatusLevel.{StatusLevel}
 use Rattle.run_model.specs.declared.level.StatusLevel.TheVariants as status
 use Rattle.run_model.specs.declared.level.FinalStatusLevel.{FinalStatusLevel}
 use Rattle.run_model.specs.declared.level.FinalStatusLevel.TheVariants as final
+use Rattle.run_model.specs.declared.status.ExecuteStatus.{ExecuteStatus}
+use Rattle.run_model.specs.declared.status.ExecutionDescription.{ExecutionDescription}
+use Rattle.run_model.specs.declared.status.ExecutionDescription.TheVariants as described
 use Rattle.run_model.specs.declared.status.ExecutionResultDescription.{ExecutionResultDescription}
 use Rattle.run_model.specs.declared.status.ExecutionResultDescription.TheVariants as outcome
+use Rattle.run_model.specs.declared.status.FailureDescription.{FailureDescription}
+use Rattle.run_model.specs.declared.status.FailureDescription.TheVariants as failure
 use Rattle.run_model.specs.declared.status.FlakyResult.TheVariants as flaky
 use Rattle.run_model.specs.declared.status.LeakTimeoutResult.TheVariants as leak
 use Rattle.run_model.specs.declared.status.SlowTimeoutResult.TheVariants as slow
@@ -24,38 +32,95 @@ is_success outcome.ExecFail = false
 is_success (outcome.Timeout slow.Pass) = true
 is_success (outcome.Timeout slow.Fail) = false
 
+-- a success that left handles open
+abbrev pub is_leaky_success : ExecutionResultDescription → Bool
+is_leaky_success outcome.Pass = false
+is_leaky_success (outcome.Leak leak.Pass) = true
+is_leaky_success (outcome.Leak leak.Fail) = false
+is_leaky_success (outcome.Fail failure leaked) = false
+is_leaky_success outcome.ExecFail = false
+is_leaky_success (outcome.Timeout result) = false
+
+-- the result holds a text, which a copy takes memory for
+abbrev pub abort_has_text : AbortDescription → Bool
+abort_has_text (abort.UnixSignal signal name) = is_some name
+abort_has_text (abort.WindowsNtStatus code message) = is_some message
+abort_has_text abort.WindowsJobObject = false
+
+abbrev pub failure_has_text : FailureDescription → Bool
+failure_has_text (failure.ExitCode code) = false
+failure_has_text (failure.Abort a) = abort_has_text a
+
+abbrev pub has_text : ExecutionResultDescription → Bool
+has_text outcome.Pass = false
+has_text (outcome.Leak result) = false
+has_text (outcome.Fail f leaked) = failure_has_text f
+has_text outcome.ExecFail = false
+has_text (outcome.Timeout result) = false
+
 -- one attempt that succeeded, a success after earlier attempts, or a failure
-abbrev pub case_of : Attempts → StatusCase
+abbrev pub case_of : {S O : Type 0} → Attempts S O → StatusCase
 case_of a =
     if is_success a.last.result then (if length a.earlier == 0 then Success else Flaky a.flaky_result)
     else Failure
 
--- what the attempts came to
-abbrev pub summary_of : Attempts → StatusSummary
-summary_of a = record {
-  case = case_of a;
-  retry_data = a.last.retry_data;
-  result = a.last.result;
-  time_taken = a.last.time_taken;
-  is_slow = a.last.is_slow;
+-- a case, and the last attempt without what it wrote
+abbrev pub summary_by : {S O : Type 0} → StatusCase → ExecuteStatus S O → StatusSummary
+summary_by case last = record {
+  case = case;
+  retry_data = last.retry_data;
+  result = last.result;
+  time_taken = last.time_taken;
+  is_slow = last.is_slow;
 }
 
+-- what the attempts came to
+abbrev pub summary_of : {S O : Type 0} → Attempts S O → StatusSummary
+summary_of a = summary_by (case_of a) a.last
+
+-- the parts of a description
+abbrev pub described_case : {S O : Type 0} → ExecutionDescription S O → StatusCase
+described_case (described.Success single) = Success
+described_case (described.Flaky last prior result) = Flaky result
+described_case (described.Failure prior last) = Failure
+
+abbrev pub described_last : {S O : Type 0} → ExecutionDescription S O → ExecuteStatus S O
+described_last (described.Success single) = single.now
+described_last (described.Flaky last prior result) = last.now
+described_last (described.Failure prior last) = last.now
+
+abbrev pub described_prior : {S O : Type 0} → ExecutionDescription S O → List (ExecuteStatus S O)
+described_prior (described.Success single) = []
+described_prior (described.Flaky last prior result) = prior.now
+described_prior (described.Failure prior last) = prior.now
+
+-- the summary of what is described
+abbrev pub described_summary : {S O : Type 0} → ExecutionDescription S O → StatusSummary
+described_summary d = summary_by (described_case d) (described_last d)
+
+-- the test counts as passed where it is asked whose output is shown: also where it is flaky and counts as failed
+abbrev pub is_success_case : StatusCase → Bool
+is_success_case Success = true
+is_success_case (Flaky result) = true
+is_success_case Failure = false
+
 -- the level from which on the status line is shown
-abbrev pub status_level_by : StatusCase → StatusLevel
-status_level_by Success = status.Pass
-status_level_by (Flaky flaky.Pass) = status.Retry
-status_level_by (Flaky flaky.Fail) = status.Fail
-status_level_by Failure = status.Fail
+abbrev pub status_level_by : StatusCase → ExecutionResultDescription → StatusLevel
+status_level_by Success last = if is_leaky_success last then status.Leak else status.Pass
+status_level_by (Flaky flaky.Pass) last = status.Retry
+status_level_by (Flaky flaky.Fail) last = status.Fail
+status_level_by Failure last = status.Fail
 
 abbrev pub status_level_of : StatusSummary → StatusLevel
-status_level_of s = status_level_by s.case
+status_level_of s = status_level_by s.case s.result
 
 -- the level from which on the summary lists the test; the flag says that the last attempt was slow
-abbrev pub final_level_by : StatusCase → Bool → FinalStatusLevel
-final_level_by Success is_slow = if is_slow then final.Slow else final.Pass
-final_level_by (Flaky flaky.Pass) is_slow = final.Flaky
-final_level_by (Flaky flaky.Fail) is_slow = final.Fail
-final_level_by Failure is_slow = final.Fail
+abbrev pub final_level_by : StatusCase → ExecutionResultDescription → Bool → FinalStatusLevel
+final_level_by Success last is_slow =
+    if is_slow then final.Slow else (if is_leaky_success last then final.Leak else final.Pass)
+final_level_by (Flaky flaky.Pass) last is_slow = final.Flaky
+final_level_by (Flaky flaky.Fail) last is_slow = final.Fail
+final_level_by Failure last is_slow = final.Fail
 
 abbrev pub final_level_of : StatusSummary → FinalStatusLevel
-final_level_of s = final_level_by s.case s.is_slow
+final_level_of s = final_level_by s.case s.result s.is_slow

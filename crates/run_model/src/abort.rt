@@ -1,6 +1,8 @@
 //! How a process was ended from outside.
 
-ghost use Rattle.std.specs.Prelude.{◌≡◌, IfOk};
+ghost use Rattle.std.specs.Prelude.{◌≡◌, IfOk, IsOk, false};
+ghost use Rattle.std.specs.Option.{is_some};
+ghost use Rattle.run_model.specs.Statuses.{abort_has_text};
 
 use crate::memory::OutOfMemory;
 use std::alloc::Global;
@@ -30,7 +32,8 @@ pub enum AbortDescription {
 impl AbortDescription {
     /// Takes memory for another one, where it holds a text.
     pub fn copy(&self, alloc: Global) -> Result<Self, OutOfMemory>
-        ensures { IfOk result (λ a. a ≡ self.now) }
+        ensures same { IfOk result (λ a. a ≡ self.now) }
+        ensures free { abort_has_text self.now ≡ false → IsOk result }
     {
         Ok(match self {
             AbortDescription::UnixSignal { signal, name } => AbortDescription::UnixSignal {
@@ -52,7 +55,8 @@ fn copy_text(
     alloc: Global,
     text: &Option<DescriptionText>,
 ) -> Result<Option<DescriptionText>, OutOfMemory>
-    ensures { IfOk result (λ t. t ≡ text.now) }
+    ensures same { IfOk result (λ t. t ≡ text.now) }
+    ensures free { is_some text.now ≡ false → IsOk result }
 {
     match text {
         Some(text) => Ok(Some(text.copy(alloc)?)),

@@ -1,6 +1,7 @@
 //! What happens in a run.
 
 use crate::name::{ProfileName, TestInstanceId};
+use crate::output::LiveSpec;
 use crate::stats::{RunFinishedStats, RunStats};
 use crate::status::ExecutionStatuses;
 use crate::time::Nanos;
@@ -32,7 +33,7 @@ pub enum TestEventKind<'a> {
         /// The test.
         test_instance: TestInstanceId<'a>,
         /// Its attempts.
-        run_statuses: ExecutionStatuses,
+        run_statuses: ExecutionStatuses<LiveSpec>,
         /// The counts of the run, this test among them.
         current_stats: RunStats,
     },

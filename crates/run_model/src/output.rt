@@ -13,12 +13,13 @@ use bstr::ByteSlice;
 use bytes::Bytes;
 use std::alloc::Global;
 use std::borrow::CowStr;
+use std::fmt;
 use std::marker::Model;
 
 /// Where captured output is held: in memory, or by name in the archive of a recorded run.
 pub trait OutputSpec {
     /// The captured output of a child process.
-    type ChildOutput;
+    type ChildOutput: fmt::Debug + Drop;
 }
 
 /// Output of a run that is going on.

@@ -1,11 +1,12 @@
 //! How the attempts of a test ended.
 
-ghost use Rattle.std.specs.Prelude.{◌≡◌, ◌≤◌, IfSome, IfNone, IfOk, [], ◌∷◌, ◌++◌, IsTrue, ◌↔◌};
-ghost use Rattle.run_model.specs.Statuses.{is_success, case_of, summary_of, final_level_of, status_level_of};
+ghost use Rattle.std.specs.Prelude.{◌≡◌, ◌≤◌, IfSome, IfNone, IfOk, IsOk, false, [], ◌∷◌, ◌++◌, IsTrue, ◌↔◌};
+ghost use Rattle.run_model.specs.Statuses.{has_text, failure_has_text, is_success, is_leaky_success, is_success_case, case_of, summary_of, summary_by, described_case, described_last, described_prior, described_summary, final_level_of, final_level_by, status_level_of, status_level_by};
 
 use crate::abort::AbortDescription;
 use crate::level::{FinalStatusLevel, StatusLevel};
 use crate::memory::OutOfMemory;
+use crate::output::{ChildExecutionOutputDescription, OutputSpec};
 use crate::time::Nanos;
 use std::alloc::Global;
 use std::marker::Model;
@@ -73,9 +74,22 @@ impl ExecutionResultDescription {
         }
     }
 
+    // Whether it is a success that left handles open.
+    fn is_leaky_success(&self) -> bool
+        ensures { result ≡ is_leaky_success self.now }
+    {
+        matches!(
+            self,
+            ExecutionResultDescription::Leak {
+                result: LeakTimeoutResult::Pass,
+            }
+        )
+    }
+
     /// Takes memory for another one, where it holds a text.
     pub fn copy(&self, alloc: Global) -> Result<Self, OutOfMemory>
-        ensures { IfOk result (λ r. r ≡ self.now) }
+        ensures same { IfOk result (λ r. r ≡ self.now) }
+        ensures free { has_text self.now ≡ false → IsOk result }
     {
         Ok(match self {
             ExecutionResultDescription::Pass => ExecutionResultDescription::Pass,
@@ -131,7 +145,8 @@ pub enum FailureDescription {
 impl FailureDescription {
     /// Takes memory for another one, where it holds a text.
     pub fn copy(&self, alloc: Global) -> Result<Self, OutOfMemory>
-        ensures { IfOk result (λ f. f ≡ self.now) }
+        ensures same { IfOk result (λ f. f ≡ self.now) }
+        ensures free { failure_has_text self.now ≡ false → IsOk result }
     {
         Ok(match self {
             FailureDescription::ExitCode { code } => FailureDescription::ExitCode { code: *code },
@@ -144,9 +159,11 @@ impl FailureDescription {
 
 /// An attempt of a test.
 #[derive(Debug, Drop)]
-pub struct ExecuteStatus {
+pub struct ExecuteStatus<S: OutputSpec> {
     /// Which attempt it is.
     pub retry_data: RetryData,
+    /// What it wrote.
+    pub output: ChildExecutionOutputDescription<S>,
     /// How it ended.
     pub result: ExecutionResultDescription,
     /// How long it ran.
@@ -193,13 +210,19 @@ pub enum StatusCase {
     Failure,
 }
 
-impl StatusSummary {
-    /// The level from which on the status line is shown while the run goes on.
-    pub fn status_level(&self) -> StatusLevel
-        ensures { result ≡ status_level_of self.now }
+impl StatusCase {
+    // The level from which on the status line is shown, by how the last attempt ended.
+    fn status_level(self, last: &ExecutionResultDescription) -> StatusLevel
+        ensures { result ≡ status_level_by self last.now }
     {
-        match self.case {
-            StatusCase::Success => StatusLevel::Pass,
+        match self {
+            StatusCase::Success => {
+                if last.is_leaky_success() {
+                    StatusLevel::Leak
+                } else {
+                    StatusLevel::Pass
+                }
+            }
             StatusCase::Flaky {
                 result: FlakyResult::Pass,
             } => StatusLevel::Retry,
@@ -210,14 +233,20 @@ impl StatusSummary {
         }
     }
 
-    /// The level from which on the summary lists the test.
-    pub fn final_status_level(&self) -> FinalStatusLevel
-        ensures { result ≡ final_level_of self.now }
+    // The level from which on the summary lists the test, by how the last attempt ended and whether it was slow.
+    fn final_status_level(
+        self,
+        last: &ExecutionResultDescription,
+        is_slow: bool,
+    ) -> FinalStatusLevel
+        ensures { result ≡ final_level_by self last.now is_slow }
     {
-        match self.case {
+        match self {
             StatusCase::Success => {
-                if self.is_slow {
+                if is_slow {
                     FinalStatusLevel::Slow
+                } else if last.is_leaky_success() {
+                    FinalStatusLevel::Leak
                 } else {
                     FinalStatusLevel::Pass
                 }
@@ -233,25 +262,117 @@ impl StatusSummary {
     }
 }
 
+impl StatusSummary {
+    /// The level from which on the status line is shown while the run goes on.
+    pub fn status_level(&self) -> StatusLevel
+        ensures { result ≡ status_level_of self.now }
+    {
+        self.case.status_level(&self.result)
+    }
+
+    /// The level from which on the summary lists the test.
+    pub fn final_status_level(&self) -> FinalStatusLevel
+        ensures { result ≡ final_level_of self.now }
+    {
+        self.case.final_status_level(&self.result, self.is_slow)
+    }
+}
+
+/// What the attempts of a test came to, with the attempts.
+#[derive(Clone, Copy, Debug)]
+pub enum ExecutionDescription<'a, S: OutputSpec> {
+    /// One attempt, which succeeded.
+    Success {
+        /// The attempt.
+        single_status: &'a ExecuteStatus<S>,
+    },
+    /// A success after earlier attempts.
+    Flaky {
+        /// The attempt that succeeded.
+        last_status: &'a ExecuteStatus<S>,
+        /// The attempts before it, in order.
+        prior_statuses: &'a [ExecuteStatus<S>],
+        /// What it counts as.
+        result: FlakyResult,
+    },
+    /// The last attempt failed.
+    Failure {
+        /// The attempts before the last one, in order.
+        prior_statuses: &'a [ExecuteStatus<S>],
+        /// The last attempt.
+        last_status: &'a ExecuteStatus<S>,
+    },
+}
+
+impl<'a, S: OutputSpec> ExecutionDescription<'a, S> {
+    /// The level from which on the status line is shown while the run goes on. It is that of the summary.
+    pub fn status_level(&self) -> StatusLevel
+        ensures { result ≡ status_level_of (described_summary self.now) }
+    {
+        self.case().status_level(&self.last_status().result)
+    }
+
+    /// The level from which on the summary lists the test. It is that of the summary.
+    pub fn final_status_level(&self) -> FinalStatusLevel
+        ensures { result ≡ final_level_of (described_summary self.now) }
+    {
+        let last = self.last_status();
+        self.case().final_status_level(&last.result, last.is_slow)
+    }
+
+    /// Whether the setting for tests that succeed says when the output is shown, also where a success after earlier
+    /// attempts counts as a failure.
+    pub fn is_success_for_output(&self) -> bool
+        ensures { result ≡ is_success_case (described_case self.now) }
+    {
+        match self {
+            ExecutionDescription::Success { .. } | ExecutionDescription::Flaky { .. } => true,
+            ExecutionDescription::Failure { .. } => false,
+        }
+    }
+
+    /// The last attempt.
+    pub fn last_status(&self) -> &'a ExecuteStatus<S>
+        ensures { result.now ≡ described_last self.now }
+    {
+        match self {
+            ExecutionDescription::Success { single_status } => single_status,
+            ExecutionDescription::Flaky { last_status, .. } => last_status,
+            ExecutionDescription::Failure { last_status, .. } => last_status,
+        }
+    }
+
+    /// Which of the cases it is.
+    pub fn case(&self) -> StatusCase
+        ensures { result ≡ described_case self.now }
+    {
+        match self {
+            ExecutionDescription::Success { .. } => StatusCase::Success,
+            ExecutionDescription::Flaky { result, .. } => StatusCase::Flaky { result: *result },
+            ExecutionDescription::Failure { .. } => StatusCase::Failure,
+        }
+    }
+}
+
 /// The attempts of a test, in order. There is at least one.
 #[derive(Debug, Drop)]
-pub struct ExecutionStatuses {
-    earlier: Vec<ExecuteStatus>,
-    last: ExecuteStatus,
+pub struct ExecutionStatuses<S: OutputSpec> {
+    earlier: Vec<ExecuteStatus<S>>,
+    last: ExecuteStatus<S>,
     flaky_result: FlakyResult,
 }
 
-impl Model for ExecutionStatuses {
+impl<S: OutputSpec> Model for ExecutionStatuses<S> {
     ghost use Rattle.run_model.specs.Attempts.{Attempts};
 
-    ghost Value = { Attempts };
+    ghost Value = { Attempts S S.ChildOutput };
 
     ghost view = { λ s. record { earlier = s.earlier.items; last = s.last; flaky_result = s.flaky_result } };
 }
 
-impl ExecutionStatuses {
+impl<S: OutputSpec> ExecutionStatuses<S> {
     /// The attempts in order, unless there is none; and what a success after earlier attempts counts as.
-    pub fn new(statuses: Vec<ExecuteStatus>, flaky_result: FlakyResult) -> Option<Self>
+    pub fn new(statuses: Vec<ExecuteStatus<S>>, flaky_result: FlakyResult) -> Option<Self>
         ensures attempts { IfSome result (λ s. statuses.items ≡ s.earlier ++ s.last ∷ []) }
         ensures flaky { IfSome result (λ s. s.flaky_result ≡ flaky_result) }
         ensures none { IfNone result (statuses.items ≡ []) }
@@ -266,37 +387,47 @@ impl ExecutionStatuses {
     }
 
     /// The last attempt.
-    pub fn last_status(&self) -> &ExecuteStatus
+    pub fn last_status(&self) -> &ExecuteStatus<S>
         ensures { result.now ≡ self.now.last }
     {
         &self.last
     }
 
-    /// What the attempts came to. It takes memory where the last result holds a text.
+    /// What the attempts came to, with the attempts.
+    pub fn describe(&self) -> ExecutionDescription<'_, S>
+        ensures case { described_case result ≡ case_of self.now }
+        ensures last { described_last result ≡ self.now.last }
+        ensures prior { described_prior result ≡ self.now.earlier }
+    {
+        if !self.last.result.is_success() {
+            ExecutionDescription::Failure {
+                prior_statuses: self.earlier.as_slice(),
+                last_status: &self.last,
+            }
+        } else if self.earlier.is_empty() {
+            ExecutionDescription::Success {
+                single_status: &self.last,
+            }
+        } else {
+            ExecutionDescription::Flaky {
+                last_status: &self.last,
+                prior_statuses: self.earlier.as_slice(),
+                result: self.flaky_result,
+            }
+        }
+    }
+
+    /// What the attempts came to, without what they wrote. It takes memory where the last result holds a text.
     pub fn summary(&self, alloc: Global) -> Result<StatusSummary, OutOfMemory>
-        ensures { IfOk result (λ s. s ≡ summary_of self.now) }
+        ensures summary { IfOk result (λ s. s ≡ summary_of self.now) }
+        ensures free { has_text self.now.last.result ≡ false → IsOk result }
     {
         Ok(StatusSummary {
-            case: self.case(),
+            case: self.describe().case(),
             retry_data: self.last.retry_data,
             result: self.last.result.copy(alloc)?,
             time_taken: self.last.time_taken,
             is_slow: self.last.is_slow,
         })
-    }
-
-    // One attempt that succeeded, a success after earlier attempts, or a failure.
-    fn case(&self) -> StatusCase
-        ensures { result ≡ case_of self.now }
-    {
-        if !self.last.result.is_success() {
-            StatusCase::Failure
-        } else if self.earlier.is_empty() {
-            StatusCase::Success
-        } else {
-            StatusCase::Flaky {
-                result: self.flaky_result,
-            }
-        }
     }
 }
