@@ -7,6 +7,7 @@ pub mod CounterPuts
 pub mod Cuts
 pub mod Decimals
 pub mod Deliveries
+pub mod EndLines
 pub mod Feeds
 pub mod FitMarks
 pub mod Fits

@@ -4,6 +4,7 @@ pub mod ChunkEnds
 pub mod Chunks
 pub mod Counted
 pub mod Durations
+pub mod EndLine
 pub mod Escapes
 pub mod Failures
 pub mod Fitted

@@ -4,6 +4,7 @@
 //! where a fault came. No function here takes memory of its own while it writes.
 #![tactic(auto)]
 
+pub mod end_line;
 pub mod escapes;
 pub mod fitting;
 pub mod helpers;
