@@ -1,4 +1,5 @@
 pub mod Attempts
+pub mod Displays
 pub mod ErrorChains
 pub mod Levels
 pub mod Names

@@ -1,5 +1,9 @@
 //! What kind of run it is, and what a profile leaves out.
 
+ghost use Rattle.std.specs.Prelude.{◌≡◌, ◌≢◌, MatchOption};
+ghost use Rattle.run_model.specs.Displays.{display_name, is_immediate, is_final};
+ghost use Rattle.run_model.specs.declared.config.TestOutputDisplay.{TestOutputDisplay};
+
 use crate::name::ProfileName;
 
 /// Whether a run runs tests or benchmarks.
@@ -22,6 +26,57 @@ pub enum TestOutputDisplay {
     Final,
     /// Never.
     Never,
+}
+
+impl TestOutputDisplay {
+    /// Whether it is shown as soon as the test has finished.
+    pub fn is_immediate(self) -> bool
+        ensures { result ≡ is_immediate self }
+    {
+        match self {
+            TestOutputDisplay::Immediate | TestOutputDisplay::ImmediateFinal => true,
+            TestOutputDisplay::Final | TestOutputDisplay::Never => false,
+        }
+    }
+
+    /// Whether it is shown at the end of the run.
+    pub fn is_final(self) -> bool
+        ensures { result ≡ is_final self }
+    {
+        match self {
+            TestOutputDisplay::ImmediateFinal | TestOutputDisplay::Final => true,
+            TestOutputDisplay::Immediate | TestOutputDisplay::Never => false,
+        }
+    }
+
+    /// The name in a configuration: `immediate`, `immediate-final`, `final` or `never`.
+    pub fn name(self) -> &'static str
+        ensures { result.now ≡ display_name self }
+    {
+        match self {
+            TestOutputDisplay::Immediate => "immediate",
+            TestOutputDisplay::ImmediateFinal => "immediate-final",
+            TestOutputDisplay::Final => "final",
+            TestOutputDisplay::Never => "never",
+        }
+    }
+
+    /// The setting of this name, if there is one.
+    ///
+    /// ```
+    /// TestOutputDisplay::from_name("final") // Some(TestOutputDisplay::Final)
+    /// ```
+    pub fn from_name(name: &str) -> Option<TestOutputDisplay>
+        ensures { MatchOption result ((display : TestOutputDisplay) → name.now ≢ display_name display) (λ display. name.now ≡ display_name display) }
+    {
+        match name {
+            "immediate" => Some(TestOutputDisplay::Immediate),
+            "immediate-final" => Some(TestOutputDisplay::ImmediateFinal),
+            "final" => Some(TestOutputDisplay::Final),
+            "never" => Some(TestOutputDisplay::Never),
+            _ => None,
+        }
+    }
 }
 
 /// Where a profile's default filter stands.
