@@ -6,6 +6,7 @@ pub mod Commands
 pub mod CounterPuts
 pub mod Cuts
 pub mod Decimals
+pub mod Decoded
 pub mod Deliveries
 pub mod EndLines
 pub mod Feeds

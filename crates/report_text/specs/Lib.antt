@@ -16,6 +16,7 @@ pub mod Indented
 pub mod Instances
 pub mod Interceptors
 pub mod Lines
+pub mod Lossy
 pub mod Numbers
 pub mod Paths
 pub mod Piece
