@@ -11,5 +11,6 @@ pub mod helpers;
 pub mod indenter;
 pub mod numbers;
 pub mod reporter_helpers;
+pub mod stripped;
 pub mod style;
 pub mod write_str;
