@@ -114,5 +114,5 @@ module _ {S : Type 0} {m : Meaning S} (laws : WriterLaws m) where
   end_line_stopped a b c text rest piece after h f r o e i s = owes_stopped laws a b c text _ _ _ f r o (piece_next h (ends_in_line_feed (held h ++ piece)) rest piece after e refl) i s
 
   -- after the last piece
-  pub end_line_done : (a b : S) (text rest : Text) (h : Bool) → Owes m a text b (without_end_line (held h ++ rest)) → length rest ≡ 0 → m.accepts a text b
-  end_line_done a b text rest h o e = owes_nothing laws a b text _ o (piece_nothing h rest e)
+  pub end_line_done : (a b : S) (text rest : Text) (h : Bool) → Owes m a text b (without_end_line (held h ++ rest)) → rest ≡ [] → m.accepts a text b
+  end_line_done a b text rest h o e = owes_nothing laws a b text _ o (rw e (held-nothing h))

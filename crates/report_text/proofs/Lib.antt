@@ -26,4 +26,5 @@ pub mod Repeated
 pub mod ScannerSteps
 pub mod Spaces
 pub mod Steps
+pub mod StrippedTexts
 pub mod Widths

@@ -24,6 +24,7 @@ pub mod Plural
 pub mod Quoting
 pub mod RunIds
 pub mod Scanner
+pub mod Stripped
 pub mod Styles
 pub mod Theme
 pub mod Words

@@ -12,5 +12,6 @@ pub mod indenter;
 pub mod lossy;
 pub mod numbers;
 pub mod reporter_helpers;
+pub mod stripped;
 pub mod style;
 pub mod write_str;

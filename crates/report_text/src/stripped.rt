@@ -1,0 +1,84 @@
+//! A text that comes in pieces, without its escape sequences.
+
+ghost use Rattle.std.specs.Prelude.{◌≡◌, ◌<◌, ◌++◌, false, length, take, drop, chars, MatchOption, OnOk};
+ghost use Rattle.report_text.specs.EndLine.{without_end_line, ends_in_line_feed, held};
+ghost use Rattle.report_text.specs.Escapes.{front_len, is_visible};
+ghost use Rattle.report_text.specs.Stripped.{visible_from, mode_through, Takes};
+ghost use Rattle.report_text.specs.Writer.{Puts};
+
+use crate::end_line::EndLine;
+use crate::escapes::{ESCAPE, Mode, advance};
+use crate::write_str::{WriteFault, WriteStr};
+use memchr::memchr;
+
+/// Writes a text that comes in pieces without its escape sequences, and without one line feed that closes what is left.
+///
+/// A sequence can run from one piece into the next. It takes no memory: stretches of the pieces go down as they are.
+///
+/// ```
+/// let mut stripped = StrippedPieces::new();
+/// stripped.write(w, "a\x1b[3")?; // "a"
+/// stripped.write(w, "1mb\n")?; // "b"
+/// ```
+#[derive(Clone, Copy)]
+pub struct StrippedPieces {
+    mode: Mode,
+    end_line: EndLine,
+}
+
+impl StrippedPieces {
+    /// Before the first piece.
+    pub fn new() -> StrippedPieces
+        ensures mode { result.mode ≡ Mode.Text }
+        ensures held { result.end_line.is_held ≡ false }
+    {
+        StrippedPieces {
+            mode: Mode::Text,
+            end_line: EndLine::new(),
+        }
+    }
+
+    /// Writes the next piece.
+    ///
+    /// # Errors
+    ///
+    /// What the writer answered. A beginning of what was to be written was accepted.
+    pub fn write<W: WriteStr>(&mut self, w: &mut W, piece: &str) -> Result<(), WriteFault>
+        ensures text { Puts W.meaning w.old (without_end_line (held self.old.end_line.is_held ++ visible_from self.old.mode (chars piece.now))) result w.new }
+        ensures held { OnOk result (self.new.end_line.is_held ≡ ends_in_line_feed (held self.old.end_line.is_held ++ visible_from self.old.mode (chars piece.now))) }
+        ensures mode { OnOk result (self.new.mode ≡ mode_through self.old.mode (chars piece.now)) }
+    {
+        let mut rest = piece;
+        while let Some((mode, stretch, after)) = next_stretch(self.mode, rest) {
+            self.mode = mode;
+            self.end_line.write(w, stretch)?;
+            rest = after;
+        }
+        Ok(())
+    }
+}
+
+// What the scan takes from the front of a text: a stretch that no sequence holds, or a character of a sequence, which
+// is not shown. With it where the scan then stands, and what follows.
+fn next_stretch(mode: Mode, text: &str) -> Option<(Mode, &str, &str)>
+    ensures { MatchOption result (length text.now ≡ 0) (λ x. Takes mode text.now x.0 x.1.now x.2.now) }
+{
+    let mut rest = text.chars();
+    let c = rest.next()?;
+    if let Some(next) = advance(mode, c) {
+        return Some((next, "", rest.as_str()));
+    }
+    let (stretch, after) = split_escape(text);
+    Some((Mode::Text, stretch, after))
+}
+
+// The text before its first escape character, and what follows.
+fn split_escape(text: &str) -> (&str, &str)
+    ensures front { result.0.now ≡ take (front_len is_visible text.now) text.now }
+    ensures back { result.1.now ≡ drop (front_len is_visible text.now) text.now }
+{
+    match memchr(ESCAPE, text.as_bytes()) {
+        Some(place) => text.split_at(place),
+        None => (text, ""),
+    }
+}
