@@ -33,6 +33,11 @@ decoded-front front rest u =
     ∙ encodes-append u.0 (lossy_chars rest)
     ∙ ap (λ t. t ++ encode_utf8_all (lossy_chars rest)) u.1.1
 
+-- it is std's text of them
+pub decoded-lossy : (bytes : List ℕ) → decoded_text bytes ≡ utf8_lossy bytes
+unfolding decoded_text
+decoded-lossy bytes = lossy_chars-utf8_lossy bytes
+
 -- a piece in front that is no character is U+FFFD
 pub decoded-invalid : (bytes valid invalid rest : List ℕ) → bytes ≡ valid ++ (invalid ++ rest) → length valid ≡ utf8_valid_len bytes
     → length invalid ≡ utf8_invalid_len (drop (utf8_valid_len bytes) bytes) → valid ≡ [] → 0 < length invalid
@@ -179,3 +184,5 @@ prefix_on piece more wanted le next back same front cut h =
       λ p. rw (cut, ← same) (step.0 (h.0 p)).1,
       λ e. h.1 (step.1 (front, rw (← cut, same) e)),
     )
+
+pub ruleset decoded_laws = (decoded-utf8, decoded-lossy, decoded-same, decoded-front, front_text-take, front_text-none)

@@ -3,8 +3,9 @@
 //! What a test writes is bytes, which need not be UTF-8. It is shown as the text that they are decoded to, where each
 //! maximal piece that is no character is U+FFFD.
 
-ghost use Rattle.std.specs.Prelude.{◌≡◌, ◌↔◌, ◌<◌, ◌++◌, [], length, take, drop, IfSome, IfNone, IsTrue, MatchOption};
+ghost use Rattle.std.specs.Prelude.{◌≡◌, ◌↔◌, ◌<◌, ◌++◌, ℕ, List, [], length, take, drop, IfSome, IfNone, IsTrue, MatchOption};
 ghost use Rattle.std.specs.Str.{IsCharBoundary, IsUtf8};
+ghost use Rattle.std.specs.Str.Lossy.{utf8_lossy};
 ghost use Rattle.report_text.specs.Lossy.{decoded_text, front_text};
 ghost use Rattle.report_text.specs.Writer.{Puts};
 
@@ -153,6 +154,18 @@ impl<'a> LossyText<'a> {
         Some((back, rest))
     }
 }
+
+/// What decoded text is: always UTF-8, the one of std's lossy decoding, and bytes that are UTF-8 stay as they are. And
+/// what a front of a text is that ends a character, or ends none.
+#[tactic(auto, using(crate::proofs::Decoded::decoded_laws))]
+pub fn lossy_laws()
+    ensures utf8 { (bytes : List ℕ) → IsUtf8 (decoded_text bytes) }
+    ensures replaced { (bytes : List ℕ) → decoded_text bytes ≡ utf8_lossy bytes }
+    ensures same { (bytes : List ℕ) → IsUtf8 bytes → decoded_text bytes ≡ bytes }
+    ensures front { (front rest : List ℕ) → IsUtf8 front → decoded_text (front ++ rest) ≡ front ++ decoded_text rest }
+    ensures taken { (n : ℕ) (t : List ℕ) → IsCharBoundary t n → front_text n t ≡ take n t }
+    ensures nothing { (n : ℕ) (t : List ℕ) → ¬ (IsCharBoundary t n) → front_text n t ≡ [] }
+{}
 
 // The first piece of the text that bytes are decoded to, and the bytes after it.
 fn first_piece(bytes: &[u8]) -> Option<(&str, &[u8])>
