@@ -1,7 +1,14 @@
 //! What a test wrote, as a report shows it.
 
+mod captured;
+mod error_chain;
+mod header;
 mod highlighted_lines;
+mod overrides;
 
+pub use error_chain::write_error_chain;
+pub use header::{OutputHeader, OutputName};
+pub use overrides::OutputDisplayOverrides;
 pub use run_model::config::TestOutputDisplay;
 
 /// Whether a report is made while the run goes on or from its record.

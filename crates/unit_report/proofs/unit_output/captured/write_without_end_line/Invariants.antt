@@ -1,0 +1,11 @@
+use Rattle.std.proofs.Common.{◌++◌, length}
+use Rattle.report_text.specs.EndLine.{without_end_line, held}
+use Rattle.report_text.specs.Writer.{Owes}
+use Rattle.unit_report.proofs.unit_output.captured.write_without_end_line.Given as goal
+
+-- what is left is owed, after the line feed that is held back
+abbrev pub invariant-loop-rest : goal.invariant-loop-rest
+invariant-loop-rest g l = Owes g.W.WriteStr.meaning l.fn.w (without_end_line l.fn.text) l.w (without_end_line (held l.end_line.is_held ++ l.rest))
+
+abbrev pub decreases-loop-rest : goal.decreases-loop-rest
+decreases-loop-rest g l = length l.rest

@@ -1,0 +1,56 @@
+-- Captured output as a report shows it.
+use Rattle.std.specs.Prelude.{ℕ, ◌+◌, Bool, true, false, ◌&&◌, ◌==◌, List, [], ◌∷◌, ◌++◌, Option, None, Some, take, drop, if◌then◌else◌}
+use Rattle.run_model.specs.Outputs.{Part}
+use Rattle.run_model.specs.declared.output.ByteSubslice.{ByteSubslice}
+use Rattle.report_text.specs.EndLine.{without_end_line}
+use Rattle.report_text.specs.Escapes.{visible}
+use Rattle.report_text.specs.Highlights.{highlight_end}
+use Rattle.report_text.specs.Lossy.{ends_character}
+use Rattle.report_text.specs.Styles.{reset_color}
+use Rattle.report_text.specs.Words.{Text}
+use Rattle.report_text.specs.declared.style.Style.{Style}
+use Rattle.report_text.specs.declared.style.Styles.{Styles}
+use Rattle.unit_report.specs.HighlightedLines.{highlighted_lines}
+
+-- without colour: no escape sequences, and one line feed at the end
+unfoldable pub plain_output : Text → Text
+plain_output t = without_end_line (visible t) ++ 10 ∷ []
+
+-- with colour: as it is, but that no colour goes on after the end
+unfoldable pub reset_output : Text → Text
+reset_output t = without_end_line t ++ (reset_color ++ 10 ∷ [])
+
+-- a highlight between what stands before it and what follows it
+unfoldable pub highlighted_output : Style → Text → Text → Text → Text
+highlighted_output s front lit back = front ++ (reset_color ++ (highlighted_lines s lit ++ reset_output back))
+
+-- the part without where it lies in memory
+abbrev pub part_value : ByteSubslice → Part
+part_value s = record { start = s.start; bytes = s.slice.now }
+
+-- the text begins with these bytes
+abbrev pub begins_with : List ℕ → Text → Bool
+begins_with [] t = true
+begins_with (b ∷ bs) [] = false
+begins_with (b ∷ bs) (c ∷ t) = (b == c) && begins_with bs t
+
+-- where a highlight ends: its first two lines are shown
+abbrev pub highlight_stop : Part → ℕ
+highlight_stop h = h.start + highlight_end h.bytes
+
+-- a highlight is valid where both its ends are ends of characters, and the text holds its bytes there
+abbrev pub is_valid : Text → Part → Bool
+is_valid t h = ends_character h.start t && (begins_with h.bytes (drop h.start t) && ends_character (highlight_stop h) t)
+
+-- a text with its highlight
+abbrev pub highlighted_by : Style → Text → Part → Text
+highlighted_by s t h = highlighted_output s (take h.start t) (take (highlight_end h.bytes) (drop h.start t)) (drop (highlight_stop h) t)
+
+-- with colour, where a highlight may be given: one that is not valid is left out
+unfoldable pub coloured_output : Style → Text → Option Part → Text
+coloured_output s t None = reset_output t
+coloured_output s t (Some h) = if is_valid t h then highlighted_by s t h else reset_output t
+
+-- what is shown of a text
+unfoldable pub captured : Styles → Text → Option Part → Text
+captured styles t highlight = if styles.is_colorized then coloured_output styles.fail t highlight else plain_output t

@@ -1,0 +1,26 @@
+-- Whose setting decides when a test's output is shown.
+use Rattle.std.specs.Prelude.{Bool, true, false, unwrap_or, if◌then◌else◌}
+use Rattle.run_model.specs.Statuses.{is_success_case}
+use Rattle.run_model.specs.declared.config.TestOutputDisplay.{TestOutputDisplay}
+use Rattle.run_model.specs.declared.status.ExecutionResultDescription.{ExecutionResultDescription}
+use Rattle.run_model.specs.declared.status.ExecutionResultDescription.TheVariants as outcome
+use Rattle.run_model.specs.declared.status.StatusSummary.{StatusSummary}
+use Rattle.unit_report.specs.declared.unit_output.overrides.OutputDisplayOverrides.{OutputDisplayOverrides}
+
+-- the process could not be started
+abbrev pub is_exec_fail : ExecutionResultDescription → Bool
+is_exec_fail outcome.Pass = false
+is_exec_fail (outcome.Leak result) = false
+is_exec_fail (outcome.Fail failure leaked) = false
+is_exec_fail outcome.ExecFail = true
+is_exec_fail (outcome.Timeout result) = false
+
+-- the setting of a failed test, by its last result
+abbrev pub failure_display : OutputDisplayOverrides → TestOutputDisplay → ExecutionResultDescription → TestOutputDisplay
+failure_display o failure result =
+    if is_exec_fail result then unwrap_or o.force_exec_fail_output failure else unwrap_or o.force_failure_output failure
+
+-- the setting of a finished test: that of successes also where it is flaky and counts as failed
+abbrev pub display_for : OutputDisplayOverrides → TestOutputDisplay → TestOutputDisplay → StatusSummary → TestOutputDisplay
+display_for o success failure x =
+    if is_success_case x.case then unwrap_or o.force_success_output success else failure_display o failure x.result

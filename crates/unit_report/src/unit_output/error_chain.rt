@@ -1,0 +1,77 @@
+//! An error and its causes, as text.
+
+ghost use Rattle.std.specs.Prelude.{◌≡◌, false, codes};
+ghost use Rattle.std.specs.List.{flat_map};
+ghost use Rattle.report_text.specs.Indent.{indent};
+ghost use Rattle.report_text.specs.Writer.{Puts};
+ghost use Rattle.unit_report.specs.ErrorChains.{cause_text, caused_by, causes_text, error_chain_text};
+
+use report_text::indenter::indented;
+use report_text::style::write_plain;
+use report_text::write_str::{WriteFault, WriteStr};
+use run_model::abort::DescriptionText;
+use run_model::output::ErrorChain;
+
+/// Writes the message, and below it each cause on a line of its own.
+///
+/// ```
+/// // cannot spawn
+/// //   caused by:
+/// //   - no such file
+/// write_error_chain(w, &chain)?;
+/// ```
+#[tactic(auto, unfolding(crate::specs::ErrorChains::error_chain_text))]
+pub fn write_error_chain<W: WriteStr>(w: &mut W, chain: &ErrorChain) -> Result<(), WriteFault>
+    ensures { Puts W.meaning w.old (error_chain_text chain.now) result w.new }
+{
+    w.write_str(chain.message())?;
+    write_causes(w, chain.causes())
+}
+
+// Writes the causes, if there are any.
+#[tactic(auto, unfolding(crate::specs::ErrorChains::causes_text))]
+fn write_causes<W: WriteStr>(w: &mut W, causes: &[DescriptionText]) -> Result<(), WriteFault>
+    ensures { Puts W.meaning w.old (causes_text causes.now) result w.new }
+{
+    if causes.is_empty() {
+        return Ok(());
+    }
+    write_caused_by(w)?;
+    write_each_cause(w, causes)
+}
+
+#[tactic(auto, unfolding(crate::specs::ErrorChains::caused_by))]
+fn write_caused_by<W: WriteStr>(w: &mut W) -> Result<(), WriteFault>
+    ensures { Puts W.meaning w.old caused_by result w.new }
+{
+    write_plain(w, "\n  caused by:")
+}
+
+fn write_each_cause<W: WriteStr>(w: &mut W, causes: &[DescriptionText]) -> Result<(), WriteFault>
+    ensures { Puts W.meaning w.old (flat_map cause_text causes.now) result w.new }
+{
+    for cause in causes {
+        write_cause(w, cause.as_str())?;
+    }
+    Ok(())
+}
+
+// Writes a cause on a line of its own. Its later lines stand under its first.
+#[tactic(auto, unfolding(crate::specs::ErrorChains::cause_text))]
+fn write_cause<W: WriteStr>(w: &mut W, cause: &str) -> Result<(), WriteFault>
+    ensures { Puts W.meaning w.old (cause_text cause.now) result w.new }
+{
+    write_plain(w, "\n  - ")?;
+    write_later_lines_indented(w, cause)
+}
+
+// Writes a text with its lines but the first indented.
+fn write_later_lines_indented<W: WriteStr>(w: &mut W, text: &str) -> Result<(), WriteFault>
+    ensures { Puts W.meaning w.old (indent (codes "    ") false text.now) result w.new }
+{
+    let mut out = indented(w).skip_initial();
+    let result = out.write_str(text);
+    let back = out.into_inner();
+    let _ = &*back;
+    result
+}

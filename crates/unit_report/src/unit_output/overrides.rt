@@ -1,0 +1,78 @@
+//! Whose setting decides when a test's output is shown.
+
+ghost use Rattle.std.specs.Prelude.{◌≡◌, unwrap_or};
+ghost use Rattle.run_model.specs.Statuses.{described_summary};
+ghost use Rattle.unit_report.specs.OutputDisplays.{display_for, failure_display};
+
+use run_model::config::TestOutputDisplay;
+use run_model::output::OutputSpec;
+use run_model::status::{ExecutionDescription, ExecutionResultDescription};
+
+/// When output is shown in the place of what a test asks for. A setting that is absent leaves the choice to the test.
+#[derive(Clone, Copy, Debug, Default, PartialEq, Eq)]
+pub struct OutputDisplayOverrides {
+    /// Of tests that succeed.
+    pub force_success_output: Option<TestOutputDisplay>,
+    /// Of tests that fail.
+    pub force_failure_output: Option<TestOutputDisplay>,
+    /// Of tests that could not be started.
+    pub force_exec_fail_output: Option<TestOutputDisplay>,
+}
+
+impl OutputDisplayOverrides {
+    /// When the output of a test that succeeds is shown.
+    pub fn success_output(&self, event_setting: TestOutputDisplay) -> TestOutputDisplay
+        ensures { result ≡ unwrap_or self.now.force_success_output event_setting }
+    {
+        self.force_success_output.unwrap_or(event_setting)
+    }
+
+    /// When the output of a test that fails is shown.
+    pub fn failure_output(&self, event_setting: TestOutputDisplay) -> TestOutputDisplay
+        ensures { result ≡ unwrap_or self.now.force_failure_output event_setting }
+    {
+        self.force_failure_output.unwrap_or(event_setting)
+    }
+
+    /// When what is known of a test that could not be started is shown.
+    pub fn exec_fail_output(&self, event_setting: TestOutputDisplay) -> TestOutputDisplay
+        ensures { result ≡ unwrap_or self.now.force_exec_fail_output event_setting }
+    {
+        self.force_exec_fail_output.unwrap_or(event_setting)
+    }
+
+    /// When the output of a finished test is shown, which asks for these settings in case of a success and of a failure.
+    ///
+    /// A test whose last attempt succeeded has the setting of successes, also where it is flaky and counts as failed.
+    pub fn resolve_for_describe<S: OutputSpec>(
+        &self,
+        success_output: TestOutputDisplay,
+        failure_output: TestOutputDisplay,
+        describe: &ExecutionDescription<'_, S>,
+    ) -> TestOutputDisplay
+        ensures { result ≡ display_for self.now success_output failure_output (described_summary describe.now) }
+    {
+        if describe.is_success_for_output() {
+            self.success_output(success_output)
+        } else {
+            self.resolve_failure(failure_output, &describe.last_status().result)
+        }
+    }
+
+    // When the output of a test with this last result is shown.
+    fn resolve_failure(
+        &self,
+        failure_output: TestOutputDisplay,
+        last_result: &ExecutionResultDescription,
+    ) -> TestOutputDisplay
+        ensures { result ≡ failure_display self.now failure_output last_result.now }
+    {
+        match last_result {
+            ExecutionResultDescription::ExecFail => self.exec_fail_output(failure_output),
+            ExecutionResultDescription::Pass
+            | ExecutionResultDescription::Leak { .. }
+            | ExecutionResultDescription::Fail { .. }
+            | ExecutionResultDescription::Timeout { .. } => self.failure_output(failure_output),
+        }
+    }
+}
