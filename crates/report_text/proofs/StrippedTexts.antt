@@ -1,10 +1,16 @@
 -- A text in pieces, without its escape sequences.
-use Rattle.std.proofs.Common.{◌≡◌, ℕ, zero, suc, ◌<◌, true, false, ◌==◌, inl, inr, List, [], ◌∷◌, ◌++◌, refl, sym, ap, ◌∙◌, append_assoc, arith, length, take, drop, take-append-drop, length-append, length-drop, Some, None, chars, encode_utf8, encode_utf8_all, if◌then◌else◌, lit<}
+use Rattle.std.proofs.Common.{◌≡◌, ℕ, zero, suc, ◌<◌, Bool, true, false, ◌==◌, inl, inr, List, [], ◌∷◌, ◌++◌, refl, sym, ap, ◌∙◌, append_assoc, arith, length, take, drop, take-append-drop, length-append, length-drop, Some, None, chars, encode_utf8, encode_utf8_all, if◌then◌else◌, lit<, Result}
 use Rattle.std.proofs.lemmas.Bool.{cases_Bool, cases_lt}
 use Rattle.std.proofs.lemmas.Bool.Decides.{eqb_tells, nat_tests}
 use Rattle.std.proofs.lemmas.Str.{chars-append, chars-nil, chars_past_char, encode_ascii, encodes-chars, length-encode, len_utf8_bounds, IsUtf8-take}
 use Rattle.std.specs.Str.{IsUtf8, IsCharBoundary}
+use Rattle.std.specs.Result.{IsErrAnd}
 use Rattle.report_text.specs.Words.{Text}
+use Rattle.report_text.specs.EndLine.{without_end_line, ends_in_line_feed, held}
+use Rattle.report_text.specs.Writer.{Meaning, WriterLaws, Puts, Owes}
+use Rattle.report_text.specs.declared.write_str.WriteFault.{WriteFault}
+use Rattle.report_text.proofs.EndLines.{piece_next, end_line_done}
+use Rattle.report_text.proofs.Steps.{owes_all, owes_accepted, owes_stopped}
 use Rattle.report_text.specs.Escapes.{front_len, is_visible, PieceText, pieces, stretches, visible, HasNoEscape}
 use Rattle.report_text.specs.Escapes.PieceText.{SequenceText, StretchText}
 use Rattle.report_text.specs.Scanner.{begun, mode_after_step, step_of, advanced, mode_after}
@@ -118,8 +124,8 @@ stretch_shown (c ∷ cs) h =
     let n = free_char c (encode_utf8_all cs) h in let more = stretch_shown cs (free_back (encode_utf8 c) (encode_utf8_all cs) h) in
     (rw n (ap (λ x. encode_utf8 c ++ x) more.0), rw n more.1)
 
-pub stretch_whole : (s : Text) → IsUtf8 s → HasNoEscape s → (visible_from mode.Text (chars s) ≡ s) × (mode_through mode.Text (chars s) ≡ mode.Text)
-stretch_whole s u h = let e = encodes-chars s u in let both = stretch_shown (chars s) (rw e h) in (both.0 ∙ e, both.1)
+pub free_shown : (s : Text) → IsUtf8 s → HasNoEscape s → (visible_from mode.Text (chars s) ≡ s) × (mode_through mode.Text (chars s) ≡ mode.Text)
+free_shown s u h = let e = encodes-chars s u in let both = stretch_shown (chars s) (rw e h) in (both.0 ∙ e, both.1)
 
 -- what the scan takes: a character of a sequence
 some_visible : (m n : Mode) (c : ℕ) (cs : List ℕ) → advanced m c ≡ Some n → visible_from m (c ∷ cs) ≡ visible_from n cs
@@ -163,7 +169,7 @@ module _ (m : Mode) (t rest stretch after : Text) (c : ℕ) (u : IsUtf8 t) (e : 
   front_utf8 = rw p (IsUtf8-take t (front_len is_visible t) u (front_boundary t))
 
   front_shown : (visible_from mode.Text (chars stretch) ≡ stretch) × (mode_through mode.Text (chars stretch) ≡ mode.Text)
-  front_shown = stretch_whole stretch front_utf8 (rw p (front_free t))
+  front_shown = free_shown stretch front_utf8 (rw p (front_free t))
 
   front_there : 0 < front_len is_visible t
   front_there = rw e (front_first c rest (advanced-none m c h))
@@ -189,3 +195,32 @@ pub nothing_moved : (m : Mode) (t : Text) → length t ≡ 0 → mode_through m 
 unfolding mode_through
 nothing_moved m [] h = rw chars-nil refl
 nothing_moved m (c ∷ t) h = absurd (omega arith)
+
+-- what is owed before the next piece, and after it
+pub stripped_next : (m next : Mode) (h k : Bool) (rest piece after : Text) → rest ≡ piece ++ after → IsUtf8 piece → next ≡ mode_through m (chars piece) → k ≡ ends_in_line_feed (held h ++ visible_from m (chars piece))
+    → without_end_line (held h ++ visible_from m (chars rest)) ≡ without_end_line (held h ++ visible_from m (chars piece)) ++ without_end_line (held k ++ visible_from next (chars after))
+stripped_next m next h k rest piece after e u n q =
+    piece_next h k (visible_from m (chars rest)) (visible_from m (chars piece)) (visible_from next (chars after))
+    (rw (e, n) (visible_from-texts m piece after u)) q
+
+-- A loop over pieces that join to a text: what it has written and what it owes.
+module _ {S : Type 0} {w : Meaning S} (laws : WriterLaws w) where
+  -- before the first piece
+  pub stripped_begun : (a : S) (text : Text) (m : Mode) (h : Bool) → IsUtf8 text → m ≡ mode.Text → h ≡ false → Owes w a (without_end_line (visible text)) a (without_end_line (held h ++ visible_from m (chars text)))
+  stripped_begun a text m h u n e = rw (n, e, visible-from text u) (owes_all laws a (without_end_line (visible_from mode.Text (chars text))))
+
+  -- after a piece
+  pub stripped_written : (a b c : S) (text rest piece after : Text) (m next : Mode) (h k : Bool) → Owes w a text b (without_end_line (held h ++ visible_from m (chars rest))) → rest ≡ piece ++ after → IsUtf8 piece
+      → w.accepts b (without_end_line (held h ++ visible_from m (chars piece))) c → next ≡ mode_through m (chars piece) → k ≡ ends_in_line_feed (held h ++ visible_from m (chars piece))
+      → Owes w a text c (without_end_line (held k ++ visible_from next (chars after)))
+  stripped_written a b c text rest piece after m next h k o e u p n q = owes_accepted laws a b c text _ _ _ o (stripped_next m next h k rest piece after e u n q) p
+
+  -- at a fault in a piece
+  pub stripped_stopped : (a b c : S) (text rest piece after : Text) (m : Mode) (h : Bool) (f : WriteFault) (r : Result (Unit {0}) WriteFault) → Owes w a text b (without_end_line (held h ++ visible_from m (chars rest)))
+      → rest ≡ piece ++ after → IsUtf8 piece → IsErrAnd r (λ x. x ≡ f) → w.stops b (without_end_line (held h ++ visible_from m (chars piece))) f c → Puts w a text r c
+  stripped_stopped a b c text rest piece after m h f r o e u i s =
+      owes_stopped laws a b c text _ _ _ f r o (stripped_next m (mode_through m (chars piece)) h (ends_in_line_feed (held h ++ visible_from m (chars piece))) rest piece after e u refl refl) i s
+
+  -- after the last piece
+  pub stripped_done : (a b : S) (text rest : Text) (m : Mode) (h : Bool) → Owes w a text b (without_end_line (held h ++ visible_from m (chars rest))) → length rest ≡ 0 → w.accepts a text b
+  stripped_done a b text rest m h o e = end_line_done laws a b text _ h o (nothing_shown m rest e)

@@ -6,6 +6,9 @@ ghost use Rattle.report_text.specs.Escapes.{front_len, is_visible};
 ghost use Rattle.report_text.specs.Stripped.{visible_from, mode_through, Takes};
 ghost use Rattle.report_text.specs.Writer.{Puts};
 
+#[cfg(test)]
+mod tests;
+
 use crate::end_line::EndLine;
 use crate::escapes::{ESCAPE, Mode, advance};
 use crate::write_str::{WriteFault, WriteStr};

@@ -1,0 +1,68 @@
+//! Pieces that cut a sequence, and line feeds at the end of a piece.
+
+ghost use Rattle.std.specs.Str.{IsUtf8};
+ghost use Rattle.report_text.specs.EndLine.{without_end_line};
+ghost use Rattle.report_text.specs.Escapes.{visible};
+ghost use Rattle.report_text.specs.Words.{strs};
+ghost use Rattle.report_text.specs.Writer.{Puts};
+
+use super::StrippedPieces;
+use crate::end_line::EndLine;
+use crate::write_str::{WriteFault, WriteStr};
+use std::test::Fail;
+
+// Writes the pieces without their sequences and the line feed that closes what is left.
+fn write_stripped_pieces<W: WriteStr>(w: &mut W, pieces: &[&str]) -> Result<(), WriteFault>
+    ensures { IsUtf8 (strs pieces.now) → Puts W.meaning w.old (without_end_line (visible (strs pieces.now))) result w.new }
+{
+    let mut stripped = StrippedPieces::new();
+    for piece in pieces {
+        stripped.write(w, piece)?;
+    }
+    Ok(())
+}
+
+// Writes the pieces without the line feed that closes them.
+fn write_without_end_line<W: WriteStr>(w: &mut W, pieces: &[&str]) -> Result<(), WriteFault>
+    ensures { Puts W.meaning w.old (without_end_line (strs pieces.now)) result w.new }
+{
+    let mut end_line = EndLine::new();
+    for piece in pieces {
+        end_line.write(w, piece)?;
+    }
+    Ok(())
+}
+
+#[test]
+fn strips_pieces(rt: HostRuntime) -> Result<(), Fail> {
+    for (first, second, want) in [
+        ("a\n\x1b[0m", "", "a"),
+        ("\x1b]8;;", "x\u{7}b\n", "b"),
+        ("a\n", "\n", "a\n"),
+        ("\x1b", "[31mq", "q"),
+        ("é\x1b]0;\x1b", "\\日", "é日"),
+        ("a\x1b[3", "\nb", "a\nb"),
+    ] {
+        let mut written = String::new(rt.alloc());
+        write_stripped_pieces(&mut written, &[first, second])?;
+        assert_eq!(rt; written.as_str(), want);
+    }
+    Ok(())
+}
+
+#[test]
+fn holds_a_line_feed_back(rt: HostRuntime) -> Result<(), Fail> {
+    for (first, second, want) in [
+        ("a\n", "\n", "a\n"),
+        ("a\n", "", "a"),
+        ("a\n", "b", "a\nb"),
+        ("\n", "", ""),
+        ("", "", ""),
+        ("\x1b[0m\r", "\n", "\x1b[0m\r"),
+    ] {
+        let mut written = String::new(rt.alloc());
+        write_without_end_line(&mut written, &[first, second])?;
+        assert_eq!(rt; written.as_str(), want);
+    }
+    Ok(())
+}
