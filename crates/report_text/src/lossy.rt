@@ -75,6 +75,7 @@ impl<'a> LossyText<'a> {
     pub fn skip(&self, count: usize) -> Option<LossyText<'a>>
         ensures some { IfSome result (λ t. IsCharBoundary self.now count × (t ≡ drop count self.now)) }
         ensures none { IfNone result (¬ (IsCharBoundary self.now count)) }
+        ensures utf8 { IfSome result (λ t. IsUtf8 t) }
     {
         let (piece, rest) = self.split_after(count)?;
         if piece.is_empty() {

@@ -1,1 +1,2 @@
+pub mod Highlights
 pub mod HighlightedLines

@@ -4,8 +4,8 @@ use Rattle.report_text.specs.Writer.{Owes}
 use Rattle.unit_report.proofs.unit_output.captured.write_without_end_line.Given as goal
 
 -- what is left is owed, after the line feed that is held back
-abbrev pub invariant-loop-rest : goal.invariant-loop-rest
-invariant-loop-rest g l = Owes g.W.WriteStr.meaning l.fn.w (without_end_line l.fn.text) l.w (without_end_line (held l.end_line.is_held ++ l.rest))
+abbrev pub invariant-loop-piece : goal.invariant-loop-piece
+invariant-loop-piece g l = Owes g.W.WriteStr.meaning l.fn.w (without_end_line l.fn.text) l.w (without_end_line (held l.end_line.is_held ++ l.rest))
 
-abbrev pub decreases-loop-rest : goal.decreases-loop-rest
-decreases-loop-rest g l = length l.rest
+abbrev pub decreases-loop-piece : goal.decreases-loop-piece
+decreases-loop-piece g l = length l.rest

@@ -1,0 +1,18 @@
+use Rattle.std.proofs.Common.{◌++◌, chars, length}
+use Rattle.std.specs.Str.{IsUtf8}
+use Rattle.report_text.specs.EndLine.{without_end_line, held}
+use Rattle.report_text.specs.Escapes.{visible}
+use Rattle.report_text.specs.Stripped.{visible_from}
+use Rattle.report_text.specs.Writer.{Owes}
+use Rattle.unit_report.proofs.unit_output.captured.write_stripped_pieces.Given as goal
+
+-- what is shown of the rest is owed
+abbrev pub invariant-loop-piece : goal.invariant-loop-piece
+invariant-loop-piece g l = record {
+  utf8 : IsUtf8 l.rest → IsUtf8 l.fn.text;
+  owed : IsUtf8 l.fn.text → Owes g.W.WriteStr.meaning l.fn.w (without_end_line (visible l.fn.text))
+      l.w (without_end_line (held l.stripped.end_line.is_held ++ visible_from l.stripped.mode (chars l.rest)));
+}
+
+abbrev pub decreases-loop-piece : goal.decreases-loop-piece
+decreases-loop-piece g l = length l.rest
