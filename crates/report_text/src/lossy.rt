@@ -52,9 +52,20 @@ impl<'a> LossyText<'a> {
         }
     }
 
+    /// The same text. It takes no memory.
+    pub fn copy(&self) -> LossyText<'a>
+        ensures { result ≡ self.now }
+    {
+        LossyText {
+            piece: self.piece,
+            rest: self.rest,
+        }
+    }
+
     /// The first piece, which is not empty, and the text after it. `None` says that there is no text.
     ///
     /// ```
+    /// let mut text = LossyText::new(output);
     /// while let Some((piece, after)) = text.split_first() {
     ///     w.write_str(piece)?;
     ///     text = after;

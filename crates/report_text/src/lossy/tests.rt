@@ -47,6 +47,7 @@ fn skips_whole_characters(rt: HostRuntime) -> Result<(), Fail> {
         return Err(Fail::from("a character ends there"));
     };
     assert!(rt; after.starts_with(b"A"));
+    assert!(rt; after.copy().starts_with(b"A"));
     assert!(rt; after.skip(2).is_none());
     Ok(())
 }
