@@ -73,10 +73,10 @@ shown-utf8 piece rest u = IsUtf8-append piece (decoded_text rest) u (decoded-utf
 
 -- places
 
-ends-boundary : (n : ℕ) (t : Text) → ends_character n t ≡ true → IsCharBoundary t n
+pub ends-boundary : (n : ℕ) (t : Text) → ends_character n t ≡ true → IsCharBoundary t n
 ends-boundary n t h = (grind (arith, nat_tests), λ l a. grind (arith, nat_tests))
 
-boundary-ends : (n : ℕ) (t : Text) → IsCharBoundary t n → ends_character n t ≡ true
+pub boundary-ends : (n : ℕ) (t : Text) → IsCharBoundary t n → ends_character n t ≡ true
 boundary-ends n t (l, b) = grind (arith, nat_tests)
 
 -- the front of a text that ends at a character, and where it does not

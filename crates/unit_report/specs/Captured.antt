@@ -20,9 +20,13 @@ plain_output t = without_end_line (visible t) ++ 10 ∷ []
 unfoldable pub reset_output : Text → Text
 reset_output t = without_end_line t ++ (reset_color ++ 10 ∷ [])
 
+-- what ends every colour
+unfoldable pub reset : Text
+reset = reset_color
+
 -- a highlight between what stands before it and what follows it
 unfoldable pub highlighted_output : Style → Text → Text → Text → Text
-highlighted_output s front lit back = front ++ (reset_color ++ (highlighted_lines s lit ++ reset_output back))
+highlighted_output s front lit back = front ++ (reset ++ (highlighted_lines s lit ++ reset_output back))
 
 -- the part without where it lies in memory
 abbrev pub part_value : ByteSubslice → Part
