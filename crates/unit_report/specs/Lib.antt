@@ -7,4 +7,5 @@ pub mod OutputDisplays
 pub mod OutputHeaders
 pub mod SkipCounts
 pub mod UnitKinds
+pub mod UnitOutputs
 pub mod Warnings

@@ -1,0 +1,88 @@
+-- What is shown of the output of a test or a setup script.
+use Rattle.std.specs.Prelude.{Bool, true, false, not, ◌||◌, ◌==◌, [], ◌∷◌, ◌++◌, length, Option, None, Some, codes, if◌then◌else◌}
+use Rattle.std.specs.Option.{option_and_then}
+use Rattle.run_model.specs.ErrorChains.{MessageAndCauses}
+use Rattle.run_model.specs.Outputs.{Part, stdout_part, stderr_part, combined_part}
+use Rattle.run_model.specs.declared.output.ChildExecutionOutputDescription.{ChildExecutionOutputDescription}
+use Rattle.run_model.specs.declared.output.ChildExecutionOutputDescription.TheVariants.{Output, StartError}
+use Rattle.run_model.specs.declared.output.ChildOutputDescription.{ChildOutputDescription}
+use Rattle.run_model.specs.declared.output.ChildOutputDescription.TheVariants.{Split, Combined}
+use Rattle.run_model.specs.declared.output.Highlight.{Highlight}
+use Rattle.run_model.specs.declared.output.LiveSpec.{LiveSpec}
+use Rattle.report_text.specs.Indent.{indent}
+use Rattle.report_text.specs.Lossy.{decoded_text}
+use Rattle.report_text.specs.Styles.{plain, styled}
+use Rattle.report_text.specs.Words.{Text}
+use Rattle.report_text.specs.declared.style.Styles.{Styles}
+use Rattle.unit_report.specs.Captured.{captured}
+use Rattle.unit_report.specs.ErrorChains.{error_chain_text}
+use Rattle.unit_report.specs.OutputHeaders.{header_text, name_text}
+use Rattle.unit_report.specs.declared.unit_output.DisplayerKind.{DisplayerKind}
+use Rattle.unit_report.specs.declared.unit_output.DisplayerKind.TheVariants.{Live, Replay}
+use Rattle.unit_report.specs.declared.unit_output.header.OutputHeader.{OutputHeader}
+use Rattle.unit_report.specs.declared.unit_output.header.OutputName.{OutputName}
+use Rattle.unit_report.specs.declared.unit_output.header.OutputName.TheVariants as name
+use Rattle.unit_report.specs.declared.unit_output.reporter.ChildOutputSpec.{ChildOutputSpec}
+use Rattle.unit_report.specs.declared.unit_output.reporter.UnitOutputReporter.{UnitOutputReporter}
+
+abbrev pub is_replay : DisplayerKind → Bool
+is_replay Live = false
+is_replay Replay = true
+
+unfoldable pub not_captured : Styles → Text
+not_captured s = styled s.skip (codes "not captured")
+
+-- an output that was not captured. It has its four spaces whatever the indentation
+unfoldable pub not_captured_text : Styles → OutputName → Text
+not_captured_text s name =
+    plain (codes "    (") ++ (plain (name_text name) ++ (plain (codes " ") ++ (not_captured s ++ plain (codes ")\n"))))
+
+-- the header of a stream, and the stream below it, indented
+unfoldable pub shown_stream : Styles → Text → OutputHeader → Text → Option Part → Text
+shown_stream s margin header bytes highlight =
+    header_text header ++ (plain (codes "\n") ++ indent margin true (captured s (decoded_text bytes) highlight))
+
+-- a stream that is there is shown unless it is empty; whether empty ones are too is the reporter's choice
+unfoldable pub present_stream : UnitOutputReporter → Styles → Text → OutputHeader → Text → Option Part → Text
+present_stream r s margin header bytes highlight =
+    if r.display_empty_outputs || not (length bytes == 0) then shown_stream s margin header bytes highlight else []
+
+-- one of two streams. A record says where it was not captured
+unfoldable pub stream_text : UnitOutputReporter → Styles → Text → OutputHeader → OutputName → Option Text → Option Part → Text
+stream_text r s margin header name None highlight = if is_replay r.displayer_kind then not_captured_text s name else []
+stream_text r s margin header name (Some bytes) highlight = present_stream r s margin header bytes highlight
+
+-- two streams, one after the other
+unfoldable pub both_streams : UnitOutputReporter → Styles → ChildOutputSpec → Option Text → Option Text → Option Highlight → Text
+both_streams r s spec stdout stderr highlight =
+    stream_text r s spec.output_indent.now spec.stdout_header name.Stdout stdout (option_and_then stdout_part highlight)
+    ++ stream_text r s spec.output_indent.now spec.stderr_header name.Stderr stderr (option_and_then stderr_part highlight)
+
+-- two streams. A record says in one line that neither was captured
+unfoldable pub split_text : UnitOutputReporter → Styles → ChildOutputSpec → Option Text → Option Text → Option Highlight → Text
+split_text r s spec None None highlight =
+    if is_replay r.displayer_kind then not_captured_text s name.Output else both_streams r s spec None None highlight
+split_text r s spec None (Some stderr) highlight = both_streams r s spec None (Some stderr) highlight
+split_text r s spec (Some stdout) stderr highlight = both_streams r s spec (Some stdout) stderr highlight
+
+-- what a process wrote
+unfoldable pub child_output : UnitOutputReporter → Styles → ChildOutputSpec → ChildOutputDescription → Option Highlight → Text
+child_output r s spec (Split stdout stderr) highlight = split_text r s spec stdout stderr highlight
+child_output r s spec (Combined output) highlight =
+    present_stream r s spec.output_indent.now spec.combined_header output (option_and_then combined_part highlight)
+
+-- an error with its causes, indented below its header
+unfoldable pub errors_block : ChildOutputSpec → MessageAndCauses → Text
+errors_block spec chain =
+    header_text spec.exec_fail_header ++ (plain (codes "\n") ++ indent spec.output_indent.now true (error_chain_text chain ++ 10 ∷ []))
+
+-- errors, if there are any
+unfoldable pub errors_text : ChildOutputSpec → Option MessageAndCauses → Text
+errors_text spec None = []
+errors_text spec (Some chain) = errors_block spec chain
+
+-- all that is shown of an attempt: errors first, then what it wrote, then an empty line
+unfoldable pub execution_output : UnitOutputReporter → Styles → ChildOutputSpec → ChildExecutionOutputDescription LiveSpec ChildOutputDescription → Text
+execution_output r s spec (Output result output errors highlight) =
+    errors_text spec errors ++ (child_output r s spec output highlight ++ plain (codes "\n"))
+execution_output r s spec (StartError chain) = errors_block spec chain ++ plain (codes "\n")

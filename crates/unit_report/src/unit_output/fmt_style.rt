@@ -1,0 +1,36 @@
+//! What begins and what ends a style, for formatting.
+
+ghost use Rattle.std.specs.Prelude.{◌≡◌, Some};
+ghost use Rattle.report_text.specs.Styles.{style_prefix, style_suffix};
+
+use report_text::style::Style;
+use std::fmt;
+use std::fmt::Formatter;
+
+/// Displays what stands before a text in a style: ESC `[` code `m`, or nothing.
+///
+/// ```
+/// FmtPrefix(Style::BoldRed) // "\x1b[31;1m"
+/// ```
+#[derive(Clone, Copy, Debug, PartialEq, Eq)]
+pub struct FmtPrefix(pub Style);
+
+impl fmt::Display for FmtPrefix {
+    ghost output = { λ p. Some (style_prefix p.0) };
+
+    fn fmt<W: fmt::Write>(&self, f: &mut Formatter<W>) -> fmt::Result {
+        f.write_str(self.0.prefix())
+    }
+}
+
+/// Displays what stands after a text in a style: ESC `[0m`, or nothing.
+#[derive(Clone, Copy, Debug, PartialEq, Eq)]
+pub struct FmtSuffix(pub Style);
+
+impl fmt::Display for FmtSuffix {
+    ghost output = { λ s. Some (style_suffix s.0) };
+
+    fn fmt<W: fmt::Write>(&self, f: &mut Formatter<W>) -> fmt::Result {
+        f.write_str(self.0.suffix())
+    }
+}

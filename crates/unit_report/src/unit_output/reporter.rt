@@ -1,0 +1,365 @@
+//! What is shown of the output of a test or a setup script.
+
+ghost use Rattle.std.specs.Prelude.{◌≡◌, ◌∷◌, ◌++◌, [], true};
+ghost use Rattle.std.specs.Option.{option_map, option_and_then};
+ghost use Rattle.run_model.specs.Outputs.{combined_part, stderr_part, stdout_part, subslice_value};
+ghost use Rattle.report_text.specs.Indent.{indent};
+ghost use Rattle.report_text.specs.Lossy.{decoded_text};
+ghost use Rattle.report_text.specs.Writer.{Puts};
+ghost use Rattle.unit_report.specs.Captured.{captured};
+ghost use Rattle.unit_report.specs.ErrorChains.{error_chain_text};
+ghost use Rattle.unit_report.specs.UnitOutputs.{both_streams, child_output, errors_block, errors_text, execution_output, is_replay, not_captured, not_captured_text, present_stream, shown_stream, split_text, stream_text};
+
+use super::DisplayerKind;
+use super::captured::write_captured;
+use super::error_chain::write_error_chain;
+use super::header::{OutputHeader, OutputName};
+use super::overrides::OutputDisplayOverrides;
+use report_text::indenter::indented;
+use report_text::style::{Styles, write_plain};
+use report_text::write_str::{WriteFault, WriteStr};
+use run_model::output::{
+    ByteSubslice, ChildExecutionOutputDescription, ChildOutputDescription, ChildSingleOutput,
+    ErrorChain, Highlight, LiveSpec,
+};
+use run_model::unit::UnitKind;
+
+/// How the output of a unit is laid out.
+#[derive(Clone, Copy, Debug)]
+pub struct ChildOutputSpec {
+    /// Whether it is a test or a setup script.
+    pub kind: UnitKind,
+    /// The line before standard output.
+    pub stdout_header: OutputHeader,
+    /// The line before standard error.
+    pub stderr_header: OutputHeader,
+    /// The line before both streams, where they were captured together.
+    pub combined_header: OutputHeader,
+    /// The line before the errors of the execution.
+    pub exec_fail_header: OutputHeader,
+    /// What stands before each line of an output that is not empty.
+    pub output_indent: &'static str,
+}
+
+/// Shows what tests and setup scripts wrote.
+#[derive(Clone, Copy, Debug)]
+pub struct UnitOutputReporter {
+    overrides: OutputDisplayOverrides,
+    displayer_kind: DisplayerKind,
+    display_empty_outputs: bool,
+}
+
+impl UnitOutputReporter {
+    /// With these overrides. Streams that are empty are shown only where `display_empty_outputs` says so.
+    pub fn new(
+        overrides: OutputDisplayOverrides,
+        displayer_kind: DisplayerKind,
+        display_empty_outputs: bool,
+    ) -> UnitOutputReporter
+        ensures overrides { result.overrides ≡ overrides }
+        ensures displayer_kind { result.displayer_kind ≡ displayer_kind }
+        ensures display_empty_outputs { result.display_empty_outputs ≡ display_empty_outputs }
+    {
+        UnitOutputReporter {
+            overrides,
+            displayer_kind,
+            display_empty_outputs,
+        }
+    }
+
+    /// Whose setting decides when an output is shown.
+    pub fn overrides(&self) -> OutputDisplayOverrides
+        ensures { result ≡ self.now.overrides }
+    {
+        self.overrides
+    }
+
+    /// Writes all that is shown of an attempt: errors first, then what it wrote, then an empty line.
+    ///
+    /// # Errors
+    ///
+    /// What the writer answered. A beginning of the text was accepted.
+    #[tactic(auto, unfolding(crate::specs::UnitOutputs::execution_output))]
+    pub fn write_child_execution_output<W: WriteStr>(
+        &self,
+        styles: &Styles,
+        spec: &ChildOutputSpec,
+        exec_output: &ChildExecutionOutputDescription<LiveSpec>,
+        w: &mut W,
+    ) -> Result<(), WriteFault>
+        ensures { Puts W.meaning w.old (execution_output self.now styles.now spec.now exec_output.now) result w.new }
+    {
+        match exec_output {
+            ChildExecutionOutputDescription::Output {
+                output,
+                errors,
+                highlight,
+                ..
+            } => {
+                write_errors(w, spec, errors)?;
+                self.write_child_output(styles, spec, output, highlight.as_ref(), w)?;
+                write_plain(w, "\n")
+            }
+            ChildExecutionOutputDescription::StartError(error) => {
+                write_errors_block(w, spec, error)?;
+                write_plain(w, "\n")
+            }
+        }
+    }
+
+    /// Writes what a process wrote, each stream below its header.
+    ///
+    /// # Errors
+    ///
+    /// What the writer answered. A beginning of the text was accepted.
+    #[tactic(auto, unfolding(crate::specs::UnitOutputs::child_output))]
+    pub fn write_child_output<W: WriteStr>(
+        &self,
+        styles: &Styles,
+        spec: &ChildOutputSpec,
+        output: &ChildOutputDescription,
+        highlight: Option<&Highlight>,
+        w: &mut W,
+    ) -> Result<(), WriteFault>
+        ensures { Puts W.meaning w.old (child_output self.now styles.now spec.now output.now (option_map (λ h. h.now) highlight.entry)) result w.new }
+    {
+        match output {
+            ChildOutputDescription::Split { stdout, stderr } => {
+                self.write_split(w, styles, spec, stdout, stderr, highlight)
+            }
+            ChildOutputDescription::Combined { output } => {
+                let part = combined_subslice(highlight);
+                self.write_present(w, styles, spec, spec.combined_header, output, part)
+            }
+        }
+    }
+
+    // Writes two streams. A record says in one line that neither was captured.
+    #[tactic(auto, unfolding(crate::specs::UnitOutputs::split_text))]
+    fn write_split<W: WriteStr>(
+        &self,
+        w: &mut W,
+        styles: &Styles,
+        spec: &ChildOutputSpec,
+        stdout: &Option<ChildSingleOutput>,
+        stderr: &Option<ChildSingleOutput>,
+        highlight: Option<&Highlight>,
+    ) -> Result<(), WriteFault>
+        ensures { Puts W.meaning w.old (split_text self.now styles.now spec.now stdout.now stderr.now (option_map (λ h. h.now) highlight.entry)) result w.new }
+    {
+        match (stdout, stderr) {
+            (None, None) if self.displayer_kind == DisplayerKind::Replay => {
+                write_not_captured(w, styles, OutputName::Output)
+            }
+            _ => self.write_both(w, styles, spec, stdout, stderr, highlight),
+        }
+    }
+
+    // Writes two streams, one after the other.
+    #[tactic(auto, unfolding(crate::specs::UnitOutputs::both_streams))]
+    fn write_both<W: WriteStr>(
+        &self,
+        w: &mut W,
+        styles: &Styles,
+        spec: &ChildOutputSpec,
+        stdout: &Option<ChildSingleOutput>,
+        stderr: &Option<ChildSingleOutput>,
+        highlight: Option<&Highlight>,
+    ) -> Result<(), WriteFault>
+        ensures { Puts W.meaning w.old (both_streams self.now styles.now spec.now stdout.now stderr.now (option_map (λ h. h.now) highlight.entry)) result w.new }
+    {
+        let part = stdout_subslice(highlight);
+        self.write_stream(
+            w,
+            styles,
+            spec,
+            spec.stdout_header,
+            OutputName::Stdout,
+            stdout,
+            part,
+        )?;
+        let part = stderr_subslice(highlight);
+        self.write_stream(
+            w,
+            styles,
+            spec,
+            spec.stderr_header,
+            OutputName::Stderr,
+            stderr,
+            part,
+        )
+    }
+
+    // Writes one of two streams. A record says where it was not captured.
+    #[tactic(auto, unfolding(crate::specs::UnitOutputs::stream_text))]
+    fn write_stream<W: WriteStr>(
+        &self,
+        w: &mut W,
+        styles: &Styles,
+        spec: &ChildOutputSpec,
+        header: OutputHeader,
+        name: OutputName,
+        output: &Option<ChildSingleOutput>,
+        highlight: Option<ByteSubslice<'_>>,
+    ) -> Result<(), WriteFault>
+        ensures { Puts W.meaning w.old (stream_text self.now styles.now spec.now.output_indent.now header name output.now (subslice_value highlight.entry)) result w.new }
+    {
+        match output {
+            Some(output) => self.write_present(w, styles, spec, header, output, highlight),
+            None if self.displayer_kind == DisplayerKind::Replay => {
+                write_not_captured(w, styles, name)
+            }
+            None => Ok(()),
+        }
+    }
+
+    // Writes a stream that is there, unless it is empty and empty ones are not shown.
+    #[tactic(auto, unfolding(crate::specs::UnitOutputs::present_stream))]
+    fn write_present<W: WriteStr>(
+        &self,
+        w: &mut W,
+        styles: &Styles,
+        spec: &ChildOutputSpec,
+        header: OutputHeader,
+        output: &ChildSingleOutput,
+        highlight: Option<ByteSubslice<'_>>,
+    ) -> Result<(), WriteFault>
+        ensures { Puts W.meaning w.old (present_stream self.now styles.now spec.now.output_indent.now header output.now (subslice_value highlight.entry)) result w.new }
+    {
+        if self.display_empty_outputs || !output.is_empty() {
+            write_shown(w, styles, spec, header, output.as_bytes(), highlight)
+        } else {
+            Ok(())
+        }
+    }
+}
+
+// Writes the header of a stream, and the stream below it, indented.
+#[tactic(auto, unfolding(crate::specs::UnitOutputs::shown_stream))]
+fn write_shown<W: WriteStr>(
+    w: &mut W,
+    styles: &Styles,
+    spec: &ChildOutputSpec,
+    header: OutputHeader,
+    bytes: &[u8],
+    highlight: Option<ByteSubslice<'_>>,
+) -> Result<(), WriteFault>
+    ensures { Puts W.meaning w.old (shown_stream styles.now spec.now.output_indent.now header bytes.now (subslice_value highlight.entry)) result w.new }
+{
+    header.write_to(w)?;
+    write_plain(w, "\n")?;
+    write_captured_indented(w, styles, spec.output_indent, bytes, highlight)
+}
+
+// Writes captured output, each line after the margin.
+fn write_captured_indented<W: WriteStr>(
+    w: &mut W,
+    styles: &Styles,
+    margin: &str,
+    bytes: &[u8],
+    highlight: Option<ByteSubslice<'_>>,
+) -> Result<(), WriteFault>
+    ensures { Puts W.meaning w.old (indent margin.now true (captured styles.now (decoded_text bytes.now) (subslice_value highlight.entry))) result w.new }
+{
+    let mut out = indented(w).with_str(margin);
+    let result = write_captured(&mut out, styles, bytes, highlight);
+    let back = out.into_inner();
+    let _ = &*back;
+    result
+}
+
+// Writes that an output was not captured.
+#[tactic(auto, unfolding(crate::specs::UnitOutputs::not_captured_text))]
+fn write_not_captured<W: WriteStr>(
+    w: &mut W,
+    styles: &Styles,
+    name: OutputName,
+) -> Result<(), WriteFault>
+    ensures { Puts W.meaning w.old (not_captured_text styles.now name) result w.new }
+{
+    write_plain(w, "    (")?;
+    write_plain(w, name.as_str())?;
+    write_plain(w, " ")?;
+    write_not_captured_words(w, styles)?;
+    write_plain(w, ")\n")
+}
+
+#[tactic(auto, unfolding(crate::specs::UnitOutputs::not_captured))]
+fn write_not_captured_words<W: WriteStr>(w: &mut W, styles: &Styles) -> Result<(), WriteFault>
+    ensures { Puts W.meaning w.old (not_captured styles.now) result w.new }
+{
+    styles.skip.write(w, "not captured")
+}
+
+// Writes errors, if there are any.
+#[tactic(auto, unfolding(crate::specs::UnitOutputs::errors_text))]
+fn write_errors<W: WriteStr>(
+    w: &mut W,
+    spec: &ChildOutputSpec,
+    errors: &Option<ErrorChain>,
+) -> Result<(), WriteFault>
+    ensures { Puts W.meaning w.old (errors_text spec.now errors.now) result w.new }
+{
+    match errors {
+        None => Ok(()),
+        Some(chain) => write_errors_block(w, spec, chain),
+    }
+}
+
+// Writes an error with its causes, indented below its header.
+#[tactic(auto, unfolding(crate::specs::UnitOutputs::errors_block))]
+fn write_errors_block<W: WriteStr>(
+    w: &mut W,
+    spec: &ChildOutputSpec,
+    chain: &ErrorChain,
+) -> Result<(), WriteFault>
+    ensures { Puts W.meaning w.old (errors_block spec.now chain.now) result w.new }
+{
+    spec.exec_fail_header.write_to(w)?;
+    write_plain(w, "\n")?;
+    write_chain_indented(w, spec.output_indent, chain)
+}
+
+// Writes an error with its causes and a line feed, each line after the margin.
+fn write_chain_indented<W: WriteStr>(
+    w: &mut W,
+    margin: &str,
+    chain: &ErrorChain,
+) -> Result<(), WriteFault>
+    ensures { Puts W.meaning w.old (indent margin.now true (error_chain_text chain.now ++ 10 ∷ [])) result w.new }
+{
+    let mut out = indented(w).with_str(margin);
+    let result = write_chain_line(&mut out, chain);
+    let back = out.into_inner();
+    let _ = &*back;
+    result
+}
+
+// Writes an error with its causes, and a line feed.
+fn write_chain_line<W: WriteStr>(w: &mut W, chain: &ErrorChain) -> Result<(), WriteFault>
+    ensures { Puts W.meaning w.old (error_chain_text chain.now ++ 10 ∷ []) result w.new }
+{
+    write_error_chain(w, chain)?;
+    w.write_str("\n")
+}
+
+// The part of standard output that is pointed out.
+fn stdout_subslice(highlight: Option<&Highlight>) -> Option<ByteSubslice<'_>>
+    ensures { subslice_value result ≡ option_and_then stdout_part (option_map (λ h. h.now) highlight.entry) }
+{
+    highlight?.stdout_subslice()
+}
+
+// The part of standard error that is pointed out.
+fn stderr_subslice(highlight: Option<&Highlight>) -> Option<ByteSubslice<'_>>
+    ensures { subslice_value result ≡ option_and_then stderr_part (option_map (λ h. h.now) highlight.entry) }
+{
+    highlight?.stderr_subslice()
+}
+
+// The part of both streams together that is pointed out.
+fn combined_subslice(highlight: Option<&Highlight>) -> Option<ByteSubslice<'_>>
+    ensures { subslice_value result ≡ option_and_then combined_part (option_map (λ h. h.now) highlight.entry) }
+{
+    highlight?.combined_subslice()
+}
