@@ -97,7 +97,7 @@ advanced-none (mode.Sequence Intermediates) c h = step-none c (step_of Intermedi
 advanced-none (mode.Sequence Command) c h = elim (cases_Bool (c == 27)) [ inl y ↦ absurd (let e = rw y at h in cc) | inr n ↦ n ]
 advanced-none (mode.Sequence Short) c h = step-none c (step_of Short c false) h
 
--- the scan then stands in text
+-- where it is scanned from text all the same
 pub none_visible : (m : Mode) (c : ℕ) (cs : List ℕ) → advanced m c ≡ None → visible_from m (c ∷ cs) ≡ visible_from mode.Text (c ∷ cs)
 unfolding visible_from
 none_visible m c cs h = rw (h, advanced-none m c h) refl
@@ -127,7 +127,7 @@ stretch_shown (c ∷ cs) h =
 pub free_shown : (s : Text) → IsUtf8 s → HasNoEscape s → (visible_from mode.Text (chars s) ≡ s) × (mode_through mode.Text (chars s) ≡ mode.Text)
 free_shown s u h = let e = encodes-chars s u in let both = stretch_shown (chars s) (rw e h) in (both.0 ∙ e, both.1)
 
--- what the scan takes: a character of a sequence
+-- after a character of a sequence
 some_visible : (m n : Mode) (c : ℕ) (cs : List ℕ) → advanced m c ≡ Some n → visible_from m (c ∷ cs) ≡ visible_from n cs
 unfolding visible_from
 some_visible m n c cs h = rw h refl
@@ -136,6 +136,7 @@ some_mode : (m n : Mode) (c : ℕ) (cs : List ℕ) → advanced m c ≡ Some n �
 unfolding mode_through
 some_mode m n c cs h = rw h refl
 
+-- what the scan takes from the front of a text: a character of a sequence
 pub taken_char : (m n : Mode) (t rest : Text) (c : ℕ) → IsUtf8 t → t ≡ encode_utf8 c ++ rest → advanced m c ≡ Some n → Takes m t n [] rest
 taken_char m n t rest c u e h = record {
   shown = ap (visible_from m) (chars_past_char t rest c u e) ∙ some_visible m n c (chars rest) h;
@@ -222,5 +223,5 @@ module _ {S : Type 0} {w : Meaning S} (laws : WriterLaws w) where
       owes_stopped laws a b c text _ _ _ f r o (stripped_next m (mode_through m (chars piece)) h (ends_in_line_feed (held h ++ visible_from m (chars piece))) rest piece after e u refl refl) i s
 
   -- after the last piece
-  pub stripped_done : (a b : S) (text rest : Text) (m : Mode) (h : Bool) → Owes w a text b (without_end_line (held h ++ visible_from m (chars rest))) → length rest ≡ 0 → w.accepts a text b
-  stripped_done a b text rest m h o e = end_line_done laws a b text _ h o (nothing_shown m rest e)
+  pub stripped_done : (a b : S) (text rest : Text) (m : Mode) (h : Bool) → Owes w a text b (without_end_line (held h ++ visible_from m (chars rest))) → rest ≡ [] → w.accepts a text b
+  stripped_done a b text rest m h o e = end_line_done laws a b text _ h o (nothing_shown m rest (ap length e))

@@ -1,4 +1,4 @@
-use Rattle.std.proofs.Common.{ap, length, rules}
+use Rattle.std.proofs.Common.{rules}
 use Rattle.report_text.proofs.EndLines.{strs-next, strs-none}
 use Rattle.report_text.proofs.StrippedTexts.{stripped_begun, stripped_written, stripped_stopped, stripped_done}
 use Rattle.report_text.proofs.stripped.tests.write_stripped_pieces.Goals as goal
@@ -13,4 +13,4 @@ pub loop-piece-preserved : goal.loop-piece-preserved
 loop-piece-preserved g c = λ u. stripped_written g.met.W.WriteStr.laws _ _ _ _ _ _ _ _ _ _ _ (c.loop-piece.invariant u) (strs-next _ c.loop-piece.piece-index _ c.loop-piece-test.true) (search rules) c.in_ok-write.ensures.text c.in_ok-write.ensures.mode c.in_ok-write.ensures.held
 
 pub returns : goal.returns
-returns g c = λ u. stripped_done g.met.W.WriteStr.laws _ _ _ _ _ _ (c.loop-piece.invariant u) (ap length (strs-none c.args.pieces.now c.loop-piece.piece-index c.loop-piece-test.false))
+returns g c = λ u. stripped_done g.met.W.WriteStr.laws _ _ _ _ _ _ (c.loop-piece.invariant u) (strs-none c.args.pieces.now c.loop-piece.piece-index c.loop-piece-test.false)
