@@ -1,5 +1,5 @@
 -- Worked rows: what the definitions say of a run that is written out.
-use Rattle.std.proofs.Common.{◌≡◌, ℕ, Bool, true, false, List, [], ◌∷◌, codes, refl, None}
+use Rattle.std.proofs.Common.{◌≡◌, ℕ, ℤ, Bool, true, false, List, [], ◌∷◌, codes, refl, None}
 use Rattle.std.specs.Fmt.{digits}
 use Rattle.std.specs.Str.{chars}
 use Rattle.uuid.specs.Text.{by_index}
@@ -15,7 +15,10 @@ use Rattle.run_model.specs.declared.name.TestInstanceId.{TestInstanceId}
 use Rattle.run_model.specs.declared.stats.RunFinishedStats.TheVariants.{Single}
 use Rattle.run_model.specs.declared.stats.RunStats.{RunStats}
 use Rattle.run_model.specs.declared.status.ExecutionResultDescription.TheVariants as outcome
-use Rattle.run_model.specs.declared.status.FailureDescription.{FailureDescription}
+use Rattle.run_model.specs.declared.output.ChildExecutionOutputDescription.{ChildExecutionOutputDescription}
+use Rattle.run_model.specs.declared.output.ChildOutputDescription.{ChildOutputDescription}
+use Rattle.run_model.specs.declared.output.LiveSpec.{LiveSpec}
+use Rattle.run_model.specs.declared.status.FailureDescription.TheVariants.{ExitCode}
 use Rattle.run_model.specs.declared.status.FlakyResult.TheVariants as flaky
 use Rattle.run_model.specs.declared.time.Nanos.{Nanos}
 use Rattle.run_model.specs.Names.{last_colons}
@@ -25,7 +28,9 @@ use Rattle.report_text.specs.Plural.{tests_word_if, binaries_word}
 use Rattle.report_text.specs.Styles.{part_text, styles_of}
 use Rattle.report_text.specs.Words.{right_in}
 use Rattle.report_text.specs.Theme.{hbar_text}
+use Rattle.console_reporter.specs.AbortLines.{abort_line}
 use Rattle.console_reporter.specs.Configuration.{theme_of}
+use Rattle.console_reporter.specs.ResultWords.{long_word}
 use Rattle.console_reporter.specs.Order.{ordered_by, put_in}
 use Rattle.console_reporter.specs.Entries.{cancel, entry_of, kept, final_order}
 use Rattle.console_reporter.specs.RunTexts.{bar_line, run_id_text, id_text, with_profile, run_id_line, test_counts_text, starting_line, run_started_text, initial_count_text, run_counts_text, summary_line, run_finished_text}
@@ -92,13 +97,18 @@ unfolding run_finished_text summary_line run_counts_text initial_count_text bar_
     summary_text counted_text passed_notes passed_note notes_end failed_counts failed_count leaky_failed_note exec_failed_count timed_out_count other_failed_count
 summary = refl
 
--- a test that failed at its one attempt, after so long
-abbrev failed : FailureDescription → Nanos → Attempts
-failed failure time = record {
+-- what an attempt wrote
+abbrev Written : Type 0
+Written = ChildExecutionOutputDescription LiveSpec ChildOutputDescription
+
+-- a test that failed with a code at its one attempt, after so long
+abbrev failed : Written → ℤ → Nanos → Attempts LiveSpec ChildOutputDescription
+failed output code time = record {
   earlier = [];
   last = record {
     retry_data = record { attempt = 1; total_attempts = 1 };
-    result = outcome.Fail failure;
+    output = output;
+    result = outcome.Fail (ExitCode code) false;
     time_taken = time;
     is_slow = false;
   };
@@ -114,16 +124,16 @@ unfolding test_text stress_prefix counter_prefix name_text part_text last_colons
 named = refl
 
 -- its line, at once and in the summary
-failed_line : (is_final : Bool) (test : TestInstanceId) (failure : FailureDescription) (time : Nanos) →
+failed_line : (is_final : Bool) (test : TestInstanceId) (output : Written) (code : ℤ) (time : Nanos) →
     test.binary_id.now ≡ codes "alpha" → test.test_name.now ≡ codes "mod::t2" → time.0 ≡ 1500000000 →
-    status_line settings.styles is_final None test (summary_of (failed failure time)) ≡ codes "        FAIL [   1.500s] alpha mod::t2\n"
-unfolding status_line status_prefix flaky_failure_line part_text right_in chars
-failed_line true test failure time binary name after = rw (binary, name, after, lasted, named) refl
-failed_line false test failure time binary name after = rw (binary, name, after, lasted, named) refl
+    status_line settings.styles is_final None test (summary_of (failed output code time)) ≡ codes "        FAIL [   1.500s] alpha mod::t2\n"
+unfolding status_line status_prefix long_word abort_line flaky_failure_line part_text right_in chars
+failed_line true test output code time binary name after = rw (binary, name, after, lasted, named) refl
+failed_line false test output code time binary name after = rw (binary, name, after, lasted, named) refl
 
 -- what a second end of the run finds kept: the same entries
-twice : (event finish : TestEvent) (test : TestInstanceId) (failure : FailureDescription) (time elapsed : Nanos) →
-    event.kind ≡ TestFinished test (failed failure time) stats → finish.kind ≡ RunFinished elapsed (Single stats) →
-    final_order (kept settings (Event finish ∷ Event event ∷ [])) ≡ record { counter = None; instance = test; summary = summary_of (failed failure time) } ∷ []
+twice : (event finish : TestEvent) (test : TestInstanceId) (output : Written) (code : ℤ) (time elapsed : Nanos) →
+    event.kind ≡ TestFinished test (failed output code time) stats → finish.kind ≡ RunFinished elapsed (Single stats) →
+    final_order (kept settings (Event finish ∷ Event event ∷ [])) ≡ record { counter = None; instance = test; summary = summary_of (failed output code time) } ∷ []
 unfolding kept entry_of cancel ordered_by put_in
-twice event finish test failure time elapsed is end = rw (is, end) refl
+twice event finish test output code time elapsed is end = rw (is, end) refl

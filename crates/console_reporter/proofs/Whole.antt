@@ -2,7 +2,7 @@
 use Rattle.run_model.specs.UniquePrefixes.{UniquePrefix}
 use Rattle.run_model.specs.Levels.{status_rank}
 use Rattle.std.specs.Prelude.{nat_lt, nat_le, ◌==◌}
-use Rattle.std.proofs.Common.{◌≡◌, ℕ, Bool, true, false, List, [], ◌∷◌, ◌++◌, refl, sym, ap, subst, ◌∙◌, append_assoc, append-nil, Option, Some, inl, inr, codes}
+use Rattle.std.proofs.Common.{◌≡◌, ℕ, ℤ, Bool, true, false, List, [], ◌∷◌, ◌++◌, refl, sym, ap, subst, ◌∙◌, append_assoc, append-nil, Option, Some, inl, inr, codes}
 use Rattle.std.specs.List.{flat_map}
 use Rattle.std.proofs.lemmas.Bool.{cases_Bool}
 use Rattle.run_model.specs.declared.config.NextestRunMode.{NextestRunMode}
@@ -13,6 +13,11 @@ use Rattle.run_model.specs.declared.name.TestInstanceId.{TestInstanceId}
 use Rattle.run_model.specs.declared.stats.RunFinishedStats.{RunFinishedStats}
 use Rattle.run_model.specs.declared.stats.RunFinishedStats.TheVariants.{Single}
 use Rattle.run_model.specs.declared.stats.RunStats.{RunStats}
+use Rattle.run_model.specs.declared.abort.AbortDescription.{AbortDescription}
+use Rattle.run_model.specs.declared.abort.AbortDescription.TheVariants.{UnixSignal, WindowsNtStatus, WindowsJobObject}
+use Rattle.run_model.specs.declared.status.ExecutionResultDescription.{ExecutionResultDescription}
+use Rattle.run_model.specs.declared.status.ExecutionResultDescription.TheVariants as outcome
+use Rattle.run_model.specs.declared.status.FailureDescription.TheVariants.{ExitCode, Abort}
 use Rattle.run_model.specs.declared.status.StatusCase.{StatusCase}
 use Rattle.run_model.specs.declared.status.StatusSummary.{StatusSummary}
 use Rattle.run_model.specs.Statuses.{summary_of, status_level_of}
@@ -28,6 +33,7 @@ use Rattle.console_reporter.specs.Counters.{finished_counter}
 use Rattle.report_text.specs.Words.{Text}
 use Rattle.report_text.specs.Styles.{part_text, plain}
 use Rattle.report_text.specs.declared.style.Styles.{Styles}
+use Rattle.console_reporter.specs.AbortLines.{nt_line, job_object_line, line_of_abort, abort_line}
 use Rattle.console_reporter.specs.Configuration.{Configuration}
 use Rattle.console_reporter.specs.Entries.{hiding_rank, entry_text, listed_text}
 use Rattle.console_reporter.specs.Outcomes.{IsOfLines}
@@ -76,8 +82,31 @@ unfolding flaky_failure_line
 of_lines-flaky_failure_line s true x = inl refl
 of_lines-flaky_failure_line s false x = elim (cases_Bool (is_flaky_failure x)) [ inl y ↦ rw y (of_line _ (ends-flaky_note s)) | inr n ↦ rw n (inl refl) ]
 
-ends-status_end : (s : Styles) (is_final : Bool) (x : StatusCase) → EndsLine (plain (codes "\n") ++ flaky_failure_line s is_final x)
-ends-status_end s is_final x = ends_before (plain (codes "\n")) (flaky_failure_line s is_final x) ends-feed (of_lines-flaky_failure_line s is_final x)
+ends-nt_line : (s : Styles) (code : ℤ) (message : Option Text) → EndsLine (nt_line s code message)
+unfolding nt_line
+ends-nt_line s code message = search (ends_after, ends-feed) depth 12
+
+ends-job_object_line : (s : Styles) → EndsLine (job_object_line s)
+unfolding job_object_line
+ends-job_object_line s = search (ends_after, ends-feed) depth 12
+
+of_lines-line_of_abort : (s : Styles) (a : AbortDescription) → IsOfLines (line_of_abort s a)
+of_lines-line_of_abort s (UnixSignal signal name) = inl refl
+of_lines-line_of_abort s (WindowsNtStatus code message) = of_line _ (ends-nt_line s code message)
+of_lines-line_of_abort s WindowsJobObject = of_line _ (ends-job_object_line s)
+
+of_lines-abort_line : (s : Styles) (x : ExecutionResultDescription) → IsOfLines (abort_line s x)
+unfolding abort_line
+of_lines-abort_line s outcome.Pass = inl refl
+of_lines-abort_line s (outcome.Leak result) = inl refl
+of_lines-abort_line s (outcome.Fail (ExitCode code) leaked) = inl refl
+of_lines-abort_line s (outcome.Fail (Abort a) leaked) = of_lines-line_of_abort s a
+of_lines-abort_line s outcome.ExecFail = inl refl
+of_lines-abort_line s (outcome.Timeout result) = inl refl
+
+ends-status_end : (s : Styles) (is_final : Bool) (result : ExecutionResultDescription) (x : StatusCase) → EndsLine (plain (codes "\n") ++ (abort_line s result ++ flaky_failure_line s is_final x))
+ends-status_end s is_final result x = ends_before (plain (codes "\n")) (abort_line s result ++ flaky_failure_line s is_final x) ends-feed
+    (of_lines-append (abort_line s result) (flaky_failure_line s is_final x) (of_lines-abort_line s result) (of_lines-flaky_failure_line s is_final x))
 
 ends-status_line : (s : Styles) (is_final : Bool) (counter : Option DisplayCounterIndex) (instance : TestInstanceId) (x : StatusSummary) → EndsLine (status_line s is_final counter instance x)
 unfolding status_line

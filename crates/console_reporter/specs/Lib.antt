@@ -1,9 +1,11 @@
+pub mod AbortLines
 pub mod Configuration
 pub mod Counters
 pub mod Entries
 pub mod Order
 pub mod Outcomes
 pub mod Report
+pub mod ResultWords
 pub mod RunTexts
 pub mod Standing
 pub mod StatsTexts

@@ -3,7 +3,6 @@ use Rattle.std.specs.Prelude.{ℕ, Bool, true, false, Option, None, [], ◌++◌
 use Rattle.std.specs.Fmt.{decimal}
 use Rattle.run_model.specs.declared.name.TestInstanceId.{TestInstanceId}
 use Rattle.run_model.specs.declared.status.ExecutionResultDescription.{ExecutionResultDescription}
-use Rattle.run_model.specs.declared.status.ExecutionResultDescription.TheVariants as outcome
 use Rattle.run_model.specs.declared.status.FlakyResult.{FlakyResult}
 use Rattle.run_model.specs.declared.status.FlakyResult.TheVariants as flaky
 use Rattle.run_model.specs.declared.status.RetryData.{RetryData}
@@ -17,11 +16,9 @@ use Rattle.report_text.specs.declared.helpers.instance.DisplayCounterIndex.{Disp
 use Rattle.report_text.specs.declared.style.Style.{Style}
 use Rattle.report_text.specs.declared.style.Styles.{Styles}
 use Rattle.unit_report.specs.Durations.{bracketed_duration}
-
--- the word of a result
-abbrev pub result_word : ExecutionResultDescription → Text
-result_word outcome.Pass = codes "PASS"
-result_word (outcome.Fail failure) = codes "FAIL"
+use Rattle.console_reporter.specs.AbortLines.{abort_line}
+use Rattle.console_reporter.specs.ResultWords.{long_word, short_word, success_word, is_plain_success}
+use Rattle.console_reporter.specs.declared.imp.status_line.StatusLine.{StatusLine}
 
 -- a word after the number of its attempt
 abbrev pub attempt_words : ℕ → Text → Text
@@ -41,18 +38,30 @@ flaky_words false result retry = attempt_words retry.attempt (codes "PASS")
 flaky_words true result retry = flaky_label result ++ (decimal retry.attempt ++ (codes "/" ++ decimal retry.total_attempts))
 
 -- a success at the first attempt: that it was slow is said in the summary alone
-abbrev pub success_text : Styles → Bool → Text
-success_text s true = styled s.skip (right_in 12 (codes "SLOW"))
-success_text s false = styled s.pass (right_in 12 (codes "PASS"))
+abbrev pub success_style : Styles → Bool → ExecutionResultDescription → Style
+success_style s is_slow result = if is_plain_success is_slow result then s.pass else s.skip
+
+abbrev pub success_text : Styles → Bool → ExecutionResultDescription → Text
+success_text s is_slow result = styled (success_style s is_slow result) (right_in 12 (success_word is_slow result))
 
 -- a failure, after its attempt's number where that is not 1
 abbrev pub failure_words : ℕ → ExecutionResultDescription → Text
 failure_words attempt result =
-    if attempt == 1 then result_word result else attempt_words attempt (result_word result)
+    if attempt == 1 then long_word result else attempt_words attempt (short_word result)
+
+-- what the code hands to a line
+abbrev pub shown_summary : StatusLine → StatusSummary
+shown_summary line = record {
+  case = line.case;
+  retry_data = line.retry_data;
+  result = line.result.now;
+  time_taken = line.time_taken;
+  is_slow = line.is_slow;
+}
 
 -- what begins the line, by what the attempts came to
 abbrev pub status_words : Styles → Bool → StatusCase → StatusSummary → Text
-status_words s is_final Success x = success_text s (is_final && x.is_slow)
+status_words s is_final Success x = success_text s (is_final && x.is_slow) x.result
 status_words s is_final (Flaky result) x = styled (flaky_style s result) (right_in 12 (flaky_words is_final result x.retry_data))
 status_words s is_final Failure x = styled s.fail (right_in 12 (failure_words x.retry_data.attempt x.result))
 
@@ -86,4 +95,5 @@ status_line s is_final counter instance x =
     ++ (bracketed_duration x.time_taken.0
     ++ (instance_text s.list_styles None counter instance
     ++ (plain (codes "\n")
-    ++ flaky_failure_line s is_final x.case)))
+    ++ (abort_line s x.result
+    ++ flaky_failure_line s is_final x.case))))

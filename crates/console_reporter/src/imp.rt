@@ -4,11 +4,13 @@
 //! how it fails, `kept` what it keeps for the summary, `reporter` its calls; the texts stand in `run_text`,
 //! `stats_text` and `status_line`, each beside the event that it belongs to.
 
+mod abort_line;
 mod builder;
 mod calls;
 mod faults;
 mod kept;
 mod reporter;
+mod result_words;
 mod run_text;
 mod settings;
 mod stats_text;

@@ -81,6 +81,15 @@ impl ChildSingleOutput {
     {
         Ok(self.as_bytes().to_str_lossy(alloc)?)
     }
+
+    /// Another one of the same bytes, which both share.
+    pub fn copy(&self) -> Result<Self, OutOfMemory>
+        ensures { IfOk result (λ output. output ≡ self.now) }
+    {
+        Ok(ChildSingleOutput {
+            bytes: self.bytes.clone()?,
+        })
+    }
 }
 
 /// What a process wrote, as it was captured.
@@ -98,6 +107,33 @@ pub enum ChildOutputDescription {
         /// Their bytes.
         output: ChildSingleOutput,
     },
+}
+
+impl ChildOutputDescription {
+    /// Another one of the same bytes, which both share.
+    pub fn copy(&self) -> Result<Self, OutOfMemory>
+        ensures { IfOk result (λ output. output ≡ self.now) }
+    {
+        Ok(match self {
+            ChildOutputDescription::Split { stdout, stderr } => ChildOutputDescription::Split {
+                stdout: copy_stream(stdout)?,
+                stderr: copy_stream(stderr)?,
+            },
+            ChildOutputDescription::Combined { output } => ChildOutputDescription::Combined {
+                output: output.copy()?,
+            },
+        })
+    }
+}
+
+// Another stream of the same bytes, where it was captured.
+fn copy_stream(stream: &Option<ChildSingleOutput>) -> Result<Option<ChildSingleOutput>, OutOfMemory>
+    ensures { IfOk result (λ s. s ≡ stream.now) }
+{
+    match stream {
+        Some(stream) => Ok(Some(stream.copy()?)),
+        None => Ok(None),
+    }
 }
 
 /// Where the archive of a recorded run holds what a process wrote.
@@ -153,6 +189,65 @@ impl<S: OutputSpec> ChildExecutionOutputDescription<S> {
     }
 }
 
+impl ChildExecutionOutputDescription<LiveSpec> {
+    /// Takes memory for the texts of another one. The bytes of the output are shared.
+    pub fn copy(&self, alloc: Global) -> Result<Self, OutOfMemory>
+        ensures { IfOk result (λ output. output ≡ self.now) }
+    {
+        Ok(match self {
+            ChildExecutionOutputDescription::Output {
+                result,
+                output,
+                errors,
+                highlight,
+            } => ChildExecutionOutputDescription::Output {
+                result: copy_result(alloc, result)?,
+                output: output.copy()?,
+                errors: copy_errors(alloc, errors)?,
+                highlight: copy_highlight(highlight)?,
+            },
+            ChildExecutionOutputDescription::StartError(errors) =>
+                ChildExecutionOutputDescription::StartError(errors.copy(alloc)?),
+        })
+    }
+}
+
+// Takes memory for another result, where there is one and it holds a text.
+fn copy_result(
+    alloc: Global,
+    outcome: &Option<ExecutionResultDescription>,
+) -> Result<Option<ExecutionResultDescription>, OutOfMemory>
+    ensures { IfOk result (λ r. r ≡ outcome.now) }
+{
+    match outcome {
+        Some(outcome) => Ok(Some(outcome.copy(alloc)?)),
+        None => Ok(None),
+    }
+}
+
+// Takes memory for another error, where there is one.
+fn copy_errors(
+    alloc: Global,
+    errors: &Option<ErrorChain>,
+) -> Result<Option<ErrorChain>, OutOfMemory>
+    ensures { IfOk result (λ e. e ≡ errors.now) }
+{
+    match errors {
+        Some(errors) => Ok(Some(errors.copy(alloc)?)),
+        None => Ok(None),
+    }
+}
+
+// Another highlight of the same bytes, where there is one.
+fn copy_highlight(highlight: &Option<Highlight>) -> Result<Option<Highlight>, OutOfMemory>
+    ensures { IfOk result (λ h. h ≡ highlight.now) }
+{
+    match highlight {
+        Some(highlight) => Ok(Some(highlight.copy()?)),
+        None => Ok(None),
+    }
+}
+
 /// An error, and its causes from the nearest to the farthest.
 #[derive(Debug, Drop)]
 pub struct ErrorChain {
@@ -190,6 +285,30 @@ impl ErrorChain {
     {
         self.causes.as_slice()
     }
+
+    /// Takes memory for another one.
+    pub fn copy(&self, alloc: Global) -> Result<Self, OutOfMemory>
+        ensures { IfOk result (λ chain. chain ≡ self.now) }
+    {
+        Ok(ErrorChain {
+            message: self.message.copy(alloc)?,
+            causes: copy_causes(alloc, self.causes())?,
+        })
+    }
+}
+
+// Takes memory for other causes.
+fn copy_causes(
+    alloc: Global,
+    causes: &[DescriptionText],
+) -> Result<Vec<DescriptionText>, OutOfMemory>
+    ensures { IfOk result (λ copies. copies.items ≡ causes.now) }
+{
+    let mut copies = Vec::with_capacity(alloc, causes.len())?;
+    for cause in causes {
+        copies.push(cause.copy(alloc)?)?;
+    }
+    Ok(copies)
 }
 
 /// The stream that a highlight stands in.
@@ -252,6 +371,17 @@ impl Highlight {
             HighlightStream::Combined => Some(self.subslice()),
             HighlightStream::Stdout | HighlightStream::Stderr => None,
         }
+    }
+
+    /// Another one of the same bytes, which both share.
+    pub fn copy(&self) -> Result<Self, OutOfMemory>
+        ensures { IfOk result (λ h. h ≡ self.now) }
+    {
+        Ok(Highlight {
+            stream: self.stream,
+            start: self.start,
+            slice: self.slice.clone()?,
+        })
     }
 
     // The part, whatever the stream.

@@ -6,7 +6,7 @@ ghost use Rattle.run_model.specs.Statuses.{has_text, failure_has_text, is_succes
 use crate::abort::AbortDescription;
 use crate::level::{FinalStatusLevel, StatusLevel};
 use crate::memory::OutOfMemory;
-use crate::output::{ChildExecutionOutputDescription, OutputSpec};
+use crate::output::{ChildExecutionOutputDescription, LiveSpec, OutputSpec};
 use crate::time::Nanos;
 use std::alloc::Global;
 use std::marker::Model;
@@ -170,6 +170,21 @@ pub struct ExecuteStatus<S: OutputSpec> {
     pub time_taken: Nanos,
     /// Whether it was marked as slow.
     pub is_slow: bool,
+}
+
+impl ExecuteStatus<LiveSpec> {
+    /// Takes memory for the texts of another one. The bytes of the output are shared.
+    pub fn copy(&self, alloc: Global) -> Result<Self, OutOfMemory>
+        ensures { IfOk result (λ status. status ≡ self.now) }
+    {
+        Ok(ExecuteStatus {
+            retry_data: self.retry_data,
+            output: self.output.copy(alloc)?,
+            result: self.result.copy(alloc)?,
+            time_taken: self.time_taken,
+            is_slow: self.is_slow,
+        })
+    }
 }
 
 /// What a test counts as that passed after earlier attempts.

@@ -10,7 +10,7 @@ ghost use Rattle.console_reporter.specs.Entries.{counted_cmp, entry_cmp, instanc
 ghost use Rattle.console_reporter.specs.declared.imp.kept.KeptEntry.{KeptEntry};
 
 use super::settings::Settings;
-use super::status_line::write_status_line;
+use super::status_line::{StatusLine, write_status_line};
 use report_text::helpers::DisplayCounterIndex;
 use report_text::write_str::{WriteFault, WriteStr};
 use run_model::name::TestInstanceId;
@@ -19,7 +19,7 @@ use std::alloc::AllocError;
 use std::cmp::Ordering;
 
 /// What is kept of a finished test.
-#[derive(Clone, Copy, Debug)]
+#[derive(Debug, Drop)]
 pub struct KeptEntry<'a> {
     /// Its counter, where counters are shown.
     pub counter: Option<DisplayCounterIndex>,
@@ -135,7 +135,7 @@ pub fn write_entries<W: WriteStr>(
             true,
             entry.counter,
             entry.instance,
-            &entry.summary,
+            StatusLine::of_summary(&entry.summary),
         )?;
     }
     Ok(())

@@ -3,6 +3,7 @@
 ghost use Rattle.std.specs.Prelude.{◌≡◌, ◌≤◌, ◌⊎◌, ◌+◌, List, ℕ, [], ◌∷◌, ◌++◌, OnOk, OnErr, IfErr, IsErrOf, length, reverse, take, true, false};
 ghost use Rattle.std.specs.Option.{option_to_list};
 ghost use Rattle.std.specs.List.Sorted.{IsStable};
+ghost use Rattle.run_model.specs.Statuses.{described_summary, summary_of};
 ghost use Rattle.report_text.specs.Writer.{Puts, one_further};
 ghost use Rattle.console_reporter.specs.declared.imp.calls.ReportCall.{ReportCall};
 ghost use Rattle.console_reporter.specs.declared.imp.faults.WriteEventError.{WriteEventError};
@@ -18,14 +19,15 @@ use super::faults::{RunFault, WriteEventError};
 use super::kept::{KeptEntry, sort_entries, write_entries};
 use super::run_text::{write_run_finished, write_run_started};
 use super::settings::{Settings, counter_width_for, styles_for, theme_for};
-use super::status_line::write_status_line;
+use super::status_line::{StatusLine, write_status_line};
 use report_text::helpers::DisplayCounterIndex;
 use report_text::write_str::{WriteFault, WriteStr};
 use run_model::event::{TestEvent, TestEventKind};
 use run_model::memory::OutOfMemory;
 use run_model::name::TestInstanceId;
+use run_model::output::LiveSpec;
 use run_model::run_id::ShortestRunIdPrefix;
-use run_model::status::StatusSummary;
+use run_model::status::{ExecutionDescription, ExecutionStatuses};
 use std::alloc::{AllocError, Global};
 use unit_report::formatters::write_final_warnings;
 
@@ -42,6 +44,7 @@ pub struct DisplayReporter<'a, W> {
 // What a reporter knows of the calls before.
 #[derive(Drop)]
 struct ReporterState<'a> {
+    alloc: Global,
     kept: Vec<KeptEntry<'a>>,
     unique_prefix: Option<ShortestRunIdPrefix>,
     settings: Settings,
@@ -67,6 +70,7 @@ impl DisplayReporterBuilder {
         DisplayReporter {
             writer,
             state: ReporterState {
+                alloc,
                 kept: Vec::new(alloc),
                 unique_prefix: None,
                 settings: Settings {
@@ -119,7 +123,7 @@ impl<'a, W: WriteStr> DisplayReporter<'a, W> {
         }
         match self.state.keep(event) {
             Ok(()) => Ok(()),
-            Err(AllocError) => {
+            Err(OutOfMemory) => {
                 self.state.has_failed = true;
                 Err(WriteEventError::Memory)
             }
@@ -228,7 +232,7 @@ impl<'a> ReporterState<'a> {
     }
 
     // Keeps what the summary needs of the event.
-    fn keep(&mut self, event: &TestEvent<'a>) -> Result<(), AllocError>
+    fn keep(&mut self, event: &TestEvent<'a>) -> Result<(), OutOfMemory>
         ensures settings { self.new.settings ≡ self.old.settings }
         ensures prefix { self.new.unique_prefix ≡ self.old.unique_prefix }
         ensures works { self.new.has_failed ≡ self.old.has_failed }
@@ -243,7 +247,7 @@ impl<'a> ReporterState<'a> {
                 current_stats,
             } => {
                 let counter = self.settings.finished_counter(current_stats);
-                self.keep_test(counter, *test_instance, run_statuses.summary())
+                self.keep_test(counter, *test_instance, run_statuses)
             }
             TestEventKind::RunFinished { .. } => Ok(()),
         }
@@ -254,18 +258,23 @@ impl<'a> ReporterState<'a> {
         &mut self,
         counter: Option<DisplayCounterIndex>,
         instance: TestInstanceId<'a>,
-        summary: StatusSummary,
-    ) -> Result<(), AllocError>
+        run_statuses: &ExecutionStatuses<LiveSpec>,
+    ) -> Result<(), OutOfMemory>
         ensures settings { self.new.settings ≡ self.old.settings }
         ensures prefix { self.new.unique_prefix ≡ self.old.unique_prefix }
         ensures works { self.new.has_failed ≡ self.old.has_failed }
-        ensures kept { OnOk result (self.new.kept.items ≡ self.old.kept.items ++ option_to_list (entry_if (is_kept self.old.settings 0 summary) (record { counter = counter; instance = instance.entry; summary = summary }))) }
-        ensures hidden { OnErr result (is_kept self.old.settings 0 summary ≡ true) }
+        ensures kept { OnOk result (self.new.kept.items ≡ self.old.kept.items ++ option_to_list (entry_if (is_kept self.old.settings 0 (summary_of run_statuses.now)) (record { counter = counter; instance = instance.entry; summary = summary_of run_statuses.now }))) }
+        ensures hidden { OnErr result (is_kept self.old.settings 0 (summary_of run_statuses.now) ≡ true) }
     {
         let shown = self.settings.status_levels.final_status_level;
-        if !summary.final_status_level().is_shown_at(shown) {
+        if !run_statuses
+            .describe()
+            .final_status_level()
+            .is_shown_at(shown)
+        {
             return Ok(());
         }
+        let summary = run_statuses.summary(self.alloc)?;
         self.kept.push(KeptEntry {
             counter,
             instance,
@@ -327,8 +336,8 @@ fn write_event_text<W: WriteStr>(
             current_stats,
         } => {
             let counter = settings.finished_counter(current_stats);
-            let summary = run_statuses.summary();
-            write_test_finished(w, settings, counter, *test_instance, &summary)
+            let describe = run_statuses.describe();
+            write_test_finished(w, settings, counter, *test_instance, &describe)
         }
         TestEventKind::RunFinished { elapsed, run_stats } => {
             write_run_finished(w, settings, *elapsed, run_stats)?;
@@ -345,15 +354,16 @@ fn write_test_finished<W: WriteStr>(
     settings: &Settings,
     counter: Option<DisplayCounterIndex>,
     instance: TestInstanceId<'_>,
-    summary: &StatusSummary,
+    describe: &ExecutionDescription<'_, LiveSpec>,
 ) -> Result<(), WriteFault>
-    ensures { Puts W.meaning w.old (test_finished_text settings.now counter instance.entry summary.now) result w.new }
+    ensures { Puts W.meaning w.old (test_finished_text settings.now counter instance.entry (described_summary describe.now)) result w.new }
 {
-    if summary
+    if describe
         .status_level()
         .is_shown_at(settings.status_levels.status_level)
     {
-        write_status_line(w, &settings.styles, false, counter, instance, summary)
+        let line = StatusLine::of_description(describe);
+        write_status_line(w, &settings.styles, false, counter, instance, line)
     } else {
         Ok(())
     }

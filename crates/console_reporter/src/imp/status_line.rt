@@ -1,20 +1,73 @@
 //! The line of a finished test, as it is shown at once and in the summary.
 
 ghost use Rattle.std.specs.Prelude.{◌≡◌};
+ghost use Rattle.run_model.specs.Statuses.{described_summary};
 ghost use Rattle.report_text.specs.Writer.{Puts};
 ghost use Rattle.report_text.specs.Styles.{styled};
 ghost use Rattle.report_text.specs.Words.{right_in};
-ghost use Rattle.console_reporter.specs.StatusLines.{result_word, flaky_style, flaky_words, failure_words, success_text, is_flaky_failure, status_prefix, configured_to, flaky_note, flaky_failure_line, status_line};
+ghost use Rattle.console_reporter.specs.StatusLines.{shown_summary, flaky_style, flaky_words, failure_words, success_text, is_flaky_failure, status_prefix, configured_to, flaky_note, flaky_failure_line, status_line};
 
+use super::abort_line::write_abort_line;
+use super::result_words::{is_plain_success, spaced_short_status_str, status_str, success_str};
 use itoa::Buffer;
 use report_text::helpers::{DisplayCounterIndex, DisplayTestInstance};
 use report_text::style::{Styles, write_plain};
 use report_text::write_str::{WriteFault, WriteStr};
 use run_model::name::TestInstanceId;
+use run_model::output::OutputSpec;
 use run_model::status::{
-    ExecutionResultDescription, FlakyResult, RetryData, StatusCase, StatusSummary,
+    ExecutionDescription, ExecutionResultDescription, FlakyResult, RetryData, StatusCase,
+    StatusSummary,
 };
+use run_model::time::Nanos;
 use unit_report::formatters::DisplayBracketedDuration;
+
+#[cfg(test)]
+mod tests;
+
+/// What the line of a finished test says of its attempts.
+#[derive(Clone, Copy, Debug)]
+pub struct StatusLine<'b> {
+    /// What the attempts came to.
+    pub case: StatusCase,
+    /// Which attempt was the last.
+    pub retry_data: RetryData,
+    /// How the last attempt ended.
+    pub result: &'b ExecutionResultDescription,
+    /// How long the last attempt ran.
+    pub time_taken: Nanos,
+    /// Whether the last attempt was marked as slow.
+    pub is_slow: bool,
+}
+
+impl<'b> StatusLine<'b> {
+    /// The line of a summary.
+    pub fn of_summary(summary: &'b StatusSummary) -> StatusLine<'b>
+        ensures { shown_summary result ≡ summary.now }
+    {
+        StatusLine {
+            case: summary.case,
+            retry_data: summary.retry_data,
+            result: &summary.result,
+            time_taken: summary.time_taken,
+            is_slow: summary.is_slow,
+        }
+    }
+
+    /// The line of attempts that are described. It is that of their summary.
+    pub fn of_description<S: OutputSpec>(describe: &ExecutionDescription<'b, S>) -> StatusLine<'b>
+        ensures { shown_summary result ≡ described_summary describe.now }
+    {
+        let last = describe.last_status();
+        StatusLine {
+            case: describe.case(),
+            retry_data: last.retry_data,
+            result: &last.result,
+            time_taken: last.time_taken,
+            is_slow: last.is_slow,
+        }
+    }
+}
 
 /// Writes the line of a finished test, as it is shown at once or, where `is_final` is set, in the summary.
 #[tactic(auto, unfolding(crate::specs::StatusLines::status_line))]
@@ -24,15 +77,16 @@ pub fn write_status_line<W: WriteStr>(
     is_final: bool,
     counter: Option<DisplayCounterIndex>,
     instance: TestInstanceId<'_>,
-    summary: &StatusSummary,
+    line: StatusLine<'_>,
 ) -> Result<(), WriteFault>
-    ensures { Puts W.meaning w.old (status_line styles.now is_final counter instance.entry summary.now) result w.new }
+    ensures { Puts W.meaning w.old (status_line styles.now is_final counter instance.entry (shown_summary line.entry)) result w.new }
 {
-    write_status_prefix(w, styles, is_final, summary)?;
-    DisplayBracketedDuration(summary.time_taken).write_to(w)?;
+    write_status_prefix(w, styles, is_final, line)?;
+    DisplayBracketedDuration(line.time_taken).write_to(w)?;
     DisplayTestInstance::new(None, counter, instance, &styles.list_styles).write_to(w)?;
     write_plain(w, "\n")?;
-    write_flaky_failure_line(w, styles, is_final, summary.case)
+    write_abort_line(w, styles, line.result)?;
+    write_flaky_failure_line(w, styles, is_final, line.case)
 }
 
 // Writes the word that begins the line, and a space.
@@ -41,21 +95,21 @@ fn write_status_prefix<W: WriteStr>(
     w: &mut W,
     styles: &Styles,
     is_final: bool,
-    summary: &StatusSummary,
+    line: StatusLine<'_>,
 ) -> Result<(), WriteFault>
-    ensures { Puts W.meaning w.old (status_prefix styles.now is_final summary.now) result w.new }
+    ensures { Puts W.meaning w.old (status_prefix styles.now is_final (shown_summary line.entry)) result w.new }
 {
-    match summary.case {
+    match line.case {
         StatusCase::Success => {
-            write_success_word(w, styles, is_final && summary.is_slow)?;
+            write_success_word(w, styles, is_final && line.is_slow, line.result)?;
             write_plain(w, " ")
         }
         StatusCase::Flaky { result } => {
-            write_flaky_word(w, styles, is_final, result, summary.retry_data)?;
+            write_flaky_word(w, styles, is_final, result, line.retry_data)?;
             write_plain(w, " ")
         }
         StatusCase::Failure => {
-            write_failure_word(w, styles, summary.retry_data.attempt, summary.result)?;
+            write_failure_word(w, styles, line.retry_data.attempt, line.result)?;
             write_plain(w, " ")
         }
     }
@@ -66,13 +120,15 @@ fn write_success_word<W: WriteStr>(
     w: &mut W,
     styles: &Styles,
     is_slow: bool,
+    outcome: &ExecutionResultDescription,
 ) -> Result<(), WriteFault>
-    ensures { Puts W.meaning w.old (success_text styles.now is_slow) result w.new }
+    ensures { Puts W.meaning w.old (success_text styles.now is_slow outcome.now) result w.new }
 {
-    if is_slow {
-        styles.skip.write_right(w, 12, "SLOW")
+    let word = success_str(is_slow, outcome);
+    if is_plain_success(is_slow, outcome) {
+        styles.pass.write_right(w, 12, word)
     } else {
-        styles.pass.write_right(w, 12, "PASS")
+        styles.skip.write_right(w, 12, word)
     }
 }
 
@@ -112,28 +168,20 @@ fn write_failure_word<W: WriteStr>(
     w: &mut W,
     styles: &Styles,
     attempt: u32,
-    failed: ExecutionResultDescription,
+    failed: &ExecutionResultDescription,
 ) -> Result<(), WriteFault>
-    ensures { Puts W.meaning w.old (styled styles.now.fail (right_in 12 (failure_words attempt failed))) result w.new }
+    ensures { Puts W.meaning w.old (styled styles.now.fail (right_in 12 (failure_words attempt failed.now))) result w.new }
 {
-    let word = result_str(failed);
+    let mut signal = Buffer::new();
     if attempt == 1 {
-        return styles.fail.write_right(w, 12, word);
+        let word = status_str(failed, &mut signal);
+        return styles
+            .fail
+            .write_right_joined(w, 12, "", "", word.front, word.back);
     }
+    let word = spaced_short_status_str(failed, &mut signal);
     let mut number = Buffer::new();
-    styles
-        .fail
-        .write_right_joined(w, 12, "TRY ", number.format(attempt), " ", word)
-}
-
-// The word of a result.
-fn result_str(outcome: ExecutionResultDescription) -> &'static str
-    ensures { result.now ≡ result_word outcome }
-{
-    match outcome {
-        ExecutionResultDescription::Pass => "PASS",
-        ExecutionResultDescription::Fail { .. } => "FAIL",
-    }
+    styles.fail.write_right_joined(w, 12, "TRY ", number.format(attempt), word.front, word.back)
 }
 
 // Writes that a success counts as a failure, where it does and the line is shown at once.

@@ -6,6 +6,7 @@ use run_model::config::{CompiledDefaultFilter, CompiledDefaultFilterSection, Nex
 use run_model::event::{TestEvent, TestEventKind};
 use run_model::level::{FinalStatusLevel, StatusLevel};
 use run_model::name::{ProfileName, RustBinaryId, TestCaseName, TestInstanceId};
+use run_model::output::{ChildExecutionOutputDescription, ChildOutputDescription, LiveSpec};
 use run_model::stats::{RunFinishedStats, RunStats};
 use run_model::status::{
     ExecuteStatus, ExecutionResultDescription, ExecutionStatuses, FailureDescription, FlakyResult,
@@ -68,34 +69,53 @@ fn builder(alloc: Global) -> Result<DisplayReporterBuilder, Fail> {
     })
 }
 
-// An attempt of a second that passed or failed.
-fn attempt(attempt: u32, total_attempts: u32, has_passed: bool) -> ExecuteStatus {
+// An attempt of a second that ended so.
+fn attempt(
+    attempt: u32,
+    total_attempts: u32,
+    outcome: ExecutionResultDescription,
+) -> ExecuteStatus<LiveSpec> {
     ExecuteStatus {
         retry_data: RetryData {
             attempt,
             total_attempts,
         },
-        result: if has_passed {
-            ExecutionResultDescription::Pass
-        } else {
-            ExecutionResultDescription::Fail {
-                failure: FailureDescription::ExitCode { code: 1 },
-            }
+        output: ChildExecutionOutputDescription::Output {
+            result: None,
+            output: ChildOutputDescription::Split {
+                stdout: None,
+                stderr: None,
+            },
+            errors: None,
+            highlight: None,
         },
+        result: outcome,
         time_taken: Nanos(1_000_000_000),
         is_slow: false,
     }
 }
 
-// A test that finished after these attempts.
+// A failure with the code 1.
+fn failed() -> ExecutionResultDescription {
+    ExecutionResultDescription::Fail {
+        failure: FailureDescription::ExitCode { code: 1 },
+        leaked: false,
+    }
+}
+
+// A test that finished after an attempt, or after this and a second one.
 fn finished<'a>(
     alloc: Global,
     binary_id: &'a RustBinaryId,
     test_name: &'a TestCaseName,
-    attempts: &[ExecuteStatus],
+    first: ExecuteStatus<LiveSpec>,
+    second: Option<ExecuteStatus<LiveSpec>>,
 ) -> Result<ReportCall<'a>, Fail> {
     let mut statuses = Vec::new(alloc);
-    statuses.extend_from_slice(attempts)?;
+    statuses.push(first)?;
+    if let Some(second) = second {
+        statuses.push(second)?;
+    }
     let Some(run_statuses) = ExecutionStatuses::new(statuses, FlakyResult::Pass) else {
         return Err(Fail::from("there are attempts"));
     };
@@ -129,13 +149,20 @@ fn test_at<'a>(
     binary_id: &'a RustBinaryId,
     names: &'a [TestCaseName; 3],
 ) -> Result<ReportCall<'a>, Fail> {
+    let passed = ExecutionResultDescription::Pass;
     match place {
-        0 => finished(alloc, binary_id, &names[0], &[attempt(1, 1, false)]),
+        0 => finished(alloc, binary_id, &names[0], attempt(1, 1, failed()), None),
         1 => {
-            let attempts = [attempt(1, 2, false), attempt(2, 2, true)];
-            finished(alloc, binary_id, &names[1], &attempts)
+            let second = attempt(2, 2, passed);
+            finished(
+                alloc,
+                binary_id,
+                &names[1],
+                attempt(1, 2, failed()),
+                Some(second),
+            )
         }
-        _ => finished(alloc, binary_id, &names[2], &[attempt(1, 1, true)]),
+        _ => finished(alloc, binary_id, &names[2], attempt(1, 1, passed), None),
     }
 }
 

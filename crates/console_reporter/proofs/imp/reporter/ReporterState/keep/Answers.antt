@@ -8,7 +8,7 @@ returns-in-RunStarted-clause-kept c = rw c.in-RunStarted.is (sym (append-nil c.a
 
 pub returns-in-TestFinished-clause-kept : goal.returns-in-TestFinished-clause-kept
 unfolding entry_of
-returns-in-TestFinished-clause-kept c = rw c.in-TestFinished.is (rw (c.summary.ensures, c.finished_counter-counter.ensures) at c.keep_test.ensures.kept)
+returns-in-TestFinished-clause-kept c = rw c.in-TestFinished.is (rw c.finished_counter-counter.ensures at c.keep_test.ensures.kept)
 
 pub returns-in-RunFinished-clause-kept : goal.returns-in-RunFinished-clause-kept
 unfolding entry_of
