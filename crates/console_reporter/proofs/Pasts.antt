@@ -19,7 +19,7 @@ use Rattle.console_reporter.proofs.Orders.{is_ordered, ordered_only}
 -- no event of these kinds cancels a run
 own_reason-none : (e : TestEventKind) → own_reason e ≡ 0
 own_reason-none (RunStarted c id profile) = refl
-own_reason-none (TestFinished instance statuses stats) = refl
+own_reason-none (TestFinished stress instance success failure statuses stats) = refl
 own_reason-none (RunFinished elapsed stats) = refl
 
 pub cancel-none : (past : List ReportCall) → cancel past ≡ 0
@@ -51,7 +51,7 @@ final_order-holds es = is_ordered is_before is_before-ranks es
 event_text-ordered : (s : Settings) (known : Option UniquePrefix) (es order : List KeptEntry) (e : TestEventKind) → IsListed e order → IsStable entry_cmp es order → event_text s known 0 order e ≡ event_text s known 0 (final_order es) e
 unfolding event_text
 event_text-ordered s known es order (RunStarted c id profile) listed stable = refl
-event_text-ordered s known es order (TestFinished instance statuses stats) listed stable = refl
+event_text-ordered s known es order (TestFinished stress instance success failure statuses stats) listed stable = refl
 event_text-ordered s known es order (RunFinished elapsed stats) listed stable = rw (final_order-is es order listed stable) refl
 
 -- what is written of an event by what the reporter holds is its text after the past

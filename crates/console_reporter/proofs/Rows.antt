@@ -1,5 +1,5 @@
 -- Worked rows: what the definitions say of a run that is written out.
-use Rattle.std.proofs.Common.{◌≡◌, ℕ, ℤ, Bool, true, false, List, [], ◌∷◌, codes, refl, None}
+use Rattle.std.proofs.Common.{◌≡◌, ℕ, ℤ, Bool, true, false, List, [], ◌∷◌, codes, refl, None, Option}
 use Rattle.std.specs.Fmt.{digits}
 use Rattle.std.specs.Str.{chars}
 use Rattle.uuid.specs.Text.{by_index}
@@ -20,6 +20,8 @@ use Rattle.run_model.specs.declared.output.ChildOutputDescription.{ChildOutputDe
 use Rattle.run_model.specs.declared.output.LiveSpec.{LiveSpec}
 use Rattle.run_model.specs.declared.status.FailureDescription.TheVariants.{ExitCode}
 use Rattle.run_model.specs.declared.status.FlakyResult.TheVariants as flaky
+use Rattle.run_model.specs.declared.config.TestOutputDisplay.{TestOutputDisplay}
+use Rattle.run_model.specs.declared.stress.StressIndex.{StressIndex}
 use Rattle.run_model.specs.declared.time.Nanos.{Nanos}
 use Rattle.run_model.specs.Names.{last_colons}
 use Rattle.run_model.specs.Attempts.{Attempts}
@@ -132,8 +134,8 @@ failed_line true test output code time binary name after = rw (binary, name, aft
 failed_line false test output code time binary name after = rw (binary, name, after, lasted, named) refl
 
 -- what a second end of the run finds kept: the same entries
-twice : (event finish : TestEvent) (test : TestInstanceId) (output : Written) (code : ℤ) (time elapsed : Nanos) →
-    event.kind ≡ TestFinished test (failed output code time) stats → finish.kind ≡ RunFinished elapsed (Single stats) →
+twice : (event finish : TestEvent) (stress : Option StressIndex) (test : TestInstanceId) (success failure : TestOutputDisplay) (output : Written) (code : ℤ) (time elapsed : Nanos) →
+    event.kind ≡ TestFinished stress test success failure (failed output code time) stats → finish.kind ≡ RunFinished elapsed (Single stats) →
     final_order (kept settings (Event finish ∷ Event event ∷ [])) ≡ record { counter = None; instance = test; summary = summary_of (failed output code time) } ∷ []
 unfolding kept entry_of cancel ordered_by put_in
-twice event finish test output code time elapsed is end = rw (is, end) refl
+twice event finish stress test success failure output code time elapsed is end = rw (is, end) refl

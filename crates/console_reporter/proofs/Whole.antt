@@ -159,7 +159,7 @@ of_lines-test_finished_text s counter instance x =
 of_lines-event_text : (s : Settings) (known : Option UniquePrefix) (reason : ℕ) (es : List KeptEntry) (e : TestEventKind) → IsOfLines (event_text s known reason es e)
 unfolding event_text
 of_lines-event_text s known reason es (RunStarted c id profile) = of_line _ (ends-run_started_text s known c id profile)
-of_lines-event_text s known reason es (TestFinished instance statuses stats) = of_lines-test_finished_text s (finished_counter s stats) instance (summary_of statuses)
+of_lines-event_text s known reason es (TestFinished stress instance success failure statuses stats) = of_lines-test_finished_text s (finished_counter s stats) instance (summary_of statuses)
 of_lines-event_text s known reason es (RunFinished elapsed stats) = of_line _ (ends_before _ _ (ends-run_finished_text s elapsed.0 stats)
     (of_lines-append (listed_text s reason es) (final_warnings s.styles s.mode (final_stats_of_run stats)) (of_lines-listed_text s reason es) (of_lines-final_warnings s.styles s.mode (final_stats_of_run stats))))
 

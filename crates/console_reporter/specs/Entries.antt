@@ -25,7 +25,7 @@ use Rattle.console_reporter.specs.declared.imp.settings.Settings.{Settings}
 -- the rank of the reason that an event cancels the run for, 0 where it does not
 abbrev pub own_reason : TestEventKind → ℕ
 own_reason (RunStarted counts id profile) = 0
-own_reason (TestFinished instance statuses stats) = 0
+own_reason (TestFinished stress instance success failure statuses stats) = 0
 own_reason (RunFinished elapsed stats) = 0
 
 -- the greatest reason that a call of a past carries; the latest call of a past is its first
@@ -54,7 +54,7 @@ entry_if b e = if b then Some e else None
 -- what is kept of an event under a reason
 unfoldable pub entry_of : Settings → ℕ → TestEventKind → Option KeptEntry
 entry_of s reason (RunStarted counts id profile) = None
-entry_of s reason (TestFinished instance statuses stats) =
+entry_of s reason (TestFinished stress instance success failure statuses stats) =
     entry_if (is_kept s reason (summary_of statuses)) (record { counter = finished_counter s stats; instance = instance; summary = summary_of statuses })
 entry_of s reason (RunFinished elapsed stats) = None
 
@@ -110,5 +110,5 @@ listed_text s reason es = if nat_lt reason hiding_rank then entries_text s es el
 -- the entries are in their order where the event lists them
 abbrev pub IsListed : TestEventKind → List KeptEntry → Type 0
 IsListed (RunStarted counts id profile) es = Unit {0}
-IsListed (TestFinished instance statuses stats) es = Unit {0}
+IsListed (TestFinished stress instance success failure statuses stats) es = Unit {0}
 IsListed (RunFinished elapsed stats) es = IsSorted entry_cmp es

@@ -32,7 +32,7 @@ test_finished_text s counter instance x =
 -- the text of an event, by what stands of the past: the prefix of the run's id, the reason, and the kept entries in their final order
 unfoldable pub event_text : Settings → Option UniquePrefix → ℕ → List KeptEntry → TestEventKind → Text
 event_text s known reason ordered (RunStarted counts id profile) = run_started_text s known counts id profile
-event_text s known reason ordered (TestFinished instance statuses stats) = test_finished_text s (finished_counter s stats) instance (summary_of statuses)
+event_text s known reason ordered (TestFinished stress instance success failure statuses stats) = test_finished_text s (finished_counter s stats) instance (summary_of statuses)
 event_text s known reason ordered (RunFinished elapsed stats) =
     run_finished_text s elapsed.0 stats ++ (listed_text s reason ordered ++ final_warnings s.styles s.mode (final_stats_of_run stats))
 

@@ -28,7 +28,7 @@ IsSameWriter old new = new.writer.ghost_name ≡ old.writer.ghost_name
 -- the reporter may take memory of its own for the event: to keep an entry, or to order those that it lists
 abbrev pub may_grow_for : Settings → TestEventKind → Bool
 may_grow_for s (RunStarted counts id profile) = false
-may_grow_for s (TestFinished instance statuses stats) = is_kept s 0 (summary_of statuses)
+may_grow_for s (TestFinished stress instance success failure statuses stats) = is_kept s 0 (summary_of statuses)
 may_grow_for s (RunFinished elapsed stats) = true
 
 abbrev pub MayGrow : {W : Type 0} → DisplayReporter W → TestEvent → Type 0

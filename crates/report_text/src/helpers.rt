@@ -24,9 +24,7 @@ pub use decimal::{Unsigned, decimal_char_width};
 pub use durations::{
     DurationRounding, FormattedDuration, FormattedHhMmSs, FormattedRelativeDuration,
 };
-pub use failure::{
-    ExitDescription, display_abort_status, display_exited_with, write_nt_status,
-};
+pub use failure::{ExitDescription, display_abort_status, display_exited_with, write_nt_status};
 pub use instance::{
     DisplayCounterIndex, DisplayStressIndex, DisplayTestInstance, DisplayTestName, write_test_name,
 };

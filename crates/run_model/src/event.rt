@@ -1,9 +1,11 @@
 //! What happens in a run.
 
+use crate::config::TestOutputDisplay;
 use crate::name::{ProfileName, TestInstanceId};
 use crate::output::LiveSpec;
 use crate::stats::{RunFinishedStats, RunStats};
 use crate::status::ExecutionStatuses;
+use crate::stress::StressIndex;
 use crate::time::Nanos;
 use uuid::Uuid;
 
@@ -30,8 +32,14 @@ pub enum TestEventKind<'a> {
     },
     /// A test has finished.
     TestFinished {
+        /// Which iteration of a stress run it belongs to.
+        stress_index: Option<StressIndex>,
         /// The test.
         test_instance: TestInstanceId<'a>,
+        /// When its output is to be shown if it succeeded.
+        success_output: TestOutputDisplay,
+        /// When its output is to be shown if it failed.
+        failure_output: TestOutputDisplay,
         /// Its attempts.
         run_statuses: ExecutionStatuses<LiveSpec>,
         /// The counts of the run, this test among them.

@@ -1,7 +1,7 @@
 -- Highlights that are valid.
-use Rattle.std.proofs.Common.{Some, ◌≡◌, ℕ, zero, suc, ◌+◌, ◌≤◌, ◌<◌, ◌↔◌, Bool, true, false, ◌==◌, ◌&&◌, inl, inr, List, [], ◌∷◌, refl, sym, ap, ◌∙◌, subst, arith, length, take, drop, drop-drop, length-drop, get_or-drop, slice_index, take-take}
+use Rattle.std.proofs.Common.{Some, ◌≡◌, ℕ, ◌≤◌, ◌↔◌, Bool, true, false, ◌==◌, ◌&&◌, inl, inr, List, [], ◌∷◌, refl, sym, ap, ◌∙◌, subst, length, take, drop, drop-drop, take-take}
 use Rattle.std.proofs.lemmas.Bool.{cases_Bool, and_parts}
-use Rattle.std.proofs.lemmas.Bool.Decides.{nat_tests, eqb_tells}
+use Rattle.std.proofs.lemmas.Bool.Decides.{eqb_tells}
 use Rattle.std.proofs.lemmas.Str.{IsUtf8-take, IsCharBoundary-from_rest}
 use Rattle.std.specs.Bool.{IsTrue}
 use Rattle.std.specs.Str.{IsCharBoundary, IsUtf8}

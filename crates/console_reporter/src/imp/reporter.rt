@@ -245,6 +245,7 @@ impl<'a> ReporterState<'a> {
                 test_instance,
                 run_statuses,
                 current_stats,
+                ..
             } => {
                 let counter = self.settings.finished_counter(current_stats);
                 self.keep_test(counter, *test_instance, run_statuses)
@@ -334,6 +335,7 @@ fn write_event_text<W: WriteStr>(
             test_instance,
             run_statuses,
             current_stats,
+            ..
         } => {
             let counter = settings.finished_counter(current_stats);
             let describe = run_statuses.describe();

@@ -2,7 +2,9 @@
 
 use super::{DisplayReporterBuilder, DisplayerKind, ReportCall, WriteEventError, run_report};
 use report_text::write_str::TextBuffer;
-use run_model::config::{CompiledDefaultFilter, CompiledDefaultFilterSection, NextestRunMode};
+use run_model::config::{
+    CompiledDefaultFilter, CompiledDefaultFilterSection, NextestRunMode, TestOutputDisplay,
+};
 use run_model::event::{TestEvent, TestEventKind};
 use run_model::level::{FinalStatusLevel, StatusLevel};
 use run_model::name::{ProfileName, RustBinaryId, TestCaseName, TestInstanceId};
@@ -122,10 +124,13 @@ fn finished<'a>(
     Ok(ReportCall::Event(TestEvent {
         elapsed: Nanos(0),
         kind: TestEventKind::TestFinished {
+            stress_index: None,
             test_instance: TestInstanceId {
                 binary_id,
                 test_name,
             },
+            success_output: TestOutputDisplay::Never,
+            failure_output: TestOutputDisplay::Never,
             run_statuses,
             current_stats: STATS,
         },

@@ -1,4 +1,4 @@
-use Rattle.std.proofs.Common.{rules, ap, sym, ◌∙◌, subst, drop}
+use Rattle.std.proofs.Common.{ap, ◌∙◌, drop}
 use Rattle.unit_report.specs.Captured.{part_value}
 use Rattle.unit_report.proofs.Highlights.{part_absent, part_valid, part_text, part_utf8, part_rest}
 use Rattle.unit_report.proofs.unit_output.captured.split_highlight.Goals as goal
@@ -14,8 +14,7 @@ unreachable-requires c = c.in_default.ensures.cases.0 (part_utf8 c.args.text.now
 pub returns : goal.returns
 returns c =
     let tells = rw c.in_ok-from.ensures.some.1 at c.starts_with.ensures in
-    let stop = rw c.in_ok-from.ensures.some.1 at c.in_ok-back.ensures.some.0 in
-    (
+    let stop = rw c.in_ok-from.ensures.some.1 at c.in_ok-back.ensures.some.0 in (
       part_valid c.args.text.now (part_value c.args.highlight) c.starts_with.result tells c.in_ok-from.ensures.some.0 c.if-not-starts_with.false c.highlight_end-end.result c.highlight_end-end.ensures.value c.highlight_end-end.ensures.within stop,
       c.in-Ok.ensures.cases.0 ∙ part_text c.args.text.now (part_value c.args.highlight) c.starts_with.result tells c.in_ok-from.ensures.some.0 c.if-not-starts_with.false c.highlight_end-end.result c.highlight_end-end.ensures.value c.highlight_end-end.ensures.within stop,
       c.in_ok-back.ensures.some.1 ∙ ap (drop c.highlight_end-end.result) c.in_ok-from.ensures.some.1 ∙ part_rest c.args.text.now (part_value c.args.highlight) c.starts_with.result tells c.in_ok-from.ensures.some.0 c.if-not-starts_with.false c.highlight_end-end.result c.highlight_end-end.ensures.value c.highlight_end-end.ensures.within stop,

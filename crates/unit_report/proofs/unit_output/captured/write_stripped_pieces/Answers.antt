@@ -1,6 +1,4 @@
-use Rattle.std.proofs.Common.{ap, length, rules, subst, sym}
-use Rattle.std.proofs.lemmas.Str.{IsUtf8-append}
-use Rattle.std.specs.Str.{IsUtf8}
+use Rattle.std.proofs.Common.{rules}
 use Rattle.report_text.proofs.StrippedTexts.{stripped_begun, stripped_written, stripped_stopped, stripped_done}
 use Rattle.unit_report.proofs.unit_output.captured.write_stripped_pieces.Goals as goal
 
@@ -21,4 +19,4 @@ loop-piece-preserved g c = record {
 }
 
 pub returns : goal.returns
-returns g c = stripped_done g.met.W.WriteStr.laws _ _ _ _ _ _ (c.loop-piece.invariant.owed (c.loop-piece.invariant.utf8 c.split_first.ensures.utf8)) (ap length c.in_default.ensures.text)
+returns g c = stripped_done g.met.W.WriteStr.laws _ _ _ _ _ _ (c.loop-piece.invariant.owed (c.loop-piece.invariant.utf8 c.split_first.ensures.utf8)) c.in_default.ensures.text

@@ -1,4 +1,4 @@
-use Rattle.std.proofs.Common.{rules, ◌≡◌, ◌∷◌, ap, arith, length, take_all}
+use Rattle.std.proofs.Common.{arith, length, take_all}
 use Rattle.report_text.proofs.Feeds.{boundary_after_feed, same_byte}
 use Rattle.unit_report.proofs.HighlightedLines.{line_found, line_alone}
 use Rattle.unit_report.proofs.unit_output.highlighted_lines.split_line.Goals as goal
