@@ -31,7 +31,8 @@ ReadsOnly v word t r = MatchOption r (t ≢ word) (λ w. (w ≡ v) × (t ≡ wor
 -- a result is written as `pass`, or as `fail:` and an exit code
 abbrev pub IsResultText : ExecutionResultDescription → List ℕ → Type 0
 IsResultText outcome.Pass t = t ≡ codes "pass"
-IsResultText (outcome.Fail (failure.ExitCode code)) t = (digits : List ℕ) × (t ≡ codes "fail:" ++ digits) × IsSigned digits × (code ≡ signed_digits_value 10 digits)
+IsResultText (outcome.Fail (failure.ExitCode code) false) t = (digits : List ℕ) × (t ≡ codes "fail:" ++ digits) × IsSigned digits × (code ≡ signed_digits_value 10 digits)
+IsResultText other t = ⊥
 
 abbrev pub config_key_word : ConfigKey → List ℕ
 config_key_word key.Final = codes "final"

@@ -10,6 +10,7 @@ use run_model::event::{TestCounts, TestEvent, TestEventKind};
 use run_model::level::FinalStatusLevel;
 use run_model::memory::OutOfMemory;
 use run_model::name::{ProfileName, RustBinaryId, TestCaseName, TestInstanceId};
+use run_model::output::LiveSpec;
 use run_model::stats::{RunFinishedStats, RunStats};
 use run_model::status::{ExecuteStatus, ExecutionStatuses, FlakyResult};
 use run_model::time::Nanos;
@@ -55,7 +56,7 @@ pub enum SceneEvent {
         /// The test's name.
         test_name: TestCaseName,
         /// Its attempt.
-        status: ExecuteStatus,
+        status: ExecuteStatus<LiveSpec>,
         /// What a success after earlier attempts counts as.
         flaky_result: FlakyResult,
         /// The counts of the run, this test among them.
@@ -119,7 +120,7 @@ impl SceneEvent {
                     binary_id,
                     test_name,
                 },
-                run_statuses: statuses(alloc, *status, *flaky_result)?,
+                run_statuses: statuses(alloc, status.copy(alloc)?, *flaky_result)?,
                 current_stats: *current_stats,
             },
             SceneEvent::RunFinished { elapsed, run_stats } => TestEventKind::RunFinished {
@@ -137,9 +138,9 @@ impl SceneEvent {
 // One attempt, as the attempts of a test.
 fn statuses(
     alloc: Global,
-    status: ExecuteStatus,
+    status: ExecuteStatus<LiveSpec>,
     flaky_result: FlakyResult,
-) -> Result<ExecutionStatuses, OutOfMemory>
+) -> Result<ExecutionStatuses<LiveSpec>, OutOfMemory>
     ensures { IfOk result (λ s. s ≡ record { earlier = []; last = status; flaky_result = flaky_result }) }
 {
     let mut attempts = Vec::with_capacity(alloc, 1)?;

@@ -16,6 +16,9 @@ use std::borrow::CowStr;
 use std::fmt;
 use std::marker::Model;
 
+#[cfg(test)]
+mod tests;
+
 /// Where captured output is held: in memory, or by name in the archive of a recorded run.
 pub trait OutputSpec {
     /// The captured output of a child process.

@@ -12,6 +12,7 @@ use crate::fault::{LineError, LineFault};
 use crate::scene::{SceneConfig, SceneEvent};
 use run_model::event::TestCounts;
 use run_model::name::{ProfileName, RustBinaryId, TestCaseName};
+use run_model::output::{ChildExecutionOutputDescription, ChildOutputDescription, LiveSpec};
 use run_model::status::{ExecuteStatus, RetryData};
 use std::alloc::Global;
 use uuid::Uuid;
@@ -118,17 +119,31 @@ pub fn read_end(fields: &mut Fields<'_>) -> Result<SceneEvent, LineFault> {
 fn read_attempt(
     fields: &mut Fields<'_>,
     retry_data: RetryData,
-) -> Result<ExecuteStatus, LineFault> {
+) -> Result<ExecuteStatus<LiveSpec>, LineFault> {
     let result = fields.read(read_result)?;
     let time_taken = fields.read(read_nanos)?;
     let is_slow = fields.read(read_flag)?;
     read_output(fields)?;
     Ok(ExecuteStatus {
         retry_data,
+        output: nothing_written(),
         result,
         time_taken,
         is_slow,
     })
+}
+
+// The output of an attempt of which nothing was captured.
+fn nothing_written() -> ChildExecutionOutputDescription<LiveSpec> {
+    ChildExecutionOutputDescription::Output {
+        result: None,
+        output: ChildOutputDescription::Split {
+            stdout: None,
+            stderr: None,
+        },
+        errors: None,
+        highlight: None,
+    }
 }
 
 // Reads an output: its form, the two streams, and errors and a highlight, of which there are none. A report shows no

@@ -127,6 +127,7 @@ pub fn read_result(field: &str) -> Option<ExecutionResultDescription>
             failure: FailureDescription::ExitCode {
                 code: read_code(code)?,
             },
+            leaked: false,
         }),
         _ => None,
     }
