@@ -5,7 +5,7 @@ ghost use Rattle.std.specs.Prelude.{◌≡◌, [], IfOk, IfErr};
 use crate::fault::Fault;
 use crate::words::Options;
 use console_reporter::imp::ReportCall;
-use run_model::config::NextestRunMode;
+use run_model::config::{NextestRunMode, TestOutputDisplay};
 use run_model::event::{TestCounts, TestEvent, TestEventKind};
 use run_model::level::FinalStatusLevel;
 use run_model::memory::OutOfMemory;
@@ -116,10 +116,13 @@ impl SceneEvent {
                 flaky_result,
                 current_stats,
             } => TestEventKind::TestFinished {
+                stress_index: None,
                 test_instance: TestInstanceId {
                     binary_id,
                     test_name,
                 },
+                success_output: TestOutputDisplay::Never,
+                failure_output: TestOutputDisplay::Never,
                 run_statuses: statuses(alloc, status.copy(alloc)?, *flaky_result)?,
                 current_stats: *current_stats,
             },
