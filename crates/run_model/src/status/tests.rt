@@ -1,9 +1,10 @@
 //! Attempts, and what they come to.
 
 use super::{
-    ExecuteStatus, ExecutionResultDescription, ExecutionStatuses, FlakyResult, LeakTimeoutResult,
-    RetryData, SlowTimeoutResult,
+    ExecuteStatus, ExecutionResultDescription, ExecutionStatuses, FailureDescription, FlakyResult,
+    LeakTimeoutResult, RetryData, SlowTimeoutResult,
 };
+use crate::abort::{AbortDescription, DescriptionText};
 use crate::level::{FinalStatusLevel, StatusLevel};
 use crate::output::{ChildExecutionOutputDescription, ChildOutputDescription, LiveSpec};
 use crate::time::Nanos;
@@ -96,5 +97,36 @@ fn two_attempts_have_their_levels(rt: HostRuntime) -> Result<(), Fail> {
         attempts.push(attempt(2, leaky(), true))?;
         assert!(rt; levels(rt.alloc(), attempts, flaky_result)? == want);
     }
+    Ok(())
+}
+
+#[test]
+fn a_summary_tells_how_a_process_was_ended(rt: HostRuntime) -> Result<(), Fail> {
+    let abort = AbortDescription::UnixSignal {
+        signal: 11,
+        name: Some(DescriptionText::new(rt.alloc(), "SEGV")?),
+    };
+    let outcome = ExecutionResultDescription::Fail {
+        failure: FailureDescription::Abort { abort },
+        leaked: true,
+    };
+    let mut attempts = Vec::new(rt.alloc());
+    attempts.push(attempt(1, outcome, false))?;
+    let Some(statuses) = ExecutionStatuses::new(attempts, FlakyResult::Pass) else {
+        return Err(Fail::from("there is an attempt"));
+    };
+    let ExecutionResultDescription::Fail {
+        failure: FailureDescription::Abort {
+            abort: AbortDescription::UnixSignal {
+                signal: 11,
+                name: Some(name),
+            },
+        },
+        leaked: true,
+    } = statuses.summary(rt.alloc())?.result
+    else {
+        return Err(Fail::from("it is the same result"));
+    };
+    assert_eq!(rt; name.as_str(), "SEGV");
     Ok(())
 }
