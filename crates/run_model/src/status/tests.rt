@@ -100,33 +100,28 @@ fn two_attempts_have_their_levels(rt: HostRuntime) -> Result<(), Fail> {
     Ok(())
 }
 
-#[test]
-fn a_summary_tells_how_a_process_was_ended(rt: HostRuntime) -> Result<(), Fail> {
+// A process that was ended by a signal of this name.
+fn ended_by(alloc: Global, name: &str) -> Result<ExecutionResultDescription, Fail> {
     let abort = AbortDescription::UnixSignal {
         signal: 11,
-        name: Some(DescriptionText::new(rt.alloc(), "SEGV")?),
+        name: Some(DescriptionText::new(alloc, name)?),
     };
-    let outcome = ExecutionResultDescription::Fail {
+    Ok(ExecutionResultDescription::Fail {
         failure: FailureDescription::Abort { abort },
         leaked: true,
-    };
-    let mut attempts = Vec::new(rt.alloc());
-    attempts.push(attempt(1, outcome, false))?;
+    })
+}
+
+#[test]
+fn a_summary_tells_how_a_process_was_ended(rt: HostRuntime) -> Result<(), Fail> {
+    let alloc = rt.alloc();
+    let mut attempts = Vec::new(alloc);
+    attempts.push(attempt(1, ended_by(alloc, "SEGV")?, false))?;
     let Some(statuses) = ExecutionStatuses::new(attempts, FlakyResult::Pass) else {
         return Err(Fail::from("there is an attempt"));
     };
-    let ExecutionResultDescription::Fail {
-        failure: FailureDescription::Abort {
-            abort: AbortDescription::UnixSignal {
-                signal: 11,
-                name: Some(name),
-            },
-        },
-        leaked: true,
-    } = statuses.summary(rt.alloc())?.result
-    else {
-        return Err(Fail::from("it is the same result"));
-    };
-    assert_eq!(rt; name.as_str(), "SEGV");
+    let outcome = statuses.summary(alloc)?.result;
+    assert!(rt; outcome == ended_by(alloc, "SEGV")?);
+    assert!(rt; outcome != ended_by(alloc, "ABRT")?);
     Ok(())
 }
