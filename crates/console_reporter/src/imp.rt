@@ -2,7 +2,8 @@
 //!
 //! One module a concern: `builder` and `settings` say what a reporter goes by, `calls` and `faults` what it is asked and
 //! how it fails, `kept` what it keeps for the summary, `reporter` its calls; the texts stand in `run_text`,
-//! `stats_text` and `status_line`, each beside the event that it belongs to.
+//! `stats_text` and `status_line`, each beside the event that it belongs to, and of the last the words of results in
+//! `result_words` and what follows for an abort in `abort_line`.
 
 mod abort_line;
 mod builder;
