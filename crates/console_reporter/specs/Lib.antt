@@ -2,6 +2,7 @@ pub mod AbortLines
 pub mod Configuration
 pub mod Counters
 pub mod Entries
+pub mod InfoResults
 pub mod Order
 pub mod Outcomes
 pub mod Report

@@ -8,6 +8,7 @@ mod abort_line;
 mod builder;
 mod calls;
 mod faults;
+mod info_result;
 mod kept;
 mod reporter;
 mod result_words;
