@@ -1,7 +1,9 @@
 pub mod AbortLines
+pub mod AttemptOutputs
 pub mod Configuration
 pub mod Counters
 pub mod Entries
+pub mod Finishes
 pub mod InfoResults
 pub mod Order
 pub mod Outcomes

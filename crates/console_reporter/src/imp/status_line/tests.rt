@@ -22,7 +22,7 @@ fn final_line(alloc: Global, styles: &Styles, summary: &StatusSummary) -> Result
     };
     let mut text = String::new(alloc);
     let line = StatusLine::of_summary(summary);
-    write_status_line(&mut text, styles, true, None, instance, line)?;
+    write_status_line(&mut text, styles, true, None, None, instance, line)?;
     Ok(text)
 }
 
