@@ -17,6 +17,9 @@ use run_model::status::{
 use run_model::unit::UnitKind;
 use unit_report::unit_output::{ChildOutputSpec, OutputHeader, OutputName};
 
+#[cfg(test)]
+mod tests;
+
 /// Writes what an attempt wrote, which ended so, and how it ended where that is worth a line of its own.
 ///
 /// `is_retry` says that another attempt follows, `is_slow` that this one was slow.
