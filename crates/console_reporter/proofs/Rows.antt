@@ -1,5 +1,5 @@
 -- Worked rows: what the definitions say of a run that is written out.
-use Rattle.std.proofs.Common.{◌≡◌, ℕ, ℤ, Bool, true, false, List, [], ◌∷◌, codes, refl, None, Option}
+use Rattle.std.proofs.Common.{◌≡◌, ℕ, ℤ, Bool, true, false, List, [], ◌∷◌, codes, refl, pos, None, Some, Option}
 use Rattle.std.specs.Fmt.{digits}
 use Rattle.std.specs.Str.{chars}
 use Rattle.uuid.specs.Text.{by_index}
@@ -10,15 +10,19 @@ use Rattle.unit_report.specs.SkipCounts.{skip_note}
 use Rattle.unit_report.specs.declared.unit_output.DisplayerKind.TheVariants.{Live}
 use Rattle.run_model.specs.declared.event.TestEvent.{TestEvent}
 use Rattle.run_model.specs.declared.event.TestEventKind.TheVariants.{TestFinished, RunFinished}
+use Rattle.run_model.specs.Levels.{reason_rank}
+use Rattle.run_model.specs.declared.abort.AbortDescription.TheVariants.{UnixSignal}
+use Rattle.run_model.specs.declared.level.CancelReason.TheVariants as cause
 use Rattle.run_model.specs.declared.level.StatusLevel.TheVariants as status
 use Rattle.run_model.specs.declared.level.FinalStatusLevel.TheVariants as final
 use Rattle.run_model.specs.declared.name.TestInstanceId.{TestInstanceId}
 use Rattle.run_model.specs.declared.stats.RunFinishedStats.TheVariants.{Single}
 use Rattle.run_model.specs.declared.stats.RunStats.{RunStats}
+use Rattle.run_model.specs.declared.status.ExecutionResultDescription.{ExecutionResultDescription}
 use Rattle.run_model.specs.declared.status.ExecutionResultDescription.TheVariants as outcome
 use Rattle.run_model.specs.declared.output.ChildOutputDescription.{ChildOutputDescription}
 use Rattle.run_model.specs.declared.output.LiveSpec.{LiveSpec}
-use Rattle.run_model.specs.declared.status.FailureDescription.TheVariants.{ExitCode}
+use Rattle.run_model.specs.declared.status.FailureDescription.TheVariants.{ExitCode, Abort}
 use Rattle.run_model.specs.declared.status.FlakyResult.TheVariants as flaky
 use Rattle.run_model.specs.declared.config.TestOutputDisplay.{TestOutputDisplay}
 use Rattle.run_model.specs.declared.config.TestOutputDisplay.TheVariants.{Never}
@@ -29,7 +33,7 @@ use Rattle.run_model.specs.Attempts.{Attempts}
 use Rattle.run_model.specs.Statuses.{summary_of}
 use Rattle.report_text.specs.Plural.{tests_word_if, binaries_word}
 use Rattle.report_text.specs.Styles.{part_text, styles_of}
-use Rattle.report_text.specs.Words.{right_in}
+use Rattle.report_text.specs.Words.{Text, right_in}
 use Rattle.report_text.specs.Theme.{hbar_text}
 use Rattle.console_reporter.specs.AbortLines.{abort_line}
 use Rattle.console_reporter.specs.AttemptOutputs.{Written}
@@ -41,6 +45,7 @@ use Rattle.console_reporter.specs.Finishes.{display_of, finish_row, row_kept, is
 use Rattle.console_reporter.specs.RunTexts.{bar_line, run_id_text, id_text, with_profile, run_id_line, test_counts_text, starting_line, run_started_text, initial_count_text, run_counts_text, summary_line, run_finished_text}
 use Rattle.console_reporter.specs.StatusLines.{status_prefix, flaky_failure_line, status_line}
 use Rattle.console_reporter.specs.declared.imp.calls.ReportCall.TheVariants.{Event}
+use Rattle.console_reporter.specs.declared.imp.finish.FinishRow.TheVariants as row
 use Rattle.console_reporter.specs.declared.imp.settings.Settings.{Settings}
 use Rattle.console_reporter.specs.StatsTexts.{summary_text, counted_text, passed_notes, passed_note, notes_end, failed_counts, failed_count, leaky_failed_note, exec_failed_count, timed_out_count, other_failed_count}
 use Rattle.report_text.specs.Numbers.{seconds, with_point}
@@ -144,3 +149,21 @@ twice : (event finish : TestEvent) (stress : Option StressIndex) (test : TestIns
     final_order (kept settings (Event finish ∷ Event event ∷ [])) ≡ finished_entry 0 stress None test Never (failed output code time) ∷ []
 unfolding kept entry_of cancel ordered_by put_in display_of finish_row row_kept is_final_wanted
 twice event finish stress test success output code time elapsed is end = rw (is, end) refl
+
+-- rows of the table on finished tests: under an immediate end a test that ended by signal 15 and one with a code, then any
+-- test under a signal and under an interrupt
+terminated : (name : Option Text) (leaked : Bool) → finish_row (reason_rank (Some cause.TestFailureImmediate)) (outcome.Fail (Abort (UnixSignal (pos 15) name)) leaked) ≡ row.Hidden
+unfolding finish_row
+terminated name leaked = refl
+
+ended_by_itself : (code : ℤ) (leaked : Bool) → finish_row (reason_rank (Some cause.TestFailureImmediate)) (outcome.Fail (ExitCode code) leaked) ≡ row.Shown
+unfolding finish_row
+ended_by_itself code leaked = refl
+
+under_a_signal : (result : ExecutionResultDescription) → finish_row (reason_rank (Some cause.Signal)) result ≡ row.ShownOnce
+unfolding finish_row
+under_a_signal result = refl
+
+under_an_interrupt : (result : ExecutionResultDescription) → finish_row (reason_rank (Some cause.Interrupt)) result ≡ row.Hidden
+unfolding finish_row
+under_an_interrupt result = refl

@@ -1,6 +1,6 @@
 -- When a finished test is shown: at once, and at the end of the run.
 use Rattle.std.specs.Ordering.{int_eq}
-use Rattle.std.specs.Prelude.{ℕ, pos, Bool, true, false, not, Some, ◌&&◌, ◌||◌, ◌==◌, nat_le, nat_lt, if◌then◌else◌}
+use Rattle.std.specs.Prelude.{◌≡◌, ℕ, ◌<◌, pos, Bool, true, false, not, Some, ◌&&◌, ◌||◌, ◌==◌, nat_le, nat_lt, if◌then◌else◌}
 use Rattle.run_model.specs.Displays.{is_immediate, is_final}
 use Rattle.run_model.specs.Levels.{final_rank, reason_rank, status_rank}
 use Rattle.run_model.specs.Statuses.{final_level_of, status_level_of}
@@ -82,3 +82,18 @@ is_kept s reason display x = row_kept (finish_row reason x.result) (is_final_wan
 -- the summary shows its output
 abbrev pub is_shown_at_end : ℕ → TestOutputDisplay → ExecutionResultDescription → Bool
 is_shown_at_end reason display result = row_at_end (finish_row reason result) display
+
+-- whether output is shown, by the rank of the reason, the display and the last result
+abbrev pub Showing : Type 0
+Showing = ℕ → TestOutputDisplay → ExecutionResultDescription → Bool
+
+-- a reason shows nothing that is not shown without one
+abbrev pub IsOnlyHidden : Showing → Type 0
+IsOnlyHidden shown =
+    (reason : ℕ) (display : TestOutputDisplay) (result : ExecutionResultDescription) → shown reason display result ≡ true → shown 0 display result ≡ true
+
+-- a reason below the immediate end of a failed run changes nothing
+abbrev pub IsSameBelowImmediate : Showing → Type 0
+IsSameBelowImmediate shown =
+    (reason : ℕ) (display : TestOutputDisplay) (result : ExecutionResultDescription) → reason < reason_rank (Some cause.TestFailureImmediate) →
+    shown reason display result ≡ shown 0 display result

@@ -26,6 +26,7 @@ mod tests;
 pub use builder::DisplayReporterBuilder;
 pub use calls::ReportCall;
 pub use faults::{RunFault, WriteEventError};
+pub use finish::reasons_only_hide;
 pub use kept::one_final_order;
 pub use reporter::{DisplayReporter, run_report};
 pub use unit_report::unit_output::DisplayerKind;

@@ -3,7 +3,7 @@
 ghost use Rattle.std.specs.Prelude.{◌≡◌};
 ghost use Rattle.run_model.specs.Levels.{reason_rank};
 ghost use Rattle.run_model.specs.Statuses.{described_summary};
-ghost use Rattle.console_reporter.specs.Finishes.{display_of, finish_row, is_final_wanted, is_line_shown, is_terminated, is_terminated_abort, is_terminated_failure, row_at_end, row_at_once, row_kept};
+ghost use Rattle.console_reporter.specs.Finishes.{IsOnlyHidden, IsSameBelowImmediate, display_of, finish_row, is_shown_at_end, is_shown_at_once, is_final_wanted, is_line_shown, is_terminated, is_terminated_abort, is_terminated_failure, row_at_end, row_at_once, row_kept};
 
 use super::settings::Settings;
 use run_model::abort::AbortDescription;
@@ -85,6 +85,15 @@ impl FinishRow {
         }
     }
 }
+
+/// A reason for cancelling shows no output that is not shown without one, neither at once nor at the end of the run; and
+/// a reason below the immediate end of a failed run changes nothing.
+pub fn reasons_only_hide()
+    ensures at_once { IsOnlyHidden is_shown_at_once }
+    ensures at_end { IsOnlyHidden is_shown_at_end }
+    ensures same_at_once { IsSameBelowImmediate is_shown_at_once }
+    ensures same_at_end { IsSameBelowImmediate is_shown_at_end }
+{}
 
 // Whether the process was ended as the run ends its processes.
 fn is_terminated(outcome: &ExecutionResultDescription) -> bool
