@@ -7,6 +7,7 @@ use Rattle.run_model.specs.declared.config.NextestRunMode.TheVariants.{Test}
 use Rattle.run_model.specs.declared.config.CompiledDefaultFilterSection.TheVariants.{Profile}
 use Rattle.run_model.specs.declared.event.SkipCounts.{SkipCounts}
 use Rattle.unit_report.specs.SkipCounts.{skip_note}
+use Rattle.unit_report.specs.declared.unit_output.DisplayerKind.TheVariants.{Live}
 use Rattle.run_model.specs.declared.event.TestEvent.{TestEvent}
 use Rattle.run_model.specs.declared.event.TestEventKind.TheVariants.{TestFinished, RunFinished}
 use Rattle.run_model.specs.declared.level.StatusLevel.TheVariants as status
@@ -15,12 +16,12 @@ use Rattle.run_model.specs.declared.name.TestInstanceId.{TestInstanceId}
 use Rattle.run_model.specs.declared.stats.RunFinishedStats.TheVariants.{Single}
 use Rattle.run_model.specs.declared.stats.RunStats.{RunStats}
 use Rattle.run_model.specs.declared.status.ExecutionResultDescription.TheVariants as outcome
-use Rattle.run_model.specs.declared.output.ChildExecutionOutputDescription.{ChildExecutionOutputDescription}
 use Rattle.run_model.specs.declared.output.ChildOutputDescription.{ChildOutputDescription}
 use Rattle.run_model.specs.declared.output.LiveSpec.{LiveSpec}
 use Rattle.run_model.specs.declared.status.FailureDescription.TheVariants.{ExitCode}
 use Rattle.run_model.specs.declared.status.FlakyResult.TheVariants as flaky
 use Rattle.run_model.specs.declared.config.TestOutputDisplay.{TestOutputDisplay}
+use Rattle.run_model.specs.declared.config.TestOutputDisplay.TheVariants.{Never}
 use Rattle.run_model.specs.declared.stress.StressIndex.{StressIndex}
 use Rattle.run_model.specs.declared.time.Nanos.{Nanos}
 use Rattle.run_model.specs.Names.{last_colons}
@@ -31,10 +32,12 @@ use Rattle.report_text.specs.Styles.{part_text, styles_of}
 use Rattle.report_text.specs.Words.{right_in}
 use Rattle.report_text.specs.Theme.{hbar_text}
 use Rattle.console_reporter.specs.AbortLines.{abort_line}
+use Rattle.console_reporter.specs.AttemptOutputs.{Written}
 use Rattle.console_reporter.specs.Configuration.{theme_of}
 use Rattle.console_reporter.specs.ResultWords.{long_word}
 use Rattle.console_reporter.specs.Order.{ordered_by, put_in}
-use Rattle.console_reporter.specs.Entries.{cancel, entry_of, kept, final_order}
+use Rattle.console_reporter.specs.Entries.{cancel, entry_of, finished_entry, kept, final_order}
+use Rattle.console_reporter.specs.Finishes.{display_of, finish_row, row_kept, is_final_wanted}
 use Rattle.console_reporter.specs.RunTexts.{bar_line, run_id_text, id_text, with_profile, run_id_line, test_counts_text, starting_line, run_started_text, initial_count_text, run_counts_text, summary_line, run_finished_text}
 use Rattle.console_reporter.specs.StatusLines.{status_prefix, flaky_failure_line, status_line}
 use Rattle.console_reporter.specs.declared.imp.calls.ReportCall.TheVariants.{Event}
@@ -53,6 +56,12 @@ settings = record {
   counter_width = None;
   default_filter = record { profile = codes "default"; section = Profile };
   theme_characters = theme_of false;
+  unit_output = record {
+    overrides = record { force_success_output = None; force_failure_output = None; force_exec_fail_output = None };
+    displayer_kind = Live;
+    display_empty_outputs = false;
+  };
+  no_output_indent = false;
 }
 
 abbrev none_skipped : SkipCounts
@@ -99,10 +108,6 @@ unfolding run_finished_text summary_line run_counts_text initial_count_text bar_
     summary_text counted_text passed_notes passed_note notes_end failed_counts failed_count leaky_failed_note exec_failed_count timed_out_count other_failed_count
 summary = refl
 
--- what an attempt wrote
-abbrev Written : Type 0
-Written = ChildExecutionOutputDescription LiveSpec ChildOutputDescription
-
 -- a test that failed with a code at its one attempt, after so long
 abbrev failed : Written → ℤ → Nanos → Attempts LiveSpec ChildOutputDescription
 failed output code time = record {
@@ -128,14 +133,14 @@ named = refl
 -- its line, at once and in the summary
 failed_line : (is_final : Bool) (test : TestInstanceId) (output : Written) (code : ℤ) (time : Nanos) →
     test.binary_id.now ≡ codes "alpha" → test.test_name.now ≡ codes "mod::t2" → time.0 ≡ 1500000000 →
-    status_line settings.styles is_final None test (summary_of (failed output code time)) ≡ codes "        FAIL [   1.500s] alpha mod::t2\n"
+    status_line settings.styles is_final None None test (summary_of (failed output code time)) ≡ codes "        FAIL [   1.500s] alpha mod::t2\n"
 unfolding status_line status_prefix long_word abort_line flaky_failure_line part_text right_in chars
 failed_line true test output code time binary name after = rw (binary, name, after, lasted, named) refl
 failed_line false test output code time binary name after = rw (binary, name, after, lasted, named) refl
 
 -- what a second end of the run finds kept: the same entries
-twice : (event finish : TestEvent) (stress : Option StressIndex) (test : TestInstanceId) (success failure : TestOutputDisplay) (output : Written) (code : ℤ) (time elapsed : Nanos) →
-    event.kind ≡ TestFinished stress test success failure (failed output code time) stats → finish.kind ≡ RunFinished elapsed (Single stats) →
-    final_order (kept settings (Event finish ∷ Event event ∷ [])) ≡ record { counter = None; instance = test; summary = summary_of (failed output code time) } ∷ []
-unfolding kept entry_of cancel ordered_by put_in
-twice event finish stress test success failure output code time elapsed is end = rw (is, end) refl
+twice : (event finish : TestEvent) (stress : Option StressIndex) (test : TestInstanceId) (success : TestOutputDisplay) (output : Written) (code : ℤ) (time elapsed : Nanos) →
+    event.kind ≡ TestFinished stress test success Never (failed output code time) stats → finish.kind ≡ RunFinished elapsed (Single stats) →
+    final_order (kept settings (Event finish ∷ Event event ∷ [])) ≡ finished_entry 0 stress None test Never (failed output code time) ∷ []
+unfolding kept entry_of cancel ordered_by put_in display_of finish_row row_kept is_final_wanted
+twice event finish stress test success output code time elapsed is end = rw (is, end) refl

@@ -1,11 +1,11 @@
 -- Texts that are empty or end in a line feed.
 use Rattle.run_model.specs.UniquePrefixes.{UniquePrefix}
-use Rattle.run_model.specs.Levels.{status_rank}
-use Rattle.std.specs.Prelude.{nat_lt, nat_le, ◌==◌}
-use Rattle.std.proofs.Common.{◌≡◌, ℕ, ℤ, Bool, true, false, List, [], ◌∷◌, ◌++◌, refl, sym, ap, subst, ◌∙◌, append_assoc, append-nil, Option, Some, inl, inr, codes}
+use Rattle.std.specs.Prelude.{nat_lt, ◌==◌}
+use Rattle.std.proofs.Common.{◌≡◌, ℕ, ℤ, Bool, true, false, List, [], ◌∷◌, ◌++◌, refl, sym, ap, subst, ◌∙◌, append_assoc, append-nil, Option, None, Some, inl, inr, codes}
 use Rattle.std.specs.List.{flat_map}
 use Rattle.std.proofs.lemmas.Bool.{cases_Bool}
 use Rattle.run_model.specs.declared.config.NextestRunMode.{NextestRunMode}
+use Rattle.run_model.specs.declared.config.TestOutputDisplay.{TestOutputDisplay}
 use Rattle.run_model.specs.declared.event.TestCounts.{TestCounts}
 use Rattle.run_model.specs.declared.event.TestEventKind.{TestEventKind}
 use Rattle.run_model.specs.declared.event.TestEventKind.TheVariants.{RunStarted, TestFinished, RunFinished}
@@ -18,15 +18,22 @@ use Rattle.run_model.specs.declared.abort.AbortDescription.TheVariants.{UnixSign
 use Rattle.run_model.specs.declared.status.ExecutionResultDescription.{ExecutionResultDescription}
 use Rattle.run_model.specs.declared.status.ExecutionResultDescription.TheVariants as outcome
 use Rattle.run_model.specs.declared.status.FailureDescription.TheVariants.{ExitCode, Abort}
+use Rattle.run_model.specs.declared.output.ChildExecutionOutputDescription.TheVariants.{Output, StartError}
+use Rattle.run_model.specs.declared.output.ChildOutputDescription.{ChildOutputDescription}
+use Rattle.run_model.specs.declared.output.LiveSpec.{LiveSpec}
+use Rattle.run_model.specs.declared.status.ExecuteStatus.{ExecuteStatus}
+use Rattle.run_model.specs.declared.stress.StressIndex.{StressIndex}
 use Rattle.run_model.specs.declared.status.StatusCase.{StatusCase}
 use Rattle.run_model.specs.declared.status.StatusSummary.{StatusSummary}
-use Rattle.run_model.specs.Statuses.{summary_of, status_level_of}
+use Rattle.run_model.specs.Statuses.{summary_of}
 use Rattle.run_model.specs.Stats.{final_stats_of_run}
 use Rattle.run_model.specs.declared.level.CancelReason.{CancelReason}
 use Rattle.run_model.specs.declared.level.CancelReason.TheVariants as reason
 use Rattle.run_model.specs.declared.stats.FinalRunStats.{FinalRunStats}
 use Rattle.run_model.specs.declared.stats.FinalRunStats.TheVariants.{Success, NoTestsRun, Cancelled, Failed}
 use Rattle.run_model.specs.declared.stats.RunStatsFailureKind.TheVariants.{SetupScript, Test}
+use Rattle.unit_report.specs.UnitOutputs.{OutputLayout, execution_output}
+use Rattle.unit_report.specs.declared.unit_output.reporter.UnitOutputReporter.{UnitOutputReporter}
 use Rattle.unit_report.specs.Warnings.{not_run_warning, final_warnings}
 use Rattle.report_text.specs.declared.helpers.instance.DisplayCounterIndex.{DisplayCounterIndex}
 use Rattle.console_reporter.specs.Counters.{finished_counter}
@@ -34,10 +41,12 @@ use Rattle.report_text.specs.Words.{Text}
 use Rattle.report_text.specs.Styles.{part_text, plain}
 use Rattle.report_text.specs.declared.style.Styles.{Styles}
 use Rattle.console_reporter.specs.AbortLines.{nt_line, job_object_line, line_of_abort, abort_line}
+use Rattle.console_reporter.specs.AttemptOutputs.{Written, attempt_output, has_info_line, info_line, shown_info_line}
 use Rattle.console_reporter.specs.Configuration.{Configuration}
-use Rattle.console_reporter.specs.Entries.{hiding_rank, entry_text, listed_text}
+use Rattle.console_reporter.specs.Entries.{hiding_rank, entry_output, entry_text, listed_text}
+use Rattle.console_reporter.specs.Finishes.{display_of, is_line_shown, is_shown_at_once}
 use Rattle.console_reporter.specs.Outcomes.{IsOfLines}
-use Rattle.console_reporter.specs.Report.{test_finished_text, event_text, text}
+use Rattle.console_reporter.specs.Report.{line_at_once, output_at_once, test_finished_text, event_text, text}
 use Rattle.console_reporter.specs.RunTexts.{starting_line, run_started_text, run_counts_text, summary_line, run_finished_text}
 use Rattle.console_reporter.specs.StatusLines.{is_flaky_failure, flaky_note, flaky_failure_line, status_line}
 use Rattle.console_reporter.specs.declared.imp.calls.ReportCall.{ReportCall}
@@ -108,9 +117,30 @@ ends-status_end : (s : Styles) (is_final : Bool) (result : ExecutionResultDescri
 ends-status_end s is_final result x = ends_before (plain (codes "\n")) (abort_line s result ++ flaky_failure_line s is_final x) ends-feed
     (of_lines-append (abort_line s result) (flaky_failure_line s is_final x) (of_lines-abort_line s result) (of_lines-flaky_failure_line s is_final x))
 
-ends-status_line : (s : Styles) (is_final : Bool) (counter : Option DisplayCounterIndex) (instance : TestInstanceId) (x : StatusSummary) → EndsLine (status_line s is_final counter instance x)
+ends-status_line : (s : Styles) (is_final : Bool) (stress : Option StressIndex) (counter : Option DisplayCounterIndex) (instance : TestInstanceId) (x : StatusSummary) → EndsLine (status_line s is_final stress counter instance x)
 unfolding status_line
-ends-status_line s is_final counter instance x = search (ends_after, ends-status_end) depth 12
+ends-status_line s is_final stress counter instance x = search (ends_after, ends-status_end) depth 12
+
+ends-info_end : EndsLine (plain (codes ")\n\n"))
+unfolding part_text
+ends-info_end = record { front = codes ")\n"; is = refl }
+
+ends-shown_info_line : (s : Styles) (is_slow : Bool) (result : ExecutionResultDescription) → EndsLine (shown_info_line s is_slow result)
+unfolding shown_info_line
+ends-shown_info_line s is_slow result = search (ends_after, ends-info_end) depth 12
+
+of_lines-info_line : (s : Styles) (is_slow : Bool) (result : ExecutionResultDescription) → IsOfLines (info_line s is_slow result)
+unfolding info_line
+of_lines-info_line s is_slow result = elim (cases_Bool (has_info_line result)) [ inl y ↦ rw y (of_line _ (ends-shown_info_line s is_slow result)) | inr n ↦ rw n (inl refl) ]
+
+ends-execution_output : (r : UnitOutputReporter) (s : Styles) (layout : OutputLayout) (output : Written) → EndsLine (execution_output r s layout output)
+unfolding execution_output
+ends-execution_output r s layout (Output result output errors highlight) = search (ends_after, ends-feed) depth 12
+ends-execution_output r s layout (StartError chain) = search (ends_after, ends-feed) depth 12
+
+ends-attempt_output : (s : Settings) (is_retry is_slow : Bool) (result : ExecutionResultDescription) (output : Written) → EndsLine (attempt_output s is_retry is_slow result output)
+unfolding attempt_output
+ends-attempt_output s is_retry is_slow result output = ends_before _ _ (ends-execution_output _ _ _ output) (of_lines-info_line s.styles is_slow result)
 
 ends-starting_line : (s : Settings) (c : TestCounts) → EndsLine (starting_line s c)
 unfolding starting_line
@@ -142,24 +172,42 @@ of_lines-final_warnings s mode (Cancelled why (Test initial not_run)) = ends-not
 of_lines-final_warnings s mode (Failed SetupScript) = inl refl
 of_lines-final_warnings s mode (Failed (Test initial not_run)) = ends-not_run_warning s mode (Some reason.TestFailure) initial not_run
 
+of_lines-entry_output : (s : Settings) (x : StatusSummary) (output : Option Written) → IsOfLines (entry_output s x output)
+unfolding entry_output
+of_lines-entry_output s x None = inl refl
+of_lines-entry_output s x (Some output) = of_line _ (ends-attempt_output s false x.is_slow x.result output)
+
+ends-entry_text : (s : Settings) (e : KeptEntry) → EndsLine (entry_text s e)
+unfolding entry_text
+ends-entry_text s e = ends_before _ _ (ends-status_line s.styles true e.stress_index e.counter e.instance e.summary) (of_lines-entry_output s e.summary e.output)
+
 of_lines-entries : (s : Settings) (es : List KeptEntry) → IsOfLines (flat_map (entry_text s) es)
 of_lines-entries s [] = inl refl
-of_lines-entries s (e ∷ es) = of_lines-append (entry_text s e) (flat_map (entry_text s) es) (of_line _ (ends-status_line s.styles true e.counter e.instance e.summary)) (of_lines-entries s es)
+of_lines-entries s (e ∷ es) = of_lines-append (entry_text s e) (flat_map (entry_text s) es) (of_line _ (ends-entry_text s e)) (of_lines-entries s es)
 
 of_lines-listed_text : (s : Settings) (reason : ℕ) (es : List KeptEntry) → IsOfLines (listed_text s reason es)
 unfolding listed_text
 of_lines-listed_text s reason es = elim (cases_Bool (nat_lt reason hiding_rank)) [ inl y ↦ rw y (of_lines-entries s es) | inr n ↦ rw n (inl refl) ]
 
-of_lines-test_finished_text : (s : Settings) (counter : Option DisplayCounterIndex) (instance : TestInstanceId) (x : StatusSummary) → IsOfLines (test_finished_text s counter instance x)
+of_lines-line_at_once : (s : Settings) (stress : Option StressIndex) (counter : Option DisplayCounterIndex) (instance : TestInstanceId) (x : StatusSummary) → IsOfLines (line_at_once s stress counter instance x)
+unfolding line_at_once
+of_lines-line_at_once s stress counter instance x =
+    elim (cases_Bool (is_line_shown s x)) [ inl y ↦ rw y (of_line _ (ends-status_line s.styles false stress counter instance x)) | inr n ↦ rw n (inl refl) ]
+
+of_lines-output_at_once : (s : Settings) (reason : ℕ) (display : TestOutputDisplay) (last : ExecuteStatus LiveSpec ChildOutputDescription) → IsOfLines (output_at_once s reason display last)
+unfolding output_at_once
+of_lines-output_at_once s reason display last =
+    elim (cases_Bool (is_shown_at_once reason display last.result)) [ inl y ↦ rw y (of_line _ (ends-attempt_output s false last.is_slow last.result last.output)) | inr n ↦ rw n (inl refl) ]
+
+of_lines-test_finished_text : (s : Settings) (reason : ℕ) (stress : Option StressIndex) (counter : Option DisplayCounterIndex) (instance : TestInstanceId) (display : TestOutputDisplay) (x : StatusSummary) (last : ExecuteStatus LiveSpec ChildOutputDescription) → IsOfLines (test_finished_text s reason stress counter instance display x last)
 unfolding test_finished_text
-of_lines-test_finished_text s counter instance x =
-    elim (cases_Bool (nat_le (status_rank (status_level_of x)) (status_rank s.status_levels.status_level)))
-    [ inl y ↦ rw y (of_line _ (ends-status_line s.styles false counter instance x)) | inr n ↦ rw n (inl refl) ]
+of_lines-test_finished_text s reason stress counter instance display x last =
+    of_lines-append _ _ (of_lines-line_at_once s stress counter instance x) (of_lines-output_at_once s reason display last)
 
 of_lines-event_text : (s : Settings) (known : Option UniquePrefix) (reason : ℕ) (es : List KeptEntry) (e : TestEventKind) → IsOfLines (event_text s known reason es e)
 unfolding event_text
 of_lines-event_text s known reason es (RunStarted c id profile) = of_line _ (ends-run_started_text s known c id profile)
-of_lines-event_text s known reason es (TestFinished stress instance success failure statuses stats) = of_lines-test_finished_text s (finished_counter s stats) instance (summary_of statuses)
+of_lines-event_text s known reason es (TestFinished stress instance success failure statuses stats) = of_lines-test_finished_text s reason stress (finished_counter s stats) instance (display_of s success failure (summary_of statuses)) (summary_of statuses) statuses.last
 of_lines-event_text s known reason es (RunFinished elapsed stats) = of_line _ (ends_before _ _ (ends-run_finished_text s elapsed.0 stats)
     (of_lines-append (listed_text s reason es) (final_warnings s.styles s.mode (final_stats_of_run stats)) (of_lines-listed_text s reason es) (of_lines-final_warnings s.styles s.mode (final_stats_of_run stats))))
 

@@ -1,12 +1,15 @@
 -- A configuration of a reporter, and what it comes to.
-use Rattle.std.specs.Prelude.{ℕ, Bool, Option, None, Some, length}
+use Rattle.std.specs.Prelude.{ℕ, Bool, true, false, Option, None, Some, length}
 use Rattle.std.specs.Fmt.{decimal}
+use Rattle.run_model.specs.declared.config.TestOutputDisplay.{TestOutputDisplay}
+use Rattle.run_model.specs.declared.config.TestOutputDisplay.TheVariants as display
 use Rattle.report_text.specs.Styles.{styles_of}
 use Rattle.report_text.specs.declared.helpers.theme.ThemeCharacters.{ThemeCharacters}
 use Rattle.unit_report.specs.Levels.{resolved_display}
 use Rattle.unit_report.specs.declared.config.ProgressDisplay.{ProgressDisplay}
 use Rattle.unit_report.specs.declared.config.ProgressDisplay.TheVariants as shown
 use Rattle.unit_report.specs.declared.config.ResolvedDisplay.{ResolvedDisplay}
+use Rattle.unit_report.specs.declared.unit_output.overrides.OutputDisplayOverrides.{OutputDisplayOverrides}
 use Rattle.console_reporter.specs.declared.imp.builder.DisplayReporterBuilder.{DisplayReporterBuilder}
 use Rattle.console_reporter.specs.declared.imp.settings.Settings.{Settings}
 
@@ -39,6 +42,22 @@ counter_width_of shown.None run_count = None
 abbrev pub resolved_of : Configuration → ResolvedDisplay
 resolved_of c = resolved_display c.builder.display_config c.is_terminal c.is_ci
 
+-- whose setting decides when output is shown. Without capture there is none to show, save why a test could not be started
+abbrev pub overrides_by : Bool → Option TestOutputDisplay → Option TestOutputDisplay → OutputDisplayOverrides
+overrides_by true success failure = record {
+  force_success_output = Some display.Never;
+  force_failure_output = Some display.Never;
+  force_exec_fail_output = Some display.Immediate;
+}
+overrides_by false success failure = record {
+  force_success_output = success;
+  force_failure_output = failure;
+  force_exec_fail_output = failure;
+}
+
+abbrev pub overrides_of : Configuration → OutputDisplayOverrides
+overrides_of c = overrides_by c.builder.display_config.no_capture c.builder.success_output c.builder.failure_output
+
 -- what a reporter of this configuration goes by
 abbrev pub settings_of : Configuration → Settings
 settings_of c = record {
@@ -48,4 +67,10 @@ settings_of c = record {
   counter_width = counter_width_of (resolved_of c).progress_display c.builder.run_count;
   default_filter = c.builder.default_filter;
   theme_characters = theme_of c.use_unicode;
+  unit_output = record {
+    overrides = overrides_of c;
+    displayer_kind = c.builder.displayer_kind;
+    display_empty_outputs = c.display_empty_outputs;
+  };
+  no_output_indent = c.builder.no_output_indent;
 }

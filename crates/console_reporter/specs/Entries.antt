@@ -1,20 +1,30 @@
 -- What is kept of the calls for the summary, and how the summary lists it.
-use Rattle.std.specs.Prelude.{ℕ, ◌-◌, Bool, true, List, [], ◌∷◌, ◌++◌, ◌&&◌, Option, Some, None, max, nat_le, nat_lt, if◌then◌else◌}
+use Rattle.std.specs.Prelude.{ℕ, ◌-◌, Bool, true, false, List, [], ◌∷◌, ◌++◌, Option, Some, None, max, nat_lt, if◌then◌else◌}
 use Rattle.std.specs.Option.{option_to_list}
 use Rattle.std.specs.declared.cmp.Ordering.{Ordering}
 use Rattle.std.specs.Ordering.{is_lt, nat_cmp, on, then_cmp}
 use Rattle.std.specs.Cmp.Lexicographic.{slice_cmp}
 use Rattle.std.specs.List.{flat_map}
 use Rattle.std.specs.List.Sorted.{IsSorted, IsStable}
+use Rattle.run_model.specs.Attempts.{Attempts}
 use Rattle.run_model.specs.Levels.{final_rank}
 use Rattle.run_model.specs.Statuses.{summary_of, final_level_of}
+use Rattle.run_model.specs.Stress.{stress_key}
 use Rattle.run_model.specs.UniquePrefixes.{UniquePrefix}
+use Rattle.run_model.specs.declared.config.TestOutputDisplay.{TestOutputDisplay}
 use Rattle.run_model.specs.declared.event.TestEventKind.{TestEventKind}
 use Rattle.run_model.specs.declared.event.TestEventKind.TheVariants.{RunStarted, TestFinished, RunFinished}
 use Rattle.run_model.specs.declared.name.TestInstanceId.{TestInstanceId}
+use Rattle.run_model.specs.declared.output.ChildOutputDescription.{ChildOutputDescription}
+use Rattle.run_model.specs.declared.output.LiveSpec.{LiveSpec}
+use Rattle.run_model.specs.declared.status.ExecuteStatus.{ExecuteStatus}
 use Rattle.run_model.specs.declared.status.StatusSummary.{StatusSummary}
+use Rattle.run_model.specs.declared.stress.StressIndex.{StressIndex}
 use Rattle.report_text.specs.Words.{Text}
+use Rattle.report_text.specs.declared.helpers.instance.DisplayCounterIndex.{DisplayCounterIndex}
+use Rattle.console_reporter.specs.AttemptOutputs.{Written, attempt_output}
 use Rattle.console_reporter.specs.Counters.{counter_key, finished_counter}
+use Rattle.console_reporter.specs.Finishes.{display_of, is_kept, is_shown_at_end}
 use Rattle.console_reporter.specs.Order.{key_cmp, ordered_by}
 use Rattle.console_reporter.specs.StatusLines.{status_line}
 use Rattle.console_reporter.specs.declared.imp.calls.ReportCall.{ReportCall}
@@ -44,18 +54,33 @@ prefix (Prefix p ∷ past) = Some p
 abbrev pub hiding_rank : ℕ
 hiding_rank = 7
 
--- a finished test is kept where no hiding reason was given and its final level is wanted
-abbrev pub is_kept : Settings → ℕ → StatusSummary → Bool
-is_kept s reason x = nat_lt reason hiding_rank && nat_le (final_rank (final_level_of x)) (final_rank s.status_levels.final_status_level)
-
 abbrev pub entry_if : Bool → KeptEntry → Option KeptEntry
 entry_if b e = if b then Some e else None
+
+-- the output of its last attempt that the summary shows of a finished test
+unfoldable pub output_at_end : ℕ → TestOutputDisplay → ExecuteStatus LiveSpec ChildOutputDescription → Option Written
+output_at_end reason display last = if is_shown_at_end reason display last.result then Some last.output else None
+
+-- what the summary shows of a finished test under a reason
+abbrev pub finished_entry : ℕ → Option StressIndex → Option DisplayCounterIndex → TestInstanceId → TestOutputDisplay → Attempts LiveSpec ChildOutputDescription → KeptEntry
+finished_entry reason stress counter instance display statuses = record {
+  stress_index = stress;
+  counter = counter;
+  instance = instance;
+  summary = summary_of statuses;
+  output = output_at_end reason display statuses.last;
+}
+
+-- a finished test, where the summary lists it
+abbrev pub finished_entry_if : Settings → ℕ → Option StressIndex → Option DisplayCounterIndex → TestInstanceId → TestOutputDisplay → Attempts LiveSpec ChildOutputDescription → Option KeptEntry
+finished_entry_if s reason stress counter instance display statuses =
+    entry_if (is_kept s reason display (summary_of statuses)) (finished_entry reason stress counter instance display statuses)
 
 -- what is kept of an event under a reason
 unfoldable pub entry_of : Settings → ℕ → TestEventKind → Option KeptEntry
 entry_of s reason (RunStarted counts id profile) = None
 entry_of s reason (TestFinished stress instance success failure statuses stats) =
-    entry_if (is_kept s reason (summary_of statuses)) (record { counter = finished_counter s stats; instance = instance; summary = summary_of statuses })
+    finished_entry_if s reason stress (finished_counter s stats) instance (display_of s success failure (summary_of statuses)) statuses
 entry_of s reason (RunFinished elapsed stats) = None
 
 -- the same as a list, where no reason was given
@@ -68,17 +93,25 @@ kept s [] = []
 kept s (Event e ∷ past) = kept s past ++ option_to_list (entry_of s (cancel past) e.kind)
 kept s (Prefix p ∷ past) = kept s past
 
--- the key of an entry: the final level, the greatest first, then the counter where one is shown, then the bytes of the
--- binary's id and of the test's name
-abbrev pub entry_key : KeptEntry → List (List ℕ)
-entry_key e = ((7 - final_rank (final_level_of e.summary)) ∷ []) ∷ counter_key e.counter ∷ e.instance.binary_id.now ∷ e.instance.test_name.now ∷ []
+-- the iteration's part of a key: none first, and then the iterations in their order
+abbrev pub iteration_key : Option StressIndex → List ℕ
+iteration_key None = []
+iteration_key (Some i) = stress_key i
 
--- the order of instances, and that of all but the level
+-- the key of an entry: the final level, the greatest first, then the iteration, then the counter where one is shown, then
+-- the bytes of the binary's id and of the test's name
+abbrev pub entry_key : KeptEntry → List (List ℕ)
+entry_key e = ((7 - final_rank (final_level_of e.summary)) ∷ []) ∷ iteration_key e.stress_index ∷ counter_key e.counter ∷ e.instance.binary_id.now ∷ e.instance.test_name.now ∷ []
+
+-- the order of instances, with the counter before, and that of all but the level
 abbrev pub instance_cmp : TestInstanceId → TestInstanceId → Ordering
 instance_cmp a b = then_cmp (on (λ i. i.binary_id.now) (slice_cmp nat_cmp)) (on (λ i. i.test_name.now) (slice_cmp nat_cmp)) a b
 
 abbrev pub counted_cmp : KeptEntry → KeptEntry → Ordering
 counted_cmp a b = then_cmp (on (λ e. counter_key e.counter) (slice_cmp nat_cmp)) (λ x y. instance_cmp x.instance y.instance) a b
+
+abbrev pub iterated_cmp : KeptEntry → KeptEntry → Ordering
+iterated_cmp a b = then_cmp (on (λ e. iteration_key e.stress_index) (slice_cmp nat_cmp)) counted_cmp a b
 
 abbrev pub entry_cmp : KeptEntry → KeptEntry → Ordering
 entry_cmp a b = key_cmp (entry_key a) (entry_key b)
@@ -95,9 +128,14 @@ IsFinalOrder entries order = IsSorted entry_cmp order × IsStable entry_cmp entr
 abbrev pub final_order : List KeptEntry → List KeptEntry
 final_order entries = ordered_by is_before entries
 
+-- the output of an entry, where the summary shows it
+unfoldable pub entry_output : Settings → StatusSummary → Option Written → Text
+entry_output s x None = []
+entry_output s x (Some output) = attempt_output s false x.is_slow x.result output
+
 -- how the summary shows an entry
-abbrev pub entry_text : Settings → KeptEntry → Text
-entry_text s e = status_line s.styles true e.counter e.instance e.summary
+unfoldable pub entry_text : Settings → KeptEntry → Text
+entry_text s e = status_line s.styles true e.stress_index e.counter e.instance e.summary ++ entry_output s e.summary e.output
 
 -- the entries as they stand, one after another
 abbrev pub entries_text : Settings → List KeptEntry → Text

@@ -1,7 +1,10 @@
 pub mod AbortLines
+pub mod AttemptOutputs
 pub mod Configuration
 pub mod Counters
 pub mod Entries
+pub mod Finishes
+pub mod InfoResults
 pub mod Order
 pub mod Outcomes
 pub mod Report

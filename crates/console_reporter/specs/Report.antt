@@ -1,21 +1,27 @@
 -- The report: the text of each call, from the call, the configuration and the calls before it.
-use Rattle.std.specs.Prelude.{ℕ, List, [], ◌∷◌, ◌++◌, Option, reverse, take, slice_get, nat_le, false, if◌then◌else◌}
+use Rattle.std.specs.Prelude.{ℕ, List, [], ◌∷◌, ◌++◌, Option, reverse, take, slice_get, false, if◌then◌else◌}
 use Rattle.std.specs.List.{AllByRecursion}
 use Rattle.std.specs.Option.{option_map_or}
-use Rattle.run_model.specs.Levels.{status_rank}
 use Rattle.run_model.specs.Stats.{final_stats_of_run}
-use Rattle.run_model.specs.Statuses.{summary_of, status_level_of}
+use Rattle.run_model.specs.Statuses.{summary_of}
 use Rattle.run_model.specs.UniquePrefixes.{UniquePrefix}
+use Rattle.run_model.specs.declared.config.TestOutputDisplay.{TestOutputDisplay}
 use Rattle.run_model.specs.declared.event.TestEventKind.{TestEventKind}
 use Rattle.run_model.specs.declared.event.TestEventKind.TheVariants.{RunStarted, TestFinished, RunFinished}
 use Rattle.run_model.specs.declared.name.TestInstanceId.{TestInstanceId}
+use Rattle.run_model.specs.declared.output.ChildOutputDescription.{ChildOutputDescription}
+use Rattle.run_model.specs.declared.output.LiveSpec.{LiveSpec}
+use Rattle.run_model.specs.declared.status.ExecuteStatus.{ExecuteStatus}
 use Rattle.run_model.specs.declared.status.StatusSummary.{StatusSummary}
+use Rattle.run_model.specs.declared.stress.StressIndex.{StressIndex}
 use Rattle.report_text.specs.Words.{Text}
 use Rattle.report_text.specs.declared.helpers.instance.DisplayCounterIndex.{DisplayCounterIndex}
+use Rattle.console_reporter.specs.AttemptOutputs.{attempt_output}
 use Rattle.console_reporter.specs.Configuration.{Configuration, settings_of}
 use Rattle.unit_report.specs.Warnings.{final_warnings}
 use Rattle.console_reporter.specs.Counters.{finished_counter}
 use Rattle.console_reporter.specs.Entries.{cancel, prefix, kept, final_order, listed_text}
+use Rattle.console_reporter.specs.Finishes.{display_of, is_line_shown, is_shown_at_once}
 use Rattle.console_reporter.specs.RunTexts.{run_started_text, run_finished_text}
 use Rattle.console_reporter.specs.StatusLines.{status_line}
 use Rattle.console_reporter.specs.declared.imp.calls.ReportCall.{ReportCall}
@@ -23,16 +29,26 @@ use Rattle.console_reporter.specs.declared.imp.calls.ReportCall.TheVariants.{Eve
 use Rattle.console_reporter.specs.declared.imp.kept.KeptEntry.{KeptEntry}
 use Rattle.console_reporter.specs.declared.imp.settings.Settings.{Settings}
 
--- a finished test: its line, where the status level is at least the test's
-unfoldable pub test_finished_text : Settings → Option DisplayCounterIndex → TestInstanceId → StatusSummary → Text
-test_finished_text s counter instance x =
-    if nat_le (status_rank (status_level_of x)) (status_rank s.status_levels.status_level)
-    then status_line s.styles false counter instance x else []
+-- the line of a finished test, where the status level is at least the test's
+unfoldable pub line_at_once : Settings → Option StressIndex → Option DisplayCounterIndex → TestInstanceId → StatusSummary → Text
+line_at_once s stress counter instance x =
+    if is_line_shown s x then status_line s.styles false stress counter instance x else []
+
+-- the output of its last attempt, where that is shown at once, whatever the status level
+unfoldable pub output_at_once : Settings → ℕ → TestOutputDisplay → ExecuteStatus LiveSpec ChildOutputDescription → Text
+output_at_once s reason display last =
+    if is_shown_at_once reason display last.result then attempt_output s false last.is_slow last.result last.output else []
+
+-- a finished test under a reason: its line and its output
+unfoldable pub test_finished_text : Settings → ℕ → Option StressIndex → Option DisplayCounterIndex → TestInstanceId → TestOutputDisplay → StatusSummary → ExecuteStatus LiveSpec ChildOutputDescription → Text
+test_finished_text s reason stress counter instance display x last =
+    line_at_once s stress counter instance x ++ output_at_once s reason display last
 
 -- the text of an event, by what stands of the past: the prefix of the run's id, the reason, and the kept entries in their final order
 unfoldable pub event_text : Settings → Option UniquePrefix → ℕ → List KeptEntry → TestEventKind → Text
 event_text s known reason ordered (RunStarted counts id profile) = run_started_text s known counts id profile
-event_text s known reason ordered (TestFinished stress instance success failure statuses stats) = test_finished_text s (finished_counter s stats) instance (summary_of statuses)
+event_text s known reason ordered (TestFinished stress instance success failure statuses stats) =
+    test_finished_text s reason stress (finished_counter s stats) instance (display_of s success failure (summary_of statuses)) (summary_of statuses) statuses.last
 event_text s known reason ordered (RunFinished elapsed stats) =
     run_finished_text s elapsed.0 stats ++ (listed_text s reason ordered ++ final_warnings s.styles s.mode (final_stats_of_run stats))
 

@@ -6,7 +6,8 @@ use Rattle.run_model.specs.Statuses.{summary_of}
 use Rattle.run_model.specs.declared.event.TestEvent.{TestEvent}
 use Rattle.run_model.specs.declared.event.TestEventKind.{TestEventKind}
 use Rattle.run_model.specs.declared.event.TestEventKind.TheVariants.{RunStarted, TestFinished, RunFinished}
-use Rattle.console_reporter.specs.Entries.{entry_cmp, prefix, kept, is_kept}
+use Rattle.console_reporter.specs.Entries.{entry_cmp, prefix, kept}
+use Rattle.console_reporter.specs.Finishes.{display_of, is_kept}
 use Rattle.console_reporter.specs.declared.imp.settings.Settings.{Settings}
 use Rattle.console_reporter.specs.declared.imp.calls.ReportCall.{ReportCall}
 use Rattle.console_reporter.specs.declared.imp.reporter.DisplayReporter.{DisplayReporter}
@@ -25,10 +26,11 @@ HasFailed reporter = reporter.state.has_failed ≡ true
 abbrev pub IsSameWriter : {W : Type 0} → DisplayReporter W → DisplayReporter W → Type 0
 IsSameWriter old new = new.writer.ghost_name ≡ old.writer.ghost_name
 
--- the reporter may take memory of its own for the event: to keep an entry, or to order those that it lists
+-- the reporter may take memory of its own for the event: to keep an entry with copies of its texts, or to order those that
+-- it lists
 abbrev pub may_grow_for : Settings → TestEventKind → Bool
 may_grow_for s (RunStarted counts id profile) = false
-may_grow_for s (TestFinished stress instance success failure statuses stats) = is_kept s 0 (summary_of statuses)
+may_grow_for s (TestFinished stress instance success failure statuses stats) = is_kept s 0 (display_of s success failure (summary_of statuses)) (summary_of statuses)
 may_grow_for s (RunFinished elapsed stats) = true
 
 abbrev pub MayGrow : {W : Type 0} → DisplayReporter W → TestEvent → Type 0

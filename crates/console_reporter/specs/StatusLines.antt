@@ -1,5 +1,5 @@
 -- The line of a finished test.
-use Rattle.std.specs.Prelude.{ℕ, Bool, true, false, Option, None, [], ◌++◌, ◌&&◌, ◌==◌, codes, if◌then◌else◌}
+use Rattle.std.specs.Prelude.{ℕ, Bool, true, false, Option, [], ◌++◌, ◌&&◌, ◌==◌, codes, if◌then◌else◌}
 use Rattle.std.specs.Fmt.{decimal}
 use Rattle.run_model.specs.declared.name.TestInstanceId.{TestInstanceId}
 use Rattle.run_model.specs.declared.status.ExecutionResultDescription.{ExecutionResultDescription}
@@ -9,6 +9,7 @@ use Rattle.run_model.specs.declared.status.RetryData.{RetryData}
 use Rattle.run_model.specs.declared.status.StatusCase.{StatusCase}
 use Rattle.run_model.specs.declared.status.StatusCase.TheVariants.{Success, Flaky, Failure}
 use Rattle.run_model.specs.declared.status.StatusSummary.{StatusSummary}
+use Rattle.run_model.specs.declared.stress.StressIndex.{StressIndex}
 use Rattle.report_text.specs.Words.{Text, right_in}
 use Rattle.report_text.specs.Instances.{instance_text}
 use Rattle.report_text.specs.Styles.{plain, styled}
@@ -89,11 +90,11 @@ flaky_failure_line s true x = []
 flaky_failure_line s false x = if is_flaky_failure x then flaky_note s else []
 
 -- the line of a finished test, as it is shown at once or, where the flag is set, in the summary
-unfoldable pub status_line : Styles → Bool → Option DisplayCounterIndex → TestInstanceId → StatusSummary → Text
-status_line s is_final counter instance x =
+unfoldable pub status_line : Styles → Bool → Option StressIndex → Option DisplayCounterIndex → TestInstanceId → StatusSummary → Text
+status_line s is_final stress counter instance x =
     status_prefix s is_final x
     ++ (bracketed_duration x.time_taken.0
-    ++ (instance_text s.list_styles None counter instance
+    ++ (instance_text s.list_styles stress counter instance
     ++ (plain (codes "\n")
     ++ (abort_line s x.result
     ++ flaky_failure_line s is_final x.case))))

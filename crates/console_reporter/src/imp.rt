@@ -1,13 +1,17 @@
 //! The reporter: what it is built from, its calls, and the run of a list of calls.
 //!
 //! One module a concern: `builder` and `settings` say what a reporter goes by, `calls` and `faults` what it is asked and
-//! how it fails, `kept` what it keeps for the summary, `reporter` its calls; the texts stand in `run_text`,
-//! `stats_text` and `status_line`, each beside the event that it belongs to.
+//! how it fails, `finish` when a finished test is shown, `kept` what is kept of it for the summary, `reporter` its calls;
+//! the texts stand in `run_text`, `stats_text` and `test_finished`, each beside the event that it belongs to, and what that
+//! one is made of in `status_line` (with `result_words` and `abort_line`) and `attempt_output` (with `info_result`).
 
 mod abort_line;
+mod attempt_output;
 mod builder;
 mod calls;
 mod faults;
+mod finish;
+mod info_result;
 mod kept;
 mod reporter;
 mod result_words;
@@ -15,6 +19,7 @@ mod run_text;
 mod settings;
 mod stats_text;
 mod status_line;
+mod test_finished;
 #[cfg(test)]
 mod tests;
 

@@ -6,5 +6,5 @@
 
 pub mod imp;
 
-pub use report_text::{helpers, style, write_str};
+pub use report_text::{escapes, helpers, indenter, reporter_helpers, style, write_str};
 pub use unit_report::{config, formatters, unit_output};

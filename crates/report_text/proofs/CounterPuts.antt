@@ -2,8 +2,8 @@
 use Rattle.std.proofs.Common.{◌≡◌, ◌∙◌, ℕ, ◌+◌, ◌++◌, arith, encode_utf8}
 use Rattle.std.specs.Str.{IsUtf8}
 use Rattle.report_text.specs.Words.{Text}
-use Rattle.report_text.specs.Scanner.{advanced, mode_after}
-use Rattle.report_text.specs.Counted.{saturated, counted, columns_from, modes_after, CounterAccepts}
+use Rattle.report_text.specs.Scanner.{advanced, mode_after, modes_after}
+use Rattle.report_text.specs.Counted.{saturated, counted, columns_from, CounterAccepts}
 use Rattle.report_text.specs.Fitting.{columns}
 use Rattle.report_text.proofs.FitMarks.{counted-columns}
 use Rattle.report_text.proofs.FittedPuts.{first_scalar, one_utf8, one_char}

@@ -13,8 +13,9 @@ use Rattle.report_text.proofs.EndLines.{piece_next, end_line_done}
 use Rattle.report_text.proofs.Steps.{owes_all, owes_accepted, owes_stopped}
 use Rattle.report_text.specs.Escapes.{front_len, is_visible, PieceText, pieces, stretches, visible, HasNoEscape}
 use Rattle.report_text.specs.Escapes.PieceText.{SequenceText, StretchText}
-use Rattle.report_text.specs.Scanner.{begun, mode_after_step, step_of, advanced, mode_after}
-use Rattle.report_text.specs.Stripped.{visible_char, visible_from, mode_through, Takes}
+use Rattle.report_text.specs.Scanner.{begun, mode_after_step, step_of, advanced, mode_after, modes_after}
+use Rattle.report_text.specs.Counted.{modes_after-append}
+use Rattle.report_text.specs.Stripped.{visible_char, visible_from, Takes}
 use Rattle.report_text.specs.declared.escapes.Mode.{Mode}
 use Rattle.report_text.specs.declared.escapes.Mode.TheVariants as mode
 use Rattle.report_text.specs.declared.escapes.State.TheVariants.{Start, Parameters, Intermediates, Command, Short}
@@ -25,24 +26,19 @@ use Rattle.report_text.proofs.Marks.{Mark, marks, tagged, piece_marks, marks-pie
 use Rattle.report_text.proofs.Pieces.{free_parts, front_len-le, stretches-pieces}
 
 -- characters in two parts
-pub visible_from-append : (m : Mode) (cs ds : List ℕ) → visible_from m (cs ++ ds) ≡ visible_from m cs ++ visible_from (mode_through m cs) ds
-unfolding visible_from mode_through
+pub visible_from-append : (m : Mode) (cs ds : List ℕ) → visible_from m (cs ++ ds) ≡ visible_from m cs ++ visible_from (modes_after m cs) ds
+unfolding visible_from modes_after
 visible_from-append m [] ds = refl
 visible_from-append m (c ∷ cs) ds =
     ap (λ x. visible_char m c ++ x) (visible_from-append (mode_after m c) cs ds)
-    ∙ sym (append_assoc (visible_char m c) (visible_from (mode_after m c) cs) (visible_from (mode_through (mode_after m c) cs) ds))
-
-pub mode_through-append : (m : Mode) (cs ds : List ℕ) → mode_through m (cs ++ ds) ≡ mode_through (mode_through m cs) ds
-unfolding mode_through
-mode_through-append m [] ds = refl
-mode_through-append m (c ∷ cs) ds = mode_through-append (mode_after m c) cs ds
+    ∙ sym (append_assoc (visible_char m c) (visible_from (mode_after m c) cs) (visible_from (modes_after (mode_after m c) cs) ds))
 
 -- the same of the characters of texts
-pub visible_from-texts : (m : Mode) (t u : Text) → IsUtf8 t → visible_from m (chars (t ++ u)) ≡ visible_from m (chars t) ++ visible_from (mode_through m (chars t)) (chars u)
+pub visible_from-texts : (m : Mode) (t u : Text) → IsUtf8 t → visible_from m (chars (t ++ u)) ≡ visible_from m (chars t) ++ visible_from (modes_after m (chars t)) (chars u)
 visible_from-texts m t u h = ap (visible_from m) (chars-append t u h) ∙ visible_from-append m (chars t) (chars u)
 
-pub mode_through-texts : (m : Mode) (t u : Text) → IsUtf8 t → mode_through m (chars (t ++ u)) ≡ mode_through (mode_through m (chars t)) (chars u)
-mode_through-texts m t u h = ap (mode_through m) (chars-append t u h) ∙ mode_through-append m (chars t) (chars u)
+pub modes_after-texts : (m : Mode) (t u : Text) → IsUtf8 t → modes_after m (chars (t ++ u)) ≡ modes_after (modes_after m (chars t)) (chars u)
+modes_after-texts m t u h = ap (modes_after m) (chars-append t u h) ∙ modes_after-append m (chars t) (chars u)
 
 -- what marked characters show
 shown : List Mark → Text
@@ -102,8 +98,8 @@ pub none_visible : (m : Mode) (c : ℕ) (cs : List ℕ) → advanced m c ≡ Non
 unfolding visible_from
 none_visible m c cs h = rw (h, advanced-none m c h) refl
 
-pub none_mode : (m : Mode) (c : ℕ) (cs : List ℕ) → advanced m c ≡ None → mode_through m (c ∷ cs) ≡ mode_through mode.Text (c ∷ cs)
-unfolding mode_through
+pub none_mode : (m : Mode) (c : ℕ) (cs : List ℕ) → advanced m c ≡ None → modes_after m (c ∷ cs) ≡ modes_after mode.Text (c ∷ cs)
+unfolding modes_after
 none_mode m c cs h = rw (h, advanced-none m c h) refl
 
 -- a stretch without escape characters
@@ -117,14 +113,14 @@ free_char c t h = elim (eqb_tells c 27) [
   | inr n ↦ n.0
 ]
 
-stretch_shown : (cs : List ℕ) → HasNoEscape (encode_utf8_all cs) → (visible_from mode.Text cs ≡ encode_utf8_all cs) × (mode_through mode.Text cs ≡ mode.Text)
-unfolding visible_from mode_through
+stretch_shown : (cs : List ℕ) → HasNoEscape (encode_utf8_all cs) → (visible_from mode.Text cs ≡ encode_utf8_all cs) × (modes_after mode.Text cs ≡ mode.Text)
+unfolding visible_from modes_after
 stretch_shown [] h = (refl, refl)
 stretch_shown (c ∷ cs) h =
     let n = free_char c (encode_utf8_all cs) h in let more = stretch_shown cs (free_back (encode_utf8 c) (encode_utf8_all cs) h) in
     (rw n (ap (λ x. encode_utf8 c ++ x) more.0), rw n more.1)
 
-pub free_shown : (s : Text) → IsUtf8 s → HasNoEscape s → (visible_from mode.Text (chars s) ≡ s) × (mode_through mode.Text (chars s) ≡ mode.Text)
+pub free_shown : (s : Text) → IsUtf8 s → HasNoEscape s → (visible_from mode.Text (chars s) ≡ s) × (modes_after mode.Text (chars s) ≡ mode.Text)
 free_shown s u h = let e = encodes-chars s u in let both = stretch_shown (chars s) (rw e h) in (both.0 ∙ e, both.1)
 
 -- after a character of a sequence
@@ -132,15 +128,15 @@ some_visible : (m n : Mode) (c : ℕ) (cs : List ℕ) → advanced m c ≡ Some 
 unfolding visible_from
 some_visible m n c cs h = rw h refl
 
-some_mode : (m n : Mode) (c : ℕ) (cs : List ℕ) → advanced m c ≡ Some n → mode_through m (c ∷ cs) ≡ mode_through n cs
-unfolding mode_through
+some_mode : (m n : Mode) (c : ℕ) (cs : List ℕ) → advanced m c ≡ Some n → modes_after m (c ∷ cs) ≡ modes_after n cs
+unfolding modes_after
 some_mode m n c cs h = rw h refl
 
 -- what the scan takes from the front of a text: a character of a sequence
 pub taken_char : (m n : Mode) (t rest : Text) (c : ℕ) → IsUtf8 t → t ≡ encode_utf8 c ++ rest → advanced m c ≡ Some n → Takes m t n [] rest
 taken_char m n t rest c u e h = record {
   shown = ap (visible_from m) (chars_past_char t rest c u e) ∙ some_visible m n c (chars rest) h;
-  mode = ap (mode_through m) (chars_past_char t rest c u e) ∙ some_mode m n c (chars rest) h;
+  mode = ap (modes_after m) (chars_past_char t rest c u e) ∙ some_mode m n c (chars rest) h;
   shorter = rw (e, length-append) (omega (arith, length-encode c, (len_utf8_bounds c).0));
 }
 
@@ -169,7 +165,7 @@ module _ (m : Mode) (t rest stretch after : Text) (c : ℕ) (u : IsUtf8 t) (e : 
   front_utf8 : IsUtf8 stretch
   front_utf8 = rw p (IsUtf8-take t (front_len is_visible t) u (front_boundary t))
 
-  front_shown : (visible_from mode.Text (chars stretch) ≡ stretch) × (mode_through mode.Text (chars stretch) ≡ mode.Text)
+  front_shown : (visible_from mode.Text (chars stretch) ≡ stretch) × (modes_after mode.Text (chars stretch) ≡ mode.Text)
   front_shown = free_shown stretch front_utf8 (rw p (front_free t))
 
   front_there : 0 < front_len is_visible t
@@ -180,8 +176,8 @@ module _ (m : Mode) (t rest stretch after : Text) (c : ℕ) (u : IsUtf8 t) (e : 
     shown = ap (visible_from m) (chars_past_char t rest c u e) ∙ none_visible m c (chars rest) h ∙ ap (visible_from mode.Text) (sym (chars_past_char t rest c u e))
         ∙ ap (λ x. visible_from mode.Text (chars x)) front_whole ∙ visible_from-texts mode.Text stretch after front_utf8
         ∙ rw (front_shown.0, front_shown.1) refl;
-    mode = ap (mode_through m) (chars_past_char t rest c u e) ∙ none_mode m c (chars rest) h ∙ ap (mode_through mode.Text) (sym (chars_past_char t rest c u e))
-        ∙ ap (λ x. mode_through mode.Text (chars x)) front_whole ∙ mode_through-texts mode.Text stretch after front_utf8
+    mode = ap (modes_after m) (chars_past_char t rest c u e) ∙ none_mode m c (chars rest) h ∙ ap (modes_after mode.Text) (sym (chars_past_char t rest c u e))
+        ∙ ap (λ x. modes_after mode.Text (chars x)) front_whole ∙ modes_after-texts mode.Text stretch after front_utf8
         ∙ rw front_shown.1 refl;
     shorter = rw (q, length-drop) (omega (arith, front_there, front_len-le is_visible t));
   }
@@ -192,13 +188,13 @@ unfolding visible_from
 nothing_shown m [] h = rw chars-nil refl
 nothing_shown m (c ∷ t) h = absurd (omega arith)
 
-pub nothing_moved : (m : Mode) (t : Text) → length t ≡ 0 → mode_through m (chars t) ≡ m
-unfolding mode_through
+pub nothing_moved : (m : Mode) (t : Text) → length t ≡ 0 → modes_after m (chars t) ≡ m
+unfolding modes_after
 nothing_moved m [] h = rw chars-nil refl
 nothing_moved m (c ∷ t) h = absurd (omega arith)
 
 -- what is owed before the next piece, and after it
-pub stripped_next : (m next : Mode) (h k : Bool) (rest piece after : Text) → rest ≡ piece ++ after → IsUtf8 piece → next ≡ mode_through m (chars piece) → k ≡ ends_in_line_feed (held h ++ visible_from m (chars piece))
+pub stripped_next : (m next : Mode) (h k : Bool) (rest piece after : Text) → rest ≡ piece ++ after → IsUtf8 piece → next ≡ modes_after m (chars piece) → k ≡ ends_in_line_feed (held h ++ visible_from m (chars piece))
     → without_end_line (held h ++ visible_from m (chars rest)) ≡ without_end_line (held h ++ visible_from m (chars piece)) ++ without_end_line (held k ++ visible_from next (chars after))
 stripped_next m next h k rest piece after e u n q =
     piece_next h k (visible_from m (chars rest)) (visible_from m (chars piece)) (visible_from next (chars after))
@@ -212,7 +208,7 @@ module _ {S : Type 0} {w : Meaning S} (laws : WriterLaws w) where
 
   -- after a piece
   pub stripped_written : (a b c : S) (text rest piece after : Text) (m next : Mode) (h k : Bool) → Owes w a text b (without_end_line (held h ++ visible_from m (chars rest))) → rest ≡ piece ++ after → IsUtf8 piece
-      → w.accepts b (without_end_line (held h ++ visible_from m (chars piece))) c → next ≡ mode_through m (chars piece) → k ≡ ends_in_line_feed (held h ++ visible_from m (chars piece))
+      → w.accepts b (without_end_line (held h ++ visible_from m (chars piece))) c → next ≡ modes_after m (chars piece) → k ≡ ends_in_line_feed (held h ++ visible_from m (chars piece))
       → Owes w a text c (without_end_line (held k ++ visible_from next (chars after)))
   stripped_written a b c text rest piece after m next h k o e u p n q = owes_accepted laws a b c text _ _ _ o (stripped_next m next h k rest piece after e u n q) p
 
@@ -220,7 +216,7 @@ module _ {S : Type 0} {w : Meaning S} (laws : WriterLaws w) where
   pub stripped_stopped : (a b c : S) (text rest piece after : Text) (m : Mode) (h : Bool) (f : WriteFault) (r : Result (Unit {0}) WriteFault) → Owes w a text b (without_end_line (held h ++ visible_from m (chars rest)))
       → rest ≡ piece ++ after → IsUtf8 piece → IsErrAnd r (λ x. x ≡ f) → w.stops b (without_end_line (held h ++ visible_from m (chars piece))) f c → Puts w a text r c
   stripped_stopped a b c text rest piece after m h f r o e u i s =
-      owes_stopped laws a b c text _ _ _ f r o (stripped_next m (mode_through m (chars piece)) h (ends_in_line_feed (held h ++ visible_from m (chars piece))) rest piece after e u refl refl) i s
+      owes_stopped laws a b c text _ _ _ f r o (stripped_next m (modes_after m (chars piece)) h (ends_in_line_feed (held h ++ visible_from m (chars piece))) rest piece after e u refl refl) i s
 
   -- after the last piece
   pub stripped_done : (a b : S) (text rest : Text) (m : Mode) (h : Bool) → Owes w a text b (without_end_line (held h ++ visible_from m (chars rest))) → rest ≡ [] → w.accepts a text b

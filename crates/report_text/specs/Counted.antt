@@ -4,7 +4,7 @@ use Rattle.std.specs.Str.{IsUtf8}
 use Rattle.std.proofs.Common.{sym, ap, ◌∙◌, arith, subst}
 use Rattle.std.proofs.lemmas.Str.{chars-append, chars-nil, IsUtf8-append, IsUtf8-nil}
 use Rattle.report_text.specs.Words.{Text}
-use Rattle.report_text.specs.Scanner.{advanced, mode_after}
+use Rattle.report_text.specs.Scanner.{advanced, mode_after, modes_after}
 use Rattle.report_text.specs.Fitting.{char_columns}
 use Rattle.report_text.specs.Writer.{Meaning, WriterLaws}
 use Rattle.report_text.specs.declared.escapes.Mode.{Mode}
@@ -20,11 +20,6 @@ unfoldable pub columns_from : Mode → List ℕ → ℕ
 columns_from m [] = 0
 columns_from m (c ∷ cs) = counted c (advanced m c) + columns_from (mode_after m c) cs
 
--- where the scan stands after them
-unfoldable pub modes_after : Mode → List ℕ → Mode
-modes_after m [] = m
-modes_after m (c ∷ cs) = modes_after (mode_after m c) cs
-
 -- a count that stays at the greatest number
 abbrev pub saturated : ℕ → ℕ
 saturated n = min n (2 ^ 128 - 1)
@@ -34,7 +29,7 @@ unfolding columns_from modes_after
 columns_from-append m [] ds = omega arith
 columns_from-append m (c ∷ cs) ds = omega (arith, columns_from-append (mode_after m c) cs ds)
 
-modes_after-append : (m : Mode) (cs ds : List ℕ) → modes_after m (cs ++ ds) ≡ modes_after (modes_after m cs) ds
+pub modes_after-append : (m : Mode) (cs ds : List ℕ) → modes_after m (cs ++ ds) ≡ modes_after (modes_after m cs) ds
 unfolding modes_after
 modes_after-append m [] ds = refl
 modes_after-append m (c ∷ cs) ds = modes_after-append (mode_after m c) cs ds

@@ -1,5 +1,5 @@
 -- What the scanner's states and steps mean.
-use Rattle.std.specs.Prelude.{◌≡◌, ℕ, suc, Bool, false, ◌==◌, ◌&&◌, [], ◌∷◌, Option, None, Some, unwrap_or, if◌then◌else◌}
+use Rattle.std.specs.Prelude.{◌≡◌, ℕ, suc, Bool, false, ◌==◌, ◌&&◌, List, [], ◌∷◌, Option, None, Some, unwrap_or, if◌then◌else◌}
 use Rattle.report_text.specs.Words.{Text}
 use Rattle.report_text.specs.Escapes.{csi_len, osc_len, short_len, sequence_len, then_len, front_len, one_len, is_within, is_parameter, is_intermediate, is_control}
 use Rattle.report_text.specs.declared.escapes.Mode.{Mode}
@@ -65,3 +65,8 @@ advanced (mode.Sequence Short) c = mode_after_step c (step_of Short c false)
 -- the mode after a character
 abbrev pub mode_after : Mode → ℕ → Mode
 mode_after m c = unwrap_or (advanced m c) mode.Text
+
+-- the mode after characters
+unfoldable pub modes_after : Mode → List ℕ → Mode
+modes_after m [] = m
+modes_after m (c ∷ cs) = modes_after (mode_after m c) cs

@@ -1,7 +1,7 @@
 -- A text that comes in pieces, without its escape sequences.
 use Rattle.std.specs.Prelude.{◌≡◌, ◌<◌, ℕ, List, [], ◌∷◌, ◌++◌, length, chars, is_some, encode_utf8, if◌then◌else◌}
 use Rattle.report_text.specs.Words.{Text}
-use Rattle.report_text.specs.Scanner.{advanced, mode_after}
+use Rattle.report_text.specs.Scanner.{advanced, mode_after, modes_after}
 use Rattle.report_text.specs.declared.escapes.Mode.{Mode}
 
 -- the character, unless a sequence holds it
@@ -13,13 +13,8 @@ unfoldable pub visible_from : Mode → List ℕ → Text
 visible_from m [] = []
 visible_from m (c ∷ cs) = visible_char m c ++ visible_from (mode_after m c) cs
 
--- where the scan stands after them
-unfoldable pub mode_through : Mode → List ℕ → Mode
-mode_through m [] = m
-mode_through m (c ∷ cs) = mode_through (mode_after m c) cs
-
 -- The scan takes a front of the text: it shows the stretch, and goes on from where it then stands.
 pub record Takes (m : Mode) (t : Text) (n : Mode) (stretch after : Text) : Type 0 where
   pub shown : visible_from m (chars t) ≡ stretch ++ visible_from n (chars after)
-  pub mode : mode_through m (chars t) ≡ mode_through n (chars after)
+  pub mode : modes_after m (chars t) ≡ modes_after n (chars after)
   pub shorter : length after < length t

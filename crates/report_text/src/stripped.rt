@@ -3,7 +3,8 @@
 ghost use Rattle.std.specs.Prelude.{◌≡◌, ◌<◌, ◌++◌, false, length, take, drop, chars, MatchOption, OnOk};
 ghost use Rattle.report_text.specs.EndLine.{without_end_line, ends_in_line_feed, held};
 ghost use Rattle.report_text.specs.Escapes.{front_len, is_visible};
-ghost use Rattle.report_text.specs.Stripped.{visible_from, mode_through, Takes};
+ghost use Rattle.report_text.specs.Scanner.{modes_after};
+ghost use Rattle.report_text.specs.Stripped.{visible_from, Takes};
 ghost use Rattle.report_text.specs.Writer.{Puts};
 
 #[cfg(test)]
@@ -49,7 +50,7 @@ impl StrippedPieces {
     pub fn write<W: WriteStr>(&mut self, w: &mut W, piece: &str) -> Result<(), WriteFault>
         ensures text { Puts W.meaning w.old (without_end_line (held self.old.end_line.is_held ++ visible_from self.old.mode (chars piece.now))) result w.new }
         ensures held { OnOk result (self.new.end_line.is_held ≡ ends_in_line_feed (held self.old.end_line.is_held ++ visible_from self.old.mode (chars piece.now))) }
-        ensures mode { OnOk result (self.new.mode ≡ mode_through self.old.mode (chars piece.now)) }
+        ensures mode { OnOk result (self.new.mode ≡ modes_after self.old.mode (chars piece.now)) }
     {
         let mut rest = piece;
         while let Some((mode, stretch, after)) = next_stretch(self.mode, rest) {

@@ -1,6 +1,8 @@
 //! How a process was ended from outside.
 
-ghost use Rattle.std.specs.Prelude.{◌≡◌, IfOk, IsOk, false};
+ghost use Rattle.std.specs.Prelude.{◌≡◌, IfOk, IsOk, false, nat_eq};
+ghost use Rattle.std.specs.Cmp.{partial_equiv_from_equiv};
+ghost use Rattle.std.specs.Cmp.Lexicographic.{pointwise, nat_list_eq_equiv};
 ghost use Rattle.std.specs.Option.{is_some};
 ghost use Rattle.run_model.specs.Statuses.{abort_has_text};
 
@@ -9,7 +11,7 @@ use std::alloc::Global;
 use std::marker::Model;
 
 /// How a process was ended from outside.
-#[derive(Debug, Drop)]
+#[derive(Debug, Drop, PartialEq, Eq)]
 pub enum AbortDescription {
     /// By a signal, on Unix.
     UnixSignal {
@@ -101,4 +103,18 @@ impl DescriptionText {
     {
         DescriptionText::new(alloc, self.as_str())
     }
+}
+
+impl PartialEq for DescriptionText {
+    ghost eq = { pointwise nat_eq };
+
+    ghost laws = { partial_equiv_from_equiv nat_list_eq_equiv };
+
+    fn eq(&self, other: &Self) -> bool {
+        self.as_str() == other.as_str()
+    }
+}
+
+impl Eq for DescriptionText {
+    ghost laws = { nat_list_eq_equiv };
 }

@@ -33,7 +33,7 @@ impl RetryData {
 }
 
 /// How an attempt ended.
-#[derive(Debug, Drop)]
+#[derive(Debug, Drop, PartialEq, Eq)]
 pub enum ExecutionResultDescription {
     /// It passed.
     Pass,
@@ -131,7 +131,7 @@ pub enum SlowTimeoutResult {
 }
 
 /// How an attempt failed.
-#[derive(Debug, Drop)]
+#[derive(Debug, Drop, PartialEq, Eq)]
 pub enum FailureDescription {
     /// Its process ended with a code other than 0.
     ExitCode {
@@ -200,7 +200,7 @@ pub enum FlakyResult {
 }
 
 /// What a test came to, without what it wrote.
-#[derive(Debug, Drop)]
+#[derive(Debug, Drop, PartialEq, Eq)]
 pub struct StatusSummary {
     /// What the attempts came to.
     pub case: StatusCase,

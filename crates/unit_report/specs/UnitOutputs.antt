@@ -9,6 +9,7 @@ use Rattle.run_model.specs.declared.output.ChildOutputDescription.{ChildOutputDe
 use Rattle.run_model.specs.declared.output.ChildOutputDescription.TheVariants.{Split, Combined}
 use Rattle.run_model.specs.declared.output.Highlight.{Highlight}
 use Rattle.run_model.specs.declared.output.LiveSpec.{LiveSpec}
+use Rattle.run_model.specs.declared.unit.UnitKind.{UnitKind}
 use Rattle.report_text.specs.Indent.{indent}
 use Rattle.report_text.specs.Lossy.{decoded_text}
 use Rattle.report_text.specs.Styles.{plain, styled}
@@ -24,6 +25,26 @@ use Rattle.unit_report.specs.declared.unit_output.header.OutputName.{OutputName}
 use Rattle.unit_report.specs.declared.unit_output.header.OutputName.TheVariants as name
 use Rattle.unit_report.specs.declared.unit_output.reporter.ChildOutputSpec.{ChildOutputSpec}
 use Rattle.unit_report.specs.declared.unit_output.reporter.UnitOutputReporter.{UnitOutputReporter}
+
+-- how the output of a unit is laid out: the lines before its parts, and what stands before each line that is not empty
+pub record OutputLayout : Type 0 where
+  pub kind : UnitKind
+  pub stdout_header : OutputHeader
+  pub stderr_header : OutputHeader
+  pub combined_header : OutputHeader
+  pub exec_fail_header : OutputHeader
+  pub output_indent : Text
+
+-- the layout that the code hands on
+abbrev pub layout_of : ChildOutputSpec → OutputLayout
+layout_of spec = record {
+  kind = spec.kind;
+  stdout_header = spec.stdout_header;
+  stderr_header = spec.stderr_header;
+  combined_header = spec.combined_header;
+  exec_fail_header = spec.exec_fail_header;
+  output_indent = spec.output_indent.now;
+}
 
 abbrev pub is_replay : DisplayerKind → Bool
 is_replay Live = false
@@ -53,36 +74,36 @@ stream_text r s margin header name None highlight = if is_replay r.displayer_kin
 stream_text r s margin header name (Some bytes) highlight = present_stream r s margin header bytes highlight
 
 -- two streams, one after the other
-unfoldable pub both_streams : UnitOutputReporter → Styles → ChildOutputSpec → Option Text → Option Text → Option Highlight → Text
-both_streams r s spec stdout stderr highlight =
-    stream_text r s spec.output_indent.now spec.stdout_header name.Stdout stdout (option_and_then stdout_part highlight)
-    ++ stream_text r s spec.output_indent.now spec.stderr_header name.Stderr stderr (option_and_then stderr_part highlight)
+unfoldable pub both_streams : UnitOutputReporter → Styles → OutputLayout → Option Text → Option Text → Option Highlight → Text
+both_streams r s layout stdout stderr highlight =
+    stream_text r s layout.output_indent layout.stdout_header name.Stdout stdout (option_and_then stdout_part highlight)
+    ++ stream_text r s layout.output_indent layout.stderr_header name.Stderr stderr (option_and_then stderr_part highlight)
 
 -- two streams. A record says in one line that neither was captured
-unfoldable pub split_text : UnitOutputReporter → Styles → ChildOutputSpec → Option Text → Option Text → Option Highlight → Text
-split_text r s spec None None highlight =
-    if is_replay r.displayer_kind then not_captured_text s name.Output else both_streams r s spec None None highlight
-split_text r s spec None (Some stderr) highlight = both_streams r s spec None (Some stderr) highlight
-split_text r s spec (Some stdout) stderr highlight = both_streams r s spec (Some stdout) stderr highlight
+unfoldable pub split_text : UnitOutputReporter → Styles → OutputLayout → Option Text → Option Text → Option Highlight → Text
+split_text r s layout None None highlight =
+    if is_replay r.displayer_kind then not_captured_text s name.Output else both_streams r s layout None None highlight
+split_text r s layout None (Some stderr) highlight = both_streams r s layout None (Some stderr) highlight
+split_text r s layout (Some stdout) stderr highlight = both_streams r s layout (Some stdout) stderr highlight
 
 -- what a process wrote
-unfoldable pub child_output : UnitOutputReporter → Styles → ChildOutputSpec → ChildOutputDescription → Option Highlight → Text
-child_output r s spec (Split stdout stderr) highlight = split_text r s spec stdout stderr highlight
-child_output r s spec (Combined output) highlight =
-    present_stream r s spec.output_indent.now spec.combined_header output (option_and_then combined_part highlight)
+unfoldable pub child_output : UnitOutputReporter → Styles → OutputLayout → ChildOutputDescription → Option Highlight → Text
+child_output r s layout (Split stdout stderr) highlight = split_text r s layout stdout stderr highlight
+child_output r s layout (Combined output) highlight =
+    present_stream r s layout.output_indent layout.combined_header output (option_and_then combined_part highlight)
 
 -- an error with its causes, indented below its header
-unfoldable pub errors_block : ChildOutputSpec → MessageAndCauses → Text
-errors_block spec chain =
-    header_text spec.exec_fail_header ++ (plain (codes "\n") ++ indent spec.output_indent.now true (error_chain_text chain ++ 10 ∷ []))
+unfoldable pub errors_block : OutputLayout → MessageAndCauses → Text
+errors_block layout chain =
+    header_text layout.exec_fail_header ++ (plain (codes "\n") ++ indent layout.output_indent true (error_chain_text chain ++ 10 ∷ []))
 
 -- errors, if there are any
-unfoldable pub errors_text : ChildOutputSpec → Option MessageAndCauses → Text
-errors_text spec None = []
-errors_text spec (Some chain) = errors_block spec chain
+unfoldable pub errors_text : OutputLayout → Option MessageAndCauses → Text
+errors_text layout None = []
+errors_text layout (Some chain) = errors_block layout chain
 
 -- all that is shown of an attempt: errors first, then what it wrote, then an empty line
-unfoldable pub execution_output : UnitOutputReporter → Styles → ChildOutputSpec → ChildExecutionOutputDescription LiveSpec ChildOutputDescription → Text
-execution_output r s spec (Output result output errors highlight) =
-    errors_text spec errors ++ (child_output r s spec output highlight ++ plain (codes "\n"))
-execution_output r s spec (StartError chain) = errors_block spec chain ++ plain (codes "\n")
+unfoldable pub execution_output : UnitOutputReporter → Styles → OutputLayout → ChildExecutionOutputDescription LiveSpec ChildOutputDescription → Text
+execution_output r s layout (Output result output errors highlight) =
+    errors_text layout errors ++ (child_output r s layout output highlight ++ plain (codes "\n"))
+execution_output r s layout (StartError chain) = errors_block layout chain ++ plain (codes "\n")

@@ -3,33 +3,38 @@
 ghost use Rattle.std.specs.Prelude.{◌≡◌, ◌≤◌, ◌⊎◌, ◌+◌, List, ℕ, [], ◌∷◌, ◌++◌, OnOk, OnErr, IfErr, IsErrOf, length, reverse, take, true, false};
 ghost use Rattle.std.specs.Option.{option_to_list};
 ghost use Rattle.std.specs.List.Sorted.{IsStable};
-ghost use Rattle.run_model.specs.Statuses.{described_summary, summary_of};
+ghost use Rattle.run_model.specs.Statuses.{summary_of};
 ghost use Rattle.report_text.specs.Writer.{Puts, one_further};
 ghost use Rattle.console_reporter.specs.declared.imp.calls.ReportCall.{ReportCall};
 ghost use Rattle.console_reporter.specs.declared.imp.faults.WriteEventError.{WriteEventError};
 ghost use Rattle.console_reporter.specs.Configuration.{Configuration, configured};
-ghost use Rattle.console_reporter.specs.Entries.{entry_cmp, entry_if, is_kept, keeps, listed_text, IsListed};
+ghost use Rattle.console_reporter.specs.Entries.{entry_cmp, finished_entry_if, keeps, listed_text, IsListed};
+ghost use Rattle.console_reporter.specs.Finishes.{is_kept};
 ghost use Rattle.console_reporter.specs.Outcomes.{Stops, StopsAfter, IsOfLines, error_for};
-ghost use Rattle.console_reporter.specs.Report.{event_text, test_finished_text, text, report, past_at, text_at, AreAccepted};
+ghost use Rattle.console_reporter.specs.Report.{event_text, text, report, past_at, text_at, AreAccepted};
 ghost use Rattle.console_reporter.specs.Standing.{StandsAfter, HasFailed, IsSameWriter, MayGrow, may_grow_for};
 
 use super::builder::DisplayReporterBuilder;
 use super::calls::ReportCall;
 use super::faults::{RunFault, WriteEventError};
+use super::finish::FinishRow;
 use super::kept::{KeptEntry, sort_entries, write_entries};
 use super::run_text::{write_run_finished, write_run_started};
-use super::settings::{Settings, counter_width_for, styles_for, theme_for};
-use super::status_line::{StatusLine, write_status_line};
+use super::settings::{Settings, counter_width_for, overrides_for, styles_for, theme_for};
+use super::test_finished::write_test_finished;
 use report_text::helpers::DisplayCounterIndex;
 use report_text::write_str::{WriteFault, WriteStr};
+use run_model::config::TestOutputDisplay;
 use run_model::event::{TestEvent, TestEventKind};
 use run_model::memory::OutOfMemory;
 use run_model::name::TestInstanceId;
 use run_model::output::LiveSpec;
 use run_model::run_id::ShortestRunIdPrefix;
-use run_model::status::{ExecutionDescription, ExecutionStatuses};
+use run_model::status::ExecutionStatuses;
+use run_model::stress::StressIndex;
 use std::alloc::{AllocError, Global};
 use unit_report::formatters::write_final_warnings;
+use unit_report::unit_output::UnitOutputReporter;
 
 /// Reports events to a writer.
 ///
@@ -80,6 +85,16 @@ impl DisplayReporterBuilder {
                     counter_width: counter_width_for(resolved.progress_display, self.run_count),
                     default_filter: self.default_filter,
                     theme_characters: theme_for(use_unicode),
+                    unit_output: UnitOutputReporter::new(
+                        overrides_for(
+                            self.display_config.no_capture,
+                            self.success_output,
+                            self.failure_output,
+                        ),
+                        self.displayer_kind,
+                        display_empty_outputs,
+                    ),
+                    no_output_indent: self.no_output_indent,
                 },
                 has_failed: false,
             },
@@ -242,45 +257,61 @@ impl<'a> ReporterState<'a> {
         match &event.kind {
             TestEventKind::RunStarted { .. } => Ok(()),
             TestEventKind::TestFinished {
+                stress_index,
                 test_instance,
+                success_output,
+                failure_output,
                 run_statuses,
                 current_stats,
-                ..
             } => {
                 let counter = self.settings.finished_counter(current_stats);
-                self.keep_test(counter, *test_instance, run_statuses)
+                let describe = run_statuses.describe();
+                let display = self
+                    .settings
+                    .display_of(*success_output, *failure_output, &describe);
+                self.keep_test(
+                    *stress_index,
+                    counter,
+                    *test_instance,
+                    display,
+                    run_statuses,
+                )
             }
             TestEventKind::RunFinished { .. } => Ok(()),
         }
     }
 
-    // Keeps a finished test where its final level is shown.
+    // Keeps a finished test where the summary lists it.
     fn keep_test(
         &mut self,
+        stress_index: Option<StressIndex>,
         counter: Option<DisplayCounterIndex>,
         instance: TestInstanceId<'a>,
+        display: TestOutputDisplay,
         run_statuses: &ExecutionStatuses<LiveSpec>,
     ) -> Result<(), OutOfMemory>
         ensures settings { self.new.settings ≡ self.old.settings }
         ensures prefix { self.new.unique_prefix ≡ self.old.unique_prefix }
         ensures works { self.new.has_failed ≡ self.old.has_failed }
-        ensures kept { OnOk result (self.new.kept.items ≡ self.old.kept.items ++ option_to_list (entry_if (is_kept self.old.settings 0 (summary_of run_statuses.now)) (record { counter = counter; instance = instance.entry; summary = summary_of run_statuses.now }))) }
-        ensures hidden { OnErr result (is_kept self.old.settings 0 (summary_of run_statuses.now) ≡ true) }
+        ensures kept { OnOk result (self.new.kept.items ≡ self.old.kept.items ++ option_to_list (finished_entry_if self.old.settings 0 stress_index counter instance.entry display run_statuses.now)) }
+        ensures hidden { OnErr result (is_kept self.old.settings 0 display (summary_of run_statuses.now) ≡ true) }
     {
-        let shown = self.settings.status_levels.final_status_level;
-        if !run_statuses
-            .describe()
-            .final_status_level()
-            .is_shown_at(shown)
-        {
+        let row = FinishRow::of_test(None, &run_statuses.last_status().result);
+        let is_wanted = self
+            .settings
+            .is_final_wanted(display, &run_statuses.describe());
+        if !row.keeps(is_wanted) {
             return Ok(());
         }
-        let summary = run_statuses.summary(self.alloc)?;
-        self.kept.push(KeptEntry {
+        let entry = KeptEntry::of_test(
+            self.alloc,
+            stress_index,
             counter,
             instance,
-            summary,
-        })?;
+            display,
+            run_statuses,
+        )?;
+        self.kept.push(entry)?;
         Ok(())
     }
 }
@@ -332,42 +363,31 @@ fn write_event_text<W: WriteStr>(
             profile_name,
         ),
         TestEventKind::TestFinished {
+            stress_index,
             test_instance,
+            success_output,
+            failure_output,
             run_statuses,
             current_stats,
-            ..
         } => {
             let counter = settings.finished_counter(current_stats);
             let describe = run_statuses.describe();
-            write_test_finished(w, settings, counter, *test_instance, &describe)
+            let display = settings.display_of(*success_output, *failure_output, &describe);
+            write_test_finished(
+                w,
+                settings,
+                *stress_index,
+                counter,
+                *test_instance,
+                display,
+                &describe,
+            )
         }
         TestEventKind::RunFinished { elapsed, run_stats } => {
             write_run_finished(w, settings, *elapsed, run_stats)?;
             write_listed(w, settings, &state.kept)?;
             write_final_warnings(settings.mode, run_stats.final_stats(), &settings.styles, w)
         }
-    }
-}
-
-// Writes the line of a finished test, where its level is shown.
-#[tactic(auto, unfolding(crate::specs::Report::test_finished_text))]
-fn write_test_finished<W: WriteStr>(
-    w: &mut W,
-    settings: &Settings,
-    counter: Option<DisplayCounterIndex>,
-    instance: TestInstanceId<'_>,
-    describe: &ExecutionDescription<'_, LiveSpec>,
-) -> Result<(), WriteFault>
-    ensures { Puts W.meaning w.old (test_finished_text settings.now counter instance.entry (described_summary describe.now)) result w.new }
-{
-    if describe
-        .status_level()
-        .is_shown_at(settings.status_levels.status_level)
-    {
-        let line = StatusLine::of_description(describe);
-        write_status_line(w, &settings.styles, false, counter, instance, line)
-    } else {
-        Ok(())
     }
 }
 

@@ -2,14 +2,15 @@
 
 ghost use Rattle.std.specs.Prelude.{◌≡◌};
 ghost use Rattle.report_text.specs.Styles.{styles_of};
-ghost use Rattle.console_reporter.specs.Configuration.{counter_width_of, theme_of};
+ghost use Rattle.console_reporter.specs.Configuration.{counter_width_of, overrides_by, theme_of};
 ghost use Rattle.console_reporter.specs.Counters.{finished_counter};
 
 use report_text::helpers::{DisplayCounterIndex, ThemeCharacters, decimal_char_width};
 use report_text::style::Styles;
-use run_model::config::{CompiledDefaultFilter, NextestRunMode};
+use run_model::config::{CompiledDefaultFilter, NextestRunMode, TestOutputDisplay};
 use run_model::stats::RunStats;
 use unit_report::config::{ProgressDisplay, StatusLevels};
+use unit_report::unit_output::{OutputDisplayOverrides, UnitOutputReporter};
 
 /// What a reporter goes by. It stays the same over all calls.
 #[derive(Debug, Drop)]
@@ -26,6 +27,10 @@ pub struct Settings {
     pub default_filter: CompiledDefaultFilter,
     /// The characters of bars.
     pub theme_characters: ThemeCharacters,
+    /// What shows the output of tests, and whose setting decides when.
+    pub unit_output: UnitOutputReporter,
+    /// Whether output stands at the beginning of its lines.
+    pub no_output_indent: bool,
 }
 
 impl Settings {
@@ -73,4 +78,28 @@ pub fn theme_for(use_unicode: bool) -> ThemeCharacters
         theme_characters.use_unicode();
     }
     theme_characters
+}
+
+/// Whose setting decides when the output of tests is shown. Without capture there is none to show, save why a test
+/// could not be started.
+pub fn overrides_for(
+    no_capture: bool,
+    success_output: Option<TestOutputDisplay>,
+    failure_output: Option<TestOutputDisplay>,
+) -> OutputDisplayOverrides
+    ensures { result ≡ overrides_by no_capture success_output failure_output }
+{
+    if no_capture {
+        OutputDisplayOverrides {
+            force_success_output: Some(TestOutputDisplay::Never),
+            force_failure_output: Some(TestOutputDisplay::Never),
+            force_exec_fail_output: Some(TestOutputDisplay::Immediate),
+        }
+    } else {
+        OutputDisplayOverrides {
+            force_success_output: success_output,
+            force_failure_output: failure_output,
+            force_exec_fail_output: failure_output,
+        }
+    }
 }

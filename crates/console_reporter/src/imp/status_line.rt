@@ -19,6 +19,7 @@ use run_model::status::{
     ExecutionDescription, ExecutionResultDescription, FlakyResult, RetryData, StatusCase,
     StatusSummary,
 };
+use run_model::stress::StressIndex;
 use run_model::time::Nanos;
 use unit_report::formatters::DisplayBracketedDuration;
 
@@ -75,15 +76,16 @@ pub fn write_status_line<W: WriteStr>(
     w: &mut W,
     styles: &Styles,
     is_final: bool,
+    stress_index: Option<StressIndex>,
     counter: Option<DisplayCounterIndex>,
     instance: TestInstanceId<'_>,
     line: StatusLine<'_>,
 ) -> Result<(), WriteFault>
-    ensures { Puts W.meaning w.old (status_line styles.now is_final counter instance.entry (shown_summary line.entry)) result w.new }
+    ensures { Puts W.meaning w.old (status_line styles.now is_final stress_index counter instance.entry (shown_summary line.entry)) result w.new }
 {
     write_status_prefix(w, styles, is_final, line)?;
     DisplayBracketedDuration(line.time_taken).write_to(w)?;
-    DisplayTestInstance::new(None, counter, instance, &styles.list_styles).write_to(w)?;
+    DisplayTestInstance::new(stress_index, counter, instance, &styles.list_styles).write_to(w)?;
     write_plain(w, "\n")?;
     write_abort_line(w, styles, line.result)?;
     write_flaky_failure_line(w, styles, is_final, line.case)

@@ -21,6 +21,8 @@ use std::io::{ErrorKind, Write};
 use std::test::Fail;
 use unit_report::config::{DisplayConfig, ShowProgress};
 
+mod outputs;
+
 // Three tests ran: one passed, one passed at its second attempt, one failed.
 const STATS: RunStats = RunStats {
     initial_run_count: 3,

@@ -1,8 +1,8 @@
 //! Outputs in memory.
 
 use super::{
-    ChildExecutionOutputDescription, ChildSingleOutput, ErrorChain, Highlight, HighlightStream,
-    RecordedOutput, RecordingSpec,
+    ChildExecutionOutputDescription, ChildOutputDescription, ChildSingleOutput, ErrorChain,
+    Highlight, HighlightStream, LiveSpec, RecordedOutput, RecordingSpec,
 };
 use crate::abort::DescriptionText;
 use crate::status::{ExecutionResultDescription, LeakTimeoutResult};
@@ -90,5 +90,34 @@ fn a_highlight_stands_in_one_stream(rt: HostRuntime) -> Result<(), Fail> {
     };
     assert_eq!(rt; part.start, 3);
     assert_eq!(rt; part.slice, b"panicked".as_slice());
+    Ok(())
+}
+
+#[test]
+fn a_copy_has_the_same_bytes(rt: HostRuntime) -> Result<(), Fail> {
+    let output: ChildExecutionOutputDescription<LiveSpec> =
+        ChildExecutionOutputDescription::Output {
+            result: Some(ExecutionResultDescription::ExecFail),
+            output: ChildOutputDescription::Combined {
+                output: ChildSingleOutput::new(Bytes::from_static(b"it panicked")),
+            },
+            errors: None,
+            highlight: Some(Highlight {
+                stream: HighlightStream::Combined,
+                start: 3,
+                slice: Bytes::from_static(b"panicked"),
+            }),
+        };
+    let copy = output.copy(rt.alloc())?;
+    let ChildExecutionOutputDescription::Output {
+        output: ChildOutputDescription::Combined { output },
+        highlight: Some(highlight),
+        ..
+    } = &copy
+    else {
+        return Err(Fail::from("it is the same form of output"));
+    };
+    assert_eq!(rt; output.as_bytes(), b"it panicked".as_slice());
+    assert_eq!(rt; highlight.slice.as_slice(), b"panicked".as_slice());
     Ok(())
 }

@@ -1,9 +1,10 @@
 //! Attempts, and what they come to.
 
 use super::{
-    ExecuteStatus, ExecutionResultDescription, ExecutionStatuses, FlakyResult, LeakTimeoutResult,
-    RetryData, SlowTimeoutResult,
+    ExecuteStatus, ExecutionResultDescription, ExecutionStatuses, FailureDescription, FlakyResult,
+    LeakTimeoutResult, RetryData, SlowTimeoutResult,
 };
+use crate::abort::{AbortDescription, DescriptionText};
 use crate::level::{FinalStatusLevel, StatusLevel};
 use crate::output::{ChildExecutionOutputDescription, ChildOutputDescription, LiveSpec};
 use crate::time::Nanos;
@@ -96,5 +97,31 @@ fn two_attempts_have_their_levels(rt: HostRuntime) -> Result<(), Fail> {
         attempts.push(attempt(2, leaky(), true))?;
         assert!(rt; levels(rt.alloc(), attempts, flaky_result)? == want);
     }
+    Ok(())
+}
+
+// A process that was ended by a signal of this name.
+fn ended_by(alloc: Global, name: &str) -> Result<ExecutionResultDescription, Fail> {
+    let abort = AbortDescription::UnixSignal {
+        signal: 11,
+        name: Some(DescriptionText::new(alloc, name)?),
+    };
+    Ok(ExecutionResultDescription::Fail {
+        failure: FailureDescription::Abort { abort },
+        leaked: true,
+    })
+}
+
+#[test]
+fn a_summary_tells_how_a_process_was_ended(rt: HostRuntime) -> Result<(), Fail> {
+    let alloc = rt.alloc();
+    let mut attempts = Vec::new(alloc);
+    attempts.push(attempt(1, ended_by(alloc, "SEGV")?, false))?;
+    let Some(statuses) = ExecutionStatuses::new(attempts, FlakyResult::Pass) else {
+        return Err(Fail::from("there is an attempt"));
+    };
+    let outcome = statuses.summary(alloc)?.result;
+    assert!(rt; outcome == ended_by(alloc, "SEGV")?);
+    assert!(rt; outcome != ended_by(alloc, "ABRT")?);
     Ok(())
 }

@@ -8,7 +8,7 @@ ghost use Rattle.report_text.specs.Lossy.{decoded_text};
 ghost use Rattle.report_text.specs.Writer.{Puts};
 ghost use Rattle.unit_report.specs.Captured.{captured};
 ghost use Rattle.unit_report.specs.ErrorChains.{error_chain_text};
-ghost use Rattle.unit_report.specs.UnitOutputs.{both_streams, child_output, errors_block, errors_text, execution_output, is_replay, not_captured, not_captured_text, present_stream, shown_stream, split_text, stream_text};
+ghost use Rattle.unit_report.specs.UnitOutputs.{both_streams, child_output, errors_block, errors_text, execution_output, is_replay, layout_of, not_captured, not_captured_text, present_stream, shown_stream, split_text, stream_text};
 
 use super::DisplayerKind;
 use super::captured::write_captured;
@@ -87,7 +87,7 @@ impl UnitOutputReporter {
         exec_output: &ChildExecutionOutputDescription<LiveSpec>,
         w: &mut W,
     ) -> Result<(), WriteFault>
-        ensures { Puts W.meaning w.old (execution_output self.now styles.now spec.now exec_output.now) result w.new }
+        ensures { Puts W.meaning w.old (execution_output self.now styles.now (layout_of spec.now) exec_output.now) result w.new }
     {
         match exec_output {
             ChildExecutionOutputDescription::Output {
@@ -121,7 +121,7 @@ impl UnitOutputReporter {
         highlight: Option<&Highlight>,
         w: &mut W,
     ) -> Result<(), WriteFault>
-        ensures { Puts W.meaning w.old (child_output self.now styles.now spec.now output.now (option_map (λ h. h.now) highlight.entry)) result w.new }
+        ensures { Puts W.meaning w.old (child_output self.now styles.now (layout_of spec.now) output.now (option_map (λ h. h.now) highlight.entry)) result w.new }
     {
         match output {
             ChildOutputDescription::Split { stdout, stderr } => {
@@ -145,7 +145,7 @@ impl UnitOutputReporter {
         stderr: &Option<ChildSingleOutput>,
         highlight: Option<&Highlight>,
     ) -> Result<(), WriteFault>
-        ensures { Puts W.meaning w.old (split_text self.now styles.now spec.now stdout.now stderr.now (option_map (λ h. h.now) highlight.entry)) result w.new }
+        ensures { Puts W.meaning w.old (split_text self.now styles.now (layout_of spec.now) stdout.now stderr.now (option_map (λ h. h.now) highlight.entry)) result w.new }
     {
         match (stdout, stderr) {
             (None, None) if self.displayer_kind == DisplayerKind::Replay => {
@@ -166,7 +166,7 @@ impl UnitOutputReporter {
         stderr: &Option<ChildSingleOutput>,
         highlight: Option<&Highlight>,
     ) -> Result<(), WriteFault>
-        ensures { Puts W.meaning w.old (both_streams self.now styles.now spec.now stdout.now stderr.now (option_map (λ h. h.now) highlight.entry)) result w.new }
+        ensures { Puts W.meaning w.old (both_streams self.now styles.now (layout_of spec.now) stdout.now stderr.now (option_map (λ h. h.now) highlight.entry)) result w.new }
     {
         let part = stdout_subslice(highlight);
         self.write_stream(
@@ -298,7 +298,7 @@ fn write_errors<W: WriteStr>(
     spec: &ChildOutputSpec,
     errors: &Option<ErrorChain>,
 ) -> Result<(), WriteFault>
-    ensures { Puts W.meaning w.old (errors_text spec.now errors.now) result w.new }
+    ensures { Puts W.meaning w.old (errors_text (layout_of spec.now) errors.now) result w.new }
 {
     match errors {
         None => Ok(()),
@@ -313,7 +313,7 @@ fn write_errors_block<W: WriteStr>(
     spec: &ChildOutputSpec,
     chain: &ErrorChain,
 ) -> Result<(), WriteFault>
-    ensures { Puts W.meaning w.old (errors_block spec.now chain.now) result w.new }
+    ensures { Puts W.meaning w.old (errors_block (layout_of spec.now) chain.now) result w.new }
 {
     spec.exec_fail_header.write_to(w)?;
     write_plain(w, "\n")?;

@@ -2,7 +2,8 @@ use Rattle.std.proofs.Common.{◌≡◌, ◌++◌, chars, length}
 use denote.Text.{Utf8}
 use denote.Shadow.{shadow}
 use Rattle.report_text.specs.EndLine.{without_end_line, ends_in_line_feed, held}
-use Rattle.report_text.specs.Stripped.{visible_from, mode_through}
+use Rattle.report_text.specs.Scanner.{modes_after}
+use Rattle.report_text.specs.Stripped.{visible_from}
 use Rattle.report_text.specs.Writer.{Owes}
 use Rattle.report_text.proofs.stripped.StrippedPieces.write.Given as goal
 
@@ -14,7 +15,7 @@ invariant-loop-mode g l = record {
       l.w (without_end_line (held l.self.end_line.is_held ++ visible_from l.self.mode (chars l.rest)));
   held : ends_in_line_feed (held l.self.end_line.is_held ++ visible_from l.self.mode (chars l.rest))
       ≡ ends_in_line_feed (held l.fn.self.end_line.is_held ++ visible_from l.fn.self.mode (chars l.fn.piece));
-  mode : mode_through l.self.mode (chars l.rest) ≡ mode_through l.fn.self.mode (chars l.fn.piece);
+  mode : modes_after l.self.mode (chars l.rest) ≡ modes_after l.fn.self.mode (chars l.fn.piece);
 }
 
 abbrev pub decreases-loop-mode : goal.decreases-loop-mode

@@ -1,4 +1,5 @@
-use Rattle.std.proofs.Common.{sym, append-nil}
+use Rattle.std.proofs.Common.{ap₂, sym, append-nil}
+use Rattle.run_model.specs.Statuses.{summary_by}
 use Rattle.console_reporter.specs.Entries.{entry_of}
 use Rattle.console_reporter.proofs.imp.reporter.ReporterState.keep.Goals as goal
 
@@ -8,7 +9,9 @@ returns-in-RunStarted-clause-kept c = rw c.in-RunStarted.is (sym (append-nil c.a
 
 pub returns-in-TestFinished-clause-kept : goal.returns-in-TestFinished-clause-kept
 unfolding entry_of
-returns-in-TestFinished-clause-kept c = rw c.in-TestFinished.is (rw c.finished_counter-counter.ensures at c.keep_test.ensures.kept)
+returns-in-TestFinished-clause-kept c =
+    let same = ap₂ (λ x y. summary_by x y) c.describe-describe.ensures.case c.describe-describe.ensures.last in
+    rw c.in-TestFinished.is (rw (c.finished_counter-counter.ensures, c.display_of-display.ensures, same) at c.keep_test.ensures.kept)
 
 pub returns-in-RunFinished-clause-kept : goal.returns-in-RunFinished-clause-kept
 unfolding entry_of

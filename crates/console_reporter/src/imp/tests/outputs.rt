@@ -1,0 +1,88 @@
+//! Reports with the output of a test.
+
+use super::{STATS, attempt, failed, printed, run_finished};
+use crate::imp::ReportCall;
+use bytes::Bytes;
+use run_model::config::TestOutputDisplay;
+use run_model::event::{TestEvent, TestEventKind};
+use run_model::name::{RustBinaryId, TestCaseName, TestInstanceId};
+use run_model::output::{
+    ChildExecutionOutputDescription, ChildOutputDescription, ChildSingleOutput, LiveSpec,
+};
+use run_model::status::{
+    ExecuteStatus, ExecutionResultDescription, ExecutionStatuses, FlakyResult,
+};
+use run_model::time::Nanos;
+use std::alloc::Global;
+use std::test::Fail;
+
+const OUTPUT: &str = "  output ---
+    boom
+
+    (test failed with exit code 1)
+
+";
+
+const SUMMARY: &str = "------------
+     Summary [   3.000s] 3 tests run: 2 passed (1 flaky), 1 failed, 0 skipped
+        FAIL [   1.000s] a t1
+";
+
+// An attempt that ended so after it wrote a line.
+fn attempt_with_output(outcome: ExecutionResultDescription) -> ExecuteStatus<LiveSpec> {
+    let mut status = attempt(1, 1, outcome);
+    status.output = ChildExecutionOutputDescription::Output {
+        result: None,
+        output: ChildOutputDescription::Combined {
+            output: ChildSingleOutput::new(Bytes::from_static(b"boom\n")),
+        },
+        errors: None,
+        highlight: None,
+    };
+    status
+}
+
+// The report of a test that failed and asks for this display, and of the end of its run. No line is shown at once.
+fn report_of_failure(alloc: Global, display: TestOutputDisplay) -> Result<String, Fail> {
+    let binary_id = RustBinaryId::new(alloc, "a")?;
+    let test_name = TestCaseName::new(alloc, "t1")?;
+    let mut statuses = Vec::new(alloc);
+    statuses.push(attempt_with_output(failed()))?;
+    let Some(run_statuses) = ExecutionStatuses::new(statuses, FlakyResult::Pass) else {
+        return Err(Fail::from("there is an attempt"));
+    };
+    let finished = ReportCall::Event(TestEvent {
+        elapsed: Nanos(0),
+        kind: TestEventKind::TestFinished {
+            stress_index: None,
+            test_instance: TestInstanceId {
+                binary_id: &binary_id,
+                test_name: &test_name,
+            },
+            success_output: TestOutputDisplay::Never,
+            failure_output: display,
+            run_statuses,
+            current_stats: STATS,
+        },
+    });
+    printed(alloc, [finished, run_finished()].as_slice())
+}
+
+#[test]
+fn an_output_is_shown_where_its_display_says(rt: HostRuntime) -> Result<(), Fail> {
+    let alloc = rt.alloc();
+    for (display, at_once, at_end) in [
+        (TestOutputDisplay::Immediate, OUTPUT, ""),
+        (TestOutputDisplay::ImmediateFinal, OUTPUT, OUTPUT),
+        (TestOutputDisplay::Final, "", OUTPUT),
+        (TestOutputDisplay::Never, "", ""),
+    ] {
+        let report = report_of_failure(alloc, display)?;
+        let mut want = String::new(alloc);
+        want.push_str(at_once)?;
+        want.push_str(SUMMARY)?;
+        want.push_str(at_end)?;
+        assert_eq!(rt; report.as_str(), want.as_str());
+    }
+    Ok(())
+}
