@@ -1,10 +1,11 @@
 -- Where a text is cut at a byte.
-use Rattle.std.proofs.Common.{◌≡◌, ℕ, zero, suc, ◌+◌, ◌<◌, ◌≤◌, List, [], ◌∷◌, ◌++◌, Bool, true, false, length, get_or, take, drop, refl, ap, sym, ◌∙◌, ◌==◌, arith, inl, inr, add-one}
+use Rattle.std.proofs.Common.{◌≡◌, ℕ, zero, suc, ◌+◌, ◌<◌, ◌≤◌, List, [], ◌∷◌, ◌++◌, Bool, true, false, length, get_or, take, drop, refl, ap, sym, ◌∙◌, ◌==◌, None, Some, arith, inl, inr, add-one}
 use Rattle.std.proofs.Math.Seq.{drop-cons}
 use Rattle.std.proofs.lemmas.List.{take-append-drop}
 use Rattle.std.proofs.lemmas.Bool.{cases_Bool}
 use Rattle.std.proofs.lemmas.Bool.Decides.{nat_tests}
 use Rattle.memchr.specs.Find.{is_byte, Nowhere, NoneBefore, Passes}
+use Rattle.report.specs.Cuts.{cut}
 use Rattle.report.specs.Texts.{Lacks}
 
 is_false : (x : Bool) → ¬ (x ≡ true) → x ≡ false
@@ -28,3 +29,18 @@ cut_at b t k first here =
     let is_b : get_or t k 0 ≡ b = grind (arith, nat_tests, here) in
     let back : drop k t ≡ b ∷ drop (k + 1) t = drop-cons t k 0 within ∙ rw (is_b, add-one) refl in
     (Lacks-take b t k (omega arith) first.before, sym (take-append-drop k t) ∙ ap (λ u. take k t ++ u) back)
+
+-- a text without the byte is not cut
+pub cut-lacks : (b : ℕ) (t : List ℕ) → Lacks b t → None ≡ cut b t
+unfolding cut
+cut-lacks b [] h = refl
+cut-lacks b (c ∷ t) h = let e = sym (cut-lacks b t h.1) in rw (h.0, e) refl
+
+is_itself : (b : ℕ) → (b == b) ≡ true
+is_itself b = grind (arith, nat_tests)
+
+-- and one that has it is cut at the first one
+pub cut-parts : (b : ℕ) (x y : List ℕ) → Lacks b x → cut b (x ++ (b ∷ y)) ≡ Some (x, y)
+unfolding cut
+cut-parts b [] y h = rw (is_itself b) refl
+cut-parts b (c ∷ x) y h = let e = cut-parts b x y h.1 in rw (h.0, e) refl

@@ -1,5 +1,5 @@
 -- What a text stands for, step by step.
-use Rattle.std.proofs.Common.{◌≡◌, ℕ, zero, suc, List, [], ◌∷◌, ◌++◌, Bool, true, false, drop, refl, ap, sym, ◌∙◌, append_assoc, Option, Some, None, MatchOption}
+use Rattle.std.proofs.Common.{◌≡◌, ℕ, zero, suc, List, [], ◌∷◌, ◌++◌, false, drop, refl, ap, sym, ◌∙◌, append_assoc, Option, Some, None, MatchOption}
 use Rattle.std.specs.Borrow.{Bor}
 use Rattle.std.specs.Option.{option_map, is_some}
 use Rattle.report.specs.Texts.{IsPlain, escape_byte, escape_len, prepended, unescaped_after, unescaped, AddsStretch}
@@ -18,10 +18,6 @@ map_nothing (Some t) = refl
 map_twice : (a b : List ℕ) (o : Option (List ℕ)) → option_map (λ t. a ++ t) (option_map (λ t. b ++ t) o) ≡ option_map (λ t. (a ++ b) ++ t) o
 map_twice a b None = refl
 map_twice a b (Some t) = ap (λ x. Some x) (sym (append_assoc a b t))
-
-is_some-map : (a : List ℕ) (o : Option (List ℕ)) → is_some (option_map (λ t. a ++ t) o) ≡ is_some o
-is_some-map a None = refl
-is_some-map a (Some t) = refl
 
 -- what is plain stands for itself
 plain_before : (most : ℕ) (p t : List ℕ) → IsPlain p → unescaped most (p ++ t) ≡ option_map (λ u. p ++ u) (unescaped most t)
@@ -52,43 +48,29 @@ stop most plain escape h e =
     plain_before most plain (92 ∷ escape) h ∙ ap (λ o. option_map (λ t. plain ++ t) o) f
 
 -- text was read, and the rest is still to come
-module _ (whole : Option (List ℕ)) (text rest : List ℕ) (so_far : whole ≡ option_map (λ t. text ++ t) (unescaped 127 rest)) where
-  read_escape_next : (b : ℕ) (plain escape after : List ℕ) → rest ≡ plain ++ (92 ∷ escape) → IsPlain plain → escape_byte 127 escape ≡ Some b → after ≡ drop (escape_len escape) escape → whole ≡ option_map (λ t. ((text ++ plain) ++ (b ∷ [])) ++ t) (unescaped 127 after)
+module _ (most : ℕ) (whole : Option (List ℕ)) (text rest : List ℕ) (so_far : whole ≡ option_map (λ t. text ++ t) (unescaped most rest)) where
+  pub read_escape_next : (b : ℕ) (plain escape after : List ℕ) → rest ≡ plain ++ (92 ∷ escape) → IsPlain plain → escape_byte most escape ≡ Some b → after ≡ drop (escape_len escape) escape → whole ≡ option_map (λ t. ((text ++ plain) ++ (b ∷ [])) ++ t) (unescaped most after)
   read_escape_next b plain escape after r h e a =
       so_far
-      ∙ ap (λ x. option_map (λ t. text ++ t) (unescaped 127 x)) r
-      ∙ ap (λ o. option_map (λ t. text ++ t) o) (step 127 b plain escape after h e a)
-      ∙ map_twice text (plain ++ (b ∷ [])) (unescaped 127 after)
-      ∙ ap (λ x. option_map (λ t. x ++ t) (unescaped 127 after)) (sym (append_assoc text plain (b ∷ [])))
+      ∙ ap (λ x. option_map (λ t. text ++ t) (unescaped most x)) r
+      ∙ ap (λ o. option_map (λ t. text ++ t) o) (step most b plain escape after h e a)
+      ∙ map_twice text (plain ++ (b ∷ [])) (unescaped most after)
+      ∙ ap (λ x. option_map (λ t. x ++ t) (unescaped most after)) (sym (append_assoc text plain (b ∷ [])))
 
-  pub read_stretch : (plain escape new : List ℕ) (after : Bor (List ℕ)) → rest ≡ plain ++ (92 ∷ escape) → IsPlain plain → AddsStretch text plain escape new after → whole ≡ option_map (λ t. new ++ t) (unescaped 127 after.now)
-  read_stretch plain escape new after r h f =
-      read_escape_next f.byte plain escape after.now r h f.gives f.follows
-      ∙ ap (λ x. option_map (λ t. x ++ t) (unescaped 127 after.now)) (sym f.grown)
-
-  pub read_bad_escape : (plain escape : List ℕ) → rest ≡ plain ++ (92 ∷ escape) → IsPlain plain → escape_byte 127 escape ≡ None → whole ≡ None
+  pub read_bad_escape : (plain escape : List ℕ) → rest ≡ plain ++ (92 ∷ escape) → IsPlain plain → escape_byte most escape ≡ None → whole ≡ None
   read_bad_escape plain escape r h e =
       so_far
-      ∙ ap (λ x. option_map (λ t. text ++ t) (unescaped 127 x)) r
-      ∙ ap (λ o. option_map (λ t. text ++ t) o) (stop 127 plain escape h e)
+      ∙ ap (λ x. option_map (λ t. text ++ t) (unescaped most x)) r
+      ∙ ap (λ o. option_map (λ t. text ++ t) o) (stop most plain escape h e)
 
   pub read_to_end : IsPlain rest → whole ≡ Some (text ++ rest)
-  read_to_end h = so_far ∙ ap (λ o. option_map (λ t. text ++ t) o) (plain_alone 127 rest h)
+  read_to_end h = so_far ∙ ap (λ o. option_map (λ t. text ++ t) o) (plain_alone most rest h)
 
--- the same of a text that is only looked at
-module _ (most : ℕ) (whole : Bool) (rest : List ℕ) (so_far : whole ≡ is_some (unescaped most rest)) where
-  pub saw_escape : (b : ℕ) (plain escape after : List ℕ) → rest ≡ plain ++ (92 ∷ escape) → IsPlain plain → escape_byte most escape ≡ Some b → after ≡ drop (escape_len escape) escape → whole ≡ is_some (unescaped most after)
-  saw_escape b plain escape after r h e a =
-      so_far
-      ∙ ap (λ x. is_some (unescaped most x)) r
-      ∙ ap (λ o. is_some o) (step most b plain escape after h e a)
-      ∙ is_some-map (plain ++ (b ∷ [])) (unescaped most after)
-
-  pub saw_bad_escape : (plain escape : List ℕ) → rest ≡ plain ++ (92 ∷ escape) → IsPlain plain → escape_byte most escape ≡ None → whole ≡ false
-  saw_bad_escape plain escape r h e = so_far ∙ ap (λ x. is_some (unescaped most x)) r ∙ ap (λ o. is_some o) (stop most plain escape h e)
-
-  pub saw_end : IsPlain rest → whole ≡ true
-  saw_end h = so_far ∙ ap (λ o. is_some o) (plain_alone most rest h)
+-- the same of a stretch of a text
+pub read_stretch : (whole : Option (List ℕ)) (text rest : List ℕ) → whole ≡ option_map (λ t. text ++ t) (unescaped 127 rest) → (plain escape new : List ℕ) (after : Bor (List ℕ)) → rest ≡ plain ++ (92 ∷ escape) → IsPlain plain → AddsStretch text plain escape new after → whole ≡ option_map (λ t. new ++ t) (unescaped 127 after.now)
+read_stretch whole text rest so_far plain escape new after r h f =
+    read_escape_next 127 whole text rest so_far f.byte plain escape after.now r h f.gives f.follows
+    ∙ ap (λ x. option_map (λ t. x ++ t) (unescaped 127 after.now)) (sym f.grown)
 
 -- a text with no escape
 pub plain_text : (most : ℕ) (t : List ℕ) → IsPlain t → Some t ≡ unescaped most t

@@ -1,6 +1,11 @@
+pub mod Configs
+pub mod Cuts
 pub mod Faults
+pub mod Lists
 pub mod Numbers
+pub mod Outputs
 pub mod Reports
+pub mod Results
 pub mod Scenes
 pub mod Texts
 pub mod Values

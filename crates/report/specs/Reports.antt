@@ -1,12 +1,13 @@
 -- What the program writes of a scene.
-use Rattle.std.specs.Prelude.{◌≡◌, ℕ, List, reverse, false, if◌then◌else◌, Option, None, codes}
+use Rattle.std.specs.Prelude.{◌≡◌, ℕ, List, reverse, false, if◌then◌else◌, Option, codes}
 use Rattle.std.specs.Io.KnownBytes.{Appends}
 use Rattle.std.specs.List.{AllZip}
 use Rattle.run_model.specs.declared.config.CompiledDefaultFilterSection.TheVariants.{Profile}
 use Rattle.unit_report.specs.Levels.{overridden}
 use Rattle.unit_report.specs.declared.config.ShowProgress.{ShowProgress}
 use Rattle.unit_report.specs.declared.config.ShowProgress.TheVariants as progress
-use Rattle.unit_report.specs.declared.unit_output.DisplayerKind.TheVariants.{Live}
+use Rattle.unit_report.specs.declared.unit_output.DisplayerKind.{DisplayerKind}
+use Rattle.unit_report.specs.declared.unit_output.DisplayerKind.TheVariants as displayer
 use Rattle.report_text.specs.Words.{Text}
 use Rattle.report_text.specs.Writer.{Meaning}
 use Rattle.console_reporter.specs.Configuration.{Configuration, configured}
@@ -30,24 +31,28 @@ AreCallsOf scene calls = AllZip IsCallOf scene.events.items calls
 abbrev pub progress_for : Options → ShowProgress
 progress_for options = if options.show_counter then progress.Counter else progress.None
 
+-- a recorded run, or one that goes on
+abbrev pub kind_for : Options → DisplayerKind
+kind_for options = if options.is_replay then displayer.Replay else displayer.Live
+
 -- what a scene's reporter is built from; the default filter is the default profile's own
 abbrev pub builder_for : Options → Scene → DisplayReporterBuilder
 builder_for options scene = record {
   mode = scene.config.mode;
   default_filter = record { profile = codes "default"; section = Profile };
-  display_config = overridden (progress_for options) false options.status_level scene.config.final_status_level;
+  display_config = overridden (progress_for options) scene.config.no_capture options.status_level scene.config.final_status_level;
   run_count = scene.config.run_count;
-  success_output = None;
-  failure_output = None;
+  success_output = scene.config.success_output;
+  failure_output = scene.config.failure_output;
   should_colorize = options.should_colorize;
   verbose = false;
-  no_output_indent = false;
-  displayer_kind = Live;
+  no_output_indent = scene.config.no_output_indent;
+  displayer_kind = kind_for options;
 }
 
--- the same without Unicode, terminal, CI and empty outputs
+-- the same with what the scene says of Unicode and of empty outputs, and without terminal and CI
 abbrev pub configuration_for : Options → Scene → Configuration
-configuration_for options scene = configured (builder_for options scene) false false false false
+configuration_for options scene = configured (builder_for options scene) scene.config.use_unicode false false scene.config.display_empty_outputs
 
 -- the report of a scene whose calls are these
 abbrev pub report_of : Options → Scene → List ReportCall → Text

@@ -1,6 +1,5 @@
 -- What a scene asks of a reporter.
-use Rattle.std.specs.Prelude.{◌≡◌, [], None}
-use Rattle.run_model.specs.declared.config.TestOutputDisplay.TheVariants as display
+use Rattle.std.specs.Prelude.{◌≡◌}
 use Rattle.run_model.specs.declared.event.TestEventKind.{TestEventKind}
 use Rattle.run_model.specs.declared.event.TestEventKind.TheVariants as kind
 use Rattle.run_model.specs.declared.stats.RunFinishedStats.TheVariants.{Single}
@@ -12,8 +11,8 @@ use Rattle.report.specs.declared.scene.SceneEvent.TheVariants as scene
 -- a reporter's event says what a scene's does
 abbrev pub SaysSame : SceneEvent → TestEventKind → Type 0
 SaysSame (scene.RunStarted id profile counts) (kind.RunStarted test_list run_id profile_name) = (test_list ≡ counts) × (run_id ≡ id) × (profile_name ≡ profile)
-SaysSame (scene.TestFinished binary name status flaky stats) (kind.TestFinished stress test success failure statuses current_stats) =
-    (stress ≡ None) × (success ≡ display.Never) × (failure ≡ display.Never) × (test.binary_id.now ≡ binary) × (test.test_name.now ≡ name) × (statuses ≡ record { earlier = []; last = status; flaky_result = flaky }) × (current_stats ≡ stats)
+SaysSame (scene.TestFinished index binary name on_success on_failure earlier last flaky stats) (kind.TestFinished stress test success failure statuses current_stats) =
+    (stress ≡ index) × (success ≡ on_success) × (failure ≡ on_failure) × (test.binary_id.now ≡ binary) × (test.test_name.now ≡ name) × (statuses ≡ record { earlier = earlier.items; last = last; flaky_result = flaky }) × (current_stats ≡ stats)
 SaysSame (scene.RunFinished time stats) (kind.RunFinished elapsed run_stats) = (elapsed ≡ time) × (run_stats ≡ Single stats)
 SaysSame event other = ⊥
 

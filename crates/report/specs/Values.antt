@@ -1,14 +1,14 @@
 -- The words that stand for values in a scene.
-use Rattle.std.specs.Prelude.{◌≡◌, ◌≢◌, ℕ, List, Bool, true, false, codes, ◌++◌, Option, MatchOption}
-use Rattle.std.specs.Str.Parse.{signed_digits_value}
-use Rattle.run_model.specs.declared.status.ExecutionResultDescription.{ExecutionResultDescription}
-use Rattle.run_model.specs.declared.status.ExecutionResultDescription.TheVariants as outcome
-use Rattle.run_model.specs.declared.status.FailureDescription.TheVariants as failure
-use Rattle.report.specs.Numbers.{IsSigned}
+use Rattle.std.specs.Prelude.{◌≡◌, ◌≢◌, ◌<◌, ◌^◌, ℕ, List, Bool, true, false, codes, Option, None, Some, MatchOption}
+use Rattle.std.specs.Int.NonZero.{non_zero_u32_get}
+use Rattle.std.specs.Str.Parse.{IsNumeral, digits_value}
+use Rattle.std.specs.declared.num.NonZeroU32.{NonZeroU32}
+use Rattle.run_model.specs.declared.status.FlakyResult.{FlakyResult}
+use Rattle.run_model.specs.declared.status.FlakyResult.TheVariants as flaky
+use Rattle.run_model.specs.declared.stress.StressIndex.{StressIndex}
+use Rattle.report.specs.Cuts.{cut}
 use Rattle.report.specs.declared.reader.values.ConfigKey.{ConfigKey}
 use Rattle.report.specs.declared.reader.values.ConfigKey.TheVariants as key
-use Rattle.report.specs.declared.reader.values.OutputForm.{OutputForm}
-use Rattle.report.specs.declared.reader.values.OutputForm.TheVariants as form
 use Rattle.run_model.specs.declared.config.NextestRunMode.{NextestRunMode}
 use Rattle.run_model.specs.declared.config.NextestRunMode.TheVariants as mode
 use Rattle.run_model.specs.declared.level.FinalStatusLevel.{FinalStatusLevel}
@@ -24,27 +24,42 @@ Reads {V} is_written t r = MatchOption r ((v : V) → ¬ (is_written v t)) (λ v
 abbrev pub ReadsWord : {V : Type 0} → (V → List ℕ) → List ℕ → Option V → Type 0
 ReadsWord {V} word t r = MatchOption r ((v : V) → t ≢ word v) (λ v. t ≡ word v)
 
--- this value where the text is this word, and else None
-abbrev pub ReadsOnly : {V : Type 0} → V → List ℕ → List ℕ → Option V → Type 0
-ReadsOnly v word t r = MatchOption r (t ≢ word) (λ w. (w ≡ v) × (t ≡ word))
+-- a number of 32 bits without a sign
+abbrev pub IsSmall : ℕ → List ℕ → Type 0
+IsSmall n t = IsNumeral 10 t × (digits_value 10 t < 2 ^ 32) × (n ≡ digits_value 10 t)
 
--- a result is written as `pass`, or as `fail:` and an exit code
-abbrev pub IsResultText : ExecutionResultDescription → List ℕ → Type 0
-IsResultText outcome.Pass t = t ≡ codes "pass"
-IsResultText (outcome.Fail (failure.ExitCode code) false) t = (digits : List ℕ) × (t ≡ codes "fail:" ++ digits) × IsSigned digits × (code ≡ signed_digits_value 10 digits)
-IsResultText other t = ⊥
+abbrev pub IsTotal : Option NonZeroU32 → List ℕ → Type 0
+IsTotal None t = ⊥
+IsTotal (Some n) t = (0 < digits_value 10 t) × IsSmall (non_zero_u32_get n) t
+
+abbrev pub IsStressIn : Option StressIndex → List ℕ → Option (List ℕ × List ℕ) → Type 0
+IsStressIn None t None = t ≡ codes "-"
+IsStressIn None t (Some x) = ⊥
+IsStressIn (Some i) t None = (i.total ≡ None) × IsSmall i.current t
+IsStressIn (Some i) t (Some x) = IsSmall i.current x.0 × IsTotal i.total x.1
+
+-- an iteration is written as its number, perhaps with a slash and how many there are, or as `-`
+abbrev pub IsStressText : Option StressIndex → List ℕ → Type 0
+IsStressText i t = IsStressIn i t (cut 47 t)
 
 abbrev pub config_key_word : ConfigKey → List ℕ
 config_key_word key.Final = codes "final"
 config_key_word key.Runs = codes "runs"
 config_key_word key.Bench = codes "bench"
-
-abbrev pub output_form_word : OutputForm → List ℕ
-output_form_word form.Split = codes "split"
+config_key_word key.Success = codes "success"
+config_key_word key.Failure = codes "failure"
+config_key_word key.NoCapture = codes "nocapture"
+config_key_word key.NoIndent = codes "noindent"
+config_key_word key.Unicode = codes "unicode"
+config_key_word key.Empty = codes "empty"
 
 abbrev pub flag_word : Bool → List ℕ
 flag_word false = codes "0"
 flag_word true = codes "1"
+
+abbrev pub flaky_word : FlakyResult → List ℕ
+flaky_word flaky.Pass = codes "pass"
+flaky_word flaky.Fail = codes "fail"
 
 abbrev pub mode_word : NextestRunMode → List ℕ
 mode_word mode.Test = codes "0"

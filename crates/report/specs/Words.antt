@@ -20,6 +20,8 @@ pub record Asked : Type 0 where
   pub should_colorize : Bool
   -- each line of a test has a counter
   pub show_counter : Bool
+  -- the run was recorded, and is shown again
+  pub is_replay : Bool
   -- from which status level on the lines of tests are shown
   pub status_level : StatusLevel
   -- the file that holds the scene
@@ -30,20 +32,22 @@ abbrev pub asked_of : Given → Text → Asked
 asked_of given file = record {
   should_colorize = given.color;
   show_counter = given.counter;
+  is_replay = given.replay;
   status_level = unwrap_or given.level status.Pass;
   file = file;
 }
 
 -- no option
 abbrev pub none_given : Given
-none_given = record { color = false; counter = false; level = None }
+none_given = record { color = false; counter = false; replay = false; level = None }
 
 -- these options and a flag, if it is one and was not there before
 abbrev pub with_flag : Given → Text → Option Given
 with_flag given flag =
-    if bytes_eq flag (codes "--color") && not given.color then Some (record { color = true; counter = given.counter; level = given.level })
-    else (if bytes_eq flag (codes "--counter") && not given.counter then Some (record { color = given.color; counter = true; level = given.level })
-    else None)
+    if bytes_eq flag (codes "--color") && not given.color then Some (record given { color = true })
+    else (if bytes_eq flag (codes "--counter") && not given.counter then Some (record given { counter = true })
+    else (if bytes_eq flag (codes "--replay") && not given.replay then Some (record given { replay = true })
+    else None))
 
 -- the status level of a word
 abbrev pub level_of : Text → Option StatusLevel
@@ -62,7 +66,7 @@ level_of word =
 abbrev pub with_level : Given → Text → Option Given
 with_level given word =
     if is_some given.level then None
-    else option_map (λ level. record { color = given.color; counter = given.counter; level = Some level }) (level_of word)
+    else option_map (λ level. record given { level = Some level }) (level_of word)
 
 -- what words ask for after these options, if they are used rightly: the last one is the file, and a level follows `--level`
 unfoldable pub options_after : Given → List Text → Option Asked
@@ -81,6 +85,7 @@ abbrev pub asked_for : Options → Asked
 asked_for o = record {
   should_colorize = o.should_colorize;
   show_counter = o.show_counter;
+  is_replay = o.is_replay;
   status_level = o.status_level;
   file = o.file.now;
 }

@@ -2,7 +2,7 @@
 
 ghost use Rattle.std.specs.Prelude.{◌≡◌, ◌⊎◌, IfOk, IfErr, OnOk};
 ghost use Rattle.report.specs.Faults.{IsJudgeFault, status_of};
-ghost use Rattle.report.specs.Reports.{AcceptsReport, PrintsReport, IsRefused, StopsReport, builder_for, fault_for, progress_for};
+ghost use Rattle.report.specs.Reports.{AcceptsReport, PrintsReport, IsRefused, StopsReport, builder_for, fault_for, kind_for, progress_for};
 ghost use Rattle.report.specs.declared.fault.Fault.{Fault};
 
 use crate::fault::Fault;
@@ -85,15 +85,15 @@ pub fn report_to<W: WriteStr>(
 {
     let calls = scene.calls(alloc, options)?;
     let builder = builder_of(alloc, options, scene)?;
-    let (use_unicode, is_terminal, is_ci, display_empty_outputs) = (false, false, false, false);
+    let (is_terminal, is_ci) = (false, false);
     match run_report(
         alloc,
         builder,
         writer,
-        use_unicode,
+        scene.config.use_unicode,
         is_terminal,
         is_ci,
-        display_empty_outputs,
+        scene.config.display_empty_outputs,
         calls.as_slice(),
     ) {
         Ok(()) => Ok(()),
@@ -118,17 +118,17 @@ fn builder_of(
         },
         display_config: DisplayConfig::with_overrides(
             progress_for(options),
-            false,
+            scene.config.no_capture,
             options.status_level,
             scene.config.final_status_level,
         ),
         run_count: scene.config.run_count,
-        success_output: None,
-        failure_output: None,
+        success_output: scene.config.success_output,
+        failure_output: scene.config.failure_output,
         should_colorize: options.should_colorize,
         verbose: false,
-        no_output_indent: false,
-        displayer_kind: DisplayerKind::Live,
+        no_output_indent: scene.config.no_output_indent,
+        displayer_kind: kind_for(options),
     })
 }
 
@@ -140,6 +140,17 @@ fn progress_for(options: &Options<'_>) -> ShowProgress
         ShowProgress::Counter
     } else {
         ShowProgress::None
+    }
+}
+
+// A recorded run, or one that goes on.
+fn kind_for(options: &Options<'_>) -> DisplayerKind
+    ensures { result ≡ kind_for options.now }
+{
+    if options.is_replay {
+        DisplayerKind::Replay
+    } else {
+        DisplayerKind::Live
     }
 }
 

@@ -2,7 +2,9 @@
 //!
 //! A scene is lines of fields that are parted by tabs. The first field names an event, and what follows it is read by
 //! the kind of the event. Each module knows one thing: `lines` which kinds there are and what fields they have, `values`
-//! what each field may hold, `counts` the counts of a field that has several, `fields` how a line is taken apart, and `texts` and `numbers` how those are written.
+//! what each field may hold, `counts` the counts of a field that has several, `results` how an attempt ended, `outputs`
+//! what it wrote, `lists` lists of words, `fields` how a line is taken apart, and `split`, `texts` and `numbers` how those
+//! are written.
 
 ghost use Rattle.std.specs.Prelude.{IfErr};
 ghost use Rattle.report.specs.Faults.{IsSceneFault};
@@ -10,7 +12,10 @@ ghost use Rattle.report.specs.Faults.{IsSceneFault};
 mod counts;
 mod fields;
 mod lines;
+mod lists;
 mod numbers;
+mod outputs;
+mod results;
 mod split;
 mod texts;
 mod values;
@@ -20,8 +25,6 @@ use crate::scene::{Scene, SceneConfig};
 use bstr::ByteSlice;
 use fields::Fields;
 use lines::{LineKind, read_config, read_done, read_end, read_run};
-use run_model::config::NextestRunMode;
-use run_model::level::FinalStatusLevel;
 use std::alloc::Global;
 
 /// Reads a scene. Its lines end in line feeds, which the last may lack; empty lines and lines that begin with `#` are
@@ -33,13 +36,8 @@ use std::alloc::Global;
 pub fn read_scene(alloc: Global, text: &[u8]) -> Result<Scene, Fault<'static>>
     ensures { IfErr result IsSceneFault }
 {
-    let config = SceneConfig {
-        final_status_level: FinalStatusLevel::Flaky,
-        run_count: 0,
-        mode: NextestRunMode::Test,
-    };
     let mut scene = Scene {
-        config,
+        config: SceneConfig::new(),
         events: Vec::new(alloc),
     };
     for (number, line) in (1..u64::MAX).zip(text.split_str(b"\n")) {
@@ -73,7 +71,7 @@ fn read_line(alloc: Global, line: &[u8], scene: &mut Scene) -> Result<(), LineEr
     if kind == LineKind::Config && !scene.events.is_empty() {
         return Err(LineError::Fault(LineFault::ConfigAfterEvent));
     }
-    if fields.len() != kind.field_count() {
+    if !kind.takes(fields.len()) {
         return Err(LineError::Fault(LineFault::WrongNumberOfFields));
     }
     let event = match kind {

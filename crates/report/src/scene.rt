@@ -1,6 +1,6 @@
 //! A run as a scene holds it, with names of its own.
 
-ghost use Rattle.std.specs.Prelude.{◌≡◌, [], IfOk, IfErr};
+ghost use Rattle.std.specs.Prelude.{◌≡◌, IfOk, IfErr};
 
 use crate::fault::Fault;
 use crate::words::Options;
@@ -13,6 +13,7 @@ use run_model::name::{ProfileName, RustBinaryId, TestCaseName, TestInstanceId};
 use run_model::output::LiveSpec;
 use run_model::stats::{RunFinishedStats, RunStats};
 use run_model::status::{ExecuteStatus, ExecutionStatuses, FlakyResult};
+use run_model::stress::StressIndex;
 use run_model::time::Nanos;
 use std::alloc::Global;
 use uuid::Uuid;
@@ -35,6 +36,39 @@ pub struct SceneConfig {
     pub run_count: usize,
     /// Whether the run runs tests or benchmarks.
     pub mode: NextestRunMode,
+    /// When the output of tests that succeed is shown, whatever their events say.
+    pub success_output: Option<TestOutputDisplay>,
+    /// When the output of tests that fail is shown, whatever their events say.
+    pub failure_output: Option<TestOutputDisplay>,
+    /// Whether tests write to the terminal themselves, so that nothing is captured.
+    pub no_capture: bool,
+    /// Whether output stands without indentation.
+    pub no_output_indent: bool,
+    /// Whether the report has characters beyond ASCII.
+    pub use_unicode: bool,
+    /// Whether streams that were captured empty are shown.
+    pub display_empty_outputs: bool,
+}
+
+impl SceneConfig {
+    ghost use Rattle.report.specs.Configs.{unconfigured};
+
+    /// What counts where no line says anything else.
+    pub fn new() -> SceneConfig
+        ensures { result ≡ unconfigured }
+    {
+        SceneConfig {
+            final_status_level: FinalStatusLevel::Flaky,
+            run_count: 0,
+            mode: NextestRunMode::Test,
+            success_output: None,
+            failure_output: None,
+            no_capture: false,
+            no_output_indent: false,
+            use_unicode: false,
+            display_empty_outputs: false,
+        }
+    }
 }
 
 /// An event of a run.
@@ -51,12 +85,20 @@ pub enum SceneEvent {
     },
     /// A test has finished.
     TestFinished {
+        /// Which iteration of a stress run it belongs to.
+        stress_index: Option<StressIndex>,
         /// The binary's id.
         binary_id: RustBinaryId,
         /// The test's name.
         test_name: TestCaseName,
-        /// Its attempt.
-        status: ExecuteStatus<LiveSpec>,
+        /// When its output is to be shown if it succeeded.
+        success_output: TestOutputDisplay,
+        /// When its output is to be shown if it failed.
+        failure_output: TestOutputDisplay,
+        /// Its attempts before the last one, in order.
+        earlier: Vec<ExecuteStatus<LiveSpec>>,
+        /// Its last attempt.
+        last: ExecuteStatus<LiveSpec>,
         /// What a success after earlier attempts counts as.
         flaky_result: FlakyResult,
         /// The counts of the run, this test among them.
@@ -110,20 +152,24 @@ impl SceneEvent {
                 profile_name: ProfileName::new(alloc, profile_name.as_str())?,
             },
             SceneEvent::TestFinished {
+                stress_index,
                 binary_id,
                 test_name,
-                status,
+                success_output,
+                failure_output,
+                earlier,
+                last,
                 flaky_result,
                 current_stats,
             } => TestEventKind::TestFinished {
-                stress_index: None,
+                stress_index: *stress_index,
                 test_instance: TestInstanceId {
                     binary_id,
                     test_name,
                 },
-                success_output: TestOutputDisplay::Never,
-                failure_output: TestOutputDisplay::Never,
-                run_statuses: statuses(alloc, status.copy(alloc)?, *flaky_result)?,
+                success_output: *success_output,
+                failure_output: *failure_output,
+                run_statuses: copy_attempts(alloc, earlier.as_slice(), last, *flaky_result)?,
                 current_stats: *current_stats,
             },
             SceneEvent::RunFinished { elapsed, run_stats } => TestEventKind::RunFinished {
@@ -138,16 +184,20 @@ impl SceneEvent {
     }
 }
 
-// One attempt, as the attempts of a test.
-fn statuses(
+// Takes memory for other attempts of the same test. The bytes of their output are shared.
+fn copy_attempts(
     alloc: Global,
-    status: ExecuteStatus<LiveSpec>,
+    earlier: &[ExecuteStatus<LiveSpec>],
+    last: &ExecuteStatus<LiveSpec>,
     flaky_result: FlakyResult,
 ) -> Result<ExecutionStatuses<LiveSpec>, OutOfMemory>
-    ensures { IfOk result (λ s. s ≡ record { earlier = []; last = status; flaky_result = flaky_result }) }
+    ensures { IfOk result (λ s. s ≡ record { earlier = earlier.now; last = last.now; flaky_result = flaky_result }) }
 {
-    let mut attempts = Vec::with_capacity(alloc, 1)?;
-    attempts.push(status)?;
+    let mut attempts = Vec::with_capacity(alloc, earlier.len().saturating_add(1))?;
+    for status in earlier {
+        attempts.push(status.copy(alloc)?)?;
+    }
+    attempts.push(last.copy(alloc)?)?;
     match ExecutionStatuses::new(attempts, flaky_result) {
         Some(statuses) => Ok(statuses),
         None => unreachable!(),

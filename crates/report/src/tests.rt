@@ -10,6 +10,8 @@ use std::io;
 use std::io::{ErrorKind, Read, Write};
 use std::test::Fail;
 
+mod attempts;
+
 const RUN: &str = "run\t00000000-0000-4000-8000-000000000001\tdefault\t2\t1\t-";
 
 const DONE: &str =
@@ -20,6 +22,7 @@ const END: &str = "end\t1520000000\tinitial=2 finished=2 passed=1 failed=1\t0\t-
 const OPTIONS: Options<'static> = Options {
     should_colorize: false,
     show_counter: false,
+    is_replay: false,
     status_level: StatusLevel::Pass,
     file: "FILE",
 };
@@ -132,6 +135,16 @@ fn shows_benchmarks_from_a_level_on(rt: HostRuntime) -> Result<(), Fail> {
         FAIL [   1.500s] alpha mod::t2
 ";
     assert_eq!(rt; printed.as_slice(), lines.as_bytes());
+    Ok(())
+}
+
+#[test]
+fn follows_the_configuration(rt: HostRuntime) -> Result<(), Fail> {
+    let alloc = rt.alloc();
+    let scene = format!(in alloc; "config\tunicode\t0\nconfig\tunicode\t1\n{RUN}")?;
+    let printed = report_with(alloc, &["--replay", "FILE"], scene.as_bytes())?;
+    let line = "────────────\n Nextest run ";
+    assert!(rt; printed.as_slice().starts_with(line.as_bytes()));
     Ok(())
 }
 
@@ -348,6 +361,63 @@ fn takes_every_form_of_a_value(rt: HostRuntime) -> Result<(), Fail> {
     Ok(())
 }
 
+// The first of these texts that is not told to be a bad field there.
+fn taken<'a>(
+    alloc: Global,
+    line: &str,
+    field: usize,
+    texts: &[&'a str],
+) -> Result<Option<&'a str>, Fail> {
+    let fault = format!(in alloc; "report: line 1: bad field {field}")?;
+    for text in texts {
+        let scene = with_field(alloc, line, field, text)?;
+        if line_of(alloc, scene.as_bytes())?.as_str() != fault.as_str() {
+            return Ok(Some(text));
+        }
+    }
+    Ok(None)
+}
+
+// The first of these texts that is refused there.
+fn refused<'a>(
+    alloc: Global,
+    line: &str,
+    field: usize,
+    texts: &[&'a str],
+) -> Result<Option<&'a str>, Fail> {
+    for text in texts {
+        let scene = with_field(alloc, line, field, text)?;
+        if !line_of(alloc, scene.as_bytes())?.is_empty() {
+            return Ok(Some(text));
+        }
+    }
+    Ok(None)
+}
+
+#[test]
+fn reads_the_configuration(rt: HostRuntime) -> Result<(), Fail> {
+    let alloc = rt.alloc();
+    for line in ["config\tsuccess\t", "config\tfailure\t"] {
+        let good = ["immediate", "immediate-final", "final", "never"];
+        assert_eq!(rt; refused(alloc, line, 3, &good)?, None);
+        assert_eq!(rt; taken(alloc, line, 3, &["", "-", "Final"])?, None);
+    }
+    let keys = ["nocapture", "noindent", "unicode", "empty"];
+    assert_eq!(rt; refused(alloc, "config\t\t1", 2, &keys)?, None);
+    assert_eq!(rt;
+        taken(alloc, "config\t\t1", 2, &["verbose", "NoCapture"])?,
+        None
+    );
+    for line in [
+        "config\tnocapture\t",
+        "config\tnoindent\t",
+        "config\tempty\t",
+    ] {
+        assert_eq!(rt; taken(alloc, line, 3, &["", "-", "2", "yes"])?, None);
+    }
+    Ok(())
+}
+
 // A reader that gives at most seven bytes a read, and fails at one of them.
 #[derive(Drop)]
 struct Failing<'a> {
@@ -393,6 +463,7 @@ fn cannot_read_a_failing_file(rt: HostRuntime) -> Result<(), Fail> {
 fn takes_options_in_any_order(rt: HostRuntime) -> Result<(), Fail> {
     let all = Options {
         show_counter: true,
+        is_replay: true,
         status_level: StatusLevel::Skip,
         ..IN_COLOUR
     };
@@ -406,8 +477,28 @@ fn takes_options_in_any_order(rt: HostRuntime) -> Result<(), Fail> {
                 ..IN_COLOUR
             },
         ),
-        (&["--level", "skip", "--color", "--counter", "FILE"], all),
-        (&["--counter", "--color", "--level", "skip", "FILE"], all),
+        (
+            &[
+                "--level",
+                "skip",
+                "--color",
+                "--counter",
+                "--replay",
+                "FILE",
+            ],
+            all,
+        ),
+        (
+            &[
+                "--replay",
+                "--counter",
+                "--color",
+                "--level",
+                "skip",
+                "FILE",
+            ],
+            all,
+        ),
         (
             &["--level", "none", "--level"],
             Options {
@@ -426,7 +517,7 @@ fn takes_options_in_any_order(rt: HostRuntime) -> Result<(), Fail> {
 
 #[test]
 fn refuses_other_words(rt: HostRuntime) -> Result<(), Fail> {
-    let lines: [&[&str]; 9] = [
+    let lines: [&[&str]; 10] = [
         &[],
         &["--bogus", "FILE"],
         &["FILE", "--color"],
@@ -435,7 +526,8 @@ fn refuses_other_words(rt: HostRuntime) -> Result<(), Fail> {
         &["--level", "Pass", "FILE"],
         &["--level", "pass", "--level", "pass", "FILE"],
         &["--level=pass", "FILE"],
-        &["--replay", "FILE"],
+        &["--replay", "--replay", "FILE"],
+        &["--unload", "FILE"],
     ];
     for texts in lines {
         let args = words_of(rt.alloc(), texts)?;

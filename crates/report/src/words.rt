@@ -14,6 +14,8 @@ pub struct Options<'a> {
     pub should_colorize: bool,
     /// Whether each line of a test has a counter.
     pub show_counter: bool,
+    /// Whether the run was recorded, and is shown again.
+    pub is_replay: bool,
     /// From which status level on the lines of tests are shown.
     pub status_level: StatusLevel,
     /// The file that holds the scene.
@@ -54,6 +56,7 @@ pub fn words(words: &[String]) -> Option<Options<'_>>
 struct Given {
     color: bool,
     counter: bool,
+    replay: bool,
     level: Option<StatusLevel>,
 }
 
@@ -69,6 +72,10 @@ impl Given {
             }),
             "--counter" if !self.counter => Some(Given {
                 counter: true,
+                ..self
+            }),
+            "--replay" if !self.replay => Some(Given {
+                replay: true,
                 ..self
             }),
             _ => None,
@@ -96,6 +103,7 @@ impl Given {
         Options {
             should_colorize: self.color,
             show_counter: self.counter,
+            is_replay: self.replay,
             status_level: self.level.unwrap_or(StatusLevel::Pass),
             file,
         }

@@ -1,11 +1,9 @@
 //! A line of a scene, taken apart from left to right.
 
 use super::split::split_at_byte;
-use super::texts::read_text;
 use crate::fault::{LineError, LineFault};
 use memchr::memchr_iter;
-use std::alloc::Global;
-use std::borrow::CowStr;
+use run_model::memory::OutOfMemory;
 
 /// The fields of a line, which tabs part.
 #[derive(Clone, Copy, Debug)]
@@ -21,6 +19,11 @@ impl<'a> Fields<'a> {
             rest: Some(line),
             number: 0,
         }
+    }
+
+    /// Whether no field is left to take.
+    pub fn is_empty(&self) -> bool {
+        self.rest.is_none()
     }
 
     /// How many fields are left to take.
@@ -62,11 +65,16 @@ impl<'a> Fields<'a> {
         }
     }
 
-    /// Takes a field that is a text.
-    pub fn read_text(&mut self, alloc: Global) -> Result<CowStr<'a, Global>, LineError> {
+    /// Takes a field, and reads it as `read` does, by a function that takes memory.
+    pub fn try_read<T, F: FnOnce(&'a str) -> Result<Option<T>, OutOfMemory>>(
+        &mut self,
+        read: F,
+    ) -> Result<T, LineError>
+        requires { F.IsAlwaysCallable read }
+    {
         let field = self.take()?;
-        match read_text(alloc, field)? {
-            Some(text) => Ok(text),
+        match read(field)? {
+            Some(value) => Ok(value),
             None => Err(LineError::Fault(LineFault::BadField(self.number))),
         }
     }

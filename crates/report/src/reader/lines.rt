@@ -3,18 +3,21 @@
 use super::counts::{read_skips, read_stats};
 use super::fields::Fields;
 use super::numbers::{read_count, read_nanos, read_small_count};
-use super::texts::is_output;
+use super::outputs::read_output;
+use super::results::read_result;
+use super::texts::read_text;
 use super::values::{
-    ConfigKey, OutputForm, read_absent, read_config_key, read_display, read_final_level, read_flag,
-    read_flaky_result, read_mode, read_output_form, read_result,
+    ConfigKey, read_absent, read_config_key, read_display, read_final_level, read_flag,
+    read_flaky_result, read_mode, read_stress_index,
 };
 use crate::fault::{LineError, LineFault};
 use crate::scene::{SceneConfig, SceneEvent};
 use run_model::event::TestCounts;
 use run_model::name::{ProfileName, RustBinaryId, TestCaseName};
-use run_model::output::{ChildExecutionOutputDescription, ChildOutputDescription, LiveSpec};
+use run_model::output::LiveSpec;
 use run_model::status::{ExecuteStatus, RetryData};
 use std::alloc::Global;
+use std::mem;
 use uuid::Uuid;
 
 /// A kind of line.
@@ -42,13 +45,13 @@ impl LineKind {
         }
     }
 
-    /// How many fields stand after the first.
-    pub fn field_count(self) -> usize {
+    /// Whether so many fields may stand after the first. A finished test has eight, and eight for each attempt.
+    pub fn takes(self, fields: usize) -> bool {
         match self {
-            LineKind::Config => 2,
-            LineKind::Run => 5,
-            LineKind::Done => 16,
-            LineKind::End => 4,
+            LineKind::Config => fields == 2,
+            LineKind::Run => fields == 5,
+            LineKind::Done => fields >= 16 && fields % 8 == 0,
+            LineKind::End => fields == 4,
         }
     }
 }
@@ -59,6 +62,12 @@ pub fn read_config(fields: &mut Fields<'_>, config: &mut SceneConfig) -> Result<
         ConfigKey::Final => config.final_status_level = fields.read(read_final_level)?,
         ConfigKey::Runs => config.run_count = fields.read(read_count)?,
         ConfigKey::Bench => config.mode = fields.read(read_mode)?,
+        ConfigKey::Success => config.success_output = Some(fields.read(read_display)?),
+        ConfigKey::Failure => config.failure_output = Some(fields.read(read_display)?),
+        ConfigKey::NoCapture => config.no_capture = fields.read(read_flag)?,
+        ConfigKey::NoIndent => config.no_output_indent = fields.read(read_flag)?,
+        ConfigKey::Unicode => config.use_unicode = fields.read(read_flag)?,
+        ConfigKey::Empty => config.display_empty_outputs = fields.read(read_flag)?,
     }
     Ok(())
 }
@@ -66,7 +75,7 @@ pub fn read_config(fields: &mut Fields<'_>, config: &mut SceneConfig) -> Result<
 /// Reads a `run` line: run id, profile, how many tests and binaries, and what is skipped.
 pub fn read_run(alloc: Global, fields: &mut Fields<'_>) -> Result<SceneEvent, LineError> {
     let run_id = fields.read(|id| Uuid::parse_str(id).ok())?;
-    let profile = fields.read_text(alloc)?;
+    let profile = fields.try_read(|field| read_text(alloc, field))?;
     let run_count = fields.read(read_count)?;
     let listed_binary_count = fields.read(read_count)?;
     let skip_counts = fields.read(read_skips)?;
@@ -82,25 +91,24 @@ pub fn read_run(alloc: Global, fields: &mut Fields<'_>) -> Result<SceneEvent, Li
 }
 
 /// Reads a `done` line: stress index, binary id, name, when the output of a success and of a failure is shown, what a
-/// flaky test counts as, the statistics, how many attempts there can be, and the attempt.
+/// flaky test counts as, the statistics, how many attempts there can be, and the attempts.
 pub fn read_done(alloc: Global, fields: &mut Fields<'_>) -> Result<SceneEvent, LineError> {
-    fields.read(read_absent)?;
-    let binary_id = fields.read_text(alloc)?;
-    let test_name = fields.read_text(alloc)?;
-    fields.read(read_display)?;
-    fields.read(read_display)?;
+    let stress_index = fields.read(read_stress_index)?;
+    let binary_id = fields.try_read(|field| read_text(alloc, field))?;
+    let test_name = fields.try_read(|field| read_text(alloc, field))?;
+    let success_output = fields.read(read_display)?;
+    let failure_output = fields.read(read_display)?;
     let flaky_result = fields.read(read_flaky_result)?;
     let current_stats = fields.read(read_stats)?;
-    let total_attempts = fields.read(read_small_count)?;
-    let retry_data = RetryData {
-        attempt: 1,
-        total_attempts,
-    };
-    let status = read_attempt(fields, retry_data)?;
+    let (earlier, last) = read_attempts(alloc, fields)?;
     Ok(SceneEvent::TestFinished {
+        stress_index,
         binary_id: RustBinaryId::new(alloc, binary_id.as_str())?,
         test_name: TestCaseName::new(alloc, test_name.as_str())?,
-        status,
+        success_output,
+        failure_output,
+        earlier,
+        last,
         flaky_result,
         current_stats,
     })
@@ -115,51 +123,43 @@ pub fn read_end(fields: &mut Fields<'_>) -> Result<SceneEvent, LineFault> {
     Ok(SceneEvent::RunFinished { elapsed, run_stats })
 }
 
-// Reads the fields of an attempt: result, duration, whether it was slow, and its output.
-fn read_attempt(
+// Reads how many attempts there can be, and the attempts: those before the last one, and the last.
+fn read_attempts(
+    alloc: Global,
     fields: &mut Fields<'_>,
-    retry_data: RetryData,
-) -> Result<ExecuteStatus<LiveSpec>, LineFault> {
-    let result = fields.read(read_result)?;
+) -> Result<(Vec<ExecuteStatus<LiveSpec>>, ExecuteStatus<LiveSpec>), LineError> {
+    let total_attempts = fields.read(read_small_count)?;
+    let mut earlier = Vec::new(alloc);
+    let mut last = read_attempt(alloc, fields, 1, total_attempts)?;
+    for attempt in 2..u32::MAX {
+        if fields.is_empty() {
+            break;
+        }
+        let next = read_attempt(alloc, fields, attempt, total_attempts)?;
+        earlier.push(mem::replace(&mut last, next))?;
+    }
+    Ok((earlier, last))
+}
+
+// Reads an attempt: result, duration, whether it was slow, and its output.
+fn read_attempt(
+    alloc: Global,
+    fields: &mut Fields<'_>,
+    attempt: u32,
+    total_attempts: u32,
+) -> Result<ExecuteStatus<LiveSpec>, LineError> {
+    let result = fields.try_read(|field| read_result(alloc, field))?;
     let time_taken = fields.read(read_nanos)?;
     let is_slow = fields.read(read_flag)?;
-    read_output(fields)?;
+    let output = read_output(alloc, fields, &result)?;
     Ok(ExecuteStatus {
-        retry_data,
-        output: nothing_written(),
+        retry_data: RetryData {
+            attempt,
+            total_attempts,
+        },
+        output,
         result,
         time_taken,
         is_slow,
     })
-}
-
-// The output of an attempt of which nothing was captured.
-fn nothing_written() -> ChildExecutionOutputDescription<LiveSpec> {
-    ChildExecutionOutputDescription::Output {
-        result: None,
-        output: ChildOutputDescription::Split {
-            stdout: None,
-            stderr: None,
-        },
-        errors: None,
-        highlight: None,
-    }
-}
-
-// Reads an output: its form, the two streams, and errors and a highlight, of which there are none. A report shows no
-// output yet, so it is looked at and dropped.
-fn read_output(fields: &mut Fields<'_>) -> Result<(), LineFault> {
-    match fields.read(read_output_form)? {
-        OutputForm::Split => {
-            fields.read(read_stream)?;
-            fields.read(read_stream)?;
-            fields.read(read_absent)?;
-            fields.read(read_absent)
-        }
-    }
-}
-
-// A stream's bytes, or `-` where they are absent.
-fn read_stream(field: &str) -> Option<()> {
-    if is_output(field) { Some(()) } else { None }
 }

@@ -4,6 +4,7 @@
 //! backslashes from one end to the other.
 
 ghost use Rattle.std.specs.Prelude.{◌≡◌, ◌<◌, ◌∷◌, ◌++◌, MatchOption};
+ghost use Rattle.report.specs.Cuts.{cut, cut_texts};
 ghost use Rattle.report.specs.Texts.{Lacks};
 
 use memchr::memchr;
@@ -15,7 +16,8 @@ use memchr::memchr;
 /// ```
 pub fn split_at_byte(text: &str, byte: u8) -> Option<(&str, &str)>
     requires { byte < 128 }
-    ensures { MatchOption result (Lacks byte text.now) (λ x. Lacks byte x.0.now × (text.now ≡ x.0.now ++ (byte ∷ x.1.now))) }
+    ensures parts { MatchOption result (Lacks byte text.now) (λ x. Lacks byte x.0.now × (text.now ≡ x.0.now ++ (byte ∷ x.1.now))) }
+    ensures cut { cut_texts result ≡ cut byte text.now }
 {
     let Some(at) = memchr(byte, text.as_bytes()) else {
         return None;

@@ -3,7 +3,7 @@
 //! A backslash begins an escape: `\n`, `\t`, `\r`, `\e`, `\\`, and `\x` with two hexadecimal digits, which gives a byte. In
 //! a text that byte is at most 7f; in the bytes that a test wrote it is any.
 
-ghost use Rattle.std.specs.Prelude.{◌≡◌, ◌≤◌, ◌<◌, ◌-◌, ◌+◌, ◌*◌, ◌∷◌, ◌++◌, ◌==◌, List, ℕ, Some, None, drop, length, slice_index, codes, is_some, string_bytes, IfOk, IfSome, MatchOption};
+ghost use Rattle.std.specs.Prelude.{◌≡◌, ◌≤◌, ◌<◌, ◌-◌, ◌+◌, ◌*◌, ◌∷◌, ◌++◌, ◌==◌, List, ℕ, Some, None, drop, length, slice_index, string_bytes, IfOk, IfSome, MatchOption};
 ghost use Rattle.std.specs.Char.{digit_value};
 ghost use Rattle.std.specs.Option.{option_map, SomeIff};
 ghost use Rattle.report.specs.Texts.{cow_text, AddsStretch, IsPlain, escape_byte, escape_len, unescaped};
@@ -39,8 +39,8 @@ pub fn read_text(alloc: Global, field: &str) -> Result<Option<CowStr<'_, Global>
     Ok(Some(CowStr::Owned(text)))
 }
 
-// Adds what stands before an escape, and what the escape gives. It answers what follows the escape; None is a bad one.
-fn push_stretch<'a>(
+/// Adds what stands before an escape, and what the escape gives. It answers what follows the escape; None is a bad one.
+pub fn push_stretch<'a>(
     text: &mut String,
     plain: &str,
     escape: &'a str,
@@ -55,18 +55,22 @@ fn push_stretch<'a>(
     Ok(Some(after))
 }
 
-/// Whether a field is bytes that a test wrote, or `-` where they are absent.
-pub fn is_output(field: &str) -> bool
-    ensures { result ≡ is_some (unescaped 255 field.now) }
+/// The bytes that a test wrote. None is a bad field.
+pub fn read_bytes(alloc: Global, field: &str) -> Result<Option<Vec<u8>>, OutOfMemory>
+    ensures { IfOk result (λ bytes. option_map (λ v. v.items) bytes ≡ unescaped 255 field.now) }
 {
+    let mut bytes = Vec::with_capacity(alloc, field.len())?;
     let mut rest = field;
-    while let Some((_, escape)) = split_at_byte(rest, b'\\') {
-        let Some((_, after)) = read_escape(escape, u8::MAX) else {
-            return false;
+    while let Some((plain, escape)) = split_at_byte(rest, b'\\') {
+        bytes.extend_from_slice(plain.as_bytes())?;
+        let Some((byte, after)) = read_escape(escape, u8::MAX) else {
+            return Ok(None);
         };
+        bytes.push(byte)?;
         rest = after;
     }
-    true
+    bytes.extend_from_slice(rest.as_bytes())?;
+    Ok(Some(bytes))
 }
 
 // What an escape gives, without its backslash, each byte by digits at most `most`; and what follows the escape.

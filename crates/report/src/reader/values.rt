@@ -1,12 +1,16 @@
 //! What the fields of a scene may hold. Each function answers None for a bad field.
 
 ghost use Rattle.std.specs.Prelude.{◌≡◌, ◌↔◌, IsSome, codes};
-ghost use Rattle.report.specs.Values.{Reads, ReadsOnly, ReadsWord, IsResultText, config_key_word, flag_word, mode_word, final_level_word, output_form_word, reason_word};
+ghost use Rattle.run_model.specs.Displays.{display_name};
+ghost use Rattle.report.specs.Values.{Reads, ReadsWord, IsStressText, config_key_word, flag_word, flaky_word, mode_word, final_level_word, reason_word};
 
-use super::numbers::read_code;
+use super::numbers::read_small_count;
+use super::split::split_at_byte;
 use run_model::config::{NextestRunMode, TestOutputDisplay};
 use run_model::level::{CancelReason, FinalStatusLevel};
-use run_model::status::{ExecutionResultDescription, FailureDescription, FlakyResult};
+use run_model::status::FlakyResult;
+use run_model::stress::StressIndex;
+use std::num::NonZeroU32;
 
 /// What a `config` line can set.
 #[derive(Clone, Copy, Debug, PartialEq, Eq)]
@@ -17,6 +21,18 @@ pub enum ConfigKey {
     Runs,
     /// Whether the run runs benchmarks.
     Bench,
+    /// When the output of tests that succeed is shown, whatever their events say.
+    Success,
+    /// When the output of tests that fail is shown, whatever their events say.
+    Failure,
+    /// Whether tests write to the terminal themselves.
+    NoCapture,
+    /// Whether output stands without indentation.
+    NoIndent,
+    /// Whether the report has characters beyond ASCII.
+    Unicode,
+    /// Whether streams that were captured empty are shown.
+    Empty,
 }
 
 /// The key of a `config` line.
@@ -27,23 +43,12 @@ pub fn read_config_key(field: &str) -> Option<ConfigKey>
         "final" => Some(ConfigKey::Final),
         "runs" => Some(ConfigKey::Runs),
         "bench" => Some(ConfigKey::Bench),
-        _ => None,
-    }
-}
-
-/// In which form an output is written.
-#[derive(Clone, Copy, Debug, PartialEq, Eq)]
-pub enum OutputForm {
-    /// Standard output and standard error, each by itself.
-    Split,
-}
-
-/// The form of an output.
-pub fn read_output_form(field: &str) -> Option<OutputForm>
-    ensures { ReadsWord output_form_word field.now result }
-{
-    match field {
-        "split" => Some(OutputForm::Split),
+        "success" => Some(ConfigKey::Success),
+        "failure" => Some(ConfigKey::Failure),
+        "nocapture" => Some(ConfigKey::NoCapture),
+        "noindent" => Some(ConfigKey::NoIndent),
+        "unicode" => Some(ConfigKey::Unicode),
+        "empty" => Some(ConfigKey::Empty),
         _ => None,
     }
 }
@@ -99,37 +104,40 @@ pub fn read_final_level(field: &str) -> Option<FinalStatusLevel>
 
 /// When an output is shown.
 pub fn read_display(field: &str) -> Option<TestOutputDisplay>
-    ensures { ReadsOnly TestOutputDisplay.Never (codes "never") field.now result }
+    ensures { ReadsWord display_name field.now result }
 {
-    match field {
-        "never" => Some(TestOutputDisplay::Never),
-        _ => None,
-    }
+    TestOutputDisplay::from_name(field)
 }
 
 /// What a success after earlier attempts counts as.
 pub fn read_flaky_result(field: &str) -> Option<FlakyResult>
-    ensures { ReadsOnly FlakyResult.Pass (codes "pass") field.now result }
+    ensures { ReadsWord flaky_word field.now result }
 {
     match field {
         "pass" => Some(FlakyResult::Pass),
+        "fail" => Some(FlakyResult::Fail),
         _ => None,
     }
 }
 
-/// How an attempt ended: `pass`, or `fail:` and an exit code.
-pub fn read_result(field: &str) -> Option<ExecutionResultDescription>
-    ensures { Reads IsResultText field.now result }
+/// An iteration of a stress run: its number from 0, perhaps with a slash and how many there are, or `-`.
+///
+/// ```
+/// read_stress_index("0/3") // the first of three
+/// ```
+pub fn read_stress_index(field: &str) -> Option<Option<StressIndex>>
+    ensures { Reads IsStressText field.now result }
 {
-    match field.split_once(':') {
-        None if field == "pass" => Some(ExecutionResultDescription::Pass),
-        Some(("fail", code)) => Some(ExecutionResultDescription::Fail {
-            failure: FailureDescription::ExitCode {
-                code: read_code(code)?,
-            },
-            leaked: false,
-        }),
-        _ => None,
+    match split_at_byte(field, b'/') {
+        None if field == "-" => Some(None),
+        None => Some(Some(StressIndex {
+            current: read_small_count(field)?,
+            total: None,
+        })),
+        Some((current, total)) => Some(Some(StressIndex {
+            current: read_small_count(current)?,
+            total: Some(NonZeroU32::new(read_small_count(total)?)?),
+        })),
     }
 }
 

@@ -1,7 +1,8 @@
-use Rattle.std.proofs.Common.{◌≡◌, ◌<◌, length, get_or, take, arith, ◌∙◌}
+use Rattle.std.proofs.Common.{◌≡◌, ◌<◌, length, get_or, take, arith, sym, ap, ◌∙◌}
 use Rattle.std.proofs.lemmas.Bool.Decides.{nat_tests}
 use Rattle.std.proofs.lemmas.Str.{IsCharBoundary-after_ascii}
-use Rattle.report.proofs.Cuts.{Lacks-from_each, cut_at}
+use Rattle.report.specs.Cuts.{cut}
+use Rattle.report.proofs.Cuts.{Lacks-from_each, cut_at, cut-lacks, cut-parts}
 use Rattle.report.proofs.reader.split.split_at_byte.Goals as goal
 
 pub range_from-requires : goal.range_from-requires
@@ -12,10 +13,16 @@ range_from-requires c above =
     IsCharBoundary-after_ascii c.args.text.now c.in-Some.at c.utf8.text within (omega arith)
 
 pub returns-in_default : goal.returns-in_default
-returns-in_default c = Lacks-from_each c.args.byte c.args.text.now (rw c.as_bytes.ensures.value at c.in_default.ensures)
+returns-in_default c =
+    let lacks = Lacks-from_each c.args.byte c.args.text.now (rw c.as_bytes.ensures.value at c.in_default.ensures) in
+    record { parts = lacks; cut = cut-lacks c.args.byte c.args.text.now lacks }
 
 pub returns : goal.returns
 returns c =
     let found = rw c.as_bytes.ensures.value at c.in-Some.ensures in
     let front : c.range.result.now ≡ take c.in-Some.at c.args.text.now = c.range.ensures.value ∙ grind arith in
-    rw (front, c.range_from.ensures.value) (cut_at c.args.byte c.args.text.now c.in-Some.at found.0 found.1)
+    let parts = cut_at c.args.byte c.args.text.now c.in-Some.at found.0 found.1 in
+    record {
+      parts = rw (front, c.range_from.ensures.value) parts;
+      cut = rw (front, c.range_from.ensures.value) (sym (ap (λ t. cut c.args.byte t) parts.1 ∙ cut-parts c.args.byte _ _ parts.0));
+    }

@@ -1,0 +1,59 @@
+-- Lists of words, with `\,` between them.
+use Rattle.std.specs.Prelude.{◌≡◌, ℕ, zero, suc, List, [], ◌∷◌, ◌++◌, Bool, false, ◌==◌, if◌then◌else◌, Option, None, Some, codes, bytes_eq}
+use Rattle.std.specs.Option.{option_map}
+use Rattle.std.specs.Borrow.{Bor}
+use Rattle.run_model.specs.ErrorChains.{MessageAndCauses}
+use Rattle.report.specs.Texts.{escape_byte, escape_len}
+
+abbrev pub Words : Type 0
+Words = List (List ℕ)
+
+abbrev pub begins_with_comma : List ℕ → Bool
+begins_with_comma [] = false
+begins_with_comma (c ∷ t) = c == 44
+
+-- a text in front of the first word
+abbrev pub glued : List ℕ → Option Words → Option Words
+glued t None = None
+glued t (Some []) = Some []
+glued t (Some (w ∷ ws)) = Some ((t ++ w) ∷ ws)
+
+-- a byte in front of the first word
+abbrev pub in_first : Option ℕ → Option Words → Option Words
+in_first None ws = None
+in_first (Some b) ws = glued (b ∷ []) ws
+
+-- the words of a list once so many bytes are passed over
+unfoldable pub words_after : ℕ → List ℕ → Option Words
+words_after skip [] = Some ([] ∷ [])
+words_after zero (c ∷ t) =
+    if c == 92 then (if begins_with_comma t then option_map (λ ws. [] ∷ ws) (words_after 1 t) else in_first (escape_byte 127 t) (words_after (escape_len t) t))
+    else in_first (Some c) (words_after 0 t)
+words_after (suc skip) (c ∷ t) = words_after skip t
+
+-- the words of a list that has some, if its escapes are good ones
+abbrev pub list_words : List ℕ → Option Words
+list_words t = words_after 0 t
+
+-- the words of a list, where `-` is the list of no word
+abbrev pub words_of : List ℕ → Option Words
+words_of t = if bytes_eq t (codes "-") then Some [] else list_words t
+
+-- the words of a list, where there is one
+abbrev pub more_words : Option (Bor (List ℕ)) → Option Words
+more_words None = Some []
+more_words (Some list) = list_words list.now
+
+-- a word, and the words of the list that follows it
+abbrev pub words_from : Option (List ℕ × Option (Bor (List ℕ))) → Option Words
+words_from None = None
+words_from (Some x) = option_map (λ ws. x.0 ∷ ws) (more_words x.1)
+
+-- an error is written as the list of its message and its causes
+abbrev pub IsChainText : MessageAndCauses → List ℕ → Type 0
+IsChainText chain t = words_of t ≡ Some (chain.message ∷ chain.causes)
+
+-- errors, or `-`
+abbrev pub IsErrorsText : Option MessageAndCauses → List ℕ → Type 0
+IsErrorsText None t = t ≡ codes "-"
+IsErrorsText (Some chain) t = IsChainText chain t

@@ -1,0 +1,152 @@
+//! What an attempt wrote, as a scene writes it: five fields.
+//!
+//! They are a form, what the form takes first and second, errors, and a highlight. Where something must be absent, anything
+//! but `-` is a bad field.
+
+ghost use Rattle.std.specs.Prelude.{◌≡◌, IfOk};
+ghost use Rattle.report.specs.Texts.{unescaped};
+ghost use Rattle.report.specs.Values.{Reads, ReadsWord};
+ghost use Rattle.report.specs.Outputs.{IsHighlightText, IsStreamText, highlight_stream_word, output_form_word};
+ghost use Rattle.report.specs.Lists.{IsErrorsText};
+
+use super::fields::Fields;
+use super::lists::read_chain;
+use super::numbers::read_count;
+use super::split::split_at_byte;
+use super::texts::read_bytes;
+use super::values::read_absent;
+use crate::fault::LineError;
+use bytes::Bytes;
+use run_model::memory::OutOfMemory;
+use run_model::output::{
+    ChildExecutionOutputDescription, ChildOutputDescription, ChildSingleOutput, ErrorChain,
+    Highlight, HighlightStream, LiveSpec,
+};
+use run_model::status::ExecutionResultDescription;
+use std::alloc::Global;
+
+/// In which form an output is written.
+#[derive(Clone, Copy, Debug, PartialEq, Eq)]
+pub enum OutputForm {
+    /// Standard output and standard error, each by itself.
+    Split,
+    /// Both streams together.
+    Combined,
+    /// The process could not be started.
+    StartError,
+}
+
+/// The form of an output.
+pub fn read_output_form(field: &str) -> Option<OutputForm>
+    ensures { ReadsWord output_form_word field.now result }
+{
+    match field {
+        "split" => Some(OutputForm::Split),
+        "comb" => Some(OutputForm::Combined),
+        "start" => Some(OutputForm::StartError),
+        _ => None,
+    }
+}
+
+/// Reads what an attempt wrote that ended so.
+pub fn read_output(
+    alloc: Global,
+    fields: &mut Fields<'_>,
+    outcome: &ExecutionResultDescription,
+) -> Result<ChildExecutionOutputDescription<LiveSpec>, LineError> {
+    let output = match fields.read(read_output_form)? {
+        OutputForm::Split => ChildOutputDescription::Split {
+            stdout: fields.try_read(|field| read_stream(alloc, field))?,
+            stderr: fields.try_read(|field| read_stream(alloc, field))?,
+        },
+        OutputForm::Combined => {
+            let output = fields.try_read(|field| read_single(alloc, field))?;
+            fields.read(read_absent)?;
+            ChildOutputDescription::Combined { output }
+        }
+        OutputForm::StartError => return read_start_error(alloc, fields),
+    };
+    Ok(ChildExecutionOutputDescription::Output {
+        result: Some(outcome.copy(alloc)?),
+        output,
+        errors: fields.try_read(|field| read_errors(alloc, field))?,
+        highlight: fields.try_read(|field| read_highlight(alloc, field))?,
+    })
+}
+
+// Reads why a process could not be started, after which nothing is there.
+fn read_start_error(
+    alloc: Global,
+    fields: &mut Fields<'_>,
+) -> Result<ChildExecutionOutputDescription<LiveSpec>, LineError> {
+    let error = fields.try_read(|field| read_chain(alloc, field))?;
+    fields.read(read_absent)?;
+    fields.read(read_absent)?;
+    fields.read(read_absent)?;
+    Ok(ChildExecutionOutputDescription::StartError(error))
+}
+
+// A stream's bytes, or `-` where it was not captured.
+fn read_stream(alloc: Global, field: &str) -> Result<Option<Option<ChildSingleOutput>>, OutOfMemory>
+    ensures { IfOk result (Reads IsStreamText field.now) }
+{
+    match field {
+        "-" => Ok(Some(None)),
+        _ => Ok(read_single(alloc, field)?.map(Some)),
+    }
+}
+
+// The bytes of one stream, or of both together.
+fn read_single(alloc: Global, field: &str) -> Result<Option<ChildSingleOutput>, OutOfMemory>
+    ensures { IfOk result (λ output. output ≡ unescaped 255 field.now) }
+{
+    match read_bytes(alloc, field)? {
+        Some(bytes) => Ok(Some(ChildSingleOutput::new(Bytes::from_vec(bytes)?))),
+        None => Ok(None),
+    }
+}
+
+// What went wrong while an attempt was run, or `-`.
+fn read_errors(alloc: Global, field: &str) -> Result<Option<Option<ErrorChain>>, OutOfMemory>
+    ensures { IfOk result (Reads IsErrorsText field.now) }
+{
+    match field {
+        "-" => Ok(Some(None)),
+        _ => Ok(read_chain(alloc, field)?.map(Some)),
+    }
+}
+
+// The part of the output to point out: its stream, the place of its first byte, and its bytes; or `-`.
+fn read_highlight(alloc: Global, field: &str) -> Result<Option<Option<Highlight>>, OutOfMemory>
+    ensures { IfOk result (Reads IsHighlightText field.now) }
+{
+    let Some((stream, rest)) = split_at_byte(field, b':') else {
+        return Ok(read_absent(field).map(|()| None));
+    };
+    let Some((start, slice)) = split_at_byte(rest, b':') else {
+        return Ok(None);
+    };
+    let (Some(stream), Some(start)) = (read_highlight_stream(stream), read_count(start)) else {
+        return Ok(None);
+    };
+    let Some(slice) = read_bytes(alloc, slice)? else {
+        return Ok(None);
+    };
+    Ok(Some(Some(Highlight {
+        stream,
+        start,
+        slice: Bytes::from_vec(slice)?,
+    })))
+}
+
+// The stream that a highlight stands in.
+fn read_highlight_stream(field: &str) -> Option<HighlightStream>
+    ensures { ReadsWord highlight_stream_word field.now result }
+{
+    match field {
+        "out" => Some(HighlightStream::Stdout),
+        "err" => Some(HighlightStream::Stderr),
+        "comb" => Some(HighlightStream::Combined),
+        _ => None,
+    }
+}

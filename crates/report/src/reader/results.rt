@@ -1,0 +1,155 @@
+//! How an attempt ended, as a scene writes it.
+//!
+//! It is a word, as `pass`, or a word and what it tells of after a colon, as `fail:1`. A name or a message is a text, and
+//! goes on to the end of the field.
+
+ghost use Rattle.std.specs.Prelude.{◌≡◌, None, true, false, IfOk};
+ghost use Rattle.std.specs.Option.{SomeIff};
+ghost use Rattle.std.specs.Str.Parse.{signed_digits_value};
+ghost use Rattle.report.specs.Numbers.{IsSigned};
+ghost use Rattle.report.specs.Values.{Reads};
+ghost use Rattle.report.specs.Results.{IsResultText, IsPlainText, IsToldText, IsSignalText, IsStatusText, exit_code, signal_of};
+
+use super::numbers::read_code;
+use super::split::split_at_byte;
+use super::texts::read_text;
+use run_model::abort::{AbortDescription, DescriptionText};
+use run_model::memory::OutOfMemory;
+use run_model::status::{
+    ExecutionResultDescription, FailureDescription, LeakTimeoutResult, SlowTimeoutResult,
+};
+use std::alloc::Global;
+
+/// How an attempt ended. None is a bad field.
+///
+/// ```
+/// read_result(alloc, "sig:11:SEGV") // ended by signal 11, whose name is SIGSEGV
+/// ```
+pub fn read_result(
+    alloc: Global,
+    field: &str,
+) -> Result<Option<ExecutionResultDescription>, OutOfMemory>
+    ensures { IfOk result (Reads IsResultText field.now) }
+{
+    match split_at_byte(field, b':') {
+        None => Ok(read_plain(field)),
+        Some((word, rest)) => read_told(alloc, word, rest),
+    }
+}
+
+// A result that is one word.
+fn read_plain(field: &str) -> Option<ExecutionResultDescription>
+    ensures { Reads IsPlainText field.now result }
+{
+    match field {
+        "pass" => Some(ExecutionResultDescription::Pass),
+        "leak" => Some(ExecutionResultDescription::Leak {
+            result: LeakTimeoutResult::Pass,
+        }),
+        "leakfail" => Some(ExecutionResultDescription::Leak {
+            result: LeakTimeoutResult::Fail,
+        }),
+        "job" => Some(aborted(AbortDescription::WindowsJobObject)),
+        "exec" => Some(ExecutionResultDescription::ExecFail),
+        "tmpass" => Some(ExecutionResultDescription::Timeout {
+            result: SlowTimeoutResult::Pass,
+        }),
+        "tmout" => Some(ExecutionResultDescription::Timeout {
+            result: SlowTimeoutResult::Fail,
+        }),
+        _ => None,
+    }
+}
+
+// A result whose word has something to tell of.
+fn read_told(
+    alloc: Global,
+    word: &str,
+    rest: &str,
+) -> Result<Option<ExecutionResultDescription>, OutOfMemory>
+    ensures { IfOk result (Reads (λ v. IsToldText v word.now) rest.now) }
+{
+    match word {
+        "fail" => Ok(read_exit_code(rest, false)),
+        "fail+leak" => Ok(read_exit_code(rest, true)),
+        "sig" => read_signal(alloc, rest),
+        "sig+leak" => Ok(read_leaking_signal(rest)),
+        "nt" => read_status(alloc, rest),
+        _ => Ok(None),
+    }
+}
+
+// A failure by an exit code.
+fn read_exit_code(code: &str, leaked: bool) -> Option<ExecutionResultDescription>
+    ensures { SomeIff result (IsSigned code.now) (exit_code (signed_digits_value 10 code.now) leaked) }
+{
+    Some(ExecutionResultDescription::Fail {
+        failure: FailureDescription::ExitCode {
+            code: read_code(code)?,
+        },
+        leaked,
+    })
+}
+
+// A signal by its number, which its name may follow.
+fn read_signal(alloc: Global, text: &str) -> Result<Option<ExecutionResultDescription>, OutOfMemory>
+    ensures { IfOk result (Reads IsSignalText text.now) }
+{
+    let (number, name) = match split_at_byte(text, b':') {
+        None => (text, None),
+        Some((number, name)) => (number, Some(name)),
+    };
+    let Some(signal) = read_code(number) else {
+        return Ok(None);
+    };
+    let Some(name) = name else {
+        return Ok(Some(aborted(AbortDescription::UnixSignal { signal, name: None })));
+    };
+    let Some(name) = read_text(alloc, name)? else {
+        return Ok(None);
+    };
+    let name = Some(DescriptionText::new(alloc, name.as_str())?);
+    Ok(Some(aborted(AbortDescription::UnixSignal { signal, name })))
+}
+
+// A signal by its number, where handles were left open.
+fn read_leaking_signal(number: &str) -> Option<ExecutionResultDescription>
+    ensures { SomeIff result (IsSigned number.now) (signal_of (signed_digits_value 10 number.now) None true) }
+{
+    Some(ExecutionResultDescription::Fail {
+        failure: FailureDescription::Abort {
+            abort: AbortDescription::UnixSignal {
+                signal: read_code(number)?,
+                name: None,
+            },
+        },
+        leaked: true,
+    })
+}
+
+// A status of Windows by its number, and what the system says of it.
+fn read_status(alloc: Global, text: &str) -> Result<Option<ExecutionResultDescription>, OutOfMemory>
+    ensures { IfOk result (Reads IsStatusText text.now) }
+{
+    let Some((number, message)) = split_at_byte(text, b':') else {
+        return Ok(None);
+    };
+    let Some(code) = read_code(number) else {
+        return Ok(None);
+    };
+    let Some(message) = read_text(alloc, message)? else {
+        return Ok(None);
+    };
+    let message = Some(DescriptionText::new(alloc, message.as_str())?);
+    Ok(Some(aborted(AbortDescription::WindowsNtStatus { code, message })))
+}
+
+// A failure from outside that left no handles open.
+fn aborted(abort: AbortDescription) -> ExecutionResultDescription
+    ensures { result ≡ ExecutionResultDescription.Fail (FailureDescription.Abort abort) false }
+{
+    ExecutionResultDescription::Fail {
+        failure: FailureDescription::Abort { abort },
+        leaked: false,
+    }
+}
