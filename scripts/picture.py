@@ -1,7 +1,7 @@
 #!/usr/bin/env python3
 """Draws what a terminal shows of coloured text: reads the bytes of a report, writes an SVG.
 
-    crates/report/out/report --color cases/picture.scene | scripts/picture.py > docs/report.svg
+    ./run --color --counter cases/picture.scene | scripts/picture.py > docs/report.svg
 
 It knows the sequences that a report has: bold, the eight colours, bright black and the reset.
 """
