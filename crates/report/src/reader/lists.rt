@@ -43,8 +43,8 @@ fn read_words(
 {
     let mut words = Vec::new(alloc);
     let mut rest = list;
-    while let Some(list) = rest {
-        let Some((word, after)) = read_word(alloc, list)? else {
+    while let Some(left) = rest {
+        let Some((word, after)) = read_word(alloc, left)? else {
             return Ok(None);
         };
         words.push(word)?;
