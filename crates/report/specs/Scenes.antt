@@ -11,10 +11,10 @@ use Rattle.report.specs.declared.scene.SceneEvent.TheVariants as scene
 -- a reporter's event says what a scene's does
 abbrev pub SaysSame : SceneEvent → TestEventKind → Type 0
 SaysSame (scene.RunStarted id profile counts) (kind.RunStarted test_list run_id profile_name) = (test_list ≡ counts) × (run_id ≡ id) × (profile_name ≡ profile)
-SaysSame (scene.TestFinished index binary name on_success on_failure earlier last flaky stats) (kind.TestFinished stress test success failure statuses current_stats) =
+SaysSame (scene.TestFinished index binary name on_success on_failure attempts stats) (kind.TestFinished stress test success failure statuses current_stats) =
     (stress ≡ index) × (test.binary_id.now ≡ binary) × (test.test_name.now ≡ name)
     × (success ≡ on_success) × (failure ≡ on_failure)
-    × (statuses ≡ record { earlier = earlier.items; last = last; flaky_result = flaky }) × (current_stats ≡ stats)
+    × (statuses ≡ attempts) × (current_stats ≡ stats)
 SaysSame (scene.RunFinished time stats) (kind.RunFinished elapsed run_stats) = (elapsed ≡ time) × (run_stats ≡ Single stats)
 SaysSame event other = ⊥
 

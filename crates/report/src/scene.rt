@@ -12,7 +12,7 @@ use run_model::memory::OutOfMemory;
 use run_model::name::{ProfileName, RustBinaryId, TestCaseName, TestInstanceId};
 use run_model::output::LiveSpec;
 use run_model::stats::{RunFinishedStats, RunStats};
-use run_model::status::{ExecuteStatus, ExecutionStatuses, FlakyResult};
+use run_model::status::ExecutionStatuses;
 use run_model::stress::StressIndex;
 use run_model::time::Nanos;
 use std::alloc::Global;
@@ -95,12 +95,8 @@ pub enum SceneEvent {
         success_output: TestOutputDisplay,
         /// When its output is to be shown if it failed.
         failure_output: TestOutputDisplay,
-        /// Its attempts before the last one, in order.
-        earlier: Vec<ExecuteStatus<LiveSpec>>,
-        /// Its last attempt.
-        last: ExecuteStatus<LiveSpec>,
-        /// What a success after earlier attempts counts as.
-        flaky_result: FlakyResult,
+        /// Its attempts.
+        run_statuses: ExecutionStatuses<LiveSpec>,
         /// The counts of the run, this test among them.
         current_stats: RunStats,
     },
@@ -157,9 +153,7 @@ impl SceneEvent {
                 test_name,
                 success_output,
                 failure_output,
-                earlier,
-                last,
-                flaky_result,
+                run_statuses,
                 current_stats,
             } => TestEventKind::TestFinished {
                 stress_index: *stress_index,
@@ -169,7 +163,7 @@ impl SceneEvent {
                 },
                 success_output: *success_output,
                 failure_output: *failure_output,
-                run_statuses: copy_attempts(alloc, earlier.as_slice(), last, *flaky_result)?,
+                run_statuses: run_statuses.copy(alloc)?,
                 current_stats: *current_stats,
             },
             SceneEvent::RunFinished { elapsed, run_stats } => TestEventKind::RunFinished {
@@ -181,25 +175,5 @@ impl SceneEvent {
             elapsed: Nanos(0),
             kind,
         })
-    }
-}
-
-// Takes memory for other attempts of the same test. The bytes of their output are shared.
-fn copy_attempts(
-    alloc: Global,
-    earlier: &[ExecuteStatus<LiveSpec>],
-    last: &ExecuteStatus<LiveSpec>,
-    flaky_result: FlakyResult,
-) -> Result<ExecutionStatuses<LiveSpec>, OutOfMemory>
-    ensures { IfOk result (λ s. s ≡ record { earlier = earlier.now; last = last.now; flaky_result = flaky_result }) }
-{
-    let mut attempts = Vec::with_capacity(alloc, earlier.len().saturating_add(1))?;
-    for status in earlier {
-        attempts.push(status.copy(alloc)?)?;
-    }
-    attempts.push(last.copy(alloc)?)?;
-    match ExecutionStatuses::new(attempts, flaky_result) {
-        Some(statuses) => Ok(statuses),
-        None => unreachable!(),
     }
 }

@@ -388,6 +388,33 @@ impl<S: OutputSpec> Model for ExecutionStatuses<S> {
     ghost view = { λ s. record { earlier = s.earlier.items; last = s.last; flaky_result = s.flaky_result } };
 }
 
+impl ExecutionStatuses<LiveSpec> {
+    /// Takes memory for the texts of the same attempts. The bytes of their outputs are shared.
+    pub fn copy(&self, alloc: Global) -> Result<Self, OutOfMemory>
+        ensures { IfOk result (λ statuses. statuses ≡ self.now) }
+    {
+        Ok(ExecutionStatuses {
+            earlier: copy_attempts(alloc, &self.earlier)?,
+            last: self.last.copy(alloc)?,
+            flaky_result: self.flaky_result,
+        })
+    }
+}
+
+// Takes memory for other attempts that are the same. Where there is none it takes none.
+fn copy_attempts(
+    alloc: Global,
+    attempts: &[ExecuteStatus<LiveSpec>],
+) -> Result<Vec<ExecuteStatus<LiveSpec>>, OutOfMemory>
+    ensures { IfOk result (λ copies. copies.items ≡ attempts.now) }
+{
+    let mut copies = Vec::with_capacity(alloc, attempts.len())?;
+    for attempt in attempts {
+        copies.push(attempt.copy(alloc)?)?;
+    }
+    Ok(copies)
+}
+
 impl<S: OutputSpec> ExecutionStatuses<S> {
     /// The attempts in order, unless there is none; and what a success after earlier attempts counts as.
     pub fn new(statuses: Vec<ExecuteStatus<S>>, flaky_result: FlakyResult) -> Option<Self>
@@ -402,6 +429,23 @@ impl<S: OutputSpec> ExecutionStatuses<S> {
             last,
             flaky_result,
         })
+    }
+
+    /// The attempts before the last one, in order, and the last; and what a success after earlier attempts counts as.
+    pub fn with_last(
+        earlier: Vec<ExecuteStatus<S>>,
+        last: ExecuteStatus<S>,
+        flaky_result: FlakyResult,
+    ) -> Self
+        ensures earlier { result.earlier ≡ earlier.items }
+        ensures last { result.last ≡ last }
+        ensures flaky { result.flaky_result ≡ flaky_result }
+    {
+        ExecutionStatuses {
+            earlier,
+            last,
+            flaky_result,
+        }
     }
 
     /// The last attempt.

@@ -15,7 +15,7 @@ use crate::scene::{SceneConfig, SceneEvent};
 use run_model::event::TestCounts;
 use run_model::name::{ProfileName, RustBinaryId, TestCaseName};
 use run_model::output::LiveSpec;
-use run_model::status::{ExecuteStatus, RetryData};
+use run_model::status::{ExecuteStatus, ExecutionStatuses, FlakyResult, RetryData};
 use std::alloc::Global;
 use std::mem;
 use uuid::Uuid;
@@ -100,16 +100,14 @@ pub fn read_done(alloc: Global, fields: &mut Fields<'_>) -> Result<SceneEvent, L
     let failure_output = fields.read(read_display)?;
     let flaky_result = fields.read(read_flaky_result)?;
     let current_stats = fields.read(read_stats)?;
-    let (earlier, last) = read_attempts(alloc, fields)?;
+    let run_statuses = read_attempts(alloc, fields, flaky_result)?;
     Ok(SceneEvent::TestFinished {
         stress_index,
         binary_id: RustBinaryId::new(alloc, binary_id.as_str())?,
         test_name: TestCaseName::new(alloc, test_name.as_str())?,
         success_output,
         failure_output,
-        earlier,
-        last,
-        flaky_result,
+        run_statuses,
         current_stats,
     })
 }
@@ -123,11 +121,12 @@ pub fn read_end(fields: &mut Fields<'_>) -> Result<SceneEvent, LineFault> {
     Ok(SceneEvent::RunFinished { elapsed, run_stats })
 }
 
-// Reads how many attempts there can be, and the attempts: those before the last one, and the last.
+// Reads how many attempts there can be, and the attempts, of which a line has at least one.
 fn read_attempts(
     alloc: Global,
     fields: &mut Fields<'_>,
-) -> Result<(Vec<ExecuteStatus<LiveSpec>>, ExecuteStatus<LiveSpec>), LineError> {
+    flaky_result: FlakyResult,
+) -> Result<ExecutionStatuses<LiveSpec>, LineError> {
     let total_attempts = fields.read(read_small_count)?;
     let mut earlier = Vec::new(alloc);
     let mut last = read_attempt(alloc, fields, 1, total_attempts)?;
@@ -138,7 +137,7 @@ fn read_attempts(
         let next = read_attempt(alloc, fields, attempt, total_attempts)?;
         earlier.push(mem::replace(&mut last, next))?;
     }
-    Ok((earlier, last))
+    Ok(ExecutionStatuses::with_last(earlier, last, flaky_result))
 }
 
 // Reads an attempt: result, duration, whether it was slow, and its output.

@@ -4,7 +4,7 @@ use super::{DONE, OPTIONS, line_of, refused, taken};
 use crate::program::judge;
 use crate::scene::SceneEvent;
 use run_model::output::{ChildExecutionOutputDescription, ChildOutputDescription};
-use run_model::status::RetryData;
+use run_model::status::{ExecutionDescription, RetryData};
 use std::test::Fail;
 
 const COMBINED: &str =
@@ -159,9 +159,10 @@ fn counts_the_fields_of_attempts(rt: HostRuntime) -> Result<(), Fail> {
 #[test]
 fn holds_the_last_attempt(rt: HostRuntime) -> Result<(), Fail> {
     let scene = judge(rt.alloc(), &OPTIONS, TWO_ATTEMPTS.as_bytes())?;
-    let [SceneEvent::TestFinished { last, .. }] = scene.events.as_slice() else {
+    let [SceneEvent::TestFinished { run_statuses, .. }] = scene.events.as_slice() else {
         return Err(Fail::from("one test has finished"));
     };
+    let last = run_statuses.last_status();
     let retry_data = RetryData {
         attempt: 2,
         total_attempts: 4,
@@ -181,10 +182,14 @@ fn holds_the_last_attempt(rt: HostRuntime) -> Result<(), Fail> {
 #[test]
 fn holds_earlier_attempts(rt: HostRuntime) -> Result<(), Fail> {
     let scene = judge(rt.alloc(), &OPTIONS, TWO_ATTEMPTS.as_bytes())?;
-    let [SceneEvent::TestFinished { earlier, .. }] = scene.events.as_slice() else {
+    let [SceneEvent::TestFinished { run_statuses, .. }] = scene.events.as_slice() else {
         return Err(Fail::from("one test has finished"));
     };
-    let [first] = earlier.as_slice() else {
+    let ExecutionDescription::Flaky {
+        prior_statuses: [first],
+        ..
+    } = run_statuses.describe()
+    else {
         return Err(Fail::from("one attempt stands before the last"));
     };
     assert_eq!(rt; first.retry_data.attempt, 1);
