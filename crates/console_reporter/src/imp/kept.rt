@@ -1,12 +1,14 @@
 //! What is kept of a run for its summary, and the order in which the summary lists it.
 
-ghost use Rattle.std.specs.Prelude.{◌≡◌, List, IfOk, OnOk, OnErr, Some};
+ghost use Rattle.std.specs.Prelude.{◌≡◌, List, IfOk, IsOk, OnOk, OnErr, Some, false};
 ghost use Rattle.std.specs.Ordering.{nat_cmp};
 ghost use Rattle.std.specs.Cmp.Lexicographic.{slice_cmp};
 ghost use Rattle.std.specs.List.Sorted.{IsSorted, IsStable};
+ghost use Rattle.run_model.specs.Statuses.{has_text};
 ghost use Rattle.report_text.specs.Writer.{Puts};
 ghost use Rattle.console_reporter.specs.Counters.{counter_key};
 ghost use Rattle.console_reporter.specs.Entries.{counted_cmp, entry_cmp, entry_output, entry_text, finished_entry, instance_cmp, iterated_cmp, iteration_key, output_at_end, entries_text, final_order, IsFinalOrder};
+ghost use Rattle.console_reporter.specs.Finishes.{is_shown_at_end};
 ghost use Rattle.console_reporter.specs.declared.imp.kept.KeptEntry.{KeptEntry};
 
 use super::attempt_output::write_attempt_output;
@@ -50,7 +52,8 @@ impl<'a> KeptEntry<'a> {
         display: TestOutputDisplay,
         run_statuses: &ExecutionStatuses<LiveSpec>,
     ) -> Result<KeptEntry<'a>, OutOfMemory>
-        ensures { IfOk result (λ e. e ≡ finished_entry 0 stress_index counter instance.entry display run_statuses.now) }
+        ensures entry { IfOk result (λ e. e ≡ finished_entry 0 stress_index counter instance.entry display run_statuses.now) }
+        ensures free { has_text run_statuses.now.last.result ≡ false → is_shown_at_end 0 display run_statuses.now.last.result ≡ false → IsOk result }
     {
         Ok(KeptEntry {
             stress_index,
@@ -69,7 +72,8 @@ fn output_at_end(
     display: TestOutputDisplay,
     last: &ExecuteStatus<LiveSpec>,
 ) -> Result<Option<ChildExecutionOutputDescription<LiveSpec>>, OutOfMemory>
-    ensures { IfOk result (λ o. o ≡ output_at_end 0 display last.now) }
+    ensures copy { IfOk result (λ o. o ≡ output_at_end 0 display last.now) }
+    ensures free { is_shown_at_end 0 display last.now.result ≡ false → IsOk result }
 {
     if FinishRow::of_test(None, &last.result).is_shown_at_end(display) {
         Ok(Some(last.output.copy(alloc)?))

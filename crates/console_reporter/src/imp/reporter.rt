@@ -349,19 +349,13 @@ fn write_event_text<W: WriteStr>(
     ensures { Puts W.meaning w.old (event_text state.now.settings state.now.unique_prefix 0 state.now.kept.items event.now.kind) result w.new }
 {
     let settings = &state.settings;
+    let unique_prefix = &state.unique_prefix;
     match &event.kind {
         TestEventKind::RunStarted {
             test_list,
             run_id,
             profile_name,
-        } => write_run_started(
-            w,
-            settings,
-            &state.unique_prefix,
-            test_list,
-            run_id,
-            profile_name,
-        ),
+        } => write_run_started(w, settings, unique_prefix, test_list, run_id, profile_name),
         TestEventKind::TestFinished {
             stress_index,
             test_instance,
