@@ -1,6 +1,7 @@
 pub mod Configs
 pub mod Cuts
 pub mod Faults
+pub mod Lines
 pub mod Lists
 pub mod Numbers
 pub mod Outputs

@@ -1,5 +1,9 @@
 //! The kinds of line that a scene has, and the fields of each.
 
+ghost use Rattle.std.specs.Prelude.{◌≡◌};
+ghost use Rattle.report.specs.Values.{ReadsWord};
+ghost use Rattle.report.specs.Lines.{line_word, takes};
+
 use super::counts::{read_skips, read_stats};
 use super::fields::Fields;
 use super::numbers::{read_count, read_nanos, read_small_count};
@@ -35,7 +39,9 @@ pub enum LineKind {
 
 impl LineKind {
     /// The kind that a line's first field names.
-    pub fn from_name(name: &str) -> Option<LineKind> {
+    pub fn from_name(name: &str) -> Option<LineKind>
+        ensures { ReadsWord line_word name.now result }
+    {
         match name {
             "config" => Some(LineKind::Config),
             "run" => Some(LineKind::Run),
@@ -46,7 +52,9 @@ impl LineKind {
     }
 
     /// Whether so many fields may stand after the first. A finished test has eight, and eight for each attempt.
-    pub fn takes(self, fields: usize) -> bool {
+    pub fn takes(self, fields: usize) -> bool
+        ensures { result ≡ takes self fields }
+    {
         match self {
             LineKind::Config => fields == 2,
             LineKind::Run => fields == 5,
