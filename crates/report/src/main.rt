@@ -15,6 +15,7 @@ mod words;
 use fault::Fault;
 use program::{judge, write_report};
 use std::fs::File;
+use std::mem::ManuallyDrop;
 use std::process::ExitCode;
 use std::{env, io};
 use words::words;
@@ -56,6 +57,7 @@ fn run<'a>(rt: &HostRuntime, args: &'a [String]) -> Result<(), Fault<'a>> {
     let Ok(file) = File::open(rt, options.file) else {
         return Err(Fault::CannotRead { file: options.file });
     };
-    let scene = judge(rt.alloc(), &options, file)?;
+    // The process ends with the report, and the scene's memory with the process: nothing is gained by giving it back.
+    let scene = ManuallyDrop::new(judge(rt.alloc(), &options, file)?);
     write_report(rt.alloc(), &options, &scene, io::writer(rt))
 }

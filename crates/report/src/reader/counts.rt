@@ -4,6 +4,7 @@
 //! stands for no pair at all. Each function answers None for a bad field.
 
 use super::numbers::read_count;
+use super::split::split_at_byte;
 use super::values::read_reason;
 use run_model::event::SkipCounts;
 use run_model::level::CancelReason;
@@ -18,7 +19,7 @@ pub fn read_stats(field: &str) -> Option<RunStats> {
     let mut read = StatsRead::default();
     if field != "-" {
         for pair in field.split(' ') {
-            let (key, value) = pair.split_once('=')?;
+            let (key, value) = split_at_byte(pair, b'=')?;
             read.set(key, value)?;
         }
     }
@@ -102,7 +103,7 @@ pub fn read_skips(field: &str) -> Option<SkipCounts> {
     let mut read = SkipsRead::default();
     if field != "-" {
         for pair in field.split(' ') {
-            let (key, value) = pair.split_once('=')?;
+            let (key, value) = split_at_byte(pair, b'=')?;
             read.set(key, value)?;
         }
     }
