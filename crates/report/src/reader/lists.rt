@@ -31,7 +31,7 @@ pub fn read_chain(alloc: Global, field: &str) -> Result<Option<ErrorChain>, OutO
     let Some(causes) = read_words(alloc, rest)? else {
         return Ok(None);
     };
-    Ok(Some(ErrorChain::new(message, causes)))
+    Ok(Some(ErrorChain::new(alloc, message, causes)?))
 }
 
 // The words of a list, where there is one. None is a bad word.

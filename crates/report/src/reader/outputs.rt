@@ -17,6 +17,7 @@ use super::texts::read_bytes;
 use super::values::read_absent;
 use crate::fault::LineError;
 use bytes::Bytes;
+use run_model::boxed::Boxed;
 use run_model::memory::OutOfMemory;
 use run_model::output::{
     ChildExecutionOutputDescription, ChildOutputDescription, ChildSingleOutput, ErrorChain,
@@ -101,7 +102,7 @@ fn read_single(alloc: Global, field: &str) -> Result<Option<ChildSingleOutput>, 
     ensures { IfOk result (λ output. output ≡ unescaped 255 field.now) }
 {
     match read_bytes(alloc, field)? {
-        Some(bytes) => Ok(Some(ChildSingleOutput::new(Bytes::from_vec(bytes)?))),
+        Some(bytes) => Ok(Some(ChildSingleOutput::new(alloc, Bytes::from_vec(bytes)?)?)),
         None => Ok(None),
     }
 }
@@ -117,7 +118,10 @@ fn read_errors(alloc: Global, field: &str) -> Result<Option<Option<ErrorChain>>,
 }
 
 // The part of the output to point out: its stream, the place of its first byte, and its bytes; or `-`.
-fn read_highlight(alloc: Global, field: &str) -> Result<Option<Option<Highlight>>, OutOfMemory>
+fn read_highlight(
+    alloc: Global,
+    field: &str,
+) -> Result<Option<Option<Boxed<Highlight>>>, OutOfMemory>
     ensures { IfOk result (Reads IsHighlightText field.now) }
 {
     let Some((stream, rest)) = split_at_byte(field, b':') else {
@@ -132,11 +136,12 @@ fn read_highlight(alloc: Global, field: &str) -> Result<Option<Option<Highlight>
     let Some(slice) = read_bytes(alloc, slice)? else {
         return Ok(None);
     };
-    Ok(Some(Some(Highlight {
+    let highlight = Highlight {
         stream,
         start,
         slice: Bytes::from_vec(slice)?,
-    })))
+    };
+    Ok(Some(Some(Boxed::new(alloc, highlight)?)))
 }
 
 // The stream that a highlight stands in.

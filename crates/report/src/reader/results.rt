@@ -14,6 +14,7 @@ use super::numbers::read_code;
 use super::split::split_at_byte;
 use super::texts::read_text;
 use run_model::abort::{AbortDescription, DescriptionText};
+use run_model::boxed::Boxed;
 use run_model::memory::OutOfMemory;
 use run_model::status::{
     ExecutionResultDescription, FailureDescription, LeakTimeoutResult, SlowTimeoutResult,
@@ -32,16 +33,16 @@ pub fn read_result(
     ensures { IfOk result (Reads IsResultText field.now) }
 {
     match split_at_byte(field, b':') {
-        None => Ok(read_plain(field)),
+        None => read_plain(alloc, field),
         Some((word, rest)) => read_told(alloc, word, rest),
     }
 }
 
 // A result that is one word.
-fn read_plain(field: &str) -> Option<ExecutionResultDescription>
-    ensures { Reads IsPlainText field.now result }
+fn read_plain(alloc: Global, field: &str) -> Result<Option<ExecutionResultDescription>, OutOfMemory>
+    ensures { IfOk result (Reads IsPlainText field.now) }
 {
-    match field {
+    Ok(match field {
         "pass" => Some(ExecutionResultDescription::Pass),
         "leak" => Some(ExecutionResultDescription::Leak {
             result: LeakTimeoutResult::Pass,
@@ -49,7 +50,7 @@ fn read_plain(field: &str) -> Option<ExecutionResultDescription>
         "leakfail" => Some(ExecutionResultDescription::Leak {
             result: LeakTimeoutResult::Fail,
         }),
-        "job" => Some(aborted(AbortDescription::WindowsJobObject)),
+        "job" => Some(aborted(alloc, AbortDescription::WindowsJobObject, false)?),
         "exec" => Some(ExecutionResultDescription::ExecFail),
         "tmpass" => Some(ExecutionResultDescription::Timeout {
             result: SlowTimeoutResult::Pass,
@@ -58,7 +59,7 @@ fn read_plain(field: &str) -> Option<ExecutionResultDescription>
             result: SlowTimeoutResult::Fail,
         }),
         _ => None,
-    }
+    })
 }
 
 // A result whose word has something to tell of.
@@ -73,7 +74,7 @@ fn read_told(
         "fail" => Ok(read_exit_code(rest, false)),
         "fail+leak" => Ok(read_exit_code(rest, true)),
         "sig" => read_signal(alloc, rest),
-        "sig+leak" => Ok(read_leaking_signal(rest)),
+        "sig+leak" => read_leaking_signal(alloc, rest),
         "nt" => read_status(alloc, rest),
         _ => Ok(None),
     }
@@ -103,28 +104,28 @@ fn read_signal(alloc: Global, text: &str) -> Result<Option<ExecutionResultDescri
         return Ok(None);
     };
     let Some(name) = name else {
-        return Ok(Some(aborted(AbortDescription::UnixSignal { signal, name: None })));
+        let abort = AbortDescription::UnixSignal { signal, name: None };
+        return Ok(Some(aborted(alloc, abort, false)?));
     };
     let Some(name) = read_text(alloc, name)? else {
         return Ok(None);
     };
     let name = Some(DescriptionText::new(alloc, name.as_str())?);
-    Ok(Some(aborted(AbortDescription::UnixSignal { signal, name })))
+    Ok(Some(aborted(alloc, AbortDescription::UnixSignal { signal, name }, false)?))
 }
 
 // A signal by its number, where handles were left open.
-fn read_leaking_signal(number: &str) -> Option<ExecutionResultDescription>
-    ensures { SomeIff result (IsSigned number.now) (signal_of (signed_digits_value 10 number.now) None true) }
+fn read_leaking_signal(
+    alloc: Global,
+    number: &str,
+) -> Result<Option<ExecutionResultDescription>, OutOfMemory>
+    ensures { IfOk result (λ r. SomeIff r (IsSigned number.now) (signal_of (signed_digits_value 10 number.now) None true)) }
 {
-    Some(ExecutionResultDescription::Fail {
-        failure: FailureDescription::Abort {
-            abort: AbortDescription::UnixSignal {
-                signal: read_code(number)?,
-                name: None,
-            },
-        },
-        leaked: true,
-    })
+    let Some(signal) = read_code(number) else {
+        return Ok(None);
+    };
+    let abort = AbortDescription::UnixSignal { signal, name: None };
+    Ok(Some(aborted(alloc, abort, true)?))
 }
 
 // A status of Windows by its number, and what the system says of it.
@@ -141,15 +142,25 @@ fn read_status(alloc: Global, text: &str) -> Result<Option<ExecutionResultDescri
         return Ok(None);
     };
     let message = Some(DescriptionText::new(alloc, message.as_str())?);
-    Ok(Some(aborted(AbortDescription::WindowsNtStatus { code, message })))
+    Ok(Some(aborted(
+        alloc,
+        AbortDescription::WindowsNtStatus { code, message },
+        false,
+    )?))
 }
 
-// A failure from outside that left no handles open.
-fn aborted(abort: AbortDescription) -> ExecutionResultDescription
-    ensures { result ≡ ExecutionResultDescription.Fail (FailureDescription.Abort abort) false }
+// A failure from outside.
+fn aborted(
+    alloc: Global,
+    abort: AbortDescription,
+    leaked: bool,
+) -> Result<ExecutionResultDescription, OutOfMemory>
+    ensures { IfOk result (λ r. r ≡ ExecutionResultDescription.Fail (FailureDescription.Abort abort) leaked) }
 {
-    ExecutionResultDescription::Fail {
-        failure: FailureDescription::Abort { abort },
-        leaked: false,
-    }
+    Ok(ExecutionResultDescription::Fail {
+        failure: FailureDescription::Abort {
+            abort: Boxed::new(alloc, abort)?,
+        },
+        leaked,
+    })
 }

@@ -203,7 +203,7 @@ fn holds_earlier_attempts(rt: HostRuntime) -> Result<(), Fail> {
     };
     assert_eq!(rt; errors.message(), "e");
     assert_eq!(rt; errors.causes().len(), 1);
-    assert_eq!(rt; highlight.start, 2);
-    assert_eq!(rt; highlight.slice.as_slice(), b"e".as_slice());
+    assert_eq!(rt; highlight.get().start, 2);
+    assert_eq!(rt; highlight.get().slice.as_slice(), b"e".as_slice());
     Ok(())
 }
