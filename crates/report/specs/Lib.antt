@@ -7,6 +7,7 @@ pub mod Numbers
 pub mod Outputs
 pub mod Reports
 pub mod Results
+pub mod SceneAttempts
 pub mod Scenes
 pub mod Texts
 pub mod Values

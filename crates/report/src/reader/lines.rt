@@ -15,11 +15,11 @@ use super::values::{
     read_flaky_result, read_mode, read_stress_index,
 };
 use crate::fault::{LineError, LineFault};
+use crate::scene::attempts::{SceneAttempt, SceneAttempts};
 use crate::scene::{SceneConfig, SceneEvent};
 use run_model::event::TestCounts;
 use run_model::name::{ProfileName, RustBinaryId, TestCaseName};
-use run_model::output::LiveSpec;
-use run_model::status::{ExecuteStatus, ExecutionStatuses, FlakyResult, RetryData};
+use run_model::status::{FlakyResult, RetryData};
 use std::alloc::Global;
 use std::mem;
 use uuid::Uuid;
@@ -108,14 +108,14 @@ pub fn read_done(alloc: Global, fields: &mut Fields<'_>) -> Result<SceneEvent, L
     let failure_output = fields.read(read_display)?;
     let flaky_result = fields.read(read_flaky_result)?;
     let current_stats = fields.read(read_stats)?;
-    let run_statuses = read_attempts(alloc, fields, flaky_result)?;
+    let attempts = read_attempts(alloc, fields, flaky_result)?;
     Ok(SceneEvent::TestFinished {
         stress_index,
         binary_id: RustBinaryId::new(alloc, binary_id.as_str())?,
         test_name: TestCaseName::new(alloc, test_name.as_str())?,
         success_output,
         failure_output,
-        run_statuses,
+        attempts,
         current_stats,
     })
 }
@@ -134,7 +134,7 @@ fn read_attempts(
     alloc: Global,
     fields: &mut Fields<'_>,
     flaky_result: FlakyResult,
-) -> Result<ExecutionStatuses<LiveSpec>, LineError> {
+) -> Result<SceneAttempts, LineError> {
     let total_attempts = fields.read(read_small_count)?;
     let mut earlier = Vec::new(alloc);
     let mut last = read_attempt(alloc, fields, 1, total_attempts)?;
@@ -145,7 +145,7 @@ fn read_attempts(
         let next = read_attempt(alloc, fields, attempt, total_attempts)?;
         earlier.push(mem::replace(&mut last, next))?;
     }
-    Ok(ExecutionStatuses::with_last(earlier, last, flaky_result))
+    Ok(SceneAttempts::new(earlier, last, flaky_result))
 }
 
 // Reads an attempt: result, duration, whether it was slow, and its output.
@@ -154,19 +154,14 @@ fn read_attempt(
     fields: &mut Fields<'_>,
     attempt: u32,
     total_attempts: u32,
-) -> Result<ExecuteStatus<LiveSpec>, LineError> {
+) -> Result<SceneAttempt, LineError> {
     let result = fields.try_read(|field| read_result(alloc, field))?;
     let time_taken = fields.read(read_nanos)?;
     let is_slow = fields.read(read_flag)?;
     let output = read_output(alloc, fields, &result)?;
-    Ok(ExecuteStatus {
-        retry_data: RetryData {
-            attempt,
-            total_attempts,
-        },
-        output,
-        result,
-        time_taken,
-        is_slow,
-    })
+    let retry_data = RetryData {
+        attempt,
+        total_attempts,
+    };
+    Ok(SceneAttempt::with_output(alloc, result, time_taken, retry_data, is_slow, output)?)
 }
