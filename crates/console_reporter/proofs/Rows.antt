@@ -32,8 +32,8 @@ use Rattle.run_model.specs.Names.{last_colons}
 use Rattle.run_model.specs.Attempts.{Attempts}
 use Rattle.run_model.specs.Statuses.{summary_of}
 use Rattle.report_text.specs.Plural.{tests_word_if, binaries_word}
-use Rattle.report_text.specs.Styles.{part_text, styles_of}
-use Rattle.report_text.specs.Words.{Text, right_in}
+use Rattle.report_text.specs.Styles.{plain, styled, styles_of}
+use Rattle.report_text.specs.Texts.{Text, right_in}
 use Rattle.report_text.specs.Theme.{hbar_text}
 use Rattle.console_reporter.specs.AbortLines.{abort_line}
 use Rattle.console_reporter.specs.AttemptOutputs.{Written}
@@ -42,12 +42,12 @@ use Rattle.console_reporter.specs.ResultWords.{long_word}
 use Rattle.console_reporter.specs.Order.{ordered_by, put_in}
 use Rattle.console_reporter.specs.Entries.{cancel, entry_of, finished_entry, kept, final_order}
 use Rattle.console_reporter.specs.Finishes.{display_of, finish_row, row_kept, is_final_wanted}
-use Rattle.console_reporter.specs.RunTexts.{bar_line, run_id_text, id_text, with_profile, run_id_line, test_counts_text, starting_line, run_started_text, initial_count_text, run_counts_text, summary_line, run_finished_text}
+use Rattle.console_reporter.specs.RunTexts.{bar_line, run_id_text, id_text, profile_text, run_id_line, test_counts_text, starting_line, run_started_text, initial_count_text, run_counts_text, summary_line, run_finished_text}
 use Rattle.console_reporter.specs.StatusLines.{status_prefix, flaky_failure_line, status_line}
 use Rattle.console_reporter.specs.declared.imp.calls.ReportCall.TheVariants.{Event}
 use Rattle.console_reporter.specs.declared.imp.finish.FinishRow.TheVariants as row
 use Rattle.console_reporter.specs.declared.imp.settings.Settings.{Settings}
-use Rattle.console_reporter.specs.StatsTexts.{summary_text, counted_text, passed_notes, passed_note, notes_end, failed_counts, failed_count, leaky_failed_note, exec_failed_count, timed_out_count, other_failed_count}
+use Rattle.console_reporter.specs.StatsTexts.{summary_text, counted_text, passed_notes, passed_note, notes_end, failed_counts, failed_count, leaky_failed_note, due_to_being, exec_failed_count, timed_out_count, other_failed_count}
 use Rattle.report_text.specs.Numbers.{seconds, with_point}
 use Rattle.report_text.specs.Instances.{test_text, stress_prefix, counter_prefix, name_text}
 use Rattle.unit_report.specs.Durations.{bracketed_duration}
@@ -85,7 +85,7 @@ run_id = 0 ∷ 0 ∷ 0 ∷ 0 ∷ 0 ∷ 0 ∷ 64 ∷ 0 ∷ 128 ∷ 0 ∷ 0 ∷ 0 
 
 start : run_started_text settings None (record { run_count = 2; listed_binary_count = 1; skip_counts = none_skipped }) run_id (codes "default")
     ≡ codes "------------\n Nextest run ID 00000000-0000-4000-8000-000000000001 with nextest profile: default\n    Starting 2 tests across 1 binary\n"
-unfolding run_started_text run_id_line id_text run_id_text with_profile starting_line test_counts_text skip_note bar_line hbar_text lib.Utf8.encode part_text right_in chars by_index digits tests_word_if binaries_word
+unfolding run_started_text run_id_line profile_text id_text run_id_text starting_line test_counts_text skip_note bar_line hbar_text lib.Utf8.encode plain styled right_in chars by_index digits tests_word_if binaries_word
 start = refl
 
 -- two tests ran, one passed and one failed
@@ -109,8 +109,8 @@ stats = record {
 }
 
 summary : run_finished_text settings 1520000000 (Single stats) ≡ codes "------------\n     Summary [   1.520s] 2 tests run: 1 passed, 1 failed, 0 skipped\n"
-unfolding run_finished_text summary_line run_counts_text initial_count_text bar_line hbar_text lib.Utf8.encode part_text right_in chars digits tests_word_if bracketed_duration seconds with_point
-    summary_text counted_text passed_notes passed_note notes_end failed_counts failed_count leaky_failed_note exec_failed_count timed_out_count other_failed_count
+unfolding run_finished_text summary_line run_counts_text initial_count_text bar_line hbar_text lib.Utf8.encode plain styled right_in chars digits tests_word_if bracketed_duration seconds with_point
+    summary_text counted_text passed_notes passed_note notes_end failed_counts failed_count leaky_failed_note due_to_being exec_failed_count timed_out_count other_failed_count
 summary = refl
 
 -- a test that failed with a code at its one attempt, after so long
@@ -128,18 +128,18 @@ failed output code time = record {
 }
 
 lasted : bracketed_duration 1500000000 ≡ codes "[   1.500s] "
-unfolding bracketed_duration seconds with_point part_text right_in chars digits
+unfolding bracketed_duration seconds with_point plain styled right_in chars digits
 lasted = refl
 
 named : test_text settings.styles.list_styles None None (codes "alpha") (codes "mod::t2") ≡ codes "alpha mod::t2"
-unfolding test_text stress_prefix counter_prefix name_text part_text last_colons
+unfolding test_text stress_prefix counter_prefix name_text plain styled last_colons
 named = refl
 
 -- its line, at once and in the summary
 failed_line : (is_final : Bool) (test : TestInstanceId) (output : Written) (code : ℤ) (time : Nanos) →
     test.binary_id.now ≡ codes "alpha" → test.test_name.now ≡ codes "mod::t2" → time.0 ≡ 1500000000 →
     status_line settings.styles is_final None None test (summary_of (failed output code time)) ≡ codes "        FAIL [   1.500s] alpha mod::t2\n"
-unfolding status_line status_prefix long_word abort_line flaky_failure_line part_text right_in chars
+unfolding status_line status_prefix long_word abort_line flaky_failure_line plain styled right_in chars
 failed_line true test output code time binary name after = rw (binary, name, after, lasted, named) refl
 failed_line false test output code time binary name after = rw (binary, name, after, lasted, named) refl
 

@@ -37,8 +37,8 @@ use Rattle.unit_report.specs.declared.unit_output.reporter.UnitOutputReporter.{U
 use Rattle.unit_report.specs.Warnings.{not_run_warning, final_warnings}
 use Rattle.report_text.specs.declared.helpers.instance.DisplayCounterIndex.{DisplayCounterIndex}
 use Rattle.console_reporter.specs.Counters.{finished_counter}
-use Rattle.report_text.specs.Words.{Text}
-use Rattle.report_text.specs.Styles.{part_text, plain}
+use Rattle.report_text.specs.Texts.{Text}
+use Rattle.report_text.specs.Styles.{plain}
 use Rattle.report_text.specs.declared.style.Styles.{Styles}
 use Rattle.console_reporter.specs.AbortLines.{nt_line, job_object_line, line_of_abort, abort_line}
 use Rattle.console_reporter.specs.AttemptOutputs.{Written, attempt_output, has_info_line, info_line, shown_info_line}
@@ -75,11 +75,11 @@ of_lines-append t u (inl nothing) p = subst IsOfLines (ap (λ x. x ++ u) (sym no
 of_lines-append t u (inr e) p = of_line (t ++ u) (ends_before t u (record { front = e.0; is = e.1 }) p)
 
 ends-feed : EndsLine (plain (codes "\n"))
-unfolding part_text
+unfolding plain
 ends-feed = record { front = []; is = refl }
 
 ends-if_flaky : EndsLine (plain (codes " if flaky\n"))
-unfolding part_text
+unfolding plain
 ends-if_flaky = record { front = codes " if flaky"; is = refl }
 
 ends-flaky_note : (s : Styles) → EndsLine (flaky_note s)
@@ -122,7 +122,7 @@ unfolding status_line
 ends-status_line s is_final stress counter instance x = search (ends_after, ends-status_end) depth 12
 
 ends-info_end : EndsLine (plain (codes ")\n\n"))
-unfolding part_text
+unfolding plain
 ends-info_end = record { front = codes ")\n"; is = refl }
 
 ends-shown_info_line : (s : Styles) (is_slow : Bool) (result : ExecutionResultDescription) → EndsLine (shown_info_line s is_slow result)

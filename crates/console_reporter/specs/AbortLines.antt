@@ -8,13 +8,9 @@ use Rattle.run_model.specs.declared.status.FailureDescription.{FailureDescriptio
 use Rattle.run_model.specs.declared.status.FailureDescription.TheVariants.{ExitCode, Abort}
 use Rattle.report_text.specs.Failures.{nt_status_text}
 use Rattle.report_text.specs.Indent.{indent}
-use Rattle.report_text.specs.Words.{Text}
+use Rattle.report_text.specs.Texts.{Text}
 use Rattle.report_text.specs.Styles.{plain, styled}
 use Rattle.report_text.specs.declared.style.Styles.{Styles}
-
--- what begins a line that belongs to the one above
-unfoldable pub note_start : Text
-note_start = plain (codes "           - ")
 
 -- what the system says of a status, if it is known: its later lines begin so too, where they are not empty
 unfoldable pub indented_message : Text → Text
@@ -27,7 +23,7 @@ nt_message (Some message) = plain (codes ": ") ++ indented_message message
 -- a status of Windows
 unfoldable pub nt_line : Styles → ℤ → Option Text → Text
 nt_line s code message =
-    note_start
+    plain (codes "           - ")
     ++ (styled s.fail (codes "with code")
     ++ (plain (codes " ")
     ++ (styled s.count (nt_status_text code)
@@ -35,14 +31,10 @@ nt_line s code message =
     ++ plain (codes "\n")))))
 
 -- the end of the job that the process belonged to
-unfoldable pub terminated_text : Styles → Text
-terminated_text s = styled s.fail (codes "terminated")
-
-unfoldable pub job_object_text : Styles → Text
-job_object_text s = styled s.count (codes "job object")
-
 unfoldable pub job_object_line : Styles → Text
-job_object_line s = note_start ++ (terminated_text s ++ (plain (codes " via ") ++ (job_object_text s ++ plain (codes "\n"))))
+job_object_line s =
+    plain (codes "           - ")
+    ++ (styled s.fail (codes "terminated") ++ (plain (codes " via ") ++ (styled s.count (codes "job object") ++ plain (codes "\n"))))
 
 -- a signal is told by the word of the line itself
 abbrev pub line_of_abort : Styles → AbortDescription → Text

@@ -11,7 +11,7 @@ use Rattle.run_model.specs.declared.status.FailureDescription.TheVariants.{ExitC
 use Rattle.run_model.specs.declared.status.LeakTimeoutResult.TheVariants as leak
 use Rattle.run_model.specs.declared.status.SlowTimeoutResult.TheVariants as slow
 use Rattle.run_model.specs.declared.unit.UnitKind.TheVariants as unit
-use Rattle.report_text.specs.Words.{Text}
+use Rattle.report_text.specs.Texts.{Text}
 use Rattle.report_text.specs.Styles.{plain}
 use Rattle.report_text.specs.declared.helpers.theme.ThemeCharacters.{ThemeCharacters}
 use Rattle.report_text.specs.declared.style.Style.{Style}

@@ -11,30 +11,20 @@ use Rattle.run_model.specs.declared.status.LeakTimeoutResult.{LeakTimeoutResult}
 use Rattle.run_model.specs.declared.status.LeakTimeoutResult.TheVariants as leak
 use Rattle.run_model.specs.declared.status.SlowTimeoutResult.{SlowTimeoutResult}
 use Rattle.run_model.specs.declared.status.SlowTimeoutResult.TheVariants as slow
-use Rattle.report_text.specs.Words.{Text}
+use Rattle.report_text.specs.Texts.{Text}
 use Rattle.report_text.specs.Styles.{plain, styled}
 use Rattle.report_text.specs.declared.style.Style.{Style}
 use Rattle.report_text.specs.declared.style.Styles.{Styles}
 
 -- that a process left handles open, where it did
-unfoldable pub leaked_handles : Text
-leaked_handles = plain (codes " (leaked handles)")
-
 unfoldable pub leaked_note : Bool → Text
 leaked_note false = []
-leaked_note true = leaked_handles
-
--- the words before a code and before a signal
-unfoldable pub with_exit_code : Text
-with_exit_code = plain (codes " with exit code ")
-
-unfoldable pub with_signal : Text
-with_signal = plain (codes " with signal ")
+leaked_note true = plain (codes " (leaked handles)")
 
 -- a process that ended with a code
 unfoldable pub exit_code_info : Styles → ℤ → Bool → Text
 exit_code_info s code leaked =
-    styled s.fail (codes "failed") ++ (with_exit_code ++ (styled s.count (signed_decimal code) ++ leaked_note leaked))
+    styled s.fail (codes "failed") ++ (plain (codes " with exit code ") ++ (styled s.count (signed_decimal code) ++ leaked_note leaked))
 
 -- the name of a signal, where it has one
 unfoldable pub signal_name : Option Text → Text
@@ -45,7 +35,7 @@ signal_name (Some name) = plain (codes ": SIG") ++ plain name
 unfoldable pub signal_info : Styles → ℤ → Option Text → Bool → Text
 signal_info s signal name leaked =
     styled s.fail (codes "aborted")
-    ++ (with_signal ++ (styled s.count (signed_decimal signal) ++ (signal_name name ++ leaked_note leaked)))
+    ++ (plain (codes " with signal ") ++ (styled s.count (signed_decimal signal) ++ (signal_name name ++ leaked_note leaked)))
 
 -- a process that was ended in another way
 unfoldable pub aborted_info : Styles → Bool → Text
@@ -60,22 +50,12 @@ abbrev pub failure_info : Styles → FailureDescription → Bool → Text
 failure_info s (ExitCode code) leaked = exit_code_info s code leaked
 failure_info s (Abort abort) leaked = abort_info s abort leaked
 
--- what a failure for open handles alone is told by
-unfoldable pub but_leaked : Text
-but_leaked = plain (codes ": exited with code 0, but leaked handles")
-
-unfoldable pub passed_with_leak : Styles → Text
-passed_with_leak s = styled s.skip (codes "passed with leaked handles")
-
 unfoldable pub leak_info : Styles → LeakTimeoutResult → Text
-leak_info s leak.Pass = passed_with_leak s
-leak_info s leak.Fail = styled s.fail (codes "failed") ++ but_leaked
-
-unfoldable pub passed_with_timeout : Styles → Text
-passed_with_timeout s = styled s.skip (codes "passed with timeout")
+leak_info s leak.Pass = styled s.skip (codes "passed with leaked handles")
+leak_info s leak.Fail = styled s.fail (codes "failed") ++ plain (codes ": exited with code 0, but leaked handles")
 
 unfoldable pub timeout_info : Styles → SlowTimeoutResult → Text
-timeout_info s slow.Pass = passed_with_timeout s
+timeout_info s slow.Pass = styled s.skip (codes "passed with timeout")
 timeout_info s slow.Fail = styled s.fail (codes "timed out")
 
 -- the style of a pass, by whether it was slow

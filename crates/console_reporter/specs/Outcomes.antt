@@ -1,6 +1,6 @@
 -- How a call of a reporter ends.
 use Rattle.std.specs.Prelude.{◌≡◌, [], ◌∷◌, ◌++◌, ◌⊎◌}
-use Rattle.report_text.specs.Words.{Text}
+use Rattle.report_text.specs.Texts.{Text}
 use Rattle.report_text.specs.Writer.{Meaning}
 use Rattle.report_text.specs.declared.write_str.WriteFault.{WriteFault}
 use Rattle.report_text.specs.declared.write_str.WriteFault.TheVariants.{Device, Memory as RefusedMemory}

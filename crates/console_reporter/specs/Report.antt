@@ -14,7 +14,7 @@ use Rattle.run_model.specs.declared.output.LiveSpec.{LiveSpec}
 use Rattle.run_model.specs.declared.status.ExecuteStatus.{ExecuteStatus}
 use Rattle.run_model.specs.declared.status.StatusSummary.{StatusSummary}
 use Rattle.run_model.specs.declared.stress.StressIndex.{StressIndex}
-use Rattle.report_text.specs.Words.{Text}
+use Rattle.report_text.specs.Texts.{Text}
 use Rattle.report_text.specs.declared.helpers.instance.DisplayCounterIndex.{DisplayCounterIndex}
 use Rattle.console_reporter.specs.AttemptOutputs.{attempt_output}
 use Rattle.console_reporter.specs.Configuration.{Configuration, settings_of}

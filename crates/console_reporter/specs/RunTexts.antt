@@ -11,7 +11,7 @@ use Rattle.run_model.specs.declared.stats.FinalRunStats.{FinalRunStats}
 use Rattle.run_model.specs.declared.stats.FinalRunStats.TheVariants.{Success, NoTestsRun, Cancelled, Failed}
 use Rattle.run_model.specs.declared.stats.RunFinishedStats.{RunFinishedStats}
 use Rattle.run_model.specs.declared.stats.RunFinishedStats.TheVariants.{Single}
-use Rattle.report_text.specs.Words.{Text, right_in}
+use Rattle.report_text.specs.Texts.{Text, right_in}
 use Rattle.report_text.specs.Plural.{tests_word, tests_word_if, binaries_word}
 use Rattle.report_text.specs.Styles.{plain, styled}
 use Rattle.report_text.specs.Theme.{hbar_text}
@@ -36,16 +36,15 @@ unfoldable pub id_text : Styles → Option UniquePrefix → List ℕ → Text
 id_text s None run_id = styled s.count (run_id_text run_id)
 id_text s (Some p) run_id = styled s.run_id_prefix p.prefix ++ styled s.run_id_rest p.rest
 
--- the words between the run's id and the profile
-unfoldable pub with_profile : Text
-with_profile = plain (codes " with nextest profile: ")
+-- the profile, at the end of that line
+unfoldable pub profile_text : Styles → Text → Text
+profile_text s profile_name = plain (codes " with nextest profile: ") ++ (styled s.count profile_name ++ plain (codes "\n"))
 
 -- the run's id and the profile
 unfoldable pub run_id_line : Styles → Option UniquePrefix → List ℕ → Text → Text
 run_id_line s prefix run_id profile_name =
     styled s.pass (right_in 12 (codes "Nextest run"))
-    ++ (plain (codes " ID ") ++ (id_text s prefix run_id
-    ++ (with_profile ++ (styled s.count profile_name ++ plain (codes "\n")))))
+    ++ (plain (codes " ID ") ++ (id_text s prefix run_id ++ profile_text s profile_name))
 
 -- how many tests and binaries there are
 unfoldable pub test_counts_text : Styles → NextestRunMode → TestCounts → Text

@@ -10,7 +10,7 @@ use Rattle.run_model.specs.declared.status.StatusCase.{StatusCase}
 use Rattle.run_model.specs.declared.status.StatusCase.TheVariants.{Success, Flaky, Failure}
 use Rattle.run_model.specs.declared.status.StatusSummary.{StatusSummary}
 use Rattle.run_model.specs.declared.stress.StressIndex.{StressIndex}
-use Rattle.report_text.specs.Words.{Text, right_in}
+use Rattle.report_text.specs.Texts.{Text, right_in}
 use Rattle.report_text.specs.Instances.{instance_text}
 use Rattle.report_text.specs.Styles.{plain, styled}
 use Rattle.report_text.specs.declared.helpers.instance.DisplayCounterIndex.{DisplayCounterIndex}
@@ -78,11 +78,8 @@ is_flaky_failure (Flaky flaky.Fail) = true
 is_flaky_failure Failure = false
 
 -- what is said of that
-unfoldable pub configured_to : Text
-configured_to = plain (codes "           - test configured to ")
-
 unfoldable pub flaky_note : Styles → Text
-flaky_note s = configured_to ++ (styled s.fail (codes "fail") ++ plain (codes " if flaky\n"))
+flaky_note s = plain (codes "           - test configured to ") ++ (styled s.fail (codes "fail") ++ plain (codes " if flaky\n"))
 
 -- it is said after the line that is shown at once
 unfoldable pub flaky_failure_line : Styles → Bool → StatusCase → Text

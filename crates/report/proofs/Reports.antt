@@ -4,7 +4,7 @@ use Rattle.std.specs.Option.{option_map_or}
 use Rattle.std.proofs.lemmas.Bool.{cases_lt}
 use Rattle.std.proofs.lemmas.List.{take-append-drop, reverse-append}
 use Rattle.std.proofs.lemmas.Option.{slice_get-get_or}
-use Rattle.report_text.specs.Words.{Text}
+use Rattle.report_text.specs.Texts.{Text}
 use Rattle.report_text.specs.Writer.{Meaning, WriterLaws}
 use Rattle.console_reporter.specs.Configuration.{Configuration}
 use Rattle.console_reporter.specs.Outcomes.{Stops, StopsAfter}

@@ -8,7 +8,7 @@ use Rattle.unit_report.specs.declared.config.ShowProgress.{ShowProgress}
 use Rattle.unit_report.specs.declared.config.ShowProgress.TheVariants as progress
 use Rattle.unit_report.specs.declared.unit_output.DisplayerKind.{DisplayerKind}
 use Rattle.unit_report.specs.declared.unit_output.DisplayerKind.TheVariants as displayer
-use Rattle.report_text.specs.Words.{Text}
+use Rattle.report_text.specs.Texts.{Text}
 use Rattle.report_text.specs.Writer.{Meaning}
 use Rattle.console_reporter.specs.Configuration.{Configuration, configured}
 use Rattle.console_reporter.specs.Outcomes.{Stops}

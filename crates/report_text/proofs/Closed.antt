@@ -5,10 +5,10 @@ use Rattle.std.proofs.lemmas.Bool.Decides.{nat_tests, eqb_tells}
 use Rattle.std.proofs.lemmas.Str.{encode_ascii}
 use Rattle.std.specs.Fmt.{decimal, digits, digits_onto, digit_glyph}
 use Rattle.std.specs.List.{repeat}
-use Rattle.report_text.specs.Words.{Text, spaces, right_in}
+use Rattle.report_text.specs.Texts.{Text, spaces, right_in}
 use Rattle.report_text.specs.Escapes.{pieces, pieces_after, sequence_len, HasNoEscape}
 use Rattle.report_text.specs.Fitting.{sequences, AreClosed}
-use Rattle.report_text.specs.Styles.{part_text, style_prefix, style_suffix, reset_color, PartText, Plain, Styled, paint}
+use Rattle.report_text.specs.Styles.{part_text, plain, styled, style_prefix, style_suffix, reset_color, PartText, Plain, Styled, paint}
 use Rattle.report_text.proofs.Marks.{AreHigh, encode-high}
 use Rattle.report_text.proofs.Widths.{free_both, sequences-joined, free_after, sequences-free, closed_both}
 use Rattle.report_text.proofs.Pieces.{joined-pieces}
@@ -64,7 +64,7 @@ words_of (Plain t) = t
 words_of (Styled s t) = t
 
 part_closed : (p : PartText) → HasNoEscape (words_of p) → IsClosedText (part_text p)
-unfolding part_text
+unfolding plain styled
 part_closed (Plain t) h = closed-free t h
 part_closed (Styled s t) h = closed-append (style_prefix s) (t ++ style_suffix s) (prefix_closed s) (closed-append t (style_suffix s) (closed-free t h) (suffix_closed s))
 

@@ -1,7 +1,7 @@
 -- Columns that are counted while a text is written.
 use Rattle.std.proofs.Common.{◌≡◌, ◌∙◌, ℕ, ◌+◌, ◌++◌, arith, encode_utf8}
 use Rattle.std.specs.Str.{IsUtf8}
-use Rattle.report_text.specs.Words.{Text}
+use Rattle.report_text.specs.Texts.{Text}
 use Rattle.report_text.specs.Scanner.{advanced, mode_after, modes_after}
 use Rattle.report_text.specs.Counted.{saturated, counted, columns_from, CounterAccepts}
 use Rattle.report_text.specs.Fitting.{columns}

@@ -2,7 +2,7 @@
 use Rattle.std.proofs.Common.{◌≡◌, ℕ, zero, suc, ◌+◌, ◌<◌, ◌≤◌, Bool, true, ◌&&◌, ◌==◌, ◌⊎◌, inl, inr, [], ◌∷◌, refl, ap, arith, length, get_or, drop, lit<, length-drop, add-zero, add-suc, get_or-drop}
 use Rattle.std.proofs.lemmas.Bool.{cases_Bool, and_parts}
 use Rattle.std.proofs.lemmas.Bool.Decides.{nat_tests}
-use Rattle.report_text.specs.Words.{Text}
+use Rattle.report_text.specs.Texts.{Text}
 use Rattle.report_text.specs.Escapes.{is_within, is_parameter, is_intermediate, is_control, front_len, one_len, then_len, csi_len, osc_len, short_len, sequence_len}
 
 -- what f counts after an ASCII character is there, and ASCII to its end

@@ -4,7 +4,7 @@ use Rattle.std.specs.Fmt.{decimal}
 use Rattle.std.specs.Str.{IsAscii, chars}
 use Rattle.std.proofs.lemmas.Str.{chars-IsAscii, IsAscii-append}
 use Rattle.std.proofs.lemmas.Fmt.{IsAscii-decimal_wide}
-use Rattle.report_text.specs.Words.{Text, spaces, right_in}
+use Rattle.report_text.specs.Texts.{Text, spaces, right_in}
 use Rattle.report_text.specs.Numbers.{rounded, last_digits, with_point, seconds}
 
 -- one byte, and a list with one more in front

@@ -12,7 +12,7 @@ use Rattle.bstr.proofs.lemmas.EncodeLemmas.{lossy_chars-utf8}
 use Rattle.bstr.proofs.lemmas.LossyLemmas.{lossy_chars-front, lossy_chars-utf8_lossy}
 use Rattle.bstr.proofs.lemmas.PieceLemmas.{lossy_chars-step, lossy_chars-nil, piece-bounds}
 use Rattle.bstr.proofs.lemmas.SoundLemmas.{SpellsChar-decoded}
-use Rattle.report_text.specs.Words.{Text}
+use Rattle.report_text.specs.Texts.{Text}
 use Rattle.report_text.specs.Lossy.{decoded_text, ends_character, front_text}
 
 pub decoded-nil : decoded_text [] ≡ []

@@ -4,7 +4,7 @@ use Rattle.std.proofs.lemmas.Bool.Decides.{eqb_tells}
 use Rattle.std.proofs.lemmas.List.{drop_all}
 use Rattle.std.proofs.Math.Seq.{drop-cons}
 use Rattle.std.specs.Result.{IsErrAnd}
-use Rattle.report_text.specs.Words.{Text, strs}
+use Rattle.report_text.specs.Texts.{Text, strs}
 use Rattle.report_text.specs.EndLine.{without_end_line, ends_in_line_feed, held}
 use Rattle.report_text.specs.Writer.{Meaning, WriterLaws, Puts, Owes}
 use Rattle.report_text.specs.declared.write_str.WriteFault.{WriteFault}

@@ -4,7 +4,7 @@ use Rattle.std.proofs.lemmas.Bool.{cases_Bool, cases_lt, eqb-true}
 use Rattle.std.proofs.lemmas.Bool.Decides.{nat_tests}
 use Rattle.std.proofs.lemmas.Str.{encodes-chars, encode_ascii}
 use Rattle.std.specs.Str.{IsUtf8}
-use Rattle.report_text.specs.Words.{Text}
+use Rattle.report_text.specs.Texts.{Text}
 use Rattle.report_text.specs.Escapes.{is_visible, front_len, sequence_len, PieceText, pieces, pieces_after}
 use Rattle.report_text.specs.Escapes.PieceText.{SequenceText, StretchText}
 use Rattle.report_text.specs.Counted.{counted, columns_from}

@@ -7,7 +7,7 @@ use Rattle.std.specs.Str.{IsUtf8}
 use Rattle.unicode_width.proofs.Rules.{width_or_zero-le}
 use Rattle.report_text.proofs.Cuts.{sequence_len-cut}
 use Rattle.report_text.proofs.Pieces.{boundary, stretch_len-cut, stretches-pieces, joined-pieces}
-use Rattle.report_text.specs.Words.{Text}
+use Rattle.report_text.specs.Texts.{Text}
 use Rattle.report_text.specs.Escapes.{PieceText, pieces, pieces_after, stretches, joined, sequence_len, front_len, is_visible}
 use Rattle.report_text.specs.Escapes.PieceText.{SequenceText, StretchText}
 use Rattle.report_text.specs.Fitting.{char_columns, columns_of, columns, kept_chars, kept_stretch, fit_pieces, stretch_columns}

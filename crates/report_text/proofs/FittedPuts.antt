@@ -4,7 +4,7 @@ use Rattle.std.proofs.lemmas.Bool.{and_parts}
 use Rattle.std.proofs.lemmas.Str.{chars-encodes, chars-nil, IsUtf8-nil, cons_from_encodes}
 use Rattle.std.specs.Str.{IsUtf8, all_scalars}
 use lib.Utf8.{scalar}
-use Rattle.report_text.specs.Words.{Text}
+use Rattle.report_text.specs.Texts.{Text}
 use Rattle.report_text.specs.Fitted.{FittedAccepts, FittedStops, kept_char, kept_from, kept_text, kept_text-nil, standing_after, PutsChar, fitted_meaning}
 use Rattle.report_text.specs.Writer.{Meaning, Puts}
 use Rattle.report_text.specs.declared.fitting.fitted.Fitted.{Fitted}

@@ -1,7 +1,7 @@
 -- A whole text that is cut.
 use Rattle.std.proofs.Common.{◌≡◌, ℕ, false, Result, Ok, Err}
 use Rattle.std.specs.Str.{IsUtf8}
-use Rattle.report_text.specs.Words.{Text}
+use Rattle.report_text.specs.Texts.{Text}
 use Rattle.report_text.specs.Fitting.{fit}
 use Rattle.report_text.specs.Fitted.{kept_text, fitted_meaning, stops_kept}
 use Rattle.report_text.specs.Writer.{Meaning, WriterLaws, Puts}

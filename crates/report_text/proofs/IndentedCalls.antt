@@ -8,7 +8,7 @@ use Rattle.std.specs.List.{FoldsTo, concat}
 use Rattle.std.specs.Option.{option_map}
 use Rattle.std.specs.declared.fmt.Formatter.{Formatter}
 use Rattle.std.specs.declared.fmt.Error.{Error}
-use Rattle.report_text.specs.Words.{Text}
+use Rattle.report_text.specs.Texts.{Text}
 use Rattle.report_text.specs.Lines.{IsOneLine}
 use Rattle.report_text.specs.Indent.{margin, indent, after}
 use Rattle.report_text.specs.Indented.{IndentedTakes, TakesMargin, indent-append, after-append, indent-none, after-none}

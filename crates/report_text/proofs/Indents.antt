@@ -3,7 +3,7 @@ use Rattle.std.proofs.Common.{◌≡◌, ◌≢◌, ℕ, suc, ◌+◌, ◌-◌, 
 use Rattle.std.proofs.lemmas.Bool.{cases_Bool, and_parts}
 use Rattle.std.proofs.lemmas.Bool.Decides.{eqb_tells}
 use lib.Pointwise.{pointwise}
-use Rattle.report_text.specs.Words.{Text}
+use Rattle.report_text.specs.Texts.{Text}
 use Rattle.report_text.specs.Lines.{IsOneLine}
 use Rattle.report_text.specs.Indent.{margin, indent, after}
 use Rattle.report_text.specs.Indented.{indent_onward, indent-onward, after_onward, after-onward, indented_meaning, IndentedStops, IndentedAccepts, PutsMargin}

@@ -8,7 +8,7 @@ use Rattle.std.specs.Int.NonZero.{non_zero_u32_get}
 use Rattle.std.specs.declared.num.NonZeroU32.{NonZeroU32}
 use Rattle.run_model.specs.Names.{last_colons}
 use Rattle.run_model.specs.declared.stress.StressIndex.{StressIndex}
-use Rattle.report_text.specs.Words.{Text, right_in}
+use Rattle.report_text.specs.Texts.{Text, right_in}
 use Rattle.report_text.specs.Escapes.{HasNoEscape}
 use Rattle.report_text.specs.Counted.{saturated}
 use Rattle.report_text.specs.Fitting.{FitsWidth, IsPainted, ArePainted, columns, shrunk, shrunk_parts}

@@ -4,10 +4,10 @@ use Rattle.std.proofs.lemmas.Bool.{cases_Bool}
 use Rattle.std.specs.Str.{chars, chars_after, continuation_len, lead_bits}
 use Rattle.std.specs.Option.{option_map, option_map_or}
 use Rattle.run_model.specs.Names.{last_colons}
-use Rattle.report_text.specs.Words.{Text}
+use Rattle.report_text.specs.Texts.{Text}
 use Rattle.report_text.specs.Escapes.{visible, visible_after, sequence_len}
 use Rattle.report_text.specs.Fitting.{columns}
-use Rattle.report_text.specs.Styles.{part_text, style_prefix, style_suffix, Styled, paint}
+use Rattle.report_text.specs.Styles.{part_text, styled, style_prefix, style_suffix, Styled, paint}
 use Rattle.report_text.specs.Instances.{name_parts, name_text}
 use Rattle.report_text.specs.declared.style.Style.{Style}
 use Rattle.report_text.specs.declared.style.Style.TheVariants as style
@@ -36,7 +36,7 @@ style-le style.Cyan = (omega arith, omega arith)
 style-le style.BrightBlack = (omega arith, omega arith)
 
 styled-le : (s : Style) (t : Text) → length (part_text (Styled s t)) ≤ length t + 11
-unfolding part_text
+unfolding styled
 styled-le s t = omega (arith, style-le s, length-append (style_prefix s) (t ++ style_suffix s), length-append t (style_suffix s))
 
 chars_after-le : (n c : ℕ) (bs : Text) → length (chars_after n c bs) ≤ length bs + 1

@@ -1,7 +1,7 @@
 -- A text again and again, one after the other.
 use Rattle.std.proofs.Common.{◌≡◌, ℕ, zero, suc, ◌-◌, ◌<◌, ◌++◌, ap, arith}
 use Rattle.std.specs.List.{repeat}
-use Rattle.report_text.specs.Words.{Text}
+use Rattle.report_text.specs.Texts.{Text}
 
 -- the first one, and those that are left
 pub repeat_first : (n : ℕ) (t : Text) → 0 < n → repeat n t ≡ t ++ repeat (n - 1) t

@@ -1,7 +1,7 @@
 -- One more character of a sequence.
 use Rattle.std.proofs.Common.{◌≡◌, ℕ, suc, Bool, true, false, ◌&&◌, ◌==◌, [], ◌∷◌, refl, arith, length}
 use Rattle.std.proofs.lemmas.Bool.{and_right}
-use Rattle.report_text.specs.Words.{Text}
+use Rattle.report_text.specs.Texts.{Text}
 use Rattle.report_text.specs.Escapes.{is_control, front_len, then_len, osc_len, sequence_len}
 use Rattle.report_text.specs.declared.escapes.State.{State}
 use Rattle.report_text.specs.declared.escapes.State.TheVariants.{Start, Parameters, Intermediates, Command, Short}

@@ -1,7 +1,7 @@
 -- Spaces in several writes.
 use Rattle.std.proofs.Common.{◌≡◌, ℕ, ◌+◌, ◌-◌, ◌≤◌, ◌++◌, sym, ap, ◌∙◌, arith, length, length-append, IsUtf8}
 use Rattle.std.proofs.lemmas.List.{replicate-append-replicate}
-use Rattle.report_text.specs.Words.{Text, spaces}
+use Rattle.report_text.specs.Texts.{Text, spaces}
 use Rattle.std.specs.Str.{chars}
 use Rattle.std.proofs.lemmas.Str.{chars-append}
 

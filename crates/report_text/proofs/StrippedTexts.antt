@@ -5,7 +5,7 @@ use Rattle.std.proofs.lemmas.Bool.Decides.{eqb_tells, nat_tests}
 use Rattle.std.proofs.lemmas.Str.{chars-append, chars-nil, chars_past_char, encode_ascii, encodes-chars, length-encode, len_utf8_bounds, IsUtf8-take}
 use Rattle.std.specs.Str.{IsUtf8, IsCharBoundary}
 use Rattle.std.specs.Result.{IsErrAnd}
-use Rattle.report_text.specs.Words.{Text}
+use Rattle.report_text.specs.Texts.{Text}
 use Rattle.report_text.specs.EndLine.{without_end_line, ends_in_line_feed, held}
 use Rattle.report_text.specs.Writer.{Meaning, WriterLaws, Puts, Owes}
 use Rattle.report_text.specs.declared.write_str.WriteFault.{WriteFault}

@@ -7,7 +7,7 @@ use lib.Utf8.{scalar, scalars}
 use Rattle.std.specs.Str.{IsUtf8, all_scalars}
 use Rattle.report_text.proofs.Pieces.{stretches-pieces, joined-pieces, free_parts}
 use Rattle.report_text.proofs.Fits.{columns_of-cons, columns_of-append, AreTexts, texts, stretches-utf8, kept_stretch-before, kept_stretch-past}
-use Rattle.report_text.specs.Words.{Text}
+use Rattle.report_text.specs.Texts.{Text}
 use Rattle.report_text.specs.Escapes.{PieceText, pieces, pieces_after, stretches, joined, visible, visible_after, sequence_len, front_len, is_visible, has_no_escape, HasNoEscape}
 use Rattle.report_text.specs.Escapes.PieceText.{SequenceText, StretchText}
 use Rattle.report_text.specs.Fitting.{char_columns, columns_of, columns, kept_chars, kept_stretch, fit_pieces, fit, sequences, IsClosed, AreClosed, IsPainted, ArePainted, shrunk, shrunk_parts, part_sequences}

@@ -1,6 +1,6 @@
 -- Where the first chunk of a text ends, by the places of line feeds.
 use Rattle.std.specs.Prelude.{◌≡◌, ◌≢◌, ℕ, ◌+◌, ◌<◌, ◌≤◌, ◌⊎◌, length, slice_index}
-use Rattle.report_text.specs.Words.{Text}
+use Rattle.report_text.specs.Texts.{Text}
 
 -- after the last line feed within the limit
 pub record EndsNear (limit : ℕ) (bytes : Text) (n : ℕ) : Type 0 where

@@ -1,6 +1,6 @@
 -- The line feed that closes a text.
 use Rattle.std.specs.Prelude.{Bool, true, false, ◌==◌, [], ◌∷◌, if◌then◌else◌}
-use Rattle.report_text.specs.Words.{Text}
+use Rattle.report_text.specs.Texts.{Text}
 
 -- the text without one line feed that closes it
 unfoldable pub without_end_line : Text → Text

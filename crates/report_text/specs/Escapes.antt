@@ -1,6 +1,6 @@
 -- Escape sequences, and the pieces of a text.
 use Rattle.std.specs.Prelude.{ℕ, zero, suc, ◌+◌, Bool, true, not, ◌&&◌, ◌||◌, ◌==◌, List, [], ◌∷◌, ◌++◌, nat_le, nat_lt, take, drop, IsTrue, if◌then◌else◌}
-use Rattle.report_text.specs.Words.{Text}
+use Rattle.report_text.specs.Texts.{Text}
 
 -- the byte lies from low to high
 abbrev pub is_within : ℕ → ℕ → ℕ → Bool

@@ -3,7 +3,7 @@ use Rattle.std.specs.Prelude.{◌≡◌, ℕ, ◌+◌, Bool, true, false, ◌&&�
 use Rattle.std.specs.Str.{IsUtf8}
 use Rattle.std.proofs.Common.{sym, ap, ◌∙◌, append_assoc, subst}
 use Rattle.std.proofs.lemmas.Str.{chars-append, chars-nil, IsUtf8-append, IsUtf8-nil}
-use Rattle.report_text.specs.Words.{Text}
+use Rattle.report_text.specs.Texts.{Text}
 use Rattle.report_text.specs.Scanner.{advanced}
 use Rattle.report_text.specs.Fitting.{char_columns}
 use Rattle.report_text.specs.Writer.{Meaning, WriterLaws, Puts}

@@ -2,7 +2,7 @@
 use Rattle.std.specs.Prelude.{◌≡◌, ℕ, ◌+◌, ◌-◌, ◌≤◌, Bool, true, false, ◌&&◌, List, [], ◌∷◌, ◌++◌, nat_le, nat_lt, chars, encode_utf8_all, unwrap_or, sum_by, if◌then◌else◌}
 use Rattle.std.specs.Str.{IsUtf8}
 use Rattle.unicode_width.specs.Width.{char_width}
-use Rattle.report_text.specs.Words.{Text}
+use Rattle.report_text.specs.Texts.{Text}
 use Rattle.report_text.specs.Escapes.{PieceText, pieces, visible}
 use Rattle.report_text.specs.Escapes.PieceText.{SequenceText, StretchText}
 

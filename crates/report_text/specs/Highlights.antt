@@ -1,7 +1,7 @@
 -- The part of a text that is highlighted.
 use Rattle.std.specs.Prelude.{ℕ, length, take}
 use Rattle.std.specs.List.{join_with_byte}
-use Rattle.report_text.specs.Words.{Text}
+use Rattle.report_text.specs.Texts.{Text}
 use Rattle.report_text.specs.Lines.{lines}
 
 -- where the first two lines end: before the second line feed, or with the text

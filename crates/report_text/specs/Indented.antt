@@ -4,7 +4,7 @@ use Rattle.std.specs.Fmt.{WritesInCalls}
 use Rattle.std.specs.List.{onto_first, join_with_byte}
 use Rattle.std.proofs.Common.{sym, ap, ◌∙◌, append_assoc, subst, inl, inr}
 use Rattle.std.proofs.lemmas.Bool.{cases_Bool}
-use Rattle.report_text.specs.Words.{Text}
+use Rattle.report_text.specs.Texts.{Text}
 use Rattle.report_text.specs.Lines.{lines}
 use Rattle.report_text.specs.Indent.{indented_line, indented_lines, indent, margin, begins_line, after}
 use Rattle.report_text.specs.Writer.{Meaning, WriterLaws, Puts}

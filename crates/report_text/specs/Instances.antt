@@ -7,7 +7,7 @@ use Rattle.run_model.specs.Names.{module_path_of, last_name_of}
 use Rattle.run_model.specs.declared.name.TestInstanceId.{TestInstanceId}
 use Rattle.run_model.specs.declared.stress.StressIndex.{StressIndex}
 use Rattle.std.specs.List.{repeat}
-use Rattle.report_text.specs.Words.{Text, right_in}
+use Rattle.report_text.specs.Texts.{Text, right_in}
 use Rattle.report_text.specs.Escapes.{HasNoEscape}
 use Rattle.report_text.specs.Fitting.{shrunk_parts}
 use Rattle.report_text.specs.Styles.{PartText, Plain, Styled, paint}

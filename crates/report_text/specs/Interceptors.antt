@@ -7,7 +7,7 @@ use Rattle.run_model.specs.declared.name.OwnedTestInstanceId.{OwnedTestInstanceI
 use Rattle.report_text.specs.Instances.{test_text}
 use Rattle.report_text.specs.Plural.{tests_word, tests_word_if}
 use Rattle.report_text.specs.Styles.{plain, styled}
-use Rattle.report_text.specs.Words.{Text}
+use Rattle.report_text.specs.Texts.{Text}
 use Rattle.report_text.specs.declared.style.Style.{Style}
 use Rattle.report_text.specs.declared.style.ListStyles.{ListStyles}
 

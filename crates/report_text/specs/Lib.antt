@@ -26,6 +26,6 @@ pub mod RunIds
 pub mod Scanner
 pub mod Stripped
 pub mod Styles
+pub mod Texts
 pub mod Theme
-pub mod Words
 pub mod Writer

@@ -1,7 +1,7 @@
 -- Lines of a text.
 use Rattle.std.specs.Prelude.{◌-◌, ◌<◌, ◌≢◌, ◌==◌, List, length, take}
 use Rattle.std.specs.List.{All, slice_split}
-use Rattle.report_text.specs.Words.{Text}
+use Rattle.report_text.specs.Texts.{Text}
 
 -- the parts of a text between its line feeds: a text with n line feeds has n + 1 lines
 abbrev pub lines : Text → List Text

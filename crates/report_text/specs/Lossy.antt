@@ -1,7 +1,7 @@
 -- Bytes as the text that is shown of them.
 use Rattle.std.specs.Prelude.{ℕ, Bool, ◌||◌, ◌&&◌, List, [], length, take, slice_index, nat_le, nat_lt, if◌then◌else◌, encode_utf8_all}
 use Rattle.bstr.specs.Utf8.{lossy_chars}
-use Rattle.report_text.specs.Words.{Text}
+use Rattle.report_text.specs.Texts.{Text}
 
 -- the UTF-8 of the text that the bytes are decoded to: U+FFFD for each maximal piece that is no character
 unfoldable pub decoded_text : List ℕ → Text

@@ -1,7 +1,7 @@
 -- Numbers and durations as text.
 use Rattle.std.specs.Prelude.{ℕ, zero, suc, ◌+◌, ◌-◌, ◌/◌, ◌%◌, ◌^◌, [], ◌∷◌, ◌++◌, codes}
 use Rattle.std.specs.Fmt.{decimal}
-use Rattle.report_text.specs.Words.{Text}
+use Rattle.report_text.specs.Texts.{Text}
 
 -- the nearest whole number of units, ties up
 abbrev pub rounded : ℕ → ℕ → ℕ

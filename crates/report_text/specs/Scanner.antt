@@ -1,6 +1,6 @@
 -- What the scanner's states and steps mean.
 use Rattle.std.specs.Prelude.{◌≡◌, ℕ, suc, Bool, false, ◌==◌, ◌&&◌, List, [], ◌∷◌, Option, None, Some, unwrap_or, if◌then◌else◌}
-use Rattle.report_text.specs.Words.{Text}
+use Rattle.report_text.specs.Texts.{Text}
 use Rattle.report_text.specs.Escapes.{csi_len, osc_len, short_len, sequence_len, then_len, front_len, one_len, is_within, is_parameter, is_intermediate, is_control}
 use Rattle.report_text.specs.declared.escapes.Mode.{Mode}
 use Rattle.report_text.specs.declared.escapes.Mode.TheVariants as mode

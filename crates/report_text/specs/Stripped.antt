@@ -1,6 +1,6 @@
 -- A text that comes in pieces, without its escape sequences.
 use Rattle.std.specs.Prelude.{◌≡◌, ◌<◌, ℕ, List, [], ◌∷◌, ◌++◌, length, chars, is_some, encode_utf8, if◌then◌else◌}
-use Rattle.report_text.specs.Words.{Text}
+use Rattle.report_text.specs.Texts.{Text}
 use Rattle.report_text.specs.Scanner.{advanced, mode_after, modes_after}
 use Rattle.report_text.specs.declared.escapes.Mode.{Mode}
 

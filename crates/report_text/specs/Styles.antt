@@ -1,7 +1,7 @@
 -- Styles, and texts that are painted in them.
 use Rattle.std.specs.Prelude.{Bool, true, false, List, [], ◌∷◌, ◌++◌, codes}
 use Rattle.std.specs.List.{flat_map}
-use Rattle.report_text.specs.Words.{Text, right_in}
+use Rattle.report_text.specs.Texts.{Text, right_in}
 use Rattle.report_text.specs.declared.style.Style.{Style}
 use Rattle.report_text.specs.declared.style.Style.TheVariants as style
 use Rattle.report_text.specs.declared.style.Part.{Part}
@@ -40,17 +40,17 @@ pub data PartText : Type 0 where
   Plain : Text → PartText
   Styled : Style → Text → PartText
 
--- what a part is painted to
-unfoldable pub part_text : PartText → Text
-part_text (Plain t) = t
-part_text (Styled s t) = style_prefix s ++ (t ++ style_suffix s)
-
 -- a text as it is, and one in a style: words that a proof sees as wholes
-abbrev pub plain : Text → Text
-plain t = part_text (Plain t)
+unfoldable pub plain : Text → Text
+plain t = t
 
-abbrev pub styled : Style → Text → Text
-styled s t = part_text (Styled s t)
+unfoldable pub styled : Style → Text → Text
+styled s t = style_prefix s ++ (t ++ style_suffix s)
+
+-- what a part is painted to
+abbrev pub part_text : PartText → Text
+part_text (Plain t) = plain t
+part_text (Styled s t) = styled s t
 
 -- what the parts are painted to
 abbrev pub paint : List PartText → Text

@@ -2,7 +2,7 @@
 
 ghost use Rattle.std.specs.Prelude.{◌≡◌, ◌+◌, ◌/◌, ◌%◌, ◌<◌, ◌≤◌, ◌∷◌, [], ◌++◌, ◌-◌, length, chars};
 ghost use Rattle.std.specs.Fmt.{decimal};
-ghost use Rattle.report_text.specs.Words.{spaces, right_in};
+ghost use Rattle.report_text.specs.Texts.{spaces, right_in};
 ghost use Rattle.report_text.specs.Numbers.{rounded, seconds};
 ghost use Rattle.report_text.specs.Writer.{Puts};
 
@@ -86,7 +86,7 @@ fn char_count(text: &str) -> usize
 }
 
 /// Writes a text right in so many columns, one for each character.
-#[tactic(auto, unfolding(crate::specs::Words::right_in))]
+#[tactic(auto, unfolding(crate::specs::Texts::right_in))]
 pub fn write_right<W: WriteStr>(w: &mut W, columns: usize, text: &str) -> Result<(), WriteFault>
     ensures { Puts W.meaning w.old (right_in columns text.now) result w.new }
 {
@@ -147,7 +147,7 @@ fn write_seconds_right<W: WriteStr>(
 /// ```
 /// write_right_joined(w, 12, "TRY ", "2", " ", "FAIL") // "  TRY 2 FAIL"
 /// ```
-#[tactic(auto, unfolding(crate::specs::Words::right_in))]
+#[tactic(auto, unfolding(crate::specs::Texts::right_in))]
 pub fn write_right_joined<W: WriteStr>(
     w: &mut W,
     columns: usize,

@@ -5,8 +5,8 @@
 
 ghost use Rattle.std.specs.Prelude.{◌≡◌, ◌++◌, ◌∷◌, [], true, false, codes};
 ghost use Rattle.std.specs.Fmt.{decimal};
-ghost use Rattle.report_text.specs.Words.{right_in};
-ghost use Rattle.report_text.specs.Styles.{PartText, style_prefix, style_suffix, reset_color, part_text, part_of, painted, styles_of, list_styles_of};
+ghost use Rattle.report_text.specs.Texts.{right_in};
+ghost use Rattle.report_text.specs.Styles.{PartText, style_prefix, style_suffix, reset_color, plain, styled, part_text, part_of, painted, styles_of, list_styles_of};
 ghost use Rattle.report_text.specs.Writer.{Puts};
 
 use crate::numbers::{write_right, write_right_joined};
@@ -90,19 +90,22 @@ impl Style {
     }
 
     /// Writes a text in this style.
-    #[tactic(auto, unfolding(crate::specs::Styles::part_text))]
+    #[tactic(auto, unfolding(crate::specs::Styles::styled))]
     pub fn write<W: WriteStr>(self, w: &mut W, text: &str) -> Result<(), WriteFault>
-        ensures { Puts W.meaning w.old (part_text (PartText.Styled self text.now)) result w.new }
+        ensures { Puts W.meaning w.old (styled self text.now) result w.new }
     {
+        if self == Style::Plain {
+            return w.write_str(text);
+        }
         w.write_str(self.prefix())?;
         w.write_str(text)?;
         w.write_str(self.suffix())
     }
 
     /// Writes a number in decimal in this style.
-    #[tactic(auto, unfolding(crate::specs::Styles::part_text))]
+    #[tactic(auto, unfolding(crate::specs::Styles::styled))]
     pub fn write_number<W: WriteStr>(self, w: &mut W, number: u128) -> Result<(), WriteFault>
-        ensures { Puts W.meaning w.old (part_text (PartText.Styled self (decimal number))) result w.new }
+        ensures { Puts W.meaning w.old (styled self (decimal number)) result w.new }
     {
         let mut buffer = Buffer::new();
         w.write_str(self.prefix())?;
@@ -111,15 +114,18 @@ impl Style {
     }
 
     /// Writes a text right in so many columns.
-    #[tactic(auto, unfolding(crate::specs::Styles::part_text))]
+    #[tactic(auto, unfolding(crate::specs::Styles::styled))]
     pub fn write_right<W: WriteStr>(
         self,
         w: &mut W,
         columns: usize,
         text: &str,
     ) -> Result<(), WriteFault>
-        ensures { Puts W.meaning w.old (part_text (PartText.Styled self (right_in columns text.now))) result w.new }
+        ensures { Puts W.meaning w.old (styled self (right_in columns text.now)) result w.new }
     {
+        if self == Style::Plain {
+            return write_right(w, columns, text);
+        }
         w.write_str(self.prefix())?;
         write_right(w, columns, text)?;
         w.write_str(self.suffix())
@@ -130,7 +136,7 @@ impl Style {
     /// ```
     /// styles.count.write_joined(w, "profile.", "ci", ".overrides") // "profile.ci.overrides" in the style
     /// ```
-    #[tactic(auto, unfolding(crate::specs::Styles::part_text))]
+    #[tactic(auto, unfolding(crate::specs::Styles::styled))]
     pub fn write_joined<W: WriteStr>(
         self,
         w: &mut W,
@@ -138,7 +144,7 @@ impl Style {
         second: &str,
         third: &str,
     ) -> Result<(), WriteFault>
-        ensures { Puts W.meaning w.old (part_text (PartText.Styled self (first.now ++ (second.now ++ third.now)))) result w.new }
+        ensures { Puts W.meaning w.old (styled self (first.now ++ (second.now ++ third.now))) result w.new }
     {
         w.write_str(self.prefix())?;
         w.write_str(first)?;
@@ -152,7 +158,7 @@ impl Style {
     /// ```
     /// styles.fail.write_right_joined(w, 12, "TRY ", "2", " ", "FAIL") // "  TRY 2 FAIL" in the style
     /// ```
-    #[tactic(auto, unfolding(crate::specs::Styles::part_text))]
+    #[tactic(auto, unfolding(crate::specs::Styles::styled))]
     pub fn write_right_joined<W: WriteStr>(
         self,
         w: &mut W,
@@ -162,7 +168,7 @@ impl Style {
         third: &str,
         fourth: &str,
     ) -> Result<(), WriteFault>
-        ensures { Puts W.meaning w.old (part_text (PartText.Styled self (right_in columns (first.now ++ (second.now ++ (third.now ++ fourth.now)))))) result w.new }
+        ensures { Puts W.meaning w.old (styled self (right_in columns (first.now ++ (second.now ++ (third.now ++ fourth.now))))) result w.new }
     {
         w.write_str(self.prefix())?;
         write_right_joined(w, columns, first, second, third, fourth)?;
@@ -189,9 +195,9 @@ pub fn plain(text: &str) -> Part<'_>
 }
 
 /// Writes a text as it is.
-#[tactic(auto, unfolding(crate::specs::Styles::part_text))]
+#[tactic(auto, unfolding(crate::specs::Styles::plain))]
 pub fn write_plain<W: WriteStr>(w: &mut W, text: &str) -> Result<(), WriteFault>
-    ensures { Puts W.meaning w.old (part_text (PartText.Plain text.now)) result w.new }
+    ensures { Puts W.meaning w.old (plain text.now) result w.new }
 {
     w.write_str(text)
 }
@@ -211,22 +217,14 @@ pub fn write_parts<W: WriteStr>(w: &mut W, parts: &[Part<'_>]) -> Result<(), Wri
 }
 
 /// Writes a part.
-#[tactic(auto, unfolding(crate::specs::Styles::part_text))]
+#[tactic(auto, unfolding(crate::specs::Styles::plain))]
 pub fn write_part<W: WriteStr>(w: &mut W, part: Part<'_>) -> Result<(), WriteFault>
     ensures { Puts W.meaning w.old (part_text (part_of part.entry)) result w.new }
 {
     match part {
         Part::Plain(text) => w.write_str(text),
-        Part::Styled(style, text) => {
-            w.write_str(style.prefix())?;
-            w.write_str(text)?;
-            w.write_str(style.suffix())
-        }
-        Part::Right(style, columns, text) => {
-            w.write_str(style.prefix())?;
-            write_right(w, columns, text)?;
-            w.write_str(style.suffix())
-        }
+        Part::Styled(style, text) => style.write(w, text),
+        Part::Right(style, columns, text) => style.write_right(w, columns, text),
     }
 }
 

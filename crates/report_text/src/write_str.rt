@@ -5,7 +5,7 @@
 
 ghost use Rattle.std.specs.Prelude.{◌≡◌, ℕ, List, Bool, [], ◌++◌, take, MatchResult, OnOk, encode_utf8, string_bytes};
 ghost use Rattle.report_text.specs.Accept.{string_meaning, string_laws};
-ghost use Rattle.report_text.specs.Words.{strs};
+ghost use Rattle.report_text.specs.Texts.{strs};
 ghost use Rattle.report_text.specs.Writer.{Meaning, WriterLaws, Puts};
 
 mod delivery;

@@ -6,7 +6,7 @@ use Rattle.std.proofs.lemmas.Bool.Decides.{nat_tests}
 use Rattle.std.proofs.lemmas.Str.{IsCharBoundary-end}
 use Rattle.std.specs.Str.{IsCharBoundary}
 use Rattle.memchr.specs.Find.{Nowhere, NoneBefore, Passes, is_byte}
-use Rattle.report_text.specs.Words.{Text}
+use Rattle.report_text.specs.Texts.{Text}
 use Rattle.report_text.proofs.Feeds.{same_byte}
 use Rattle.report_text.proofs.Highlighted.{NoFeeds, none_found, none_before, parts_at}
 use Rattle.unit_report.specs.HighlightedLines.{closes_line, is_line_end, body_len, whole_lines, onto_first_line, highlighted_line, highlighted_lines}

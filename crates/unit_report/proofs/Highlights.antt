@@ -8,7 +8,7 @@ use Rattle.std.specs.Str.{IsCharBoundary, IsUtf8}
 use Rattle.run_model.specs.Outputs.{Part}
 use Rattle.report_text.specs.Highlights.{highlight_end}
 use Rattle.report_text.specs.Lossy.{ends_character, front_text}
-use Rattle.report_text.specs.Words.{Text}
+use Rattle.report_text.specs.Texts.{Text}
 use Rattle.report_text.specs.declared.style.Style.{Style}
 use Rattle.report_text.proofs.Decoded.{boundary-ends}
 use Rattle.unit_report.specs.Captured.{begins_with, coloured_output, highlighted_output, highlight_stop, is_valid}

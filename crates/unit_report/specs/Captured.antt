@@ -6,8 +6,8 @@ use Rattle.report_text.specs.EndLine.{without_end_line}
 use Rattle.report_text.specs.Escapes.{visible}
 use Rattle.report_text.specs.Highlights.{highlight_end}
 use Rattle.report_text.specs.Lossy.{ends_character}
-use Rattle.report_text.specs.Styles.{reset_color}
-use Rattle.report_text.specs.Words.{Text}
+use Rattle.report_text.specs.Styles.{plain, reset_color}
+use Rattle.report_text.specs.Texts.{Text}
 use Rattle.report_text.specs.declared.style.Style.{Style}
 use Rattle.report_text.specs.declared.style.Styles.{Styles}
 use Rattle.unit_report.specs.HighlightedLines.{highlighted_lines}
@@ -20,13 +20,9 @@ plain_output t = without_end_line (visible t) ++ 10 ∷ []
 unfoldable pub reset_output : Text → Text
 reset_output t = without_end_line t ++ (reset_color ++ 10 ∷ [])
 
--- what ends every colour
-unfoldable pub reset : Text
-reset = reset_color
-
 -- a highlight between what stands before it and what follows it
 unfoldable pub highlighted_output : Style → Text → Text → Text → Text
-highlighted_output s front lit back = front ++ (reset ++ (highlighted_lines s lit ++ reset_output back))
+highlighted_output s front lit back = front ++ (plain reset_color ++ (highlighted_lines s lit ++ reset_output back))
 
 -- the part without where it lies in memory
 abbrev pub part_value : ByteSubslice → Part

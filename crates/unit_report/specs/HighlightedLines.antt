@@ -3,7 +3,7 @@ use Rattle.std.specs.Prelude.{ℕ, suc, Bool, true, ◌&&◌, ◌||◌, ◌==◌
 use Rattle.std.specs.List.{flat_map}
 use Rattle.report_text.specs.Escapes.{visible}
 use Rattle.report_text.specs.Styles.{style_prefix, style_suffix}
-use Rattle.report_text.specs.Words.{Text}
+use Rattle.report_text.specs.Texts.{Text}
 use Rattle.report_text.specs.declared.style.Style.{Style}
 
 -- the byte before the lines of a text: it joins the first one

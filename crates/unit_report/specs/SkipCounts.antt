@@ -9,7 +9,7 @@ use Rattle.run_model.specs.declared.config.CompiledDefaultFilterSection.TheVaria
 use Rattle.run_model.specs.declared.event.SkipCounts.{SkipCounts}
 use Rattle.report_text.specs.Plural.{tests_word, binaries_word}
 use Rattle.report_text.specs.Styles.{plain, styled}
-use Rattle.report_text.specs.Words.{Text}
+use Rattle.report_text.specs.Texts.{Text}
 use Rattle.report_text.specs.declared.style.Styles.{Styles}
 
 -- the tests that are skipped, in benchmark mode without those that are no benchmarks
@@ -36,27 +36,18 @@ unfoldable pub tests_and_binaries : Styles → NextestRunMode → ℕ → ℕ �
 tests_and_binaries s mode tests binaries =
     tests_text s mode tests ++ (between (codes " and ") (tests == 0) (binaries == 0) ++ binaries_text s binaries)
 
--- a name that begins with the profile's
-unfoldable pub in_profile : Styles → Text → Text → Text
-in_profile s profile rest = styled s.count (codes "profile." ++ (profile ++ rest))
-
-unfoldable pub default_filter_word : Styles → Text
-default_filter_word s = styled s.count (codes "default-filter")
-
 -- the name of a default filter
 unfoldable pub filter_name : Styles → Text → CompiledDefaultFilterSection → Text
-filter_name s profile Profile = in_profile s profile (codes ".default-filter")
-filter_name s profile (Override place) = default_filter_word s ++ (plain (codes " in ") ++ in_profile s profile (codes ".overrides"))
+filter_name s profile Profile = styled s.count (codes "profile." ++ (profile ++ codes ".default-filter"))
+filter_name s profile (Override place) =
+    styled s.count (codes "default-filter") ++ (plain (codes " in ") ++ styled s.count (codes "profile." ++ (profile ++ codes ".overrides")))
 
 unfoldable pub via_filter : Styles → CompiledDefaultFilter → Text
 via_filter s f = plain (codes " via ") ++ filter_name s f.profile f.section
 
-unfoldable pub already_passed : Text
-already_passed = plain (codes " that already passed")
-
 -- the tests that passed in a run before, unless there are none
 unfoldable pub rerun_text : Styles → NextestRunMode → ℕ → Text
-rerun_text s mode n = if n == 0 then [] else tests_text s mode n ++ already_passed
+rerun_text s mode n = if n == 0 then [] else tests_text s mode n ++ plain (codes " that already passed")
 
 -- the default filter leaves nothing out
 abbrev pub has_no_filtered : SkipCounts → Bool
@@ -68,18 +59,22 @@ filtered_text s mode c f =
     if has_no_filtered c then []
     else tests_and_binaries s mode c.skipped_tests_default_filter c.skipped_binaries_default_filter ++ via_filter s f
 
+-- the words before those parts
+unfoldable pub including : Text
+including = plain (codes ", including ")
+
 -- of what is skipped, what passed before and what the default filter leaves out
 unfoldable pub included_text : Styles → NextestRunMode → SkipCounts → CompiledDefaultFilter → Text
 included_text s mode c f =
     if (c.skipped_tests_rerun == 0) && has_no_filtered c then []
-    else plain (codes ", including ")
+    else including
     ++ (rerun_text s mode c.skipped_tests_rerun
     ++ (between (codes ", and ") (c.skipped_tests_rerun == 0) (has_no_filtered c) ++ filtered_text s mode c f))
 
 -- why so many tests and the binaries are skipped: the one reason, or the parts that have one
 unfoldable pub skip_reason : Styles → NextestRunMode → ℕ → SkipCounts → CompiledDefaultFilter → Text
 skip_reason s mode tests c f =
-    if (tests == c.skipped_tests_rerun) && (c.skipped_binaries == 0) then already_passed
+    if (tests == c.skipped_tests_rerun) && (c.skipped_binaries == 0) then plain (codes " that already passed")
     else (if (tests == c.skipped_tests_default_filter) && (c.skipped_binaries == c.skipped_binaries_default_filter) then via_filter s f
     else included_text s mode c f)
 

@@ -12,8 +12,8 @@ use Rattle.run_model.specs.declared.output.LiveSpec.{LiveSpec}
 use Rattle.run_model.specs.declared.unit.UnitKind.{UnitKind}
 use Rattle.report_text.specs.Indent.{indent}
 use Rattle.report_text.specs.Lossy.{decoded_text}
-use Rattle.report_text.specs.Styles.{plain, styled}
-use Rattle.report_text.specs.Words.{Text}
+use Rattle.report_text.specs.Styles.{Plain, Styled, paint, plain}
+use Rattle.report_text.specs.Texts.{Text}
 use Rattle.report_text.specs.declared.style.Styles.{Styles}
 use Rattle.unit_report.specs.Captured.{captured}
 use Rattle.unit_report.specs.ErrorChains.{error_chain_text}
@@ -50,13 +50,10 @@ abbrev pub is_replay : DisplayerKind → Bool
 is_replay Live = false
 is_replay Replay = true
 
-unfoldable pub not_captured : Styles → Text
-not_captured s = styled s.skip (codes "not captured")
-
 -- an output that was not captured. It has its four spaces whatever the indentation
 unfoldable pub not_captured_text : Styles → OutputName → Text
 not_captured_text s name =
-    plain (codes "    (") ++ (plain (name_text name) ++ (plain (codes " ") ++ (not_captured s ++ plain (codes ")\n"))))
+    paint (Plain (codes "    (") ∷ Plain (name_text name) ∷ Plain (codes " ") ∷ Styled s.skip (codes "not captured") ∷ Plain (codes ")\n") ∷ [])
 
 -- the header of a stream, and the stream below it, indented
 unfoldable pub shown_stream : Styles → Text → OutputHeader → Text → Option Part → Text

@@ -11,7 +11,7 @@ use Rattle.run_model.specs.declared.stats.RunStatsFailureKind.{RunStatsFailureKi
 use Rattle.run_model.specs.declared.stats.RunStatsFailureKind.TheVariants.{SetupScript, Test}
 use Rattle.report_text.specs.Plural.{tests_word_if, were_word}
 use Rattle.report_text.specs.Styles.{plain, styled}
-use Rattle.report_text.specs.Words.{Text}
+use Rattle.report_text.specs.Texts.{Text}
 use Rattle.report_text.specs.declared.style.Styles.{Styles}
 
 -- the reason, where it is known
@@ -19,22 +19,12 @@ unfoldable pub due_to : Styles → Option CancelReason → Text
 due_to s None = []
 due_to s (Some r) = plain (codes " due to ") ++ styled s.skip (reason_words r)
 
-unfoldable pub to_run_all : Text
-to_run_all = plain (codes " to run all tests, or run with ")
-
-unfoldable pub no_fail_fast : Styles → Text
-no_fail_fast s = styled s.count (codes "--no-fail-fast")
-
-unfoldable pub max_fail : Styles → Text
-max_fail s = styled s.count (codes "--max-fail")
-
-unfoldable pub run_with : Text
-run_with = plain (codes " (run with ")
-
 -- which options would run all tests
 unfoldable pub options_hint : Styles → Text
 options_hint s =
-    run_with ++ (no_fail_fast s ++ (to_run_all ++ (max_fail s ++ plain (codes ")"))))
+    plain (codes " (run with ")
+    ++ (styled s.count (codes "--no-fail-fast")
+    ++ (plain (codes " to run all tests, or run with ") ++ (styled s.count (codes "--max-fail") ++ plain (codes ")"))))
 
 -- they are named where a test's failure ended the run
 unfoldable pub hint_after : Styles → Option CancelReason → Text

@@ -4,7 +4,7 @@ ghost use Rattle.std.specs.Prelude.{◌≡◌};
 ghost use Rattle.report_text.specs.Failures.{nt_status_text};
 ghost use Rattle.report_text.specs.Styles.{styled};
 ghost use Rattle.report_text.specs.Writer.{Puts};
-ghost use Rattle.console_reporter.specs.AbortLines.{note_start, indented_message, nt_message, nt_line, terminated_text, job_object_text, job_object_line, line_of_abort, line_of_failure, abort_line};
+ghost use Rattle.console_reporter.specs.AbortLines.{indented_message, nt_message, nt_line, job_object_line, line_of_abort, line_of_failure, abort_line};
 
 use report_text::helpers::write_nt_status;
 use report_text::indenter::indented;
@@ -77,7 +77,7 @@ fn write_nt_line<W: WriteStr>(
 ) -> Result<(), WriteFault>
     ensures { Puts W.meaning w.old (nt_line styles.now code message.now) result w.new }
 {
-    write_note_start(w)?;
+    write_plain(w, "           - ")?;
     styles.fail.write(w, "with code")?;
     write_plain(w, " ")?;
     write_styled_nt_status(w, styles.count, code)?;
@@ -86,7 +86,7 @@ fn write_nt_line<W: WriteStr>(
 }
 
 // Writes a status of Windows in a style.
-#[tactic(auto, unfolding(report_text::specs::Styles::part_text))]
+#[tactic(auto, unfolding(report_text::specs::Styles::styled))]
 fn write_styled_nt_status<W: WriteStr>(w: &mut W, style: Style, code: i32) -> Result<(), WriteFault>
     ensures { Puts W.meaning w.old (styled style (nt_status_text code)) result w.new }
 {
@@ -129,33 +129,9 @@ fn write_indented_message<W: WriteStr>(w: &mut W, message: &str) -> Result<(), W
 fn write_job_object_line<W: WriteStr>(w: &mut W, styles: &Styles) -> Result<(), WriteFault>
     ensures { Puts W.meaning w.old (job_object_line styles.now) result w.new }
 {
-    write_note_start(w)?;
-    write_terminated(w, styles)?;
+    write_plain(w, "           - ")?;
+    styles.fail.write(w, "terminated")?;
     write_plain(w, " via ")?;
-    write_job_object(w, styles)?;
+    styles.count.write(w, "job object")?;
     write_plain(w, "\n")
-}
-
-// Writes that a process was ended.
-#[tactic(auto, unfolding(crate::specs::AbortLines::terminated_text))]
-fn write_terminated<W: WriteStr>(w: &mut W, styles: &Styles) -> Result<(), WriteFault>
-    ensures { Puts W.meaning w.old (terminated_text styles.now) result w.new }
-{
-    styles.fail.write(w, "terminated")
-}
-
-// Writes by what it was ended.
-#[tactic(auto, unfolding(crate::specs::AbortLines::job_object_text))]
-fn write_job_object<W: WriteStr>(w: &mut W, styles: &Styles) -> Result<(), WriteFault>
-    ensures { Puts W.meaning w.old (job_object_text styles.now) result w.new }
-{
-    styles.count.write(w, "job object")
-}
-
-// Writes what begins a line that belongs to the one above.
-#[tactic(auto, unfolding(crate::specs::AbortLines::note_start))]
-fn write_note_start<W: WriteStr>(w: &mut W) -> Result<(), WriteFault>
-    ensures { Puts W.meaning w.old note_start result w.new }
-{
-    write_plain(w, "           - ")
 }

@@ -1,7 +1,7 @@
 //! What an attempt came to, in words.
 
 ghost use Rattle.report_text.specs.Writer.{Puts};
-ghost use Rattle.console_reporter.specs.InfoResults.{leaked_handles, leaked_note, with_exit_code, with_signal, exit_code_info, signal_name, signal_info, aborted_info, abort_info, failure_info, but_leaked, passed_with_leak, leak_info, passed_with_timeout, timeout_info, passed_info, exec_fail_info, info_text};
+ghost use Rattle.console_reporter.specs.InfoResults.{leaked_note, exit_code_info, signal_name, signal_info, aborted_info, abort_info, failure_info, leak_info, timeout_info, passed_info, exec_fail_info, info_text};
 
 use itoa::Buffer;
 use report_text::style::{Styles, write_plain};
@@ -52,26 +52,12 @@ fn write_leak_info<W: WriteStr>(
     ensures { Puts W.meaning w.old (leak_info styles.now outcome) result w.new }
 {
     match outcome {
-        LeakTimeoutResult::Pass => write_passed_with_leak(w, styles),
+        LeakTimeoutResult::Pass => styles.skip.write(w, "passed with leaked handles"),
         LeakTimeoutResult::Fail => {
             styles.fail.write(w, "failed")?;
-            write_but_leaked(w)
+            write_plain(w, ": exited with code 0, but leaked handles")
         }
     }
-}
-
-#[tactic(auto, unfolding(crate::specs::InfoResults::passed_with_leak))]
-fn write_passed_with_leak<W: WriteStr>(w: &mut W, styles: &Styles) -> Result<(), WriteFault>
-    ensures { Puts W.meaning w.old (passed_with_leak styles.now) result w.new }
-{
-    styles.skip.write(w, "passed with leaked handles")
-}
-
-#[tactic(auto, unfolding(crate::specs::InfoResults::but_leaked))]
-fn write_but_leaked<W: WriteStr>(w: &mut W) -> Result<(), WriteFault>
-    ensures { Puts W.meaning w.old but_leaked result w.new }
-{
-    write_plain(w, ": exited with code 0, but leaked handles")
 }
 
 fn write_failure_info<W: WriteStr>(
@@ -99,16 +85,9 @@ fn write_exit_code_info<W: WriteStr>(
 {
     let mut number = Buffer::new();
     styles.fail.write(w, "failed")?;
-    write_with_exit_code(w)?;
+    write_plain(w, " with exit code ")?;
     styles.count.write(w, number.format(code))?;
     write_leaked_note(w, leaked)
-}
-
-#[tactic(auto, unfolding(crate::specs::InfoResults::with_exit_code))]
-fn write_with_exit_code<W: WriteStr>(w: &mut W) -> Result<(), WriteFault>
-    ensures { Puts W.meaning w.old with_exit_code result w.new }
-{
-    write_plain(w, " with exit code ")
 }
 
 // Only a signal is told; what ended a process on Windows is said after the line of its test.
@@ -141,17 +120,10 @@ fn write_signal_info<W: WriteStr>(
 {
     let mut number = Buffer::new();
     styles.fail.write(w, "aborted")?;
-    write_with_signal(w)?;
+    write_plain(w, " with signal ")?;
     styles.count.write(w, number.format(signal))?;
     write_signal_name(w, name)?;
     write_leaked_note(w, leaked)
-}
-
-#[tactic(auto, unfolding(crate::specs::InfoResults::with_signal))]
-fn write_with_signal<W: WriteStr>(w: &mut W) -> Result<(), WriteFault>
-    ensures { Puts W.meaning w.old with_signal result w.new }
-{
-    write_plain(w, " with signal ")
 }
 
 #[tactic(auto, unfolding(crate::specs::InfoResults::signal_name))]
@@ -188,17 +160,10 @@ fn write_leaked_note<W: WriteStr>(w: &mut W, leaked: bool) -> Result<(), WriteFa
     ensures { Puts W.meaning w.old (leaked_note leaked) result w.new }
 {
     if leaked {
-        write_leaked_handles(w)
+        write_plain(w, " (leaked handles)")
     } else {
         Ok(())
     }
-}
-
-#[tactic(auto, unfolding(crate::specs::InfoResults::leaked_handles))]
-fn write_leaked_handles<W: WriteStr>(w: &mut W) -> Result<(), WriteFault>
-    ensures { Puts W.meaning w.old leaked_handles result w.new }
-{
-    write_plain(w, " (leaked handles)")
 }
 
 #[tactic(auto, unfolding(crate::specs::InfoResults::timeout_info))]
@@ -210,16 +175,9 @@ fn write_timeout_info<W: WriteStr>(
     ensures { Puts W.meaning w.old (timeout_info styles.now outcome) result w.new }
 {
     match outcome {
-        SlowTimeoutResult::Pass => write_passed_with_timeout(w, styles),
+        SlowTimeoutResult::Pass => styles.skip.write(w, "passed with timeout"),
         SlowTimeoutResult::Fail => styles.fail.write(w, "timed out"),
     }
-}
-
-#[tactic(auto, unfolding(crate::specs::InfoResults::passed_with_timeout))]
-fn write_passed_with_timeout<W: WriteStr>(w: &mut W, styles: &Styles) -> Result<(), WriteFault>
-    ensures { Puts W.meaning w.old (passed_with_timeout styles.now) result w.new }
-{
-    styles.skip.write(w, "passed with timeout")
 }
 
 #[tactic(auto, unfolding(crate::specs::InfoResults::exec_fail_info))]

@@ -7,7 +7,7 @@ ghost use Rattle.std.specs.List.Sorted.{IsSorted, IsStable};
 ghost use Rattle.run_model.specs.Statuses.{is_aborted};
 ghost use Rattle.report_text.specs.Writer.{Puts};
 ghost use Rattle.console_reporter.specs.Counters.{counter_key};
-ghost use Rattle.console_reporter.specs.Entries.{counted_cmp, entry_cmp, entry_output, entry_text, finished_entry, instance_cmp, iterated_cmp, iteration_key, output_at_end, entries_text, final_order, IsFinalOrder};
+ghost use Rattle.console_reporter.specs.Entries.{counted_cmp, entry_cmp, entry_output, entry_text, finished_entry, iterated_cmp, iteration_key, output_at_end, entries_text, final_order, IsFinalOrder};
 ghost use Rattle.console_reporter.specs.Finishes.{is_shown_at_end};
 ghost use Rattle.console_reporter.specs.declared.imp.kept.KeptEntry.{KeptEntry};
 
@@ -125,7 +125,7 @@ fn compare_counted(left: &KeptEntry<'_>, right: &KeptEntry<'_>) -> Ordering
 {
     match compare_counters(left.counter, right.counter) {
         Ordering::Less => Ordering::Less,
-        Ordering::Equal => compare_instances(left.instance, right.instance),
+        Ordering::Equal => left.instance.cmp(&right.instance),
         Ordering::Greater => Ordering::Greater,
     }
 }
@@ -164,17 +164,6 @@ fn compare_shown_counters(left: DisplayCounterIndex, right: DisplayCounterIndex)
         (DisplayCounterIndex::Padded { .. }, DisplayCounterIndex::Counter { .. }) =>
             Ordering::Greater,
         (DisplayCounterIndex::Padded { .. }, DisplayCounterIndex::Padded { .. }) => Ordering::Equal,
-    }
-}
-
-// Compares the bytes of the binaries' ids, then of the tests' names.
-fn compare_instances(left: TestInstanceId<'_>, right: TestInstanceId<'_>) -> Ordering
-    ensures { result ≡ instance_cmp left.entry right.entry }
-{
-    match left.binary_id.compare(right.binary_id) {
-        Ordering::Less => Ordering::Less,
-        Ordering::Equal => left.test_name.compare(right.test_name),
-        Ordering::Greater => Ordering::Greater,
     }
 }
 

@@ -2,7 +2,7 @@
 
 ghost use Rattle.std.specs.Prelude.{◌≡◌, ◌≤◌, length};
 ghost use Rattle.report_text.specs.Writer.{Puts};
-ghost use Rattle.console_reporter.specs.RunTexts.{bar_line, run_id_text, with_profile, id_text, run_id_line, test_counts_text, starting_line, run_started_text, outcome_style, initial_count_text, run_counts_text, summary_line, run_finished_text};
+ghost use Rattle.console_reporter.specs.RunTexts.{bar_line, run_id_text, id_text, profile_text, run_id_line, test_counts_text, starting_line, run_started_text, outcome_style, initial_count_text, run_counts_text, summary_line, run_finished_text};
 
 use super::settings::Settings;
 use super::stats_text::write_summary_text;
@@ -85,17 +85,17 @@ fn write_run_id_line<W: WriteStr>(
     styles.pass.write_right(w, 12, "Nextest run")?;
     write_plain(w, " ID ")?;
     write_run_id(w, styles, unique_prefix, run_id)?;
-    write_with_profile(w)?;
-    styles.count.write(w, profile_name.as_str())?;
-    write_plain(w, "\n")
+    write_profile(w, styles, profile_name.as_str())
 }
 
-// Writes the words between the run's id and the profile.
-#[tactic(auto, unfolding(crate::specs::RunTexts::with_profile))]
-fn write_with_profile<W: WriteStr>(w: &mut W) -> Result<(), WriteFault>
-    ensures { Puts W.meaning w.old with_profile result w.new }
+// Writes the profile, at the end of that line.
+#[tactic(auto, unfolding(crate::specs::RunTexts::profile_text))]
+fn write_profile<W: WriteStr>(w: &mut W, styles: &Styles, name: &str) -> Result<(), WriteFault>
+    ensures { Puts W.meaning w.old (profile_text styles.now name.now) result w.new }
 {
-    write_plain(w, " with nextest profile: ")
+    write_plain(w, " with nextest profile: ")?;
+    styles.count.write(w, name)?;
+    write_plain(w, "\n")
 }
 
 // Writes the run's id, with its unique prefix where that is known.

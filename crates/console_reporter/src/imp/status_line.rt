@@ -4,8 +4,8 @@ ghost use Rattle.std.specs.Prelude.{◌≡◌};
 ghost use Rattle.run_model.specs.Statuses.{described_summary};
 ghost use Rattle.report_text.specs.Writer.{Puts};
 ghost use Rattle.report_text.specs.Styles.{styled};
-ghost use Rattle.report_text.specs.Words.{right_in};
-ghost use Rattle.console_reporter.specs.StatusLines.{shown_summary, flaky_style, flaky_words, failure_words, success_text, is_flaky_failure, status_prefix, configured_to, flaky_note, flaky_failure_line, status_line};
+ghost use Rattle.report_text.specs.Texts.{right_in};
+ghost use Rattle.console_reporter.specs.StatusLines.{shown_summary, flaky_style, flaky_words, failure_words, success_text, is_flaky_failure, status_prefix, flaky_note, flaky_failure_line, status_line};
 
 use super::abort_line::write_abort_line;
 use super::result_words::{is_plain_success, spaced_short_status_str, status_str, success_str};
@@ -211,17 +211,9 @@ fn write_flaky_failure_line<W: WriteStr>(
 fn write_flaky_note<W: WriteStr>(w: &mut W, styles: &Styles) -> Result<(), WriteFault>
     ensures { Puts W.meaning w.old (flaky_note styles.now) result w.new }
 {
-    write_configured_to(w)?;
+    write_plain(w, "           - test configured to ")?;
     styles.fail.write(w, "fail")?;
     write_plain(w, " if flaky\n")
-}
-
-// Writes the words before the style changes.
-#[tactic(auto, unfolding(crate::specs::StatusLines::configured_to))]
-fn write_configured_to<W: WriteStr>(w: &mut W) -> Result<(), WriteFault>
-    ensures { Puts W.meaning w.old configured_to result w.new }
-{
-    write_plain(w, "           - test configured to ")
 }
 
 // Whether a success counts as a failure since it came after earlier attempts.

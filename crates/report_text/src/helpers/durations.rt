@@ -3,7 +3,7 @@
 ghost use Rattle.std.specs.Prelude.{◌≡◌, ◌≤◌, ◌++◌, Some, chars, length};
 ghost use Rattle.report_text.specs.Durations.{clock_text, duration_text, leading_zero, relative_text, time_units, unit_name, unit_nanos, unit_within, whole_seconds};
 ghost use Rattle.report_text.specs.Numbers.{seconds};
-ghost use Rattle.report_text.specs.Words.{right_in};
+ghost use Rattle.report_text.specs.Texts.{right_in};
 ghost use Rattle.report_text.specs.Writer.{Puts};
 
 use crate::numbers::{digit_str, round_to, spaces_str};
@@ -178,7 +178,7 @@ pub fn write_clock_between<W: WriteStr>(
 }
 
 // Writes seconds as hours, minutes and seconds, right in so many columns.
-#[tactic(auto, unfolding(crate::specs::Words::right_in))]
+#[tactic(auto, unfolding(crate::specs::Texts::right_in))]
 fn write_clock_right<W: WriteStr>(
     w: &mut W,
     columns: usize,

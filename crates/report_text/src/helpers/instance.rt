@@ -9,7 +9,7 @@ ghost use Rattle.report_text.specs.Writer.{Puts};
 use crate::helpers::max_width::{CounterPart, IdPart, StressPart, write_within};
 use crate::helpers::repeated::write_repeated;
 use crate::show_written;
-use crate::style::{ListStyles, Style, plain, write_parts};
+use crate::style::{ListStyles, Style, plain, write_parts, write_plain};
 use crate::write_str::{WriteFault, WriteStr};
 use itoa::Buffer;
 use run_model::name::{TestCaseName, TestInstanceId};
@@ -204,7 +204,8 @@ pub(super) fn write_id_prefix<W: WriteStr>(
 ) -> Result<(), WriteFault>
     ensures { Puts W.meaning w.old (id_prefix id_style binary_id.now) result w.new }
 {
-    write_parts(w, &[id_style.paint(binary_id), plain(" ")])
+    id_style.write(w, binary_id)?;
+    write_plain(w, " ")
 }
 
 /// How far a run is, before a test.
@@ -357,14 +358,11 @@ pub fn write_test_name<W: WriteStr>(
 {
     let (module_path, last) = name.module_path_and_name();
     match module_path {
-        None => write_parts(w, &[styles.test_name.paint(last)]),
-        Some(module_path) => write_parts(
-            w,
-            &[
-                styles.module_path.paint(module_path),
-                styles.module_path.paint("::"),
-                styles.test_name.paint(last),
-            ],
-        ),
+        None => styles.test_name.write(w, last),
+        Some(module_path) => {
+            styles.module_path.write(w, module_path)?;
+            styles.module_path.write(w, "::")?;
+            styles.test_name.write(w, last)
+        }
     }
 }

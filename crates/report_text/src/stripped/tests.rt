@@ -3,7 +3,7 @@
 ghost use Rattle.std.specs.Str.{IsUtf8};
 ghost use Rattle.report_text.specs.EndLine.{without_end_line};
 ghost use Rattle.report_text.specs.Escapes.{visible};
-ghost use Rattle.report_text.specs.Words.{strs};
+ghost use Rattle.report_text.specs.Texts.{strs};
 ghost use Rattle.report_text.specs.Writer.{Puts};
 
 use super::StrippedPieces;

@@ -2,7 +2,7 @@
 
 ghost use Rattle.std.specs.Prelude.{◌≡◌};
 ghost use Rattle.report_text.specs.Writer.{Puts};
-ghost use Rattle.unit_report.specs.SkipCounts.{already_passed, between, binaries_text, default_filter_word, filter_name, filtered_text, has_no_filtered, in_profile, included_text, rerun_text, skip_counts_text, skip_note, skip_reason, skipped_tests_in, tests_and_binaries, tests_text, via_filter};
+ghost use Rattle.unit_report.specs.SkipCounts.{between, binaries_text, filter_name, filtered_text, has_no_filtered, included_text, including, rerun_text, skip_counts_text, skip_note, skip_reason, skipped_tests_in, tests_and_binaries, tests_text, via_filter};
 
 use report_text::helpers::plural::{binaries_str, tests_str};
 use report_text::style::{Styles, write_plain};
@@ -77,7 +77,7 @@ fn write_skip_reason<W: WriteStr>(
     ensures { Puts W.meaning w.old (skip_reason styles.now mode tests counts.now filter.now) result w.new }
 {
     if tests == counts.skipped_tests_rerun && counts.skipped_binaries == 0 {
-        write_already_passed(w)
+        write_plain(w, " that already passed")
     } else if tests == counts.skipped_tests_default_filter
         && counts.skipped_binaries == counts.skipped_binaries_default_filter
     {
@@ -103,10 +103,18 @@ fn write_included<W: WriteStr>(
     if has_no_rerun && has_no_filtered {
         return Ok(());
     }
-    write_plain(w, ", including ")?;
+    write_including(w)?;
     write_rerun(w, styles, mode, counts.skipped_tests_rerun)?;
     write_between(w, ", and ", has_no_rerun, has_no_filtered)?;
     write_filtered(w, styles, mode, counts, filter)
+}
+
+// Writes the words before those parts.
+#[tactic(auto, unfolding(crate::specs::SkipCounts::including))]
+fn write_including<W: WriteStr>(w: &mut W) -> Result<(), WriteFault>
+    ensures { Puts W.meaning w.old including result w.new }
+{
+    write_plain(w, ", including ")
 }
 
 // Whether the default filter leaves nothing out.
@@ -130,7 +138,7 @@ fn write_rerun<W: WriteStr>(
         return Ok(());
     }
     write_tests(w, styles, mode, count)?;
-    write_already_passed(w)
+    write_plain(w, " that already passed")
 }
 
 // Writes what the default filter leaves out, unless that is nothing.
@@ -158,13 +166,6 @@ fn write_filtered<W: WriteStr>(
     write_via_filter(w, styles, filter)
 }
 
-#[tactic(auto, unfolding(crate::specs::SkipCounts::already_passed))]
-fn write_already_passed<W: WriteStr>(w: &mut W) -> Result<(), WriteFault>
-    ensures { Puts W.meaning w.old already_passed result w.new }
-{
-    write_plain(w, " that already passed")
-}
-
 // Writes the name of the default filter after " via ".
 #[tactic(auto, unfolding(crate::specs::SkipCounts::via_filter))]
 fn write_via_filter<W: WriteStr>(
@@ -189,33 +190,18 @@ fn write_filter_name<W: WriteStr>(
 {
     match section {
         CompiledDefaultFilterSection::Profile => {
-            write_in_profile(w, styles, profile, ".default-filter")
+            styles
+                .count
+                .write_joined(w, "profile.", profile, ".default-filter")
         }
         CompiledDefaultFilterSection::Override(_) => {
-            write_default_filter_word(w, styles)?;
+            styles.count.write(w, "default-filter")?;
             write_plain(w, " in ")?;
-            write_in_profile(w, styles, profile, ".overrides")
+            styles
+                .count
+                .write_joined(w, "profile.", profile, ".overrides")
         }
     }
-}
-
-#[tactic(auto, unfolding(crate::specs::SkipCounts::in_profile))]
-fn write_in_profile<W: WriteStr>(
-    w: &mut W,
-    styles: &Styles,
-    profile: &str,
-    rest: &str,
-) -> Result<(), WriteFault>
-    ensures { Puts W.meaning w.old (in_profile styles.now profile.now rest.now) result w.new }
-{
-    styles.count.write_joined(w, "profile.", profile, rest)
-}
-
-#[tactic(auto, unfolding(crate::specs::SkipCounts::default_filter_word))]
-fn write_default_filter_word<W: WriteStr>(w: &mut W, styles: &Styles) -> Result<(), WriteFault>
-    ensures { Puts W.meaning w.old (default_filter_word styles.now) result w.new }
-{
-    styles.count.write(w, "default-filter")
 }
 
 // Writes so many tests and binaries, those that are not 0.

@@ -2,7 +2,7 @@
 
 ghost use Rattle.std.specs.Prelude.{◌≡◌};
 ghost use Rattle.report_text.specs.Writer.{Puts};
-ghost use Rattle.unit_report.specs.Warnings.{due_to, final_warnings, hint_after, max_fail, no_fail_fast, not_run_count, not_run_warning, options_hint, run_with, to_run_all, warning_of};
+ghost use Rattle.unit_report.specs.Warnings.{due_to, final_warnings, hint_after, not_run_count, not_run_warning, options_hint, warning_of};
 
 use report_text::helpers::plural::{tests_plural_if, were_plural_if};
 use report_text::style::{Styles, write_plain};
@@ -139,37 +139,9 @@ fn write_hint_after<W: WriteStr>(
 fn write_options_hint<W: WriteStr>(w: &mut W, styles: &Styles) -> Result<(), WriteFault>
     ensures { Puts W.meaning w.old (options_hint styles.now) result w.new }
 {
-    write_run_with(w)?;
-    write_no_fail_fast(w, styles)?;
-    write_to_run_all(w)?;
-    write_max_fail(w, styles)?;
+    write_plain(w, " (run with ")?;
+    styles.count.write(w, "--no-fail-fast")?;
+    write_plain(w, " to run all tests, or run with ")?;
+    styles.count.write(w, "--max-fail")?;
     write_plain(w, ")")
-}
-
-#[tactic(auto, unfolding(crate::specs::Warnings::run_with))]
-fn write_run_with<W: WriteStr>(w: &mut W) -> Result<(), WriteFault>
-    ensures { Puts W.meaning w.old run_with result w.new }
-{
-    write_plain(w, " (run with ")
-}
-
-#[tactic(auto, unfolding(crate::specs::Warnings::no_fail_fast))]
-fn write_no_fail_fast<W: WriteStr>(w: &mut W, styles: &Styles) -> Result<(), WriteFault>
-    ensures { Puts W.meaning w.old (no_fail_fast styles.now) result w.new }
-{
-    styles.count.write(w, "--no-fail-fast")
-}
-
-#[tactic(auto, unfolding(crate::specs::Warnings::max_fail))]
-fn write_max_fail<W: WriteStr>(w: &mut W, styles: &Styles) -> Result<(), WriteFault>
-    ensures { Puts W.meaning w.old (max_fail styles.now) result w.new }
-{
-    styles.count.write(w, "--max-fail")
-}
-
-#[tactic(auto, unfolding(crate::specs::Warnings::to_run_all))]
-fn write_to_run_all<W: WriteStr>(w: &mut W) -> Result<(), WriteFault>
-    ensures { Puts W.meaning w.old to_run_all result w.new }
-{
-    write_plain(w, " to run all tests, or run with ")
 }

@@ -10,14 +10,14 @@ ghost use Rattle.report_text.specs.Escapes.{visible};
 ghost use Rattle.report_text.specs.Highlights.{highlight_end};
 ghost use Rattle.report_text.specs.Lossy.{decoded_text, front_text};
 ghost use Rattle.report_text.specs.Writer.{Puts};
-ghost use Rattle.unit_report.specs.Captured.{captured, coloured_output, highlighted_output, highlight_stop, is_valid, part_value, plain_output, reset, reset_output};
+ghost use Rattle.unit_report.specs.Captured.{captured, coloured_output, highlighted_output, highlight_stop, is_valid, part_value, plain_output, reset_output};
 
 use super::highlighted_lines::write_highlighted_lines;
 use report_text::end_line::EndLine;
 use report_text::lossy::LossyText;
 use report_text::reporter_helpers::highlight_end;
 use report_text::stripped::StrippedPieces;
-use report_text::style::{RESET_COLOR, Style, Styles};
+use report_text::style::{RESET_COLOR, Style, Styles, write_plain};
 use report_text::write_str::{WriteFault, WriteStr};
 use run_model::output::ByteSubslice;
 use std::str;
@@ -116,17 +116,9 @@ fn write_highlighted<W: WriteStr>(
     ensures { Puts W.meaning w.old (highlighted_output style (front_text start text.now) lit.now back.entry) result w.new }
 {
     text.write_front(w, start)?;
-    write_reset(w)?;
+    write_plain(w, RESET_COLOR)?;
     write_highlighted_lines(w, style, lit)?;
     write_reset_output(w, back)
-}
-
-// Writes what ends every colour.
-#[tactic(auto, unfolding(crate::specs::Captured::reset))]
-fn write_reset<W: WriteStr>(w: &mut W) -> Result<(), WriteFault>
-    ensures { Puts W.meaning w.old reset result w.new }
-{
-    w.write_str(RESET_COLOR)
 }
 
 // Writes the text as it is, and a reset before the line feed at its end.

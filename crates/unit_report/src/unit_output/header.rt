@@ -108,7 +108,7 @@ fn write_bar<W: WriteStr>(
 }
 
 // Writes a bar of so many characters in this style.
-#[tactic(auto, unfolding(report_text::specs::Styles::part_text))]
+#[tactic(auto, unfolding(report_text::specs::Styles::styled))]
 fn write_hbar<W: WriteStr>(
     w: &mut W,
     style: Style,

@@ -8,7 +8,7 @@ ghost use Rattle.report_text.specs.Lossy.{decoded_text};
 ghost use Rattle.report_text.specs.Writer.{Puts};
 ghost use Rattle.unit_report.specs.Captured.{captured};
 ghost use Rattle.unit_report.specs.ErrorChains.{error_chain_text};
-ghost use Rattle.unit_report.specs.UnitOutputs.{both_streams, child_output, errors_block, errors_text, execution_output, is_replay, layout_of, not_captured, not_captured_text, present_stream, shown_stream, split_text, stream_text};
+ghost use Rattle.unit_report.specs.UnitOutputs.{both_streams, child_output, errors_block, errors_text, execution_output, is_replay, layout_of, not_captured_text, present_stream, shown_stream, split_text, stream_text};
 
 use super::DisplayerKind;
 use super::captured::write_captured;
@@ -16,7 +16,7 @@ use super::error_chain::write_error_chain;
 use super::header::{OutputHeader, OutputName};
 use super::overrides::OutputDisplayOverrides;
 use report_text::indenter::indented;
-use report_text::style::{Styles, write_plain};
+use report_text::style::{Part, Styles, write_parts, write_plain};
 use report_text::write_str::{WriteFault, WriteStr};
 use run_model::boxed::Boxed;
 use run_model::output::{
@@ -278,18 +278,16 @@ fn write_not_captured<W: WriteStr>(
 ) -> Result<(), WriteFault>
     ensures { Puts W.meaning w.old (not_captured_text styles.now name) result w.new }
 {
-    write_plain(w, "    (")?;
-    write_plain(w, name.as_str())?;
-    write_plain(w, " ")?;
-    write_not_captured_words(w, styles)?;
-    write_plain(w, ")\n")
-}
-
-#[tactic(auto, unfolding(crate::specs::UnitOutputs::not_captured))]
-fn write_not_captured_words<W: WriteStr>(w: &mut W, styles: &Styles) -> Result<(), WriteFault>
-    ensures { Puts W.meaning w.old (not_captured styles.now) result w.new }
-{
-    styles.skip.write(w, "not captured")
+    write_parts(
+        w,
+        &[
+            Part::Plain("    ("),
+            Part::Plain(name.as_str()),
+            Part::Plain(" "),
+            Part::Styled(styles.skip, "not captured"),
+            Part::Plain(")\n"),
+        ],
+    )
 }
 
 // Writes errors, if there are any.

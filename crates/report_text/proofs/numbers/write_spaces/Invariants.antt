@@ -1,4 +1,4 @@
-use Rattle.report_text.specs.Words.{spaces}
+use Rattle.report_text.specs.Texts.{spaces}
 use Rattle.report_text.specs.Writer.{Owes}
 use Rattle.report_text.proofs.numbers.write_spaces.Given as goal
 

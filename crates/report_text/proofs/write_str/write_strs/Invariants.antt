@@ -1,5 +1,5 @@
 use Rattle.std.proofs.Common.{drop}
-use Rattle.report_text.specs.Words.{strs}
+use Rattle.report_text.specs.Texts.{strs}
 use Rattle.report_text.specs.Writer.{Owes}
 use Rattle.report_text.proofs.write_str.write_strs.Given as goal
 

@@ -17,32 +17,10 @@ returns-in_err-write_run_id g c =
     (laws.goes_on _ _ _ _ _ _ c.in_ok-write_right.ensures
     (laws.goes_on _ _ _ _ _ _ c.in_ok-write_plain.ensures (laws.stops_within _ _ _ _ _ c.in_err-write_run_id.ensures)))
 
-pub returns-in_err-write_with_profile : goal.returns-in_err-write_with_profile
-unfolding run_id_line
-returns-in_err-write_with_profile g c =
-    let laws = g.met.W.WriteStr.laws in
-    at_exit laws _ _ _ _ _ c.from_residual-in_err-write_with_profile.ensures.1
-    (laws.goes_on _ _ _ _ _ _ c.in_ok-write_right.ensures
-    (laws.goes_on _ _ _ _ _ _ c.in_ok-write_plain.ensures
-    (laws.goes_on _ _ _ _ _ _ c.in_ok-write_run_id.ensures (laws.stops_within _ _ _ _ _ c.in_err-write_with_profile.ensures))))
-
-pub returns-in_err-write : goal.returns-in_err-write
-unfolding run_id_line
-returns-in_err-write g c =
-    let laws = g.met.W.WriteStr.laws in
-    at_exit laws _ _ _ _ _ c.from_residual-in_err-write.ensures.1
-    (laws.goes_on _ _ _ _ _ _ c.in_ok-write_right.ensures
-    (laws.goes_on _ _ _ _ _ _ c.in_ok-write_plain.ensures
-    (laws.goes_on _ _ _ _ _ _ c.in_ok-write_run_id.ensures
-    (laws.goes_on _ _ _ _ _ _ c.in_ok-write_with_profile.ensures
-    (laws.stops_within _ _ _ _ _ (rw c.as_str.ensures at c.in_err-write.ensures))))))
-
 pub returns : goal.returns
 unfolding run_id_line
 returns g c =
     let laws = g.met.W.WriteStr.laws in
     puts_then laws _ _ _ _ _ _ c.in_ok-write_right.ensures
     (puts_then laws _ _ _ _ _ _ c.in_ok-write_plain.ensures
-    (puts_then laws _ _ _ _ _ _ c.in_ok-write_run_id.ensures
-    (puts_then laws _ _ _ _ _ _ c.in_ok-write_with_profile.ensures
-    (puts_then laws _ _ _ _ _ _ (rw c.as_str.ensures at c.in_ok-write.ensures) c.write_plain-2.ensures))))
+    (puts_then laws _ _ _ _ _ _ c.in_ok-write_run_id.ensures (rw c.as_str.ensures at c.write_profile.ensures)))

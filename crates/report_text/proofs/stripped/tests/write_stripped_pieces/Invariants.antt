@@ -3,7 +3,7 @@ use Rattle.std.specs.Str.{IsUtf8}
 use Rattle.report_text.specs.EndLine.{without_end_line, held}
 use Rattle.report_text.specs.Escapes.{visible}
 use Rattle.report_text.specs.Stripped.{visible_from}
-use Rattle.report_text.specs.Words.{strs}
+use Rattle.report_text.specs.Texts.{strs}
 use Rattle.report_text.specs.Writer.{Owes}
 use Rattle.report_text.proofs.stripped.tests.write_stripped_pieces.Given as goal
 

@@ -1,6 +1,6 @@
 use Rattle.std.proofs.Common.{◌++◌, drop}
 use Rattle.report_text.specs.EndLine.{without_end_line, held}
-use Rattle.report_text.specs.Words.{strs}
+use Rattle.report_text.specs.Texts.{strs}
 use Rattle.report_text.specs.Writer.{Owes}
 use Rattle.report_text.proofs.stripped.tests.write_without_end_line.Given as goal
 

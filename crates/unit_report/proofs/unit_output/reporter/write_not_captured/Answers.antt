@@ -1,0 +1,6 @@
+use Rattle.unit_report.specs.UnitOutputs.{not_captured_text}
+use Rattle.unit_report.proofs.unit_output.reporter.write_not_captured.Goals as goal
+
+pub returns : goal.returns
+unfolding not_captured_text
+returns g c = rw (← c.as_str.ensures) c.write_parts.ensures
