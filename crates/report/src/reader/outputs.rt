@@ -94,7 +94,7 @@ fn read_stream(alloc: Global, field: &str) -> Result<Option<Option<ChildSingleOu
 {
     match field {
         "-" => Ok(Some(None)),
-        "" => Ok(Some(Some(ChildSingleOutput::new(Bytes::new())))),
+        "" => Ok(Some(Some(ChildSingleOutput::empty()))),
         _ => Ok(read_single(alloc, field)?.map(Some)),
     }
 }
