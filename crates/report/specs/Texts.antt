@@ -1,21 +1,17 @@
 -- Texts as a scene writes them, where a backslash begins an escape.
-use Rattle.std.specs.Prelude.{◌≡◌, ℕ, zero, suc, ◌+◌, ◌*◌, List, [], ◌∷◌, ◌++◌, false, ◌==◌, ◌&&◌, nat_lt, nat_le, if◌then◌else◌, Option, None, Some, string_bytes, drop, ⊤}
+use Rattle.std.specs.Prelude.{◌≡◌, ℕ, zero, suc, ◌+◌, ◌*◌, List, [], ◌∷◌, ◌++◌, ◌==◌, ◌&&◌, nat_lt, nat_le, if◌then◌else◌, Option, None, Some, string_bytes, drop}
 use Rattle.std.specs.Option.{option_map}
 use Rattle.std.specs.Borrow.{Bor}
 use Rattle.std.specs.Char.{digit_value}
 use Rattle.std.specs.declared.alloc.Global.{Global}
 use Rattle.std.specs.declared.borrow.CowStr.{CowStr}
 use Rattle.std.specs.declared.borrow.CowStr.TheVariants.{Borrowed, Owned}
+use Rattle.report.specs.Cuts.{Lacks}
 
 -- the text that is borrowed or owned
 abbrev pub cow_text : CowStr Global → List ℕ
 cow_text (Borrowed t) = t.now
 cow_text (Owned t) = string_bytes t
-
--- the byte is not in the text
-abbrev pub Lacks : ℕ → List ℕ → Type 0
-Lacks b [] = ⊤
-Lacks b (c ∷ t) = ((c == b) ≡ false) × Lacks b t
 
 -- no escape begins in the text
 abbrev pub IsPlain : List ℕ → Type 0

@@ -44,7 +44,8 @@ pub fn write_report<W: Write + Drop>(
     scene: &Scene,
     writer: W,
 ) -> Result<(), Fault<'static>>
-    ensures { IfErr result (λ fault. status_of fault ≡ 3) }
+    ensures ok { OnOk result ((last : W) × PrintsReport options.now scene.now (W.contents writer) (W.contents last)) }
+    ensures status { IfErr result (λ fault. status_of fault ≡ 3) }
 {
     let (outcome, _writer) = write_and_return(alloc, options, scene, writer);
     outcome

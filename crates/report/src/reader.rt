@@ -22,9 +22,9 @@ mod values;
 
 use crate::fault::{Fault, LineError, LineFault};
 use crate::scene::{Scene, SceneConfig};
-use bstr::ByteSlice;
-use fields::Fields;
+use fields::{Fields, split_fields};
 use lines::{LineKind, read_config, read_done, read_end, read_run};
+use split::first_line;
 use std::alloc::Global;
 
 /// Reads a scene. Its lines end in line feeds, which the last may lack; empty lines and lines that begin with `#` are
@@ -40,30 +40,54 @@ pub fn read_scene(alloc: Global, text: &[u8]) -> Result<Scene, Fault<'static>>
         config: SceneConfig::new(),
         events: Vec::new(alloc),
     };
-    for (number, line) in (1..u64::MAX).zip(text.split_str(b"\n")) {
-        match read_line(alloc, line, &mut scene) {
-            Ok(()) => {}
-            Err(LineError::Fault(fault)) => {
-                return Err(Fault::Line {
-                    line: number,
-                    fault,
-                });
-            }
-            Err(LineError::OutOfMemory) => return Err(Fault::OutOfMemory),
+    let mut fields = Vec::new(alloc);
+    let mut rest = Some(text);
+    let mut number = 1;
+    while let Some(left) = rest {
+        let (line, after) = first_line(left);
+        if let Err(error) = read_line(alloc, line, &mut fields, &mut scene) {
+            return Err(fault_at(number, error));
         }
+        number += 1;
+        rest = after;
     }
     Ok(scene)
 }
 
-// Reads a line into the scene.
-fn read_line(alloc: Global, line: &[u8], scene: &mut Scene) -> Result<(), LineError> {
-    if line.is_empty() || line[0] == b'#' {
+// The fault of a scene whose line of this number cannot be read.
+fn fault_at(line: u64, error: LineError) -> Fault<'static>
+    ensures { IsSceneFault result }
+{
+    match error {
+        LineError::Fault(fault) => Fault::Line { line, fault },
+        LineError::OutOfMemory => Fault::OutOfMemory,
+    }
+}
+
+// Reads a line into the scene. The list is for its fields.
+fn read_line<'a>(
+    alloc: Global,
+    line: &'a [u8],
+    fields: &mut Vec<&'a str>,
+    scene: &mut Scene,
+) -> Result<(), LineError> {
+    if is_passed_over(line) {
         return Ok(());
     }
     let Ok(line) = str::from_utf8(line) else {
         return Err(LineError::Fault(LineFault::NotUtf8));
     };
-    let mut fields = Fields::new(line);
+    split_fields(line, fields)?;
+    read_fields(alloc, &mut Fields::new(fields.as_slice()), scene)
+}
+
+// Whether a line is empty, or begins with `#`.
+fn is_passed_over(line: &[u8]) -> bool {
+    matches!(line, [] | [b'#', ..])
+}
+
+// Reads the fields of a line into the scene.
+fn read_fields(alloc: Global, fields: &mut Fields<'_>, scene: &mut Scene) -> Result<(), LineError> {
     let name = fields.take()?;
     let Some(kind) = LineKind::from_name(name) else {
         return Err(LineError::Fault(LineFault::UnknownEvent));
@@ -75,10 +99,10 @@ fn read_line(alloc: Global, line: &[u8], scene: &mut Scene) -> Result<(), LineEr
         return Err(LineError::Fault(LineFault::WrongNumberOfFields));
     }
     let event = match kind {
-        LineKind::Config => return Ok(read_config(&mut fields, &mut scene.config)?),
-        LineKind::Run => read_run(alloc, &mut fields)?,
-        LineKind::Done => read_done(alloc, &mut fields)?,
-        LineKind::End => read_end(&mut fields)?,
+        LineKind::Config => return Ok(read_config(fields, &mut scene.config)?),
+        LineKind::Run => read_run(alloc, fields)?,
+        LineKind::Done => read_done(alloc, fields)?,
+        LineKind::End => read_end(fields)?,
     };
     scene.events.push(event)?;
     Ok(())

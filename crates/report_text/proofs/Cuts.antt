@@ -39,6 +39,10 @@ csi_len-ascii : IsAsciiRun csi_len
 csi_len-ascii = then_len-ascii _ _ (front_len-ascii is_parameter (λ c. within-ascii 0x30 0x3F c (lit< tt)))
     (then_len-ascii _ _ (front_len-ascii is_intermediate (λ c. within-ascii 0x20 0x2F c (lit< tt))) (one_len-ascii (is_within 0x40 0x7E) (λ c. within-ascii 0x40 0x7E c (lit< tt))))
 
+-- a control sequence ends within the text
+pub csi_len-le : (t : Text) → csi_len t ≤ length t
+csi_len-le t = (csi_len-ascii 0 t (lit< tt)).0
+
 short_len-ascii : IsAsciiRun short_len
 short_len-ascii = then_len-ascii _ _ (front_len-ascii is_intermediate (λ c. within-ascii 0x20 0x2F c (lit< tt))) (one_len-ascii (is_within 0x30 0x7E) (λ c. within-ascii 0x30 0x7E c (lit< tt)))
 

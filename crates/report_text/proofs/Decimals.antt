@@ -1,8 +1,8 @@
 -- Texts of digits.
-use Rattle.std.proofs.Common.{◌≡◌, ℕ, zero, suc, ◌+◌, ◌-◌, ◌/◌, ◌%◌, ◌^◌, ◌<◌, [], ◌∷◌, ◌++◌, length, ap, ◌∙◌, arith, length-append, append_assoc, codes, lit<}
+use Rattle.std.proofs.Common.{◌≡◌, ℕ, zero, suc, ◌+◌, ◌-◌, ◌/◌, ◌%◌, ◌^◌, ◌<◌, [], ◌∷◌, ◌++◌, length, ap, ◌∙◌, arith, length-append, append_assoc, codes, lit<, refl}
 use Rattle.std.specs.Fmt.{decimal}
-use Rattle.std.specs.Str.{IsAscii, chars}
-use Rattle.std.proofs.lemmas.Str.{chars-IsAscii, IsAscii-append}
+use Rattle.std.specs.Str.{IsAscii, IsUtf8, chars}
+use Rattle.std.proofs.lemmas.Str.{chars-IsAscii, IsAscii-append, IsUtf8-from_ascii}
 use Rattle.std.proofs.lemmas.Fmt.{IsAscii-decimal_wide}
 use Rattle.report_text.specs.Texts.{Text, spaces, right_in}
 use Rattle.report_text.specs.Numbers.{rounded, last_digits, with_point, seconds}
@@ -40,7 +40,28 @@ seconds-thousandths : (n : ℕ) → seconds 3 n ≡ decimal (rounded 1000000 n /
 unfolding seconds with_point
 seconds-thousandths n = append_assoc (decimal (rounded 1000000 n / 1000)) (codes ".") (last_digits 3 (rounded 1000000 n))
 
--- nanoseconds as seconds with three decimals, right in so many columns
-pub right-seconds : (columns n : ℕ) → rounded 1000000 n / 1000 < 10 ^ 64 →
-    right_in columns (seconds 3 n) ≡ spaces (columns - 4 - length (decimal (rounded 1000000 n / 1000))) ++ (decimal (rounded 1000000 n / 1000) ++ decimals (rounded 1000000 n))
-right-seconds columns n fits = ap (right_in columns) (seconds-thousandths n) ∙ right-thousandths columns (rounded 1000000 n) fits
+-- the three digits are those of the number's last three
+decimals-last : (r : ℕ) → decimals r ≡ codes "." ++ last_digits 3 (r % 1000)
+decimals-last r =
+    let hundreds : r / 10 / 10 % 10 ≡ r % 1000 / 10 / 10 % 10 = omega arith in
+    let tens : r / 10 % 10 ≡ r % 1000 / 10 % 10 = omega arith in
+    let ones : r % 10 ≡ r % 1000 % 10 = omega arith in
+    rw (hundreds, tens, ones) refl
+
+-- nanoseconds as seconds with three decimals, right in so many columns: spaces, the seconds, and the thousandths
+pub right-seconds : (columns n whole part : ℕ) (padding text : Text) → whole ≡ rounded 1000000 n / 1000 → part ≡ rounded 1000000 n % 1000 → n < 2 ^ 128
+    → padding ≡ spaces (columns - 4 - length text) → text ≡ decimal whole
+    → right_in columns (seconds 3 n) ≡ padding ++ (text ++ (codes "." ++ last_digits 3 part))
+right-seconds columns n whole part padding text p q fits e f =
+    ap (right_in columns) (seconds-thousandths n)
+    ∙ right-thousandths columns (rounded 1000000 n) (omega arith)
+    ∙ rw (e, f, p, q) (ap (λ t. spaces (columns - 4 - length (decimal (rounded 1000000 n / 1000))) ++ (decimal (rounded 1000000 n / 1000) ++ t)) (decimals-last (rounded 1000000 n)))
+
+-- the digits as the code makes them
+pub IsUtf8-digits : (n : ℕ) → n < 1000 → IsUtf8 (46 ∷ (48 + n / 100) ∷ (48 + n / 10 % 10) ∷ (48 + n % 10) ∷ [])
+IsUtf8-digits n h =
+    IsUtf8-from_ascii (46 ∷ (48 + n / 100) ∷ (48 + n / 10 % 10) ∷ (48 + n % 10) ∷ [])
+    (IsAscii-cons 46 ((48 + n / 100) ∷ (48 + n / 10 % 10) ∷ (48 + n % 10) ∷ []) (lit< tt)
+    (IsAscii-cons (48 + n / 100) ((48 + n / 10 % 10) ∷ (48 + n % 10) ∷ []) (omega arith)
+    (IsAscii-cons (48 + n / 10 % 10) ((48 + n % 10) ∷ []) (omega arith)
+    (IsAscii-cons (48 + n % 10) [] (omega arith) IsAscii-none))))

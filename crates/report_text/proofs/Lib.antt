@@ -14,6 +14,7 @@ pub mod FitMarks
 pub mod Fits
 pub mod FittedPuts
 pub mod FittedTexts
+pub mod Gathered
 pub mod Highlighted
 pub mod IndentedCalls
 pub mod Indents
@@ -23,6 +24,7 @@ pub mod NameWidths
 pub mod Pieces
 pub mod Quotes
 pub mod Repeated
+pub mod Runs
 pub mod ScannerSteps
 pub mod Spaces
 pub mod Steps

@@ -103,6 +103,15 @@ unfolding visible_after
 visible-free [] h = refl
 visible-free (c ∷ t) h = let both = free_parts c t h in rw both.0 (ap (λ l. c ∷ l) (visible-free t both.1))
 
+-- also where no escape character is found
+pub visible-front : (t : Text) → length (drop (front_len is_visible t) t) ≡ 0 → visible t ≡ t
+unfolding visible_after
+visible-front [] h = refl
+visible-front (c ∷ t) h = elim (cases_Bool (c == 27)) [
+  | inl y ↦ absurd (let l = rw y at h in omega arith)
+  | inr n ↦ rw n (ap (λ l. c ∷ l) (visible-front t (rw n at h)))
+]
+
 pub visible-visible : (t : Text) → visible (visible t) ≡ visible t
 visible-visible t = visible-free (visible t) (visible_after-free 0 t)
 

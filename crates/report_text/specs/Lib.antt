@@ -10,6 +10,7 @@ pub mod Failures
 pub mod Fitted
 pub mod Fitting
 pub mod Formatters
+pub mod Gathered
 pub mod Highlights
 pub mod Indent
 pub mod Indented

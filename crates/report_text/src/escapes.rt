@@ -11,7 +11,7 @@
 
 ghost use Rattle.std.specs.Prelude.{◌≡◌, ℕ, false, [], ◌∷◌, List, IfOk, MatchOption, string_bytes};
 ghost use Rattle.std.specs.Iterator.{YieldsFirstBy, item_count};
-ghost use Rattle.report_text.specs.Escapes.{sequence_len, front_len, is_visible, pieces, visible, joined, stretches, HasNoEscape};
+ghost use Rattle.report_text.specs.Escapes.{sequence_len, csi_len, front_len, is_within, is_visible, pieces, visible, joined, stretches, HasNoEscape};
 ghost use Rattle.report_text.specs.Piece.{piece_text};
 ghost use Rattle.report_text.specs.Scanner.{rest_len, is_before_backslash, StepCounts, step_of, short_step_of, final_step_of, advanced};
 ghost use Rattle.report_text.specs.Writer.{Puts};
@@ -144,7 +144,18 @@ fn stretch_len(bytes: &[u8]) -> usize
 }
 
 // How many bytes of what follows an escape character belong to its sequence.
+#[tactic(auto, unfolding(crate::specs::Escapes::sequence_len))]
 fn sequence_len(after: &[u8]) -> usize
+    ensures { result ≡ sequence_len after.now }
+{
+    match after.split_first() {
+        Some((b'[', parameters)) => control_len(parameters) + 1,
+        _ => stepwise_len(after),
+    }
+}
+
+// The same, a step at a time.
+fn stepwise_len(after: &[u8]) -> usize
     ensures { result ≡ sequence_len after.now }
 {
     let mut state = State::Start;
@@ -159,6 +170,39 @@ fn sequence_len(after: &[u8]) -> usize
         rest = tail;
     }
     count
+}
+
+// How many bytes of what follows `ESC [` belong to its sequence.
+fn control_len(after: &[u8]) -> usize
+    ensures { result ≡ csi_len after.now }
+{
+    let parameters = run_len(after, 0x30, 0x3F);
+    let (_, rest) = after.split_at(parameters);
+    let intermediates = run_len(rest, 0x20, 0x2F);
+    let (_, rest) = rest.split_at(intermediates);
+    match rest.first() {
+        Some(0x40..=0x7E) => parameters + intermediates + 1,
+        _ => parameters + intermediates,
+    }
+}
+
+// How many bytes at the front lie from low to high.
+fn run_len(bytes: &[u8], low: u8, high: u8) -> usize
+    ensures { result ≡ front_len (is_within low high) bytes.now }
+{
+    for (place, &byte) in bytes.iter().enumerate() {
+        if !is_within(low, high, byte) {
+            return place;
+        }
+    }
+    bytes.len()
+}
+
+// Whether the byte lies from low to high.
+fn is_within(low: u8, high: u8, byte: u8) -> bool
+    ensures { result ≡ is_within low high byte }
+{
+    low <= byte && byte <= high
 }
 
 /// Where a scan of a sequence stands, after its escape character.

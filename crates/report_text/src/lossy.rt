@@ -62,6 +62,13 @@ impl<'a> LossyText<'a> {
         }
     }
 
+    /// Whether there is no text.
+    pub fn is_empty(&self) -> bool
+        ensures { IsTrue result ↔ (self.now ≡ []) }
+    {
+        self.split_first().is_none()
+    }
+
     /// The first piece, which is not empty, and the text after it. `None` says that there is no text.
     ///
     /// ```

@@ -1,13 +1,14 @@
 //! Numbers and spaces as text.
 
-ghost use Rattle.std.specs.Prelude.{◌≡◌, ◌+◌, ◌/◌, ◌%◌, ◌<◌, ◌≤◌, ◌∷◌, [], ◌++◌, ◌-◌, length, chars};
+ghost use Rattle.std.specs.Prelude.{◌≡◌, ◌+◌, ◌/◌, ◌%◌, ◌<◌, ◌≤◌, ◌∷◌, [], ◌++◌, ◌-◌, length, chars, codes};
 ghost use Rattle.std.specs.Fmt.{decimal};
 ghost use Rattle.report_text.specs.Texts.{spaces, right_in};
-ghost use Rattle.report_text.specs.Numbers.{rounded, seconds};
+ghost use Rattle.report_text.specs.Numbers.{rounded, last_digits, seconds};
 ghost use Rattle.report_text.specs.Writer.{Puts};
 
-use crate::write_str::{WriteFault, WriteStr, write_strs};
+use crate::write_str::{WriteFault, WriteStr};
 use itoa::Buffer;
+use std::str;
 
 /// The nearest whole number of units, ties up. No sum overflows, also at the greatest number.
 pub fn round_to(unit: u128, n: u128) -> u128
@@ -125,21 +126,41 @@ fn write_seconds_right<W: WriteStr>(
     requires { columns ≤ 16 }
     ensures { Puts W.meaning w.old (right_in columns (seconds 3 nanos)) result w.new }
 {
-    let thousandths = round_to(1_000_000, nanos);
+    let (whole, thousandths) = round_to_thousandths(nanos);
     let mut buffer = Buffer::new();
-    let whole = buffer.format(thousandths / 1000);
-    let padding = spaces_str(columns.saturating_sub(4).saturating_sub(whole.len()));
-    write_strs(
-        w,
-        &[
-            padding,
-            whole,
-            ".",
-            digit_str(thousandths / 100 % 10),
-            digit_str(thousandths / 10 % 10),
-            digit_str(thousandths % 10),
-        ],
-    )
+    let whole = buffer.format(whole);
+    w.write_str(spaces_str(columns.saturating_sub(4).saturating_sub(whole.len())))?;
+    w.write_str(whole)?;
+    write_decimals(w, thousandths)
+}
+
+// Nanoseconds as seconds and thousandths of one, the nearest, of two that are as near the greater.
+fn round_to_thousandths(nanos: u128) -> (u128, u32)
+    ensures seconds { result.0 ≡ rounded 1000000 nanos / 1000 }
+    ensures thousandths { result.1 ≡ rounded 1000000 nanos % 1000 }
+{
+    // Almost every duration fits 64 bits, and a division of those costs a tenth.
+    if let Ok(nanos) = u64::try_from(nanos) {
+        let rounded = nanos / 1_000_000 + u64::from(nanos % 1_000_000 >= 500_000);
+        return ((rounded / 1000) as u128, (rounded % 1000) as u32);
+    }
+    let rounded = round_to(1_000_000, nanos);
+    (rounded / 1000, (rounded % 1000) as u32)
+}
+
+// Writes a point and three digits.
+fn write_decimals<W: WriteStr>(w: &mut W, thousandths: u32) -> Result<(), WriteFault>
+    requires { thousandths < 1000 }
+    ensures { Puts W.meaning w.old (codes "." ++ last_digits 3 thousandths) result w.new }
+{
+    let digits = [
+        b'.',
+        b'0' + (thousandths / 100) as u8,
+        b'0' + (thousandths / 10 % 10) as u8,
+        b'0' + (thousandths % 10) as u8,
+    ];
+    // These four are ASCII.
+    w.write_str(unsafe { str::from_utf8_unchecked(&digits) })
 }
 
 /// Writes four texts joined, right in so many columns, one for each character.

@@ -2,17 +2,20 @@
 
 ghost use Rattle.std.specs.Prelude.{◌≡◌, ◌<◌, ◌++◌, false, length, take, drop, chars, MatchOption, OnOk};
 ghost use Rattle.report_text.specs.EndLine.{without_end_line, ends_in_line_feed, held};
-ghost use Rattle.report_text.specs.Escapes.{front_len, is_visible};
+ghost use Rattle.report_text.specs.Escapes.{front_len, is_visible, visible};
 ghost use Rattle.report_text.specs.Scanner.{modes_after};
 ghost use Rattle.report_text.specs.Stripped.{visible_from, Takes};
 ghost use Rattle.report_text.specs.Writer.{Puts};
 
+mod gathered_pieces;
+mod piece_buffer;
 #[cfg(test)]
 mod tests;
 
 use crate::end_line::EndLine;
-use crate::escapes::{ESCAPE, Mode, advance};
+use crate::escapes::{ESCAPE, Mode, Piece, advance, pieces};
 use crate::write_str::{WriteFault, WriteStr};
+use gathered_pieces::GatheredPieces;
 use memchr::memchr;
 
 /// Writes a text that comes in pieces without its escape sequences, and without one line feed that closes what is left.
@@ -60,6 +63,34 @@ impl StrippedPieces {
         }
         Ok(())
     }
+}
+
+/// Writes a text without its escape sequences, and without one line feed that closes what is left.
+///
+/// That is what [`StrippedPieces`] writes of a text in one piece, and it costs less: a sequence is scanned as a whole, and
+/// stretches between sequences are written together. It takes no memory.
+pub fn write_stripped_text<W: WriteStr>(w: &mut W, text: &str) -> Result<(), WriteFault>
+    ensures { Puts W.meaning w.old (without_end_line (visible text.now)) result w.new }
+{
+    let (_, from_escape) = split_escape(text);
+    if from_escape.is_empty() {
+        let mut end_line = EndLine::new();
+        return end_line.write(w, text);
+    }
+    write_gathered(w, text)
+}
+
+// The same, where the text has a sequence.
+fn write_gathered<W: WriteStr>(w: &mut W, text: &str) -> Result<(), WriteFault>
+    ensures { Puts W.meaning w.old (without_end_line (visible text.now)) result w.new }
+{
+    let mut gathered = GatheredPieces::new();
+    for piece in pieces(text) {
+        if let Piece::Stretch(stretch) = piece {
+            gathered.write(w, stretch)?;
+        }
+    }
+    gathered.flush(w)
 }
 
 // What the scan takes from the front of a text: a stretch that no sequence holds, or a character of a sequence, which

@@ -1,6 +1,6 @@
 //! What a test or a setup script wrote, as it was captured, and what went wrong with it.
 
-ghost use Rattle.std.specs.Prelude.{◌≡◌, [], length, ◌==◌, is_ok, true, IfOk};
+ghost use Rattle.std.specs.Prelude.{◌≡◌, [], length, ◌==◌, is_ok, true, IfOk, IsOk};
 ghost use Rattle.std.specs.Cow.{cow_str_bytes, IsOwnedStr};
 ghost use Rattle.std.specs.Str.{encode_utf8_all, IsUtf8};
 ghost use Rattle.bstr.specs.Utf8.{lossy_chars};
@@ -44,6 +44,8 @@ impl OutputSpec for RecordingSpec {
 }
 
 /// The bytes of one stream, or of several that were captured together. Contracts see the bytes.
+///
+/// Most streams are empty: those hold nothing. Others share their bytes with their copies.
 #[derive(Debug, Drop)]
 pub struct ChildSingleOutput {
     bytes: Option<Arc<Bytes>>,
@@ -59,9 +61,10 @@ impl Model for ChildSingleOutput {
 }
 
 impl ChildSingleOutput {
-    /// The output with these bytes. It takes memory unless there is none.
+    /// The output with these bytes. It takes memory, but for no bytes.
     pub fn new(alloc: Global, bytes: Bytes) -> Result<Self, OutOfMemory>
-        ensures { IfOk result (λ r. r ≡ bytes) }
+        ensures bytes { IfOk result (λ output. output ≡ bytes) }
+        ensures free { bytes ≡ [] → IsOk result }
     {
         if bytes.is_empty() {
             return Ok(ChildSingleOutput::empty());
@@ -296,14 +299,14 @@ impl Model for ErrorChain {
 }
 
 impl ErrorChain {
-    /// The error with this message and these causes. It takes no memory.
+    /// Takes memory for the error with this message and these causes.
     pub fn new(
         alloc: Global,
         message: DescriptionText,
         causes: Vec<DescriptionText>,
     ) -> Result<Self, OutOfMemory>
-        ensures message { IfOk result (λ r. r.message ≡ message) }
-        ensures causes { IfOk result (λ r. r.causes ≡ causes.items) }
+        ensures message { IfOk result (λ chain. chain.message ≡ message) }
+        ensures causes { IfOk result (λ chain. chain.causes ≡ causes.items) }
     {
         Ok(ErrorChain {
             parts: Box::new(alloc, ErrorParts { message, causes })?,

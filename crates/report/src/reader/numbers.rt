@@ -34,12 +34,15 @@ pub fn read_small_count(text: &str) -> Option<u32>
     text.parse().ok()
 }
 
-/// A duration in nanoseconds.
+/// A duration in nanoseconds. Most fit 64 bits, whose parsing takes half the time.
 pub fn read_nanos(text: &str) -> Option<Nanos>
     ensures { SomeIff result (IsNumeral 10 text.now × (digits_value 10 text.now < 2 ^ 128)) (record { 0 = digits_value 10 text.now }) }
 {
     if text.starts_with('+') {
         return None;
+    }
+    if let Ok(nanos) = text.parse::<u64>() {
+        return Some(Nanos(u128::from(nanos)));
     }
     let nanos = text.parse().ok()?;
     Some(Nanos(nanos))

@@ -88,11 +88,13 @@ fn read_start_error(
 }
 
 // A stream's bytes, or `-` where it was not captured.
+#[tactic(auto, unfolding(crate::specs::Texts::unescaped_after))]
 fn read_stream(alloc: Global, field: &str) -> Result<Option<Option<ChildSingleOutput>>, OutOfMemory>
     ensures { IfOk result (Reads IsStreamText field.now) }
 {
     match field {
         "-" => Ok(Some(None)),
+        "" => Ok(Some(Some(ChildSingleOutput::empty()))),
         _ => Ok(read_single(alloc, field)?.map(Some)),
     }
 }

@@ -31,10 +31,12 @@ fn hands_out_pieces(rt: HostRuntime) -> Result<(), Fail> {
         return Err(Fail::from("there is a first piece"));
     };
     assert_eq!(rt; first, "ab");
+    assert!(rt; !text.is_empty());
     let Some((second, text)) = text.split_first() else {
         return Err(Fail::from("there is a second piece"));
     };
     assert_eq!(rt; second, "\u{FFFD}");
+    assert!(rt; text.is_empty());
     assert!(rt; text.split_first().is_none());
     Ok(())
 }

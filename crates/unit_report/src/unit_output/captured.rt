@@ -16,7 +16,7 @@ use super::highlighted_lines::write_highlighted_lines;
 use report_text::end_line::EndLine;
 use report_text::lossy::LossyText;
 use report_text::reporter_helpers::highlight_end;
-use report_text::stripped::StrippedPieces;
+use report_text::stripped::{StrippedPieces, write_stripped_text};
 use report_text::style::{RESET_COLOR, Style, Styles, write_plain};
 use report_text::write_str::{WriteFault, WriteStr};
 use run_model::output::ByteSubslice;
@@ -45,11 +45,22 @@ pub(super) fn write_captured<W: WriteStr>(
 fn write_plain_output<W: WriteStr>(w: &mut W, text: LossyText<'_>) -> Result<(), WriteFault>
     ensures { Puts W.meaning w.old (plain_output text.entry) result w.new }
 {
-    write_stripped_pieces(w, text)?;
+    write_stripped(w, text)?;
     w.write_str("\n")
 }
 
 // Writes the text without escape sequences, and without one line feed that closes what is left.
+fn write_stripped<W: WriteStr>(w: &mut W, text: LossyText<'_>) -> Result<(), WriteFault>
+    ensures { Puts W.meaning w.old (without_end_line (visible text.entry)) result w.new }
+{
+    match text.split_first() {
+        // Most output is UTF-8, and one piece.
+        Some((piece, rest)) if rest.is_empty() => write_stripped_text(w, piece),
+        _ => write_stripped_pieces(w, text),
+    }
+}
+
+// The same, piece by piece.
 fn write_stripped_pieces<W: WriteStr>(w: &mut W, text: LossyText<'_>) -> Result<(), WriteFault>
     ensures { Puts W.meaning w.old (without_end_line (visible text.entry)) result w.new }
 {

@@ -1,11 +1,9 @@
-use Rattle.std.proofs.Common.{◌≡◌, ◌+◌, arith, rules}
-use Rattle.report_text.specs.Escapes.{sequence_len}
-use Rattle.report_text.proofs.Cuts.{sequence_len-le}
-use Rattle.report_text.proofs.ScannerSteps.{rest_len-ended}
+use Rattle.std.proofs.Common.{◌≡◌, ◌+◌, arith, rules, length}
+use Rattle.report_text.proofs.Cuts.{csi_len-le}
 use Rattle.report_text.proofs.escapes.sequence_len.Goals as goal
 
 pub overflow_add-result : goal.overflow_add-result
-overflow_add-result c = let e : c.loop-byte.count + c.in-Ends.more ≡ sequence_len c.args.after.now = search rules in omega (arith, sequence_len-le c.args.after.now)
-
-pub returns : goal.returns
-returns c = omega (arith, c.loop-byte.invariant.total, rest_len-ended c.loop-byte.state c.loop-byte.rest.now c.in_default.ensures.cases)
+overflow_add-result c =
+    let parameters = c.in-Some-eq91-default.parameters.now in
+    let len : length c.args.after.now ≡ length parameters + 1 = search rules in
+    omega (arith, csi_len-le parameters)

@@ -1,7 +1,7 @@
 use Rattle.std.proofs.Common.{◌≡◌, ◌+◌, length}
 use Rattle.report_text.specs.Escapes.{sequence_len}
 use Rattle.report_text.specs.Scanner.{rest_len}
-use Rattle.report_text.proofs.escapes.sequence_len.Given as goal
+use Rattle.report_text.proofs.escapes.stepwise_len.Given as goal
 
 abbrev pub invariant-loop-byte : goal.invariant-loop-byte
 invariant-loop-byte l = record {

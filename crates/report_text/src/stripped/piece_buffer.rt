@@ -1,0 +1,73 @@
+//! Room for a few pieces of a text.
+
+ghost use Rattle.std.specs.Prelude.{◌≡◌, ◌↔◌, ◌+◌, ◌≤◌, ◌++◌, [], length, IsTrue};
+
+use std::marker::Model;
+use std::str;
+
+// How many bytes of pieces are gathered.
+const CAPACITY: usize = 2048;
+
+/// Pieces of a text that are gathered, joined.
+///
+/// They lie in the value itself, which takes no memory of its own.
+#[derive(Drop)]
+pub(super) struct PieceBuffer {
+    bytes: [u8; CAPACITY],
+    len: usize,
+}
+
+impl Model for PieceBuffer {
+    ghost use Rattle.std.specs.Prelude.{ℕ, List, ◌≤◌, take};
+    ghost use Rattle.std.specs.Str.{IsUtf8};
+
+    ghost Value = { List ℕ };
+
+    ghost view = { λ b. take b.len b.bytes };
+
+    ghost invariant = { λ b. (b.len ≤ 2048) × IsUtf8 (take b.len b.bytes) };
+}
+
+impl PieceBuffer {
+    /// Before the first piece.
+    pub(super) fn new() -> PieceBuffer
+        ensures { result ≡ [] }
+    {
+        PieceBuffer {
+            bytes: [0; CAPACITY],
+            len: 0,
+        }
+    }
+
+    /// The pieces, joined.
+    pub(super) fn as_str(&self) -> &str
+        ensures { result.now ≡ self.now }
+    {
+        // Only whole pieces are gathered.
+        unsafe { str::from_utf8_unchecked(&self.bytes[..self.len]) }
+    }
+
+    /// Whether a piece has room.
+    pub(super) fn has_room(&self, piece: &str) -> bool
+        ensures { IsTrue result ↔ (length self.now + length piece.now ≤ 2048) }
+    {
+        piece.len() <= CAPACITY - self.len
+    }
+
+    /// Gathers a piece.
+    pub(super) fn push(&mut self, piece: &str)
+        requires { length self.old + length piece.now ≤ 2048 }
+        ensures { self.new ≡ self.old ++ piece.now }
+    {
+        let end = self.len + piece.len();
+        self.bytes[self.len..end].copy_from_slice(piece.as_bytes());
+        self.len = end;
+    }
+
+    /// Forgets the pieces.
+    pub(super) fn clear(&mut self)
+        ensures { self.new ≡ [] }
+    {
+        self.len = 0;
+    }
+}
