@@ -1,6 +1,8 @@
 pub mod Configs
+pub mod Counts
 pub mod Cuts
 pub mod Faults
+pub mod Fields
 pub mod Lines
 pub mod Lists
 pub mod Numbers
@@ -8,6 +10,7 @@ pub mod Outputs
 pub mod Reports
 pub mod Results
 pub mod SceneAttempts
+pub mod SceneTexts
 pub mod Scenes
 pub mod Texts
 pub mod Values

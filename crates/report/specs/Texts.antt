@@ -63,6 +63,13 @@ unescaped_after most (suc skip) (c ∷ t) = unescaped_after most skip t
 abbrev pub unescaped : ℕ → List ℕ → Option (List ℕ)
 unescaped most t = unescaped_after most 0 t
 
+-- a text, and the bytes of a stream
+abbrev pub text_in : List ℕ → Option (List ℕ)
+text_in t = unescaped 127 t
+
+abbrev pub bytes_in : List ℕ → Option (List ℕ)
+bytes_in t = unescaped 255 t
+
 -- a text grew by plain text and by what the escape after it gives, and this follows the escape
 pub record AddsStretch (old plain escape new : List ℕ) (after : Bor (List ℕ)) : Type 0 where
   pub byte : ℕ

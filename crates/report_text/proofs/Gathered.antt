@@ -1,5 +1,5 @@
 -- Pieces of a text that are gathered before they are written.
-use Rattle.std.proofs.Common.{◌≡◌, Bool, false, [], ◌++◌, refl, sym, ap, ◌∙◌, append_assoc, subst, Result, Ok, Err, OnOk, MatchResult}
+use Rattle.std.proofs.Common.{◌≡◌, Bool, false, [], ◌++◌, refl, sym, subst, Result, Ok, Err, OnOk, MatchResult}
 use Rattle.std.specs.Result.{IsErrAnd}
 use Rattle.report_text.specs.Texts.{Text}
 use Rattle.report_text.specs.EndLine.{without_end_line, ends_in_line_feed, held}

@@ -15,6 +15,30 @@ pub record GrowsWithin (old new text : List ℕ) : Type 0 where
   pub whole : text ≡ front ++ rest
   pub grown : new ≡ old ++ front
 
+-- The device holds what it held and then what it took since, which with what is pending is what was pending and the text.
+pub record Delivers (old held new pending text : List ℕ) : Type 0 where
+  pub taken : List ℕ
+  pub device : new ≡ old ++ taken
+  pub rest : taken ++ pending ≡ held ++ text
+
+-- the same of a beginning of the text
+pub record DeliversWithin (old held new pending text : List ℕ) : Type 0 where
+  pub front : List ℕ
+  pub rest : List ℕ
+  pub whole : text ≡ front ++ rest
+  pub delivers : Delivers old held new pending front
+
+-- what a device holds stays, and more may follow it
+pub record Holds (old new : Option (List ℕ)) : Type 0 where
+  pub more : List ℕ
+  pub grown : Appends old new more
+
+Holds-all : (a : Option (List ℕ)) → Holds a a
+Holds-all a = record { more = []; grown = Appends-nil a }
+
+Holds-trans : (a b c : Option (List ℕ)) → Holds a b → Holds b c → Holds a c
+Holds-trans a b c p q = record { more = p.more ++ q.more; grown = Appends-trans a b c p.more q.more p.grown q.grown }
+
 module _ {W : Type 0} (contents : W → Option (List ℕ)) where
   -- what was delivered, if it is known, and then what is pending
   abbrev pub buffer_text : TextBuffer W → Option (List ℕ)
@@ -22,10 +46,12 @@ module _ {W : Type 0} (contents : W → Option (List ℕ)) where
 
   pub record BufferAccepts (a : TextBuffer W) (t : List ℕ) (b : TextBuffer W) : Type 0 where
     pub grown : Appends (buffer_text a) (buffer_text b) t
+    pub holds : Holds (contents a.writer) (contents b.writer)
     pub kept : b.failures ≡ a.failures
 
   pub record BufferStops (a : TextBuffer W) (t : List ℕ) (e : WriteFault) (b : TextBuffer W) : Type 0 where
     pub grown : AppendsFront (buffer_text a) (buffer_text b) t
+    pub holds : Holds (contents a.writer) (contents b.writer)
     pub count : b.failures ≡ one_further a.failures
     pub device : e ≡ Device
 
@@ -42,8 +68,8 @@ module _ {W : Type 0} (contents : W → Option (List ℕ)) where
 
 pub buffer_laws : {W : Type 0} (contents : W → Option (List ℕ)) → WriterLaws (buffer_meaning contents)
 buffer_laws contents = record {
-  nothing = λ a. record { grown = Appends-nil (buffer_text contents a); kept = refl };
-  joins = λ a b c t u p q. record { grown = Appends-trans _ _ _ t u p.grown q.grown; kept = q.kept ∙ p.kept };
+  nothing = λ a. record { grown = Appends-nil (buffer_text contents a); holds = Holds-all (contents a.writer); kept = refl };
+  joins = λ a b c t u p q. record { grown = Appends-trans _ _ _ t u p.grown q.grown; holds = Holds-trans _ _ _ p.holds q.holds; kept = q.kept ∙ p.kept };
   goes_on = λ a b c t u e p q. record {
     grown = record {
       front = t ++ q.grown.front;
@@ -51,6 +77,7 @@ buffer_laws contents = record {
       whole = ap (λ x. t ++ x) q.grown.whole ∙ sym (append_assoc t q.grown.front q.grown.rest);
       grown = Appends-trans _ _ _ t q.grown.front p.grown q.grown.grown;
     };
+    holds = Holds-trans _ _ _ p.holds q.holds;
     count = q.count ∙ ap one_further p.kept;
     device = q.device;
   };
@@ -61,6 +88,7 @@ buffer_laws contents = record {
       whole = ap (λ x. x ++ u) p.grown.whole ∙ append_assoc p.grown.front p.grown.rest u;
       grown = p.grown.grown;
     };
+    holds = p.holds;
     count = p.count;
     device = p.device;
   };

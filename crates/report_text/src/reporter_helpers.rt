@@ -43,6 +43,14 @@ pub fn print_lines_in_chunks<F: FnMut(&str)>(text: &str, limit: usize, mut print
     requires { F.IsAlwaysCallable print }
     ensures { (last : F) × VisitsChunks (λ p x q. F.step p x tt q) limit text.now print last }
 {
+    visit_chunks(text, limit, &mut print);
+}
+
+// Calls `print` with each chunk, and does no more with it.
+fn visit_chunks<F: FnMut(&str)>(text: &str, limit: usize, print: &mut F)
+    requires { F.IsAlwaysCallable print.old }
+    ensures { VisitsChunks (λ p x q. F.step p x tt q) limit text.now print.old print.new }
+{
     let mut rest = text;
     while !rest.is_empty() {
         let (chunk, after) = split_chunk(rest, limit);

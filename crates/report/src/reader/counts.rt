@@ -3,6 +3,12 @@
 //! Single spaces part the pairs, as in `passed=2 failed=1`, and each key stands there once. What has no pair is 0, and `-`
 //! stands for no pair at all. Each function answers None for a bad field.
 
+ghost use Rattle.std.specs.Prelude.{◌≡◌, Some};
+ghost use Rattle.std.specs.Option.{option_map};
+ghost use Rattle.report.specs.Cuts.{parted};
+ghost use Rattle.report.specs.Numbers.{number_in};
+ghost use Rattle.report.specs.Counts.{in_turn, no_skips, no_stats, skips_in, skips_key_in, skips_pair, stats_in, stats_key_in, stats_pair, with_skip, with_stat};
+
 use super::numbers::read_count;
 use super::split::{first_piece, split_at_byte};
 use super::values::read_reason;
@@ -48,7 +54,9 @@ pub enum StatsKey {
 const STATS_KEYS: usize = 15;
 
 // The key of a word.
-fn read_stats_key(word: &str) -> Option<StatsKey> {
+fn read_stats_key(word: &str) -> Option<StatsKey>
+    ensures { result ≡ stats_key_in word.now }
+{
     match word {
         "initial" => Some(StatsKey::Initial),
         "finished" => Some(StatsKey::Finished),
@@ -78,7 +86,9 @@ struct StatsRead {
 
 impl StatsRead {
     // Before any pair.
-    fn new() -> StatsRead {
+    fn new() -> StatsRead
+        ensures { result ≡ no_stats }
+    {
         StatsRead {
             stats: RunStats {
                 initial_run_count: 0,
@@ -102,7 +112,9 @@ impl StatsRead {
     }
 
     // Reads one pair more, whose key must be a new one.
-    fn read_pair(&mut self, pair: &str) -> Option<()> {
+    fn read_pair(&mut self, pair: &str) -> Option<()>
+        ensures { option_map (λ _. self.new) result ≡ stats_pair self.old pair.now }
+    {
         let (word, value) = split_at_byte(pair, b'=')?;
         let key = read_stats_key(word)?;
         let place = key as usize;
@@ -110,31 +122,42 @@ impl StatsRead {
             return None;
         }
         self.has_key[place] = true;
-        self.set(key, value)
+        set_stat(&mut self.stats, key, value)
     }
+}
 
-    // Sets what the key counts.
-    fn set(&mut self, key: StatsKey, value: &str) -> Option<()> {
-        let stats = &mut self.stats;
-        match key {
-            StatsKey::Initial => stats.initial_run_count = read_count(value)?,
-            StatsKey::Finished => stats.finished_count = read_count(value)?,
-            StatsKey::Passed => stats.passed = read_count(value)?,
-            StatsKey::Slow => stats.passed_slow = read_count(value)?,
-            StatsKey::Flaky => stats.flaky = read_count(value)?,
-            StatsKey::Leaky => stats.leaky = read_count(value)?,
-            StatsKey::Failed => stats.failed = read_count(value)?,
-            StatsKey::LeakyFailed => stats.leaky_failed = read_count(value)?,
-            StatsKey::Exec => stats.exec_failed = read_count(value)?,
-            StatsKey::TimedOut => stats.timed_out = read_count(value)?,
-            StatsKey::Skipped => stats.skipped = read_count(value)?,
-            StatsKey::SetupFailed => stats.setup_scripts_failed = read_count(value)?,
-            StatsKey::SetupExec => stats.setup_scripts_exec_failed = read_count(value)?,
-            StatsKey::SetupTimedOut => stats.setup_scripts_timed_out = read_count(value)?,
-            StatsKey::Cancel => stats.cancel_reason = Some(read_reason(value)?),
+// Sets what the key counts.
+fn set_stat(stats: &mut RunStats, key: StatsKey, value: &str) -> Option<()>
+    ensures { option_map (λ _. stats.new) result ≡ with_stat stats.old key value.now }
+{
+    match key {
+        StatsKey::Initial => set_count(&mut stats.initial_run_count, value),
+        StatsKey::Finished => set_count(&mut stats.finished_count, value),
+        StatsKey::Passed => set_count(&mut stats.passed, value),
+        StatsKey::Slow => set_count(&mut stats.passed_slow, value),
+        StatsKey::Flaky => set_count(&mut stats.flaky, value),
+        StatsKey::Leaky => set_count(&mut stats.leaky, value),
+        StatsKey::Failed => set_count(&mut stats.failed, value),
+        StatsKey::LeakyFailed => set_count(&mut stats.leaky_failed, value),
+        StatsKey::Exec => set_count(&mut stats.exec_failed, value),
+        StatsKey::TimedOut => set_count(&mut stats.timed_out, value),
+        StatsKey::Skipped => set_count(&mut stats.skipped, value),
+        StatsKey::SetupFailed => set_count(&mut stats.setup_scripts_failed, value),
+        StatsKey::SetupExec => set_count(&mut stats.setup_scripts_exec_failed, value),
+        StatsKey::SetupTimedOut => set_count(&mut stats.setup_scripts_timed_out, value),
+        StatsKey::Cancel => {
+            stats.cancel_reason = Some(read_reason(value)?);
+            Some(())
         }
-        Some(())
     }
+}
+
+// Sets one count.
+fn set_count(count: &mut usize, value: &str) -> Option<()>
+    ensures { option_map (λ _. count.new) result ≡ number_in 64 value.now }
+{
+    *count = read_count(value)?;
+    Some(())
 }
 
 /// The statistics of a run.
@@ -142,12 +165,22 @@ impl StatsRead {
 /// ```
 /// read_stats("initial=2 finished=1 failed=1 cancel=signal")
 /// ```
-pub fn read_stats(field: &str) -> Option<RunStats> {
-    let mut read = StatsRead::new();
+#[tactic(auto, unfolding(crate::specs::Counts::stats_in))]
+pub fn read_stats(field: &str) -> Option<RunStats>
+    ensures { result ≡ stats_in field.now }
+{
     if field == "-" {
-        return Some(read.stats);
+        return Some(StatsRead::new().stats);
     }
-    let mut rest = Some(field);
+    read_stats_pairs(field)
+}
+
+// What pairs say that spaces part.
+fn read_stats_pairs(pairs: &str) -> Option<RunStats>
+    ensures { result ≡ option_map (λ read. read.stats) (in_turn stats_pair no_stats (parted 32 pairs.now)) }
+{
+    let mut read = StatsRead::new();
+    let mut rest = Some(pairs);
     while let Some(left) = rest {
         let (pair, after) = first_piece(left, b' ');
         read.read_pair(pair)?;
@@ -177,7 +210,9 @@ pub enum SkipsKey {
 const SKIPS_KEYS: usize = 6;
 
 // The key of a word.
-fn read_skips_key(word: &str) -> Option<SkipsKey> {
+fn read_skips_key(word: &str) -> Option<SkipsKey>
+    ensures { result ≡ skips_key_in word.now }
+{
     match word {
         "rerun" => Some(SkipsKey::Rerun),
         "nonbench" => Some(SkipsKey::NonBenchmark),
@@ -198,7 +233,9 @@ struct SkipsRead {
 
 impl SkipsRead {
     // Before any pair.
-    fn new() -> SkipsRead {
+    fn new() -> SkipsRead
+        ensures { result ≡ no_skips }
+    {
         SkipsRead {
             counts: SkipCounts {
                 skipped_tests: 0,
@@ -213,7 +250,9 @@ impl SkipsRead {
     }
 
     // Reads one pair more, whose key must be a new one.
-    fn read_pair(&mut self, pair: &str) -> Option<()> {
+    fn read_pair(&mut self, pair: &str) -> Option<()>
+        ensures { option_map (λ _. self.new) result ≡ skips_pair self.old pair.now }
+    {
         let (word, value) = split_at_byte(pair, b'=')?;
         let key = read_skips_key(word)?;
         let place = key as usize;
@@ -221,21 +260,21 @@ impl SkipsRead {
             return None;
         }
         self.has_key[place] = true;
-        self.set(key, read_count(value)?);
-        Some(())
+        set_skip(&mut self.counts, key, value)
     }
+}
 
-    // Sets what the key counts.
-    fn set(&mut self, key: SkipsKey, count: usize) {
-        let counts = &mut self.counts;
-        match key {
-            SkipsKey::Rerun => counts.skipped_tests_rerun = count,
-            SkipsKey::NonBenchmark => counts.skipped_tests_non_benchmark = count,
-            SkipsKey::Tests => counts.skipped_tests = count,
-            SkipsKey::Filter => counts.skipped_tests_default_filter = count,
-            SkipsKey::Binaries => counts.skipped_binaries = count,
-            SkipsKey::BinaryFilter => counts.skipped_binaries_default_filter = count,
-        }
+// Sets what the key counts.
+fn set_skip(counts: &mut SkipCounts, key: SkipsKey, value: &str) -> Option<()>
+    ensures { option_map (λ _. counts.new) result ≡ with_skip counts.old key value.now }
+{
+    match key {
+        SkipsKey::Rerun => set_count(&mut counts.skipped_tests_rerun, value),
+        SkipsKey::NonBenchmark => set_count(&mut counts.skipped_tests_non_benchmark, value),
+        SkipsKey::Tests => set_count(&mut counts.skipped_tests, value),
+        SkipsKey::Filter => set_count(&mut counts.skipped_tests_default_filter, value),
+        SkipsKey::Binaries => set_count(&mut counts.skipped_binaries, value),
+        SkipsKey::BinaryFilter => set_count(&mut counts.skipped_binaries_default_filter, value),
     }
 }
 
@@ -244,12 +283,22 @@ impl SkipsRead {
 /// ```
 /// read_skips("tests=3 filter=2")
 /// ```
-pub fn read_skips(field: &str) -> Option<SkipCounts> {
-    let mut read = SkipsRead::new();
+#[tactic(auto, unfolding(crate::specs::Counts::skips_in))]
+pub fn read_skips(field: &str) -> Option<SkipCounts>
+    ensures { result ≡ skips_in field.now }
+{
     if field == "-" {
-        return Some(read.counts);
+        return Some(SkipsRead::new().counts);
     }
-    let mut rest = Some(field);
+    read_skips_pairs(field)
+}
+
+// What pairs say that spaces part.
+fn read_skips_pairs(pairs: &str) -> Option<SkipCounts>
+    ensures { result ≡ option_map (λ read. read.counts) (in_turn skips_pair no_skips (parted 32 pairs.now)) }
+{
+    let mut read = SkipsRead::new();
+    let mut rest = Some(pairs);
     while let Some(left) = rest {
         let (pair, after) = first_piece(left, b' ');
         read.read_pair(pair)?;

@@ -1,11 +1,18 @@
 //! A line of a scene, taken apart from left to right.
 
+ghost use Rattle.std.specs.Prelude.{◌≡◌, ◌+◌, ◌≤◌, ◌^◌, OnOk, length, Ok};
+ghost use Rattle.report.specs.Cuts.{parted, texts};
+ghost use Rattle.report.specs.Fields.{Place, ReadsBy, TriesBy, answered, next, taken_text};
+
 use super::split::first_piece;
 use crate::fault::{LineError, LineFault};
 use run_model::memory::OutOfMemory;
+use std::marker::Model;
 
 /// Splits a line into its fields, which tabs part. They take the place of what the list held.
-pub fn split_fields<'a>(line: &'a str, fields: &mut Vec<&'a str>) -> Result<(), OutOfMemory> {
+pub fn split_fields<'a>(line: &'a str, fields: &mut Vec<&'a str>) -> Result<(), OutOfMemory>
+    ensures { OnOk result (texts fields.new.items ≡ parted 9 line.now) }
+{
     fields.clear();
     let mut rest = Some(line);
     while let Some(left) = rest {
@@ -16,39 +23,47 @@ pub fn split_fields<'a>(line: &'a str, fields: &mut Vec<&'a str>) -> Result<(), 
     Ok(())
 }
 
-/// The fields of a line, which are taken one after the other.
-#[derive(Clone, Copy, Debug)]
+/// The fields of a line, which are taken one after the other. Contracts see how many were taken, and those that are left.
+#[derive(Debug, Drop)]
 pub struct Fields<'a> {
     left: &'a [&'a str],
     number: usize,
+    ghost counted: { number + length left.now ≤ 2 ^ 63 },
+}
+
+impl<'a> Model for Fields<'a> {
+    ghost Value = { Place };
+
+    ghost view = { λ f. record { number = f.number; left = texts f.left.now } };
 }
 
 impl<'a> Fields<'a> {
     /// The fields of a line, none of them taken.
-    pub fn new(fields: &'a [&'a str]) -> Fields<'a> {
+    pub fn new(fields: &'a [&'a str]) -> Fields<'a>
+        ensures { result ≡ record { number = 0; left = texts fields.now } }
+    {
         Fields {
             left: fields,
             number: 0,
         }
     }
 
-    /// Whether no field is left to take.
-    pub fn is_empty(&self) -> bool {
-        self.left.is_empty()
-    }
-
     /// How many fields are left to take.
-    pub fn len(&self) -> usize {
+    pub fn len(&self) -> usize
+        ensures { result ≡ length self.now.left }
+    {
         self.left.len()
     }
 
     /// Takes a field.
-    pub fn take(&mut self) -> Result<&'a str, LineFault> {
+    pub fn take(&mut self) -> Result<&'a str, LineFault>
+        ensures { next self.old ≡ answered (taken_text result) self.new }
+    {
         let [field, left @ ..] = self.left else {
             return Err(LineFault::WrongNumberOfFields);
         };
         self.left = left;
-        self.number = self.number.saturating_add(1);
+        self.number += 1;
         Ok(field)
     }
 
@@ -58,6 +73,7 @@ impl<'a> Fields<'a> {
         read: F,
     ) -> Result<T, LineFault>
         requires { F.IsAlwaysCallable read }
+        ensures { ReadsBy (F.post read) self.old result self.new }
     {
         let field = self.take()?;
         match read(field) {
@@ -72,6 +88,7 @@ impl<'a> Fields<'a> {
         read: F,
     ) -> Result<T, LineError>
         requires { F.IsAlwaysCallable read }
+        ensures { TriesBy (λ t value. F.post read t (Ok value)) self.old result self.new }
     {
         let field = self.take()?;
         match read(field)? {

@@ -3,12 +3,11 @@
 //! It is a word, as `pass`, or a word and what it tells of after a colon, as `fail:1`. A name or a message is a text, and
 //! goes on to the end of the field.
 
-ghost use Rattle.std.specs.Prelude.{◌≡◌, None, true, false, IfOk};
-ghost use Rattle.std.specs.Option.{SomeIff};
-ghost use Rattle.std.specs.Str.Parse.{signed_digits_value};
-ghost use Rattle.report.specs.Numbers.{IsSigned};
-ghost use Rattle.report.specs.Values.{Reads};
-ghost use Rattle.report.specs.Results.{IsResultText, IsPlainText, IsToldText, IsSignalText, IsStatusText, exit_code, signal_of};
+ghost use Rattle.std.specs.Prelude.{◌≡◌, IfOk};
+ghost use Rattle.std.specs.Option.{option_map};
+ghost use Rattle.report.specs.Cuts.{cut};
+ghost use Rattle.report.specs.Numbers.{code_in};
+ghost use Rattle.report.specs.Results.{aborted, exit_code, nameless_signal, plain_in, result_in, signal_cut, status_cut, told_in};
 
 use super::numbers::read_code;
 use super::split::split_at_byte;
@@ -26,11 +25,12 @@ use std::alloc::Global;
 /// ```
 /// read_result(alloc, "sig:11:SEGV") // ended by signal 11, whose name is SIGSEGV
 /// ```
+#[tactic(auto, unfolding(crate::specs::Results::result_in))]
 pub fn read_result(
     alloc: Global,
     field: &str,
 ) -> Result<Option<ExecutionResultDescription>, OutOfMemory>
-    ensures { IfOk result (Reads IsResultText field.now) }
+    ensures { IfOk result (λ outcome. outcome ≡ result_in field.now) }
 {
     match split_at_byte(field, b':') {
         None => read_plain(alloc, field),
@@ -40,7 +40,7 @@ pub fn read_result(
 
 // A result that is one word.
 fn read_plain(alloc: Global, field: &str) -> Result<Option<ExecutionResultDescription>, OutOfMemory>
-    ensures { IfOk result (Reads IsPlainText field.now) }
+    ensures { IfOk result (λ outcome. outcome ≡ plain_in field.now) }
 {
     Ok(match field {
         "pass" => Some(ExecutionResultDescription::Pass),
@@ -68,13 +68,13 @@ fn read_told(
     word: &str,
     rest: &str,
 ) -> Result<Option<ExecutionResultDescription>, OutOfMemory>
-    ensures { IfOk result (Reads (λ v. IsToldText v word.now) rest.now) }
+    ensures { IfOk result (λ outcome. outcome ≡ told_in word.now rest.now) }
 {
     match word {
         "fail" => Ok(read_exit_code(rest, false)),
         "fail+leak" => Ok(read_exit_code(rest, true)),
         "sig" => read_signal(alloc, rest),
-        "sig+leak" => read_leaking_signal(alloc, rest),
+        "sig+leak" => read_nameless_signal(alloc, rest, true),
         "nt" => read_status(alloc, rest),
         _ => Ok(None),
     }
@@ -82,7 +82,7 @@ fn read_told(
 
 // A failure by an exit code.
 fn read_exit_code(code: &str, leaked: bool) -> Option<ExecutionResultDescription>
-    ensures { SomeIff result (IsSigned code.now) (exit_code (signed_digits_value 10 code.now) leaked) }
+    ensures { result ≡ option_map (exit_code leaked) (code_in code.now) }
 {
     Some(ExecutionResultDescription::Fail {
         failure: FailureDescription::ExitCode {
@@ -94,18 +94,13 @@ fn read_exit_code(code: &str, leaked: bool) -> Option<ExecutionResultDescription
 
 // A signal by its number, which its name may follow.
 fn read_signal(alloc: Global, text: &str) -> Result<Option<ExecutionResultDescription>, OutOfMemory>
-    ensures { IfOk result (Reads IsSignalText text.now) }
+    ensures { IfOk result (λ outcome. outcome ≡ signal_cut text.now (cut 58 text.now)) }
 {
-    let (number, name) = match split_at_byte(text, b':') {
-        None => (text, None),
-        Some((number, name)) => (number, Some(name)),
+    let Some((number, name)) = split_at_byte(text, b':') else {
+        return read_nameless_signal(alloc, text, false);
     };
     let Some(signal) = read_code(number) else {
         return Ok(None);
-    };
-    let Some(name) = name else {
-        let abort = AbortDescription::UnixSignal { signal, name: None };
-        return Ok(Some(aborted(alloc, abort, false)?));
     };
     let Some(name) = read_text(alloc, name)? else {
         return Ok(None);
@@ -114,23 +109,24 @@ fn read_signal(alloc: Global, text: &str) -> Result<Option<ExecutionResultDescri
     Ok(Some(aborted(alloc, AbortDescription::UnixSignal { signal, name }, false)?))
 }
 
-// A signal by its number, where handles were left open.
-fn read_leaking_signal(
+// A signal by its number alone.
+fn read_nameless_signal(
     alloc: Global,
     number: &str,
+    leaked: bool,
 ) -> Result<Option<ExecutionResultDescription>, OutOfMemory>
-    ensures { IfOk result (λ r. SomeIff r (IsSigned number.now) (signal_of (signed_digits_value 10 number.now) None true)) }
+    ensures { IfOk result (λ outcome. outcome ≡ option_map (nameless_signal leaked) (code_in number.now)) }
 {
     let Some(signal) = read_code(number) else {
         return Ok(None);
     };
     let abort = AbortDescription::UnixSignal { signal, name: None };
-    Ok(Some(aborted(alloc, abort, true)?))
+    Ok(Some(aborted(alloc, abort, leaked)?))
 }
 
 // A status of Windows by its number, and what the system says of it.
 fn read_status(alloc: Global, text: &str) -> Result<Option<ExecutionResultDescription>, OutOfMemory>
-    ensures { IfOk result (Reads IsStatusText text.now) }
+    ensures { IfOk result (λ outcome. outcome ≡ status_cut (cut 58 text.now)) }
 {
     let Some((number, message)) = split_at_byte(text, b':') else {
         return Ok(None);
@@ -155,7 +151,7 @@ fn aborted(
     abort: AbortDescription,
     leaked: bool,
 ) -> Result<ExecutionResultDescription, OutOfMemory>
-    ensures { IfOk result (λ r. r ≡ ExecutionResultDescription.Fail (FailureDescription.Abort abort) leaked) }
+    ensures { IfOk result (λ outcome. outcome ≡ aborted leaked abort) }
 {
     Ok(ExecutionResultDescription::Fail {
         failure: FailureDescription::Abort {

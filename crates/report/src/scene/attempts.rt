@@ -34,7 +34,11 @@ impl Model for SceneAttempts {
 
 impl SceneAttempts {
     /// The attempts before the last one, in order, and the last; and what a success after earlier attempts counts as.
-    pub fn new(earlier: Vec<SceneAttempt>, last: SceneAttempt, flaky_result: FlakyResult) -> Self
+    pub fn with_last(
+        earlier: Vec<SceneAttempt>,
+        last: SceneAttempt,
+        flaky_result: FlakyResult,
+    ) -> Self
         ensures earlier { result.earlier ≡ earlier.items }
         ensures last { result.last ≡ last }
         ensures flaky { result.flaky_result ≡ flaky_result }
@@ -106,11 +110,13 @@ impl SceneAttempt {
         retry_data: RetryData,
         is_slow: bool,
     ) -> Self
-        ensures outcome { result.result ≡ outcome }
-        ensures time_taken { result.time_taken ≡ time_taken }
-        ensures retry_data { result.retry_data ≡ retry_data }
-        ensures is_slow { result.is_slow ≡ is_slow }
-        ensures output { result.output ≡ silence outcome }
+        ensures { result ≡ record {
+          time_taken = time_taken;
+          retry_data = retry_data;
+          result = outcome;
+          output = silence outcome;
+          is_slow = is_slow;
+        } }
     {
         SceneAttempt {
             time_taken,
@@ -130,11 +136,13 @@ impl SceneAttempt {
         is_slow: bool,
         output: ChildExecutionOutputDescription<LiveSpec>,
     ) -> Result<Self, OutOfMemory>
-        ensures outcome { IfOk result (λ a. a.result ≡ outcome) }
-        ensures time_taken { IfOk result (λ a. a.time_taken ≡ time_taken) }
-        ensures retry_data { IfOk result (λ a. a.retry_data ≡ retry_data) }
-        ensures is_slow { IfOk result (λ a. a.is_slow ≡ is_slow) }
-        ensures output { IfOk result (λ a. a.output ≡ output) }
+        ensures { IfOk result (λ attempt. attempt ≡ record {
+          time_taken = time_taken;
+          retry_data = retry_data;
+          result = outcome;
+          output = output;
+          is_slow = is_slow;
+        }) }
     {
         Ok(SceneAttempt {
             time_taken,

@@ -7,6 +7,9 @@ ghost use Rattle.std.specs.Prelude.{◌≡◌, ℕ, ◌+◌, ◌-◌, ◌≤◌,
 ghost use Rattle.std.specs.Bool.{OnTrue};
 ghost use Rattle.std.specs.Io.KnownBytes.{Appends, Keeps};
 
+#[cfg(test)]
+mod tests;
+
 use super::{WriteFault, WriteStr};
 use std::alloc::{AllocError, Global};
 use std::io::Write;

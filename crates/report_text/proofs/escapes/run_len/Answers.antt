@@ -1,4 +1,4 @@
-use Rattle.std.proofs.Common.{arith, sym, ◌∙◌}
+use Rattle.std.proofs.Common.{arith, sym}
 use Rattle.report_text.specs.Escapes.{is_within}
 use Rattle.report_text.proofs.Runs.{front_len-on, front_len-off, front_len-end}
 use Rattle.report_text.proofs.escapes.run_len.Goals as goal

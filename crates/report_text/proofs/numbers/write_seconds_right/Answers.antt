@@ -1,6 +1,4 @@
-use Rattle.std.proofs.Common.{◌≡◌, ◌++◌, arith, codes, rules}
-use Rattle.report_text.specs.Numbers.{last_digits, seconds}
-use Rattle.report_text.specs.Texts.{right_in}
+use Rattle.std.proofs.Common.{arith, rules}
 use Rattle.report_text.proofs.Decimals.{right-seconds}
 use Rattle.report_text.proofs.Steps.{puts_then, at_exit, stops_early}
 use Rattle.report_text.proofs.numbers.write_seconds_right.Goals as goal

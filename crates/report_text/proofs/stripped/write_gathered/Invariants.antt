@@ -1,4 +1,3 @@
-use Rattle.std.proofs.Common.{◌++◌}
 use Rattle.report_text.specs.EndLine.{without_end_line}
 use Rattle.report_text.specs.Escapes.{stretches, visible}
 use Rattle.report_text.specs.Gathered.{unwritten}

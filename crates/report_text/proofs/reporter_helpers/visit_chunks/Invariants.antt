@@ -2,7 +2,7 @@ use Rattle.std.proofs.Common.{length}
 use denote.Text.{Utf8}
 use denote.Shadow.{shadow}
 use Rattle.report_text.specs.Chunks.{VisitsChunks}
-use Rattle.report_text.proofs.reporter_helpers.print_lines_in_chunks.Given as goal
+use Rattle.report_text.proofs.reporter_helpers.visit_chunks.Given as goal
 
 abbrev pub invariant-loop-rest : goal.invariant-loop-rest
 invariant-loop-rest g l = record {

@@ -1,6 +1,6 @@
 use Rattle.std.proofs.Common.{rules, of_calls}
 use Rattle.report_text.proofs.Chunked.{visits_more, visits_none}
-use Rattle.report_text.proofs.reporter_helpers.print_lines_in_chunks.Goals as goal
+use Rattle.report_text.proofs.reporter_helpers.visit_chunks.Goals as goal
 
 pub loop-rest-preserved : goal.loop-rest-preserved
 loop-rest-preserved g c = record {
@@ -10,4 +10,4 @@ loop-rest-preserved g c = record {
 }
 
 pub returns : goal.returns
-returns g c = (c.loop-rest.print, c.loop-rest.invariant.visits _ (visits_none _ c.args.limit _ c.loop-rest.print (search rules)))
+returns g c = c.loop-rest.invariant.visits _ (visits_none _ c.args.limit _ c.loop-rest.print (search rules))
