@@ -1,5 +1,4 @@
 pub mod Calls
-pub mod Finishes
 pub mod Keys
 pub mod Orders
 pub mod Pasts

@@ -7,13 +7,14 @@ use Rattle.run_model.specs.declared.event.TestEvent.{TestEvent}
 use Rattle.run_model.specs.declared.event.TestEventKind.{TestEventKind}
 use Rattle.run_model.specs.declared.event.TestEventKind.TheVariants.{RunFinished}
 use Rattle.console_reporter.specs.Configuration.{Configuration, settings_of}
-use Rattle.console_reporter.specs.Effects.{TestFinish, effect_of, entry_of, kept_entry}
+use Rattle.event_text.specs.FinishedTests.{TestFinish}
+use Rattle.console_reporter.specs.Effects.{effect_of, entry_of, kept_entry}
 use Rattle.console_reporter.specs.Entries.{cancel, prefix, kept, entry_cmp, is_before, final_order, IsFinalOrder}
 use Rattle.console_reporter.specs.Report.{Known, event_text, text}
 use Rattle.console_reporter.specs.declared.imp.calls.ReportCall.{ReportCall}
 use Rattle.console_reporter.specs.declared.imp.calls.ReportCall.TheVariants.{Event}
 use Rattle.console_reporter.specs.declared.imp.final_output.FinalOutputEntry.{FinalOutputEntry}
-use Rattle.console_reporter.specs.declared.imp.settings.Settings.{Settings}
+use Rattle.event_text.specs.declared.settings.Settings.{Settings}
 use Rattle.console_reporter.proofs.Keys.{is_before-ranks}
 use Rattle.console_reporter.proofs.Orders.{is_ordered, ordered_only}
 

@@ -35,22 +35,23 @@ use Rattle.report_text.specs.Plural.{tests_word_if, binaries_word}
 use Rattle.report_text.specs.Styles.{plain, styled, styles_of}
 use Rattle.report_text.specs.Texts.{Text, right_in}
 use Rattle.report_text.specs.Theme.{hbar_text}
-use Rattle.console_reporter.specs.AbortLines.{abort_line}
-use Rattle.console_reporter.specs.AttemptOutputs.{Written}
-use Rattle.console_reporter.specs.Configuration.{theme_of}
-use Rattle.console_reporter.specs.ResultWords.{long_word}
+use Rattle.event_text.specs.AbortLines.{abort_line}
+use Rattle.event_text.specs.AttemptOutputs.{Written}
+use Rattle.event_text.specs.Settings.{theme_of}
+use Rattle.event_text.specs.ResultWords.{long_word}
 use Rattle.console_reporter.specs.Order.{ordered_by, put_in}
 use Rattle.console_reporter.specs.Entries.{cancel, kept, final_order}
-use Rattle.console_reporter.specs.Effects.{finished_entry, test_finish}
-use Rattle.console_reporter.specs.Finishes.{display_of, finish_row, row_kept, is_final_wanted}
-use Rattle.console_reporter.specs.RunTexts.{bar_line, run_id_text, id_text, profile_text, run_id_line, test_counts_text, starting_line, run_started_text, initial_count_text, run_counts_text, summary_line, run_finished_text}
-use Rattle.console_reporter.specs.StatusLines.{status_prefix, flaky_failure_line, status_line}
+use Rattle.event_text.specs.FinishedTests.{test_finish}
+use Rattle.console_reporter.specs.Effects.{finished_entry}
+use Rattle.event_text.specs.Finishes.{display_of, finish_row, row_kept, is_final_wanted}
+use Rattle.event_text.specs.RunTexts.{bar_line, run_id_text, id_text, profile_text, run_id_line, test_counts_text, starting_line, run_started_text, initial_count_text, run_counts_text, summary_line, run_finished_text}
+use Rattle.event_text.specs.StatusLines.{status_prefix, flaky_failure_line, status_line}
 use Rattle.console_reporter.specs.declared.imp.calls.ReportCall.TheVariants.{Event}
-use Rattle.console_reporter.specs.declared.imp.finish.FinishRow.TheVariants as row
-use Rattle.console_reporter.specs.declared.imp.settings.Settings.{Settings}
-use Rattle.console_reporter.specs.declared.imp.status_line.StatusLineKind.{StatusLineKind}
-use Rattle.console_reporter.specs.declared.imp.status_line.StatusLineKind.TheVariants.{Intermediate, Final}
-use Rattle.console_reporter.specs.StatsTexts.{summary_text, counted_text, passed_notes, passed_note, notes_end, failed_counts, failed_count, leaky_failed_note, due_to_being, exec_failed_count, timed_out_count, other_failed_count}
+use Rattle.event_text.specs.declared.finish.FinishRow.TheVariants as row
+use Rattle.event_text.specs.declared.settings.Settings.{Settings}
+use Rattle.event_text.specs.declared.status_line.StatusLineKind.{StatusLineKind}
+use Rattle.event_text.specs.declared.status_line.StatusLineKind.TheVariants.{Intermediate, Final}
+use Rattle.event_text.specs.StatsTexts.{summary_text, counted_text, passed_notes, passed_note, notes_end, failed_counts, failed_count, leaky_failed_note, due_to_being, exec_failed_count, timed_out_count, other_failed_count}
 use Rattle.report_text.specs.Numbers.{seconds, with_point}
 use Rattle.report_text.specs.Instances.{test_text, stress_prefix, counter_prefix, name_text}
 use Rattle.unit_report.specs.Durations.{bracketed_duration}

@@ -35,25 +35,25 @@ use Rattle.unit_report.specs.Warnings.{not_run_warning, final_warnings}
 use Rattle.report_text.specs.Texts.{Text}
 use Rattle.report_text.specs.Styles.{plain}
 use Rattle.report_text.specs.declared.style.Styles.{Styles}
-use Rattle.console_reporter.specs.AbortLines.{nt_line, job_object_line, line_of_abort, abort_line}
-use Rattle.console_reporter.specs.AttemptOutputs.{Written, attempt_output, has_info_line, info_line, shown_info_line}
+use Rattle.event_text.specs.AbortLines.{nt_line, job_object_line, line_of_abort, abort_line}
+use Rattle.event_text.specs.AttemptOutputs.{Written, attempt_output, has_info_line, info_line, shown_info_line}
 use Rattle.console_reporter.specs.Configuration.{Configuration}
-use Rattle.console_reporter.specs.Effects.{TestFinish, test_finish}
+use Rattle.event_text.specs.FinishedTests.{TestFinish, test_finish, line_at_once, output_at_once, test_finished_text}
 use Rattle.console_reporter.specs.Entries.{hiding_rank, entry_output, entry_text, executed_text, final_text}
-use Rattle.console_reporter.specs.Finishes.{is_line_shown, row_at_once}
+use Rattle.event_text.specs.Finishes.{is_line_shown, row_at_once}
 use Rattle.console_reporter.specs.Outcomes.{IsOfLines}
-use Rattle.console_reporter.specs.Report.{Known, line_at_once, output_at_once, test_finished_text, listed_text, event_text, text}
-use Rattle.console_reporter.specs.RunTexts.{starting_line, run_started_text, run_counts_text, summary_line, run_finished_text}
-use Rattle.console_reporter.specs.StatusLines.{is_flaky_failure, flaky_note, flaky_failure_line, status_line}
+use Rattle.console_reporter.specs.Report.{Known, listed_text, event_text, text}
+use Rattle.event_text.specs.RunTexts.{starting_line, run_started_text, run_counts_text, summary_line, run_finished_text}
+use Rattle.event_text.specs.StatusLines.{is_flaky_failure, flaky_note, flaky_failure_line, status_line}
 use Rattle.console_reporter.specs.declared.imp.calls.ReportCall.{ReportCall}
 use Rattle.console_reporter.specs.declared.imp.calls.ReportCall.TheVariants.{Event, Prefix}
 use Rattle.console_reporter.specs.declared.imp.final_output.FinalOutput.{FinalOutput}
 use Rattle.console_reporter.specs.declared.imp.final_output.FinalOutput.TheVariants.{Executed}
 use Rattle.console_reporter.specs.declared.imp.final_output.FinalOutputEntry.{FinalOutputEntry}
-use Rattle.console_reporter.specs.declared.imp.instance.CountedInstance.{CountedInstance}
-use Rattle.console_reporter.specs.declared.imp.status_line.StatusLineKind.{StatusLineKind}
-use Rattle.console_reporter.specs.declared.imp.status_line.StatusLineKind.TheVariants.{Intermediate, Final}
-use Rattle.console_reporter.specs.declared.imp.settings.Settings.{Settings}
+use Rattle.event_text.specs.declared.instance.CountedInstance.{CountedInstance}
+use Rattle.event_text.specs.declared.status_line.StatusLineKind.{StatusLineKind}
+use Rattle.event_text.specs.declared.status_line.StatusLineKind.TheVariants.{Intermediate, Final}
+use Rattle.event_text.specs.declared.settings.Settings.{Settings}
 
 -- the text ends in a line feed
 record EndsLine (t : Text) : Type 0 where

@@ -1,57 +1,16 @@
 -- What an event does beside its text: one equation for each kind that does something.
 use Rattle.std.specs.Prelude.{ℕ, Bool, true, false, Option, None, Some, ◌||◌, if◌then◌else◌}
 use Rattle.std.specs.Option.{is_some, option_and_then}
-use Rattle.run_model.specs.Attempts.{Attempts}
-use Rattle.run_model.specs.Statuses.{described_last, described_summary, summary_of}
-use Rattle.run_model.specs.declared.config.TestOutputDisplay.{TestOutputDisplay}
 use Rattle.run_model.specs.declared.event.TestEventKind.{TestEventKind}
 use Rattle.run_model.specs.declared.event.TestEventKind.TheVariants.{TestFinished, RunFinished}
-use Rattle.run_model.specs.declared.name.TestInstanceId.{TestInstanceId}
-use Rattle.run_model.specs.declared.output.ChildOutputDescription.{ChildOutputDescription}
-use Rattle.run_model.specs.declared.output.LiveSpec.{LiveSpec}
-use Rattle.run_model.specs.declared.stats.RunStats.{RunStats}
-use Rattle.run_model.specs.declared.status.ExecuteStatus.{ExecuteStatus}
-use Rattle.run_model.specs.declared.status.StatusSummary.{StatusSummary}
-use Rattle.run_model.specs.declared.stress.StressIndex.{StressIndex}
-use Rattle.console_reporter.specs.AttemptOutputs.{Written}
-use Rattle.console_reporter.specs.Counters.{finished_counter}
-use Rattle.console_reporter.specs.Finishes.{display_of, finish_row, is_final_wanted, row_at_end, row_kept}
+use Rattle.event_text.specs.AttemptOutputs.{Written}
+use Rattle.event_text.specs.FinishedTests.{TestFinish, test_finish}
+use Rattle.event_text.specs.Finishes.{is_final_wanted, row_at_end, row_kept}
+use Rattle.event_text.specs.declared.settings.Settings.{Settings}
 use Rattle.console_reporter.specs.declared.imp.final_output.FinalOutput.TheVariants.{Executed}
 use Rattle.console_reporter.specs.declared.imp.final_output.FinalOutputEntry.{FinalOutputEntry}
-use Rattle.console_reporter.specs.declared.imp.finish.FinishRow.{FinishRow}
-use Rattle.console_reporter.specs.declared.imp.effect.FinishedTest.{FinishedTest}
-use Rattle.console_reporter.specs.declared.imp.instance.CountedInstance.{CountedInstance}
-use Rattle.console_reporter.specs.declared.imp.settings.Settings.{Settings}
 
--- a finished test under a reason: as its line names it, when its output is shown, what becomes of it, what its attempts came
--- to, and the last of them
-pub record TestFinish : Type 0 where
-  pub test : CountedInstance
-  pub display : TestOutputDisplay
-  pub row : FinishRow
-  pub summary : StatusSummary
-  pub last : ExecuteStatus LiveSpec ChildOutputDescription
-
-abbrev pub test_finish : Settings → ℕ → Option StressIndex → TestInstanceId → TestOutputDisplay → TestOutputDisplay → Attempts LiveSpec ChildOutputDescription → RunStats → TestFinish
-test_finish s reason stress instance success failure statuses stats = record {
-  test = record { stress_index = stress; counter = finished_counter s stats; instance = instance };
-  display = display_of s success failure (summary_of statuses);
-  row = finish_row reason statuses.last.result;
-  summary = summary_of statuses;
-  last = statuses.last;
-}
-
--- what the code hands on of it
-abbrev pub finish_of : FinishedTest → TestFinish
-finish_of f = record {
-  test = f.test;
-  display = f.display;
-  row = f.row;
-  summary = described_summary f.describe;
-  last = described_last f.describe;
-}
-
--- the output of its last attempt that the summary shows
+-- the output of the last attempt of a finished test that the summary shows
 unfoldable pub output_at_end : TestFinish → Option Written
 output_at_end f = if row_at_end f.row f.display then Some f.last.output else None
 

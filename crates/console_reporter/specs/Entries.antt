@@ -16,19 +16,20 @@ use Rattle.run_model.specs.declared.level.FinalStatusLevel.{FinalStatusLevel}
 use Rattle.run_model.specs.declared.status.StatusSummary.{StatusSummary}
 use Rattle.run_model.specs.declared.stress.StressIndex.{StressIndex}
 use Rattle.report_text.specs.Texts.{Text}
-use Rattle.console_reporter.specs.AttemptOutputs.{Written, attempt_output}
-use Rattle.console_reporter.specs.Counters.{counter_key}
+use Rattle.report_text.specs.declared.helpers.instance.DisplayCounterIndex.{DisplayCounterIndex}
+use Rattle.report_text.specs.declared.helpers.instance.DisplayCounterIndex.TheVariants.{Counter, Padded}
+use Rattle.event_text.specs.AttemptOutputs.{Written, attempt_output}
 use Rattle.console_reporter.specs.Effects.{effect_of, entry_of}
 use Rattle.console_reporter.specs.Order.{key_cmp, ordered_by}
-use Rattle.console_reporter.specs.StatusLines.{status_line}
+use Rattle.event_text.specs.StatusLines.{status_line}
 use Rattle.console_reporter.specs.declared.imp.calls.ReportCall.{ReportCall}
 use Rattle.console_reporter.specs.declared.imp.calls.ReportCall.TheVariants.{Event, Prefix}
 use Rattle.console_reporter.specs.declared.imp.final_output.FinalOutput.{FinalOutput}
 use Rattle.console_reporter.specs.declared.imp.final_output.FinalOutput.TheVariants.{Executed}
 use Rattle.console_reporter.specs.declared.imp.final_output.FinalOutputEntry.{FinalOutputEntry}
-use Rattle.console_reporter.specs.declared.imp.instance.CountedInstance.{CountedInstance}
-use Rattle.console_reporter.specs.declared.imp.settings.Settings.{Settings}
-use Rattle.console_reporter.specs.declared.imp.status_line.StatusLineKind.TheVariants.{Final}
+use Rattle.event_text.specs.declared.instance.CountedInstance.{CountedInstance}
+use Rattle.event_text.specs.declared.settings.Settings.{Settings}
+use Rattle.event_text.specs.declared.status_line.StatusLineKind.TheVariants.{Final}
 
 -- the greatest reason that a call of a past carries; the latest call of a past is its first
 unfoldable pub cancel : List ReportCall → ℕ
@@ -56,6 +57,12 @@ kept s (Prefix p ∷ past) = kept s past
 abbrev pub iteration_key : Option StressIndex → List ℕ
 iteration_key None = []
 iteration_key (Some i) = stress_key i
+
+-- a counter's part of a key: numbers by both of them, and padding after these
+abbrev pub counter_key : Option DisplayCounterIndex → List ℕ
+counter_key None = []
+counter_key (Some (Counter current total)) = 0 ∷ current ∷ total ∷ []
+counter_key (Some (Padded character width)) = 1 ∷ []
 
 -- the level of an entry
 abbrev pub final_level_in : FinalOutput → FinalStatusLevel

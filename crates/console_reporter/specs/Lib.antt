@@ -1,16 +1,7 @@
-pub mod AbortLines
-pub mod AttemptOutputs
 pub mod Configuration
-pub mod Counters
 pub mod Effects
 pub mod Entries
-pub mod Finishes
-pub mod InfoResults
 pub mod Order
 pub mod Outcomes
 pub mod Report
-pub mod ResultWords
-pub mod RunTexts
 pub mod Standing
-pub mod StatsTexts
-pub mod StatusLines

@@ -8,33 +8,16 @@ use Rattle.run_model.specs.declared.event.TestEventKind.{TestEventKind}
 use Rattle.run_model.specs.declared.event.TestEventKind.TheVariants.{RunStarted, TestFinished, RunFinished}
 use Rattle.report_text.specs.Texts.{Text}
 use Rattle.unit_report.specs.Warnings.{final_warnings}
-use Rattle.console_reporter.specs.AttemptOutputs.{attempt_output}
+use Rattle.event_text.specs.FinishedTests.{TestFinish, test_finish, test_finished_text}
+use Rattle.event_text.specs.RunTexts.{run_started_text, run_finished_text}
+use Rattle.event_text.specs.declared.settings.Settings.{Settings}
 use Rattle.console_reporter.specs.Configuration.{Configuration, settings_of}
-use Rattle.console_reporter.specs.Effects.{TestFinish, test_finish}
 use Rattle.console_reporter.specs.Entries.{cancel, entries_text, final_order, hiding_rank, kept, prefix}
-use Rattle.console_reporter.specs.Finishes.{is_line_shown, row_at_once}
-use Rattle.console_reporter.specs.RunTexts.{run_started_text, run_finished_text}
-use Rattle.console_reporter.specs.StatusLines.{status_line}
 use Rattle.console_reporter.specs.declared.imp.calls.ReportCall.{ReportCall}
 use Rattle.console_reporter.specs.declared.imp.calls.ReportCall.TheVariants.{Event, Prefix}
 use Rattle.console_reporter.specs.declared.imp.final_output.FinalOutputEntry.{FinalOutputEntry}
-use Rattle.console_reporter.specs.declared.imp.settings.Settings.{Settings}
-use Rattle.console_reporter.specs.declared.imp.status_line.StatusLineKind.TheVariants.{Intermediate}
 
--- the line of a finished test, where the status level is at least the test's
-unfoldable pub line_at_once : Settings → TestFinish → Text
-line_at_once s f = if is_line_shown s f.summary then status_line s.styles Intermediate f.test f.summary else []
-
--- the output of its last attempt, where that is shown at once, whatever the status level
-unfoldable pub output_at_once : Settings → TestFinish → Text
-output_at_once s f =
-    if row_at_once f.row f.display then attempt_output s false f.last.is_slow f.last.result f.last.output else []
-
--- a finished test: its line and its output
-unfoldable pub test_finished_text : Settings → TestFinish → Text
-test_finished_text s f = line_at_once s f ++ output_at_once s f
-
--- the same, where a test has finished
+-- the text of the test that an event finishes
 abbrev pub finished_text : Settings → Option TestFinish → Text
 finished_text s None = []
 finished_text s (Some f) = test_finished_text s f

@@ -8,7 +8,7 @@ use Rattle.console_reporter.specs.Configuration.{Configuration, settings_of}
 use Rattle.console_reporter.specs.Effects.{may_grow_for}
 use Rattle.console_reporter.specs.Entries.{cancel, entry_cmp, kept, prefix}
 use Rattle.console_reporter.specs.Report.{Known, past_at}
-use Rattle.console_reporter.specs.declared.imp.settings.Settings.{Settings}
+use Rattle.event_text.specs.declared.settings.Settings.{Settings}
 use Rattle.console_reporter.specs.declared.imp.calls.ReportCall.{ReportCall}
 use Rattle.console_reporter.specs.declared.imp.calls.ReportCall.TheVariants.{Event, Prefix}
 use Rattle.console_reporter.specs.declared.imp.reporter.DisplayReporter.{DisplayReporter}

@@ -1,36 +1,23 @@
 //! The reporter: what it is built from, its calls, and the run of a list of calls.
 //!
-//! One module a concern: `builder` and `settings` say what a reporter goes by, `calls` and `faults` what it is asked and
-//! how it fails, `effect` what an event does, `finish` when a finished test is shown, `final_output` what is kept of it for the
-//! summary, `kept` how the summary lists that, `reporter` the calls;
-//! the texts stand in `run_text`, `stats_text` and `test_finished`, each beside the event that it belongs to, and what that
-//! one is made of in `status_line` (with `result_words` and `abort_line`) and `attempt_output` (with `info_result`).
+//! One module a concern: `builder` says what a reporter is built from, `calls` and `faults` what it is asked and how it fails,
+//! `effect` what an event does beside its text, `final_output` what is kept of a test for the summary, `kept` how the summary
+//! lists that, `reporter` the calls. The texts of events stand in the crate `event_text`.
 
-mod abort_line;
-mod attempt_output;
 mod builder;
 mod calls;
 mod effect;
 mod faults;
 mod final_output;
-mod finish;
-mod info_result;
-mod instance;
 mod kept;
 mod reporter;
-mod result_words;
-mod run_text;
-mod settings;
-mod stats_text;
-mod status_line;
-mod test_finished;
 #[cfg(test)]
 mod tests;
 
 pub use builder::DisplayReporterBuilder;
 pub use calls::ReportCall;
+pub use event_text::finish::reasons_only_hide;
 pub use faults::{RunFault, WriteEventError};
-pub use finish::reasons_only_hide;
 pub use kept::one_final_order;
 pub use reporter::{DisplayReporter, run_report, texts_make_the_report};
 pub use unit_report::unit_output::DisplayerKind;

@@ -2,13 +2,14 @@
 
 ghost use Rattle.std.specs.Prelude.{◌≡◌, IfOk, IsOk, false};
 ghost use Rattle.run_model.specs.Statuses.{is_aborted};
-ghost use Rattle.console_reporter.specs.Effects.{finish_of, finished_entry, output_at_end};
+ghost use Rattle.event_text.specs.FinishedTests.{finish_of};
+ghost use Rattle.console_reporter.specs.Effects.{finished_entry, output_at_end};
 ghost use Rattle.console_reporter.specs.Entries.{final_level_in};
-ghost use Rattle.console_reporter.specs.Finishes.{row_at_end};
+ghost use Rattle.event_text.specs.Finishes.{row_at_end};
 
-use super::effect::FinishedTest;
-use super::instance::CountedInstance;
-use super::status_line::StatusLine;
+use event_text::instance::CountedInstance;
+use event_text::status_line::StatusLine;
+use event_text::test_finished::FinishedTest;
 use run_model::boxed::Boxed;
 use run_model::level::FinalStatusLevel;
 use run_model::memory::OutOfMemory;

@@ -6,10 +6,11 @@ ghost use Rattle.std.specs.List.Sorted.{IsSorted, IsStable};
 ghost use Rattle.std.specs.Option.{is_some, option_and_then, option_map, option_to_list};
 ghost use Rattle.run_model.specs.Levels.{reason_rank};
 ghost use Rattle.report_text.specs.Writer.{Puts, one_further};
+ghost use Rattle.event_text.specs.FinishedTests.{finish_of};
 ghost use Rattle.console_reporter.specs.declared.imp.calls.ReportCall.{ReportCall};
 ghost use Rattle.console_reporter.specs.declared.imp.faults.WriteEventError.{WriteEventError};
 ghost use Rattle.console_reporter.specs.Configuration.{Configuration, configured};
-ghost use Rattle.console_reporter.specs.Effects.{effect_of, finish_of, is_kept, kept_entry};
+ghost use Rattle.console_reporter.specs.Effects.{effect_of, is_kept, kept_entry};
 ghost use Rattle.console_reporter.specs.Entries.{entry_cmp, hiding_rank};
 ghost use Rattle.console_reporter.specs.Outcomes.{Stops, StopsAfter, IsOfLines, error_for};
 ghost use Rattle.console_reporter.specs.Report.{event_text, finished_text, listed_text, text, texts, report, past_at, text_at, AreAccepted};
@@ -17,13 +18,13 @@ ghost use Rattle.console_reporter.specs.Standing.{StandsAfter, HasFailed, IsSame
 
 use super::builder::DisplayReporterBuilder;
 use super::calls::ReportCall;
-use super::effect::{EventEffect, FinishedTest, greater_reason};
+use super::effect::{EventEffect, greater_reason};
 use super::faults::{RunFault, WriteEventError};
 use super::final_output::FinalOutputEntry;
 use super::kept::{sort_final_outputs, write_entries};
-use super::run_text::{write_run_finished, write_run_started};
-use super::settings::{Settings, counter_width_for, overrides_for, styles_for, theme_for};
-use super::test_finished::write_test_finished;
+use event_text::run_text::{write_run_finished, write_run_started};
+use event_text::settings::{Settings, counter_width_for, overrides_for, styles_for, theme_for};
+use event_text::test_finished::{FinishedTest, write_test_finished};
 use report_text::write_str::{WriteFault, WriteStr};
 use run_model::event::{TestEvent, TestEventKind};
 use run_model::level::CancelReason;
@@ -149,10 +150,7 @@ impl<'a, W: WriteStr> DisplayReporter<'a, W> {
         ensures io { IsErrOf result WriteEventError.Io → W.meaning.failures self.new.writer.now ≡ one_further (W.meaning.failures self.old.writer.now) }
         ensures memory { IsErrOf result WriteEventError.Memory → W.meaning.may_refuse self.old.writer.now ⊎ MayGrow self.old event.now }
     {
-        let effect = self
-            .state
-            .settings
-            .effect_of(self.state.cancel_status, event);
+        let effect = EventEffect::of_event(&self.state.settings, self.state.cancel_status, event);
         if let Err(AllocError) = self.state.prepare(effect.lists_entries) {
             return Err(WriteEventError::Memory);
         }

@@ -1,0 +1,10 @@
+pub mod AbortLines
+pub mod AttemptOutputs
+pub mod FinishedTests
+pub mod Finishes
+pub mod InfoResults
+pub mod ResultWords
+pub mod RunTexts
+pub mod Settings
+pub mod StatsTexts
+pub mod StatusLines

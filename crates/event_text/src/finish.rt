@@ -1,0 +1,171 @@
+//! When a finished test is shown: at once, and at the end of the run.
+
+ghost use Rattle.std.specs.Prelude.{◌≡◌};
+ghost use Rattle.run_model.specs.Levels.{reason_rank};
+ghost use Rattle.run_model.specs.Statuses.{described_summary};
+ghost use Rattle.event_text.specs.Finishes.{IsOnlyHidden, IsSameBelowImmediate, display_of, finish_row, is_shown_at_end, is_shown_at_once, is_final_wanted, is_line_shown, is_terminated, is_terminated_abort, is_terminated_failure, row_at_end, row_at_once, row_kept};
+
+use crate::settings::Settings;
+use run_model::abort::AbortDescription;
+use run_model::config::TestOutputDisplay;
+use run_model::level::CancelReason;
+use run_model::output::LiveSpec;
+use run_model::status::{ExecutionDescription, ExecutionResultDescription, FailureDescription};
+
+/// What becomes of a finished test.
+#[derive(Clone, Copy, Debug, PartialEq, Eq)]
+pub enum FinishRow {
+    /// Its output is not shown, and it is not kept.
+    Hidden,
+    /// Its output is shown where its display says: at once, at the end or both times.
+    Shown,
+    /// The same, but at the end only where it was not shown at once.
+    ShownOnce,
+}
+
+impl FinishRow {
+    /// The row of a test that ended so, where the run was cancelled for this reason before.
+    #[tactic(auto, unfolding(crate::specs::Finishes::finish_row))]
+    pub fn of_test(reason: Option<CancelReason>, outcome: &ExecutionResultDescription) -> FinishRow
+        ensures { result ≡ finish_row (reason_rank reason) outcome.now }
+    {
+        match reason {
+            None
+            | Some(
+                CancelReason::SetupScriptFailure
+                | CancelReason::TestFailure
+                | CancelReason::ReportError
+                | CancelReason::GlobalTimeout,
+            ) => FinishRow::Shown,
+            Some(CancelReason::TestFailureImmediate) => {
+                if is_terminated(outcome) {
+                    FinishRow::Hidden
+                } else {
+                    FinishRow::Shown
+                }
+            }
+            Some(CancelReason::Signal) => FinishRow::ShownOnce,
+            Some(CancelReason::Interrupt | CancelReason::SecondSignal) => FinishRow::Hidden,
+        }
+    }
+
+    /// Whether output with this display is shown at once.
+    #[tactic(auto, unfolding(crate::specs::Finishes::row_at_once))]
+    pub fn is_shown_at_once(self, display: TestOutputDisplay) -> bool
+        ensures { result ≡ row_at_once self display }
+    {
+        match self {
+            FinishRow::Hidden => false,
+            FinishRow::Shown => display.is_immediate(),
+            FinishRow::ShownOnce => display.is_immediate(),
+        }
+    }
+
+    /// Whether output with this display is shown at the end of the run.
+    #[tactic(auto, unfolding(crate::specs::Finishes::row_at_end))]
+    pub fn is_shown_at_end(self, display: TestOutputDisplay) -> bool
+        ensures { result ≡ row_at_end self display }
+    {
+        match self {
+            FinishRow::Hidden => false,
+            FinishRow::Shown => display.is_final(),
+            FinishRow::ShownOnce => display.is_final() && !display.is_immediate(),
+        }
+    }
+
+    /// Whether the summary lists a test that it is to list.
+    #[tactic(auto, unfolding(crate::specs::Finishes::row_kept))]
+    pub fn keeps(self, is_wanted: bool) -> bool
+        ensures { result ≡ row_kept self is_wanted }
+    {
+        match self {
+            FinishRow::Hidden => false,
+            FinishRow::Shown => is_wanted,
+            FinishRow::ShownOnce => is_wanted,
+        }
+    }
+}
+
+/// A reason for cancelling shows no output that is not shown without one, neither at once nor at the end of the run; and
+/// a reason below the immediate end of a failed run changes nothing.
+pub fn reasons_only_hide()
+    ensures at_once { IsOnlyHidden is_shown_at_once }
+    ensures at_end { IsOnlyHidden is_shown_at_end }
+    ensures same_at_once { IsSameBelowImmediate is_shown_at_once }
+    ensures same_at_end { IsSameBelowImmediate is_shown_at_end }
+{}
+
+// Whether the process was ended as the run ends its processes.
+fn is_terminated(outcome: &ExecutionResultDescription) -> bool
+    ensures { result ≡ is_terminated outcome.now }
+{
+    match outcome {
+        ExecutionResultDescription::Fail { failure, .. } => is_terminated_failure(failure),
+        ExecutionResultDescription::Pass
+        | ExecutionResultDescription::Leak { .. }
+        | ExecutionResultDescription::ExecFail
+        | ExecutionResultDescription::Timeout { .. } => false,
+    }
+}
+
+fn is_terminated_failure(failure: &FailureDescription) -> bool
+    ensures { result ≡ is_terminated_failure failure.now }
+{
+    match failure {
+        FailureDescription::ExitCode { .. } => false,
+        FailureDescription::Abort { abort } => is_terminated_abort(abort.get()),
+    }
+}
+
+// By signal 15, which asks a process to end, or with its job.
+fn is_terminated_abort(abort: &AbortDescription) -> bool
+    ensures { result ≡ is_terminated_abort abort.now }
+{
+    match abort {
+        AbortDescription::UnixSignal { signal, .. } => *signal == 15,
+        AbortDescription::WindowsNtStatus { .. } => false,
+        AbortDescription::WindowsJobObject => true,
+    }
+}
+
+impl Settings {
+    /// When the output of a finished test is shown, which asks for these settings in case of a success and of a failure.
+    #[tactic(auto, unfolding(crate::specs::Finishes::display_of))]
+    pub fn display_of(
+        &self,
+        success_output: TestOutputDisplay,
+        failure_output: TestOutputDisplay,
+        describe: &ExecutionDescription<'_, LiveSpec>,
+    ) -> TestOutputDisplay
+        ensures { result ≡ display_of self.now success_output failure_output (described_summary describe.now) }
+    {
+        self.unit_output
+            .overrides()
+            .resolve_for_describe(success_output, failure_output, describe)
+    }
+
+    /// Whether the line of a finished test is shown at once.
+    #[tactic(auto, unfolding(crate::specs::Finishes::is_line_shown))]
+    pub fn is_line_shown(&self, describe: &ExecutionDescription<'_, LiveSpec>) -> bool
+        ensures { result ≡ is_line_shown self.now (described_summary describe.now) }
+    {
+        describe
+            .status_level()
+            .is_shown_at(self.status_levels.status_level)
+    }
+
+    /// Whether the summary is to list a finished test: for its output, or for its level.
+    #[tactic(auto, unfolding(crate::specs::Finishes::is_final_wanted))]
+    pub fn is_final_wanted(
+        &self,
+        display: TestOutputDisplay,
+        describe: &ExecutionDescription<'_, LiveSpec>,
+    ) -> bool
+        ensures { result ≡ is_final_wanted self.now display (described_summary describe.now) }
+    {
+        display.is_final()
+            || describe
+                .final_status_level()
+                .is_shown_at(self.status_levels.final_status_level)
+    }
+}

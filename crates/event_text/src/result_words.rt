@@ -1,0 +1,195 @@
+//! The words of results in the lines of tests.
+
+ghost use Rattle.std.specs.Prelude.{◌≡◌, ◌++◌, codes};
+ghost use Rattle.event_text.specs.ResultWords.{long_word, long_failure_word, long_abort_word, short_word, short_failure_word, short_abort_word, success_word, is_plain_success};
+
+use itoa::Buffer;
+use run_model::abort::AbortDescription;
+use run_model::status::{
+    ExecutionResultDescription, FailureDescription, LeakTimeoutResult, SlowTimeoutResult,
+};
+
+#[cfg(test)]
+mod tests;
+
+/// A word in two pieces, of which the second may be empty.
+#[derive(Clone, Copy, Debug)]
+pub struct Word<'b> {
+    /// The first piece.
+    pub front: &'b str,
+    /// What follows it.
+    pub back: &'b str,
+}
+
+impl<'b> Word<'b> {
+    // A word in one piece.
+    fn whole(front: &'b str) -> Word<'b>
+        ensures front { result.front.now ≡ front.now }
+        ensures back { result.back.now ≡ codes "" }
+    {
+        Word { front, back: "" }
+    }
+}
+
+/// The word of a result at a first attempt. A signal's number is written into the buffer.
+#[tactic(auto, unfolding(crate::specs::ResultWords::long_word))]
+pub fn status_str<'b>(outcome: &'b ExecutionResultDescription, number: &'b mut Buffer) -> Word<'b>
+    ensures { result.front.now ++ result.back.now ≡ long_word outcome.now }
+{
+    match outcome {
+        ExecutionResultDescription::Pass => Word::whole("PASS"),
+        ExecutionResultDescription::Leak { result } => match result {
+            LeakTimeoutResult::Pass => Word::whole("LEAK"),
+            LeakTimeoutResult::Fail => Word::whole("LEAK-FAIL"),
+        },
+        ExecutionResultDescription::Fail { failure, leaked } => failure_str(
+            failure, *leaked, number,
+        ),
+        ExecutionResultDescription::ExecFail => Word::whole("XFAIL"),
+        ExecutionResultDescription::Timeout { result } => match result {
+            SlowTimeoutResult::Pass => Word::whole("TIMEOUT-PASS"),
+            SlowTimeoutResult::Fail => Word::whole("TIMEOUT"),
+        },
+    }
+}
+
+// The word of a failure at a first attempt.
+fn failure_str<'b>(
+    failure: &'b FailureDescription,
+    leaked: bool,
+    number: &'b mut Buffer,
+) -> Word<'b>
+    ensures { result.front.now ++ result.back.now ≡ long_failure_word failure.now leaked }
+{
+    match failure {
+        FailureDescription::ExitCode { .. } => {
+            if leaked {
+                Word::whole("FAIL + LEAK")
+            } else {
+                Word::whole("FAIL")
+            }
+        }
+        FailureDescription::Abort { abort } => abort_str(abort.get(), number),
+    }
+}
+
+// The word of a process that was ended from outside, at a first attempt.
+fn abort_str<'b>(abort: &'b AbortDescription, number: &'b mut Buffer) -> Word<'b>
+    ensures { result.front.now ++ result.back.now ≡ long_abort_word abort.now }
+{
+    match abort {
+        AbortDescription::UnixSignal { signal, name } => match name {
+            Some(name) => Word {
+                front: "SIG",
+                back: name.as_str(),
+            },
+            None => Word {
+                front: "ABORT SIG ",
+                back: number.format(*signal),
+            },
+        },
+        AbortDescription::WindowsNtStatus { .. } | AbortDescription::WindowsJobObject =>
+            Word::whole("ABORT"),
+    }
+}
+
+/// A space and the word of a result as it stands after the number of an attempt. A signal's number is written into the
+/// buffer.
+#[tactic(auto, unfolding(crate::specs::ResultWords::short_word))]
+pub fn spaced_short_status_str<'b>(
+    outcome: &'b ExecutionResultDescription,
+    number: &'b mut Buffer,
+) -> Word<'b>
+    ensures { result.front.now ++ result.back.now ≡ codes " " ++ short_word outcome.now }
+{
+    match outcome {
+        ExecutionResultDescription::Pass => Word::whole(" PASS"),
+        ExecutionResultDescription::Leak { result } => match result {
+            LeakTimeoutResult::Pass => Word::whole(" LEAK"),
+            LeakTimeoutResult::Fail => Word::whole(" LKFAIL"),
+        },
+        ExecutionResultDescription::Fail { failure, leaked } => spaced_short_failure_str(
+            failure, *leaked, number,
+        ),
+        ExecutionResultDescription::ExecFail => Word::whole(" XFAIL"),
+        ExecutionResultDescription::Timeout { result } => match result {
+            SlowTimeoutResult::Pass => Word::whole(" TMPASS"),
+            SlowTimeoutResult::Fail => Word::whole(" TMT"),
+        },
+    }
+}
+
+// The same of a failure.
+fn spaced_short_failure_str<'b>(
+    failure: &'b FailureDescription,
+    leaked: bool,
+    number: &'b mut Buffer,
+) -> Word<'b>
+    ensures { result.front.now ++ result.back.now ≡ codes " " ++ short_failure_word failure.now leaked }
+{
+    match failure {
+        FailureDescription::ExitCode { .. } => {
+            if leaked {
+                Word::whole(" FL+LK")
+            } else {
+                Word::whole(" FAIL")
+            }
+        }
+        FailureDescription::Abort { abort } => spaced_short_abort_str(abort.get(), number),
+    }
+}
+
+// The same of a process that was ended from outside.
+fn spaced_short_abort_str<'b>(abort: &'b AbortDescription, number: &'b mut Buffer) -> Word<'b>
+    ensures { result.front.now ++ result.back.now ≡ codes " " ++ short_abort_word abort.now }
+{
+    match abort {
+        AbortDescription::UnixSignal { signal, name } => match name {
+            Some(name) => Word {
+                front: " ",
+                back: name.as_str(),
+            },
+            None => Word {
+                front: " SIG ",
+                back: number.format(*signal),
+            },
+        },
+        AbortDescription::WindowsNtStatus { .. } | AbortDescription::WindowsJobObject =>
+            Word::whole(" ABORT"),
+    }
+}
+
+/// The word of a success, with the flag that it was slow and is to be called so.
+#[tactic(auto, unfolding(crate::specs::ResultWords::success_word))]
+pub fn success_str(is_slow: bool, outcome: &ExecutionResultDescription) -> &'static str
+    ensures { result.now ≡ success_word is_slow outcome.now }
+{
+    if is_slow {
+        match outcome {
+            ExecutionResultDescription::Leak { .. } => "SLOW + LEAK",
+            ExecutionResultDescription::Timeout { .. } => "SLOW+TMPASS",
+            ExecutionResultDescription::Pass
+            | ExecutionResultDescription::Fail { .. }
+            | ExecutionResultDescription::ExecFail => "SLOW",
+        }
+    } else {
+        match outcome {
+            ExecutionResultDescription::Leak { .. } => "LEAK",
+            ExecutionResultDescription::Timeout { .. } => "TIMEOUT-PASS",
+            ExecutionResultDescription::Pass
+            | ExecutionResultDescription::Fail { .. }
+            | ExecutionResultDescription::ExecFail => "PASS",
+        }
+    }
+}
+
+/// Whether a success is one without reserve: neither slow, where that is said, nor leaky nor timed out.
+pub fn is_plain_success(is_slow: bool, outcome: &ExecutionResultDescription) -> bool
+    ensures { result ≡ is_plain_success is_slow outcome.now }
+{
+    !is_slow
+        && !matches!(
+            outcome,
+            ExecutionResultDescription::Leak { .. } | ExecutionResultDescription::Timeout { .. }
+        )
+}

@@ -1,0 +1,187 @@
+//! The counts of a run in words.
+
+ghost use Rattle.std.specs.Prelude.{◌≡◌};
+ghost use Rattle.report_text.specs.Writer.{Puts};
+ghost use Rattle.event_text.specs.StatsTexts.{summary_text, counted_text, passed_note, passed_notes, notes_end, leaky_failed_note, due_to_being, failed_count, failed_counts, exec_failed_count, timed_out_count, other_failed_count};
+
+use report_text::style::{Style, Styles, write_plain};
+use report_text::write_str::{WriteFault, WriteStr};
+use run_model::stats::RunStats;
+
+/// Writes all counts: passed and skipped always, the others where they are not 0.
+#[tactic(auto, unfolding(crate::specs::StatsTexts::summary_text))]
+pub fn write_summary_text<W: WriteStr>(
+    w: &mut W,
+    styles: &Styles,
+    stats: &RunStats,
+) -> Result<(), WriteFault>
+    ensures { Puts W.meaning w.old (summary_text styles.now stats.now) result w.new }
+{
+    write_counted(w, styles, styles.pass, stats.passed, "passed")?;
+    write_passed_notes(w, styles, stats)?;
+    write_plain(w, ", ")?;
+    write_failed_counts(w, styles, stats)?;
+    write_counted(w, styles, styles.skip, stats.skipped, "skipped")
+}
+
+// Writes how many tests did not succeed.
+#[tactic(auto, unfolding(crate::specs::StatsTexts::failed_counts))]
+fn write_failed_counts<W: WriteStr>(
+    w: &mut W,
+    styles: &Styles,
+    stats: &RunStats,
+) -> Result<(), WriteFault>
+    ensures { Puts W.meaning w.old (failed_counts styles.now stats.now) result w.new }
+{
+    write_failed_count(w, styles, stats)?;
+    write_exec_failed_count(w, styles, stats.exec_failed)?;
+    write_timed_out_count(w, styles, stats.timed_out)
+}
+
+// Writes how many tests could not be started.
+#[tactic(auto, unfolding(crate::specs::StatsTexts::exec_failed_count))]
+fn write_exec_failed_count<W: WriteStr>(
+    w: &mut W,
+    styles: &Styles,
+    count: usize,
+) -> Result<(), WriteFault>
+    ensures { Puts W.meaning w.old (exec_failed_count styles.now count) result w.new }
+{
+    write_other_failed_count(w, styles, count, "exec failed")
+}
+
+// Writes how many tests timed out.
+#[tactic(auto, unfolding(crate::specs::StatsTexts::timed_out_count))]
+fn write_timed_out_count<W: WriteStr>(
+    w: &mut W,
+    styles: &Styles,
+    count: usize,
+) -> Result<(), WriteFault>
+    ensures { Puts W.meaning w.old (timed_out_count styles.now count) result w.new }
+{
+    write_other_failed_count(w, styles, count, "timed out")
+}
+
+// Writes how many there are, and of what.
+#[tactic(auto, unfolding(crate::specs::StatsTexts::counted_text))]
+fn write_counted<W: WriteStr>(
+    w: &mut W,
+    styles: &Styles,
+    style: Style,
+    count: usize,
+    word: &str,
+) -> Result<(), WriteFault>
+    ensures { Puts W.meaning w.old (counted_text styles.now style count word.now) result w.new }
+{
+    styles.count.write_number(w, count as u128)?;
+    write_plain(w, " ")?;
+    style.write(w, word)
+}
+
+// Writes which of the tests that passed were slow, flaky or leaked handles.
+#[tactic(auto, unfolding(crate::specs::StatsTexts::passed_notes))]
+fn write_passed_notes<W: WriteStr>(
+    w: &mut W,
+    styles: &Styles,
+    stats: &RunStats,
+) -> Result<(), WriteFault>
+    ensures { Puts W.meaning w.old (passed_notes styles.now stats.now) result w.new }
+{
+    let has_no_slow = stats.passed_slow == 0;
+    let has_no_flaky = stats.flaky == 0;
+    let has_no_leaky = stats.leaky == 0;
+    write_passed_note(w, styles, true, stats.passed_slow, "slow")?;
+    write_passed_note(w, styles, has_no_slow, stats.flaky, "flaky")?;
+    write_passed_note(w, styles, has_no_slow && has_no_flaky, stats.leaky, "leaky")?;
+    write_notes_end(w, has_no_slow && (has_no_flaky && has_no_leaky))
+}
+
+// Writes how many of the tests that passed are of a kind, where there is one.
+#[tactic(auto, unfolding(crate::specs::StatsTexts::passed_note))]
+fn write_passed_note<W: WriteStr>(
+    w: &mut W,
+    styles: &Styles,
+    is_first: bool,
+    count: usize,
+    word: &str,
+) -> Result<(), WriteFault>
+    ensures { Puts W.meaning w.old (passed_note styles.now is_first count word.now) result w.new }
+{
+    if count == 0 {
+        return Ok(());
+    }
+    write_plain(w, if is_first { " (" } else { ", " })?;
+    write_counted(w, styles, styles.skip, count, word)
+}
+
+// Closes the parentheses, where there are some.
+#[tactic(auto, unfolding(crate::specs::StatsTexts::notes_end))]
+fn write_notes_end<W: WriteStr>(w: &mut W, has_none: bool) -> Result<(), WriteFault>
+    ensures { Puts W.meaning w.old (notes_end has_none) result w.new }
+{
+    if has_none {
+        return Ok(());
+    }
+    write_plain(w, ")")
+}
+
+// Writes how many tests failed, where there is one.
+#[tactic(auto, unfolding(crate::specs::StatsTexts::failed_count))]
+fn write_failed_count<W: WriteStr>(
+    w: &mut W,
+    styles: &Styles,
+    stats: &RunStats,
+) -> Result<(), WriteFault>
+    ensures { Puts W.meaning w.old (failed_count styles.now stats.now) result w.new }
+{
+    if stats.failed == 0 {
+        return Ok(());
+    }
+    write_counted(w, styles, styles.fail, stats.failed, "failed")?;
+    write_leaky_failed_note(w, styles, stats.leaky_failed)?;
+    write_plain(w, ", ")
+}
+
+// Writes how many of the failed tests failed since they leaked handles, where there is one.
+#[tactic(auto, unfolding(crate::specs::StatsTexts::leaky_failed_note))]
+fn write_leaky_failed_note<W: WriteStr>(
+    w: &mut W,
+    styles: &Styles,
+    count: usize,
+) -> Result<(), WriteFault>
+    ensures { Puts W.meaning w.old (leaky_failed_note styles.now count) result w.new }
+{
+    if count == 0 {
+        return Ok(());
+    }
+    write_plain(w, " (")?;
+    styles.count.write_number(w, count as u128)?;
+    write_due_to_being(w)?;
+    styles.skip.write(w, "leaky")?;
+    write_plain(w, ")")
+}
+
+// Writes the words between that number and the reason.
+#[tactic(auto, unfolding(crate::specs::StatsTexts::due_to_being))]
+fn write_due_to_being<W: WriteStr>(w: &mut W) -> Result<(), WriteFault>
+    ensures { Puts W.meaning w.old due_to_being result w.new }
+{
+    write_plain(w, " due to being ")
+}
+
+// Writes how many tests did not succeed in another way, where there is one.
+#[tactic(auto, unfolding(crate::specs::StatsTexts::other_failed_count))]
+fn write_other_failed_count<W: WriteStr>(
+    w: &mut W,
+    styles: &Styles,
+    count: usize,
+    word: &str,
+) -> Result<(), WriteFault>
+    ensures { Puts W.meaning w.old (other_failed_count styles.now count word.now) result w.new }
+{
+    if count == 0 {
+        return Ok(());
+    }
+    write_counted(w, styles, styles.fail, count, word)?;
+    write_plain(w, ", ")
+}

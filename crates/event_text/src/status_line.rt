@@ -1,0 +1,271 @@
+//! The line of a finished test, as it is shown at once and in the summary.
+
+ghost use Rattle.std.specs.Prelude.{◌≡◌, IfOk, IsOk, false};
+ghost use Rattle.run_model.specs.Statuses.{described_summary, is_aborted};
+ghost use Rattle.report_text.specs.Writer.{Puts};
+ghost use Rattle.report_text.specs.Styles.{styled};
+ghost use Rattle.report_text.specs.Texts.{right_in};
+ghost use Rattle.event_text.specs.StatusLines.{is_final, shown_summary, flaky_style, flaky_words, failure_words, success_text, is_flaky_failure, status_prefix, flaky_note, flaky_failure_line, status_line};
+
+use crate::abort_line::write_abort_line;
+use crate::instance::CountedInstance;
+use crate::result_words::{is_plain_success, spaced_short_status_str, status_str, success_str};
+use itoa::Buffer;
+use report_text::helpers::DisplayTestInstance;
+use report_text::style::{Styles, write_plain};
+use report_text::write_str::{WriteFault, WriteStr};
+use run_model::memory::OutOfMemory;
+use run_model::output::OutputSpec;
+use run_model::status::{
+    ExecutionDescription, ExecutionResultDescription, FlakyResult, RetryData, StatusCase,
+    StatusSummary,
+};
+use run_model::time::Nanos;
+use std::alloc::Global;
+use unit_report::formatters::DisplayBracketedDuration;
+
+#[cfg(test)]
+mod tests;
+
+/// Where the line of a finished test stands.
+#[derive(Clone, Copy, Debug, PartialEq, Eq)]
+pub enum StatusLineKind {
+    /// It is shown at once.
+    Intermediate,
+    /// It is shown in the summary.
+    Final,
+}
+
+impl StatusLineKind {
+    /// Whether it stands in the summary.
+    pub fn is_final(self) -> bool
+        ensures { result ≡ is_final self }
+    {
+        match self {
+            StatusLineKind::Intermediate => false,
+            StatusLineKind::Final => true,
+        }
+    }
+}
+
+/// What the line of a finished test says of its attempts.
+#[derive(Clone, Copy, Debug)]
+pub struct StatusLine<'b> {
+    /// What the attempts came to.
+    pub case: StatusCase,
+    /// Which attempt was the last.
+    pub retry_data: RetryData,
+    /// How the last attempt ended.
+    pub result: &'b ExecutionResultDescription,
+    /// How long the last attempt ran.
+    pub time_taken: Nanos,
+    /// Whether the last attempt was marked as slow.
+    pub is_slow: bool,
+}
+
+impl<'b> StatusLine<'b> {
+    /// The line of a summary.
+    pub fn of_summary(summary: &'b StatusSummary) -> StatusLine<'b>
+        ensures { shown_summary result ≡ summary.now }
+    {
+        StatusLine {
+            case: summary.case,
+            retry_data: summary.retry_data,
+            result: &summary.result,
+            time_taken: summary.time_taken,
+            is_slow: summary.is_slow,
+        }
+    }
+
+    /// The line of attempts that are described. It is that of their summary.
+    pub fn of_description<S: OutputSpec>(describe: &ExecutionDescription<'b, S>) -> StatusLine<'b>
+        ensures { shown_summary result ≡ described_summary describe.now }
+    {
+        let last = describe.last_status();
+        StatusLine {
+            case: describe.case(),
+            retry_data: last.retry_data,
+            result: &last.result,
+            time_taken: last.time_taken,
+            is_slow: last.is_slow,
+        }
+    }
+
+    /// The summary that it is the line of. It takes memory where the last attempt was aborted.
+    pub fn to_summary(self, alloc: Global) -> Result<StatusSummary, OutOfMemory>
+        ensures same { IfOk result (λ x. x ≡ shown_summary self.entry) }
+        ensures free { is_aborted self.entry.result.now ≡ false → IsOk result }
+    {
+        Ok(StatusSummary {
+            case: self.case,
+            retry_data: self.retry_data,
+            result: self.result.copy(alloc)?,
+            time_taken: self.time_taken,
+            is_slow: self.is_slow,
+        })
+    }
+}
+
+/// Writes the line of a finished test.
+#[tactic(auto, unfolding(crate::specs::StatusLines::status_line))]
+pub fn write_status_line<W: WriteStr>(
+    w: &mut W,
+    styles: &Styles,
+    kind: StatusLineKind,
+    test: CountedInstance<'_>,
+    line: StatusLine<'_>,
+) -> Result<(), WriteFault>
+    ensures { Puts W.meaning w.old (status_line styles.now kind test.entry (shown_summary line.entry)) result w.new }
+{
+    write_status_prefix(w, styles, kind, line)?;
+    DisplayBracketedDuration(line.time_taken).write_to(w)?;
+    DisplayTestInstance::new(
+        test.stress_index,
+        test.counter,
+        test.instance,
+        &styles.list_styles,
+    )
+    .write_to(w)?;
+    write_plain(w, "\n")?;
+    write_abort_line(w, styles, line.result)?;
+    write_flaky_failure_line(w, styles, kind, line.case)
+}
+
+// Writes the word that begins the line, and a space.
+#[tactic(auto, unfolding(crate::specs::StatusLines::status_prefix))]
+fn write_status_prefix<W: WriteStr>(
+    w: &mut W,
+    styles: &Styles,
+    kind: StatusLineKind,
+    line: StatusLine<'_>,
+) -> Result<(), WriteFault>
+    ensures { Puts W.meaning w.old (status_prefix styles.now kind (shown_summary line.entry)) result w.new }
+{
+    match line.case {
+        StatusCase::Success => {
+            write_success_word(w, styles, kind.is_final() && line.is_slow, line.result)?;
+            write_plain(w, " ")
+        }
+        StatusCase::Flaky { result } => {
+            write_flaky_word(w, styles, kind, result, line.retry_data)?;
+            write_plain(w, " ")
+        }
+        StatusCase::Failure => {
+            write_failure_word(w, styles, line.retry_data.attempt, line.result)?;
+            write_plain(w, " ")
+        }
+    }
+}
+
+// Writes the word of a success, right in twelve columns.
+fn write_success_word<W: WriteStr>(
+    w: &mut W,
+    styles: &Styles,
+    is_slow: bool,
+    outcome: &ExecutionResultDescription,
+) -> Result<(), WriteFault>
+    ensures { Puts W.meaning w.old (success_text styles.now is_slow outcome.now) result w.new }
+{
+    let word = success_str(is_slow, outcome);
+    if is_plain_success(is_slow, outcome) {
+        styles.pass.write_right(w, 12, word)
+    } else {
+        styles.skip.write_right(w, 12, word)
+    }
+}
+
+// Writes the words of a success after earlier attempts, right in twelve columns.
+fn write_flaky_word<W: WriteStr>(
+    w: &mut W,
+    styles: &Styles,
+    kind: StatusLineKind,
+    flaky_result: FlakyResult,
+    retry_data: RetryData,
+) -> Result<(), WriteFault>
+    ensures { Puts W.meaning w.old (styled (flaky_style styles.now flaky_result) (right_in 12 (flaky_words kind flaky_result retry_data))) result w.new }
+{
+    let mut attempt = Buffer::new();
+    let mut total = Buffer::new();
+    let (style, label) = match flaky_result {
+        FlakyResult::Pass => (styles.skip, "FLAKY "),
+        FlakyResult::Fail => (styles.fail, "FLKY-FL "),
+    };
+    let attempt = attempt.format(retry_data.attempt);
+    match kind {
+        StatusLineKind::Intermediate => {
+            style.write_right_joined(w, 12, "TRY ", attempt, " ", "PASS")
+        }
+        StatusLineKind::Final => style.write_right_joined(
+            w,
+            12,
+            label,
+            attempt,
+            "/",
+            total.format(retry_data.total_attempts),
+        ),
+    }
+}
+
+// Writes the words of a failure, right in twelve columns.
+fn write_failure_word<W: WriteStr>(
+    w: &mut W,
+    styles: &Styles,
+    attempt: u32,
+    failed: &ExecutionResultDescription,
+) -> Result<(), WriteFault>
+    ensures { Puts W.meaning w.old (styled styles.now.fail (right_in 12 (failure_words attempt failed.now))) result w.new }
+{
+    let mut signal = Buffer::new();
+    if attempt == 1 {
+        let word = status_str(failed, &mut signal);
+        return styles
+            .fail
+            .write_right_joined(w, 12, "", "", word.front, word.back);
+    }
+    let word = spaced_short_status_str(failed, &mut signal);
+    let mut number = Buffer::new();
+    styles.fail.write_right_joined(w, 12, "TRY ", number.format(attempt), word.front, word.back)
+}
+
+// Writes that a success counts as a failure, where it does and the line is shown at once.
+#[tactic(auto, unfolding(crate::specs::StatusLines::flaky_failure_line))]
+fn write_flaky_failure_line<W: WriteStr>(
+    w: &mut W,
+    styles: &Styles,
+    kind: StatusLineKind,
+    case: StatusCase,
+) -> Result<(), WriteFault>
+    ensures { Puts W.meaning w.old (flaky_failure_line styles.now kind case) result w.new }
+{
+    match kind {
+        StatusLineKind::Intermediate => {
+            if is_flaky_failure(case) {
+                write_flaky_note(w, styles)
+            } else {
+                Ok(())
+            }
+        }
+        StatusLineKind::Final => Ok(()),
+    }
+}
+
+// Writes that a success counts as a failure.
+#[tactic(auto, unfolding(crate::specs::StatusLines::flaky_note))]
+fn write_flaky_note<W: WriteStr>(w: &mut W, styles: &Styles) -> Result<(), WriteFault>
+    ensures { Puts W.meaning w.old (flaky_note styles.now) result w.new }
+{
+    write_plain(w, "           - test configured to ")?;
+    styles.fail.write(w, "fail")?;
+    write_plain(w, " if flaky\n")
+}
+
+// Whether a success counts as a failure since it came after earlier attempts.
+fn is_flaky_failure(case: StatusCase) -> bool
+    ensures { result ≡ is_flaky_failure case }
+{
+    match case {
+        StatusCase::Success => false,
+        StatusCase::Flaky { result } => result == FlakyResult::Fail,
+        StatusCase::Failure => false,
+    }
+}

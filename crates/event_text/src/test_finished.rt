@@ -1,0 +1,115 @@
+//! A finished test, and its text as it is shown at once.
+
+ghost use Rattle.std.specs.Prelude.{◌≡◌};
+ghost use Rattle.run_model.specs.Levels.{reason_rank};
+ghost use Rattle.report_text.specs.Writer.{Puts};
+ghost use Rattle.event_text.specs.FinishedTests.{finish_of, line_at_once, output_at_once, test_finish, test_finished_text};
+
+use crate::attempt_output::write_test_execute_status;
+use crate::finish::FinishRow;
+use crate::instance::CountedInstance;
+use crate::settings::Settings;
+use crate::status_line::{StatusLine, StatusLineKind, write_status_line};
+use report_text::write_str::{WriteFault, WriteStr};
+use run_model::config::TestOutputDisplay;
+use run_model::level::CancelReason;
+use run_model::name::TestInstanceId;
+use run_model::output::LiveSpec;
+use run_model::stats::RunStats;
+use run_model::status::{ExecutionDescription, ExecutionStatuses};
+use run_model::stress::StressIndex;
+
+/// A finished test, as its line, its output and its entry are made of it.
+#[derive(Clone, Copy, Debug)]
+pub struct FinishedTest<'e, 'a> {
+    /// The test.
+    pub test: CountedInstance<'a>,
+    /// Its attempts.
+    pub describe: ExecutionDescription<'e, LiveSpec>,
+    /// When the output of the last one is shown.
+    pub display: TestOutputDisplay,
+    /// What becomes of it.
+    pub row: FinishRow,
+}
+
+impl<'e, 'a> FinishedTest<'e, 'a> {
+    /// The test that finished, in a run that was cancelled for this reason before.
+    pub fn new(
+        settings: &Settings,
+        reason: Option<CancelReason>,
+        stress_index: Option<StressIndex>,
+        instance: TestInstanceId<'a>,
+        success_output: TestOutputDisplay,
+        failure_output: TestOutputDisplay,
+        run_statuses: &'e ExecutionStatuses<LiveSpec>,
+        stats: &RunStats,
+    ) -> FinishedTest<'e, 'a>
+        ensures { finish_of result ≡ test_finish settings.now (reason_rank reason) stress_index instance.entry success_output failure_output run_statuses.now stats.now }
+    {
+        let describe = run_statuses.describe();
+        FinishedTest {
+            test: CountedInstance {
+                stress_index,
+                counter: settings.finished_counter(stats),
+                instance,
+            },
+            describe,
+            display: settings.display_of(success_output, failure_output, &describe),
+            row: FinishRow::of_test(reason, &describe.last_status().result),
+        }
+    }
+}
+
+/// Writes the line of a finished test where its level is shown, and the output of its last attempt where that is
+/// shown at once.
+#[tactic(auto, unfolding(crate::specs::FinishedTests::test_finished_text))]
+pub fn write_test_finished<W: WriteStr>(
+    w: &mut W,
+    settings: &Settings,
+    finished: &FinishedTest<'_, '_>,
+) -> Result<(), WriteFault>
+    ensures { Puts W.meaning w.old (test_finished_text settings.now (finish_of finished.now)) result w.new }
+{
+    write_line_at_once(w, settings, finished)?;
+    write_output_at_once(w, settings, finished)
+}
+
+// Writes the line of a finished test, where its level is shown.
+#[tactic(auto, unfolding(crate::specs::FinishedTests::line_at_once))]
+fn write_line_at_once<W: WriteStr>(
+    w: &mut W,
+    settings: &Settings,
+    finished: &FinishedTest<'_, '_>,
+) -> Result<(), WriteFault>
+    ensures { Puts W.meaning w.old (line_at_once settings.now (finish_of finished.now)) result w.new }
+{
+    if settings.is_line_shown(&finished.describe) {
+        let line = StatusLine::of_description(&finished.describe);
+        write_status_line(
+            w,
+            &settings.styles,
+            StatusLineKind::Intermediate,
+            finished.test,
+            line,
+        )
+    } else {
+        Ok(())
+    }
+}
+
+// Writes the output of the last attempt where that is shown at once, whatever the status level.
+#[tactic(auto, unfolding(crate::specs::FinishedTests::output_at_once))]
+fn write_output_at_once<W: WriteStr>(
+    w: &mut W,
+    settings: &Settings,
+    finished: &FinishedTest<'_, '_>,
+) -> Result<(), WriteFault>
+    ensures { Puts W.meaning w.old (output_at_once settings.now (finish_of finished.now)) result w.new }
+{
+    if finished.row.is_shown_at_once(finished.display) {
+        let last = finished.describe.last_status();
+        write_test_execute_status(w, settings, false, last.is_slow, &last.result, &last.output)
+    } else {
+        Ok(())
+    }
+}
