@@ -40,13 +40,16 @@ use Rattle.console_reporter.specs.AttemptOutputs.{Written}
 use Rattle.console_reporter.specs.Configuration.{theme_of}
 use Rattle.console_reporter.specs.ResultWords.{long_word}
 use Rattle.console_reporter.specs.Order.{ordered_by, put_in}
-use Rattle.console_reporter.specs.Entries.{cancel, entry_of, finished_entry, kept, final_order}
+use Rattle.console_reporter.specs.Entries.{cancel, kept, final_order}
+use Rattle.console_reporter.specs.Effects.{finished_entry, test_finish}
 use Rattle.console_reporter.specs.Finishes.{display_of, finish_row, row_kept, is_final_wanted}
 use Rattle.console_reporter.specs.RunTexts.{bar_line, run_id_text, id_text, profile_text, run_id_line, test_counts_text, starting_line, run_started_text, initial_count_text, run_counts_text, summary_line, run_finished_text}
 use Rattle.console_reporter.specs.StatusLines.{status_prefix, flaky_failure_line, status_line}
 use Rattle.console_reporter.specs.declared.imp.calls.ReportCall.TheVariants.{Event}
 use Rattle.console_reporter.specs.declared.imp.finish.FinishRow.TheVariants as row
 use Rattle.console_reporter.specs.declared.imp.settings.Settings.{Settings}
+use Rattle.console_reporter.specs.declared.imp.status_line.StatusLineKind.{StatusLineKind}
+use Rattle.console_reporter.specs.declared.imp.status_line.StatusLineKind.TheVariants.{Intermediate, Final}
 use Rattle.console_reporter.specs.StatsTexts.{summary_text, counted_text, passed_notes, passed_note, notes_end, failed_counts, failed_count, leaky_failed_note, due_to_being, exec_failed_count, timed_out_count, other_failed_count}
 use Rattle.report_text.specs.Numbers.{seconds, with_point}
 use Rattle.report_text.specs.Instances.{test_text, stress_prefix, counter_prefix, name_text}
@@ -136,18 +139,18 @@ unfolding test_text stress_prefix counter_prefix name_text plain styled last_col
 named = refl
 
 -- its line, at once and in the summary
-failed_line : (is_final : Bool) (test : TestInstanceId) (output : Written) (code : ℤ) (time : Nanos) →
+failed_line : (kind : StatusLineKind) (test : TestInstanceId) (output : Written) (code : ℤ) (time : Nanos) →
     test.binary_id.now ≡ codes "alpha" → test.test_name.now ≡ codes "mod::t2" → time.0 ≡ 1500000000 →
-    status_line settings.styles is_final None None test (summary_of (failed output code time)) ≡ codes "        FAIL [   1.500s] alpha mod::t2\n"
+    status_line settings.styles kind (record { stress_index = None; counter = None; instance = test }) (summary_of (failed output code time)) ≡ codes "        FAIL [   1.500s] alpha mod::t2\n"
 unfolding status_line status_prefix long_word abort_line flaky_failure_line plain styled right_in chars
-failed_line true test output code time binary name after = rw (binary, name, after, lasted, named) refl
-failed_line false test output code time binary name after = rw (binary, name, after, lasted, named) refl
+failed_line Final test output code time binary name after = rw (binary, name, after, lasted, named) refl
+failed_line Intermediate test output code time binary name after = rw (binary, name, after, lasted, named) refl
 
 -- what a second end of the run finds kept: the same entries
 twice : (event finish : TestEvent) (stress : Option StressIndex) (test : TestInstanceId) (success : TestOutputDisplay) (output : Written) (code : ℤ) (time elapsed : Nanos) →
     event.kind ≡ TestFinished stress test success Never (failed output code time) stats → finish.kind ≡ RunFinished elapsed (Single stats) →
-    final_order (kept settings (Event finish ∷ Event event ∷ [])) ≡ finished_entry 0 stress None test Never (failed output code time) ∷ []
-unfolding kept entry_of cancel ordered_by put_in display_of finish_row row_kept is_final_wanted
+    final_order (kept settings (Event finish ∷ Event event ∷ [])) ≡ finished_entry (test_finish settings 0 stress test success Never (failed output code time) stats) ∷ []
+unfolding kept cancel ordered_by put_in display_of finish_row row_kept is_final_wanted
 twice event finish stress test success output code time elapsed is end = rw (is, end) refl
 
 -- rows of the table on finished tests: under an immediate end a test that ended by signal 15 and one with a code, then any

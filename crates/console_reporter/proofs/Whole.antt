@@ -5,11 +5,9 @@ use Rattle.std.proofs.Common.{◌≡◌, ℕ, ℤ, Bool, true, false, List, [], 
 use Rattle.std.specs.List.{flat_map}
 use Rattle.std.proofs.lemmas.Bool.{cases_Bool}
 use Rattle.run_model.specs.declared.config.NextestRunMode.{NextestRunMode}
-use Rattle.run_model.specs.declared.config.TestOutputDisplay.{TestOutputDisplay}
 use Rattle.run_model.specs.declared.event.TestCounts.{TestCounts}
 use Rattle.run_model.specs.declared.event.TestEventKind.{TestEventKind}
 use Rattle.run_model.specs.declared.event.TestEventKind.TheVariants.{RunStarted, TestFinished, RunFinished}
-use Rattle.run_model.specs.declared.name.TestInstanceId.{TestInstanceId}
 use Rattle.run_model.specs.declared.stats.RunFinishedStats.{RunFinishedStats}
 use Rattle.run_model.specs.declared.stats.RunFinishedStats.TheVariants.{Single}
 use Rattle.run_model.specs.declared.stats.RunStats.{RunStats}
@@ -22,7 +20,6 @@ use Rattle.run_model.specs.declared.output.ChildExecutionOutputDescription.TheVa
 use Rattle.run_model.specs.declared.output.ChildOutputDescription.{ChildOutputDescription}
 use Rattle.run_model.specs.declared.output.LiveSpec.{LiveSpec}
 use Rattle.run_model.specs.declared.status.ExecuteStatus.{ExecuteStatus}
-use Rattle.run_model.specs.declared.stress.StressIndex.{StressIndex}
 use Rattle.run_model.specs.declared.status.StatusCase.{StatusCase}
 use Rattle.run_model.specs.declared.status.StatusSummary.{StatusSummary}
 use Rattle.run_model.specs.Statuses.{summary_of}
@@ -35,23 +32,27 @@ use Rattle.run_model.specs.declared.stats.RunStatsFailureKind.TheVariants.{Setup
 use Rattle.unit_report.specs.UnitOutputs.{OutputLayout, execution_output}
 use Rattle.unit_report.specs.declared.unit_output.reporter.UnitOutputReporter.{UnitOutputReporter}
 use Rattle.unit_report.specs.Warnings.{not_run_warning, final_warnings}
-use Rattle.report_text.specs.declared.helpers.instance.DisplayCounterIndex.{DisplayCounterIndex}
-use Rattle.console_reporter.specs.Counters.{finished_counter}
 use Rattle.report_text.specs.Texts.{Text}
 use Rattle.report_text.specs.Styles.{plain}
 use Rattle.report_text.specs.declared.style.Styles.{Styles}
 use Rattle.console_reporter.specs.AbortLines.{nt_line, job_object_line, line_of_abort, abort_line}
 use Rattle.console_reporter.specs.AttemptOutputs.{Written, attempt_output, has_info_line, info_line, shown_info_line}
 use Rattle.console_reporter.specs.Configuration.{Configuration}
-use Rattle.console_reporter.specs.Entries.{hiding_rank, entry_output, entry_text, listed_text}
-use Rattle.console_reporter.specs.Finishes.{display_of, is_line_shown, is_shown_at_once}
+use Rattle.console_reporter.specs.Effects.{TestFinish, test_finish}
+use Rattle.console_reporter.specs.Entries.{hiding_rank, entry_output, entry_text, executed_text, final_text}
+use Rattle.console_reporter.specs.Finishes.{is_line_shown, row_at_once}
 use Rattle.console_reporter.specs.Outcomes.{IsOfLines}
-use Rattle.console_reporter.specs.Report.{line_at_once, output_at_once, test_finished_text, event_text, text}
+use Rattle.console_reporter.specs.Report.{Known, line_at_once, output_at_once, test_finished_text, listed_text, event_text, text}
 use Rattle.console_reporter.specs.RunTexts.{starting_line, run_started_text, run_counts_text, summary_line, run_finished_text}
 use Rattle.console_reporter.specs.StatusLines.{is_flaky_failure, flaky_note, flaky_failure_line, status_line}
 use Rattle.console_reporter.specs.declared.imp.calls.ReportCall.{ReportCall}
 use Rattle.console_reporter.specs.declared.imp.calls.ReportCall.TheVariants.{Event, Prefix}
-use Rattle.console_reporter.specs.declared.imp.kept.KeptEntry.{KeptEntry}
+use Rattle.console_reporter.specs.declared.imp.final_output.FinalOutput.{FinalOutput}
+use Rattle.console_reporter.specs.declared.imp.final_output.FinalOutput.TheVariants.{Executed}
+use Rattle.console_reporter.specs.declared.imp.final_output.FinalOutputEntry.{FinalOutputEntry}
+use Rattle.console_reporter.specs.declared.imp.instance.CountedInstance.{CountedInstance}
+use Rattle.console_reporter.specs.declared.imp.status_line.StatusLineKind.{StatusLineKind}
+use Rattle.console_reporter.specs.declared.imp.status_line.StatusLineKind.TheVariants.{Intermediate, Final}
 use Rattle.console_reporter.specs.declared.imp.settings.Settings.{Settings}
 
 -- the text ends in a line feed
@@ -86,10 +87,10 @@ ends-flaky_note : (s : Styles) → EndsLine (flaky_note s)
 unfolding flaky_note
 ends-flaky_note s = search (ends_after, ends-if_flaky) depth 12
 
-of_lines-flaky_failure_line : (s : Styles) (is_final : Bool) (x : StatusCase) → IsOfLines (flaky_failure_line s is_final x)
+of_lines-flaky_failure_line : (s : Styles) (kind : StatusLineKind) (x : StatusCase) → IsOfLines (flaky_failure_line s kind x)
 unfolding flaky_failure_line
-of_lines-flaky_failure_line s true x = inl refl
-of_lines-flaky_failure_line s false x = elim (cases_Bool (is_flaky_failure x)) [ inl y ↦ rw y (of_line _ (ends-flaky_note s)) | inr n ↦ rw n (inl refl) ]
+of_lines-flaky_failure_line s Final x = inl refl
+of_lines-flaky_failure_line s Intermediate x = elim (cases_Bool (is_flaky_failure x)) [ inl y ↦ rw y (of_line _ (ends-flaky_note s)) | inr n ↦ rw n (inl refl) ]
 
 ends-nt_line : (s : Styles) (code : ℤ) (message : Option Text) → EndsLine (nt_line s code message)
 unfolding nt_line
@@ -113,13 +114,13 @@ of_lines-abort_line s (outcome.Fail (Abort a) leaked) = of_lines-line_of_abort s
 of_lines-abort_line s outcome.ExecFail = inl refl
 of_lines-abort_line s (outcome.Timeout result) = inl refl
 
-ends-status_end : (s : Styles) (is_final : Bool) (result : ExecutionResultDescription) (x : StatusCase) → EndsLine (plain (codes "\n") ++ (abort_line s result ++ flaky_failure_line s is_final x))
-ends-status_end s is_final result x = ends_before (plain (codes "\n")) (abort_line s result ++ flaky_failure_line s is_final x) ends-feed
-    (of_lines-append (abort_line s result) (flaky_failure_line s is_final x) (of_lines-abort_line s result) (of_lines-flaky_failure_line s is_final x))
+ends-status_end : (s : Styles) (kind : StatusLineKind) (result : ExecutionResultDescription) (x : StatusCase) → EndsLine (plain (codes "\n") ++ (abort_line s result ++ flaky_failure_line s kind x))
+ends-status_end s kind result x = ends_before (plain (codes "\n")) (abort_line s result ++ flaky_failure_line s kind x) ends-feed
+    (of_lines-append (abort_line s result) (flaky_failure_line s kind x) (of_lines-abort_line s result) (of_lines-flaky_failure_line s kind x))
 
-ends-status_line : (s : Styles) (is_final : Bool) (stress : Option StressIndex) (counter : Option DisplayCounterIndex) (instance : TestInstanceId) (x : StatusSummary) → EndsLine (status_line s is_final stress counter instance x)
+ends-status_line : (s : Styles) (kind : StatusLineKind) (test : CountedInstance) (x : StatusSummary) → EndsLine (status_line s kind test x)
 unfolding status_line
-ends-status_line s is_final stress counter instance x = search (ends_after, ends-status_end) depth 12
+ends-status_line s kind test x = search (ends_after, ends-status_end) depth 12
 
 ends-info_end : EndsLine (plain (codes ")\n\n"))
 unfolding plain
@@ -177,41 +178,47 @@ unfolding entry_output
 of_lines-entry_output s x None = inl refl
 of_lines-entry_output s x (Some output) = of_line _ (ends-attempt_output s false x.is_slow x.result output)
 
-ends-entry_text : (s : Settings) (e : KeptEntry) → EndsLine (entry_text s e)
-unfolding entry_text
-ends-entry_text s e = ends_before _ _ (ends-status_line s.styles true e.stress_index e.counter e.instance e.summary) (of_lines-entry_output s e.summary e.output)
+ends-executed_text : (s : Settings) (test : CountedInstance) (x : StatusSummary) (output : Option Written) → EndsLine (executed_text s test x output)
+unfolding executed_text
+ends-executed_text s test x output = ends_before _ _ (ends-status_line s.styles Final test x) (of_lines-entry_output s x output)
 
-of_lines-entries : (s : Settings) (es : List KeptEntry) → IsOfLines (flat_map (entry_text s) es)
+ends-final_text : (s : Settings) (test : CountedInstance) (x : FinalOutput) → EndsLine (final_text s test x)
+ends-final_text s test (Executed summary output) = ends-executed_text s test summary output
+
+ends-entry_text : (s : Settings) (e : FinalOutputEntry) → EndsLine (entry_text s e)
+unfolding entry_text
+ends-entry_text s e = ends-final_text s e.test e.output
+
+of_lines-entries : (s : Settings) (es : List FinalOutputEntry) → IsOfLines (flat_map (entry_text s) es)
 of_lines-entries s [] = inl refl
 of_lines-entries s (e ∷ es) = of_lines-append (entry_text s e) (flat_map (entry_text s) es) (of_line _ (ends-entry_text s e)) (of_lines-entries s es)
 
-of_lines-listed_text : (s : Settings) (reason : ℕ) (es : List KeptEntry) → IsOfLines (listed_text s reason es)
+of_lines-listed_text : (s : Settings) (known : Known) → IsOfLines (listed_text s known)
 unfolding listed_text
-of_lines-listed_text s reason es = elim (cases_Bool (nat_lt reason hiding_rank)) [ inl y ↦ rw y (of_lines-entries s es) | inr n ↦ rw n (inl refl) ]
+of_lines-listed_text s known = elim (cases_Bool (nat_lt known.reason hiding_rank)) [ inl y ↦ rw y (of_lines-entries s known.entries) | inr n ↦ rw n (inl refl) ]
 
-of_lines-line_at_once : (s : Settings) (stress : Option StressIndex) (counter : Option DisplayCounterIndex) (instance : TestInstanceId) (x : StatusSummary) → IsOfLines (line_at_once s stress counter instance x)
+of_lines-line_at_once : (s : Settings) (f : TestFinish) → IsOfLines (line_at_once s f)
 unfolding line_at_once
-of_lines-line_at_once s stress counter instance x =
-    elim (cases_Bool (is_line_shown s x)) [ inl y ↦ rw y (of_line _ (ends-status_line s.styles false stress counter instance x)) | inr n ↦ rw n (inl refl) ]
+of_lines-line_at_once s f =
+    elim (cases_Bool (is_line_shown s f.summary)) [ inl y ↦ rw y (of_line _ (ends-status_line s.styles Intermediate f.test f.summary)) | inr n ↦ rw n (inl refl) ]
 
-of_lines-output_at_once : (s : Settings) (reason : ℕ) (display : TestOutputDisplay) (last : ExecuteStatus LiveSpec ChildOutputDescription) → IsOfLines (output_at_once s reason display last)
+of_lines-output_at_once : (s : Settings) (f : TestFinish) → IsOfLines (output_at_once s f)
 unfolding output_at_once
-of_lines-output_at_once s reason display last =
-    elim (cases_Bool (is_shown_at_once reason display last.result)) [ inl y ↦ rw y (of_line _ (ends-attempt_output s false last.is_slow last.result last.output)) | inr n ↦ rw n (inl refl) ]
+of_lines-output_at_once s f =
+    elim (cases_Bool (row_at_once f.row f.display)) [ inl y ↦ rw y (of_line _ (ends-attempt_output s false f.last.is_slow f.last.result f.last.output)) | inr n ↦ rw n (inl refl) ]
 
-of_lines-test_finished_text : (s : Settings) (reason : ℕ) (stress : Option StressIndex) (counter : Option DisplayCounterIndex) (instance : TestInstanceId) (display : TestOutputDisplay) (x : StatusSummary) (last : ExecuteStatus LiveSpec ChildOutputDescription) → IsOfLines (test_finished_text s reason stress counter instance display x last)
+of_lines-test_finished_text : (s : Settings) (f : TestFinish) → IsOfLines (test_finished_text s f)
 unfolding test_finished_text
-of_lines-test_finished_text s reason stress counter instance display x last =
-    of_lines-append _ _ (of_lines-line_at_once s stress counter instance x) (of_lines-output_at_once s reason display last)
+of_lines-test_finished_text s f = of_lines-append _ _ (of_lines-line_at_once s f) (of_lines-output_at_once s f)
 
-of_lines-event_text : (s : Settings) (known : Option UniquePrefix) (reason : ℕ) (es : List KeptEntry) (e : TestEventKind) → IsOfLines (event_text s known reason es e)
+of_lines-event_text : (s : Settings) (known : Known) (e : TestEventKind) → IsOfLines (event_text s known e)
 unfolding event_text
-of_lines-event_text s known reason es (RunStarted c id profile) = of_line _ (ends-run_started_text s known c id profile)
-of_lines-event_text s known reason es (TestFinished stress instance success failure statuses stats) = of_lines-test_finished_text s reason stress (finished_counter s stats) instance (display_of s success failure (summary_of statuses)) (summary_of statuses) statuses.last
-of_lines-event_text s known reason es (RunFinished elapsed stats) = of_line _ (ends_before _ _ (ends-run_finished_text s elapsed.0 stats)
-    (of_lines-append (listed_text s reason es) (final_warnings s.styles s.mode (final_stats_of_run stats)) (of_lines-listed_text s reason es) (of_lines-final_warnings s.styles s.mode (final_stats_of_run stats))))
+of_lines-event_text s known (RunStarted c id profile) = of_line _ (ends-run_started_text s known.prefix c id profile)
+of_lines-event_text s known (TestFinished stress instance success failure statuses stats) = of_lines-test_finished_text s (test_finish s known.reason stress instance success failure statuses stats)
+of_lines-event_text s known (RunFinished elapsed stats) = of_line _ (ends_before _ _ (ends-run_finished_text s elapsed.0 stats)
+    (of_lines-append (listed_text s known) (final_warnings s.styles s.mode (final_stats_of_run stats)) (of_lines-listed_text s known) (of_lines-final_warnings s.styles s.mode (final_stats_of_run stats))))
 
 -- the text of each call
 pub of_lines-text : (config : Configuration) (past : List ReportCall) (call : ReportCall) → IsOfLines (text config past call)
-of_lines-text config past (Event e) = of_lines-event_text _ _ _ _ e.kind
+of_lines-text config past (Event e) = of_lines-event_text _ _ e.kind
 of_lines-text config past (Prefix p) = inl refl

@@ -75,10 +75,6 @@ is_shown_at_once reason display result = row_at_once (finish_row reason result) 
 unfoldable pub is_final_wanted : Settings → TestOutputDisplay → StatusSummary → Bool
 is_final_wanted s display x = is_final display || nat_le (final_rank (final_level_of x)) (final_rank s.status_levels.final_status_level)
 
--- the summary lists it
-abbrev pub is_kept : Settings → ℕ → TestOutputDisplay → StatusSummary → Bool
-is_kept s reason display x = row_kept (finish_row reason x.result) (is_final_wanted s display x)
-
 -- the summary shows its output
 abbrev pub is_shown_at_end : ℕ → TestOutputDisplay → ExecutionResultDescription → Bool
 is_shown_at_end reason display result = row_at_end (finish_row reason result) display

@@ -2,6 +2,7 @@ pub mod AbortLines
 pub mod AttemptOutputs
 pub mod Configuration
 pub mod Counters
+pub mod Effects
 pub mod Entries
 pub mod Finishes
 pub mod InfoResults

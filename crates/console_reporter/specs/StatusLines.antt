@@ -1,7 +1,6 @@
 -- The line of a finished test.
-use Rattle.std.specs.Prelude.{ℕ, Bool, true, false, Option, [], ◌++◌, ◌&&◌, ◌==◌, codes, if◌then◌else◌}
+use Rattle.std.specs.Prelude.{ℕ, Bool, true, false, [], ◌++◌, ◌&&◌, ◌==◌, codes, if◌then◌else◌}
 use Rattle.std.specs.Fmt.{decimal}
-use Rattle.run_model.specs.declared.name.TestInstanceId.{TestInstanceId}
 use Rattle.run_model.specs.declared.status.ExecutionResultDescription.{ExecutionResultDescription}
 use Rattle.run_model.specs.declared.status.FlakyResult.{FlakyResult}
 use Rattle.run_model.specs.declared.status.FlakyResult.TheVariants as flaky
@@ -9,17 +8,18 @@ use Rattle.run_model.specs.declared.status.RetryData.{RetryData}
 use Rattle.run_model.specs.declared.status.StatusCase.{StatusCase}
 use Rattle.run_model.specs.declared.status.StatusCase.TheVariants.{Success, Flaky, Failure}
 use Rattle.run_model.specs.declared.status.StatusSummary.{StatusSummary}
-use Rattle.run_model.specs.declared.stress.StressIndex.{StressIndex}
 use Rattle.report_text.specs.Texts.{Text, right_in}
 use Rattle.report_text.specs.Instances.{instance_text}
 use Rattle.report_text.specs.Styles.{plain, styled}
-use Rattle.report_text.specs.declared.helpers.instance.DisplayCounterIndex.{DisplayCounterIndex}
 use Rattle.report_text.specs.declared.style.Style.{Style}
 use Rattle.report_text.specs.declared.style.Styles.{Styles}
 use Rattle.unit_report.specs.Durations.{bracketed_duration}
 use Rattle.console_reporter.specs.AbortLines.{abort_line}
 use Rattle.console_reporter.specs.ResultWords.{long_word, short_word, success_word, is_plain_success}
+use Rattle.console_reporter.specs.declared.imp.instance.CountedInstance.{CountedInstance}
 use Rattle.console_reporter.specs.declared.imp.status_line.StatusLine.{StatusLine}
+use Rattle.console_reporter.specs.declared.imp.status_line.StatusLineKind.{StatusLineKind}
+use Rattle.console_reporter.specs.declared.imp.status_line.StatusLineKind.TheVariants.{Intermediate, Final}
 
 -- a word after the number of its attempt
 abbrev pub attempt_words : ℕ → Text → Text
@@ -34,9 +34,9 @@ abbrev pub flaky_label : FlakyResult → Text
 flaky_label flaky.Pass = codes "FLAKY "
 flaky_label flaky.Fail = codes "FLKY-FL "
 
-abbrev pub flaky_words : Bool → FlakyResult → RetryData → Text
-flaky_words false result retry = attempt_words retry.attempt (codes "PASS")
-flaky_words true result retry = flaky_label result ++ (decimal retry.attempt ++ (codes "/" ++ decimal retry.total_attempts))
+abbrev pub flaky_words : StatusLineKind → FlakyResult → RetryData → Text
+flaky_words Intermediate result retry = attempt_words retry.attempt (codes "PASS")
+flaky_words Final result retry = flaky_label result ++ (decimal retry.attempt ++ (codes "/" ++ decimal retry.total_attempts))
 
 -- a success at the first attempt: that it was slow is said in the summary alone
 abbrev pub success_style : Styles → Bool → ExecutionResultDescription → Style
@@ -60,15 +60,19 @@ shown_summary line = record {
   is_slow = line.is_slow;
 }
 
+abbrev pub is_final : StatusLineKind → Bool
+is_final Intermediate = false
+is_final Final = true
+
 -- what begins the line, by what the attempts came to
-abbrev pub status_words : Styles → Bool → StatusCase → StatusSummary → Text
-status_words s is_final Success x = success_text s (is_final && x.is_slow) x.result
-status_words s is_final (Flaky result) x = styled (flaky_style s result) (right_in 12 (flaky_words is_final result x.retry_data))
-status_words s is_final Failure x = styled s.fail (right_in 12 (failure_words x.retry_data.attempt x.result))
+abbrev pub status_words : Styles → StatusLineKind → StatusCase → StatusSummary → Text
+status_words s kind Success x = success_text s (is_final kind && x.is_slow) x.result
+status_words s kind (Flaky result) x = styled (flaky_style s result) (right_in 12 (flaky_words kind result x.retry_data))
+status_words s kind Failure x = styled s.fail (right_in 12 (failure_words x.retry_data.attempt x.result))
 
 -- the word of the line, and a space
-unfoldable pub status_prefix : Styles → Bool → StatusSummary → Text
-status_prefix s is_final x = status_words s is_final x.case x ++ plain (codes " ")
+unfoldable pub status_prefix : Styles → StatusLineKind → StatusSummary → Text
+status_prefix s kind x = status_words s kind x.case x ++ plain (codes " ")
 
 -- a success after earlier attempts counts as a failure
 abbrev pub is_flaky_failure : StatusCase → Bool
@@ -82,16 +86,16 @@ unfoldable pub flaky_note : Styles → Text
 flaky_note s = plain (codes "           - test configured to ") ++ (styled s.fail (codes "fail") ++ plain (codes " if flaky\n"))
 
 -- it is said after the line that is shown at once
-unfoldable pub flaky_failure_line : Styles → Bool → StatusCase → Text
-flaky_failure_line s true x = []
-flaky_failure_line s false x = if is_flaky_failure x then flaky_note s else []
+unfoldable pub flaky_failure_line : Styles → StatusLineKind → StatusCase → Text
+flaky_failure_line s Final x = []
+flaky_failure_line s Intermediate x = if is_flaky_failure x then flaky_note s else []
 
--- the line of a finished test, as it is shown at once or, where the flag is set, in the summary
-unfoldable pub status_line : Styles → Bool → Option StressIndex → Option DisplayCounterIndex → TestInstanceId → StatusSummary → Text
-status_line s is_final stress counter instance x =
-    status_prefix s is_final x
+-- the line of a finished test, as it is shown at once or in the summary
+unfoldable pub status_line : Styles → StatusLineKind → CountedInstance → StatusSummary → Text
+status_line s kind test x =
+    status_prefix s kind x
     ++ (bracketed_duration x.time_taken.0
-    ++ (instance_text s.list_styles stress counter instance
+    ++ (instance_text s.list_styles test.stress_index test.counter test.instance
     ++ (plain (codes "\n")
     ++ (abort_line s x.result
-    ++ flaky_failure_line s is_final x.case))))
+    ++ flaky_failure_line s kind x.case))))

@@ -1,7 +1,8 @@
 //! The reporter: what it is built from, its calls, and the run of a list of calls.
 //!
 //! One module a concern: `builder` and `settings` say what a reporter goes by, `calls` and `faults` what it is asked and
-//! how it fails, `finish` when a finished test is shown, `kept` what is kept of it for the summary, `reporter` its calls;
+//! how it fails, `effect` what an event does, `finish` when a finished test is shown, `final_output` what is kept of it for the
+//! summary, `kept` how the summary lists that, `reporter` the calls;
 //! the texts stand in `run_text`, `stats_text` and `test_finished`, each beside the event that it belongs to, and what that
 //! one is made of in `status_line` (with `result_words` and `abort_line`) and `attempt_output` (with `info_result`).
 
@@ -9,9 +10,12 @@ mod abort_line;
 mod attempt_output;
 mod builder;
 mod calls;
+mod effect;
 mod faults;
+mod final_output;
 mod finish;
 mod info_result;
+mod instance;
 mod kept;
 mod reporter;
 mod result_words;

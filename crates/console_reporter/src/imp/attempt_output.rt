@@ -24,7 +24,7 @@ mod tests;
 ///
 /// `is_retry` says that another attempt follows, `is_slow` that this one was slow.
 #[tactic(auto, unfolding(crate::specs::AttemptOutputs::attempt_output))]
-pub fn write_attempt_output<W: WriteStr>(
+pub fn write_test_execute_status<W: WriteStr>(
     w: &mut W,
     settings: &Settings,
     is_retry: bool,

@@ -1,38 +1,34 @@
 //! The calls of a reporter, and the run of a list of calls.
 
-ghost use Rattle.std.specs.Prelude.{◌≡◌, ◌≤◌, ◌⊎◌, ◌+◌, List, ℕ, [], ◌∷◌, ◌++◌, OnOk, OnErr, IfErr, IsErrOf, Some, length, reverse, slice_get, take, true, false};
+ghost use Rattle.std.specs.Prelude.{◌≡◌, ◌≤◌, ◌⊎◌, ◌+◌, List, ℕ, [], ◌∷◌, ◌++◌, OnOk, OnErr, IfErr, IsErrOf, Some, length, max, nat_lt, reverse, slice_get, take, true, false};
 ghost use Rattle.std.specs.List.{flat_map};
-ghost use Rattle.std.specs.Option.{option_to_list};
-ghost use Rattle.std.specs.List.Sorted.{IsStable};
-ghost use Rattle.run_model.specs.Statuses.{summary_of};
+ghost use Rattle.std.specs.List.Sorted.{IsSorted, IsStable};
+ghost use Rattle.std.specs.Option.{is_some, option_and_then, option_map, option_to_list};
+ghost use Rattle.run_model.specs.Levels.{reason_rank};
 ghost use Rattle.report_text.specs.Writer.{Puts, one_further};
 ghost use Rattle.console_reporter.specs.declared.imp.calls.ReportCall.{ReportCall};
 ghost use Rattle.console_reporter.specs.declared.imp.faults.WriteEventError.{WriteEventError};
 ghost use Rattle.console_reporter.specs.Configuration.{Configuration, configured};
-ghost use Rattle.console_reporter.specs.Entries.{entry_cmp, finished_entry_if, keeps, listed_text, IsListed};
-ghost use Rattle.console_reporter.specs.Finishes.{is_kept};
+ghost use Rattle.console_reporter.specs.Effects.{effect_of, finish_of, is_kept, kept_entry};
+ghost use Rattle.console_reporter.specs.Entries.{entry_cmp, hiding_rank};
 ghost use Rattle.console_reporter.specs.Outcomes.{Stops, StopsAfter, IsOfLines, error_for};
-ghost use Rattle.console_reporter.specs.Report.{event_text, text, texts, report, past_at, text_at, AreAccepted};
-ghost use Rattle.console_reporter.specs.Standing.{StandsAfter, HasFailed, IsSameWriter, MayGrow, MayGrowAt, MayGrowIn, may_grow_for};
+ghost use Rattle.console_reporter.specs.Report.{event_text, finished_text, listed_text, text, texts, report, past_at, text_at, AreAccepted};
+ghost use Rattle.console_reporter.specs.Standing.{StandsAfter, HasFailed, IsSameWriter, MayGrow, MayGrowAt, MayGrowIn, known_by};
 
 use super::builder::DisplayReporterBuilder;
 use super::calls::ReportCall;
+use super::effect::{EventEffect, FinishedTest, greater_reason};
 use super::faults::{RunFault, WriteEventError};
-use super::finish::FinishRow;
-use super::kept::{KeptEntry, sort_entries, write_entries};
+use super::final_output::FinalOutputEntry;
+use super::kept::{sort_final_outputs, write_entries};
 use super::run_text::{write_run_finished, write_run_started};
 use super::settings::{Settings, counter_width_for, overrides_for, styles_for, theme_for};
 use super::test_finished::write_test_finished;
-use report_text::helpers::DisplayCounterIndex;
 use report_text::write_str::{WriteFault, WriteStr};
-use run_model::config::TestOutputDisplay;
 use run_model::event::{TestEvent, TestEventKind};
+use run_model::level::CancelReason;
 use run_model::memory::OutOfMemory;
-use run_model::name::TestInstanceId;
-use run_model::output::LiveSpec;
 use run_model::run_id::ShortestRunIdPrefix;
-use run_model::status::ExecutionStatuses;
-use run_model::stress::StressIndex;
 use std::alloc::{AllocError, Global};
 use unit_report::formatters::write_final_warnings;
 use unit_report::unit_output::UnitOutputReporter;
@@ -51,8 +47,9 @@ pub struct DisplayReporter<'a, W> {
 #[derive(Drop)]
 struct ReporterState<'a> {
     alloc: Global,
-    kept: Vec<KeptEntry<'a>>,
+    kept: Vec<FinalOutputEntry<'a>>,
     unique_prefix: Option<ShortestRunIdPrefix>,
+    cancel_status: Option<CancelReason>,
     settings: Settings,
     has_failed: bool,
 }
@@ -79,6 +76,7 @@ impl DisplayReporterBuilder {
                 alloc,
                 kept: Vec::new(alloc),
                 unique_prefix: None,
+                cancel_status: None,
                 settings: Settings {
                     mode: self.mode,
                     status_levels: resolved.status_levels,
@@ -129,20 +127,41 @@ impl<'a, W: WriteStr> DisplayReporter<'a, W> {
         if self.state.has_failed {
             return Err(WriteEventError::Failed);
         }
-        if let Err(AllocError) = self.state.prepare(event) {
-            self.state.has_failed = true;
+        match self.report_event(event) {
+            Ok(()) => Ok(()),
+            Err(error) => {
+                self.state.has_failed = true;
+                Err(error)
+            }
+        }
+    }
+
+    // Puts the entries in order where the event lists them, writes and delivers its text, and does what it does.
+    fn report_event(&mut self, event: &TestEvent<'a>) -> Result<(), WriteEventError>
+        ensures same_writer { IsSameWriter self.old self.new }
+        ensures accepted { OnOk result ((config : Configuration) (past : List ReportCall) → StandsAfter config past self.old →
+            W.meaning.accepts self.old.writer.now (text config past (ReportCall.Event event.now)) self.new.writer.now) }
+        ensures stands { OnOk result ((config : Configuration) (past : List ReportCall) → StandsAfter config past self.old →
+            StandsAfter config (ReportCall.Event event.now ∷ past) self.new) }
+        ensures delivered { OnOk result (W.meaning.is_delivered self.new.writer.now) }
+        ensures err { IfErr result (λ e. (config : Configuration) (past : List ReportCall) → StandsAfter config past self.old →
+            Stops W.meaning self.old.writer.now (text config past (ReportCall.Event event.now)) e self.new.writer.now) }
+        ensures io { IsErrOf result WriteEventError.Io → W.meaning.failures self.new.writer.now ≡ one_further (W.meaning.failures self.old.writer.now) }
+        ensures memory { IsErrOf result WriteEventError.Memory → W.meaning.may_refuse self.old.writer.now ⊎ MayGrow self.old event.now }
+    {
+        let effect = self
+            .state
+            .settings
+            .effect_of(self.state.cancel_status, event);
+        if let Err(AllocError) = self.state.prepare(effect.lists_entries) {
             return Err(WriteEventError::Memory);
         }
-        if let Err(fault) = write_delivered(self.writer, &self.state, event) {
-            self.state.has_failed = true;
+        if let Err(fault) = write_delivered(self.writer, &self.state, event, &effect) {
             return Err(error_of(fault));
         }
-        match self.state.keep(event) {
+        match self.state.apply(&effect) {
             Ok(()) => Ok(()),
-            Err(OutOfMemory) => {
-                self.state.has_failed = true;
-                Err(WriteEventError::Memory)
-            }
+            Err(OutOfMemory) => Err(WriteEventError::Memory),
         }
     }
 
@@ -234,87 +253,55 @@ impl<'a, W: WriteStr> DisplayReporter<'a, W> {
 }
 
 impl<'a> ReporterState<'a> {
-    // Puts the entries into their final order where the event lists them.
-    fn prepare(&mut self, event: &TestEvent<'a>) -> Result<(), AllocError>
+    // Puts the entries into their final order where an event lists them.
+    fn prepare(&mut self, lists_entries: bool) -> Result<(), AllocError>
         ensures settings { self.new.settings ≡ self.old.settings }
         ensures prefix { self.new.unique_prefix ≡ self.old.unique_prefix }
+        ensures reason { self.new.cancel_status ≡ self.old.cancel_status }
         ensures works { self.new.has_failed ≡ self.old.has_failed }
-        ensures listed { OnOk result (IsListed event.now.kind self.new.kept.items) }
+        ensures listed { OnOk result (lists_entries ≡ true → IsSorted entry_cmp self.new.kept.items) }
         ensures stable { OnOk result (IsStable entry_cmp self.old.kept.items self.new.kept.items) }
-        ensures hidden { OnErr result (may_grow_for self.old.settings event.now.kind ≡ true) }
+        ensures needed { OnErr result (lists_entries ≡ true) }
     {
-        match &event.kind {
-            TestEventKind::RunFinished { .. } => sort_entries(&mut self.kept),
-            TestEventKind::RunStarted { .. } => Ok(()),
-            TestEventKind::TestFinished { .. } => Ok(()),
+        if lists_entries {
+            sort_final_outputs(&mut self.kept)
+        } else {
+            Ok(())
         }
     }
 
-    // Keeps what the summary needs of the event.
-    fn keep(&mut self, event: &TestEvent<'a>) -> Result<(), OutOfMemory>
+    // Does what an event does: it may cancel the run, and finish a test.
+    fn apply(&mut self, effect: &EventEffect<'_, 'a>) -> Result<(), OutOfMemory>
         ensures settings { self.new.settings ≡ self.old.settings }
         ensures prefix { self.new.unique_prefix ≡ self.old.unique_prefix }
+        ensures reason { OnOk result (reason_rank self.new.cancel_status ≡ max (reason_rank effect.now.reason) (reason_rank self.old.cancel_status)) }
         ensures works { self.new.has_failed ≡ self.old.has_failed }
-        ensures kept { OnOk result (self.new.kept.items ≡ self.old.kept.items ++ keeps self.old.settings event.now.kind) }
-        ensures hidden { OnErr result (may_grow_for self.old.settings event.now.kind ≡ true) }
+        ensures kept { OnOk result (self.new.kept.items ≡ self.old.kept.items ++ option_to_list (option_and_then (kept_entry self.old.settings) (option_map finish_of effect.now.finished))) }
+        ensures needed { OnErr result (is_some (option_and_then (kept_entry self.old.settings) (option_map finish_of effect.now.finished)) ≡ true) }
     {
-        match &event.kind {
-            TestEventKind::RunStarted { .. } => Ok(()),
-            TestEventKind::TestFinished {
-                stress_index,
-                test_instance,
-                success_output,
-                failure_output,
-                run_statuses,
-                current_stats,
-            } => {
-                let counter = self.settings.finished_counter(current_stats);
-                let describe = run_statuses.describe();
-                let display = self
-                    .settings
-                    .display_of(*success_output, *failure_output, &describe);
-                self.keep_test(
-                    *stress_index,
-                    counter,
-                    *test_instance,
-                    display,
-                    run_statuses,
-                )
-            }
-            TestEventKind::RunFinished { .. } => Ok(()),
+        if let Some(finished) = &effect.finished {
+            self.keep_test(finished)?;
         }
+        self.cancel_status = greater_reason(self.cancel_status, effect.reason);
+        Ok(())
     }
 
     // Keeps a finished test where the summary lists it.
-    fn keep_test(
-        &mut self,
-        stress_index: Option<StressIndex>,
-        counter: Option<DisplayCounterIndex>,
-        instance: TestInstanceId<'a>,
-        display: TestOutputDisplay,
-        run_statuses: &ExecutionStatuses<LiveSpec>,
-    ) -> Result<(), OutOfMemory>
+    fn keep_test(&mut self, finished: &FinishedTest<'_, 'a>) -> Result<(), OutOfMemory>
         ensures settings { self.new.settings ≡ self.old.settings }
         ensures prefix { self.new.unique_prefix ≡ self.old.unique_prefix }
+        ensures reason { self.new.cancel_status ≡ self.old.cancel_status }
         ensures works { self.new.has_failed ≡ self.old.has_failed }
-        ensures kept { OnOk result (self.new.kept.items ≡ self.old.kept.items ++ option_to_list (finished_entry_if self.old.settings 0 stress_index counter instance.entry display run_statuses.now)) }
-        ensures hidden { OnErr result (is_kept self.old.settings 0 display (summary_of run_statuses.now) ≡ true) }
+        ensures kept { OnOk result (self.new.kept.items ≡ self.old.kept.items ++ option_to_list (kept_entry self.old.settings (finish_of finished.now))) }
+        ensures needed { OnErr result (is_kept self.old.settings (finish_of finished.now) ≡ true) }
     {
-        let row = FinishRow::of_test(None, &run_statuses.last_status().result);
         let is_wanted = self
             .settings
-            .is_final_wanted(display, &run_statuses.describe());
-        if !row.keeps(is_wanted) {
+            .is_final_wanted(finished.display, &finished.describe);
+        if !finished.row.keeps(is_wanted) {
             return Ok(());
         }
-        let entry = KeptEntry::of_test(
-            self.alloc,
-            stress_index,
-            counter,
-            instance,
-            display,
-            run_statuses,
-        )?;
+        let entry = FinalOutputEntry::of_test(self.alloc, finished)?;
         self.kept.push(entry)?;
         Ok(())
     }
@@ -335,70 +322,84 @@ fn write_delivered<W: WriteStr>(
     w: &mut W,
     state: &ReporterState<'_>,
     event: &TestEvent<'_>,
+    effect: &EventEffect<'_, '_>,
 ) -> Result<(), WriteFault>
-    ensures text { Puts W.meaning w.old (event_text state.now.settings state.now.unique_prefix 0 state.now.kept.items event.now.kind) result w.new }
+    requires { option_map finish_of effect.now.finished ≡ (effect_of event.now.kind).finished state.now.settings (reason_rank state.now.cancel_status) }
+    ensures text { Puts W.meaning w.old (event_text state.now.settings (known_by state.now) event.now.kind) result w.new }
     ensures delivered { OnOk result (W.meaning.is_delivered w.new) }
 {
-    write_event_text(w, state, event)?;
+    write_event_text(w, state, event, effect)?;
     w.write_str_flush()
 }
 
-// Writes the text of an event. The entries stand in their final order where the event lists them.
+// Writes the text of an event, with the entries as they stand.
 #[tactic(auto, unfolding(crate::specs::Report::event_text))]
 fn write_event_text<W: WriteStr>(
     w: &mut W,
     state: &ReporterState<'_>,
     event: &TestEvent<'_>,
+    effect: &EventEffect<'_, '_>,
 ) -> Result<(), WriteFault>
-    ensures { Puts W.meaning w.old (event_text state.now.settings state.now.unique_prefix 0 state.now.kept.items event.now.kind) result w.new }
+    requires { option_map finish_of effect.now.finished ≡ (effect_of event.now.kind).finished state.now.settings (reason_rank state.now.cancel_status) }
+    ensures { Puts W.meaning w.old (event_text state.now.settings (known_by state.now) event.now.kind) result w.new }
 {
     let settings = &state.settings;
-    let unique_prefix = &state.unique_prefix;
     match &event.kind {
         TestEventKind::RunStarted {
             test_list,
             run_id,
             profile_name,
-        } => write_run_started(w, settings, unique_prefix, test_list, run_id, profile_name),
-        TestEventKind::TestFinished {
-            stress_index,
-            test_instance,
-            success_output,
-            failure_output,
-            run_statuses,
-            current_stats,
-        } => {
-            let counter = settings.finished_counter(current_stats);
-            let describe = run_statuses.describe();
-            let display = settings.display_of(*success_output, *failure_output, &describe);
-            write_test_finished(
-                w,
-                settings,
-                *stress_index,
-                counter,
-                *test_instance,
-                display,
-                &describe,
-            )
-        }
+        } => write_run_started(
+            w,
+            settings,
+            &state.unique_prefix,
+            test_list,
+            run_id,
+            profile_name,
+        ),
+        TestEventKind::TestFinished { .. } => write_finished(w, settings, &effect.finished),
         TestEventKind::RunFinished { elapsed, run_stats } => {
             write_run_finished(w, settings, *elapsed, run_stats)?;
-            write_listed(w, settings, &state.kept)?;
+            write_listed(w, state)?;
             write_final_warnings(settings.mode, run_stats.final_stats(), &settings.styles, w)
         }
     }
 }
 
-// Writes the entries of a summary as they stand.
-#[tactic(auto, unfolding(crate::specs::Entries::listed_text))]
-fn write_listed<W: WriteStr>(
+// Writes the test that an event finishes.
+fn write_finished<W: WriteStr>(
     w: &mut W,
     settings: &Settings,
-    entries: &[KeptEntry<'_>],
+    finished: &Option<FinishedTest<'_, '_>>,
 ) -> Result<(), WriteFault>
-    ensures { Puts W.meaning w.old (listed_text settings.now 0 entries.now) result w.new }
+    ensures { Puts W.meaning w.old (finished_text settings.now (option_map finish_of finished.now)) result w.new }
 {
-    write_entries(w, settings, entries)
+    match finished {
+        None => Ok(()),
+        Some(finished) => write_test_finished(w, settings, finished),
+    }
+}
+
+// Writes the entries as they stand, unless the run was interrupted.
+#[tactic(auto, unfolding(crate::specs::Report::listed_text))]
+fn write_listed<W: WriteStr>(w: &mut W, state: &ReporterState<'_>) -> Result<(), WriteFault>
+    ensures { Puts W.meaning w.old (listed_text state.now.settings (known_by state.now)) result w.new }
+{
+    if shows_entries(state.cancel_status) {
+        write_entries(w, &state.settings, &state.kept)
+    } else {
+        Ok(())
+    }
+}
+
+// Whether the summary lists entries in a run that was cancelled for this reason.
+fn shows_entries(reason: Option<CancelReason>) -> bool
+    ensures { result ≡ nat_lt (reason_rank reason) hiding_rank }
+{
+    match reason {
+        None => true,
+        Some(reason) => CancelReason::Interrupt.is_above(reason),
+    }
 }
 
 /// A report is the texts of its calls, one after another, and the text of each call stands at the call's place.

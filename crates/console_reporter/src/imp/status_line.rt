@@ -1,30 +1,52 @@
 //! The line of a finished test, as it is shown at once and in the summary.
 
-ghost use Rattle.std.specs.Prelude.{◌≡◌};
-ghost use Rattle.run_model.specs.Statuses.{described_summary};
+ghost use Rattle.std.specs.Prelude.{◌≡◌, IfOk, IsOk, false};
+ghost use Rattle.run_model.specs.Statuses.{described_summary, is_aborted};
 ghost use Rattle.report_text.specs.Writer.{Puts};
 ghost use Rattle.report_text.specs.Styles.{styled};
 ghost use Rattle.report_text.specs.Texts.{right_in};
-ghost use Rattle.console_reporter.specs.StatusLines.{shown_summary, flaky_style, flaky_words, failure_words, success_text, is_flaky_failure, status_prefix, flaky_note, flaky_failure_line, status_line};
+ghost use Rattle.console_reporter.specs.StatusLines.{is_final, shown_summary, flaky_style, flaky_words, failure_words, success_text, is_flaky_failure, status_prefix, flaky_note, flaky_failure_line, status_line};
 
 use super::abort_line::write_abort_line;
+use super::instance::CountedInstance;
 use super::result_words::{is_plain_success, spaced_short_status_str, status_str, success_str};
 use itoa::Buffer;
-use report_text::helpers::{DisplayCounterIndex, DisplayTestInstance};
+use report_text::helpers::DisplayTestInstance;
 use report_text::style::{Styles, write_plain};
 use report_text::write_str::{WriteFault, WriteStr};
-use run_model::name::TestInstanceId;
+use run_model::memory::OutOfMemory;
 use run_model::output::OutputSpec;
 use run_model::status::{
     ExecutionDescription, ExecutionResultDescription, FlakyResult, RetryData, StatusCase,
     StatusSummary,
 };
-use run_model::stress::StressIndex;
 use run_model::time::Nanos;
+use std::alloc::Global;
 use unit_report::formatters::DisplayBracketedDuration;
 
 #[cfg(test)]
 mod tests;
+
+/// Where the line of a finished test stands.
+#[derive(Clone, Copy, Debug, PartialEq, Eq)]
+pub enum StatusLineKind {
+    /// It is shown at once.
+    Intermediate,
+    /// It is shown in the summary.
+    Final,
+}
+
+impl StatusLineKind {
+    /// Whether it stands in the summary.
+    pub fn is_final(self) -> bool
+        ensures { result ≡ is_final self }
+    {
+        match self {
+            StatusLineKind::Intermediate => false,
+            StatusLineKind::Final => true,
+        }
+    }
+}
 
 /// What the line of a finished test says of its attempts.
 #[derive(Clone, Copy, Debug)]
@@ -68,27 +90,45 @@ impl<'b> StatusLine<'b> {
             is_slow: last.is_slow,
         }
     }
+
+    /// The summary that it is the line of. It takes memory where the last attempt was aborted.
+    pub fn to_summary(self, alloc: Global) -> Result<StatusSummary, OutOfMemory>
+        ensures same { IfOk result (λ x. x ≡ shown_summary self.entry) }
+        ensures free { is_aborted self.entry.result.now ≡ false → IsOk result }
+    {
+        Ok(StatusSummary {
+            case: self.case,
+            retry_data: self.retry_data,
+            result: self.result.copy(alloc)?,
+            time_taken: self.time_taken,
+            is_slow: self.is_slow,
+        })
+    }
 }
 
-/// Writes the line of a finished test, as it is shown at once or, where `is_final` is set, in the summary.
+/// Writes the line of a finished test.
 #[tactic(auto, unfolding(crate::specs::StatusLines::status_line))]
 pub fn write_status_line<W: WriteStr>(
     w: &mut W,
     styles: &Styles,
-    is_final: bool,
-    stress_index: Option<StressIndex>,
-    counter: Option<DisplayCounterIndex>,
-    instance: TestInstanceId<'_>,
+    kind: StatusLineKind,
+    test: CountedInstance<'_>,
     line: StatusLine<'_>,
 ) -> Result<(), WriteFault>
-    ensures { Puts W.meaning w.old (status_line styles.now is_final stress_index counter instance.entry (shown_summary line.entry)) result w.new }
+    ensures { Puts W.meaning w.old (status_line styles.now kind test.entry (shown_summary line.entry)) result w.new }
 {
-    write_status_prefix(w, styles, is_final, line)?;
+    write_status_prefix(w, styles, kind, line)?;
     DisplayBracketedDuration(line.time_taken).write_to(w)?;
-    DisplayTestInstance::new(stress_index, counter, instance, &styles.list_styles).write_to(w)?;
+    DisplayTestInstance::new(
+        test.stress_index,
+        test.counter,
+        test.instance,
+        &styles.list_styles,
+    )
+    .write_to(w)?;
     write_plain(w, "\n")?;
     write_abort_line(w, styles, line.result)?;
-    write_flaky_failure_line(w, styles, is_final, line.case)
+    write_flaky_failure_line(w, styles, kind, line.case)
 }
 
 // Writes the word that begins the line, and a space.
@@ -96,18 +136,18 @@ pub fn write_status_line<W: WriteStr>(
 fn write_status_prefix<W: WriteStr>(
     w: &mut W,
     styles: &Styles,
-    is_final: bool,
+    kind: StatusLineKind,
     line: StatusLine<'_>,
 ) -> Result<(), WriteFault>
-    ensures { Puts W.meaning w.old (status_prefix styles.now is_final (shown_summary line.entry)) result w.new }
+    ensures { Puts W.meaning w.old (status_prefix styles.now kind (shown_summary line.entry)) result w.new }
 {
     match line.case {
         StatusCase::Success => {
-            write_success_word(w, styles, is_final && line.is_slow, line.result)?;
+            write_success_word(w, styles, kind.is_final() && line.is_slow, line.result)?;
             write_plain(w, " ")
         }
         StatusCase::Flaky { result } => {
-            write_flaky_word(w, styles, is_final, result, line.retry_data)?;
+            write_flaky_word(w, styles, kind, result, line.retry_data)?;
             write_plain(w, " ")
         }
         StatusCase::Failure => {
@@ -138,11 +178,11 @@ fn write_success_word<W: WriteStr>(
 fn write_flaky_word<W: WriteStr>(
     w: &mut W,
     styles: &Styles,
-    is_final: bool,
+    kind: StatusLineKind,
     flaky_result: FlakyResult,
     retry_data: RetryData,
 ) -> Result<(), WriteFault>
-    ensures { Puts W.meaning w.old (styled (flaky_style styles.now flaky_result) (right_in 12 (flaky_words is_final flaky_result retry_data))) result w.new }
+    ensures { Puts W.meaning w.old (styled (flaky_style styles.now flaky_result) (right_in 12 (flaky_words kind flaky_result retry_data))) result w.new }
 {
     let mut attempt = Buffer::new();
     let mut total = Buffer::new();
@@ -151,17 +191,18 @@ fn write_flaky_word<W: WriteStr>(
         FlakyResult::Fail => (styles.fail, "FLKY-FL "),
     };
     let attempt = attempt.format(retry_data.attempt);
-    if is_final {
-        style.write_right_joined(
+    match kind {
+        StatusLineKind::Intermediate => {
+            style.write_right_joined(w, 12, "TRY ", attempt, " ", "PASS")
+        }
+        StatusLineKind::Final => style.write_right_joined(
             w,
             12,
             label,
             attempt,
             "/",
             total.format(retry_data.total_attempts),
-        )
-    } else {
-        style.write_right_joined(w, 12, "TRY ", attempt, " ", "PASS")
+        ),
     }
 }
 
@@ -191,18 +232,20 @@ fn write_failure_word<W: WriteStr>(
 fn write_flaky_failure_line<W: WriteStr>(
     w: &mut W,
     styles: &Styles,
-    is_final: bool,
+    kind: StatusLineKind,
     case: StatusCase,
 ) -> Result<(), WriteFault>
-    ensures { Puts W.meaning w.old (flaky_failure_line styles.now is_final case) result w.new }
+    ensures { Puts W.meaning w.old (flaky_failure_line styles.now kind case) result w.new }
 {
-    if is_final {
-        return Ok(());
-    }
-    if is_flaky_failure(case) {
-        write_flaky_note(w, styles)
-    } else {
-        Ok(())
+    match kind {
+        StatusLineKind::Intermediate => {
+            if is_flaky_failure(case) {
+                write_flaky_note(w, styles)
+            } else {
+                Ok(())
+            }
+        }
+        StatusLineKind::Final => Ok(()),
     }
 }
 

@@ -1,20 +1,14 @@
 //! The text of a finished test, as it is shown at once.
 
-ghost use Rattle.run_model.specs.Statuses.{described_last, described_summary};
 ghost use Rattle.report_text.specs.Writer.{Puts};
+ghost use Rattle.console_reporter.specs.Effects.{finish_of};
 ghost use Rattle.console_reporter.specs.Report.{line_at_once, output_at_once, test_finished_text};
 
-use super::attempt_output::write_attempt_output;
-use super::finish::FinishRow;
+use super::attempt_output::write_test_execute_status;
+use super::effect::FinishedTest;
 use super::settings::Settings;
-use super::status_line::{StatusLine, write_status_line};
-use report_text::helpers::DisplayCounterIndex;
+use super::status_line::{StatusLine, StatusLineKind, write_status_line};
 use report_text::write_str::{WriteFault, WriteStr};
-use run_model::config::TestOutputDisplay;
-use run_model::name::TestInstanceId;
-use run_model::output::LiveSpec;
-use run_model::status::{ExecuteStatus, ExecutionDescription};
-use run_model::stress::StressIndex;
 
 /// Writes the line of a finished test where its level is shown, and the output of its last attempt where that is
 /// shown at once.
@@ -22,16 +16,12 @@ use run_model::stress::StressIndex;
 pub fn write_test_finished<W: WriteStr>(
     w: &mut W,
     settings: &Settings,
-    stress_index: Option<StressIndex>,
-    counter: Option<DisplayCounterIndex>,
-    instance: TestInstanceId<'_>,
-    display: TestOutputDisplay,
-    describe: &ExecutionDescription<'_, LiveSpec>,
+    finished: &FinishedTest<'_, '_>,
 ) -> Result<(), WriteFault>
-    ensures { Puts W.meaning w.old (test_finished_text settings.now 0 stress_index counter instance.entry display (described_summary describe.now) (described_last describe.now)) result w.new }
+    ensures { Puts W.meaning w.old (test_finished_text settings.now (finish_of finished.now)) result w.new }
 {
-    write_line_at_once(w, settings, stress_index, counter, instance, describe)?;
-    write_output_at_once(w, settings, display, describe.last_status())
+    write_line_at_once(w, settings, finished)?;
+    write_output_at_once(w, settings, finished)
 }
 
 // Writes the line of a finished test, where its level is shown.
@@ -39,22 +29,17 @@ pub fn write_test_finished<W: WriteStr>(
 fn write_line_at_once<W: WriteStr>(
     w: &mut W,
     settings: &Settings,
-    stress_index: Option<StressIndex>,
-    counter: Option<DisplayCounterIndex>,
-    instance: TestInstanceId<'_>,
-    describe: &ExecutionDescription<'_, LiveSpec>,
+    finished: &FinishedTest<'_, '_>,
 ) -> Result<(), WriteFault>
-    ensures { Puts W.meaning w.old (line_at_once settings.now stress_index counter instance.entry (described_summary describe.now)) result w.new }
+    ensures { Puts W.meaning w.old (line_at_once settings.now (finish_of finished.now)) result w.new }
 {
-    if settings.is_line_shown(describe) {
-        let line = StatusLine::of_description(describe);
+    if settings.is_line_shown(&finished.describe) {
+        let line = StatusLine::of_description(&finished.describe);
         write_status_line(
             w,
             &settings.styles,
-            false,
-            stress_index,
-            counter,
-            instance,
+            StatusLineKind::Intermediate,
+            finished.test,
             line,
         )
     } else {
@@ -67,13 +52,13 @@ fn write_line_at_once<W: WriteStr>(
 fn write_output_at_once<W: WriteStr>(
     w: &mut W,
     settings: &Settings,
-    display: TestOutputDisplay,
-    last: &ExecuteStatus<LiveSpec>,
+    finished: &FinishedTest<'_, '_>,
 ) -> Result<(), WriteFault>
-    ensures { Puts W.meaning w.old (output_at_once settings.now 0 display last.now) result w.new }
+    ensures { Puts W.meaning w.old (output_at_once settings.now (finish_of finished.now)) result w.new }
 {
-    if FinishRow::of_test(None, &last.result).is_shown_at_once(display) {
-        write_attempt_output(w, settings, false, last.is_slow, &last.result, &last.output)
+    if finished.row.is_shown_at_once(finished.display) {
+        let last = finished.describe.last_status();
+        write_test_execute_status(w, settings, false, last.is_slow, &last.result, &last.output)
     } else {
         Ok(())
     }

@@ -1,7 +1,7 @@
 //! The outputs of attempts, and how they ended.
 
 use super::super::settings::{Settings, overrides_for, theme_for};
-use super::write_attempt_output;
+use super::write_test_execute_status;
 use bytes::Bytes;
 use report_text::style::Styles;
 use run_model::abort::{AbortDescription, DescriptionText};
@@ -92,7 +92,7 @@ cannot spawn
         let mut text = String::new(alloc);
         let outcome = ExecutionResultDescription::ExecFail;
         let output = start_error(alloc)?;
-        write_attempt_output(&mut text, &settings, false, false, &outcome, &output)?;
+        write_test_execute_status(&mut text, &settings, false, false, &outcome, &output)?;
         assert_eq!(rt; text.as_str(), want);
     }
     Ok(())
@@ -108,7 +108,7 @@ fn after_failure(
     let settings = settings(alloc, no_output_indent)?;
     let mut text = String::new(alloc);
     let outcome = ExecutionResultDescription::Fail { failure, leaked };
-    write_attempt_output(
+    write_test_execute_status(
         &mut text,
         &settings,
         false,

@@ -1,6 +1,6 @@
 //! The lines of tests by what their attempts came to.
 
-use super::{StatusLine, write_status_line};
+use super::{CountedInstance, StatusLine, StatusLineKind, write_status_line};
 use report_text::helpers::DisplayCounterIndex;
 use report_text::style::Styles;
 use run_model::abort::AbortDescription;
@@ -24,9 +24,14 @@ fn final_line(alloc: Global, styles: &Styles, summary: &StatusSummary) -> Result
         binary_id: &binary_id,
         test_name: &test_name,
     };
+    let test = CountedInstance {
+        stress_index: None,
+        counter: None,
+        instance,
+    };
     let mut text = String::new(alloc);
     let line = StatusLine::of_summary(summary);
-    write_status_line(&mut text, styles, true, None, None, instance, line)?;
+    write_status_line(&mut text, styles, StatusLineKind::Final, test, line)?;
     Ok(text)
 }
 
@@ -107,18 +112,15 @@ fn line_of_test1(
         binary_id: &binary_id,
         test_name: &test_name,
     };
-    let styles = Styles::default();
-    let mut text = String::new(alloc);
-    let line = StatusLine::of_summary(summary);
-    write_status_line(
-        &mut text,
-        &styles,
-        true,
+    let test = CountedInstance {
         stress_index,
         counter,
         instance,
-        line,
-    )?;
+    };
+    let styles = Styles::default();
+    let mut text = String::new(alloc);
+    let line = StatusLine::of_summary(summary);
+    write_status_line(&mut text, &styles, StatusLineKind::Final, test, line)?;
     Ok(text)
 }
 
