@@ -4,8 +4,8 @@ ghost use Rattle.std.specs.Prelude.{◌≡◌, ◌+◌, ◌≤◌, ◌^◌, OnOk
 ghost use Rattle.report.specs.Cuts.{parted, texts};
 ghost use Rattle.report.specs.Fields.{Place, ReadsBy, TriesBy, answered, next, taken_text};
 
-use super::split::first_piece;
 use crate::fault::{LineError, LineFault};
+use memchr::memchr_iter;
 use run_model::memory::OutOfMemory;
 use std::marker::Model;
 
@@ -14,12 +14,12 @@ pub fn split_fields<'a>(line: &'a str, fields: &mut Vec<&'a str>) -> Result<(), 
     ensures { OnOk result (texts fields.new.items ≡ parted 9 line.now) }
 {
     fields.clear();
-    let mut rest = Some(line);
-    while let Some(left) = rest {
-        let (field, after) = first_piece(left, b'\t');
-        fields.push(field)?;
-        rest = after;
+    let mut start = 0;
+    for tab in memchr_iter(b'\t', line.as_bytes()) {
+        fields.push(&line[start..tab])?;
+        start = tab + 1;
     }
+    fields.push(&line[start..])?;
     Ok(())
 }
 
