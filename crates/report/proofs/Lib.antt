@@ -7,6 +7,7 @@ pub mod Numbers
 pub mod Options
 pub mod Pairs
 pub mod Reports
+pub mod Silence
 pub mod Tabs
 pub mod Tellings
 pub mod Unescaped

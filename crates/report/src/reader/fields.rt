@@ -1,6 +1,6 @@
 //! A line of a scene, taken apart from left to right.
 
-ghost use Rattle.std.specs.Prelude.{◌≡◌, ◌+◌, ◌≤◌, ◌^◌, OnOk, length, Ok};
+ghost use Rattle.std.specs.Prelude.{◌≡◌, ◌+◌, ◌≤◌, ◌^◌, OnOk, drop, length, Ok};
 ghost use Rattle.report.specs.Cuts.{parted, texts};
 ghost use Rattle.report.specs.Fields.{Place, ReadsBy, TriesBy, answered, next, taken_text};
 
@@ -53,6 +53,23 @@ impl<'a> Fields<'a> {
         ensures { result ≡ length self.now.left }
     {
         self.left.len()
+    }
+
+    /// The fields that are left to take.
+    pub fn left(&self) -> &'a [&'a str]
+        ensures { texts result.now ≡ self.now.left }
+    {
+        self.left
+    }
+
+    /// Passes over so many fields.
+    pub fn pass(&mut self, count: usize)
+        requires { count ≤ length self.old.left }
+        ensures number { self.new.number ≡ self.old.number + count }
+        ensures left { self.new.left ≡ drop count self.old.left }
+    {
+        self.left = &self.left[count..];
+        self.number += count;
     }
 
     /// Takes a field.
