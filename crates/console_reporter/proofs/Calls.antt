@@ -1,12 +1,12 @@
 -- Calls in turn.
-use Rattle.std.proofs.Common.{◌≡◌, ℕ, ◌+◌, ◌<◌, ◌≤◌, List, [], ◌∷◌, length, reverse, take, get_or, sym, ap, ◌∙◌, subst, append-nil, arith, Result, Ok, Err, IfErr, inl}
+use Rattle.std.proofs.Common.{◌≡◌, ◌⊎◌, ℕ, ◌+◌, ◌<◌, ◌≤◌, List, [], ◌∷◌, length, reverse, take, get_or, sym, ap, ◌∙◌, subst, append-nil, arith, Result, Ok, Err, IfErr, inl}
 use Rattle.std.specs.Option.{option_map_or}
 use Rattle.std.proofs.lemmas.List.{take_more, take_all, reverse-append}
 use Rattle.std.proofs.lemmas.Option.{slice_get-get_or, slice_get_past}
 use Rattle.report_text.specs.Writer.{Meaning, WriterLaws, Puts, one_further}
 use Rattle.report_text.specs.declared.write_str.WriteFault.{WriteFault}
 use Rattle.console_reporter.specs.declared.imp.faults.WriteEventError.{WriteEventError}
-use Rattle.console_reporter.specs.declared.imp.faults.WriteEventError.TheVariants.{Io, Failed}
+use Rattle.console_reporter.specs.declared.imp.faults.WriteEventError.TheVariants.{Io, Memory, Failed}
 use Rattle.console_reporter.specs.declared.imp.faults.RunFault.{RunFault}
 use Rattle.console_reporter.specs.Report.{text, text_at, past_at, report, AreAccepted}
 use Rattle.console_reporter.specs.Configuration.{Configuration}
@@ -14,6 +14,8 @@ use Rattle.console_reporter.specs.declared.imp.calls.ReportCall.{ReportCall}
 use Rattle.console_reporter.specs.declared.imp.calls.ReportCall.TheVariants.{Event, Prefix}
 use Rattle.report_text.specs.declared.write_str.WriteFault.TheVariants.{Device, Memory as RefusedMemory}
 use Rattle.console_reporter.specs.Outcomes.{Stops, StopsAfter, error_for}
+use Rattle.console_reporter.specs.Standing.{StandsAfter, MayGrowAt}
+use Rattle.console_reporter.specs.declared.imp.reporter.DisplayReporter.{DisplayReporter}
 
 -- no call of these kinds is refused
 pub all_accepted : (config : Configuration) (calls : List ReportCall) → AreAccepted config calls
@@ -95,3 +97,9 @@ module _ {S : Type 0} {m : Meaning S} (laws : WriterLaws m) where
 pub stops_error : {S : Type 0} (m : Meaning S) (a b : S) (t : List ℕ) (fault : WriteFault) (e : WriteEventError) → e ≡ error_for fault → m.stops a t fault b → Stops m a t e b
 stops_error m a b t Device e is h = subst (λ x. Stops m a t x b) (sym is) h
 stops_error m a b t RefusedMemory e is h = subst (λ x. Stops m a t x b) (sym is) (inl h)
+
+-- why memory was refused in a run, by the writer that the reporter began with
+pub refused_from : {W : Type 0} (m : Meaning W) (config : Configuration) (calls : List ReportCall) (reporter : DisplayReporter W) {writer : W} → reporter.writer.now ≡ writer → StandsAfter config [] reporter → (stop : RunFault) →
+    ((c : Configuration) → StandsAfter c [] reporter → stop.fault ≡ Memory → m.may_refuse reporter.writer.now ⊎ MayGrowAt c calls stop.position) →
+    stop.fault ≡ Memory → m.may_refuse writer ⊎ MayGrowAt config calls stop.position
+refused_from m config calls reporter same stands stop h is = subst (λ w. m.may_refuse w ⊎ MayGrowAt config calls stop.position) same (h config stands is)

@@ -4,4 +4,5 @@ pub mod Keys
 pub mod Orders
 pub mod Pasts
 pub mod Rows
+pub mod Texts
 pub mod Whole

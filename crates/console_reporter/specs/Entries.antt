@@ -7,6 +7,7 @@ use Rattle.std.specs.Cmp.Lexicographic.{slice_cmp}
 use Rattle.std.specs.List.{flat_map}
 use Rattle.std.specs.List.Sorted.{IsSorted, IsStable}
 use Rattle.run_model.specs.Attempts.{Attempts}
+use Rattle.run_model.specs.Instances.{instance_cmp}
 use Rattle.run_model.specs.Levels.{final_rank}
 use Rattle.run_model.specs.Statuses.{summary_of, final_level_of}
 use Rattle.run_model.specs.Stress.{stress_key}
@@ -103,10 +104,7 @@ iteration_key (Some i) = stress_key i
 abbrev pub entry_key : KeptEntry → List (List ℕ)
 entry_key e = ((7 - final_rank (final_level_of e.summary)) ∷ []) ∷ iteration_key e.stress_index ∷ counter_key e.counter ∷ e.instance.binary_id.now ∷ e.instance.test_name.now ∷ []
 
--- the order of instances, with the counter before, and that of all but the level
-abbrev pub instance_cmp : TestInstanceId → TestInstanceId → Ordering
-instance_cmp a b = then_cmp (on (λ i. i.binary_id.now) (slice_cmp nat_cmp)) (on (λ i. i.test_name.now) (slice_cmp nat_cmp)) a b
-
+-- the order of entries of one level and iteration, and that of entries of one level
 abbrev pub counted_cmp : KeptEntry → KeptEntry → Ordering
 counted_cmp a b = then_cmp (on (λ e. counter_key e.counter) (slice_cmp nat_cmp)) (λ x y. instance_cmp x.instance y.instance) a b
 

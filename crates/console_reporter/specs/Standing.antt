@@ -1,5 +1,6 @@
 -- What a reporter holds after a past.
-use Rattle.std.specs.Prelude.{◌≡◌, List, Bool, true, false, IsTrue}
+use Rattle.std.specs.Prelude.{◌≡◌, ℕ, List, Bool, true, false, IsTrue, slice_get}
+use Rattle.std.specs.Option.{option_map_or}
 use Rattle.std.specs.List.Sorted.{IsStable}
 use Rattle.console_reporter.specs.Configuration.{Configuration, settings_of}
 use Rattle.run_model.specs.Statuses.{summary_of}
@@ -10,6 +11,7 @@ use Rattle.console_reporter.specs.Entries.{entry_cmp, prefix, kept}
 use Rattle.console_reporter.specs.Finishes.{display_of, is_kept}
 use Rattle.console_reporter.specs.declared.imp.settings.Settings.{Settings}
 use Rattle.console_reporter.specs.declared.imp.calls.ReportCall.{ReportCall}
+use Rattle.console_reporter.specs.declared.imp.calls.ReportCall.TheVariants.{Event, Prefix}
 use Rattle.console_reporter.specs.declared.imp.reporter.DisplayReporter.{DisplayReporter}
 
 -- the reporter works, and holds what the texts after this past need; its entries may stand in another order where their keys differ
@@ -35,3 +37,15 @@ may_grow_for s (RunFinished elapsed stats) = true
 
 abbrev pub MayGrow : {W : Type 0} → DisplayReporter W → TestEvent → Type 0
 MayGrow reporter event = IsTrue (may_grow_for reporter.state.settings event.kind)
+
+-- the same of a call: a prefix is copied
+abbrev pub may_grow_in : Settings → ReportCall → Bool
+may_grow_in s (Event e) = may_grow_for s e.kind
+may_grow_in s (Prefix p) = true
+
+abbrev pub MayGrowIn : {W : Type 0} → DisplayReporter W → ReportCall → Type 0
+MayGrowIn reporter call = IsTrue (may_grow_in reporter.state.settings call)
+
+-- the same of the call at a place; past the end there is none
+abbrev pub MayGrowAt : Configuration → List ReportCall → ℕ → Type 0
+MayGrowAt config calls i = IsTrue (option_map_or (may_grow_in (settings_of config)) (slice_get calls i) false)

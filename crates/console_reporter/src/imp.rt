@@ -28,5 +28,5 @@ pub use calls::ReportCall;
 pub use faults::{RunFault, WriteEventError};
 pub use finish::reasons_only_hide;
 pub use kept::one_final_order;
-pub use reporter::{DisplayReporter, run_report};
+pub use reporter::{DisplayReporter, run_report, texts_make_the_report};
 pub use unit_report::unit_output::DisplayerKind;

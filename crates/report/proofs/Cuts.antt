@@ -5,8 +5,7 @@ use Rattle.std.proofs.lemmas.List.{take-append-drop}
 use Rattle.std.proofs.lemmas.Bool.{cases_Bool}
 use Rattle.std.proofs.lemmas.Bool.Decides.{nat_tests}
 use Rattle.memchr.specs.Find.{is_byte, Nowhere, NoneBefore, Passes}
-use Rattle.report.specs.Cuts.{cut}
-use Rattle.report.specs.Texts.{Lacks}
+use Rattle.report.specs.Cuts.{Lacks, parted, cut}
 
 is_false : (x : Bool) → ¬ (x ≡ true) → x ≡ false
 is_false x h = elim (cases_Bool x) [ inl p ↦ absurd (h p) | inr p ↦ p ]
@@ -30,14 +29,26 @@ cut_at b t k first here =
     let back : drop k t ≡ b ∷ drop (k + 1) t = drop-cons t k 0 within ∙ rw (is_b, add-one) refl in
     (Lacks-take b t k (omega arith) first.before, sym (take-append-drop k t) ∙ ap (λ u. take k t ++ u) back)
 
+-- a text without the byte is one piece
+pub parted-lacks : (b : ℕ) (t : List ℕ) → Lacks b t → parted b t ≡ t ∷ []
+unfolding parted
+parted-lacks b [] h = refl
+parted-lacks b (c ∷ t) h = let e = parted-lacks b t h.1 in rw (h.0, e) refl
+
+is_itself : (b : ℕ) → (b == b) ≡ true
+is_itself b = grind (arith, nat_tests)
+
+-- and one that has it begins with what stands before the first one
+pub parted-parts : (b : ℕ) (x y : List ℕ) → Lacks b x → parted b (x ++ (b ∷ y)) ≡ x ∷ parted b y
+unfolding parted
+parted-parts b [] y h = rw (is_itself b) refl
+parted-parts b (c ∷ x) y h = let e = parted-parts b x y h.1 in rw (h.0, e) refl
+
 -- a text without the byte is not cut
 pub cut-lacks : (b : ℕ) (t : List ℕ) → Lacks b t → None ≡ cut b t
 unfolding cut
 cut-lacks b [] h = refl
 cut-lacks b (c ∷ t) h = let e = sym (cut-lacks b t h.1) in rw (h.0, e) refl
-
-is_itself : (b : ℕ) → (b == b) ≡ true
-is_itself b = grind (arith, nat_tests)
 
 -- and one that has it is cut at the first one
 pub cut-parts : (b : ℕ) (x y : List ℕ) → Lacks b x → cut b (x ++ (b ∷ y)) ≡ Some (x, y)

@@ -1,7 +1,14 @@
+pub mod Attempts
 pub mod Cuts
+pub mod Displays
+pub mod FirstFaults
+pub mod NonZero
+pub mod Numbers
 pub mod Options
+pub mod Pairs
 pub mod Reports
-pub mod Results
+pub mod Tellings
 pub mod Unescaped
-pub mod Zips
+pub mod Utf8
 pub mod WordLists
+pub mod Zips

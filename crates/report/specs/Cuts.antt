@@ -1,7 +1,27 @@
--- A text cut at a byte.
-use Rattle.std.specs.Prelude.{ℕ, List, [], ◌∷◌, ◌==◌, if◌then◌else◌, Option, None, Some}
+-- Texts cut at a byte.
+use Rattle.std.specs.Prelude.{◌≡◌, ℕ, ◌+◌, List, [], ◌∷◌, map, false, ◌==◌, if◌then◌else◌, length, Option, None, Some, ⊤}
+use Rattle.std.specs.List.{slice_split}
 use Rattle.std.specs.Option.{option_map}
 use Rattle.std.specs.Borrow.{Bor}
+
+-- the byte is not in the text
+abbrev pub Lacks : ℕ → List ℕ → Type 0
+Lacks b [] = ⊤
+Lacks b (c ∷ t) = ((c == b) ≡ false) × Lacks b t
+
+-- the pieces between these bytes, of which there is at least one
+unfoldable pub parted : ℕ → List ℕ → List (List ℕ)
+parted b t = slice_split (λ c. c == b) t
+
+-- the pieces of a text, where there is one
+abbrev pub pieces_left : ℕ → Option (Bor (List ℕ)) → List (List ℕ)
+pieces_left b None = []
+pieces_left b (Some t) = parted b t.now
+
+-- more than the pieces of a text
+abbrev pub size_left : Option (Bor (List ℕ)) → ℕ
+size_left None = 0
+size_left (Some t) = length t.now + 1
 
 -- what stands before the first such byte, and what follows it, if there is one
 unfoldable pub cut : ℕ → List ℕ → Option (List ℕ × List ℕ)
@@ -11,3 +31,6 @@ cut b (c ∷ t) = if c == b then Some ([], t) else option_map (λ x. (c ∷ x.0,
 -- the texts that are borrowed
 abbrev pub cut_texts : Option (Bor (List ℕ) × Bor (List ℕ)) → Option (List ℕ × List ℕ)
 cut_texts o = option_map (λ x. (x.0.now, x.1.now)) o
+
+abbrev pub texts : List (Bor (List ℕ)) → List (List ℕ)
+texts ts = map (λ t. t.now) ts

@@ -1,12 +1,16 @@
 pub mod Configs
+pub mod Counts
 pub mod Cuts
 pub mod Faults
+pub mod Fields
 pub mod Lines
 pub mod Lists
 pub mod Numbers
 pub mod Outputs
 pub mod Reports
 pub mod Results
+pub mod SceneAttempts
+pub mod SceneTexts
 pub mod Scenes
 pub mod Texts
 pub mod Values

@@ -1,5 +1,5 @@
 -- Lists of words, with `\,` between them.
-use Rattle.std.specs.Prelude.{◌≡◌, ℕ, zero, suc, List, [], ◌∷◌, ◌++◌, Bool, false, ◌==◌, if◌then◌else◌, Option, None, Some, codes, bytes_eq}
+use Rattle.std.specs.Prelude.{ℕ, zero, suc, List, [], ◌∷◌, ◌++◌, Bool, false, ◌==◌, if◌then◌else◌, Option, None, Some, codes, bytes_eq}
 use Rattle.std.specs.Option.{option_map}
 use Rattle.std.specs.Borrow.{Bor}
 use Rattle.run_model.specs.ErrorChains.{MessageAndCauses}
@@ -49,11 +49,15 @@ abbrev pub words_from : Option (List ℕ × Option (Bor (List ℕ))) → Option 
 words_from None = None
 words_from (Some x) = option_map (λ ws. x.0 ∷ ws) (more_words x.1)
 
--- an error is written as the list of its message and its causes
-abbrev pub IsChainText : MessageAndCauses → List ℕ → Type 0
-IsChainText chain t = words_of t ≡ Some (chain.message ∷ chain.causes)
+-- an error and its causes, as the list of them
+abbrev pub chain_of : Option Words → Option MessageAndCauses
+chain_of None = None
+chain_of (Some []) = None
+chain_of (Some (message ∷ causes)) = Some (record { message = message; causes = causes })
+
+abbrev pub chain_in : List ℕ → Option MessageAndCauses
+chain_in t = chain_of (words_of t)
 
 -- errors, or `-`
-abbrev pub IsErrorsText : Option MessageAndCauses → List ℕ → Type 0
-IsErrorsText None t = t ≡ codes "-"
-IsErrorsText (Some chain) t = IsChainText chain t
+abbrev pub errors_in : List ℕ → Option (Option MessageAndCauses)
+errors_in t = if bytes_eq t (codes "-") then Some None else option_map (λ chain. Some chain) (chain_in t)

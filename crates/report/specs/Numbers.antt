@@ -1,9 +1,36 @@
--- Numbers that may be negative.
-use Rattle.std.specs.Prelude.{ℕ, List, drop, cond}
+-- Numbers, which are decimal. Zeros may stand in front, and a plus never does.
+use Rattle.std.specs.Prelude.{ℕ, ◌^◌, List, [], ◌∷◌, Bool, true, ◌&&◌, nat_lt, if◌then◌else◌, length, drop, cond, ℤ, pos, negsuc, Option, None, Some}
+use Rattle.std.specs.Char.{digit_value}
 use Rattle.std.specs.Int.{w32}
-use Rattle.std.specs.Str.Parse.{IsNumeral, starts_with_minus, signed_digits_value}
+use Rattle.std.specs.Option.{option_map}
+use Rattle.std.specs.Str.Parse.{IsNumeral, digits_value, starts_with_minus, signed_digits_value}
+use Rattle.run_model.specs.declared.time.Nanos.{Nanos}
 use mir.Val.{SFits as FitsSigned}
+
+abbrev pub are_digits : List ℕ → Bool
+are_digits [] = true
+are_digits (c ∷ cs) = nat_lt (digit_value c) 10 && are_digits cs
+
+abbrev pub is_numeral : List ℕ → Bool
+is_numeral t = nat_lt 0 (length t) && are_digits t
+
+-- a number of so many bits
+unfoldable pub number_in : ℕ → List ℕ → Option ℕ
+number_in bits t = if is_numeral t && nat_lt (digits_value 10 t) (2 ^ bits) then Some (digits_value 10 t) else None
+
+-- a duration in nanoseconds, of 128 bits
+abbrev pub nanos_in : List ℕ → Option Nanos
+nanos_in t = option_map (λ n. record { 0 = n }) (number_in 128 t)
 
 -- digits, perhaps after a minus, that write a number of 32 bits
 abbrev pub IsSigned : List ℕ → Type 0
 IsSigned t = IsNumeral 10 (cond (starts_with_minus t) (drop 1 t) t) × FitsSigned w32 (signed_digits_value 10 t)
+
+-- the number has 32 bits
+abbrev pub fits_code : ℤ → Bool
+fits_code (pos n) = nat_lt n (2 ^ 31)
+fits_code (negsuc n) = nat_lt n (2 ^ 31)
+
+-- a number of 32 bits, perhaps with a minus in front
+unfoldable pub code_in : List ℕ → Option ℤ
+code_in t = if is_numeral (cond (starts_with_minus t) (drop 1 t) t) && fits_code (signed_digits_value 10 t) then Some (signed_digits_value 10 t) else None

@@ -1,11 +1,21 @@
 -- What an attempt wrote, as a scene writes it.
-use Rattle.std.specs.Prelude.{◌≡◌, ◌≢◌, ◌<◌, ◌^◌, ℕ, List, codes, Option, None, Some}
-use Rattle.std.specs.Str.Parse.{IsNumeral, digits_value}
+use Rattle.std.specs.Prelude.{ℕ, List, [], ◌∷◌, if◌then◌else◌, codes, bytes_eq, Option, None, Some}
+use Rattle.std.specs.Option.{option_map}
+use Rattle.run_model.specs.declared.output.ChildExecutionOutputDescription.{ChildExecutionOutputDescription}
+use Rattle.run_model.specs.declared.output.ChildExecutionOutputDescription.TheVariants as written
+use Rattle.run_model.specs.declared.output.ChildOutputDescription.{ChildOutputDescription}
+use Rattle.run_model.specs.declared.output.ChildOutputDescription.TheVariants as streams
 use Rattle.run_model.specs.declared.output.Highlight.{Highlight}
 use Rattle.run_model.specs.declared.output.HighlightStream.{HighlightStream}
 use Rattle.run_model.specs.declared.output.HighlightStream.TheVariants as stream
+use Rattle.run_model.specs.declared.output.LiveSpec.{LiveSpec}
+use Rattle.run_model.specs.declared.status.ExecutionResultDescription.{ExecutionResultDescription}
 use Rattle.report.specs.Cuts.{cut}
-use Rattle.report.specs.Texts.{unescaped}
+use Rattle.report.specs.Fields.{◌>>=◌, Line, said, field}
+use Rattle.report.specs.Lists.{chain_in, errors_in}
+use Rattle.report.specs.Numbers.{number_in}
+use Rattle.report.specs.Texts.{bytes_in}
+use Rattle.report.specs.Values.{of_word, absent_in}
 use Rattle.report.specs.declared.reader.outputs.OutputForm.{OutputForm}
 use Rattle.report.specs.declared.reader.outputs.OutputForm.TheVariants as form
 
@@ -14,31 +24,67 @@ output_form_word form.Split = codes "split"
 output_form_word form.Combined = codes "comb"
 output_form_word form.StartError = codes "start"
 
+abbrev pub output_form_in : List ℕ → Option OutputForm
+output_form_in t = of_word output_form_word (form.Split ∷ form.Combined ∷ form.StartError ∷ []) t
+
 -- the bytes of a stream, or `-`
-abbrev pub IsStreamText : Option (List ℕ) → List ℕ → Type 0
-IsStreamText None t = t ≡ codes "-"
-IsStreamText (Some bytes) t = (t ≢ codes "-") × (Some bytes ≡ unescaped 255 t)
+abbrev pub stream_in : List ℕ → Option (Option (List ℕ))
+stream_in t = if bytes_eq t (codes "-") then Some None else option_map (λ bytes. Some bytes) (bytes_in t)
 
 abbrev pub highlight_stream_word : HighlightStream → List ℕ
 highlight_stream_word stream.Stdout = codes "out"
 highlight_stream_word stream.Stderr = codes "err"
 highlight_stream_word stream.Combined = codes "comb"
 
--- a place in a stream
-abbrev pub IsPlace : ℕ → List ℕ → Type 0
-IsPlace n t = IsNumeral 10 t × (digits_value 10 t < 2 ^ 64) × (n ≡ digits_value 10 t)
+abbrev pub highlight_stream_in : List ℕ → Option HighlightStream
+highlight_stream_in t = of_word highlight_stream_word (stream.Stdout ∷ stream.Stderr ∷ stream.Combined ∷ []) t
 
--- where a highlight begins, and its bytes after a colon
-abbrev pub IsPartIn : Highlight → Option (List ℕ × List ℕ) → Type 0
-IsPartIn h None = ⊥
-IsPartIn h (Some x) = IsPlace h.start x.0 × (Some h.slice ≡ unescaped 255 x.1)
+abbrev pub highlight_of : Option HighlightStream → Option ℕ → Option (List ℕ) → Option (Option Highlight)
+highlight_of (Some s) (Some n) (Some bytes) = Some (Some (record { stream = s; start = n; slice = bytes }))
+highlight_of s n bytes = None
 
-abbrev pub IsHighlightIn : Option Highlight → List ℕ → Option (List ℕ × List ℕ) → Type 0
-IsHighlightIn None t None = t ≡ codes "-"
-IsHighlightIn None t (Some x) = ⊥
-IsHighlightIn (Some h) t None = ⊥
-IsHighlightIn (Some h) t (Some x) = (x.0 ≡ highlight_stream_word h.stream) × IsPartIn h (cut 58 x.1)
+abbrev pub part_cut : List ℕ → Option (List ℕ × List ℕ) → Option (Option Highlight)
+part_cut s None = None
+part_cut s (Some x) = highlight_of (highlight_stream_in s) (number_in 64 x.0) (bytes_in x.1)
 
--- a highlight is written as its stream, its place and its bytes, with colons between them, or as `-`
-abbrev pub IsHighlightText : Option Highlight → List ℕ → Type 0
-IsHighlightText h t = IsHighlightIn h t (cut 58 t)
+abbrev pub highlight_cut : List ℕ → Option (List ℕ × List ℕ) → Option (Option Highlight)
+highlight_cut t None = if bytes_eq t (codes "-") then Some None else None
+highlight_cut t (Some x) = part_cut x.0 (cut 58 x.1)
+
+-- a highlight as its stream, its place and its bytes, with colons between them; or `-`
+abbrev pub highlight_in : List ℕ → Option (Option Highlight)
+highlight_in t = highlight_cut t (cut 58 t)
+
+-- what an attempt wrote, or why it could not be started
+abbrev pub Written : Type 0
+Written = ChildExecutionOutputDescription LiveSpec ChildOutputDescription
+
+-- errors and a highlight, after the streams of an attempt that ended so
+unfoldable pub after_streams : ExecutionResultDescription → ChildOutputDescription → Line Written
+after_streams result output = do
+  errors ← field errors_in
+  highlight ← field highlight_in
+  said (written.Output (Some result) output errors highlight)
+
+-- the fields after the form
+abbrev pub formed : ExecutionResultDescription → OutputForm → Line Written
+formed result form.Split = do
+  stdout ← field stream_in
+  stderr ← field stream_in
+  after_streams result (streams.Split stdout stderr)
+formed result form.Combined = do
+  output ← field bytes_in
+  none ← field absent_in
+  after_streams result (streams.Combined output)
+formed result form.StartError = do
+  error ← field chain_in
+  second ← field absent_in
+  errors ← field absent_in
+  highlight ← field absent_in
+  said (written.StartError error)
+
+-- an output: its form, what that takes first and second, errors, and a highlight
+unfoldable pub output_fields : ExecutionResultDescription → Line Written
+output_fields result = do
+  form ← field output_form_in
+  formed result form

@@ -1,5 +1,5 @@
 -- What a scene asks of a reporter.
-use Rattle.std.specs.Prelude.{◌≡◌}
+use Rattle.std.specs.Prelude.{◌≡◌, List, [], ◌∷◌, ◌++◌}
 use Rattle.run_model.specs.declared.event.TestEventKind.{TestEventKind}
 use Rattle.run_model.specs.declared.event.TestEventKind.TheVariants as kind
 use Rattle.run_model.specs.declared.stats.RunFinishedStats.TheVariants.{Single}
@@ -22,3 +22,9 @@ SaysSame event other = ⊥
 abbrev pub IsCallOf : SceneEvent → ReportCall → Type 0
 IsCallOf event (Event e) = (e.elapsed.0 ≡ 0) × SaysSame event e.kind
 IsCallOf event call = ⊥
+
+-- the list has one call more, which is the event
+pub record AddsCallOf (event : SceneEvent) (old new : List ReportCall) : Type 0 where
+  pub call : ReportCall
+  pub of_event : IsCallOf event call
+  pub added : new ≡ old ++ call ∷ []

@@ -1,21 +1,17 @@
 -- Texts as a scene writes them, where a backslash begins an escape.
-use Rattle.std.specs.Prelude.{◌≡◌, ℕ, zero, suc, ◌+◌, ◌*◌, List, [], ◌∷◌, ◌++◌, false, ◌==◌, ◌&&◌, nat_lt, nat_le, if◌then◌else◌, Option, None, Some, string_bytes, drop, ⊤}
+use Rattle.std.specs.Prelude.{◌≡◌, ℕ, zero, suc, ◌+◌, ◌*◌, List, [], ◌∷◌, ◌++◌, ◌==◌, ◌&&◌, nat_lt, nat_le, if◌then◌else◌, Option, None, Some, string_bytes, drop}
 use Rattle.std.specs.Option.{option_map}
 use Rattle.std.specs.Borrow.{Bor}
 use Rattle.std.specs.Char.{digit_value}
 use Rattle.std.specs.declared.alloc.Global.{Global}
 use Rattle.std.specs.declared.borrow.CowStr.{CowStr}
 use Rattle.std.specs.declared.borrow.CowStr.TheVariants.{Borrowed, Owned}
+use Rattle.report.specs.Cuts.{Lacks}
 
 -- the text that is borrowed or owned
 abbrev pub cow_text : CowStr Global → List ℕ
 cow_text (Borrowed t) = t.now
 cow_text (Owned t) = string_bytes t
-
--- the byte is not in the text
-abbrev pub Lacks : ℕ → List ℕ → Type 0
-Lacks b [] = ⊤
-Lacks b (c ∷ t) = ((c == b) ≡ false) × Lacks b t
 
 -- no escape begins in the text
 abbrev pub IsPlain : List ℕ → Type 0
@@ -66,6 +62,13 @@ unescaped_after most (suc skip) (c ∷ t) = unescaped_after most skip t
 -- what a text stands for, if its escapes are good ones
 abbrev pub unescaped : ℕ → List ℕ → Option (List ℕ)
 unescaped most t = unescaped_after most 0 t
+
+-- a text, and the bytes of a stream
+abbrev pub text_in : List ℕ → Option (List ℕ)
+text_in t = unescaped 127 t
+
+abbrev pub bytes_in : List ℕ → Option (List ℕ)
+bytes_in t = unescaped 255 t
 
 -- a text grew by plain text and by what the escape after it gives, and this follows the escape
 pub record AddsStretch (old plain escape new : List ℕ) (after : Bor (List ℕ)) : Type 0 where

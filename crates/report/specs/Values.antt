@@ -1,46 +1,40 @@
--- The words that stand for values in a scene.
-use Rattle.std.specs.Prelude.{◌≡◌, ◌≢◌, ◌<◌, ◌^◌, ℕ, List, Bool, true, false, codes, Option, None, Some, MatchOption}
-use Rattle.std.specs.Int.NonZero.{non_zero_u32_get}
-use Rattle.std.specs.Str.Parse.{IsNumeral, digits_value}
+-- What single fields of a scene say.
+use Rattle.std.specs.Prelude.{ℕ, zero, suc, List, [], ◌∷◌, Bool, true, false, if◌then◌else◌, ◌==◌, Option, None, Some, codes, bytes_eq}
 use Rattle.std.specs.declared.num.NonZeroU32.{NonZeroU32}
+use native.Mathlib.Nat.{zero-lt-suc}
+use Rattle.run_model.specs.Displays.{display_name}
+use Rattle.run_model.specs.declared.config.NextestRunMode.{NextestRunMode}
+use Rattle.run_model.specs.declared.config.NextestRunMode.TheVariants as mode
+use Rattle.run_model.specs.declared.config.TestOutputDisplay.{TestOutputDisplay}
+use Rattle.run_model.specs.declared.config.TestOutputDisplay.TheVariants as display
+use Rattle.run_model.specs.declared.level.CancelReason.{CancelReason}
+use Rattle.run_model.specs.declared.level.CancelReason.TheVariants as reason
+use Rattle.run_model.specs.declared.level.FinalStatusLevel.{FinalStatusLevel}
+use Rattle.run_model.specs.declared.level.FinalStatusLevel.TheVariants as final
 use Rattle.run_model.specs.declared.status.FlakyResult.{FlakyResult}
 use Rattle.run_model.specs.declared.status.FlakyResult.TheVariants as flaky
 use Rattle.run_model.specs.declared.stress.StressIndex.{StressIndex}
 use Rattle.report.specs.Cuts.{cut}
+use Rattle.report.specs.Numbers.{number_in}
 use Rattle.report.specs.declared.reader.values.ConfigKey.{ConfigKey}
 use Rattle.report.specs.declared.reader.values.ConfigKey.TheVariants as key
-use Rattle.run_model.specs.declared.config.NextestRunMode.{NextestRunMode}
-use Rattle.run_model.specs.declared.config.NextestRunMode.TheVariants as mode
-use Rattle.run_model.specs.declared.level.FinalStatusLevel.{FinalStatusLevel}
-use Rattle.run_model.specs.declared.level.FinalStatusLevel.TheVariants as final
-use Rattle.run_model.specs.declared.level.CancelReason.{CancelReason}
-use Rattle.run_model.specs.declared.level.CancelReason.TheVariants as reason
 
--- a value that is written so; None where no value is
-abbrev pub Reads : {V : Type 0} → (V → List ℕ → Type 0) → List ℕ → Option V → Type 0
-Reads {V} is_written t r = MatchOption r ((v : V) → ¬ (is_written v t)) (λ v. is_written v t)
+-- the one of these values whose word it is
+abbrev pub of_word : {V : Type 0} → (V → List ℕ) → List V → List ℕ → Option V
+of_word word [] t = None
+of_word word (v ∷ vs) t = if bytes_eq t (word v) then Some v else of_word word vs t
 
--- the value that the word stands for; None where it stands for none
-abbrev pub ReadsWord : {V : Type 0} → (V → List ℕ) → List ℕ → Option V → Type 0
-ReadsWord {V} word t r = MatchOption r ((v : V) → t ≢ word v) (λ v. t ≡ word v)
+-- `-`, where nothing may stand
+abbrev pub absent_in : List ℕ → Option (Unit {0})
+absent_in t = if bytes_eq t (codes "-") then Some tt else None
 
--- a number of 32 bits without a sign
-abbrev pub IsSmall : ℕ → List ℕ → Type 0
-IsSmall n t = IsNumeral 10 t × (digits_value 10 t < 2 ^ 32) × (n ≡ digits_value 10 t)
+-- the count of something that is not there
+abbrev pub zero_of : Option ℕ → Option (Unit {0})
+zero_of None = None
+zero_of (Some n) = if n == 0 then Some tt else None
 
-abbrev pub IsTotal : Option NonZeroU32 → List ℕ → Type 0
-IsTotal None t = ⊥
-IsTotal (Some n) t = (0 < digits_value 10 t) × IsSmall (non_zero_u32_get n) t
-
-abbrev pub IsStressIn : Option StressIndex → List ℕ → Option (List ℕ × List ℕ) → Type 0
-IsStressIn None t None = t ≡ codes "-"
-IsStressIn None t (Some x) = ⊥
-IsStressIn (Some i) t None = (i.total ≡ None) × IsSmall i.current t
-IsStressIn (Some i) t (Some x) = IsSmall i.current x.0 × IsTotal i.total x.1
-
--- an iteration is written as its number, perhaps with a slash and how many there are, or as `-`
-abbrev pub IsStressText : Option StressIndex → List ℕ → Type 0
-IsStressText i t = IsStressIn i t (cut 47 t)
+abbrev pub zero_in : List ℕ → Option (Unit {0})
+zero_in t = zero_of (number_in 64 t)
 
 abbrev pub config_key_word : ConfigKey → List ℕ
 config_key_word key.Final = codes "final"
@@ -53,17 +47,32 @@ config_key_word key.NoIndent = codes "noindent"
 config_key_word key.Unicode = codes "unicode"
 config_key_word key.Empty = codes "empty"
 
+abbrev pub config_key_in : List ℕ → Option ConfigKey
+config_key_in t = of_word config_key_word (key.Final ∷ key.Runs ∷ key.Bench ∷ key.Success ∷ key.Failure ∷ key.NoCapture ∷ key.NoIndent ∷ key.Unicode ∷ key.Empty ∷ []) t
+
 abbrev pub flag_word : Bool → List ℕ
 flag_word false = codes "0"
 flag_word true = codes "1"
+
+abbrev pub flag_in : List ℕ → Option Bool
+flag_in t = of_word flag_word (false ∷ true ∷ []) t
 
 abbrev pub flaky_word : FlakyResult → List ℕ
 flaky_word flaky.Pass = codes "pass"
 flaky_word flaky.Fail = codes "fail"
 
+abbrev pub flaky_in : List ℕ → Option FlakyResult
+flaky_in t = of_word flaky_word (flaky.Pass ∷ flaky.Fail ∷ []) t
+
 abbrev pub mode_word : NextestRunMode → List ℕ
 mode_word mode.Test = codes "0"
 mode_word mode.Benchmark = codes "1"
+
+abbrev pub mode_in : List ℕ → Option NextestRunMode
+mode_in t = of_word mode_word (mode.Test ∷ mode.Benchmark ∷ []) t
+
+abbrev pub display_in : List ℕ → Option TestOutputDisplay
+display_in t = of_word display_name (display.Immediate ∷ display.ImmediateFinal ∷ display.Final ∷ display.Never ∷ []) t
 
 abbrev pub final_level_word : FinalStatusLevel → List ℕ
 final_level_word final.None = codes "none"
@@ -75,6 +84,9 @@ final_level_word final.Leak = codes "leak"
 final_level_word final.Pass = codes "pass"
 final_level_word final.All = codes "all"
 
+abbrev pub final_level_in : List ℕ → Option FinalStatusLevel
+final_level_in t = of_word final_level_word (final.None ∷ final.Fail ∷ final.Flaky ∷ final.Slow ∷ final.Skip ∷ final.Leak ∷ final.Pass ∷ final.All ∷ []) t
+
 abbrev pub reason_word : CancelReason → List ℕ
 reason_word reason.SetupScriptFailure = codes "setup-script-failure"
 reason_word reason.TestFailure = codes "test-failure"
@@ -84,3 +96,33 @@ reason_word reason.TestFailureImmediate = codes "test-failure-immediate"
 reason_word reason.Signal = codes "signal"
 reason_word reason.Interrupt = codes "interrupt"
 reason_word reason.SecondSignal = codes "second-signal"
+
+abbrev pub reason_in : List ℕ → Option CancelReason
+reason_in t =
+    of_word reason_word (reason.SetupScriptFailure ∷ reason.TestFailure ∷ reason.ReportError ∷ reason.GlobalTimeout
+    ∷ reason.TestFailureImmediate ∷ reason.Signal ∷ reason.Interrupt ∷ reason.SecondSignal ∷ []) t
+
+-- the number, unless it is 0
+abbrev pub non_zero : ℕ → Option NonZeroU32
+non_zero zero = None
+non_zero (suc n) = Some (record { value = suc n; ok = zero-lt-suc n })
+
+abbrev pub total_in : Option ℕ → Option NonZeroU32
+total_in None = None
+total_in (Some n) = non_zero n
+
+abbrev pub iteration : Option ℕ → Option (Option StressIndex)
+iteration None = None
+iteration (Some n) = Some (Some (record { current = n; total = None }))
+
+abbrev pub iteration_of : Option ℕ → Option NonZeroU32 → Option (Option StressIndex)
+iteration_of (Some n) (Some m) = Some (Some (record { current = n; total = Some m }))
+iteration_of n m = None
+
+abbrev pub stress_cut : List ℕ → Option (List ℕ × List ℕ) → Option (Option StressIndex)
+stress_cut t None = if bytes_eq t (codes "-") then Some None else iteration (number_in 32 t)
+stress_cut t (Some x) = iteration_of (number_in 32 x.0) (total_in (number_in 32 x.1))
+
+-- an iteration as its number, perhaps with a slash and how many there are, which is not 0; or `-`
+abbrev pub stress_in : List ℕ → Option (Option StressIndex)
+stress_in t = stress_cut t (cut 47 t)

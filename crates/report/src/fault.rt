@@ -132,18 +132,30 @@ pub enum LineError {
 }
 
 impl From<LineFault> for LineError {
+    ghost use Rattle.report.specs.declared.fault.LineError.{LineError};
+
+    ghost from_gives = { λ fault error. error ≡ LineError.Fault fault };
+
     fn from(fault: LineFault) -> LineError {
         LineError::Fault(fault)
     }
 }
 
 impl From<OutOfMemory> for LineError {
+    ghost use Rattle.report.specs.declared.fault.LineError.{LineError};
+
+    ghost from_gives = { λ _ error. error ≡ LineError.OutOfMemory };
+
     fn from(_refused: OutOfMemory) -> LineError {
         LineError::OutOfMemory
     }
 }
 
 impl<T: Drop> From<AllocFailed<T>> for LineError {
+    ghost use Rattle.report.specs.declared.fault.LineError.{LineError};
+
+    ghost from_gives = { λ _ error. error ≡ LineError.OutOfMemory };
+
     fn from(_refused: AllocFailed<T>) -> LineError {
         LineError::OutOfMemory
     }

@@ -1,8 +1,10 @@
 //! What the program does with a scene, over any reader and any writer.
 
-ghost use Rattle.std.specs.Prelude.{◌≡◌, ◌⊎◌, IfOk, IfErr, OnOk};
+ghost use Rattle.std.specs.Prelude.{◌≡◌, ◌⊎◌, ℕ, List, Some, IfOk, IfErr, OnOk};
+ghost use Rattle.report.specs.Cuts.{parted};
 ghost use Rattle.report.specs.Faults.{IsJudgeFault, status_of};
 ghost use Rattle.report.specs.Reports.{AcceptsReport, PrintsReport, IsRefused, StopsReport, builder_for, fault_for, kind_for, progress_for};
+ghost use Rattle.report.specs.SceneTexts.{AllTell, IsJudged, IsJudgedFault, nothing_told, text_told, told};
 ghost use Rattle.report.specs.declared.fault.Fault.{Fault};
 
 use crate::fault::Fault;
@@ -24,7 +26,11 @@ pub fn judge<'a, R: Read + Drop>(
     options: &Options<'a>,
     reader: R,
 ) -> Result<Scene, Fault<'a>>
-    ensures { IfErr result (IsJudgeFault options.now.file.now) }
+    ensures fault { IfErr result (IsJudgeFault options.now.file.now) }
+    // Where the reader's bytes are known, the same as of reading them, or the file cannot be read.
+    ensures scene { (bytes : List ℕ) → R.remaining reader ≡ Some bytes → IfOk result (λ scene. AllTell nothing_told (parted 10 bytes) (told scene)) }
+    ensures first_fault { (bytes : List ℕ) → R.remaining reader ≡ Some bytes → IfErr result (IsJudgedFault bytes) }
+    ensures answer { (bytes : List ℕ) → R.remaining reader ≡ Some bytes → IsJudged result (text_told bytes) }
 {
     let mut reader = reader;
     let mut text = Vec::new(alloc);
@@ -44,7 +50,8 @@ pub fn write_report<W: Write + Drop>(
     scene: &Scene,
     writer: W,
 ) -> Result<(), Fault<'static>>
-    ensures { IfErr result (λ fault. status_of fault ≡ 3) }
+    ensures ok { OnOk result ((last : W) × PrintsReport options.now scene.now (W.contents writer) (W.contents last)) }
+    ensures status { IfErr result (λ fault. status_of fault ≡ 3) }
 {
     let (outcome, _writer) = write_and_return(alloc, options, scene, writer);
     outcome

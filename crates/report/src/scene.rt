@@ -1,18 +1,19 @@
 //! A run as a scene holds it, with names of its own.
 
-ghost use Rattle.std.specs.Prelude.{◌≡◌, IfOk, IfErr};
+ghost use Rattle.std.specs.Prelude.{◌≡◌, IfOk, IfErr, OnOk};
+
+pub mod attempts;
 
 use crate::fault::Fault;
 use crate::words::Options;
+use attempts::SceneAttempts;
 use console_reporter::imp::ReportCall;
 use run_model::config::{NextestRunMode, TestOutputDisplay};
 use run_model::event::{TestCounts, TestEvent, TestEventKind};
 use run_model::level::FinalStatusLevel;
 use run_model::memory::OutOfMemory;
 use run_model::name::{ProfileName, RustBinaryId, TestCaseName, TestInstanceId};
-use run_model::output::LiveSpec;
 use run_model::stats::{RunFinishedStats, RunStats};
-use run_model::status::ExecutionStatuses;
 use run_model::stress::StressIndex;
 use run_model::time::Nanos;
 use std::alloc::Global;
@@ -96,7 +97,7 @@ pub enum SceneEvent {
         /// When its output is to be shown if it failed.
         failure_output: TestOutputDisplay,
         /// Its attempts.
-        run_statuses: ExecutionStatuses<LiveSpec>,
+        attempts: SceneAttempts,
         /// The counts of the run, this test among them.
         current_stats: RunStats,
     },
@@ -124,56 +125,75 @@ impl Scene {
     {
         let mut calls = Vec::with_capacity(alloc, self.events.len())?;
         for event in &self.events {
-            calls.push(ReportCall::Event(event.test_event(alloc)?))?;
+            event.push_call(alloc, &mut calls)?;
         }
         Ok(calls)
     }
 }
 
 impl SceneEvent {
-    ghost use Rattle.report.specs.Scenes.{SaysSame};
+    ghost use Rattle.report.specs.Scenes.{AddsCallOf};
 
-    // The event as a reporter takes it. A scene says how long a run took only where it ends.
-    fn test_event(&self, alloc: Global) -> Result<TestEvent<'_>, OutOfMemory>
-        ensures { IfOk result (λ event. (event.elapsed.0 ≡ 0) × SaysSame self.now event.kind) }
+    // Adds the event as a reporter takes it, which is made where it stands: it is large. A scene says how long a run
+    // took only where it ends.
+    fn push_call<'a>(
+        &'a self,
+        alloc: Global,
+        calls: &mut Vec<ReportCall<'a>>,
+    ) -> Result<(), OutOfMemory>
+        ensures { OnOk result (AddsCallOf self.now calls.old.items calls.new.items) }
     {
-        let kind = match self {
+        match self {
             SceneEvent::RunStarted {
                 run_id,
                 profile_name,
                 test_list,
-            } => TestEventKind::RunStarted {
-                test_list: *test_list,
-                run_id: *run_id,
-                profile_name: ProfileName::new(alloc, profile_name.as_str())?,
-            },
+            } => {
+                let profile_name = ProfileName::new(alloc, profile_name.as_str())?;
+                calls.push(ReportCall::Event(TestEvent {
+                    elapsed: Nanos(0),
+                    kind: TestEventKind::RunStarted {
+                        test_list: *test_list,
+                        run_id: *run_id,
+                        profile_name,
+                    },
+                }))?;
+            }
             SceneEvent::TestFinished {
                 stress_index,
                 binary_id,
                 test_name,
                 success_output,
                 failure_output,
-                run_statuses,
+                attempts,
                 current_stats,
-            } => TestEventKind::TestFinished {
-                stress_index: *stress_index,
-                test_instance: TestInstanceId {
-                    binary_id,
-                    test_name,
+            } => {
+                let run_statuses = attempts.statuses(alloc)?;
+                calls.push(ReportCall::Event(TestEvent {
+                    elapsed: Nanos(0),
+                    kind: TestEventKind::TestFinished {
+                        stress_index: *stress_index,
+                        test_instance: TestInstanceId {
+                            binary_id,
+                            test_name,
+                        },
+                        success_output: *success_output,
+                        failure_output: *failure_output,
+                        run_statuses,
+                        current_stats: *current_stats,
+                    },
+                }))?;
+            }
+            SceneEvent::RunFinished { elapsed, run_stats } => calls.push(ReportCall::Event(
+                TestEvent {
+                    elapsed: Nanos(0),
+                    kind: TestEventKind::RunFinished {
+                        elapsed: *elapsed,
+                        run_stats: RunFinishedStats::Single(*run_stats),
+                    },
                 },
-                success_output: *success_output,
-                failure_output: *failure_output,
-                run_statuses: run_statuses.copy(alloc)?,
-                current_stats: *current_stats,
-            },
-            SceneEvent::RunFinished { elapsed, run_stats } => TestEventKind::RunFinished {
-                elapsed: *elapsed,
-                run_stats: RunFinishedStats::Single(*run_stats),
-            },
-        };
-        Ok(TestEvent {
-            elapsed: Nanos(0),
-            kind,
-        })
+            ))?,
+        }
+        Ok(())
     }
 }

@@ -41,22 +41,23 @@ is_leaky_success (outcome.Fail failure leaked) = false
 is_leaky_success outcome.ExecFail = false
 is_leaky_success (outcome.Timeout result) = false
 
--- the result holds a text, which a copy takes memory for
+-- a text is known, which a copy takes memory for
 abbrev pub abort_has_text : AbortDescription → Bool
 abort_has_text (abort.UnixSignal signal name) = is_some name
 abort_has_text (abort.WindowsNtStatus code message) = is_some message
 abort_has_text abort.WindowsJobObject = false
 
-abbrev pub failure_has_text : FailureDescription → Bool
-failure_has_text (failure.ExitCode code) = false
-failure_has_text (failure.Abort a) = abort_has_text a
+-- the process was ended from outside, of which a copy takes memory
+abbrev pub is_abort : FailureDescription → Bool
+is_abort (failure.ExitCode code) = false
+is_abort (failure.Abort a) = true
 
-abbrev pub has_text : ExecutionResultDescription → Bool
-has_text outcome.Pass = false
-has_text (outcome.Leak result) = false
-has_text (outcome.Fail f leaked) = failure_has_text f
-has_text outcome.ExecFail = false
-has_text (outcome.Timeout result) = false
+abbrev pub is_aborted : ExecutionResultDescription → Bool
+is_aborted outcome.Pass = false
+is_aborted (outcome.Leak result) = false
+is_aborted (outcome.Fail f leaked) = is_abort f
+is_aborted outcome.ExecFail = false
+is_aborted (outcome.Timeout result) = false
 
 -- one attempt that succeeded, a success after earlier attempts, or a failure
 abbrev pub case_of : {S O : Type 0} → Attempts S O → StatusCase

@@ -2,8 +2,8 @@
 //!
 //! The order of the variants is their order: the later one is the greater.
 
-ghost use Rattle.std.specs.Prelude.{◌≡◌, IsTrue, ◌↔◌, ◌≤◌, ◌-◌};
-ghost use Rattle.run_model.specs.Levels.{reason_words, status_rank, final_rank};
+ghost use Rattle.std.specs.Prelude.{◌≡◌, IsTrue, ◌↔◌, ◌<◌, ◌≤◌, ◌-◌, Some};
+ghost use Rattle.run_model.specs.Levels.{reason_rank, reason_words, status_rank, final_rank};
 
 /// The least status level that is shown while the run goes on. Each level shows what those before it show.
 #[derive(Clone, Copy, Debug, PartialEq, Eq, PartialOrd, Ord)]
@@ -104,6 +104,13 @@ pub enum CancelReason {
 }
 
 impl CancelReason {
+    /// Whether it replaces the other as the reason of a run.
+    pub fn is_above(self, other: CancelReason) -> bool
+        ensures { IsTrue result ↔ (reason_rank (Some other) < reason_rank (Some self)) }
+    {
+        self > other
+    }
+
     /// The words that a report says it by.
     ///
     /// ```

@@ -5,6 +5,7 @@
 #![tactic(auto)]
 
 pub mod abort;
+pub mod boxed;
 pub mod config;
 pub mod event;
 pub mod level;

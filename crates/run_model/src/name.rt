@@ -1,8 +1,12 @@
 //! Names, which contracts see as the bytes of their texts.
 
-ghost use Rattle.std.specs.Prelude.{◌≡◌, IfOk, MatchOption};
-ghost use Rattle.std.specs.Ordering.{nat_cmp};
-ghost use Rattle.std.specs.Cmp.Lexicographic.{slice_cmp};
+ghost use Rattle.std.specs.Prelude.{◌≡◌, ◌==◌, IfOk, IsTrue, MatchOption, false};
+ghost use Rattle.std.specs.Ordering.{as_partial_cmp, nat_cmp};
+ghost use Rattle.std.specs.Cmp.{partial_order_from_own_ties};
+ghost use Rattle.std.specs.Cmp.Lexicographic.{pointwise, slice_cmp};
+ghost use Rattle.std.specs.Cmp.Rules.{comparing};
+ghost use Rattle.std.proofs.Common.{rules};
+ghost use Rattle.run_model.specs.Instances.{instance_cmp};
 ghost use Rattle.run_model.specs.Names.{module_path_of, last_name_of, option_text};
 
 use crate::memory::OutOfMemory;
@@ -40,12 +44,44 @@ impl RustBinaryId {
     {
         self.text.as_str()
     }
+}
 
-    /// Compares the bytes of the texts.
-    pub fn compare(&self, other: &RustBinaryId) -> Ordering
-        ensures { result ≡ slice_cmp nat_cmp self.now other.now }
-    {
+impl PartialEq for RustBinaryId {
+    ghost eq = { pointwise ◌==◌ };
+
+    ghost laws = { Prim.search (comparing, rules) };
+
+    fn eq(&self, other: &RustBinaryId) -> bool {
+        self.as_str() == other.as_str()
+    }
+}
+
+impl Eq for RustBinaryId {
+    ghost laws = { Prim.search (comparing, rules) };
+}
+
+impl Ord for RustBinaryId {
+    ghost cmp = { slice_cmp nat_cmp };
+
+    ghost total = { Prim.search (comparing, rules) };
+
+    ghost matches_partial_cmp = { Prim.search (comparing, rules) };
+
+    ghost matches_eq = { Prim.search (comparing, rules) };
+
+    // By the bytes of the texts.
+    fn cmp(&self, other: &RustBinaryId) -> Ordering {
         self.as_str().cmp(&other.as_str())
+    }
+}
+
+impl PartialOrd for RustBinaryId {
+    ghost partial_cmp = { as_partial_cmp (slice_cmp nat_cmp) };
+
+    ghost laws = { partial_order_from_own_ties (Prim.search (comparing, rules)) (Prim.search (comparing, rules)) };
+
+    fn partial_cmp(&self, other: &RustBinaryId) -> Option<Ordering> {
+        Some(self.cmp(other))
     }
 }
 
@@ -80,13 +116,6 @@ impl TestCaseName {
         self.text.as_str()
     }
 
-    /// Compares the bytes of the texts.
-    pub fn compare(&self, other: &TestCaseName) -> Ordering
-        ensures { result ≡ slice_cmp nat_cmp self.now other.now }
-    {
-        self.as_str().cmp(&other.as_str())
-    }
-
     /// The text cut at its last `::`: the module path, if there is one, and the name in it.
     ///
     /// ```
@@ -97,6 +126,45 @@ impl TestCaseName {
         ensures name { result.1.now ≡ last_name_of self.now }
     {
         cut_at_last_colons(self.as_str())
+    }
+}
+
+impl PartialEq for TestCaseName {
+    ghost eq = { pointwise ◌==◌ };
+
+    ghost laws = { Prim.search (comparing, rules) };
+
+    fn eq(&self, other: &TestCaseName) -> bool {
+        self.as_str() == other.as_str()
+    }
+}
+
+impl Eq for TestCaseName {
+    ghost laws = { Prim.search (comparing, rules) };
+}
+
+impl Ord for TestCaseName {
+    ghost cmp = { slice_cmp nat_cmp };
+
+    ghost total = { Prim.search (comparing, rules) };
+
+    ghost matches_partial_cmp = { Prim.search (comparing, rules) };
+
+    ghost matches_eq = { Prim.search (comparing, rules) };
+
+    // By the bytes of the texts.
+    fn cmp(&self, other: &TestCaseName) -> Ordering {
+        self.as_str().cmp(&other.as_str())
+    }
+}
+
+impl PartialOrd for TestCaseName {
+    ghost partial_cmp = { as_partial_cmp (slice_cmp nat_cmp) };
+
+    ghost laws = { partial_order_from_own_ties (Prim.search (comparing, rules)) (Prim.search (comparing, rules)) };
+
+    fn partial_cmp(&self, other: &TestCaseName) -> Option<Ordering> {
+        Some(self.cmp(other))
     }
 }
 
@@ -176,12 +244,40 @@ impl ScriptId {
 }
 
 /// A test: its binary's id and its name in it.
-#[derive(Clone, Copy, Debug)]
+///
+/// Its order is by the bytes of the id, then by those of the name.
+#[derive(Clone, Copy, Debug, PartialEq, Eq)]
 pub struct TestInstanceId<'a> {
     /// The binary's id.
     pub binary_id: &'a RustBinaryId,
     /// The test's name.
     pub test_name: &'a TestCaseName,
+}
+
+impl Ord for TestInstanceId<'_> {
+    ghost cmp = { instance_cmp };
+
+    ghost total = { Prim.search (comparing, rules) };
+
+    ghost matches_partial_cmp = { Prim.search (comparing, rules) };
+
+    ghost matches_eq = { Prim.search (comparing, rules) };
+
+    fn cmp(&self, other: &TestInstanceId<'_>) -> Ordering {
+        self.binary_id
+            .cmp(other.binary_id)
+            .then(self.test_name.cmp(other.test_name))
+    }
+}
+
+impl PartialOrd for TestInstanceId<'_> {
+    ghost partial_cmp = { as_partial_cmp instance_cmp };
+
+    ghost laws = { partial_order_from_own_ties (Prim.search (comparing, rules)) (Prim.search (comparing, rules)) };
+
+    fn partial_cmp(&self, other: &TestInstanceId<'_>) -> Option<Ordering> {
+        Some(self.cmp(other))
+    }
 }
 
 /// A test whose names are its own.

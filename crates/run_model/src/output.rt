@@ -1,12 +1,13 @@
 //! What a test or a setup script wrote, as it was captured, and what went wrong with it.
 
-ghost use Rattle.std.specs.Prelude.{◌≡◌, length, ◌==◌, is_ok, true, IfOk};
+ghost use Rattle.std.specs.Prelude.{◌≡◌, [], length, ◌==◌, is_ok, true, IfOk, IsOk};
 ghost use Rattle.std.specs.Cow.{cow_str_bytes, IsOwnedStr};
 ghost use Rattle.std.specs.Str.{encode_utf8_all, IsUtf8};
 ghost use Rattle.bstr.specs.Utf8.{lossy_chars};
 ghost use Rattle.run_model.specs.Outputs.{subslice_value, stdout_part, stderr_part, combined_part, has_errors};
 
 use crate::abort::DescriptionText;
+use crate::boxed::Boxed;
 use crate::memory::OutOfMemory;
 use crate::status::ExecutionResultDescription;
 use bstr::ByteSlice;
@@ -15,6 +16,7 @@ use std::alloc::Global;
 use std::borrow::CowStr;
 use std::fmt;
 use std::marker::Model;
+use std::sync::Arc;
 
 #[cfg(test)]
 mod tests;
@@ -42,39 +44,58 @@ impl OutputSpec for RecordingSpec {
 }
 
 /// The bytes of one stream, or of several that were captured together. Contracts see the bytes.
+///
+/// Most streams are empty: those hold nothing. Others share their bytes with their copies.
 #[derive(Debug, Drop)]
 pub struct ChildSingleOutput {
-    bytes: Bytes,
+    bytes: Option<Arc<Bytes>>,
 }
 
 impl Model for ChildSingleOutput {
-    ghost use Rattle.std.specs.Prelude.{List, ℕ};
+    ghost use Rattle.std.specs.Prelude.{List, ℕ, []};
+    ghost use Rattle.std.specs.Option.{option_map_or};
 
     ghost Value = { List ℕ };
 
-    ghost view = { λ output. output.bytes };
+    ghost view = { λ output. option_map_or (λ b. b.value) output.bytes [] };
 }
 
 impl ChildSingleOutput {
-    /// The output with these bytes. It takes no memory.
-    pub fn new(bytes: Bytes) -> Self
-        ensures { result ≡ bytes }
+    /// The output with these bytes. It takes memory, but for no bytes.
+    pub fn new(alloc: Global, bytes: Bytes) -> Result<Self, OutOfMemory>
+        ensures bytes { IfOk result (λ output. output ≡ bytes) }
+        ensures free { bytes ≡ [] → IsOk result }
     {
-        ChildSingleOutput { bytes }
+        if bytes.is_empty() {
+            return Ok(ChildSingleOutput::empty());
+        }
+        Ok(ChildSingleOutput {
+            bytes: Some(Arc::new(alloc, bytes)?),
+        })
+    }
+
+    /// The output of no bytes.
+    pub fn empty() -> Self
+        ensures { result ≡ [] }
+    {
+        ChildSingleOutput { bytes: None }
     }
 
     /// The bytes.
     pub fn as_bytes(&self) -> &[u8]
         ensures { result.now ≡ self.now }
     {
-        self.bytes.as_slice()
+        match &self.bytes {
+            Some(bytes) => bytes.as_slice(),
+            None => &[],
+        }
     }
 
     /// Whether there are no bytes.
     pub fn is_empty(&self) -> bool
         ensures { result ≡ (length self.now == 0) }
     {
-        self.bytes.is_empty()
+        self.as_bytes().is_empty()
     }
 
     /// The text of the bytes, with U+FFFD for what is no character. It takes no memory where the bytes are UTF-8.
@@ -89,9 +110,11 @@ impl ChildSingleOutput {
     pub fn copy(&self) -> Result<Self, OutOfMemory>
         ensures { IfOk result (λ output. output ≡ self.now) }
     {
-        Ok(ChildSingleOutput {
-            bytes: self.bytes.clone()?,
-        })
+        let bytes = match &self.bytes {
+            Some(bytes) => Some(Arc::try_clone(bytes)?),
+            None => None,
+        };
+        Ok(ChildSingleOutput { bytes })
     }
 }
 
@@ -168,7 +191,7 @@ pub enum ChildExecutionOutputDescription<S: OutputSpec> {
         /// What went wrong while it was run.
         errors: Option<ErrorChain>,
         /// The part of the output to point out.
-        highlight: Option<Highlight>,
+        highlight: Option<Boxed<Highlight>>,
     },
     /// The process could not be started.
     StartError(ErrorChain),
@@ -207,7 +230,7 @@ impl ChildExecutionOutputDescription<LiveSpec> {
                 result: copy_result(alloc, result)?,
                 output: output.copy()?,
                 errors: copy_errors(alloc, errors)?,
-                highlight: copy_highlight(highlight)?,
+                highlight: copy_highlight(alloc, highlight)?,
             },
             ChildExecutionOutputDescription::StartError(errors) =>
                 ChildExecutionOutputDescription::StartError(errors.copy(alloc)?),
@@ -242,11 +265,14 @@ fn copy_errors(
 }
 
 // Another highlight of the same bytes, where there is one.
-fn copy_highlight(highlight: &Option<Highlight>) -> Result<Option<Highlight>, OutOfMemory>
+fn copy_highlight(
+    alloc: Global,
+    highlight: &Option<Boxed<Highlight>>,
+) -> Result<Option<Boxed<Highlight>>, OutOfMemory>
     ensures { IfOk result (λ h. h ≡ highlight.now) }
 {
     match highlight {
-        Some(highlight) => Ok(Some(highlight.copy()?)),
+        Some(highlight) => Ok(Some(Boxed::new(alloc, highlight.get().copy()?)?)),
         None => Ok(None),
     }
 }
@@ -254,6 +280,12 @@ fn copy_highlight(highlight: &Option<Highlight>) -> Result<Option<Highlight>, Ou
 /// An error, and its causes from the nearest to the farthest.
 #[derive(Debug, Drop)]
 pub struct ErrorChain {
+    parts: Box<ErrorParts>,
+}
+
+// What an error chain is made of.
+#[derive(Debug, Drop)]
+struct ErrorParts {
     message: DescriptionText,
     causes: Vec<DescriptionText>,
 }
@@ -263,40 +295,47 @@ impl Model for ErrorChain {
 
     ghost Value = { MessageAndCauses };
 
-    ghost view = { λ chain. record { message = chain.message; causes = chain.causes.items } };
+    ghost view = { λ chain. record { message = chain.parts.value.message; causes = chain.parts.value.causes.items } };
 }
 
 impl ErrorChain {
-    /// The error with this message and these causes. It takes no memory.
-    pub fn new(message: DescriptionText, causes: Vec<DescriptionText>) -> Self
-        ensures message { result.message ≡ message }
-        ensures causes { result.causes ≡ causes.items }
+    /// Takes memory for the error with this message and these causes.
+    pub fn new(
+        alloc: Global,
+        message: DescriptionText,
+        causes: Vec<DescriptionText>,
+    ) -> Result<Self, OutOfMemory>
+        ensures message { IfOk result (λ chain. chain.message ≡ message) }
+        ensures causes { IfOk result (λ chain. chain.causes ≡ causes.items) }
     {
-        ErrorChain { message, causes }
+        Ok(ErrorChain {
+            parts: Box::new(alloc, ErrorParts { message, causes })?,
+        })
     }
 
     /// What went wrong.
     pub fn message(&self) -> &str
         ensures { result.now ≡ self.now.message }
     {
-        self.message.as_str()
+        self.parts.message.as_str()
     }
 
     /// Why, from the nearest cause on.
     pub fn causes(&self) -> &[DescriptionText]
         ensures { result.now ≡ self.now.causes }
     {
-        self.causes.as_slice()
+        self.parts.causes.as_slice()
     }
 
     /// Takes memory for another one.
     pub fn copy(&self, alloc: Global) -> Result<Self, OutOfMemory>
         ensures { IfOk result (λ chain. chain ≡ self.now) }
     {
-        Ok(ErrorChain {
-            message: self.message.copy(alloc)?,
-            causes: copy_causes(alloc, self.causes())?,
-        })
+        ErrorChain::new(
+            alloc,
+            self.parts.message.copy(alloc)?,
+            copy_causes(alloc, self.causes())?,
+        )
     }
 }
 

@@ -1,9 +1,10 @@
 //! How the attempts of a test ended.
 
 ghost use Rattle.std.specs.Prelude.{◌≡◌, ◌≤◌, IfSome, IfNone, IfOk, IsOk, false, [], ◌∷◌, ◌++◌, IsTrue, ◌↔◌};
-ghost use Rattle.run_model.specs.Statuses.{has_text, failure_has_text, is_success, is_leaky_success, is_success_case, case_of, summary_of, summary_by, described_case, described_last, described_prior, described_summary, final_level_of, final_level_by, status_level_of, status_level_by};
+ghost use Rattle.run_model.specs.Statuses.{is_aborted, is_abort, is_success, is_leaky_success, is_success_case, case_of, summary_of, summary_by, described_case, described_last, described_prior, described_summary, final_level_of, final_level_by, status_level_of, status_level_by};
 
 use crate::abort::AbortDescription;
+use crate::boxed::Boxed;
 use crate::level::{FinalStatusLevel, StatusLevel};
 use crate::memory::OutOfMemory;
 use crate::output::{ChildExecutionOutputDescription, LiveSpec, OutputSpec};
@@ -92,7 +93,7 @@ impl ExecutionResultDescription {
     /// Takes memory for another one, where it holds a text.
     pub fn copy(&self, alloc: Global) -> Result<Self, OutOfMemory>
         ensures same { IfOk result (λ r. r ≡ self.now) }
-        ensures free { has_text self.now ≡ false → IsOk result }
+        ensures free { is_aborted self.now ≡ false → IsOk result }
     {
         Ok(match self {
             ExecutionResultDescription::Pass => ExecutionResultDescription::Pass,
@@ -141,7 +142,7 @@ pub enum FailureDescription {
     /// Its process was ended from outside.
     Abort {
         /// How.
-        abort: AbortDescription,
+        abort: Boxed<AbortDescription>,
     },
 }
 
@@ -149,12 +150,12 @@ impl FailureDescription {
     /// Takes memory for another one, where it holds a text.
     pub fn copy(&self, alloc: Global) -> Result<Self, OutOfMemory>
         ensures same { IfOk result (λ f. f ≡ self.now) }
-        ensures free { failure_has_text self.now ≡ false → IsOk result }
+        ensures free { is_abort self.now ≡ false → IsOk result }
     {
         Ok(match self {
             FailureDescription::ExitCode { code } => FailureDescription::ExitCode { code: *code },
             FailureDescription::Abort { abort } => FailureDescription::Abort {
-                abort: abort.copy(alloc)?,
+                abort: Boxed::new(alloc, abort.get().copy(alloc)?)?,
             },
         })
     }
@@ -163,14 +164,14 @@ impl FailureDescription {
 /// An attempt of a test.
 #[derive(Debug, Drop)]
 pub struct ExecuteStatus<S: OutputSpec> {
-    /// Which attempt it is.
-    pub retry_data: RetryData,
-    /// What it wrote.
-    pub output: ChildExecutionOutputDescription<S>,
-    /// How it ended.
-    pub result: ExecutionResultDescription,
     /// How long it ran.
     pub time_taken: Nanos,
+    /// Which attempt it is.
+    pub retry_data: RetryData,
+    /// How it ended.
+    pub result: ExecutionResultDescription,
+    /// What it wrote.
+    pub output: ChildExecutionOutputDescription<S>,
     /// Whether it was marked as slow.
     pub is_slow: bool,
 }
@@ -375,8 +376,8 @@ impl<'a, S: OutputSpec> ExecutionDescription<'a, S> {
 /// The attempts of a test, in order. There is at least one.
 #[derive(Debug, Drop)]
 pub struct ExecutionStatuses<S: OutputSpec> {
-    earlier: Vec<ExecuteStatus<S>>,
     last: ExecuteStatus<S>,
+    earlier: Vec<ExecuteStatus<S>>,
     flaky_result: FlakyResult,
 }
 
@@ -482,7 +483,7 @@ impl<S: OutputSpec> ExecutionStatuses<S> {
     /// What the attempts came to, without what they wrote. It takes memory where the last result holds a text.
     pub fn summary(&self, alloc: Global) -> Result<StatusSummary, OutOfMemory>
         ensures summary { IfOk result (λ s. s ≡ summary_of self.now) }
-        ensures free { has_text self.now.last.result ≡ false → IsOk result }
+        ensures free { is_aborted self.now.last.result ≡ false → IsOk result }
     {
         Ok(StatusSummary {
             case: self.describe().case(),

@@ -46,7 +46,7 @@ fn write_line_of_failure<W: WriteStr>(
 {
     match failure {
         FailureDescription::ExitCode { .. } => Ok(()),
-        FailureDescription::Abort { abort } => write_line_of_abort(w, styles, abort),
+        FailureDescription::Abort { abort } => write_line_of_abort(w, styles, abort.get()),
     }
 }
 

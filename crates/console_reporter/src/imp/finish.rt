@@ -113,7 +113,7 @@ fn is_terminated_failure(failure: &FailureDescription) -> bool
 {
     match failure {
         FailureDescription::ExitCode { .. } => false,
-        FailureDescription::Abort { abort } => is_terminated_abort(abort),
+        FailureDescription::Abort { abort } => is_terminated_abort(abort.get()),
     }
 }
 

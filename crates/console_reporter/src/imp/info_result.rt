@@ -70,7 +70,7 @@ fn write_failure_info<W: WriteStr>(
 {
     match failure {
         FailureDescription::ExitCode { code } => write_exit_code_info(w, styles, *code, leaked),
-        FailureDescription::Abort { abort } => write_abort_info(w, styles, abort, leaked),
+        FailureDescription::Abort { abort } => write_abort_info(w, styles, abort.get(), leaked),
     }
 }
 

@@ -4,10 +4,10 @@ ghost use Rattle.std.specs.Prelude.{◌≡◌, List, IfOk, IsOk, OnOk, OnErr, So
 ghost use Rattle.std.specs.Ordering.{nat_cmp};
 ghost use Rattle.std.specs.Cmp.Lexicographic.{slice_cmp};
 ghost use Rattle.std.specs.List.Sorted.{IsSorted, IsStable};
-ghost use Rattle.run_model.specs.Statuses.{has_text};
+ghost use Rattle.run_model.specs.Statuses.{is_aborted};
 ghost use Rattle.report_text.specs.Writer.{Puts};
 ghost use Rattle.console_reporter.specs.Counters.{counter_key};
-ghost use Rattle.console_reporter.specs.Entries.{counted_cmp, entry_cmp, entry_output, entry_text, finished_entry, instance_cmp, iterated_cmp, iteration_key, output_at_end, entries_text, final_order, IsFinalOrder};
+ghost use Rattle.console_reporter.specs.Entries.{counted_cmp, entry_cmp, entry_output, entry_text, finished_entry, iterated_cmp, iteration_key, output_at_end, entries_text, final_order, IsFinalOrder};
 ghost use Rattle.console_reporter.specs.Finishes.{is_shown_at_end};
 ghost use Rattle.console_reporter.specs.declared.imp.kept.KeptEntry.{KeptEntry};
 
@@ -53,7 +53,7 @@ impl<'a> KeptEntry<'a> {
         run_statuses: &ExecutionStatuses<LiveSpec>,
     ) -> Result<KeptEntry<'a>, OutOfMemory>
         ensures entry { IfOk result (λ e. e ≡ finished_entry 0 stress_index counter instance.entry display run_statuses.now) }
-        ensures free { has_text run_statuses.now.last.result ≡ false → is_shown_at_end 0 display run_statuses.now.last.result ≡ false → IsOk result }
+        ensures free { is_aborted run_statuses.now.last.result ≡ false → is_shown_at_end 0 display run_statuses.now.last.result ≡ false → IsOk result }
     {
         Ok(KeptEntry {
             stress_index,
@@ -125,7 +125,7 @@ fn compare_counted(left: &KeptEntry<'_>, right: &KeptEntry<'_>) -> Ordering
 {
     match compare_counters(left.counter, right.counter) {
         Ordering::Less => Ordering::Less,
-        Ordering::Equal => compare_instances(left.instance, right.instance),
+        Ordering::Equal => left.instance.cmp(&right.instance),
         Ordering::Greater => Ordering::Greater,
     }
 }
@@ -164,17 +164,6 @@ fn compare_shown_counters(left: DisplayCounterIndex, right: DisplayCounterIndex)
         (DisplayCounterIndex::Padded { .. }, DisplayCounterIndex::Counter { .. }) =>
             Ordering::Greater,
         (DisplayCounterIndex::Padded { .. }, DisplayCounterIndex::Padded { .. }) => Ordering::Equal,
-    }
-}
-
-// Compares the bytes of the binaries' ids, then of the tests' names.
-fn compare_instances(left: TestInstanceId<'_>, right: TestInstanceId<'_>) -> Ordering
-    ensures { result ≡ instance_cmp left.entry right.entry }
-{
-    match left.binary_id.compare(right.binary_id) {
-        Ordering::Less => Ordering::Less,
-        Ordering::Equal => left.test_name.compare(right.test_name),
-        Ordering::Greater => Ordering::Greater,
     }
 }
 

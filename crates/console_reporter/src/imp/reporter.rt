@@ -1,6 +1,7 @@
 //! The calls of a reporter, and the run of a list of calls.
 
-ghost use Rattle.std.specs.Prelude.{◌≡◌, ◌≤◌, ◌⊎◌, ◌+◌, List, ℕ, [], ◌∷◌, ◌++◌, OnOk, OnErr, IfErr, IsErrOf, length, reverse, take, true, false};
+ghost use Rattle.std.specs.Prelude.{◌≡◌, ◌≤◌, ◌⊎◌, ◌+◌, List, ℕ, [], ◌∷◌, ◌++◌, OnOk, OnErr, IfErr, IsErrOf, Some, length, reverse, slice_get, take, true, false};
+ghost use Rattle.std.specs.List.{flat_map};
 ghost use Rattle.std.specs.Option.{option_to_list};
 ghost use Rattle.std.specs.List.Sorted.{IsStable};
 ghost use Rattle.run_model.specs.Statuses.{summary_of};
@@ -11,8 +12,8 @@ ghost use Rattle.console_reporter.specs.Configuration.{Configuration, configured
 ghost use Rattle.console_reporter.specs.Entries.{entry_cmp, finished_entry_if, keeps, listed_text, IsListed};
 ghost use Rattle.console_reporter.specs.Finishes.{is_kept};
 ghost use Rattle.console_reporter.specs.Outcomes.{Stops, StopsAfter, IsOfLines, error_for};
-ghost use Rattle.console_reporter.specs.Report.{event_text, text, report, past_at, text_at, AreAccepted};
-ghost use Rattle.console_reporter.specs.Standing.{StandsAfter, HasFailed, IsSameWriter, MayGrow, may_grow_for};
+ghost use Rattle.console_reporter.specs.Report.{event_text, text, texts, report, past_at, text_at, AreAccepted};
+ghost use Rattle.console_reporter.specs.Standing.{StandsAfter, HasFailed, IsSameWriter, MayGrow, MayGrowAt, MayGrowIn, may_grow_for};
 
 use super::builder::DisplayReporterBuilder;
 use super::calls::ReportCall;
@@ -190,6 +191,8 @@ impl<'a, W: WriteStr> DisplayReporter<'a, W> {
         ensures position { IfErr result (λ stop. stop.position ≤ length calls.now) }
         ensures err { IfErr result (λ stop. (config : Configuration) → StandsAfter config [] self.old →
             StopsAfter W.meaning self.old.writer.now (report config (past_at calls.now stop.position)) (text_at config calls.now stop.position) stop.fault self.new.writer.now) }
+        ensures memory { IfErr result (λ stop. (config : Configuration) → StandsAfter config [] self.old → stop.fault ≡ WriteEventError.Memory →
+            W.meaning.may_refuse self.old.writer.now ⊎ MayGrowAt config calls.now stop.position) }
     {
         for position in 0..calls.len() {
             match self.make_call(alloc, &calls[position]) {
@@ -215,6 +218,7 @@ impl<'a, W: WriteStr> DisplayReporter<'a, W> {
             StandsAfter config (call.now ∷ past) self.new) }
         ensures err { IfErr result (λ e. (config : Configuration) (past : List ReportCall) → StandsAfter config past self.old →
             Stops W.meaning self.old.writer.now (text config past call.now) e self.new.writer.now) }
+        ensures memory { IsErrOf result WriteEventError.Memory → W.meaning.may_refuse self.old.writer.now ⊎ MayGrowIn self.old call.now }
     {
         match call {
             ReportCall::Event(event) => self.write_event(event),
@@ -397,6 +401,12 @@ fn write_listed<W: WriteStr>(
     write_entries(w, settings, entries)
 }
 
+/// A report is the texts of its calls, one after another, and the text of each call stands at the call's place.
+pub fn texts_make_the_report()
+    ensures joined { (config : Configuration) (past : List ReportCall) → report config past ≡ flat_map (λ t. t) (texts config past) }
+    ensures placed { (config : Configuration) (later : List ReportCall) (call : ReportCall) (past : List ReportCall) → slice_get (texts config (later ++ call ∷ past)) (length past) ≡ Some (text config past call) }
+{}
+
 /// Makes the calls in order on a reporter of its own, ends the report, and stops at the first fault.
 ///
 /// On `Ok` the writer has accepted the report of the calls and delivered it. On a fault at a place it has accepted the
@@ -424,6 +434,8 @@ pub fn run_report<'a, W: WriteStr>(
         IfErr result (λ stop. StopsAfter W.meaning writer.old (report config (past_at calls.now stop.position)) (text_at config calls.now stop.position) stop.fault writer.new) }
     ensures kept { OnOk result (W.meaning.failures writer.new ≡ W.meaning.failures writer.old) }
     ensures io { IfErr result (λ stop. stop.fault ≡ WriteEventError.Io → W.meaning.failures writer.new ≡ one_further (W.meaning.failures writer.old)) }
+    ensures memory { let config = configured builder use_unicode is_terminal is_ci display_empty_outputs in
+        IfErr result (λ stop. stop.fault ≡ WriteEventError.Memory → W.meaning.may_refuse writer.old ⊎ MayGrowAt config calls.now stop.position) }
     ensures known { IfErr result (λ stop. stop.fault ≡ WriteEventError.Failed → ⊥) }
 {
     let mut reporter = builder.build(

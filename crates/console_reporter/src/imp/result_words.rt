@@ -69,7 +69,7 @@ fn failure_str<'b>(
                 Word::whole("FAIL")
             }
         }
-        FailureDescription::Abort { abort } => abort_str(abort, number),
+        FailureDescription::Abort { abort } => abort_str(abort.get(), number),
     }
 }
 
@@ -135,7 +135,7 @@ fn spaced_short_failure_str<'b>(
                 Word::whole(" FAIL")
             }
         }
-        FailureDescription::Abort { abort } => spaced_short_abort_str(abort, number),
+        FailureDescription::Abort { abort } => spaced_short_abort_str(abort.get(), number),
     }
 }
 

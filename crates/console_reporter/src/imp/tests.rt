@@ -1,6 +1,8 @@
 //! Reporters over writers in memory.
 
-use super::{DisplayReporterBuilder, DisplayerKind, ReportCall, WriteEventError, run_report};
+use super::{
+    DisplayReporterBuilder, DisplayerKind, ReportCall, RunFault, WriteEventError, run_report,
+};
 use report_text::write_str::TextBuffer;
 use run_model::config::{
     CompiledDefaultFilter, CompiledDefaultFilterSection, NextestRunMode, TestOutputDisplay,
@@ -263,5 +265,49 @@ fn a_reporter_has_failed_after_a_fault(rt: HostRuntime) -> Result<(), Fail> {
     drop(reporter);
     let (device, _) = writer.into_inner();
     assert_eq!(rt; device.taken.as_slice(), b"----------".as_slice());
+    Ok(())
+}
+
+// A device that takes every byte, and whose second flush fails.
+#[derive(Drop)]
+struct SecondFlushFails {
+    flushed: bool,
+}
+
+impl Write for SecondFlushFails {
+    fn write(&mut self, buf: &[u8]) -> io::Result<usize> {
+        Ok(buf.len())
+    }
+
+    fn flush(&mut self) -> io::Result<()> {
+        if self.flushed {
+            return Err(io::Error::from(ErrorKind::Other));
+        }
+        self.flushed = true;
+        Ok(())
+    }
+}
+
+#[test]
+fn a_fault_of_the_end_stands_past_the_last_call(rt: HostRuntime) -> Result<(), Fail> {
+    let alloc = rt.alloc();
+    let device = SecondFlushFails { flushed: false };
+    let Ok(mut writer) = TextBuffer::new(alloc, device) else {
+        return Err(Fail::from("there is memory"));
+    };
+    let mut calls = Vec::new(alloc);
+    calls.push(run_finished())?;
+    let outcome = run_report(
+        alloc,
+        builder(alloc)?,
+        &mut writer,
+        false,
+        false,
+        false,
+        false,
+        calls.as_slice(),
+    );
+    let fault = WriteEventError::Io;
+    assert_eq!(rt; outcome, Err(RunFault { position: 1, fault }));
     Ok(())
 }

@@ -1,62 +1,79 @@
 //! A line of a scene, taken apart from left to right.
 
-use super::split::split_at_byte;
-use crate::fault::{LineError, LineFault};
-use memchr::memchr_iter;
-use run_model::memory::OutOfMemory;
+ghost use Rattle.std.specs.Prelude.{◌≡◌, ◌+◌, ◌≤◌, ◌^◌, OnOk, length, Ok};
+ghost use Rattle.report.specs.Cuts.{parted, texts};
+ghost use Rattle.report.specs.Fields.{Place, ReadsBy, TriesBy, answered, next, taken_text};
 
-/// The fields of a line, which tabs part.
-#[derive(Clone, Copy, Debug)]
+use super::split::first_piece;
+use crate::fault::{LineError, LineFault};
+use run_model::memory::OutOfMemory;
+use std::marker::Model;
+
+/// Splits a line into its fields, which tabs part. They take the place of what the list held.
+pub fn split_fields<'a>(line: &'a str, fields: &mut Vec<&'a str>) -> Result<(), OutOfMemory>
+    ensures { OnOk result (texts fields.new.items ≡ parted 9 line.now) }
+{
+    fields.clear();
+    let mut rest = Some(line);
+    while let Some(left) = rest {
+        let (field, after) = first_piece(left, b'\t');
+        fields.push(field)?;
+        rest = after;
+    }
+    Ok(())
+}
+
+/// The fields of a line, which are taken one after the other. Contracts see how many were taken, and those that are left.
+#[derive(Debug, Drop)]
 pub struct Fields<'a> {
-    rest: Option<&'a str>,
+    left: &'a [&'a str],
     number: usize,
+    ghost counted: { number + length left.now ≤ 2 ^ 63 },
+}
+
+impl<'a> Model for Fields<'a> {
+    ghost Value = { Place };
+
+    ghost view = { λ f. record { number = f.number; left = texts f.left.now } };
 }
 
 impl<'a> Fields<'a> {
     /// The fields of a line, none of them taken.
-    pub fn new(line: &'a str) -> Fields<'a> {
+    pub fn new(fields: &'a [&'a str]) -> Fields<'a>
+        ensures { result ≡ record { number = 0; left = texts fields.now } }
+    {
         Fields {
-            rest: Some(line),
+            left: fields,
             number: 0,
         }
     }
 
-    /// Whether no field is left to take.
-    pub fn is_empty(&self) -> bool {
-        self.rest.is_none()
-    }
-
     /// How many fields are left to take.
-    pub fn len(&self) -> usize {
-        match self.rest {
-            Some(rest) => memchr_iter(b'\t', rest.as_bytes())
-                .count()
-                .saturating_add(1),
-            None => 0,
-        }
+    pub fn len(&self) -> usize
+        ensures { result ≡ length self.now.left }
+    {
+        self.left.len()
     }
 
     /// Takes a field.
-    pub fn take(&mut self) -> Result<&'a str, LineFault> {
-        let Some(rest) = self.rest else {
+    pub fn take(&mut self) -> Result<&'a str, LineFault>
+        ensures { next self.old ≡ answered (taken_text result) self.new }
+    {
+        let [field, left @ ..] = self.left else {
             return Err(LineFault::WrongNumberOfFields);
         };
-        self.number = self.number.saturating_add(1);
-        match split_at_byte(rest, b'\t') {
-            Some((field, rest)) => {
-                self.rest = Some(rest);
-                Ok(field)
-            }
-            None => {
-                self.rest = None;
-                Ok(rest)
-            }
-        }
+        self.left = left;
+        self.number += 1;
+        Ok(field)
     }
 
     /// Takes a field, and reads it by a function that answers None where the field is a bad one.
-    pub fn read<T, F: FnOnce(&'a str) -> Option<T>>(&mut self, read: F) -> Result<T, LineFault>
+    pub fn read<T: Drop, F: FnOnce(&'a str) -> Option<T>>(
+        &mut self,
+        read: F,
+    ) -> Result<T, LineFault>
         requires { F.IsAlwaysCallable read }
+        ensures { ReadsBy (F.post read) self.old result self.new }
     {
         let field = self.take()?;
         match read(field) {
@@ -66,11 +83,12 @@ impl<'a> Fields<'a> {
     }
 
     /// Takes a field, and reads it as `read` does, by a function that takes memory.
-    pub fn try_read<T, F: FnOnce(&'a str) -> Result<Option<T>, OutOfMemory>>(
+    pub fn try_read<T: Drop, F: FnOnce(&'a str) -> Result<Option<T>, OutOfMemory>>(
         &mut self,
         read: F,
     ) -> Result<T, LineError>
         requires { F.IsAlwaysCallable read }
+        ensures { TriesBy (λ t value. F.post read t (Ok value)) self.old result self.new }
     {
         let field = self.take()?;
         match read(field)? {

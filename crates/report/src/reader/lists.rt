@@ -4,8 +4,7 @@
 
 ghost use Rattle.std.specs.Prelude.{◌≡◌, ◌<◌, ◌∷◌, false, length, IfOk, IfSome, MatchOption};
 ghost use Rattle.std.specs.Option.{option_map};
-ghost use Rattle.report.specs.Values.{Reads};
-ghost use Rattle.report.specs.Lists.{IsChainText, begins_with_comma, list_words, more_words, words_from};
+ghost use Rattle.report.specs.Lists.{begins_with_comma, chain_in, list_words, more_words, words_from};
 
 use super::split::split_at_byte;
 use super::texts::push_stretch;
@@ -20,7 +19,7 @@ use std::alloc::Global;
 /// read_chain(alloc, r"cannot spawn\,no file") // the message and one cause
 /// ```
 pub fn read_chain(alloc: Global, field: &str) -> Result<Option<ErrorChain>, OutOfMemory>
-    ensures { IfOk result (Reads IsChainText field.now) }
+    ensures { IfOk result (λ chain. chain ≡ chain_in field.now) }
 {
     if field == "-" {
         return Ok(None);
@@ -31,7 +30,7 @@ pub fn read_chain(alloc: Global, field: &str) -> Result<Option<ErrorChain>, OutO
     let Some(causes) = read_words(alloc, rest)? else {
         return Ok(None);
     };
-    Ok(Some(ErrorChain::new(message, causes)))
+    Ok(Some(ErrorChain::new(alloc, message, causes)?))
 }
 
 // The words of a list, where there is one. None is a bad word.

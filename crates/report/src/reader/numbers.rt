@@ -5,7 +5,7 @@
 ghost use Rattle.std.specs.Prelude.{◌≡◌, ◌<◌, ◌^◌};
 ghost use Rattle.std.specs.Option.{SomeIff};
 ghost use Rattle.std.specs.Str.Parse.{IsNumeral, digits_value, signed_digits_value};
-ghost use Rattle.report.specs.Numbers.{IsSigned};
+ghost use Rattle.report.specs.Numbers.{IsSigned, code_in, nanos_in, number_in};
 
 use run_model::time::Nanos;
 
@@ -16,6 +16,13 @@ use run_model::time::Nanos;
 /// read_count("+7") // None
 /// ```
 pub fn read_count(text: &str) -> Option<usize>
+    ensures { result ≡ number_in 64 text.now }
+{
+    parse_count(text)
+}
+
+// The number that digits without a plus write.
+fn parse_count(text: &str) -> Option<usize>
     ensures { SomeIff result (IsNumeral 10 text.now × (digits_value 10 text.now < 2 ^ 64)) (digits_value 10 text.now) }
 {
     if text.starts_with('+') {
@@ -26,6 +33,13 @@ pub fn read_count(text: &str) -> Option<usize>
 
 /// A number of attempts or the like, which is anything that a `u32` holds.
 pub fn read_small_count(text: &str) -> Option<u32>
+    ensures { result ≡ number_in 32 text.now }
+{
+    parse_small_count(text)
+}
+
+// The same of 32 bits.
+fn parse_small_count(text: &str) -> Option<u32>
     ensures { SomeIff result (IsNumeral 10 text.now × (digits_value 10 text.now < 2 ^ 32)) (digits_value 10 text.now) }
 {
     if text.starts_with('+') {
@@ -36,13 +50,29 @@ pub fn read_small_count(text: &str) -> Option<u32>
 
 /// A duration in nanoseconds.
 pub fn read_nanos(text: &str) -> Option<Nanos>
-    ensures { SomeIff result (IsNumeral 10 text.now × (digits_value 10 text.now < 2 ^ 128)) (record { 0 = digits_value 10 text.now }) }
+    ensures { result ≡ nanos_in text.now }
+{
+    Some(Nanos(read_wide_count(text)?))
+}
+
+// A number of 128 bits.
+fn read_wide_count(text: &str) -> Option<u128>
+    ensures { result ≡ number_in 128 text.now }
+{
+    parse_wide_count(text)
+}
+
+// The number of 128 bits that digits without a plus write. Most fit 64 bits, whose parsing takes half the time.
+fn parse_wide_count(text: &str) -> Option<u128>
+    ensures { SomeIff result (IsNumeral 10 text.now × (digits_value 10 text.now < 2 ^ 128)) (digits_value 10 text.now) }
 {
     if text.starts_with('+') {
         return None;
     }
-    let nanos = text.parse().ok()?;
-    Some(Nanos(nanos))
+    if let Ok(number) = text.parse::<u64>() {
+        return Some(u128::from(number));
+    }
+    text.parse().ok()
 }
 
 /// An exit code or the like, which may have a minus in front.
@@ -51,6 +81,13 @@ pub fn read_nanos(text: &str) -> Option<Nanos>
 /// read_code("-0") // Some(0)
 /// ```
 pub fn read_code(text: &str) -> Option<i32>
+    ensures { result ≡ code_in text.now }
+{
+    parse_code(text)
+}
+
+// The number that digits write, perhaps after a minus.
+fn parse_code(text: &str) -> Option<i32>
     ensures { SomeIff result (IsSigned text.now) (signed_digits_value 10 text.now) }
 {
     if text.starts_with('+') {

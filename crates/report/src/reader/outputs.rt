@@ -4,10 +4,10 @@
 //! but `-` is a bad field.
 
 ghost use Rattle.std.specs.Prelude.{◌≡◌, IfOk};
-ghost use Rattle.report.specs.Texts.{unescaped};
-ghost use Rattle.report.specs.Values.{Reads, ReadsWord};
-ghost use Rattle.report.specs.Outputs.{IsHighlightText, IsStreamText, highlight_stream_word, output_form_word};
-ghost use Rattle.report.specs.Lists.{IsErrorsText};
+ghost use Rattle.report.specs.Fields.{Gives};
+ghost use Rattle.report.specs.Lists.{errors_in};
+ghost use Rattle.report.specs.Outputs.{after_streams, highlight_in, highlight_stream_in, output_fields, output_form_in, stream_in};
+ghost use Rattle.report.specs.Texts.{bytes_in};
 
 use super::fields::Fields;
 use super::lists::read_chain;
@@ -17,6 +17,7 @@ use super::texts::read_bytes;
 use super::values::read_absent;
 use crate::fault::LineError;
 use bytes::Bytes;
+use run_model::boxed::Boxed;
 use run_model::memory::OutOfMemory;
 use run_model::output::{
     ChildExecutionOutputDescription, ChildOutputDescription, ChildSingleOutput, ErrorChain,
@@ -38,7 +39,7 @@ pub enum OutputForm {
 
 /// The form of an output.
 pub fn read_output_form(field: &str) -> Option<OutputForm>
-    ensures { ReadsWord output_form_word field.now result }
+    ensures { result ≡ output_form_in field.now }
 {
     match field {
         "split" => Some(OutputForm::Split),
@@ -49,66 +50,82 @@ pub fn read_output_form(field: &str) -> Option<OutputForm>
 }
 
 /// Reads what an attempt wrote that ended so.
+#[tactic(auto, unfolding(crate::specs::Outputs::output_fields))]
 pub fn read_output(
     alloc: Global,
     fields: &mut Fields<'_>,
     outcome: &ExecutionResultDescription,
-) -> Result<ChildExecutionOutputDescription<LiveSpec>, LineError> {
-    let output = match fields.read(read_output_form)? {
-        OutputForm::Split => ChildOutputDescription::Split {
-            stdout: fields.try_read(|field| read_stream(alloc, field))?,
-            stderr: fields.try_read(|field| read_stream(alloc, field))?,
-        },
+) -> Result<ChildExecutionOutputDescription<LiveSpec>, LineError>
+    ensures { Gives (λ o. o) fields.old result fields.new (output_fields outcome.now) }
+{
+    match fields.read(read_output_form)? {
+        OutputForm::Split => {
+            let stdout = fields.try_read(|field| read_stream(alloc, field))?;
+            let stderr = fields.try_read(|field| read_stream(alloc, field))?;
+            let output = ChildOutputDescription::Split { stdout, stderr };
+            read_after_streams(alloc, fields, outcome, output)
+        }
         OutputForm::Combined => {
             let output = fields.try_read(|field| read_single(alloc, field))?;
             fields.read(read_absent)?;
-            ChildOutputDescription::Combined { output }
+            let output = ChildOutputDescription::Combined { output };
+            read_after_streams(alloc, fields, outcome, output)
         }
-        OutputForm::StartError => return read_start_error(alloc, fields),
-    };
+        OutputForm::StartError => {
+            let error = fields.try_read(|field| read_chain(alloc, field))?;
+            fields.read(read_absent)?;
+            fields.read(read_absent)?;
+            fields.read(read_absent)?;
+            Ok(ChildExecutionOutputDescription::StartError(error))
+        }
+    }
+}
+
+// Reads the errors and the highlight that follow the streams of an attempt that ended so.
+#[tactic(auto, unfolding(crate::specs::Outputs::after_streams))]
+fn read_after_streams(
+    alloc: Global,
+    fields: &mut Fields<'_>,
+    outcome: &ExecutionResultDescription,
+    output: ChildOutputDescription,
+) -> Result<ChildExecutionOutputDescription<LiveSpec>, LineError>
+    ensures { Gives (λ o. o) fields.old result fields.new (after_streams outcome.now output) }
+{
+    let errors = fields.try_read(|field| read_errors(alloc, field))?;
+    let highlight = fields.try_read(|field| read_highlight(alloc, field))?;
     Ok(ChildExecutionOutputDescription::Output {
         result: Some(outcome.copy(alloc)?),
         output,
-        errors: fields.try_read(|field| read_errors(alloc, field))?,
-        highlight: fields.try_read(|field| read_highlight(alloc, field))?,
+        errors,
+        highlight,
     })
 }
 
-// Reads why a process could not be started, after which nothing is there.
-fn read_start_error(
-    alloc: Global,
-    fields: &mut Fields<'_>,
-) -> Result<ChildExecutionOutputDescription<LiveSpec>, LineError> {
-    let error = fields.try_read(|field| read_chain(alloc, field))?;
-    fields.read(read_absent)?;
-    fields.read(read_absent)?;
-    fields.read(read_absent)?;
-    Ok(ChildExecutionOutputDescription::StartError(error))
-}
-
 // A stream's bytes, or `-` where it was not captured.
+#[tactic(auto, unfolding(crate::specs::Texts::unescaped_after))]
 fn read_stream(alloc: Global, field: &str) -> Result<Option<Option<ChildSingleOutput>>, OutOfMemory>
-    ensures { IfOk result (Reads IsStreamText field.now) }
+    ensures { IfOk result (λ stream. stream ≡ stream_in field.now) }
 {
     match field {
         "-" => Ok(Some(None)),
+        "" => Ok(Some(Some(ChildSingleOutput::empty()))),
         _ => Ok(read_single(alloc, field)?.map(Some)),
     }
 }
 
 // The bytes of one stream, or of both together.
 fn read_single(alloc: Global, field: &str) -> Result<Option<ChildSingleOutput>, OutOfMemory>
-    ensures { IfOk result (λ output. output ≡ unescaped 255 field.now) }
+    ensures { IfOk result (λ output. output ≡ bytes_in field.now) }
 {
     match read_bytes(alloc, field)? {
-        Some(bytes) => Ok(Some(ChildSingleOutput::new(Bytes::from_vec(bytes)?))),
+        Some(bytes) => Ok(Some(ChildSingleOutput::new(alloc, Bytes::from_vec(bytes)?)?)),
         None => Ok(None),
     }
 }
 
 // What went wrong while an attempt was run, or `-`.
 fn read_errors(alloc: Global, field: &str) -> Result<Option<Option<ErrorChain>>, OutOfMemory>
-    ensures { IfOk result (Reads IsErrorsText field.now) }
+    ensures { IfOk result (λ errors. errors ≡ errors_in field.now) }
 {
     match field {
         "-" => Ok(Some(None)),
@@ -117,8 +134,11 @@ fn read_errors(alloc: Global, field: &str) -> Result<Option<Option<ErrorChain>>,
 }
 
 // The part of the output to point out: its stream, the place of its first byte, and its bytes; or `-`.
-fn read_highlight(alloc: Global, field: &str) -> Result<Option<Option<Highlight>>, OutOfMemory>
-    ensures { IfOk result (Reads IsHighlightText field.now) }
+fn read_highlight(
+    alloc: Global,
+    field: &str,
+) -> Result<Option<Option<Boxed<Highlight>>>, OutOfMemory>
+    ensures { IfOk result (λ highlight. highlight ≡ highlight_in field.now) }
 {
     let Some((stream, rest)) = split_at_byte(field, b':') else {
         return Ok(read_absent(field).map(|()| None));
@@ -132,16 +152,17 @@ fn read_highlight(alloc: Global, field: &str) -> Result<Option<Option<Highlight>
     let Some(slice) = read_bytes(alloc, slice)? else {
         return Ok(None);
     };
-    Ok(Some(Some(Highlight {
+    let highlight = Highlight {
         stream,
         start,
         slice: Bytes::from_vec(slice)?,
-    })))
+    };
+    Ok(Some(Some(Boxed::new(alloc, highlight)?)))
 }
 
 // The stream that a highlight stands in.
 fn read_highlight_stream(field: &str) -> Option<HighlightStream>
-    ensures { ReadsWord highlight_stream_word field.now result }
+    ensures { result ≡ highlight_stream_in field.now }
 {
     match field {
         "out" => Some(HighlightStream::Stdout),

@@ -3,17 +3,17 @@
 //! It is a word, as `pass`, or a word and what it tells of after a colon, as `fail:1`. A name or a message is a text, and
 //! goes on to the end of the field.
 
-ghost use Rattle.std.specs.Prelude.{◌≡◌, None, true, false, IfOk};
-ghost use Rattle.std.specs.Option.{SomeIff};
-ghost use Rattle.std.specs.Str.Parse.{signed_digits_value};
-ghost use Rattle.report.specs.Numbers.{IsSigned};
-ghost use Rattle.report.specs.Values.{Reads};
-ghost use Rattle.report.specs.Results.{IsResultText, IsPlainText, IsToldText, IsSignalText, IsStatusText, exit_code, signal_of};
+ghost use Rattle.std.specs.Prelude.{◌≡◌, IfOk};
+ghost use Rattle.std.specs.Option.{option_map};
+ghost use Rattle.report.specs.Cuts.{cut};
+ghost use Rattle.report.specs.Numbers.{code_in};
+ghost use Rattle.report.specs.Results.{aborted, exit_code, nameless_signal, plain_in, result_in, signal_cut, status_cut, told_in};
 
 use super::numbers::read_code;
 use super::split::split_at_byte;
 use super::texts::read_text;
 use run_model::abort::{AbortDescription, DescriptionText};
+use run_model::boxed::Boxed;
 use run_model::memory::OutOfMemory;
 use run_model::status::{
     ExecutionResultDescription, FailureDescription, LeakTimeoutResult, SlowTimeoutResult,
@@ -25,23 +25,24 @@ use std::alloc::Global;
 /// ```
 /// read_result(alloc, "sig:11:SEGV") // ended by signal 11, whose name is SIGSEGV
 /// ```
+#[tactic(auto, unfolding(crate::specs::Results::result_in))]
 pub fn read_result(
     alloc: Global,
     field: &str,
 ) -> Result<Option<ExecutionResultDescription>, OutOfMemory>
-    ensures { IfOk result (Reads IsResultText field.now) }
+    ensures { IfOk result (λ outcome. outcome ≡ result_in field.now) }
 {
     match split_at_byte(field, b':') {
-        None => Ok(read_plain(field)),
+        None => read_plain(alloc, field),
         Some((word, rest)) => read_told(alloc, word, rest),
     }
 }
 
 // A result that is one word.
-fn read_plain(field: &str) -> Option<ExecutionResultDescription>
-    ensures { Reads IsPlainText field.now result }
+fn read_plain(alloc: Global, field: &str) -> Result<Option<ExecutionResultDescription>, OutOfMemory>
+    ensures { IfOk result (λ outcome. outcome ≡ plain_in field.now) }
 {
-    match field {
+    Ok(match field {
         "pass" => Some(ExecutionResultDescription::Pass),
         "leak" => Some(ExecutionResultDescription::Leak {
             result: LeakTimeoutResult::Pass,
@@ -49,7 +50,7 @@ fn read_plain(field: &str) -> Option<ExecutionResultDescription>
         "leakfail" => Some(ExecutionResultDescription::Leak {
             result: LeakTimeoutResult::Fail,
         }),
-        "job" => Some(aborted(AbortDescription::WindowsJobObject)),
+        "job" => Some(aborted(alloc, AbortDescription::WindowsJobObject, false)?),
         "exec" => Some(ExecutionResultDescription::ExecFail),
         "tmpass" => Some(ExecutionResultDescription::Timeout {
             result: SlowTimeoutResult::Pass,
@@ -58,7 +59,7 @@ fn read_plain(field: &str) -> Option<ExecutionResultDescription>
             result: SlowTimeoutResult::Fail,
         }),
         _ => None,
-    }
+    })
 }
 
 // A result whose word has something to tell of.
@@ -67,13 +68,13 @@ fn read_told(
     word: &str,
     rest: &str,
 ) -> Result<Option<ExecutionResultDescription>, OutOfMemory>
-    ensures { IfOk result (Reads (λ v. IsToldText v word.now) rest.now) }
+    ensures { IfOk result (λ outcome. outcome ≡ told_in word.now rest.now) }
 {
     match word {
         "fail" => Ok(read_exit_code(rest, false)),
         "fail+leak" => Ok(read_exit_code(rest, true)),
         "sig" => read_signal(alloc, rest),
-        "sig+leak" => Ok(read_leaking_signal(rest)),
+        "sig+leak" => read_nameless_signal(alloc, rest, true),
         "nt" => read_status(alloc, rest),
         _ => Ok(None),
     }
@@ -81,7 +82,7 @@ fn read_told(
 
 // A failure by an exit code.
 fn read_exit_code(code: &str, leaked: bool) -> Option<ExecutionResultDescription>
-    ensures { SomeIff result (IsSigned code.now) (exit_code (signed_digits_value 10 code.now) leaked) }
+    ensures { result ≡ option_map (exit_code leaked) (code_in code.now) }
 {
     Some(ExecutionResultDescription::Fail {
         failure: FailureDescription::ExitCode {
@@ -93,43 +94,39 @@ fn read_exit_code(code: &str, leaked: bool) -> Option<ExecutionResultDescription
 
 // A signal by its number, which its name may follow.
 fn read_signal(alloc: Global, text: &str) -> Result<Option<ExecutionResultDescription>, OutOfMemory>
-    ensures { IfOk result (Reads IsSignalText text.now) }
+    ensures { IfOk result (λ outcome. outcome ≡ signal_cut text.now (cut 58 text.now)) }
 {
-    let (number, name) = match split_at_byte(text, b':') {
-        None => (text, None),
-        Some((number, name)) => (number, Some(name)),
+    let Some((number, name)) = split_at_byte(text, b':') else {
+        return read_nameless_signal(alloc, text, false);
     };
     let Some(signal) = read_code(number) else {
         return Ok(None);
-    };
-    let Some(name) = name else {
-        return Ok(Some(aborted(AbortDescription::UnixSignal { signal, name: None })));
     };
     let Some(name) = read_text(alloc, name)? else {
         return Ok(None);
     };
     let name = Some(DescriptionText::new(alloc, name.as_str())?);
-    Ok(Some(aborted(AbortDescription::UnixSignal { signal, name })))
+    Ok(Some(aborted(alloc, AbortDescription::UnixSignal { signal, name }, false)?))
 }
 
-// A signal by its number, where handles were left open.
-fn read_leaking_signal(number: &str) -> Option<ExecutionResultDescription>
-    ensures { SomeIff result (IsSigned number.now) (signal_of (signed_digits_value 10 number.now) None true) }
+// A signal by its number alone.
+fn read_nameless_signal(
+    alloc: Global,
+    number: &str,
+    leaked: bool,
+) -> Result<Option<ExecutionResultDescription>, OutOfMemory>
+    ensures { IfOk result (λ outcome. outcome ≡ option_map (nameless_signal leaked) (code_in number.now)) }
 {
-    Some(ExecutionResultDescription::Fail {
-        failure: FailureDescription::Abort {
-            abort: AbortDescription::UnixSignal {
-                signal: read_code(number)?,
-                name: None,
-            },
-        },
-        leaked: true,
-    })
+    let Some(signal) = read_code(number) else {
+        return Ok(None);
+    };
+    let abort = AbortDescription::UnixSignal { signal, name: None };
+    Ok(Some(aborted(alloc, abort, leaked)?))
 }
 
 // A status of Windows by its number, and what the system says of it.
 fn read_status(alloc: Global, text: &str) -> Result<Option<ExecutionResultDescription>, OutOfMemory>
-    ensures { IfOk result (Reads IsStatusText text.now) }
+    ensures { IfOk result (λ outcome. outcome ≡ status_cut (cut 58 text.now)) }
 {
     let Some((number, message)) = split_at_byte(text, b':') else {
         return Ok(None);
@@ -141,15 +138,25 @@ fn read_status(alloc: Global, text: &str) -> Result<Option<ExecutionResultDescri
         return Ok(None);
     };
     let message = Some(DescriptionText::new(alloc, message.as_str())?);
-    Ok(Some(aborted(AbortDescription::WindowsNtStatus { code, message })))
+    Ok(Some(aborted(
+        alloc,
+        AbortDescription::WindowsNtStatus { code, message },
+        false,
+    )?))
 }
 
-// A failure from outside that left no handles open.
-fn aborted(abort: AbortDescription) -> ExecutionResultDescription
-    ensures { result ≡ ExecutionResultDescription.Fail (FailureDescription.Abort abort) false }
+// A failure from outside.
+fn aborted(
+    alloc: Global,
+    abort: AbortDescription,
+    leaked: bool,
+) -> Result<ExecutionResultDescription, OutOfMemory>
+    ensures { IfOk result (λ outcome. outcome ≡ aborted leaked abort) }
 {
-    ExecutionResultDescription::Fail {
-        failure: FailureDescription::Abort { abort },
-        leaked: false,
-    }
+    Ok(ExecutionResultDescription::Fail {
+        failure: FailureDescription::Abort {
+            abort: Boxed::new(alloc, abort)?,
+        },
+        leaked,
+    })
 }

@@ -6,7 +6,7 @@
 ghost use Rattle.std.specs.Prelude.{◌≡◌, ◌≤◌, ◌<◌, ◌-◌, ◌+◌, ◌*◌, ◌∷◌, ◌++◌, ◌==◌, List, ℕ, Some, None, drop, length, slice_index, string_bytes, IfOk, IfSome, MatchOption};
 ghost use Rattle.std.specs.Char.{digit_value};
 ghost use Rattle.std.specs.Option.{option_map, SomeIff};
-ghost use Rattle.report.specs.Texts.{cow_text, AddsStretch, IsPlain, escape_byte, escape_len, unescaped};
+ghost use Rattle.report.specs.Texts.{cow_text, AddsStretch, IsPlain, bytes_in, escape_byte, escape_len, text_in};
 
 use super::split::split_at_byte;
 use run_model::memory::OutOfMemory;
@@ -22,7 +22,7 @@ const ASCII: u8 = 0x7f;
 /// read_text(alloc, r"a\tb") // a, a tab and b
 /// ```
 pub fn read_text(alloc: Global, field: &str) -> Result<Option<CowStr<'_, Global>>, OutOfMemory>
-    ensures { IfOk result (λ text. option_map cow_text text ≡ unescaped 127 field.now) }
+    ensures { IfOk result (λ text. option_map cow_text text ≡ text_in field.now) }
 {
     if split_at_byte(field, b'\\').is_none() {
         return Ok(Some(CowStr::Borrowed(field)));
@@ -57,7 +57,7 @@ pub fn push_stretch<'a>(
 
 /// The bytes that a test wrote. None is a bad field.
 pub fn read_bytes(alloc: Global, field: &str) -> Result<Option<Vec<u8>>, OutOfMemory>
-    ensures { IfOk result (λ bytes. option_map (λ v. v.items) bytes ≡ unescaped 255 field.now) }
+    ensures { IfOk result (λ bytes. option_map (λ v. v.items) bytes ≡ bytes_in field.now) }
 {
     let mut bytes = Vec::with_capacity(alloc, field.len())?;
     let mut rest = field;

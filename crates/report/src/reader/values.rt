@@ -1,16 +1,17 @@
 //! What the fields of a scene may hold. Each function answers None for a bad field.
 
-ghost use Rattle.std.specs.Prelude.{◌≡◌, ◌↔◌, IsSome, codes};
-ghost use Rattle.run_model.specs.Displays.{display_name};
-ghost use Rattle.report.specs.Values.{Reads, ReadsWord, IsStressText, config_key_word, flag_word, flaky_word, mode_word, final_level_word, reason_word};
+ghost use Rattle.std.specs.Prelude.{◌≡◌};
+ghost use Rattle.report.specs.Values.{absent_in, config_key_in, display_in, final_level_in, flag_in, flaky_in, mode_in, non_zero, reason_in, stress_in, zero_in};
+ghost use Rattle.uuid.specs.Text.{parsed};
 
-use super::numbers::read_small_count;
+use super::numbers::{read_count, read_small_count};
 use super::split::split_at_byte;
 use run_model::config::{NextestRunMode, TestOutputDisplay};
 use run_model::level::{CancelReason, FinalStatusLevel};
 use run_model::status::FlakyResult;
 use run_model::stress::StressIndex;
 use std::num::NonZeroU32;
+use uuid::Uuid;
 
 /// What a `config` line can set.
 #[derive(Clone, Copy, Debug, PartialEq, Eq)]
@@ -37,7 +38,7 @@ pub enum ConfigKey {
 
 /// The key of a `config` line.
 pub fn read_config_key(field: &str) -> Option<ConfigKey>
-    ensures { ReadsWord config_key_word field.now result }
+    ensures { result ≡ config_key_in field.now }
 {
     match field {
         "final" => Some(ConfigKey::Final),
@@ -55,7 +56,7 @@ pub fn read_config_key(field: &str) -> Option<ConfigKey>
 
 /// The absent value, `-`.
 pub fn read_absent(field: &str) -> Option<()>
-    ensures { IsSome result ↔ (field.now ≡ codes "-") }
+    ensures { result ≡ absent_in field.now }
 {
     match field {
         "-" => Some(()),
@@ -63,9 +64,29 @@ pub fn read_absent(field: &str) -> Option<()>
     }
 }
 
+/// The count of something that is not there, `0`.
+pub fn read_zero(field: &str) -> Option<()>
+    ensures { result ≡ zero_in field.now }
+{
+    match read_count(field) {
+        Some(0) => Some(()),
+        _ => None,
+    }
+}
+
+/// The id of a run, in any form that a UUID has.
+pub fn read_run_id(field: &str) -> Option<Uuid>
+    ensures { result ≡ parsed field.now }
+{
+    match Uuid::parse_str(field) {
+        Ok(id) => Some(id),
+        Err(_) => None,
+    }
+}
+
 /// Yes or no, as `1` or `0`.
 pub fn read_flag(field: &str) -> Option<bool>
-    ensures { ReadsWord flag_word field.now result }
+    ensures { result ≡ flag_in field.now }
 {
     match field {
         "0" => Some(false),
@@ -76,7 +97,7 @@ pub fn read_flag(field: &str) -> Option<bool>
 
 /// Whether a run runs tests or benchmarks, as `0` or `1`.
 pub fn read_mode(field: &str) -> Option<NextestRunMode>
-    ensures { ReadsWord mode_word field.now result }
+    ensures { result ≡ mode_in field.now }
 {
     match field {
         "0" => Some(NextestRunMode::Test),
@@ -87,7 +108,7 @@ pub fn read_mode(field: &str) -> Option<NextestRunMode>
 
 /// The level from which on the summary lists a test.
 pub fn read_final_level(field: &str) -> Option<FinalStatusLevel>
-    ensures { ReadsWord final_level_word field.now result }
+    ensures { result ≡ final_level_in field.now }
 {
     match field {
         "none" => Some(FinalStatusLevel::None),
@@ -104,14 +125,14 @@ pub fn read_final_level(field: &str) -> Option<FinalStatusLevel>
 
 /// When an output is shown.
 pub fn read_display(field: &str) -> Option<TestOutputDisplay>
-    ensures { ReadsWord display_name field.now result }
+    ensures { result ≡ display_in field.now }
 {
     TestOutputDisplay::from_name(field)
 }
 
 /// What a success after earlier attempts counts as.
 pub fn read_flaky_result(field: &str) -> Option<FlakyResult>
-    ensures { ReadsWord flaky_word field.now result }
+    ensures { result ≡ flaky_in field.now }
 {
     match field {
         "pass" => Some(FlakyResult::Pass),
@@ -126,7 +147,7 @@ pub fn read_flaky_result(field: &str) -> Option<FlakyResult>
 /// read_stress_index("0/3") // the first of three
 /// ```
 pub fn read_stress_index(field: &str) -> Option<Option<StressIndex>>
-    ensures { Reads IsStressText field.now result }
+    ensures { result ≡ stress_in field.now }
 {
     match split_at_byte(field, b'/') {
         None if field == "-" => Some(None),
@@ -136,14 +157,21 @@ pub fn read_stress_index(field: &str) -> Option<Option<StressIndex>>
         })),
         Some((current, total)) => Some(Some(StressIndex {
             current: read_small_count(current)?,
-            total: Some(NonZeroU32::new(read_small_count(total)?)?),
+            total: Some(non_zero(read_small_count(total)?)?),
         })),
     }
 }
 
+// The number, unless it is 0.
+fn non_zero(number: u32) -> Option<NonZeroU32>
+    ensures { result ≡ non_zero number }
+{
+    NonZeroU32::new(number)
+}
+
 /// Why a run is cancelled.
 pub fn read_reason(field: &str) -> Option<CancelReason>
-    ensures { ReadsWord reason_word field.now result }
+    ensures { result ≡ reason_in field.now }
 {
     match field {
         "setup-script-failure" => Some(CancelReason::SetupScriptFailure),

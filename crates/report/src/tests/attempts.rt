@@ -159,9 +159,10 @@ fn counts_the_fields_of_attempts(rt: HostRuntime) -> Result<(), Fail> {
 #[test]
 fn holds_the_last_attempt(rt: HostRuntime) -> Result<(), Fail> {
     let scene = judge(rt.alloc(), &OPTIONS, TWO_ATTEMPTS.as_bytes())?;
-    let [SceneEvent::TestFinished { run_statuses, .. }] = scene.events.as_slice() else {
+    let [SceneEvent::TestFinished { attempts, .. }] = scene.events.as_slice() else {
         return Err(Fail::from("one test has finished"));
     };
+    let run_statuses = attempts.statuses(rt.alloc())?;
     let last = run_statuses.last_status();
     let retry_data = RetryData {
         attempt: 2,
@@ -182,9 +183,10 @@ fn holds_the_last_attempt(rt: HostRuntime) -> Result<(), Fail> {
 #[test]
 fn holds_earlier_attempts(rt: HostRuntime) -> Result<(), Fail> {
     let scene = judge(rt.alloc(), &OPTIONS, TWO_ATTEMPTS.as_bytes())?;
-    let [SceneEvent::TestFinished { run_statuses, .. }] = scene.events.as_slice() else {
+    let [SceneEvent::TestFinished { attempts, .. }] = scene.events.as_slice() else {
         return Err(Fail::from("one test has finished"));
     };
+    let run_statuses = attempts.statuses(rt.alloc())?;
     let ExecutionDescription::Flaky {
         prior_statuses: [first],
         ..
@@ -203,7 +205,7 @@ fn holds_earlier_attempts(rt: HostRuntime) -> Result<(), Fail> {
     };
     assert_eq!(rt; errors.message(), "e");
     assert_eq!(rt; errors.causes().len(), 1);
-    assert_eq!(rt; highlight.start, 2);
-    assert_eq!(rt; highlight.slice.as_slice(), b"e".as_slice());
+    assert_eq!(rt; highlight.get().start, 2);
+    assert_eq!(rt; highlight.get().slice.as_slice(), b"e".as_slice());
     Ok(())
 }

@@ -5,6 +5,7 @@ use super::{
     Highlight, HighlightStream, LiveSpec, RecordedOutput, RecordingSpec,
 };
 use crate::abort::DescriptionText;
+use crate::boxed::Boxed;
 use crate::status::{ExecutionResultDescription, LeakTimeoutResult};
 use bytes::Bytes;
 use std::alloc::Global;
@@ -17,7 +18,7 @@ fn an_output_is_read_as_text(rt: HostRuntime) -> Result<(), Fail> {
         (b"ab\n".as_slice(), "ab\n"),
         (b"a\xffb\xe2\x82".as_slice(), "a\u{fffd}b\u{fffd}"),
     ] {
-        let output = ChildSingleOutput::new(Bytes::from_static(bytes));
+        let output = ChildSingleOutput::new(rt.alloc(), Bytes::from_static(bytes))?;
         assert_eq!(rt; output.as_bytes(), bytes);
         assert_eq!(rt; output.is_empty(), bytes.is_empty());
         let text = output.as_str_lossy(rt.alloc())?;
@@ -34,7 +35,7 @@ fn recorded(
 ) -> Result<ChildExecutionOutputDescription<RecordingSpec>, Fail> {
     let message = DescriptionText::new(alloc, "cannot spawn")?;
     let errors = if has_failed {
-        Some(ErrorChain::new(message, Vec::new(alloc)))
+        Some(ErrorChain::new(alloc, message, Vec::new(alloc))?)
     } else {
         None
     };
@@ -67,7 +68,7 @@ fn a_start_error_is_an_error(rt: HostRuntime) -> Result<(), Fail> {
     let alloc = rt.alloc();
     let mut causes = Vec::new(alloc);
     causes.push(DescriptionText::new(alloc, "no file")?)?;
-    let chain = ErrorChain::new(DescriptionText::new(alloc, "cannot spawn")?, causes);
+    let chain = ErrorChain::new(alloc, DescriptionText::new(alloc, "cannot spawn")?, causes)?;
     assert_eq!(rt; chain.copy(alloc)?.causes()[0].as_str(), "no file");
     assert_eq!(rt; chain.message(), "cannot spawn");
     let output: ChildExecutionOutputDescription<RecordingSpec> =
@@ -95,20 +96,22 @@ fn a_highlight_stands_in_one_stream(rt: HostRuntime) -> Result<(), Fail> {
 
 #[test]
 fn a_copy_has_the_same_bytes(rt: HostRuntime) -> Result<(), Fail> {
+    let alloc = rt.alloc();
+    let highlight = Highlight {
+        stream: HighlightStream::Combined,
+        start: 3,
+        slice: Bytes::from_static(b"panicked"),
+    };
     let output: ChildExecutionOutputDescription<LiveSpec> =
         ChildExecutionOutputDescription::Output {
             result: Some(ExecutionResultDescription::ExecFail),
             output: ChildOutputDescription::Combined {
-                output: ChildSingleOutput::new(Bytes::from_static(b"it panicked")),
+                output: ChildSingleOutput::new(alloc, Bytes::from_static(b"it panicked"))?,
             },
             errors: None,
-            highlight: Some(Highlight {
-                stream: HighlightStream::Combined,
-                start: 3,
-                slice: Bytes::from_static(b"panicked"),
-            }),
+            highlight: Some(Boxed::new(alloc, highlight)?),
         };
-    let copy = output.copy(rt.alloc())?;
+    let copy = output.copy(alloc)?;
     let ChildExecutionOutputDescription::Output {
         output: ChildOutputDescription::Combined { output },
         highlight: Some(highlight),
@@ -118,6 +121,6 @@ fn a_copy_has_the_same_bytes(rt: HostRuntime) -> Result<(), Fail> {
         return Err(Fail::from("it is the same form of output"));
     };
     assert_eq!(rt; output.as_bytes(), b"it panicked".as_slice());
-    assert_eq!(rt; highlight.slice.as_slice(), b"panicked".as_slice());
+    assert_eq!(rt; highlight.get().slice.as_slice(), b"panicked".as_slice());
     Ok(())
 }

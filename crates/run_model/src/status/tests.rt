@@ -5,6 +5,7 @@ use super::{
     LeakTimeoutResult, RetryData, SlowTimeoutResult,
 };
 use crate::abort::{AbortDescription, DescriptionText};
+use crate::boxed::Boxed;
 use crate::level::{FinalStatusLevel, StatusLevel};
 use crate::output::{ChildExecutionOutputDescription, ChildOutputDescription, LiveSpec};
 use crate::time::Nanos;
@@ -107,7 +108,9 @@ fn ended_by(alloc: Global, name: &str) -> Result<ExecutionResultDescription, Fai
         name: Some(DescriptionText::new(alloc, name)?),
     };
     Ok(ExecutionResultDescription::Fail {
-        failure: FailureDescription::Abort { abort },
+        failure: FailureDescription::Abort {
+            abort: Boxed::new(alloc, abort)?,
+        },
         leaked: true,
     })
 }

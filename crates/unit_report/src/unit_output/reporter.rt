@@ -18,6 +18,7 @@ use super::overrides::OutputDisplayOverrides;
 use report_text::indenter::indented;
 use report_text::style::{Part, Styles, write_parts, write_plain};
 use report_text::write_str::{WriteFault, WriteStr};
+use run_model::boxed::Boxed;
 use run_model::output::{
     ByteSubslice, ChildExecutionOutputDescription, ChildOutputDescription, ChildSingleOutput,
     ErrorChain, Highlight, LiveSpec,
@@ -97,7 +98,7 @@ impl UnitOutputReporter {
                 ..
             } => {
                 write_errors(w, spec, errors)?;
-                self.write_child_output(styles, spec, output, highlight.as_ref(), w)?;
+                self.write_child_output(styles, spec, output, highlight_of(highlight), w)?;
                 write_plain(w, "\n")
             }
             ChildExecutionOutputDescription::StartError(error) => {
@@ -350,4 +351,14 @@ fn combined_subslice(highlight: Option<&Highlight>) -> Option<ByteSubslice<'_>>
     ensures { subslice_value result ≡ option_and_then combined_part (option_map (λ h. h.now) highlight.entry) }
 {
     highlight?.combined_subslice()
+}
+
+// The highlight, where there is one.
+fn highlight_of(highlight: &Option<Boxed<Highlight>>) -> Option<&Highlight>
+    ensures { option_map (λ h. h.now) result ≡ highlight.now }
+{
+    match highlight {
+        Some(highlight) => Some(highlight.get()),
+        None => None,
+    }
 }

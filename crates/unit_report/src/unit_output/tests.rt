@@ -47,8 +47,16 @@ fn coloured() -> Styles {
     styles
 }
 
-fn single(bytes: &'static [u8]) -> ChildSingleOutput {
-    ChildSingleOutput::new(Bytes::from_static(bytes))
+fn single(alloc: Global, bytes: &'static [u8]) -> Result<ChildSingleOutput, Fail> {
+    Ok(ChildSingleOutput::new(alloc, Bytes::from_static(bytes))?)
+}
+
+// A stream with these bytes, where it was captured.
+fn stream(alloc: Global, bytes: Option<&'static [u8]>) -> Result<Option<ChildSingleOutput>, Fail> {
+    match bytes {
+        Some(bytes) => Ok(Some(single(alloc, bytes)?)),
+        None => Ok(None),
+    }
 }
 
 // What is shown of a combined output with this highlight: a place and its bytes.
@@ -61,7 +69,7 @@ fn combined(
 ) -> Result<String, Fail> {
     let mut text = String::new(alloc);
     let output = ChildOutputDescription::Combined {
-        output: single(bytes),
+        output: single(alloc, bytes)?,
     };
     let highlight = match highlight {
         None => None,
@@ -192,8 +200,8 @@ fn attempt(
         ChildExecutionOutputDescription::Output {
             result: None,
             output: ChildOutputDescription::Split {
-                stdout: stdout.map(single),
-                stderr: stderr.map(single),
+                stdout: stream(alloc, stdout)?,
+                stderr: stream(alloc, stderr)?,
             },
             errors: None,
             highlight: None,
@@ -259,7 +267,7 @@ fn causes_stand_below_the_message(rt: HostRuntime) -> Result<(), Fail> {
         causes.push(DescriptionText::new(alloc, cause)?)?;
     }
     let mut text = String::new(alloc);
-    let chain = ErrorChain::new(DescriptionText::new(alloc, "cannot spawn")?, causes);
+    let chain = ErrorChain::new(alloc, DescriptionText::new(alloc, "cannot spawn")?, causes)?;
     write_error_chain(&mut text, &chain)?;
     assert_eq!(rt;
         text.as_str(),
@@ -273,7 +281,11 @@ fn a_start_error_stands_alone(rt: HostRuntime) -> Result<(), Fail> {
     let alloc = rt.alloc();
     let message = DescriptionText::new(alloc, "cannot spawn")?;
     let output: ChildExecutionOutputDescription<LiveSpec> =
-        ChildExecutionOutputDescription::StartError(ErrorChain::new(message, Vec::new(alloc)));
+        ChildExecutionOutputDescription::StartError(ErrorChain::new(
+            alloc,
+            message,
+            Vec::new(alloc),
+        )?);
     let mut text = String::new(alloc);
     reporter(DisplayerKind::Replay, true).write_child_execution_output(
         &Styles::default(),

@@ -3,6 +3,7 @@
 use super::write_abort_line;
 use report_text::style::Styles;
 use run_model::abort::{AbortDescription, DescriptionText};
+use run_model::boxed::Boxed;
 use run_model::status::{ExecutionResultDescription, FailureDescription};
 use std::alloc::Global;
 use std::test::Fail;
@@ -11,7 +12,9 @@ use std::test::Fail;
 fn line_after(alloc: Global, styles: &Styles, abort: AbortDescription) -> Result<String, Fail> {
     let mut text = String::new(alloc);
     let outcome = ExecutionResultDescription::Fail {
-        failure: FailureDescription::Abort { abort },
+        failure: FailureDescription::Abort {
+            abort: Boxed::new(alloc, abort)?,
+        },
         leaked: false,
     };
     write_abort_line(&mut text, styles, &outcome)?;

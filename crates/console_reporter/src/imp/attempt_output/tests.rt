@@ -5,6 +5,7 @@ use super::write_attempt_output;
 use bytes::Bytes;
 use report_text::style::Styles;
 use run_model::abort::{AbortDescription, DescriptionText};
+use run_model::boxed::Boxed;
 use run_model::config::{CompiledDefaultFilter, CompiledDefaultFilterSection, NextestRunMode};
 use run_model::level::{FinalStatusLevel, StatusLevel};
 use run_model::name::ProfileName;
@@ -49,19 +50,20 @@ fn start_error(alloc: Global) -> Result<ChildExecutionOutputDescription<LiveSpec
         causes.push(DescriptionText::new(alloc, cause)?)?;
     }
     let message = DescriptionText::new(alloc, "cannot spawn")?;
-    Ok(ChildExecutionOutputDescription::StartError(ErrorChain::new(message, causes)))
+    let chain = ErrorChain::new(alloc, message, causes)?;
+    Ok(ChildExecutionOutputDescription::StartError(chain))
 }
 
 // A process that wrote a line on both streams together.
-fn written() -> ChildExecutionOutputDescription<LiveSpec> {
-    ChildExecutionOutputDescription::Output {
+fn written(alloc: Global) -> Result<ChildExecutionOutputDescription<LiveSpec>, Fail> {
+    Ok(ChildExecutionOutputDescription::Output {
         result: None,
         output: ChildOutputDescription::Combined {
-            output: ChildSingleOutput::new(Bytes::from_static(b"boom\n")),
+            output: ChildSingleOutput::new(alloc, Bytes::from_static(b"boom\n"))?,
         },
         errors: None,
         highlight: None,
-    }
+    })
 }
 
 #[test]
@@ -106,7 +108,14 @@ fn after_failure(
     let settings = settings(alloc, no_output_indent)?;
     let mut text = String::new(alloc);
     let outcome = ExecutionResultDescription::Fail { failure, leaked };
-    write_attempt_output(&mut text, &settings, false, false, &outcome, &written())?;
+    write_attempt_output(
+        &mut text,
+        &settings,
+        false,
+        false,
+        &outcome,
+        &written(alloc)?,
+    )?;
     Ok(text)
 }
 
@@ -133,7 +142,9 @@ fn a_signal_is_told_again(rt: HostRuntime) -> Result<(), Fail> {
         signal: 9,
         name: Some(DescriptionText::new(alloc, "KILL")?),
     };
-    let failure = FailureDescription::Abort { abort };
+    let failure = FailureDescription::Abort {
+        abort: Boxed::new(alloc, abort)?,
+    };
     let text = after_failure(alloc, failure, true, true)?;
     assert_eq!(rt;
         text.as_str(),

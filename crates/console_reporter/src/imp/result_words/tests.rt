@@ -3,6 +3,7 @@
 use super::{spaced_short_status_str, status_str, success_str};
 use itoa::Buffer;
 use run_model::abort::{AbortDescription, DescriptionText};
+use run_model::boxed::Boxed;
 use run_model::status::{
     ExecutionResultDescription, FailureDescription, LeakTimeoutResult, SlowTimeoutResult,
 };
@@ -75,11 +76,13 @@ fn failures_have_their_words(rt: HostRuntime) -> Result<(), Fail> {
 }
 
 // A result of a process that was ended so.
-fn aborted(abort: AbortDescription) -> ExecutionResultDescription {
-    ExecutionResultDescription::Fail {
-        failure: FailureDescription::Abort { abort },
+fn aborted(alloc: Global, abort: AbortDescription) -> Result<ExecutionResultDescription, Fail> {
+    Ok(ExecutionResultDescription::Fail {
+        failure: FailureDescription::Abort {
+            abort: Boxed::new(alloc, abort)?,
+        },
         leaked: true,
-    }
+    })
 }
 
 #[test]
@@ -102,7 +105,7 @@ fn aborts_have_their_words(rt: HostRuntime) -> Result<(), Fail> {
         (status, "ABORT", " ABORT"),
         (AbortDescription::WindowsJobObject, "ABORT", " ABORT"),
     ] {
-        assert!(rt; has_words(rt.alloc(), &(aborted(abort), long, short))?);
+        assert!(rt; has_words(rt.alloc(), &(aborted(rt.alloc(), abort)?, long, short))?);
     }
     Ok(())
 }

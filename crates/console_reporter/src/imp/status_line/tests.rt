@@ -4,6 +4,7 @@ use super::{StatusLine, write_status_line};
 use report_text::helpers::DisplayCounterIndex;
 use report_text::style::Styles;
 use run_model::abort::AbortDescription;
+use run_model::boxed::Boxed;
 use run_model::name::{RustBinaryId, TestCaseName, TestInstanceId};
 use run_model::status::{
     ExecutionResultDescription, FailureDescription, FlakyResult, LeakTimeoutResult, RetryData,
@@ -76,11 +77,12 @@ fn a_failure_is_told_by_its_attempt(rt: HostRuntime) -> Result<(), Fail> {
         (2, "TRY 2 SIG 64 [   1.000s] a t1\n"),
         (10, "TRY 10 SIG 64 [   1.000s] a t1\n"),
     ] {
+        let abort = AbortDescription::UnixSignal {
+            signal: 64,
+            name: None,
+        };
         let failure = FailureDescription::Abort {
-            abort: AbortDescription::UnixSignal {
-                signal: 64,
-                name: None,
-            },
+            abort: Boxed::new(rt.alloc(), abort)?,
         };
         let outcome = ExecutionResultDescription::Fail {
             failure,

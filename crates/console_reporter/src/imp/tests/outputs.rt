@@ -29,17 +29,20 @@ const SUMMARY: &str = "------------
 ";
 
 // An attempt that ended so after it wrote a line.
-fn attempt_with_output(outcome: ExecutionResultDescription) -> ExecuteStatus<LiveSpec> {
+fn attempt_with_output(
+    alloc: Global,
+    outcome: ExecutionResultDescription,
+) -> Result<ExecuteStatus<LiveSpec>, Fail> {
     let mut status = attempt(1, 1, outcome);
     status.output = ChildExecutionOutputDescription::Output {
         result: None,
         output: ChildOutputDescription::Combined {
-            output: ChildSingleOutput::new(Bytes::from_static(b"boom\n")),
+            output: ChildSingleOutput::new(alloc, Bytes::from_static(b"boom\n"))?,
         },
         errors: None,
         highlight: None,
     };
-    status
+    Ok(status)
 }
 
 // The report of a test that failed and asks for this display, and of the end of its run. No line is shown at once.
@@ -47,7 +50,7 @@ fn report_of_failure(alloc: Global, display: TestOutputDisplay) -> Result<String
     let binary_id = RustBinaryId::new(alloc, "a")?;
     let test_name = TestCaseName::new(alloc, "t1")?;
     let mut statuses = Vec::new(alloc);
-    statuses.push(attempt_with_output(failed()))?;
+    statuses.push(attempt_with_output(alloc, failed())?)?;
     let Some(run_statuses) = ExecutionStatuses::new(statuses, FlakyResult::Pass) else {
         return Err(Fail::from("there is an attempt"));
     };

@@ -1,7 +1,7 @@
 use Rattle.std.proofs.Common.{rules}
 use Rattle.std.proofs.lemmas.Result.{on_ok_weaker, IfErr-weaker}
 use Rattle.console_reporter.specs.Configuration.{configured}
-use Rattle.console_reporter.proofs.Calls.{accepted_until, stopped_io, stopped_known}
+use Rattle.console_reporter.proofs.Calls.{accepted_until, refused_from, stopped_io, stopped_known}
 use Rattle.console_reporter.proofs.imp.reporter.run_report.Goals as goal
 
 pub returns-clause-ok : goal.returns-clause-ok
@@ -15,6 +15,11 @@ returns-clause-kept g c = on_ok_weaker _ (λ h. (g.met.W.WriteStr.laws.kept _ _ 
 
 pub returns-clause-io : goal.returns-clause-io
 returns-clause-io g c = IfErr-weaker _ _ _ (λ stop h. stopped_io g.met.W.WriteStr.laws _ _ _ _ _ h) (returns-clause-err g c)
+
+pub returns-clause-memory : goal.returns-clause-memory
+returns-clause-memory g c =
+    let config = configured c.args.builder c.args.use_unicode c.args.is_terminal c.args.is_ci c.args.display_empty_outputs in
+    IfErr-weaker _ _ _ (refused_from g.W.WriteStr.meaning config c.args.calls.now c.build-reporter.result c.build-reporter.ensures.untouched c.build-reporter.ensures.stands) c.make_calls-outcome.ensures.memory
 
 pub returns-clause-known : goal.returns-clause-known
 returns-clause-known g c = IfErr-weaker _ _ _ (λ stop h. stopped_known g.met.W.WriteStr.laws _ _ _ _ _ h) (returns-clause-err g c)

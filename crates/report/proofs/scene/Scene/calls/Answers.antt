@@ -3,4 +3,6 @@ use Rattle.report.specs.Scenes.{IsCallOf}
 use Rattle.report.proofs.scene.Scene.calls.Goals as goal
 
 pub loop-event-preserved : goal.loop-event-preserved
-loop-event-preserved c = rw c.in_ok-push.ensures.items (AllZip-more IsCallOf _ _ _ _ _ c.loop-event-test.true c.event-item.is c.loop-event.invariant c.in_ok-test_event.ensures)
+loop-event-preserved c =
+    let adds = c.in_ok-push_call.ensures in
+    rw adds.added (AllZip-more IsCallOf _ _ _ _ _ c.loop-event-test.true c.event-item.is c.loop-event.invariant adds.of_event)

@@ -1,0 +1,8 @@
+use Rattle.console_reporter.proofs.Texts.{report-joined, texts-placed}
+use Rattle.console_reporter.proofs.imp.reporter.texts_make_the_report.Goals as goal
+
+pub returns-clause-joined : goal.returns-clause-joined
+returns-clause-joined c = report-joined
+
+pub returns-clause-placed : goal.returns-clause-placed
+returns-clause-placed c = texts-placed

@@ -1,0 +1,5 @@
+use Rattle.report.proofs.Numbers.{number_by}
+use Rattle.report.proofs.reader.numbers.read_count.Goals as goal
+
+pub returns : goal.returns
+returns c = number_by 64 _ _ c.parse_count.ensures

@@ -1,0 +1,5 @@
+use Rattle.report.proofs.Displays.{display_by}
+use Rattle.report.proofs.reader.values.read_display.Goals as goal
+
+pub returns : goal.returns
+returns c = display_by _ _ c.from_name.ensures

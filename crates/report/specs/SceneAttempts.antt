@@ -1,0 +1,23 @@
+-- What the short form of an attempt leaves out.
+use Rattle.std.specs.Prelude.{ℕ, List, [], Option, None, Some}
+use Rattle.run_model.specs.declared.output.ChildExecutionOutputDescription.{ChildExecutionOutputDescription}
+use Rattle.run_model.specs.declared.output.ChildExecutionOutputDescription.TheVariants.{Output}
+use Rattle.run_model.specs.declared.output.ChildOutputDescription.{ChildOutputDescription}
+use Rattle.run_model.specs.declared.output.ChildOutputDescription.TheVariants.{Split}
+use Rattle.run_model.specs.declared.output.LiveSpec.{LiveSpec}
+use Rattle.run_model.specs.declared.status.ExecutionResultDescription.{ExecutionResultDescription}
+use Rattle.report.specs.declared.scene.attempts.SceneOutput.{SceneOutput}
+use Rattle.report.specs.declared.scene.attempts.SceneOutput.TheVariants as scene
+
+-- what a process wrote
+abbrev pub Written : Type 0
+Written = ChildExecutionOutputDescription LiveSpec ChildOutputDescription
+
+-- both streams were captured, and hold nothing
+abbrev pub silence : ExecutionResultDescription → Written
+silence result = Output (Some result) (Split (Some []) (Some [])) None None
+
+-- what an attempt that ended so wrote
+abbrev pub written : ExecutionResultDescription → SceneOutput → Written
+written result scene.Silent = silence result
+written result (scene.Told output) = output

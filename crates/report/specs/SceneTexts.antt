@@ -1,0 +1,143 @@
+-- The scene that a text spells, or its first fault.
+use Rattle.std.specs.Prelude.{◌≡◌, ℕ, ◌+◌, List, [], ◌∷◌, ◌++◌, Bool, true, false, ◌==◌, if◌then◌else◌, Option, None, Some, Result, Ok, Err, length, ⊤}
+use Rattle.std.specs.Str.{is_utf8}
+use Rattle.report.specs.Configs.{unconfigured}
+use Rattle.report.specs.Cuts.{parted}
+use Rattle.report.specs.Fields.{Fails, Place}
+use Rattle.report.specs.Lines.{config_line, done_line, end_line, line_in, run_line, takes}
+use Rattle.report.specs.declared.fault.Fault.{Fault}
+use Rattle.report.specs.declared.fault.Fault.TheVariants as fault
+use Rattle.report.specs.declared.fault.LineError.{LineError}
+use Rattle.report.specs.declared.fault.LineError.TheVariants as error
+use Rattle.report.specs.declared.fault.LineFault.{LineFault}
+use Rattle.report.specs.declared.fault.LineFault.TheVariants.{NotUtf8, UnknownEvent, ConfigAfterEvent, WrongNumberOfFields}
+use Rattle.report.specs.declared.reader.lines.LineKind.{LineKind}
+use Rattle.report.specs.declared.reader.lines.LineKind.TheVariants as line
+use Rattle.report.specs.declared.scene.Scene.{Scene}
+use Rattle.report.specs.declared.scene.SceneConfig.{SceneConfig}
+use Rattle.report.specs.declared.scene.SceneEvent.{SceneEvent}
+
+-- what lines tell: the last value of each key, and the events in order
+pub record Told : Type 0 where
+  pub config : SceneConfig
+  pub events : List SceneEvent
+
+abbrev pub told : Scene → Told
+told scene = record { config = scene.config; events = scene.events.items }
+
+abbrev pub nothing_told : Told
+nothing_told = record { config = unconfigured; events = [] }
+
+-- with the configuration that a line makes, or the event that it tells
+abbrev pub with_config : Told → Result (SceneConfig × Place) LineFault → Result Told LineFault
+with_config before (Ok x) = Ok (record before { config = x.0 })
+with_config before (Err f) = Err f
+
+abbrev pub with_event : Told → Result (SceneEvent × Place) LineFault → Result Told LineFault
+with_event before (Ok x) = Ok (record before { events = before.events ++ x.0 ∷ [] })
+with_event before (Err f) = Err f
+
+-- what is told once the fields after the first, of which there are enough, are read
+abbrev pub fields_told : Told → LineKind → Place → Result Told LineFault
+fields_told before line.Config fields = with_config before (config_line before.config fields)
+fields_told before line.Run fields = with_event before (run_line fields)
+fields_told before line.Done fields = with_event before (done_line fields)
+fields_told before line.End fields = with_event before (end_line fields)
+
+-- such a line may not stand after these events
+abbrev pub comes_late : LineKind → List SceneEvent → Bool
+comes_late line.Config [] = false
+comes_late line.Config (e ∷ es) = true
+comes_late other es = false
+
+abbrev pub kind_told : Told → List (List ℕ) → Option LineKind → Result Told LineFault
+kind_told before fields None = Err UnknownEvent
+kind_told before fields (Some kind) =
+    if comes_late kind before.events then Err ConfigAfterEvent
+    else (if takes kind (length fields) then fields_told before kind (record { number = 1; left = fields }) else Err WrongNumberOfFields)
+
+abbrev pub words_told : Told → List (List ℕ) → Result Told LineFault
+words_told before [] = Err WrongNumberOfFields
+words_told before (word ∷ fields) = kind_told before fields (line_in word)
+
+-- an empty line, and one that begins with `#`, tell nothing
+abbrev pub is_passed_over : List ℕ → Bool
+is_passed_over [] = true
+is_passed_over (c ∷ t) = c == 35
+
+-- what is told after a line, or what is wrong with it
+unfoldable pub line_told : Told → List ℕ → Result Told LineFault
+line_told before t =
+    if is_passed_over t then Ok before
+    else (if is_utf8 t then words_told before (parted 9 t) else Err NotUtf8)
+
+abbrev pub go_on : (Told → Result Told (ℕ × LineFault)) → ℕ → Result Told LineFault → Result Told (ℕ × LineFault)
+go_on next n (Ok after) = next after
+go_on next n (Err f) = Err (n, f)
+
+-- what is told after these lines, of which the first has this number, or the number and the fault of the first that has one
+unfoldable pub lines_told : ℕ → Told → List (List ℕ) → Result Told (ℕ × LineFault)
+lines_told n before [] = Ok before
+lines_told n before (t ∷ ts) = go_on (λ after. lines_told (n + 1) after ts) n (line_told before t)
+
+-- what a text tells
+abbrev pub text_told : List ℕ → Result Told (ℕ × LineFault)
+text_told t = lines_told 1 nothing_told (parted 10 t)
+
+-- what was returned is what is told, unless memory was refused
+abbrev pub IsAnswer : Result Scene Fault → Result Told (ℕ × LineFault) → Type 0
+IsAnswer (Ok scene) read = read ≡ Ok (told scene)
+IsAnswer (Err fault.Usage) read = ⊥
+IsAnswer (Err (fault.CannotRead file)) read = ⊥
+IsAnswer (Err (fault.Line n f)) read = read ≡ Err (n, f)
+IsAnswer (Err fault.WriteFailed) read = ⊥
+IsAnswer (Err fault.OutOfMemory) read = ⊤
+
+-- the same, or the file cannot be read
+abbrev pub IsJudged : Result Scene Fault → Result Told (ℕ × LineFault) → Type 0
+IsJudged (Err (fault.CannotRead file)) read = ⊤
+IsJudged (Ok scene) read = read ≡ Ok (told scene)
+IsJudged (Err fault.Usage) read = ⊥
+IsJudged (Err (fault.Line n f)) read = read ≡ Err (n, f)
+IsJudged (Err fault.WriteFailed) read = ⊥
+IsJudged (Err fault.OutOfMemory) read = ⊤
+
+abbrev pub IsLineAnswer : Result (Unit {0}) LineError → Told → Result Told LineFault → Type 0
+IsLineAnswer (Ok done) after read = read ≡ Ok after
+IsLineAnswer (Err e) after read = Fails e read
+
+abbrev pub fault_at : ℕ → LineError → Fault
+fault_at n error.OutOfMemory = fault.OutOfMemory
+fault_at n (error.Fault f) = fault.Line n f
+
+-- each line tells, one after the other
+abbrev pub AllTell : Told → List (List ℕ) → Told → Type 0
+AllTell before [] after = before ≡ after
+AllTell before (t ∷ ts) after = (mid : Told) × (line_told before t ≡ Ok mid) × AllTell mid ts after
+
+-- the lines before the one of this number tell, and that one has the fault
+pub record IsFirstFault (lines : List (List ℕ)) (number : ℕ) (f : LineFault) : Type 0 where
+  pub front : List (List ℕ)
+  pub line : List ℕ
+  pub rest : List (List ℕ)
+  pub whole : lines ≡ front ++ line ∷ rest
+  pub place : number ≡ length front + 1
+  pub before : Told
+  pub told_so_far : AllTell nothing_told front before
+  pub wrong : line_told before line ≡ Err f
+
+-- the fault is the first one of the text, or memory was refused
+abbrev pub IsFaultOf : List ℕ → Fault → Type 0
+IsFaultOf text fault.Usage = ⊥
+IsFaultOf text (fault.CannotRead file) = ⊥
+IsFaultOf text (fault.Line n f) = IsFirstFault (parted 10 text) n f
+IsFaultOf text fault.WriteFailed = ⊥
+IsFaultOf text fault.OutOfMemory = ⊤
+
+-- the same, or the file cannot be read
+abbrev pub IsJudgedFault : List ℕ → Fault → Type 0
+IsJudgedFault text fault.Usage = ⊥
+IsJudgedFault text (fault.CannotRead file) = ⊤
+IsJudgedFault text (fault.Line n f) = IsFirstFault (parted 10 text) n f
+IsJudgedFault text fault.WriteFailed = ⊥
+IsJudgedFault text fault.OutOfMemory = ⊤
