@@ -1,5 +1,6 @@
 pub mod Attempts
 pub mod Cuts
+pub mod Devices
 pub mod Displays
 pub mod FirstFaults
 pub mod NonZero
