@@ -1,5 +1,6 @@
 pub mod Attempts
 pub mod Cuts
+pub mod Devices
 pub mod Displays
 pub mod FirstFaults
 pub mod NonZero
@@ -7,6 +8,8 @@ pub mod Numbers
 pub mod Options
 pub mod Pairs
 pub mod Reports
+pub mod Silence
+pub mod Tabs
 pub mod Tellings
 pub mod Unescaped
 pub mod Utf8

@@ -29,15 +29,7 @@ status_of (fault.Line n f) = 2
 status_of fault.WriteFailed = 3
 status_of fault.OutOfMemory = 3
 
--- a line of a scene is wrong, or memory was refused
-abbrev pub IsSceneFault : Fault → Type 0
-IsSceneFault fault.Usage = ⊥
-IsSceneFault (fault.CannotRead file) = ⊥
-IsSceneFault (fault.Line n f) = ⊤
-IsSceneFault fault.WriteFailed = ⊥
-IsSceneFault fault.OutOfMemory = ⊤
-
--- the same, or this file cannot be read
+-- a line of a scene is wrong, memory was refused, or this file cannot be read
 abbrev pub IsJudgeFault : List ℕ → Fault → Type 0
 IsJudgeFault file fault.Usage = ⊥
 IsJudgeFault file (fault.CannotRead f) = f.now ≡ file

@@ -1,5 +1,5 @@
 -- What an attempt wrote, as a scene writes it.
-use Rattle.std.specs.Prelude.{ℕ, List, [], ◌∷◌, if◌then◌else◌, codes, bytes_eq, Option, None, Some}
+use Rattle.std.specs.Prelude.{◌≡◌, ℕ, List, [], ◌∷◌, if◌then◌else◌, codes, bytes_eq, Bool, true, false, Ok, Option, None, Some}
 use Rattle.std.specs.Option.{option_map}
 use Rattle.run_model.specs.declared.output.ChildExecutionOutputDescription.{ChildExecutionOutputDescription}
 use Rattle.run_model.specs.declared.output.ChildExecutionOutputDescription.TheVariants as written
@@ -11,9 +11,10 @@ use Rattle.run_model.specs.declared.output.HighlightStream.TheVariants as stream
 use Rattle.run_model.specs.declared.output.LiveSpec.{LiveSpec}
 use Rattle.run_model.specs.declared.status.ExecutionResultDescription.{ExecutionResultDescription}
 use Rattle.report.specs.Cuts.{cut}
-use Rattle.report.specs.Fields.{◌>>=◌, Line, said, field}
+use Rattle.report.specs.Fields.{◌>>=◌, Line, Place, said, field}
 use Rattle.report.specs.Lists.{chain_in, errors_in}
 use Rattle.report.specs.Numbers.{number_in}
+use Rattle.report.specs.SceneAttempts.{Written, silence}
 use Rattle.report.specs.Texts.{bytes_in}
 use Rattle.report.specs.Values.{of_word, absent_in}
 use Rattle.report.specs.declared.reader.outputs.OutputForm.{OutputForm}
@@ -55,10 +56,6 @@ highlight_cut t (Some x) = part_cut x.0 (cut 58 x.1)
 abbrev pub highlight_in : List ℕ → Option (Option Highlight)
 highlight_in t = highlight_cut t (cut 58 t)
 
--- what an attempt wrote, or why it could not be started
-abbrev pub Written : Type 0
-Written = ChildExecutionOutputDescription LiveSpec ChildOutputDescription
-
 -- errors and a highlight, after the streams of an attempt that ended so
 unfoldable pub after_streams : ExecutionResultDescription → ChildOutputDescription → Line Written
 after_streams result output = do
@@ -88,3 +85,12 @@ unfoldable pub output_fields : ExecutionResultDescription → Line Written
 output_fields result = do
   form ← field output_form_in
   formed result form
+
+-- both streams were captured and hold nothing, and there is nothing else
+abbrev pub silent_fields : List (List ℕ)
+silent_fields = codes "split" ∷ [] ∷ [] ∷ codes "-" ∷ codes "-" ∷ []
+
+-- the fields of such an output were taken, whatever the result; or none was
+abbrev pub TakesSilence : Bool → Place → Place → Type 0
+TakesSilence true old new = (result : ExecutionResultDescription) → output_fields result old ≡ Ok (silence result, new)
+TakesSilence false old new = new ≡ old

@@ -1,5 +1,5 @@
 -- What the program writes of a scene.
-use Rattle.std.specs.Prelude.{◌≡◌, ℕ, List, reverse, false, if◌then◌else◌, Option, codes}
+use Rattle.std.specs.Prelude.{◌≡◌, ◌⊎◌, ℕ, List, reverse, false, if◌then◌else◌, Option, Some, codes}
 use Rattle.std.specs.Io.KnownBytes.{Appends}
 use Rattle.std.specs.List.{AllZip}
 use Rattle.run_model.specs.declared.config.CompiledDefaultFilterSection.TheVariants.{Profile}
@@ -9,6 +9,7 @@ use Rattle.unit_report.specs.declared.config.ShowProgress.TheVariants as progres
 use Rattle.unit_report.specs.declared.unit_output.DisplayerKind.{DisplayerKind}
 use Rattle.unit_report.specs.declared.unit_output.DisplayerKind.TheVariants as displayer
 use Rattle.report_text.specs.Texts.{Text}
+use Rattle.report_text.specs.Buffer.{GrowsWithin}
 use Rattle.report_text.specs.Writer.{Meaning}
 use Rattle.console_reporter.specs.Configuration.{Configuration, configured}
 use Rattle.console_reporter.specs.Outcomes.{Stops}
@@ -75,6 +76,18 @@ pub record PrintsReport (options : Options) (scene : Scene) (old new : Option (L
   pub calls : List ReportCall
   pub of_scene : AreCallsOf scene calls
   pub printed : Appends old new (report_of options scene calls)
+
+-- the bytes grew by a beginning of the report of the scene
+pub record BeginsReport (options : Options) (scene : Scene) (old new : List ℕ) : Type 0 where
+  pub calls : List ReportCall
+  pub of_scene : AreCallsOf scene calls
+  pub begun : GrowsWithin old new (report_of options scene calls)
+
+-- what a device that tells its bytes holds after a fault: what it held, and a beginning of the report, unless memory was
+-- refused before it
+abbrev pub PrintsBeginning : Options → Scene → Option (List ℕ) → Option (List ℕ) → Type 0
+PrintsBeginning options scene before after =
+    (old new : List ℕ) → before ≡ Some old → after ≡ Some new → (new ≡ old) ⊎ BeginsReport options scene old new
 
 -- from old, the fault stopped the report of the scene, of which a beginning was accepted, and left new
 pub record StopsReport {S : Type 0} (m : Meaning S) (options : Options) (scene : Scene) (old : S) (fault : Fault) (new : S) : Type 0 where

@@ -1,9 +1,9 @@
 //! What the program does with a scene, over any reader and any writer.
 
-ghost use Rattle.std.specs.Prelude.{◌≡◌, ◌⊎◌, ℕ, List, Some, IfOk, IfErr, OnOk};
+ghost use Rattle.std.specs.Prelude.{◌≡◌, ◌⊎◌, ℕ, List, Some, IfOk, IfErr, OnErr, OnOk};
 ghost use Rattle.report.specs.Cuts.{parted};
 ghost use Rattle.report.specs.Faults.{IsJudgeFault, status_of};
-ghost use Rattle.report.specs.Reports.{AcceptsReport, PrintsReport, IsRefused, StopsReport, builder_for, fault_for, kind_for, progress_for};
+ghost use Rattle.report.specs.Reports.{AcceptsReport, PrintsBeginning, PrintsReport, IsRefused, StopsReport, builder_for, fault_for, kind_for, progress_for};
 ghost use Rattle.report.specs.SceneTexts.{AllTell, IsJudged, IsJudgedFault, nothing_told, text_told, told};
 ghost use Rattle.report.specs.declared.fault.Fault.{Fault};
 
@@ -57,8 +57,8 @@ pub fn write_report<W: Write + Drop>(
     outcome
 }
 
-/// Writes the report of a scene to a device, and gives the device back. Once all went well, the device holds the report
-/// after what it held before.
+/// Writes the report of a scene to a device, and gives the device back. The device then holds what it held before and the
+/// report, or on a fault a beginning of it.
 pub fn write_and_return<W: Write>(
     alloc: Global,
     options: &Options<'_>,
@@ -66,6 +66,7 @@ pub fn write_and_return<W: Write>(
     writer: W,
 ) -> (Result<(), Fault<'static>>, W)
     ensures ok { OnOk result.0 (PrintsReport options.now scene.now (W.contents writer) (W.contents result.1)) }
+    ensures err { OnErr result.0 (PrintsBeginning options.now scene.now (W.contents writer) (W.contents result.1)) }
     ensures status { IfErr result.0 (λ fault. status_of fault ≡ 3) }
 {
     let mut out = match TextBuffer::new(alloc, writer) {

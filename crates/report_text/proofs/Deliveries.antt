@@ -14,7 +14,7 @@ taken_of old held new pending text taken d g = record {
 }
 
 -- where nothing was pending, the device took a beginning of the text
-begins_of : (old held new pending text : List ℕ) → held ≡ [] → DeliversWithin old held new pending text → GrowsWithin old new text
+pub begins_of : (old held new pending text : List ℕ) → held ≡ [] → DeliversWithin old held new pending text → GrowsWithin old new text
 begins_of old held new pending text none h =
     let rest = h.delivers.rest in
     let front : h.delivers.taken ++ pending ≡ h.front = rest ∙ ap (λ x. x ++ h.front) none in

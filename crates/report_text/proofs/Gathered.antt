@@ -44,6 +44,10 @@ module _ {S : Type 0} {m : Meaning S} (laws : WriterLaws m) where
   carried_on a b c t u v (Ok x) o p = λ s d q. o s d (p s d q)
   carried_on a b c t u v (Err e) o p = o (Err e) c p
 
+  -- a step over what is owed
+  pub carried : (a b c : S) (t u v w : Text) → Owes m a t b u → u ≡ v → Owes m b v c w → Owes m a t c w
+  carried a b c t u v w o h p = λ r d q. o r d (subst (λ y. Puts m b y r d) (sym h) (p r d q))
+
   -- a step that stops, at the exit of a `?`
   pub carried_off : (a b c : S) (t u v : Text) (e : WriteFault) (r : Result (Unit {0}) WriteFault) → Owes m a t b u → u ≡ v → IsErrAnd r (λ f. f ≡ e) → m.stops b v e c → Puts m a t r c
   carried_off a b c t u v e r o h x s = o r c (at_exit laws b c u e r x (subst (λ y. m.stops b y e c) (sym h) s))

@@ -1,6 +1,6 @@
 pub mod Chunked
-pub mod Closed
 pub mod Clocks
+pub mod Closed
 pub mod Colons
 pub mod Commands
 pub mod CounterPuts
@@ -10,6 +10,7 @@ pub mod Decoded
 pub mod Deliveries
 pub mod EndLines
 pub mod Feeds
+pub mod FirstLines
 pub mod FitMarks
 pub mod Fits
 pub mod FittedPuts

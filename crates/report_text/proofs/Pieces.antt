@@ -1,5 +1,5 @@
 -- The pieces of a text.
-use Rattle.std.proofs.Common.{◌≡◌, ◌≢◌, ℕ, zero, suc, ◌+◌, ◌<◌, ◌≤◌, Bool, true, false, not, ◌==◌, inl, inr, [], ◌∷◌, ◌++◌, refl, ap, arith, length, get_or, take, drop, ◌⊎◌, lit<, add-one}
+use Rattle.std.proofs.Common.{◌≡◌, ◌≢◌, ℕ, zero, suc, ◌+◌, ◌<◌, ◌≤◌, Bool, true, false, not, ◌==◌, inl, inr, [], ◌∷◌, ◌++◌, refl, sym, ap, ◌∙◌, arith, length, get_or, take, drop, ◌⊎◌, lit<, add-one}
 use Rattle.std.proofs.lemmas.Bool.{cases_Bool, and_parts, not-true}
 use Rattle.std.proofs.lemmas.Bool.Decides.{eqb_tells}
 use Rattle.std.proofs.lemmas.List.{take-append-drop}
@@ -103,6 +103,29 @@ unfolding visible_after
 visible-free [] h = refl
 visible-free (c ∷ t) h = let both = free_parts c t h in rw both.0 (ap (λ l. c ∷ l) (visible-free t both.1))
 
+-- the text before the first escape character, and the text from there on
+visible_after-drop : (n : ℕ) (t : Text) → visible_after n t ≡ visible (drop n t)
+unfolding visible_after
+visible_after-drop zero t = refl
+visible_after-drop (suc n) [] = refl
+visible_after-drop (suc n) (c ∷ t) = visible_after-drop n t
+
+pub visible-stretch : (t front back : Text) → front ≡ take (front_len is_visible t) t → back ≡ drop (front_len is_visible t) t → visible t ≡ front ++ visible back
+visible-stretch t front back p q = rw (p, q, ← visible_after-drop (front_len is_visible t) t) (sym (stretch-visible t))
+
+-- an escape character comes first there
+pub front_stops : (t : Text) (c : ℕ) (r : Text) → drop (front_len is_visible t) t ≡ c ∷ r → c ≡ 27
+front_stops [] c r e = cc
+front_stops (x ∷ t) c r e = elim (eqb_tells x 27) [
+  | inl y ↦ (let f = rw y.0 at e in let g : x ≡ c = cc in sym g ∙ y.1)
+  | inr n ↦ front_stops t c r (rw n.0 at e)
+]
+
+-- it begins a sequence, and what follows that is visible
+pub visible-sequence : (t after : Text) (c : ℕ) → t ≡ c ∷ after → c ≡ 27 → visible t ≡ visible (drop (sequence_len after + 1) t)
+unfolding visible_after
+visible-sequence t after c e i = rw (e, i, add-one) (visible_after-drop (sequence_len after) after)
+
 -- also where no escape character is found
 pub visible-front : (t : Text) → length (drop (front_len is_visible t) t) ≡ 0 → visible t ≡ t
 unfolding visible_after
@@ -111,6 +134,11 @@ visible-front (c ∷ t) h = elim (cases_Bool (c == 27)) [
   | inl y ↦ absurd (let l = rw y at h in omega arith)
   | inr n ↦ rw n (ap (λ l. c ∷ l) (visible-front t (rw n at h)))
 ]
+
+pub visible-empty : (t : Text) → length t ≡ 0 → visible t ≡ []
+unfolding visible_after
+visible-empty [] h = refl
+visible-empty (c ∷ t) h = absurd (omega arith)
 
 pub visible-visible : (t : Text) → visible (visible t) ≡ visible t
 visible-visible t = visible-free (visible t) (visible_after-free 0 t)

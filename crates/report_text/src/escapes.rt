@@ -143,9 +143,9 @@ fn stretch_len(bytes: &[u8]) -> usize
     }
 }
 
-// How many bytes of what follows an escape character belong to its sequence.
+/// How many bytes of what follows an escape character belong to its sequence.
 #[tactic(auto, unfolding(crate::specs::Escapes::sequence_len))]
-fn sequence_len(after: &[u8]) -> usize
+pub(crate) fn sequence_len(after: &[u8]) -> usize
     ensures { result ≡ sequence_len after.now }
 {
     match after.split_first() {

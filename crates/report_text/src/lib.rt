@@ -9,6 +9,7 @@ pub mod escapes;
 pub mod fitting;
 pub mod helpers;
 pub mod indenter;
+pub mod lines;
 pub mod lossy;
 pub mod numbers;
 pub mod reporter_helpers;

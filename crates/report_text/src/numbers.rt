@@ -139,7 +139,7 @@ fn round_to_thousandths(nanos: u128) -> (u128, u32)
     ensures seconds { result.0 ≡ rounded 1000000 nanos / 1000 }
     ensures thousandths { result.1 ≡ rounded 1000000 nanos % 1000 }
 {
-    // Almost every duration fits 64 bits, and a division of those costs a tenth.
+    // Almost every duration fits 64 bits, which are divided much faster.
     if let Ok(nanos) = u64::try_from(nanos) {
         let rounded = nanos / 1_000_000 + u64::from(nanos % 1_000_000 >= 500_000);
         return ((rounded / 1000) as u128, (rounded % 1000) as u32);

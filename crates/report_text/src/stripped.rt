@@ -13,7 +13,7 @@ mod piece_buffer;
 mod tests;
 
 use crate::end_line::EndLine;
-use crate::escapes::{ESCAPE, Mode, Piece, advance, pieces};
+use crate::escapes::{ESCAPE, Mode, advance, sequence_len};
 use crate::write_str::{WriteFault, WriteStr};
 use gathered_pieces::GatheredPieces;
 use memchr::memchr;
@@ -85,12 +85,26 @@ fn write_gathered<W: WriteStr>(w: &mut W, text: &str) -> Result<(), WriteFault>
     ensures { Puts W.meaning w.old (without_end_line (visible text.now)) result w.new }
 {
     let mut gathered = GatheredPieces::new();
-    for piece in pieces(text) {
-        if let Piece::Stretch(stretch) = piece {
-            gathered.write(w, stretch)?;
-        }
+    let mut rest = text;
+    while !rest.is_empty() {
+        let (stretch, after) = split_sequence(rest);
+        gathered.write(w, stretch)?;
+        rest = after;
     }
     gathered.flush(w)
+}
+
+// The text before its first sequence, and what follows that sequence.
+fn split_sequence(text: &str) -> (&str, &str)
+    ensures visible { visible text.now ≡ result.0.now ++ visible result.1.now }
+    ensures shorter { 0 < length text.now → length result.1.now < length text.now }
+{
+    let (stretch, from_escape) = split_escape(text);
+    let Some((_, after)) = from_escape.as_bytes().split_first() else {
+        return (stretch, "");
+    };
+    let (_, rest) = from_escape.split_at(sequence_len(after) + 1);
+    (stretch, rest)
 }
 
 // What the scan takes from the front of a text: a stretch that no sequence holds, or a character of a sequence, which

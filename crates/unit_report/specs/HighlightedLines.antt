@@ -1,20 +1,11 @@
 -- Lines in the style of a highlight.
-use Rattle.std.specs.Prelude.{ℕ, suc, Bool, true, ◌&&◌, ◌||◌, ◌==◌, List, [], ◌∷◌, ◌++◌, take, drop, if◌then◌else◌}
+use Rattle.std.specs.Prelude.{ℕ, suc, Bool, true, ◌&&◌, ◌||◌, ◌==◌, [], ◌∷◌, ◌++◌, take, drop, if◌then◌else◌}
 use Rattle.std.specs.List.{flat_map}
 use Rattle.report_text.specs.Escapes.{visible}
+use Rattle.report_text.specs.Lines.{whole_lines}
 use Rattle.report_text.specs.Styles.{style_prefix, style_suffix}
 use Rattle.report_text.specs.Texts.{Text}
 use Rattle.report_text.specs.declared.style.Style.{Style}
-
--- the byte before the lines of a text: it joins the first one
-abbrev pub onto_first_line : ℕ → List Text → List Text
-onto_first_line c [] = (c ∷ []) ∷ []
-onto_first_line c (l ∷ ls) = (c ∷ l) ∷ ls
-
--- the lines of a text, each with its line feed; nothing after a closing line feed is one
-unfoldable pub whole_lines : Text → List Text
-whole_lines [] = []
-whole_lines (c ∷ t) = if c == 10 then (10 ∷ []) ∷ whole_lines t else onto_first_line c (whole_lines t)
 
 -- a line feed or a carriage return
 abbrev pub closes_line : ℕ → Bool

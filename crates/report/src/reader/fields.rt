@@ -1,11 +1,11 @@
 //! A line of a scene, taken apart from left to right.
 
-ghost use Rattle.std.specs.Prelude.{◌≡◌, ◌+◌, ◌≤◌, ◌^◌, OnOk, length, Ok};
+ghost use Rattle.std.specs.Prelude.{◌≡◌, ◌+◌, ◌≤◌, ◌^◌, OnOk, drop, length, Ok};
 ghost use Rattle.report.specs.Cuts.{parted, texts};
 ghost use Rattle.report.specs.Fields.{Place, ReadsBy, TriesBy, answered, next, taken_text};
 
-use super::split::first_piece;
 use crate::fault::{LineError, LineFault};
+use memchr::memchr_iter;
 use run_model::memory::OutOfMemory;
 use std::marker::Model;
 
@@ -14,12 +14,12 @@ pub fn split_fields<'a>(line: &'a str, fields: &mut Vec<&'a str>) -> Result<(), 
     ensures { OnOk result (texts fields.new.items ≡ parted 9 line.now) }
 {
     fields.clear();
-    let mut rest = Some(line);
-    while let Some(left) = rest {
-        let (field, after) = first_piece(left, b'\t');
-        fields.push(field)?;
-        rest = after;
+    let mut start = 0;
+    for tab in memchr_iter(b'\t', line.as_bytes()) {
+        fields.push(&line[start..tab])?;
+        start = tab + 1;
     }
+    fields.push(&line[start..])?;
     Ok(())
 }
 
@@ -53,6 +53,23 @@ impl<'a> Fields<'a> {
         ensures { result ≡ length self.now.left }
     {
         self.left.len()
+    }
+
+    /// The fields that are left to take.
+    pub fn left(&self) -> &'a [&'a str]
+        ensures { texts result.now ≡ self.now.left }
+    {
+        self.left
+    }
+
+    /// Passes over so many fields.
+    pub fn pass(&mut self, count: usize)
+        requires { count ≤ length self.old.left }
+        ensures number { self.new.number ≡ self.old.number + count }
+        ensures left { self.new.left ≡ drop count self.old.left }
+    {
+        self.left = &self.left[count..];
+        self.number += count;
     }
 
     /// Takes a field.

@@ -8,7 +8,7 @@ use super::counts::{read_skips, read_stats};
 use super::fields::Fields;
 use super::names::{read_binary_id, read_profile_name, read_test_name};
 use super::numbers::{read_count, read_nanos, read_small_count};
-use super::outputs::read_output;
+use super::outputs::{read_output, take_silence};
 use super::results::read_result;
 use super::values::{
     ConfigKey, read_absent, read_config_key, read_display, read_final_level, read_flag,
@@ -211,7 +211,7 @@ fn read_attempts(
     Ok(SceneAttempts::with_last(earlier, last, flaky_result))
 }
 
-// Reads an attempt: result, duration, whether it was slow, and its output.
+// Reads an attempt: result, duration, whether it was slow, and its output. Most wrote nothing, which takes no memory.
 #[tactic(auto, unfolding(crate::specs::Lines::attempt_fields))]
 fn read_attempt(
     alloc: Global,
@@ -224,10 +224,13 @@ fn read_attempt(
     let outcome = fields.try_read(|field| read_result(alloc, field))?;
     let time_taken = fields.read(read_nanos)?;
     let is_slow = fields.read(read_flag)?;
-    let output = read_output(alloc, fields, &outcome)?;
     let retry_data = RetryData {
         attempt,
         total_attempts,
     };
+    if take_silence(fields) {
+        return Ok(SceneAttempt::silent(outcome, time_taken, retry_data, is_slow));
+    }
+    let output = read_output(alloc, fields, &outcome)?;
     Ok(SceneAttempt::with_output(alloc, outcome, time_taken, retry_data, is_slow, output)?)
 }

@@ -3,10 +3,11 @@
 //! They are a form, what the form takes first and second, errors, and a highlight. Where something must be absent, anything
 //! but `-` is a bad field.
 
-ghost use Rattle.std.specs.Prelude.{◌≡◌, IfOk};
+ghost use Rattle.std.specs.Prelude.{◌≡◌, ◌++◌, drop, IsTrue, IfOk};
+ghost use Rattle.report.specs.Cuts.{texts};
 ghost use Rattle.report.specs.Fields.{Gives};
 ghost use Rattle.report.specs.Lists.{errors_in};
-ghost use Rattle.report.specs.Outputs.{after_streams, highlight_in, highlight_stream_in, output_fields, output_form_in, stream_in};
+ghost use Rattle.report.specs.Outputs.{after_streams, highlight_in, highlight_stream_in, output_fields, output_form_in, silent_fields, stream_in, TakesSilence};
 ghost use Rattle.report.specs.Texts.{bytes_in};
 
 use super::fields::Fields;
@@ -78,6 +79,30 @@ pub fn read_output(
             fields.read(read_absent)?;
             Ok(ChildExecutionOutputDescription::StartError(error))
         }
+    }
+}
+
+/// Takes the fields of an output, if they come next, that say that both streams were captured and hold nothing.
+pub fn take_silence(fields: &mut Fields<'_>) -> bool
+    ensures { TakesSilence result fields.old fields.new }
+{
+    if !is_silence(fields.left()) {
+        return false;
+    }
+    fields.pass(5);
+    true
+}
+
+// Whether an output that holds nothing comes first.
+fn is_silence(fields: &[&str]) -> bool
+    ensures { IsTrue result → texts fields.now ≡ silent_fields ++ drop 5 (texts fields.now) }
+{
+    match fields {
+        [form, stdout, stderr, errors, highlight, ..] => matches!(
+            (*form, *stdout, *stderr, *errors, *highlight),
+            ("split", "", "", "-", "-")
+        ),
+        _ => false,
     }
 }
 

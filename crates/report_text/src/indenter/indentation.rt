@@ -2,13 +2,13 @@
 //!
 //! It stands in a module of its own, since its name and that of the function `indented` differ only in case.
 
-ghost use Rattle.std.specs.Prelude.{◌≡◌, ◌<◌, ◌++◌, false, length, OnOk};
+ghost use Rattle.std.specs.Prelude.{◌≡◌, false, OnOk};
 ghost use Rattle.report_text.specs.Indented.{PutsMargin, TakesMargin, IndentedTakes, indented_meaning, indented_laws};
 ghost use Rattle.report_text.specs.Lines.{IsOneLine};
 ghost use Rattle.report_text.specs.Writer.{Puts};
 
+use crate::lines::split_line;
 use crate::write_str::{WriteFault, WriteStr};
-use memchr::memchr;
 use std::fmt;
 
 /// Indents each line of what is written to the writer below.
@@ -51,18 +51,6 @@ impl<'a, W> Indented<'a, W> {
         ensures same { result.ghost_name ≡ self.entry.inner.ghost_name }
     {
         self.inner
-    }
-}
-
-// The first line, with its line feed if it has one, and the text after it.
-fn split_line(text: &str) -> (&str, &str)
-    requires { 0 < length text.now }
-    ensures whole { text.now ≡ result.0.now ++ result.1.now }
-    ensures line { IsOneLine result.0.now }
-{
-    match memchr(b'\n', text.as_bytes()) {
-        Some(place) => text.split_at(place + 1),
-        None => text.split_at(text.len()),
     }
 }
 

@@ -1,8 +1,7 @@
 //! Pieces of a text that are written together, without one line feed that closes the text.
 
-ghost use Rattle.std.specs.Prelude.{◌≡◌, ◌++◌, [], false, OnOk, MatchResult};
+ghost use Rattle.std.specs.Prelude.{◌≡◌, [], false, OnOk};
 ghost use Rattle.report_text.specs.Gathered.{unwritten, Carries};
-ghost use Rattle.report_text.specs.Texts.{Text};
 
 use super::piece_buffer::PieceBuffer;
 use crate::end_line::EndLine;

@@ -31,13 +31,14 @@ pub struct TextBuffer<W> {
 }
 
 impl<W: Write> TextBuffer<W> {
-    ghost use Rattle.std.specs.Prelude.{◌≡◌, ◌≤◌, [], IfOk, OnOk, length};
+    ghost use Rattle.std.specs.Prelude.{◌≡◌, ◌≤◌, [], IfErr, IfOk, OnOk, length};
     ghost use Rattle.report_text.specs.Buffer.{buffer_meaning};
     ghost use Rattle.report_text.specs.Writer.{Puts};
 
     /// Reserves the memory, 8,192 bytes, once. Where that is refused, the device is given back.
     pub fn new(alloc: Global, writer: W) -> Result<TextBuffer<W>, (AllocError, W)>
         ensures ok { IfOk result (λ b. (b.writer ≡ writer) × (b.pending.items ≡ []) × (b.failures ≡ 0)) }
+        ensures err { IfErr result (λ refused. refused.1 ≡ writer) }
     {
         match Vec::with_capacity(alloc, CAPACITY) {
             Ok(pending) => Ok(TextBuffer {

@@ -1,11 +1,11 @@
 //! The lines of a highlight. Each has the style for itself, since some viewers end a style with the line.
 
-ghost use Rattle.std.specs.Prelude.{◌≡◌, ◌<◌, ◌++◌, ◌∷◌, length, take, drop};
+ghost use Rattle.std.specs.Prelude.{◌≡◌, take, drop};
 ghost use Rattle.report_text.specs.Writer.{Puts};
-ghost use Rattle.unit_report.specs.HighlightedLines.{body_len, closes_line, highlighted_line, highlighted_lines, whole_lines};
+ghost use Rattle.unit_report.specs.HighlightedLines.{body_len, closes_line, highlighted_line, highlighted_lines};
 
-use memchr::memchr;
 use report_text::escapes::write_stripped;
+use report_text::lines::split_line;
 use report_text::style::Style;
 use report_text::write_str::{WriteFault, WriteStr};
 
@@ -24,18 +24,6 @@ pub(super) fn write_highlighted_lines<W: WriteStr>(
         rest = after;
     }
     Ok(())
-}
-
-// The first line of a text with its line feed, and what follows it.
-fn split_line(text: &str) -> (&str, &str)
-    requires { 0 < length text.now }
-    ensures lines { whole_lines text.now ≡ result.0.now ∷ whole_lines result.1.now }
-    ensures shorter { length result.1.now < length text.now }
-{
-    match memchr(b'\n', text.as_bytes()) {
-        Some(place) => text.split_at(place + 1),
-        None => text.split_at(text.len()),
-    }
 }
 
 // Writes a line in this style, and what closes it after the style.

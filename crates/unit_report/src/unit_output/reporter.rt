@@ -124,35 +124,48 @@ impl UnitOutputReporter {
     ) -> Result<(), WriteFault>
         ensures { Puts W.meaning w.old (child_output self.now styles.now (layout_of spec.now) output.now (option_map (λ h. h.now) highlight.entry)) result w.new }
     {
+        let streams = StreamWriter {
+            reporter: self,
+            styles,
+            spec,
+        };
         match output {
             ChildOutputDescription::Split { stdout, stderr } => {
-                self.write_split(w, styles, spec, stdout, stderr, highlight)
+                streams.write_split(w, stdout, stderr, highlight)
             }
             ChildOutputDescription::Combined { output } => {
                 let part = combined_subslice(highlight);
-                self.write_present(w, styles, spec, spec.combined_header, output, part)
+                streams.write_present(w, spec.combined_header, output, part)
             }
         }
     }
+}
 
+// Writes the streams of a process.
+#[derive(Clone, Copy)]
+struct StreamWriter<'a> {
+    reporter: &'a UnitOutputReporter,
+    styles: &'a Styles,
+    spec: &'a ChildOutputSpec,
+}
+
+impl StreamWriter<'_> {
     // Writes two streams. A record says in one line that neither was captured.
     #[tactic(auto, unfolding(crate::specs::UnitOutputs::split_text))]
     fn write_split<W: WriteStr>(
         &self,
         w: &mut W,
-        styles: &Styles,
-        spec: &ChildOutputSpec,
         stdout: &Option<ChildSingleOutput>,
         stderr: &Option<ChildSingleOutput>,
         highlight: Option<&Highlight>,
     ) -> Result<(), WriteFault>
-        ensures { Puts W.meaning w.old (split_text self.now styles.now (layout_of spec.now) stdout.now stderr.now (option_map (λ h. h.now) highlight.entry)) result w.new }
+        ensures { Puts W.meaning w.old (split_text self.now.reporter.now self.now.styles.now (layout_of self.now.spec.now) stdout.now stderr.now (option_map (λ h. h.now) highlight.entry)) result w.new }
     {
         match (stdout, stderr) {
-            (None, None) if self.displayer_kind == DisplayerKind::Replay => {
-                write_not_captured(w, styles, OutputName::Output)
+            (None, None) if self.reporter.displayer_kind == DisplayerKind::Replay => {
+                write_not_captured(w, self.styles, OutputName::Output)
             }
-            _ => self.write_both(w, styles, spec, stdout, stderr, highlight),
+            _ => self.write_both(w, stdout, stderr, highlight),
         }
     }
 
@@ -161,34 +174,16 @@ impl UnitOutputReporter {
     fn write_both<W: WriteStr>(
         &self,
         w: &mut W,
-        styles: &Styles,
-        spec: &ChildOutputSpec,
         stdout: &Option<ChildSingleOutput>,
         stderr: &Option<ChildSingleOutput>,
         highlight: Option<&Highlight>,
     ) -> Result<(), WriteFault>
-        ensures { Puts W.meaning w.old (both_streams self.now styles.now (layout_of spec.now) stdout.now stderr.now (option_map (λ h. h.now) highlight.entry)) result w.new }
+        ensures { Puts W.meaning w.old (both_streams self.now.reporter.now self.now.styles.now (layout_of self.now.spec.now) stdout.now stderr.now (option_map (λ h. h.now) highlight.entry)) result w.new }
     {
         let part = stdout_subslice(highlight);
-        self.write_stream(
-            w,
-            styles,
-            spec,
-            spec.stdout_header,
-            OutputName::Stdout,
-            stdout,
-            part,
-        )?;
+        self.write_stream(w, self.spec.stdout_header, OutputName::Stdout, stdout, part)?;
         let part = stderr_subslice(highlight);
-        self.write_stream(
-            w,
-            styles,
-            spec,
-            spec.stderr_header,
-            OutputName::Stderr,
-            stderr,
-            part,
-        )
+        self.write_stream(w, self.spec.stderr_header, OutputName::Stderr, stderr, part)
     }
 
     // Writes one of two streams. A record says where it was not captured.
@@ -196,19 +191,17 @@ impl UnitOutputReporter {
     fn write_stream<W: WriteStr>(
         &self,
         w: &mut W,
-        styles: &Styles,
-        spec: &ChildOutputSpec,
         header: OutputHeader,
         name: OutputName,
         output: &Option<ChildSingleOutput>,
         highlight: Option<ByteSubslice<'_>>,
     ) -> Result<(), WriteFault>
-        ensures { Puts W.meaning w.old (stream_text self.now styles.now spec.now.output_indent.now header name output.now (subslice_value highlight.entry)) result w.new }
+        ensures { Puts W.meaning w.old (stream_text self.now.reporter.now self.now.styles.now self.now.spec.now.output_indent.now header name output.now (subslice_value highlight.entry)) result w.new }
     {
         match output {
-            Some(output) => self.write_present(w, styles, spec, header, output, highlight),
-            None if self.displayer_kind == DisplayerKind::Replay => {
-                write_not_captured(w, styles, name)
+            Some(output) => self.write_present(w, header, output, highlight),
+            None if self.reporter.displayer_kind == DisplayerKind::Replay => {
+                write_not_captured(w, self.styles, name)
             }
             None => Ok(()),
         }
@@ -219,37 +212,34 @@ impl UnitOutputReporter {
     fn write_present<W: WriteStr>(
         &self,
         w: &mut W,
-        styles: &Styles,
-        spec: &ChildOutputSpec,
         header: OutputHeader,
         output: &ChildSingleOutput,
         highlight: Option<ByteSubslice<'_>>,
     ) -> Result<(), WriteFault>
-        ensures { Puts W.meaning w.old (present_stream self.now styles.now spec.now.output_indent.now header output.now (subslice_value highlight.entry)) result w.new }
+        ensures { Puts W.meaning w.old (present_stream self.now.reporter.now self.now.styles.now self.now.spec.now.output_indent.now header output.now (subslice_value highlight.entry)) result w.new }
     {
-        if self.display_empty_outputs || !output.is_empty() {
-            write_shown(w, styles, spec, header, output.as_bytes(), highlight)
+        if self.reporter.display_empty_outputs || !output.is_empty() {
+            self.write_shown(w, header, output.as_bytes(), highlight)
         } else {
             Ok(())
         }
     }
-}
 
-// Writes the header of a stream, and the stream below it, indented.
-#[tactic(auto, unfolding(crate::specs::UnitOutputs::shown_stream))]
-fn write_shown<W: WriteStr>(
-    w: &mut W,
-    styles: &Styles,
-    spec: &ChildOutputSpec,
-    header: OutputHeader,
-    bytes: &[u8],
-    highlight: Option<ByteSubslice<'_>>,
-) -> Result<(), WriteFault>
-    ensures { Puts W.meaning w.old (shown_stream styles.now spec.now.output_indent.now header bytes.now (subslice_value highlight.entry)) result w.new }
-{
-    header.write_to(w)?;
-    write_plain(w, "\n")?;
-    write_captured_indented(w, styles, spec.output_indent, bytes, highlight)
+    // Writes the header of a stream, and the stream below it, indented.
+    #[tactic(auto, unfolding(crate::specs::UnitOutputs::shown_stream))]
+    fn write_shown<W: WriteStr>(
+        &self,
+        w: &mut W,
+        header: OutputHeader,
+        bytes: &[u8],
+        highlight: Option<ByteSubslice<'_>>,
+    ) -> Result<(), WriteFault>
+        ensures { Puts W.meaning w.old (shown_stream self.now.styles.now self.now.spec.now.output_indent.now header bytes.now (subslice_value highlight.entry)) result w.new }
+    {
+        header.write_to(w)?;
+        write_plain(w, "\n")?;
+        write_captured_indented(w, self.styles, self.spec.output_indent, bytes, highlight)
+    }
 }
 
 // Writes captured output, each line after the margin.

@@ -1,13 +1,18 @@
+use Rattle.std.proofs.Common.{length}
+use denote.Text.{Utf8}
+use denote.Shadow.{shadow}
 use Rattle.report_text.specs.EndLine.{without_end_line}
-use Rattle.report_text.specs.Escapes.{stretches, visible}
+use Rattle.report_text.specs.Escapes.{visible}
 use Rattle.report_text.specs.Gathered.{unwritten}
 use Rattle.report_text.specs.Writer.{Owes}
 use Rattle.report_text.proofs.stripped.write_gathered.Given as goal
 
--- what is gathered and the stretches that are left are owed
-abbrev pub invariant-loop-piece : goal.invariant-loop-piece
-invariant-loop-piece g l = record {
-  can_next : (goal.iterator-loop-piece g).can_next l.piece-iterator;
-  ends : (goal.iterator-loop-piece g).is_finite l.piece-iterator;
-  owed : Owes g.W.WriteStr.meaning l.fn.w (without_end_line (visible l.fn.text)) l.w (unwritten l.gathered (stretches l.piece-iterator));
+-- what is gathered and what is visible of the rest are owed
+abbrev pub invariant-loop-rest : goal.invariant-loop-rest
+invariant-loop-rest g l = record {
+  text : shadow (Utf8 l.rest);
+  owed : Owes g.W.WriteStr.meaning l.fn.w (without_end_line (visible l.fn.text)) l.w (unwritten l.gathered (visible l.rest));
 }
+
+abbrev pub decreases-loop-rest : goal.decreases-loop-rest
+decreases-loop-rest g l = length l.rest

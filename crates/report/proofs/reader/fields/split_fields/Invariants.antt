@@ -1,10 +1,13 @@
-use Rattle.std.proofs.Common.{◌≡◌, ◌++◌}
-use Rattle.report.specs.Cuts.{parted, pieces_left, size_left, texts}
+use Rattle.std.proofs.Common.{◌≡◌, ◌++◌, drop, length}
+use Rattle.std.specs.Str.{IsCharBoundary}
+use Rattle.memchr.specs.Find.{is_byte, places_between}
+use Rattle.report.specs.Cuts.{parted, texts}
 use Rattle.report.proofs.reader.fields.split_fields.Given as goal
 
--- the fields so far, and those that are left, are all
-abbrev pub invariant-loop-rest : goal.invariant-loop-rest
-invariant-loop-rest l = texts l.fields.items ++ pieces_left 9 l.rest ≡ parted 9 l.line
-
-abbrev pub decreases-loop-rest : goal.decreases-loop-rest
-decreases-loop-rest l = size_left l.rest
+-- the fields so far, and those from the start on, are all
+abbrev pub invariant-loop-tab : goal.invariant-loop-tab
+invariant-loop-tab l = record {
+  boundary : IsCharBoundary l.line l.start;
+  tabs : l.tab-iterator ≡ places_between (is_byte 9) l.line l.start (length l.line);
+  fields : texts l.fields.items ++ parted 9 (drop l.start l.line) ≡ parted 9 l.line;
+}
