@@ -1,8 +1,16 @@
 //! How a reporter is configured.
 
+ghost use Rattle.std.specs.Prelude.{◌≡◌, []};
+ghost use Rattle.console_reporter.specs.Configuration.{configured, settings_of};
+ghost use Rattle.console_reporter.specs.Standing.{StandsAfter};
+
+use super::reporter::DisplayReporter;
+use event_text::settings::{Settings, counter_width_for, overrides_for, styles_for, theme_for};
+use report_text::write_str::WriteStr;
 use run_model::config::{CompiledDefaultFilter, NextestRunMode, TestOutputDisplay};
+use std::alloc::Global;
 use unit_report::config::DisplayConfig;
-use unit_report::unit_output::DisplayerKind;
+use unit_report::unit_output::{DisplayerKind, UnitOutputReporter};
 
 /// What a reporter is built from.
 #[derive(Debug, Drop)]
@@ -27,4 +35,56 @@ pub struct DisplayReporterBuilder {
     pub no_output_indent: bool,
     /// Whether the report is made while the run goes on or from its record.
     pub displayer_kind: DisplayerKind,
+}
+
+impl DisplayReporterBuilder {
+    /// A reporter to a writer, to which nothing is written yet. It takes no memory.
+    pub fn build<'a, W: WriteStr>(
+        self,
+        alloc: Global,
+        writer: &'a mut W,
+        use_unicode: bool,
+        is_terminal: bool,
+        is_ci: bool,
+        display_empty_outputs: bool,
+    ) -> DisplayReporter<'a, W>
+        ensures same_reference { result.writer.ghost_name ≡ writer.entry.ghost_name }
+        ensures untouched { result.writer.now ≡ writer.old }
+        ensures stands { StandsAfter (configured self use_unicode is_terminal is_ci display_empty_outputs) [] result }
+    {
+        let settings = self.settings(use_unicode, is_terminal, is_ci, display_empty_outputs);
+        DisplayReporter::new(alloc, writer, settings)
+    }
+
+    // What a reporter goes by that is built so.
+    fn settings(
+        self,
+        use_unicode: bool,
+        is_terminal: bool,
+        is_ci: bool,
+        display_empty_outputs: bool,
+    ) -> Settings
+        ensures { result ≡ settings_of (configured self use_unicode is_terminal is_ci display_empty_outputs) }
+    {
+        let resolved = self.display_config.resolve(is_terminal, is_ci);
+        let overrides = overrides_for(
+            self.display_config.no_capture,
+            self.success_output,
+            self.failure_output,
+        );
+        Settings {
+            mode: self.mode,
+            status_levels: resolved.status_levels,
+            styles: styles_for(self.should_colorize),
+            counter_width: counter_width_for(resolved.progress_display, self.run_count),
+            default_filter: self.default_filter,
+            theme_characters: theme_for(use_unicode),
+            unit_output: UnitOutputReporter::new(
+                overrides,
+                self.displayer_kind,
+                display_empty_outputs,
+            ),
+            no_output_indent: self.no_output_indent,
+        }
+    }
 }

@@ -9,7 +9,7 @@ ghost use Rattle.report_text.specs.Writer.{Puts, one_further};
 ghost use Rattle.event_text.specs.FinishedTests.{finish_of};
 ghost use Rattle.console_reporter.specs.declared.imp.calls.ReportCall.{ReportCall};
 ghost use Rattle.console_reporter.specs.declared.imp.faults.WriteEventError.{WriteEventError};
-ghost use Rattle.console_reporter.specs.Configuration.{Configuration, configured};
+ghost use Rattle.console_reporter.specs.Configuration.{Configuration, configured, settings_of};
 ghost use Rattle.console_reporter.specs.Effects.{effect_of, is_kept, kept_entry};
 ghost use Rattle.console_reporter.specs.Entries.{entry_cmp, hiding_rank};
 ghost use Rattle.console_reporter.specs.Outcomes.{Stops, StopsAfter, IsOfLines, error_for};
@@ -23,7 +23,7 @@ use super::faults::{RunFault, WriteEventError};
 use super::final_output::FinalOutputEntry;
 use super::kept::{sort_final_outputs, write_entries};
 use event_text::run_text::{write_run_finished, write_run_started};
-use event_text::settings::{Settings, counter_width_for, overrides_for, styles_for, theme_for};
+use event_text::settings::Settings;
 use event_text::test_finished::{FinishedTest, write_test_finished};
 use report_text::write_str::{WriteFault, WriteStr};
 use run_model::event::{TestEvent, TestEventKind};
@@ -32,7 +32,6 @@ use run_model::memory::OutOfMemory;
 use run_model::run_id::ShortestRunIdPrefix;
 use std::alloc::{AllocError, Global};
 use unit_report::formatters::write_final_warnings;
-use unit_report::unit_output::UnitOutputReporter;
 
 /// Reports events to a writer.
 ///
@@ -55,22 +54,17 @@ struct ReporterState<'a> {
     has_failed: bool,
 }
 
-impl DisplayReporterBuilder {
-    /// A reporter to a writer, to which nothing is written yet. It takes no memory.
-    pub fn build<'a, W: WriteStr>(
-        self,
+impl<'a, W: WriteStr> DisplayReporter<'a, W> {
+    // A reporter that goes by these settings, and has made no call yet. It takes no memory.
+    pub(super) fn new(
         alloc: Global,
         writer: &'a mut W,
-        use_unicode: bool,
-        is_terminal: bool,
-        is_ci: bool,
-        display_empty_outputs: bool,
+        settings: Settings,
     ) -> DisplayReporter<'a, W>
         ensures same_reference { result.writer.ghost_name ≡ writer.entry.ghost_name }
         ensures untouched { result.writer.now ≡ writer.old }
-        ensures stands { StandsAfter (configured self use_unicode is_terminal is_ci display_empty_outputs) [] result }
+        ensures stands { (config : Configuration) → settings ≡ settings_of config → StandsAfter config [] result }
     {
-        let resolved = self.display_config.resolve(is_terminal, is_ci);
         DisplayReporter {
             writer,
             state: ReporterState {
@@ -78,31 +72,12 @@ impl DisplayReporterBuilder {
                 kept: Vec::new(alloc),
                 unique_prefix: None,
                 cancel_status: None,
-                settings: Settings {
-                    mode: self.mode,
-                    status_levels: resolved.status_levels,
-                    styles: styles_for(self.should_colorize),
-                    counter_width: counter_width_for(resolved.progress_display, self.run_count),
-                    default_filter: self.default_filter,
-                    theme_characters: theme_for(use_unicode),
-                    unit_output: UnitOutputReporter::new(
-                        overrides_for(
-                            self.display_config.no_capture,
-                            self.success_output,
-                            self.failure_output,
-                        ),
-                        self.displayer_kind,
-                        display_empty_outputs,
-                    ),
-                    no_output_indent: self.no_output_indent,
-                },
+                settings,
                 has_failed: false,
             },
         }
     }
-}
 
-impl<'a, W: WriteStr> DisplayReporter<'a, W> {
     /// Writes the text of an event, and delivers it.
     ///
     /// ```

@@ -1,7 +1,5 @@
-use Rattle.std.proofs.Common.{rules, refl}
-use Rattle.console_reporter.specs.Entries.{cancel, kept, prefix}
+use Rattle.console_reporter.specs.Configuration.{configured}
 use Rattle.console_reporter.proofs.imp.builder.DisplayReporterBuilder.build.Goals as goal
 
 pub returns-clause-stands : goal.returns-clause-stands
-unfolding cancel kept prefix
-returns-clause-stands g c = record { settings = search rules; prefix = refl; reason = refl; kept = λ x. rw c.new.ensures.items; works = search rules }
+returns-clause-stands g c = c.new.ensures.stands (configured c.args.self c.args.use_unicode c.args.is_terminal c.args.is_ci c.args.display_empty_outputs) c.settings-settings.ensures
