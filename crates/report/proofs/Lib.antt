@@ -10,6 +10,7 @@ pub mod Pairs
 pub mod Reports
 pub mod Silence
 pub mod Tabs
+pub mod SpelledRuns
 pub mod Tellings
 pub mod Unescaped
 pub mod Utf8

@@ -12,6 +12,7 @@ pub mod Results
 pub mod SceneAttempts
 pub mod SceneTexts
 pub mod Scenes
+pub mod SpelledRuns
 pub mod Texts
 pub mod Values
 pub mod Words

@@ -13,9 +13,8 @@ mod tests;
 mod words;
 
 use fault::Fault;
-use program::{judge, write_report};
+use program::report_scene;
 use std::fs::File;
-use std::mem::ManuallyDrop;
 use std::process::ExitCode;
 use std::{env, io};
 use words::words;
@@ -57,7 +56,6 @@ fn run<'a>(rt: &HostRuntime, args: &'a [String]) -> Result<(), Fault<'a>> {
     let Ok(file) = File::open(rt, options.file) else {
         return Err(Fault::CannotRead { file: options.file });
     };
-    // The process ends with the report, and the scene's memory with the process: nothing is gained by giving it back.
-    let scene = ManuallyDrop::new(judge(rt.alloc(), &options, file)?);
-    write_report(rt.alloc(), &options, &scene, io::writer(rt))
+    let (outcome, _output) = report_scene(rt.alloc(), &options, file, io::writer(rt));
+    outcome
 }

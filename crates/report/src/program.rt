@@ -5,6 +5,7 @@ ghost use Rattle.report.specs.Cuts.{parted};
 ghost use Rattle.report.specs.Faults.{IsJudgeFault, status_of};
 ghost use Rattle.report.specs.Reports.{AcceptsReport, PrintsBeginning, PrintsReport, IsRefused, StopsReport, builder_for, fault_for, kind_for, progress_for};
 ghost use Rattle.report.specs.SceneTexts.{AllTell, IsJudged, IsJudgedFault, nothing_told, text_told, told};
+ghost use Rattle.report.specs.SpelledRuns.{BeginsRun, IsRejected, PrintsRun};
 ghost use Rattle.report.specs.declared.fault.Fault.{Fault};
 
 use crate::fault::Fault;
@@ -18,6 +19,7 @@ use run_model::config::{CompiledDefaultFilter, CompiledDefaultFilterSection};
 use run_model::name::ProfileName;
 use std::alloc::{AllocError, Global};
 use std::io::{ErrorKind, Read, Write};
+use std::mem::ManuallyDrop;
 
 /// Reads a scene to its end, and judges it whole. It answers the fault of the first line that has one, that the file
 /// cannot be read, or that memory is refused.
@@ -41,6 +43,26 @@ pub fn judge<'a, R: Read + Drop>(
         });
     }
     read_scene(alloc, text.as_slice())
+}
+
+/// Reads a scene to its end and writes its report to a device, which it gives back: the whole way from a file's bytes to
+/// those of its report. A scene that has a fault leaves the device as it was.
+///
+/// The scene's memory is not given back, as a program ends with its report and its memory with the process.
+pub fn report_scene<'a, R: Read + Drop, W: Write>(
+    alloc: Global,
+    options: &Options<'a>,
+    reader: R,
+    writer: W,
+) -> (Result<(), Fault<'a>>, W)
+    ensures ok { (text : List ℕ) → R.remaining reader ≡ Some text → OnOk result.0 (PrintsRun options.now text (W.contents writer) (W.contents result.1)) }
+    ensures err { (text : List ℕ) → R.remaining reader ≡ Some text →
+        IfErr result.0 (λ fault. IsRejected text fault writer result.1 ⊎ BeginsRun options.now text (W.contents writer) (W.contents result.1)) }
+{
+    match judge(alloc, options, reader) {
+        Ok(scene) => write_and_return(alloc, options, &ManuallyDrop::new(scene), writer),
+        Err(fault) => (Err(fault), writer),
+    }
 }
 
 /// Writes the report of a scene to a device. On a fault a beginning of it was written.

@@ -1,0 +1,24 @@
+-- From the text of a scene to the bytes of its report.
+use Rattle.std.specs.Prelude.{◌≡◌, ℕ, List, Option, Ok, Err}
+use Rattle.report.specs.Reports.{PrintsBeginning, PrintsReport}
+use Rattle.report.specs.SceneTexts.{IsJudged, text_told, told}
+use Rattle.report.specs.declared.fault.Fault.{Fault}
+use Rattle.report.specs.declared.scene.Scene.{Scene}
+use Rattle.report.specs.declared.words.Options.{Options}
+
+-- the bytes grew by the report of the run that the text spells
+pub record PrintsRun (options : Options) (text : List ℕ) (old new : Option (List ℕ)) : Type 0 where
+  pub scene : Scene
+  pub spelled : text_told text ≡ Ok (told scene)
+  pub printed : PrintsReport options scene old new
+
+-- the report of the run that the text spells stopped, and the device holds a beginning of it
+pub record BeginsRun (options : Options) (text : List ℕ) (old new : Option (List ℕ)) : Type 0 where
+  pub scene : Scene
+  pub spelled : text_told text ≡ Ok (told scene)
+  pub begun : PrintsBeginning options scene old new
+
+-- the fault is the text's own, or that it was not read whole, and nothing was written
+pub record IsRejected {W : Type 0} (text : List ℕ) (fault : Fault) (old new : W) : Type 0 where
+  pub judged : IsJudged (Err fault) (text_told text)
+  pub untouched : new ≡ old
