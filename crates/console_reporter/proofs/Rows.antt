@@ -43,7 +43,7 @@ use Rattle.console_reporter.specs.Order.{ordered_by, put_in}
 use Rattle.console_reporter.specs.Entries.{cancel, kept, final_order}
 use Rattle.event_text.specs.FinishedTests.{test_finish}
 use Rattle.console_reporter.specs.Effects.{finished_entry}
-use Rattle.event_text.specs.Finishes.{display_of, finish_row, row_kept, is_final_wanted}
+use Rattle.event_text.specs.Finishes.{display_of, finish_row, row_listed, is_final_wanted}
 use Rattle.event_text.specs.RunTexts.{bar_line, run_id_text, id_text, profile_text, run_id_line, test_counts_text, starting_line, run_started_text, initial_count_text, run_counts_text, summary_line, run_finished_text}
 use Rattle.event_text.specs.StatusLines.{status_prefix, flaky_failure_line, status_line}
 use Rattle.console_reporter.specs.declared.imp.calls.ReportCall.TheVariants.{Event}
@@ -151,7 +151,7 @@ failed_line Intermediate test output code time binary name after = rw (binary, n
 twice : (event finish : TestEvent) (stress : Option StressIndex) (test : TestInstanceId) (success : TestOutputDisplay) (output : Written) (code : ℤ) (time elapsed : Nanos) →
     event.kind ≡ TestFinished stress test success Never (failed output code time) stats → finish.kind ≡ RunFinished elapsed (Single stats) →
     final_order (kept settings (Event finish ∷ Event event ∷ [])) ≡ finished_entry (test_finish settings 0 stress test success Never (failed output code time) stats) ∷ []
-unfolding kept cancel ordered_by put_in display_of finish_row row_kept is_final_wanted
+unfolding kept cancel ordered_by put_in display_of finish_row row_listed is_final_wanted
 twice event finish stress test success output code time elapsed is end = rw (is, end) refl
 
 -- rows of the table on finished tests: under an immediate end a test that ended by signal 15 and one with a code, then any

@@ -5,7 +5,7 @@ use Rattle.run_model.specs.declared.event.TestEventKind.{TestEventKind}
 use Rattle.run_model.specs.declared.event.TestEventKind.TheVariants.{TestFinished, RunFinished}
 use Rattle.event_text.specs.AttemptOutputs.{Written}
 use Rattle.event_text.specs.FinishedTests.{TestFinish, test_finish}
-use Rattle.event_text.specs.Finishes.{is_final_wanted, row_at_end, row_kept}
+use Rattle.event_text.specs.Finishes.{is_final_wanted, row_at_end, row_listed}
 use Rattle.event_text.specs.declared.settings.Settings.{Settings}
 use Rattle.console_reporter.specs.declared.imp.final_output.FinalOutput.TheVariants.{Executed}
 use Rattle.console_reporter.specs.declared.imp.final_output.FinalOutputEntry.{FinalOutputEntry}
@@ -20,7 +20,7 @@ finished_entry f = record { test = f.test; output = Executed f.summary (output_a
 
 -- the summary lists it
 abbrev pub is_kept : Settings → TestFinish → Bool
-is_kept s f = row_kept f.row (is_final_wanted s f.display f.summary)
+is_kept s f = row_listed f.row (is_final_wanted s f.display f.summary)
 
 -- its entry, where the summary lists it
 abbrev pub kept_entry : Settings → TestFinish → Option FinalOutputEntry

@@ -54,10 +54,10 @@ row_at_end row.Shown display = is_final display
 row_at_end row.ShownOnce display = is_final display && not (is_immediate display)
 
 -- what it says of a test that the summary is to list
-unfoldable pub row_kept : FinishRow → Bool → Bool
-row_kept row.Hidden is_wanted = false
-row_kept row.Shown is_wanted = is_wanted
-row_kept row.ShownOnce is_wanted = is_wanted
+unfoldable pub row_listed : FinishRow → Bool → Bool
+row_listed row.Hidden is_wanted = false
+row_listed row.Shown is_wanted = is_wanted
+row_listed row.ShownOnce is_wanted = is_wanted
 
 -- when the output of a test is shown that asks for these settings
 unfoldable pub display_of : Settings → TestOutputDisplay → TestOutputDisplay → StatusSummary → TestOutputDisplay

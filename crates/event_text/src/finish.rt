@@ -3,7 +3,7 @@
 ghost use Rattle.std.specs.Prelude.{◌≡◌};
 ghost use Rattle.run_model.specs.Levels.{reason_rank};
 ghost use Rattle.run_model.specs.Statuses.{described_summary};
-ghost use Rattle.event_text.specs.Finishes.{IsOnlyHidden, IsSameBelowImmediate, display_of, finish_row, is_shown_at_end, is_shown_at_once, is_final_wanted, is_line_shown, is_terminated, is_terminated_abort, is_terminated_failure, row_at_end, row_at_once, row_kept};
+ghost use Rattle.event_text.specs.Finishes.{IsOnlyHidden, IsSameBelowImmediate, display_of, finish_row, is_shown_at_end, is_shown_at_once, is_final_wanted, is_line_shown, is_terminated, is_terminated_abort, is_terminated_failure, row_at_end, row_at_once, row_listed};
 
 use crate::settings::Settings;
 use run_model::abort::AbortDescription;
@@ -74,9 +74,9 @@ impl FinishRow {
     }
 
     /// Whether the summary lists a test that it is to list.
-    #[tactic(auto, unfolding(crate::specs::Finishes::row_kept))]
-    pub fn keeps(self, is_wanted: bool) -> bool
-        ensures { result ≡ row_kept self is_wanted }
+    #[tactic(auto, unfolding(crate::specs::Finishes::row_listed))]
+    pub fn is_listed(self, is_wanted: bool) -> bool
+        ensures { result ≡ row_listed self is_wanted }
     {
         match self {
             FinishRow::Hidden => false,

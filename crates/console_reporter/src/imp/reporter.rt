@@ -271,7 +271,7 @@ impl<'a> ReporterState<'a> {
         let is_wanted = self
             .settings
             .is_final_wanted(finished.display, &finished.describe);
-        if !finished.row.keeps(is_wanted) {
+        if !finished.row.is_listed(is_wanted) {
             return Ok(());
         }
         let entry = FinalOutputEntry::of_test(self.alloc, finished)?;
@@ -406,7 +406,7 @@ pub fn run_report<'a, W: WriteStr>(
         IfErr result (λ stop. AreAccepted config (take (stop.position + 1) calls.now)) }
     ensures err { let config = configured builder use_unicode is_terminal is_ci display_empty_outputs in
         IfErr result (λ stop. StopsAfter W.meaning writer.old (report config (past_at calls.now stop.position)) (text_at config calls.now stop.position) stop.fault writer.new) }
-    ensures kept { OnOk result (W.meaning.failures writer.new ≡ W.meaning.failures writer.old) }
+    ensures no_failure { OnOk result (W.meaning.failures writer.new ≡ W.meaning.failures writer.old) }
     ensures io { IfErr result (λ stop. stop.fault ≡ WriteEventError.Io → W.meaning.failures writer.new ≡ one_further (W.meaning.failures writer.old)) }
     ensures memory { let config = configured builder use_unicode is_terminal is_ci display_empty_outputs in
         IfErr result (λ stop. stop.fault ≡ WriteEventError.Memory → W.meaning.may_refuse writer.old ⊎ MayGrowAt config calls.now stop.position) }

@@ -10,8 +10,8 @@ returns-clause-ok g c = search rules
 pub returns-clause-err : goal.returns-clause-err
 returns-clause-err g c = search rules
 
-pub returns-clause-kept : goal.returns-clause-kept
-returns-clause-kept g c = on_ok_weaker _ (λ h. (g.met.W.WriteStr.laws.kept _ _ _ h).0) (returns-clause-ok g c)
+pub returns-clause-no_failure : goal.returns-clause-no_failure
+returns-clause-no_failure g c = on_ok_weaker _ (λ h. (g.met.W.WriteStr.laws.kept _ _ _ h).0) (returns-clause-ok g c)
 
 pub returns-clause-io : goal.returns-clause-io
 returns-clause-io g c = IfErr-weaker _ _ _ (λ stop h. stopped_io g.met.W.WriteStr.laws _ _ _ _ _ h) (returns-clause-err g c)
