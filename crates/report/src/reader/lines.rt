@@ -67,68 +67,19 @@ impl LineKind {
 pub fn read_config(fields: &mut Fields<'_>, config: SceneConfig) -> Result<SceneConfig, LineFault>
     ensures { config_line config fields.old ≡ answered result fields.new }
 {
+    let mut config = config;
     match fields.read(read_config_key)? {
-        ConfigKey::Final => {
-            let final_status_level = fields.read(read_final_level)?;
-            Ok(SceneConfig {
-                final_status_level,
-                ..config
-            })
-        }
-        ConfigKey::Runs => {
-            let run_count = fields.read(read_count)?;
-            Ok(SceneConfig {
-                run_count,
-                ..config
-            })
-        }
-        ConfigKey::Bench => {
-            let mode = fields.read(read_mode)?;
-            Ok(SceneConfig { mode, ..config })
-        }
-        ConfigKey::Success => {
-            let success_output = Some(fields.read(read_display)?);
-            Ok(SceneConfig {
-                success_output,
-                ..config
-            })
-        }
-        ConfigKey::Failure => {
-            let failure_output = Some(fields.read(read_display)?);
-            Ok(SceneConfig {
-                failure_output,
-                ..config
-            })
-        }
-        ConfigKey::NoCapture => {
-            let no_capture = fields.read(read_flag)?;
-            Ok(SceneConfig {
-                no_capture,
-                ..config
-            })
-        }
-        ConfigKey::NoIndent => {
-            let no_output_indent = fields.read(read_flag)?;
-            Ok(SceneConfig {
-                no_output_indent,
-                ..config
-            })
-        }
-        ConfigKey::Unicode => {
-            let use_unicode = fields.read(read_flag)?;
-            Ok(SceneConfig {
-                use_unicode,
-                ..config
-            })
-        }
-        ConfigKey::Empty => {
-            let display_empty_outputs = fields.read(read_flag)?;
-            Ok(SceneConfig {
-                display_empty_outputs,
-                ..config
-            })
-        }
+        ConfigKey::Final => config.final_status_level = fields.read(read_final_level)?,
+        ConfigKey::Runs => config.run_count = fields.read(read_count)?,
+        ConfigKey::Bench => config.mode = fields.read(read_mode)?,
+        ConfigKey::Success => config.success_output = Some(fields.read(read_display)?),
+        ConfigKey::Failure => config.failure_output = Some(fields.read(read_display)?),
+        ConfigKey::NoCapture => config.no_capture = fields.read(read_flag)?,
+        ConfigKey::NoIndent => config.no_output_indent = fields.read(read_flag)?,
+        ConfigKey::Unicode => config.use_unicode = fields.read(read_flag)?,
+        ConfigKey::Empty => config.display_empty_outputs = fields.read(read_flag)?,
     }
+    Ok(config)
 }
 
 /// Reads a `run` line: run id, profile, how many tests and binaries, and what is skipped.
