@@ -1,5 +1,5 @@
 -- What is kept of the calls for the summary, and how the summary lists it.
-use Rattle.std.specs.Prelude.{ℕ, ◌-◌, Bool, true, false, List, [], ◌∷◌, ◌++◌, Option, Some, None, max, nat_lt, if◌then◌else◌}
+use Rattle.std.specs.Prelude.{ℕ, ◌-◌, Bool, false, List, [], ◌∷◌, ◌++◌, Option, Some, None, max}
 use Rattle.std.specs.Option.{option_to_list}
 use Rattle.std.specs.declared.cmp.Ordering.{Ordering}
 use Rattle.std.specs.Ordering.{is_lt, nat_cmp, on, then_cmp}
@@ -118,7 +118,3 @@ entry_text s e = final_text s e.test e.output
 -- the entries as they stand, one after another
 abbrev pub entries_text : Settings → List FinalOutputEntry → Text
 entries_text s es = flat_map (entry_text s) es
-
--- the entries, where no hiding reason was given
-unfoldable pub listed_text : Settings → ℕ → List FinalOutputEntry → Text
-listed_text s reason es = if nat_lt reason hiding_rank then entries_text s es else []

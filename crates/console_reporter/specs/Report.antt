@@ -1,5 +1,5 @@
 -- The report: the text of each call, from the call, the configuration and the calls before it.
-use Rattle.std.specs.Prelude.{ℕ, List, [], ◌∷◌, ◌++◌, Option, None, Some, nat_lt, reverse, take, slice_get, false, if◌then◌else◌}
+use Rattle.std.specs.Prelude.{ℕ, List, [], ◌∷◌, ◌++◌, Option, None, Some, nat_lt, reverse, take, slice_get, if◌then◌else◌}
 use Rattle.std.specs.List.{AllByRecursion}
 use Rattle.std.specs.Option.{option_map_or}
 use Rattle.run_model.specs.Stats.{final_stats_of_run}
