@@ -1,5 +1,5 @@
 -- What a device holds of a report that stopped (write_and_return: err).
-use Rattle.std.proofs.Common.{◌≡◌, ℕ, List, [], ◌++◌, Option, Some, ◌⊎◌, sym, ap, ◌∙◌, inl, inr}
+use Rattle.std.proofs.Common.{◌≡◌, ℕ, List, [], Option, Some, ◌⊎◌, sym, ap, ◌∙◌, inl, inr}
 use Rattle.std.specs.Prelude.{Result, Ok, Err, IfErr, OnErr}
 use Rattle.std.specs.Option.{option_map_or}
 use Rattle.report_text.specs.Buffer.{buffer_meaning, GrowsWithin}

@@ -1,5 +1,5 @@
 -- The fields of an output that holds nothing.
-use Rattle.std.proofs.Common.{◌≡◌, ℕ, ◌+◌, ◌≤◌, List, [], ◌∷◌, ◌++◌, Bool, true, false, drop, length, Ok, refl, ap, sym, ◌∙◌, arith}
+use Rattle.std.proofs.Common.{◌≡◌, ℕ, ◌+◌, List, ◌++◌, true, drop, Ok, refl, ap, sym, ◌∙◌, arith}
 use Rattle.run_model.specs.declared.status.ExecutionResultDescription.{ExecutionResultDescription}
 use Rattle.report.specs.Cuts.{cut}
 use Rattle.report.specs.Fields.{Place}

@@ -1,9 +1,9 @@
 -- The pieces of a text between the places of a byte.
-use Rattle.std.proofs.Common.{◌≡◌, ℕ, zero, suc, ◌+◌, ◌-◌, ◌<◌, ◌≤◌, List, [], ◌∷◌, ◌++◌, Bool, true, false, ◌==◌, length, get_or, take, drop, refl, ap, sym, ◌∙◌, subst, length-drop, append_assoc, arith, inl, inr}
+use Rattle.std.proofs.Common.{◌≡◌, ℕ, zero, suc, ◌+◌, ◌-◌, ◌<◌, ◌≤◌, List, [], ◌∷◌, ◌++◌, Bool, true, false, ◌==◌, length, take, drop, ap, sym, ◌∙◌, subst, length-drop, append_assoc, arith, inl, inr}
 use Rattle.std.specs.List.{slice_index}
 use Rattle.std.proofs.lemmas.Bool.{cases_Bool, cases_lt}
 use Rattle.std.proofs.lemmas.List.{get_or-drop, drop-drop, map-append}
-use Rattle.memchr.specs.Find.{is_byte, Nowhere, NoneBefore, Passes, places_from, places_between}
+use Rattle.memchr.specs.Find.{is_byte, Nowhere, NoneBefore, Passes, places_from}
 use Rattle.std.specs.Borrow.{Bor}
 use Rattle.report.specs.Cuts.{parted, texts}
 use Rattle.report.proofs.Cuts.{Lacks-from_each, cut_at, parted-lacks, parted-parts}

@@ -1,14 +1,12 @@
 -- What an attempt wrote, as a scene writes it.
 use Rattle.std.specs.Prelude.{◌≡◌, ℕ, List, [], ◌∷◌, if◌then◌else◌, codes, bytes_eq, Bool, true, false, Ok, Option, None, Some}
 use Rattle.std.specs.Option.{option_map}
-use Rattle.run_model.specs.declared.output.ChildExecutionOutputDescription.{ChildExecutionOutputDescription}
 use Rattle.run_model.specs.declared.output.ChildExecutionOutputDescription.TheVariants as written
 use Rattle.run_model.specs.declared.output.ChildOutputDescription.{ChildOutputDescription}
 use Rattle.run_model.specs.declared.output.ChildOutputDescription.TheVariants as streams
 use Rattle.run_model.specs.declared.output.Highlight.{Highlight}
 use Rattle.run_model.specs.declared.output.HighlightStream.{HighlightStream}
 use Rattle.run_model.specs.declared.output.HighlightStream.TheVariants as stream
-use Rattle.run_model.specs.declared.output.LiveSpec.{LiveSpec}
 use Rattle.run_model.specs.declared.status.ExecutionResultDescription.{ExecutionResultDescription}
 use Rattle.report.specs.Cuts.{cut}
 use Rattle.report.specs.Fields.{◌>>=◌, Line, Place, said, field}

@@ -1,5 +1,5 @@
 -- What the short form of an attempt leaves out.
-use Rattle.std.specs.Prelude.{ℕ, List, [], Option, None, Some}
+use Rattle.std.specs.Prelude.{[], None, Some}
 use Rattle.run_model.specs.declared.output.ChildExecutionOutputDescription.{ChildExecutionOutputDescription}
 use Rattle.run_model.specs.declared.output.ChildExecutionOutputDescription.TheVariants.{Output}
 use Rattle.run_model.specs.declared.output.ChildOutputDescription.{ChildOutputDescription}

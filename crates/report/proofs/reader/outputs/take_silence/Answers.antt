@@ -1,4 +1,3 @@
-use Rattle.std.proofs.Common.{◌≡◌, sym}
 use Rattle.report.proofs.Silence.{silence_by}
 use Rattle.report.proofs.reader.outputs.take_silence.Goals as goal
 
