@@ -134,8 +134,7 @@ impl Scene {
 impl SceneEvent {
     ghost use Rattle.report.specs.Scenes.{AddsCallOf};
 
-    // Adds the event as a reporter takes it, which is made where it stands: it is large. A scene says how long a run
-    // took only where it ends.
+    // Adds the event as a reporter takes it, which is made where it stands: it is large.
     fn push_call<'a>(
         &'a self,
         alloc: Global,
@@ -150,13 +149,10 @@ impl SceneEvent {
                 test_list,
             } => {
                 let profile_name = ProfileName::new(alloc, profile_name.as_str())?;
-                calls.push(ReportCall::Event(TestEvent {
-                    elapsed: Nanos(0),
-                    kind: TestEventKind::RunStarted {
-                        test_list: *test_list,
-                        run_id: *run_id,
-                        profile_name,
-                    },
+                calls.push(call_of(TestEventKind::RunStarted {
+                    test_list: *test_list,
+                    run_id: *run_id,
+                    profile_name,
                 }))?;
             }
             SceneEvent::TestFinished {
@@ -169,31 +165,36 @@ impl SceneEvent {
                 current_stats,
             } => {
                 let run_statuses = attempts.statuses(alloc)?;
-                calls.push(ReportCall::Event(TestEvent {
-                    elapsed: Nanos(0),
-                    kind: TestEventKind::TestFinished {
-                        stress_index: *stress_index,
-                        test_instance: TestInstanceId {
-                            binary_id,
-                            test_name,
-                        },
-                        success_output: *success_output,
-                        failure_output: *failure_output,
-                        run_statuses,
-                        current_stats: *current_stats,
-                    },
+                let test_instance = TestInstanceId {
+                    binary_id,
+                    test_name,
+                };
+                calls.push(call_of(TestEventKind::TestFinished {
+                    stress_index: *stress_index,
+                    test_instance,
+                    success_output: *success_output,
+                    failure_output: *failure_output,
+                    run_statuses,
+                    current_stats: *current_stats,
                 }))?;
             }
-            SceneEvent::RunFinished { elapsed, run_stats } => calls.push(ReportCall::Event(
-                TestEvent {
-                    elapsed: Nanos(0),
-                    kind: TestEventKind::RunFinished {
-                        elapsed: *elapsed,
-                        run_stats: RunFinishedStats::Single(*run_stats),
-                    },
-                },
-            ))?,
+            SceneEvent::RunFinished { elapsed, run_stats } => {
+                let run_stats = RunFinishedStats::Single(*run_stats);
+                let elapsed = *elapsed;
+                calls.push(call_of(TestEventKind::RunFinished { elapsed, run_stats }))?;
+            }
         }
         Ok(())
     }
+}
+
+// The call of an event. A scene says how long a run took only where it ends.
+#[inline(always)]
+fn call_of(kind: TestEventKind<'_>) -> ReportCall<'_>
+    ensures { result ≡ ReportCall.Event (record { elapsed = record { 0 = 0 }; kind = kind.entry }) }
+{
+    ReportCall::Event(TestEvent {
+        elapsed: Nanos(0),
+        kind,
+    })
 }
