@@ -147,14 +147,11 @@ impl SceneEvent {
                 run_id,
                 profile_name,
                 test_list,
-            } => {
-                let profile_name = ProfileName::new(alloc, profile_name.as_str())?;
-                calls.push(call_of(TestEventKind::RunStarted {
-                    test_list: *test_list,
-                    run_id: *run_id,
-                    profile_name,
-                }))?;
-            }
+            } => calls.push(call_of(TestEventKind::RunStarted {
+                test_list: *test_list,
+                run_id: *run_id,
+                profile_name: ProfileName::new(alloc, profile_name.as_str())?,
+            }))?,
             SceneEvent::TestFinished {
                 stress_index,
                 binary_id,
@@ -165,24 +162,24 @@ impl SceneEvent {
                 current_stats,
             } => {
                 let run_statuses = attempts.statuses(alloc)?;
-                let test_instance = TestInstanceId {
-                    binary_id,
-                    test_name,
-                };
                 calls.push(call_of(TestEventKind::TestFinished {
                     stress_index: *stress_index,
-                    test_instance,
+                    test_instance: TestInstanceId {
+                        binary_id,
+                        test_name,
+                    },
                     success_output: *success_output,
                     failure_output: *failure_output,
                     run_statuses,
                     current_stats: *current_stats,
                 }))?;
             }
-            SceneEvent::RunFinished { elapsed, run_stats } => {
-                let run_stats = RunFinishedStats::Single(*run_stats);
-                let elapsed = *elapsed;
-                calls.push(call_of(TestEventKind::RunFinished { elapsed, run_stats }))?;
-            }
+            SceneEvent::RunFinished { elapsed, run_stats } => calls.push(call_of(
+                TestEventKind::RunFinished {
+                    elapsed: *elapsed,
+                    run_stats: RunFinishedStats::Single(*run_stats),
+                },
+            ))?,
         }
         Ok(())
     }
