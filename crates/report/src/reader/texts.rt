@@ -8,7 +8,7 @@ ghost use Rattle.std.specs.Char.{digit_value};
 ghost use Rattle.std.specs.Option.{option_map, SomeIff};
 ghost use Rattle.report.specs.Texts.{cow_text, AddsStretch, IsPlain, bytes_in, escape_byte, escape_len, text_in};
 
-use super::split::split_at_byte;
+use super::split::{split_at_byte, split_bytes_at};
 use run_model::memory::OutOfMemory;
 use std::alloc::Global;
 use std::borrow::CowStr;
@@ -60,16 +60,16 @@ pub fn read_bytes(alloc: Global, field: &str) -> Result<Option<Vec<u8>>, OutOfMe
     ensures { IfOk result (λ bytes. option_map (λ v. v.items) bytes ≡ bytes_in field.now) }
 {
     let mut bytes = Vec::with_capacity(alloc, field.len())?;
-    let mut rest = field;
-    while let Some((plain, escape)) = split_at_byte(rest, b'\\') {
-        bytes.extend_from_slice(plain.as_bytes())?;
-        let Some((byte, after)) = read_escape(escape, u8::MAX) else {
+    let mut rest = field.as_bytes();
+    while let Some((plain, escape)) = split_bytes_at(rest, b'\\') {
+        bytes.extend_from_slice(plain)?;
+        let Some((byte, len)) = escape_at(escape, u8::MAX) else {
             return Ok(None);
         };
         bytes.push(byte)?;
-        rest = after;
+        rest = &escape[len..];
     }
-    bytes.extend_from_slice(rest.as_bytes())?;
+    bytes.extend_from_slice(rest)?;
     Ok(Some(bytes))
 }
 
@@ -82,6 +82,7 @@ fn read_escape(escape: &str, most: u8) -> Option<(u8, &str)>
 }
 
 // What an escape gives, without its backslash, and how many bytes it has.
+#[inline(always)]
 fn escape_at(escape: &[u8], most: u8) -> Option<(u8, usize)>
     ensures byte { option_map (λ x. x.0) result ≡ escape_byte most escape.now }
     ensures len { IfSome result (λ x. (x.1 ≡ escape_len escape.now) × (1 ≤ x.1) × (x.1 ≤ length escape.now) × (slice_index escape.now (x.1 - 1) < 128)) }
@@ -101,6 +102,7 @@ fn escape_at(escape: &[u8], most: u8) -> Option<(u8, usize)>
 }
 
 // The byte that two hexadecimal digits write.
+#[cold]
 fn hex_byte(high: u8, low: u8) -> Option<u8>
     ensures { SomeIff result ((digit_value high < 16) × (digit_value low < 16)) (16 * digit_value high + digit_value low) }
 {
