@@ -3,7 +3,7 @@ use Rattle.std.specs.Prelude.{ℕ, List, [], ◌∷◌, true, false, if◌then�
 use Rattle.std.specs.Option.{option_map}
 use Rattle.run_model.specs.declared.event.SkipCounts.{SkipCounts}
 use Rattle.run_model.specs.declared.stats.RunStats.{RunStats}
-use Rattle.report.specs.Cuts.{cut, parted}
+use Rattle.report.specs.Split.{cut, parted}
 use Rattle.report.specs.Numbers.{number_in}
 use Rattle.report.specs.Values.{of_word, reason_in}
 use Rattle.report.specs.declared.reader.counts.StatsKey.{StatsKey}

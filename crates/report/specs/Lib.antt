@@ -1,6 +1,5 @@
 pub mod Configs
 pub mod Counts
-pub mod Cuts
 pub mod Faults
 pub mod Fields
 pub mod Lines
@@ -13,6 +12,7 @@ pub mod SceneAttempts
 pub mod SceneTexts
 pub mod Scenes
 pub mod SpelledRuns
+pub mod Split
 pub mod Texts
 pub mod Values
 pub mod Words

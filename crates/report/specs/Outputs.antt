@@ -8,7 +8,7 @@ use Rattle.run_model.specs.declared.output.Highlight.{Highlight}
 use Rattle.run_model.specs.declared.output.HighlightStream.{HighlightStream}
 use Rattle.run_model.specs.declared.output.HighlightStream.TheVariants as stream
 use Rattle.run_model.specs.declared.status.ExecutionResultDescription.{ExecutionResultDescription}
-use Rattle.report.specs.Cuts.{cut}
+use Rattle.report.specs.Split.{cut}
 use Rattle.report.specs.Fields.{◌>>=◌, Line, Place, said, field}
 use Rattle.report.specs.Lists.{chain_in, errors_in}
 use Rattle.report.specs.Numbers.{number_in}

@@ -8,7 +8,7 @@ use Rattle.run_model.specs.declared.status.ExecutionResultDescription.TheVariant
 use Rattle.run_model.specs.declared.status.FailureDescription.TheVariants as failure
 use Rattle.run_model.specs.declared.status.LeakTimeoutResult.TheVariants as leak
 use Rattle.run_model.specs.declared.status.SlowTimeoutResult.TheVariants as slow
-use Rattle.report.specs.Cuts.{cut}
+use Rattle.report.specs.Split.{cut}
 use Rattle.report.specs.Numbers.{code_in}
 use Rattle.report.specs.Texts.{unescaped}
 

@@ -2,7 +2,7 @@
 use Rattle.std.specs.Prelude.{◌≡◌, ℕ, ◌+◌, List, [], ◌∷◌, ◌++◌, Bool, true, false, ◌==◌, if◌then◌else◌, Option, None, Some, Result, Ok, Err, length, ⊤}
 use Rattle.std.specs.Str.{is_utf8}
 use Rattle.report.specs.Configs.{unconfigured}
-use Rattle.report.specs.Cuts.{parted}
+use Rattle.report.specs.Split.{parted}
 use Rattle.report.specs.Fields.{Fails, Place}
 use Rattle.report.specs.Lines.{config_line, done_line, end_line, line_in, run_line, takes}
 use Rattle.report.specs.declared.fault.Fault.{Fault}

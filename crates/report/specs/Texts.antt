@@ -6,7 +6,7 @@ use Rattle.std.specs.Char.{digit_value}
 use Rattle.std.specs.declared.alloc.Global.{Global}
 use Rattle.std.specs.declared.borrow.CowStr.{CowStr}
 use Rattle.std.specs.declared.borrow.CowStr.TheVariants.{Borrowed, Owned}
-use Rattle.report.specs.Cuts.{Lacks}
+use Rattle.report.specs.Split.{Lacks}
 
 -- the text that is borrowed or owned
 abbrev pub cow_text : CowStr Global → List ℕ

@@ -14,7 +14,7 @@ use Rattle.run_model.specs.declared.level.FinalStatusLevel.TheVariants as final
 use Rattle.run_model.specs.declared.status.FlakyResult.{FlakyResult}
 use Rattle.run_model.specs.declared.status.FlakyResult.TheVariants as flaky
 use Rattle.run_model.specs.declared.stress.StressIndex.{StressIndex}
-use Rattle.report.specs.Cuts.{cut}
+use Rattle.report.specs.Split.{cut}
 use Rattle.report.specs.Numbers.{number_in}
 use Rattle.report.specs.declared.reader.values.ConfigKey.{ConfigKey}
 use Rattle.report.specs.declared.reader.values.ConfigKey.TheVariants as key

@@ -1,7 +1,7 @@
 //! What the program does with a scene, over any reader and any writer.
 
 ghost use Rattle.std.specs.Prelude.{◌≡◌, ◌⊎◌, ℕ, List, Some, IfOk, IfErr, OnErr, OnOk};
-ghost use Rattle.report.specs.Cuts.{parted};
+ghost use Rattle.report.specs.Split.{parted};
 ghost use Rattle.report.specs.Faults.{IsJudgeFault, status_of};
 ghost use Rattle.report.specs.Reports.{AcceptsReport, PrintsBeginning, PrintsReport, IsRefused, StopsReport, builder_for, fault_for, kind_for, progress_for};
 ghost use Rattle.report.specs.SceneTexts.{AllTell, IsJudged, IsJudgedFault, nothing_told, text_told, told};

@@ -7,7 +7,7 @@
 //! are written.
 
 ghost use Rattle.std.specs.Prelude.{◌≡◌, IfOk, IfErr};
-ghost use Rattle.report.specs.Cuts.{parted, texts};
+ghost use Rattle.report.specs.Split.{parted, texts};
 ghost use Rattle.report.specs.SceneTexts.{AllTell, IsAnswer, IsFaultOf, IsLineAnswer, comes_late, fault_at, fields_told, is_passed_over, line_told, nothing_told, text_told, told, words_told};
 
 mod counts;
@@ -79,7 +79,7 @@ fn fault_at(line: u64, error: LineError) -> Fault<'static>
 }
 
 // Reads a line into the scene. The list is for its fields.
-#[tactic(auto, unfolding(crate::specs::SceneTexts::line_told), using(crate::proofs::Utf8::utf8_passes, crate::proofs::Utf8::utf8_fails))]
+#[tactic(auto, unfolding(crate::specs::SceneTexts::line_told), using(crate::proofs::lemmas::Utf8::utf8_passes, crate::proofs::lemmas::Utf8::utf8_fails))]
 fn read_line<'a>(
     alloc: Global,
     line: &'a [u8],

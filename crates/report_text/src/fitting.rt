@@ -22,7 +22,7 @@ use column_counter::ColumnCounter;
 use fitted::Fitted;
 
 /// How wide cut texts are, and that they keep each sequence: of texts each of whose sequences ends by itself.
-#[tactic(auto, using(crate::proofs::Widths::width_laws))]
+#[tactic(auto, using(crate::proofs::lemmas::Widths::width_laws))]
 pub fn width_laws()
     ensures columns { (t : List ℕ) (start end : ℕ) → IsPainted t → columns (fit t start end) ≤ end - start }
     ensures sequences { (t : List ℕ) (start end : ℕ) → IsPainted t → sequences (pieces (fit t start end)) ≡ sequences (pieces t) }

@@ -176,7 +176,7 @@ impl<'a> LossyText<'a> {
 
 /// What decoded text is: always UTF-8, the one of std's lossy decoding, and bytes that are UTF-8 stay as they are. And
 /// what a front of a text is that ends a character, or ends none.
-#[tactic(auto, using(crate::proofs::Decoded::decoded_laws))]
+#[tactic(auto, using(crate::proofs::lemmas::Decoded::decoded_laws))]
 pub fn lossy_laws()
     ensures utf8 { (bytes : List ℕ) → IsUtf8 (decoded_text bytes) }
     ensures replaced { (bytes : List ℕ) → decoded_text bytes ≡ utf8_lossy bytes }

@@ -1,10 +1,10 @@
-pub mod Durations
 pub mod Captured
+pub mod Durations
 pub mod ErrorChains
 pub mod HighlightedLines
 pub mod Levels
-pub mod OutputDisplays
 pub mod OutputHeaders
+pub mod Overrides
 pub mod SkipCounts
 pub mod UnitKinds
 pub mod UnitOutputs

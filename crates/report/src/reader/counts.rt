@@ -5,7 +5,7 @@
 
 ghost use Rattle.std.specs.Prelude.{◌≡◌, Some};
 ghost use Rattle.std.specs.Option.{option_map};
-ghost use Rattle.report.specs.Cuts.{parted};
+ghost use Rattle.report.specs.Split.{parted};
 ghost use Rattle.report.specs.Numbers.{number_in};
 ghost use Rattle.report.specs.Counts.{in_turn, no_skips, no_stats, skips_in, skips_key_in, skips_pair, stats_in, stats_key_in, stats_pair, with_skip, with_stat};
 

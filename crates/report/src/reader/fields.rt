@@ -1,7 +1,7 @@
 //! A line of a scene, taken apart from left to right.
 
 ghost use Rattle.std.specs.Prelude.{◌≡◌, ◌+◌, ◌≤◌, ◌^◌, OnOk, drop, length, Ok};
-ghost use Rattle.report.specs.Cuts.{parted, texts};
+ghost use Rattle.report.specs.Split.{parted, texts};
 ghost use Rattle.report.specs.Fields.{Place, ReadsBy, TriesBy, answered, next, taken_text};
 
 use crate::fault::{LineError, LineFault};

@@ -4,7 +4,7 @@
 //! but `-` is a bad field.
 
 ghost use Rattle.std.specs.Prelude.{◌≡◌, ◌++◌, drop, IsTrue, IfOk};
-ghost use Rattle.report.specs.Cuts.{texts};
+ghost use Rattle.report.specs.Split.{texts};
 ghost use Rattle.report.specs.Fields.{Gives};
 ghost use Rattle.report.specs.Lists.{errors_in};
 ghost use Rattle.report.specs.Outputs.{after_streams, highlight_in, highlight_stream_in, output_fields, output_form_in, silent_fields, stream_in, TakesSilence};

@@ -5,7 +5,7 @@
 
 ghost use Rattle.std.specs.Prelude.{◌≡◌, IfOk};
 ghost use Rattle.std.specs.Option.{option_map};
-ghost use Rattle.report.specs.Cuts.{cut};
+ghost use Rattle.report.specs.Split.{cut};
 ghost use Rattle.report.specs.Numbers.{code_in};
 ghost use Rattle.report.specs.Results.{aborted, exit_code, nameless_signal, plain_in, result_in, signal_cut, status_cut, told_in};
 

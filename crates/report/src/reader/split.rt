@@ -4,7 +4,7 @@
 //! backslashes from one end to the other.
 
 ghost use Rattle.std.specs.Prelude.{◌≡◌, ◌<◌, ◌≤◌, ◌+◌, [], ◌∷◌, ◌++◌, length, IfSome, MatchOption};
-ghost use Rattle.report.specs.Cuts.{Lacks, cut, cut_texts, parted, pieces_left, size_left};
+ghost use Rattle.report.specs.Split.{Lacks, cut, cut_texts, parted, pieces_left, size_left};
 
 use memchr::memchr;
 

@@ -192,7 +192,7 @@ fn write_clock_right<W: WriteStr>(
 }
 
 // How many columns hours, minutes and seconds take.
-#[tactic(auto, using(crate::proofs::Clocks::clock_columns))]
+#[tactic(auto, using(crate::proofs::lemmas::Clocks::clock_columns))]
 fn clock_width(seconds: u128) -> usize
     ensures { result ≡ length (chars (clock_text seconds)) }
 {

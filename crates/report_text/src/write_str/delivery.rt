@@ -10,7 +10,7 @@ use std::io::Write;
 /// Over a device that tells its bytes: it holds what it held, and what it took since. With what is pending, that is what
 /// was pending and the text, or on a fault a beginning of the text. So where nothing was pending, a fault leaves on the
 /// device what it held and a beginning of the text.
-#[tactic(auto, using(crate::proofs::Deliveries::accepted_delivers))]
+#[tactic(auto, using(crate::proofs::lemmas::Deliveries::accepted_delivers))]
 pub fn delivery_law<W: Write>()
     ensures accepted { (a b : TextBuffer W) (old new text : List ℕ) → W.contents a.writer ≡ Some old → W.contents b.writer ≡ Some new →
         (buffer_meaning W.contents).accepts a text b → Delivers old a.pending.items new b.pending.items text }

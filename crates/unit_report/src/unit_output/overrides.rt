@@ -2,7 +2,7 @@
 
 ghost use Rattle.std.specs.Prelude.{◌≡◌, unwrap_or};
 ghost use Rattle.run_model.specs.Statuses.{described_summary};
-ghost use Rattle.unit_report.specs.OutputDisplays.{display_for, failure_display};
+ghost use Rattle.unit_report.specs.Overrides.{display_for, failure_display};
 
 use run_model::config::TestOutputDisplay;
 use run_model::output::OutputSpec;

@@ -1,4 +1,4 @@
-use Rattle.report_text.proofs.Steps.{puts_then, at_exit}
+use Rattle.report_text.proofs.lemmas.Steps.{puts_then, at_exit}
 use Rattle.event_text.specs.RunTexts.{run_id_line}
 use Rattle.event_text.proofs.run_text.write_run_id_line.Goals as goal
 

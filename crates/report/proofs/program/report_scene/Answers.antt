@@ -1,4 +1,4 @@
-use Rattle.report.proofs.SpelledRuns.{begins_run, prints_run}
+use Rattle.report.proofs.lemmas.SpelledRuns.{begins_run, prints_run}
 use Rattle.report.proofs.program.report_scene.Goals as goal
 
 pub returns-in-Ok-clause-ok : goal.returns-in-Ok-clause-ok

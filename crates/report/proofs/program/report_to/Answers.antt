@@ -1,6 +1,6 @@
 use Rattle.std.proofs.Common.{inr}
 use Rattle.report.specs.Reports.{configuration_for}
-use Rattle.report.proofs.Reports.{stopped_report}
+use Rattle.report.proofs.lemmas.Reports.{stopped_report}
 use Rattle.report.proofs.program.report_to.Goals as goal
 
 pub returns-clause-err : goal.returns-clause-err

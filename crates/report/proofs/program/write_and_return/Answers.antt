@@ -1,5 +1,5 @@
 use Rattle.std.proofs.Common.{sym}
-use Rattle.report.proofs.Devices.{after_a_fault}
+use Rattle.report.proofs.lemmas.Devices.{after_a_fault}
 use Rattle.report.proofs.program.write_and_return.Goals as goal
 
 pub returns-clause-err : goal.returns-clause-err

@@ -1,6 +1,6 @@
 use Rattle.std.proofs.Common.{◌≡◌, ◌∷◌, arith}
-use Rattle.report.specs.Cuts.{parted, pieces_left}
-use Rattle.report.proofs.Tellings.{goes_on, ends, is_done}
+use Rattle.report.specs.Split.{parted, pieces_left}
+use Rattle.report.proofs.lemmas.Tellings.{goes_on, ends, is_done}
 use Rattle.report.proofs.reader.read_lines.Goals as goal
 
 pub returns-in-Err : goal.returns-in-Err

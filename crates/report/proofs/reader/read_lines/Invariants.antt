@@ -1,5 +1,5 @@
 use Rattle.std.proofs.Common.{◌≡◌, ◌+◌, ◌≤◌, length}
-use Rattle.report.specs.Cuts.{pieces_left, size_left}
+use Rattle.report.specs.Split.{pieces_left, size_left}
 use Rattle.report.specs.SceneTexts.{lines_told, text_told, told}
 use Rattle.report.proofs.reader.read_lines.Given as goal
 

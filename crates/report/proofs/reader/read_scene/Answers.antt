@@ -1,4 +1,4 @@
-use Rattle.report.proofs.FirstFaults.{tells_scene, tells_fault}
+use Rattle.report.proofs.lemmas.FirstFaults.{tells_scene, tells_fault}
 use Rattle.report.proofs.reader.read_scene.Goals as goal
 
 pub returns-clause-scene : goal.returns-clause-scene

@@ -1,4 +1,4 @@
-use Rattle.report.proofs.Options.{lacks_file, has_file, has_bad_flag, has_flag, has_bad_level, has_level}
+use Rattle.report.proofs.lemmas.Options.{lacks_file, has_file, has_bad_flag, has_flag, has_bad_level, has_level}
 use Rattle.report.proofs.words.words.Goals as goal
 
 pub returns-in-empty : goal.returns-in-empty

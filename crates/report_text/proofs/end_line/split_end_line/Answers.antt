@@ -1,6 +1,6 @@
 use Rattle.std.proofs.Common.{sym, lit<, Some, None}
 use Rattle.std.proofs.lemmas.Str.Pattern.{strip_suffix_char}
-use Rattle.report_text.proofs.EndLines.{feed_cut, feed_absent}
+use Rattle.report_text.proofs.lemmas.EndLines.{feed_cut, feed_absent}
 use Rattle.report_text.proofs.end_line.split_end_line.Goals as goal
 
 pub returns-in-Some-clause-front : goal.returns-in-Some-clause-front

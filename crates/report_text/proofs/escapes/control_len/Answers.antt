@@ -1,6 +1,6 @@
 use Rattle.std.proofs.Common.{arith}
 use Rattle.report_text.specs.Escapes.{is_parameter, is_intermediate}
-use Rattle.report_text.proofs.Pieces.{front_len-le}
+use Rattle.report_text.proofs.lemmas.Pieces.{front_len-le}
 use Rattle.report_text.proofs.escapes.control_len.Goals as goal
 
 pub split_at-requires : goal.split_at-requires

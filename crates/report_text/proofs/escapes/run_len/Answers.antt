@@ -1,6 +1,6 @@
 use Rattle.std.proofs.Common.{arith, sym}
 use Rattle.report_text.specs.Escapes.{is_within}
-use Rattle.report_text.proofs.Runs.{front_len-on, front_len-off, front_len-end}
+use Rattle.report_text.proofs.lemmas.Runs.{front_len-on, front_len-off, front_len-end}
 use Rattle.report_text.proofs.escapes.run_len.Goals as goal
 
 pub returns-then-not-is_within : goal.returns-then-not-is_within

@@ -1,5 +1,5 @@
 use Rattle.std.proofs.Common.{◌≡◌, ◌+◌, arith, rules, length}
-use Rattle.report_text.proofs.Cuts.{csi_len-le}
+use Rattle.report_text.proofs.lemmas.Cuts.{csi_len-le}
 use Rattle.report_text.proofs.escapes.sequence_len.Goals as goal
 
 pub overflow_add-result : goal.overflow_add-result

@@ -1,5 +1,5 @@
 use Rattle.std.proofs.Common.{rules, arith}
-use Rattle.report_text.proofs.Pieces.{pieces-empty, sequence_fits, sequence_boundary, sequence_first, stretch_fits, stretch_boundary, stretch_first}
+use Rattle.report_text.proofs.lemmas.Pieces.{pieces-empty, sequence_fits, sequence_boundary, sequence_first, stretch_fits, stretch_boundary, stretch_first}
 use Rattle.report_text.proofs.escapes.split_piece.Goals as goal
 
 pub returns-in_default : goal.returns-in_default

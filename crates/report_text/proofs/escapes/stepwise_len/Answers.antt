@@ -1,7 +1,7 @@
 use Rattle.std.proofs.Common.{◌≡◌, ◌+◌, arith, rules}
 use Rattle.report_text.specs.Escapes.{sequence_len}
-use Rattle.report_text.proofs.Cuts.{sequence_len-le}
-use Rattle.report_text.proofs.ScannerSteps.{rest_len-ended}
+use Rattle.report_text.proofs.lemmas.Cuts.{sequence_len-le}
+use Rattle.report_text.proofs.lemmas.ScannerSteps.{rest_len-ended}
 use Rattle.report_text.proofs.escapes.stepwise_len.Goals as goal
 
 pub overflow_add-result : goal.overflow_add-result

@@ -1,4 +1,4 @@
-use Rattle.report_text.proofs.Pieces.{stretch_at, stretch_whole}
+use Rattle.report_text.proofs.lemmas.Pieces.{stretch_at, stretch_whole}
 use Rattle.report_text.proofs.escapes.stretch_len.Goals as goal
 
 pub returns-in-Some : goal.returns-in-Some

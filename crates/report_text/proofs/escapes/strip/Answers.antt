@@ -1,6 +1,6 @@
 use Rattle.std.proofs.Common.{rules, ◌≡◌, ◌∙◌, string_bytes}
 use Rattle.report_text.specs.Escapes.{visible}
-use Rattle.report_text.proofs.Pieces.{visible_after-free, visible-visible, visible-free}
+use Rattle.report_text.proofs.lemmas.Pieces.{visible_after-free, visible-visible, visible-free}
 use Rattle.report_text.proofs.escapes.strip.Goals as goal
 
 pub returns-in-Ok-clause-free : goal.returns-in-Ok-clause-free

@@ -1,8 +1,8 @@
 use Rattle.std.proofs.Common.{rules, ◌≡◌, ◌∷◌, ap}
 use Rattle.report_text.specs.Escapes.{stretches}
 use Rattle.report_text.specs.Escapes.PieceText.{StretchText}
-use Rattle.report_text.proofs.Pieces.{stretches-pieces}
-use Rattle.report_text.proofs.Steps.{owes_stopped, owes_nothing}
+use Rattle.report_text.proofs.lemmas.Pieces.{stretches-pieces}
+use Rattle.report_text.proofs.lemmas.Steps.{owes_stopped, owes_nothing}
 use Rattle.report_text.proofs.escapes.write_stripped.Goals as goal
 
 pub returns-in_err-write_str : goal.returns-in_err-write_str

@@ -1,5 +1,5 @@
 use Rattle.std.proofs.Common.{◌∙◌}
-use Rattle.report_text.proofs.CounterPuts.{all_counted}
+use Rattle.report_text.proofs.lemmas.CounterPuts.{all_counted}
 use Rattle.report_text.proofs.fitting.count_columns.Goals as goal
 
 pub returns-clause-value : goal.returns-clause-value

@@ -1,4 +1,4 @@
-use Rattle.report_text.proofs.Widths.{append-painted}
+use Rattle.report_text.proofs.lemmas.Widths.{append-painted}
 use Rattle.report_text.proofs.fitting.width_laws.Goals as goal
 
 pub returns-clause-joined : goal.returns-clause-joined

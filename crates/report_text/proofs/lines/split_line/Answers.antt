@@ -1,6 +1,6 @@
 use Rattle.std.proofs.Common.{arith, length, take_all}
-use Rattle.report_text.proofs.Feeds.{boundary_after_feed, first_line, same_byte}
-use Rattle.report_text.proofs.FirstLines.{line_found, line_alone}
+use Rattle.report_text.proofs.lemmas.Feeds.{boundary_after_feed, first_line, same_byte}
+use Rattle.report_text.proofs.lemmas.FirstLines.{line_found, line_alone}
 use Rattle.report_text.proofs.lines.split_line.Goals as goal
 
 pub split_at-requires : goal.split_at-requires

@@ -1,5 +1,5 @@
 use Rattle.std.proofs.Common.{rules, arith}
-use Rattle.report_text.proofs.Decoded.{decoded-none, invalid_first, valid_first}
+use Rattle.report_text.proofs.lemmas.Decoded.{decoded-none, invalid_first, valid_first}
 use Rattle.report_text.proofs.lossy.first_piece.Goals as goal
 
 pub returns-in_err-chunk-clause-text : goal.returns-in_err-chunk-clause-text

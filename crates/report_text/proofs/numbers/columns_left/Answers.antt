@@ -1,5 +1,5 @@
 use Rattle.std.proofs.Common.{arith}
-use Rattle.report_text.proofs.Spaces.{length-chars-joined}
+use Rattle.report_text.proofs.lemmas.Spaces.{length-chars-joined}
 use Rattle.report_text.proofs.numbers.columns_left.Goals as goal
 
 pub returns : goal.returns

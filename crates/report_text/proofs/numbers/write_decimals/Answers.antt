@@ -1,4 +1,4 @@
-use Rattle.report_text.proofs.Decimals.{IsUtf8-digits}
+use Rattle.report_text.proofs.lemmas.Decimals.{IsUtf8-digits}
 use Rattle.report_text.proofs.numbers.write_decimals.Goals as goal
 
 pub from_utf8_unchecked-requires : goal.from_utf8_unchecked-requires

@@ -1,6 +1,6 @@
 use Rattle.std.proofs.Common.{arith}
-use Rattle.report_text.proofs.Steps.{owes_accepted, owes_stopped}
-use Rattle.report_text.proofs.Spaces.{spaces_first}
+use Rattle.report_text.proofs.lemmas.Steps.{owes_accepted, owes_stopped}
+use Rattle.report_text.proofs.lemmas.Spaces.{spaces_first}
 use Rattle.report_text.proofs.numbers.write_spaces.Goals as goal
 
 pub returns-in_err-write_str : goal.returns-in_err-write_str

@@ -1,5 +1,5 @@
 use Rattle.std.proofs.Common.{rules, inl, inr}
-use Rattle.report_text.proofs.Chunked.{ends_far, ends_text}
+use Rattle.report_text.proofs.lemmas.Chunked.{ends_far, ends_text}
 use Rattle.report_text.proofs.reporter_helpers.chunk_len.Goals as goal
 
 pub returns-in-Some-find_byte : goal.returns-in-Some-find_byte

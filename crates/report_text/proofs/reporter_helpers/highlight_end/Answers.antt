@@ -1,4 +1,4 @@
-use Rattle.report_text.proofs.Highlighted.{none_found, end-none, one_feed, two_feeds, second_feed, one_before}
+use Rattle.report_text.proofs.lemmas.Highlighted.{none_found, end-none, one_feed, two_feeds, second_feed, one_before}
 use Rattle.report_text.proofs.reporter_helpers.highlight_end.Goals as goal
 
 pub returns-in_default-clause-value : goal.returns-in_default-clause-value

@@ -1,4 +1,4 @@
-use Rattle.report_text.proofs.Chunked.{chunk_from_end, boundary_from_end}
+use Rattle.report_text.proofs.lemmas.Chunked.{chunk_from_end, boundary_from_end}
 use Rattle.report_text.proofs.reporter_helpers.split_chunk.Goals as goal
 
 pub split_at-requires : goal.split_at-requires

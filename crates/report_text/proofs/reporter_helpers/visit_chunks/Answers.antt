@@ -1,5 +1,5 @@
 use Rattle.std.proofs.Common.{rules, of_calls}
-use Rattle.report_text.proofs.Chunked.{visits_more, visits_none}
+use Rattle.report_text.proofs.lemmas.Chunked.{visits_more, visits_none}
 use Rattle.report_text.proofs.reporter_helpers.visit_chunks.Goals as goal
 
 pub loop-rest-preserved : goal.loop-rest-preserved

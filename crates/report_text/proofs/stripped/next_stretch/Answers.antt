@@ -1,5 +1,5 @@
 use Rattle.std.proofs.Common.{◌∙◌, sym}
-use Rattle.report_text.proofs.StrippedTexts.{taken_char, taken_stretch}
+use Rattle.report_text.proofs.lemmas.StrippedTexts.{taken_char, taken_stretch}
 use Rattle.report_text.proofs.stripped.next_stretch.Goals as goal
 
 pub returns-in-Some : goal.returns-in-Some

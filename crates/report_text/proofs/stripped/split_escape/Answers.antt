@@ -1,7 +1,7 @@
 use Rattle.std.proofs.Common.{◌≡◌, length, sym, arith}
 use Rattle.std.proofs.lemmas.List.{take_all, drop_all}
 use Rattle.report_text.specs.Escapes.{front_len, is_visible}
-use Rattle.report_text.proofs.Pieces.{stretch_at, stretch_whole}
+use Rattle.report_text.proofs.lemmas.Pieces.{stretch_at, stretch_whole}
 use Rattle.report_text.proofs.stripped.split_escape.Goals as goal
 
 pub returns-in-Some-clause-front : goal.returns-in-Some-clause-front

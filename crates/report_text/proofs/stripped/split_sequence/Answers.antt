@@ -1,6 +1,6 @@
 use Rattle.std.proofs.Common.{◌≡◌, ◌∷◌, ◌∙◌, sym, arith, []}
 use Rattle.std.proofs.lemmas.List.{nil_from_length}
-use Rattle.report_text.proofs.Pieces.{visible-stretch, visible-sequence, front_stops, sequence_fits, sequence_boundary}
+use Rattle.report_text.proofs.lemmas.Pieces.{visible-stretch, visible-sequence, front_stops, sequence_fits, sequence_boundary}
 use Rattle.report_text.proofs.stripped.split_sequence.Goals as goal
 
 pub overflow_add-sequence_len : goal.overflow_add-sequence_len

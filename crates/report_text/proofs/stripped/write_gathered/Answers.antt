@@ -1,8 +1,8 @@
 use Rattle.std.proofs.Common.{[], ap, rules, refl}
 use Rattle.report_text.specs.Escapes.{visible}
 use Rattle.report_text.specs.Gathered.{unwritten}
-use Rattle.report_text.proofs.Gathered.{none_gathered, carried_off, carried, flushed}
-use Rattle.report_text.proofs.Pieces.{visible-empty}
+use Rattle.report_text.proofs.lemmas.Gathered.{none_gathered, carried_off, carried, flushed}
+use Rattle.report_text.proofs.lemmas.Pieces.{visible-empty}
 use Rattle.report_text.proofs.stripped.write_gathered.Goals as goal
 
 pub loop-rest-init : goal.loop-rest-init

@@ -1,6 +1,6 @@
 use Rattle.std.proofs.Common.{◌≡◌, length, rules}
 use Rattle.report_text.specs.Escapes.{visible}
-use Rattle.report_text.proofs.Pieces.{visible-front}
+use Rattle.report_text.proofs.lemmas.Pieces.{visible-front}
 use Rattle.report_text.proofs.stripped.write_stripped_text.Goals as goal
 
 pub returns-then-is_empty : goal.returns-then-is_empty

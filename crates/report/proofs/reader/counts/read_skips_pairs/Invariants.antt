@@ -1,6 +1,6 @@
 use Rattle.std.proofs.Common.{◌≡◌}
 use Rattle.report.specs.Counts.{in_turn, no_skips, skips_pair}
-use Rattle.report.specs.Cuts.{parted, pieces_left, size_left}
+use Rattle.report.specs.Split.{parted, pieces_left, size_left}
 use Rattle.report.proofs.reader.counts.read_skips_pairs.Given as goal
 
 -- the pairs that are left say, after those so far, what all say

@@ -1,9 +1,9 @@
 use Rattle.std.proofs.Common.{◌≡◌, ◌∷◌, ap, refl}
 use Rattle.std.specs.Option.{option_map}
 use Rattle.report.specs.Counts.{stats_pair}
-use Rattle.report.specs.Cuts.{parted, pieces_left}
+use Rattle.report.specs.Split.{parted, pieces_left}
 use Rattle.report.specs.declared.reader.counts.StatsRead.{StatsRead}
-use Rattle.report.proofs.Pairs.{next_pair, bad_pair, no_pair}
+use Rattle.report.proofs.lemmas.Pairs.{next_pair, bad_pair, no_pair}
 use Rattle.report.proofs.reader.counts.read_stats_pairs.Goals as goal
 
 pub returns-in_err-read_pair : goal.returns-in_err-read_pair

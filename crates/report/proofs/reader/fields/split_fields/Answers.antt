@@ -2,7 +2,7 @@ use Rattle.std.proofs.Common.{◌≡◌, [], ◌∷◌, ◌∙◌, ◌+◌, ◌-
 use Rattle.std.proofs.lemmas.Bool.Decides.{nat_tests}
 use Rattle.std.proofs.lemmas.Str.{IsCharBoundary-start, IsCharBoundary-before_ascii, IsCharBoundary-after_ascii}
 use Rattle.memchr.specs.Find.{is_byte, places_from}
-use Rattle.report.proofs.Tabs.{IsNextPlace, next_place, piece_here, last_piece, one_more, one_last}
+use Rattle.report.proofs.lemmas.Tabs.{IsNextPlace, next_place, piece_here, last_piece, one_more, one_last}
 use Rattle.report.proofs.reader.fields.split_fields.Goals as goal
 
 pub loop-tab-init : goal.loop-tab-init

@@ -1,7 +1,7 @@
 use Rattle.std.proofs.Common.{◌≡◌, ◌++◌, drop, length}
 use Rattle.std.specs.Str.{IsCharBoundary}
 use Rattle.memchr.specs.Find.{is_byte, places_between}
-use Rattle.report.specs.Cuts.{parted, texts}
+use Rattle.report.specs.Split.{parted, texts}
 use Rattle.report.proofs.reader.fields.split_fields.Given as goal
 
 -- the fields so far, and those from the start on, are all

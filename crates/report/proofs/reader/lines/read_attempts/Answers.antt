@@ -1,6 +1,6 @@
 use Rattle.std.proofs.Common.{◌∙◌, arith}
 use Rattle.std.proofs.lemmas.Result.{err_from_is_err_and}
-use Rattle.report.proofs.Attempts.{first_fails, first_read, next_attempt, bad_attempt, too_many, no_attempt, put_together}
+use Rattle.report.proofs.lemmas.Attempts.{first_fails, first_read, next_attempt, bad_attempt, too_many, no_attempt, put_together}
 use Rattle.report.proofs.reader.lines.read_attempts.Goals as goal
 
 pub returns-in_err-last : goal.returns-in_err-last

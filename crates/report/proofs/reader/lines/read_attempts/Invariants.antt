@@ -1,6 +1,6 @@
 use Rattle.std.proofs.Common.{◌≡◌, ◌-◌, ◌/◌, length}
 use Rattle.report.specs.Lines.{attempts_from}
-use Rattle.report.proofs.Attempts.{with_front}
+use Rattle.report.proofs.lemmas.Attempts.{with_front}
 use Rattle.report.proofs.reader.lines.read_attempts.Given as goal
 
 -- the attempts so far, and then those that are left, are all

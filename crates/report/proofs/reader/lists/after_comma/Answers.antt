@@ -1,6 +1,6 @@
 use Rattle.std.proofs.lemmas.Str.{IsCharBoundary-after_ascii}
 use Rattle.std.proofs.Common.{sym}
-use Rattle.report.proofs.WordLists.{comma-first, has-first}
+use Rattle.report.proofs.lemmas.WordLists.{comma-first, has-first}
 use Rattle.report.proofs.reader.lists.after_comma.Goals as goal
 
 pub range_from-requires : goal.range_from-requires

@@ -1,5 +1,5 @@
 use Rattle.std.proofs.Common.{rules, arith}
-use Rattle.report.proofs.WordLists.{word-ends, word-bad, word-goes-on, word-ends-list, stretch-within}
+use Rattle.report.proofs.lemmas.WordLists.{word-ends, word-bad, word-goes-on, word-ends-list, stretch-within}
 use Rattle.report.proofs.reader.lists.read_word.Goals as goal
 
 pub returns-in-Some-after_comma-clause-words : goal.returns-in-Some-after_comma-clause-words

@@ -1,4 +1,4 @@
-use Rattle.report.proofs.Numbers.{code_by}
+use Rattle.report.proofs.lemmas.Numbers.{code_by}
 use Rattle.report.proofs.reader.numbers.read_code.Goals as goal
 
 pub returns : goal.returns

@@ -1,4 +1,4 @@
-use Rattle.report.proofs.Numbers.{number_by}
+use Rattle.report.proofs.lemmas.Numbers.{number_by}
 use Rattle.report.proofs.reader.numbers.read_count.Goals as goal
 
 pub returns : goal.returns

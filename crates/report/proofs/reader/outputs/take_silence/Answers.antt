@@ -1,4 +1,4 @@
-use Rattle.report.proofs.Silence.{silence_by}
+use Rattle.report.proofs.lemmas.Silence.{silence_by}
 use Rattle.report.proofs.reader.outputs.take_silence.Goals as goal
 
 pub returns : goal.returns

@@ -1,7 +1,7 @@
 use Rattle.std.proofs.Common.{◌≡◌, ◌+◌, ◌-◌, take, drop, length, sym, ap, ◌∙◌, length-drop}
 use Rattle.std.proofs.Math.Seq.{take-length}
-use Rattle.report.specs.Cuts.{parted}
-use Rattle.report.proofs.Cuts.{Lacks-from_each, cut_at, parted-lacks, parted-parts}
+use Rattle.report.specs.Split.{parted}
+use Rattle.report.proofs.lemmas.Cuts.{Lacks-from_each, cut_at, parted-lacks, parted-parts}
 use Rattle.report.proofs.reader.split.first_line.Goals as goal
 
 pub returns-in-None-clause-lines : goal.returns-in-None-clause-lines

@@ -1,8 +1,8 @@
 use Rattle.std.proofs.Common.{◌≡◌, ◌<◌, length, get_or, take, arith, sym, ap, ◌∙◌}
 use Rattle.std.proofs.lemmas.Bool.Decides.{nat_tests}
 use Rattle.std.proofs.lemmas.Str.{IsCharBoundary-after_ascii}
-use Rattle.report.specs.Cuts.{parted, cut}
-use Rattle.report.proofs.Cuts.{Lacks-from_each, cut_at, parted-lacks, parted-parts, cut-lacks, cut-parts}
+use Rattle.report.specs.Split.{parted, cut}
+use Rattle.report.proofs.lemmas.Cuts.{Lacks-from_each, cut_at, parted-lacks, parted-parts, cut-lacks, cut-parts}
 use Rattle.report.proofs.reader.split.split_at_byte.Goals as goal
 
 pub range_from-requires : goal.range_from-requires

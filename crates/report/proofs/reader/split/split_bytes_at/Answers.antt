@@ -1,6 +1,6 @@
 use Rattle.std.proofs.Common.{◌≡◌, ◌+◌, ◌-◌, take, drop, length, sym, ap, ◌∙◌, length-drop}
 use Rattle.std.proofs.Math.Seq.{take-length}
-use Rattle.report.proofs.Cuts.{Lacks-from_each, cut_at}
+use Rattle.report.proofs.lemmas.Cuts.{Lacks-from_each, cut_at}
 use Rattle.report.proofs.reader.split.split_bytes_at.Goals as goal
 
 pub returns-in_default-clause-parts : goal.returns-in_default-clause-parts

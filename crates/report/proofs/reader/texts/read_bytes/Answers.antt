@@ -1,7 +1,7 @@
 use Rattle.std.proofs.Common.{◌≡◌, ◌-◌, take, drop, length, sym, ap, ◌∙◌, length-drop}
 use Rattle.std.proofs.Math.Seq.{take-length}
 use Rattle.report.specs.Texts.{escape_len}
-use Rattle.report.proofs.Unescaped.{read_escape_next, read_bad_escape, read_to_end}
+use Rattle.report.proofs.lemmas.Unescaped.{read_escape_next, read_bad_escape, read_to_end}
 use Rattle.report.proofs.reader.texts.read_bytes.Goals as goal
 
 pub returns-in_default-escape_at : goal.returns-in_default-escape_at

@@ -1,5 +1,5 @@
 use Rattle.std.proofs.Common.{sym, rules, ◌∙◌, ap, Some}
-use Rattle.report.proofs.Unescaped.{plain_text, read_stretch, read_bad_escape, read_to_end, of_none}
+use Rattle.report.proofs.lemmas.Unescaped.{plain_text, read_stretch, read_bad_escape, read_to_end, of_none}
 use Rattle.report.proofs.reader.texts.read_text.Goals as goal
 
 pub returns-then-is_none : goal.returns-then-is_none

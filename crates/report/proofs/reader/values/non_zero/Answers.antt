@@ -1,4 +1,4 @@
-use Rattle.report.proofs.NonZero.{non_zero_by}
+use Rattle.report.proofs.lemmas.NonZero.{non_zero_by}
 use Rattle.report.proofs.reader.values.non_zero.Goals as goal
 
 pub returns : goal.returns

@@ -1,4 +1,4 @@
-use Rattle.report.proofs.Displays.{display_by}
+use Rattle.report.proofs.lemmas.Displays.{display_by}
 use Rattle.report.proofs.reader.values.read_display.Goals as goal
 
 pub returns : goal.returns

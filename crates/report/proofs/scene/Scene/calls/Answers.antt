@@ -1,4 +1,4 @@
-use Rattle.report.proofs.Zips.{AllZip-more}
+use Rattle.report.proofs.lemmas.Zips.{AllZip-more}
 use Rattle.report.specs.Scenes.{IsCallOf}
 use Rattle.report.proofs.scene.Scene.calls.Goals as goal
 

@@ -1,6 +1,6 @@
 use Rattle.std.proofs.Common.{◌<◌, ◌∙◌, sym, rules, length}
-use Rattle.report_text.proofs.EndLines.{held-before, held-beyond, piece_nothing, piece_still, on_any}
-use Rattle.report_text.proofs.Steps.{at_exit, puts_then, stops_early}
+use Rattle.report_text.proofs.lemmas.EndLines.{held-before, held-beyond, piece_nothing, piece_still, on_any}
+use Rattle.report_text.proofs.lemmas.Steps.{at_exit, puts_then, stops_early}
 use Rattle.report_text.specs.EndLine.{held}
 use Rattle.report_text.proofs.end_line.EndLine.write.Goals as goal
 

@@ -1,4 +1,4 @@
-use Rattle.report_text.proofs.Quotes.{quoted_parts, after_shorter}
+use Rattle.report_text.proofs.lemmas.Quotes.{quoted_parts, after_shorter}
 use Rattle.report_text.proofs.helpers.quoting.split_quote.Goals as goal
 
 pub returns : goal.returns

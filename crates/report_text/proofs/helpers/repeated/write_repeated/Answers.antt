@@ -1,5 +1,5 @@
-use Rattle.report_text.proofs.Repeated.{repeat_first}
-use Rattle.report_text.proofs.Steps.{owes_accepted, owes_stopped}
+use Rattle.report_text.proofs.lemmas.Repeated.{repeat_first}
+use Rattle.report_text.proofs.lemmas.Steps.{owes_accepted, owes_stopped}
 use Rattle.report_text.proofs.helpers.repeated.write_repeated.Goals as goal
 
 pub returns-in_err-write_char : goal.returns-in_err-write_char

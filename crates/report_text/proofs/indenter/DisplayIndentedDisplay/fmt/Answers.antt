@@ -1,5 +1,5 @@
 use Rattle.std.proofs.Common.{rules}
-use Rattle.report_text.proofs.IndentedCalls.{displayed}
+use Rattle.report_text.proofs.lemmas.IndentedCalls.{displayed}
 use Rattle.report_text.proofs.indenter.DisplayIndentedDisplay.fmt.Goals as goal
 
 pub returns-clause-writes : goal.returns-clause-writes

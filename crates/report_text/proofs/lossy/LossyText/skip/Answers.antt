@@ -1,6 +1,6 @@
 use Rattle.std.proofs.Common.{subst, sym}
 use Rattle.std.specs.Str.{IsUtf8}
-use Rattle.report_text.proofs.Decoded.{decoded-utf8, shown-utf8}
+use Rattle.report_text.proofs.lemmas.Decoded.{decoded-utf8, shown-utf8}
 use Rattle.report_text.proofs.lossy.LossyText.skip.Goals as goal
 
 pub returns-then-is_empty-clause-utf8 : goal.returns-then-is_empty-clause-utf8

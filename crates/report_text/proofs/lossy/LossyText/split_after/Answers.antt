@@ -3,7 +3,7 @@ use Rattle.std.proofs.lemmas.List.{drop-append-le}
 use Rattle.std.proofs.lemmas.Str.{IsUtf8-drop}
 use Rattle.std.specs.Str.{IsCharBoundary}
 use Rattle.report_text.specs.Lossy.{decoded_text}
-use Rattle.report_text.proofs.Decoded.{place_on, drop_on, within-boundary, decoded-utf8}
+use Rattle.report_text.proofs.lemmas.Decoded.{place_on, drop_on, within-boundary, decoded-utf8}
 use Rattle.report_text.proofs.lossy.LossyText.split_after.Goals as goal
 
 pub loop-piece-preserved : goal.loop-piece-preserved

@@ -1,5 +1,5 @@
 use Rattle.std.proofs.Common.{IsUtf8, subst}
-use Rattle.report_text.proofs.Decoded.{shown-utf8}
+use Rattle.report_text.proofs.lemmas.Decoded.{shown-utf8}
 use Rattle.report_text.proofs.lossy.LossyText.split_first.Goals as goal
 
 pub returns-then-not-is_empty-clause-utf8 : goal.returns-then-not-is_empty-clause-utf8

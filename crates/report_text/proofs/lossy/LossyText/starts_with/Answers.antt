@@ -1,6 +1,6 @@
 use Rattle.std.proofs.Common.{arith, rules, ◌≡◌, ◌∙◌, ◌≤◌, ◌≢◌, ◌++◌, ◌↔◌, IsTrue, length, sym, take}
 use Rattle.report_text.specs.Lossy.{decoded_text}
-use Rattle.report_text.proofs.Decoded.{prefix-step, prefix-end, prefix_on}
+use Rattle.report_text.proofs.lemmas.Decoded.{prefix-step, prefix-end, prefix_on}
 use Rattle.report_text.proofs.lossy.LossyText.starts_with.Goals as goal
 
 pub returns-then-ne : goal.returns-then-ne

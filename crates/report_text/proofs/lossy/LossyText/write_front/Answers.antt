@@ -2,8 +2,8 @@ use Rattle.std.proofs.Common.{arith, rules, ◌≡◌, ◌∙◌, ◌≤◌, ◌
 use Rattle.std.proofs.lemmas.List.{take-append-le}
 use Rattle.std.specs.Str.{IsCharBoundary}
 use Rattle.report_text.specs.Lossy.{decoded_text}
-use Rattle.report_text.proofs.Decoded.{front_text-take, front_text-none, take_on, past-boundary}
-use Rattle.report_text.proofs.Steps.{owes_stopped, owes_accepted}
+use Rattle.report_text.proofs.lemmas.Decoded.{front_text-take, front_text-none, take_on, past-boundary}
+use Rattle.report_text.proofs.lemmas.Steps.{owes_stopped, owes_accepted}
 use Rattle.report_text.proofs.lossy.LossyText.write_front.Goals as goal
 
 pub returns-then-is_none : goal.returns-then-is_none

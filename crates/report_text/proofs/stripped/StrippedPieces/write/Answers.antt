@@ -1,7 +1,7 @@
 use Rattle.std.proofs.Common.{rules, ◌∙◌, ◌++◌, sym, ap}
 use Rattle.report_text.specs.EndLine.{held, ends_in_line_feed}
-use Rattle.report_text.proofs.EndLines.{end_line_written, end_line_stopped, end_line_done, piece_still-next, held-still}
-use Rattle.report_text.proofs.StrippedTexts.{nothing_shown, nothing_moved}
+use Rattle.report_text.proofs.lemmas.EndLines.{end_line_written, end_line_stopped, end_line_done, piece_still-next, held-still}
+use Rattle.report_text.proofs.lemmas.StrippedTexts.{nothing_shown, nothing_moved}
 use Rattle.report_text.proofs.stripped.StrippedPieces.write.Goals as goal
 
 pub returns-in_err-write-clause-text : goal.returns-in_err-write-clause-text

@@ -1,6 +1,6 @@
 use Rattle.std.proofs.Common.{rules}
-use Rattle.report_text.proofs.EndLines.{strs-next, strs-none}
-use Rattle.report_text.proofs.StrippedTexts.{stripped_begun, stripped_written, stripped_stopped, stripped_done}
+use Rattle.report_text.proofs.lemmas.EndLines.{strs-next, strs-none}
+use Rattle.report_text.proofs.lemmas.StrippedTexts.{stripped_begun, stripped_written, stripped_stopped, stripped_done}
 use Rattle.report_text.proofs.stripped.tests.write_stripped_pieces.Goals as goal
 
 pub loop-piece-init : goal.loop-piece-init

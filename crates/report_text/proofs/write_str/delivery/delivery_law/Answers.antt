@@ -1,4 +1,4 @@
-use Rattle.report_text.proofs.Deliveries.{stopped_delivers, stopped_begins}
+use Rattle.report_text.proofs.lemmas.Deliveries.{stopped_delivers, stopped_begins}
 use Rattle.report_text.proofs.write_str.delivery.delivery_law.Goals as goal
 
 pub returns-clause-stopped : goal.returns-clause-stopped

@@ -1,6 +1,6 @@
 use Rattle.std.proofs.Common.{ap, ◌∙◌, drop}
 use Rattle.unit_report.specs.Captured.{part_value}
-use Rattle.unit_report.proofs.Highlights.{part_absent, part_valid, part_text, part_utf8, part_rest}
+use Rattle.unit_report.proofs.lemmas.Highlights.{part_absent, part_valid, part_text, part_utf8, part_rest}
 use Rattle.unit_report.proofs.unit_output.captured.split_highlight.Goals as goal
 
 pub returns-then-not-starts_with : goal.returns-then-not-starts_with

@@ -1,5 +1,5 @@
 use Rattle.unit_report.specs.Captured.{part_value}
-use Rattle.unit_report.proofs.Highlights.{coloured-valid}
+use Rattle.unit_report.proofs.lemmas.Highlights.{coloured-valid}
 use Rattle.unit_report.proofs.unit_output.captured.write_coloured_output.Goals as goal
 
 pub returns-in-Some-split_highlight : goal.returns-in-Some-split_highlight

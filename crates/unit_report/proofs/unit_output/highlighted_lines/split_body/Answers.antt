@@ -1,6 +1,6 @@
 use Rattle.std.proofs.Common.{◌≡◌}
 use Rattle.unit_report.specs.HighlightedLines.{body_len}
-use Rattle.unit_report.proofs.HighlightedLines.{body_boundary}
+use Rattle.unit_report.proofs.lemmas.HighlightedLines.{body_boundary}
 use Rattle.unit_report.proofs.unit_output.highlighted_lines.split_body.Goals as goal
 
 pub split_at-requires : goal.split_at-requires

@@ -2,7 +2,7 @@ use Rattle.std.proofs.Common.{◌≡◌, ◌-◌, ◌∙◌, List, ℕ, length, 
 use Rattle.std.proofs.Math.Seq.{take-length}
 use Rattle.std.proofs.lemmas.List.{drop-map}
 use Rattle.std.specs.Borrow.{Bor}
-use Rattle.report.specs.Cuts.{texts}
+use Rattle.report.specs.Split.{texts}
 use Rattle.report.specs.Fields.{Place}
 use Rattle.report.proofs.reader.fields.Fields.pass.Goals as goal
 

@@ -1,8 +1,8 @@
 use Rattle.std.proofs.Common.{rules}
 use Rattle.std.proofs.lemmas.List.{nil_from_length}
-use Rattle.report_text.proofs.CounterPuts.{next_counted}
-use Rattle.report_text.proofs.Fits.{step_utf8}
-use Rattle.report_text.proofs.Steps.{owes_accepted, owes_nothing}
+use Rattle.report_text.proofs.lemmas.CounterPuts.{next_counted}
+use Rattle.report_text.proofs.lemmas.Fits.{step_utf8}
+use Rattle.report_text.proofs.lemmas.Steps.{owes_accepted, owes_nothing}
 use Rattle.report_text.specs.Counted.{counter_laws}
 use Rattle.report_text.proofs.fitting.column_counter.ColumnCounterWriteStr.write_str.Goals as goal
 

@@ -1,8 +1,8 @@
 use Rattle.std.proofs.Common.{rules}
 use Rattle.std.proofs.lemmas.List.{nil_from_length}
-use Rattle.report_text.proofs.Fits.{step_utf8}
-use Rattle.report_text.proofs.FittedPuts.{next_accepted, next_stopped}
-use Rattle.report_text.proofs.Steps.{owes_accepted, owes_stopped, owes_nothing}
+use Rattle.report_text.proofs.lemmas.Fits.{step_utf8}
+use Rattle.report_text.proofs.lemmas.FittedPuts.{next_accepted, next_stopped}
+use Rattle.report_text.proofs.lemmas.Steps.{owes_accepted, owes_stopped, owes_nothing}
 use Rattle.report_text.specs.Fitted.{fitted_laws}
 use Rattle.report_text.proofs.fitting.fitted.FittedWriteStr.write_str.Goals as goal
 

@@ -1,5 +1,5 @@
 use Rattle.std.proofs.Common.{refl}
-use Rattle.report_text.proofs.FittedPuts.{nothing_put}
+use Rattle.report_text.proofs.lemmas.FittedPuts.{nothing_put}
 use Rattle.report_text.proofs.fitting.fitted.FittedWriteStr.write_str_flush.Goals as goal
 
 pub returns-clause-text : goal.returns-clause-text

@@ -1,7 +1,7 @@
 use Rattle.std.proofs.Common.{refl, lit<}
 use Rattle.std.proofs.lemmas.Str.Pattern.{ends_char}
-use Rattle.report_text.proofs.Indents.{after-ends}
-use Rattle.report_text.proofs.IndentedCalls.{line_taken}
+use Rattle.report_text.proofs.lemmas.Indents.{after-ends}
+use Rattle.report_text.proofs.lemmas.IndentedCalls.{line_taken}
 use Rattle.report_text.proofs.indenter.indentation.Indented.fmt_line.Goals as goal
 
 pub returns : goal.returns

@@ -1,6 +1,6 @@
 use Rattle.std.proofs.Common.{refl, sym, ◌∙◌}
-use Rattle.report_text.proofs.Indents.{margin-first}
-use Rattle.report_text.proofs.IndentedCalls.{margin_taken}
+use Rattle.report_text.proofs.lemmas.Indents.{margin-first}
+use Rattle.report_text.proofs.lemmas.IndentedCalls.{margin_taken}
 use Rattle.report_text.proofs.indenter.indentation.Indented.fmt_margin.Goals as goal
 
 pub returns : goal.returns

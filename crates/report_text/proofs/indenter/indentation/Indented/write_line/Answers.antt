@@ -1,7 +1,7 @@
 use Rattle.std.proofs.Common.{refl, lit<}
 use Rattle.std.proofs.lemmas.Str.Pattern.{ends_char}
-use Rattle.report_text.proofs.Indents.{margin_stopped, line_stopped, line_accepted, after-ends}
-use Rattle.report_text.proofs.Steps.{at_exit}
+use Rattle.report_text.proofs.lemmas.Indents.{margin_stopped, line_stopped, line_accepted, after-ends}
+use Rattle.report_text.proofs.lemmas.Steps.{at_exit}
 use Rattle.report_text.specs.Indented.{indented_laws}
 use Rattle.report_text.proofs.indenter.indentation.Indented.write_line.Goals as goal
 

@@ -1,5 +1,5 @@
 use Rattle.std.proofs.Common.{refl, sym, ◌∙◌}
-use Rattle.report_text.proofs.Indents.{margin-first}
+use Rattle.report_text.proofs.lemmas.Indents.{margin-first}
 use Rattle.report_text.proofs.indenter.indentation.Indented.write_margin.Goals as goal
 
 pub returns : goal.returns

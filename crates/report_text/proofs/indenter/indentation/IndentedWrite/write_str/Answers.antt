@@ -1,5 +1,5 @@
 use Rattle.std.proofs.Common.{rules}
-use Rattle.report_text.proofs.IndentedCalls.{taken_more, taken_done}
+use Rattle.report_text.proofs.lemmas.IndentedCalls.{taken_more, taken_done}
 use Rattle.report_text.proofs.indenter.indentation.IndentedWrite.write_str.Goals as goal
 
 pub loop-rest-preserved : goal.loop-rest-preserved

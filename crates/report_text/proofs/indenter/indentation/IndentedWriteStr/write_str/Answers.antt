@@ -1,5 +1,5 @@
 use Rattle.std.proofs.Common.{rules}
-use Rattle.report_text.proofs.Steps.{owes_accepted, owes_stopped, owes_done}
+use Rattle.report_text.proofs.lemmas.Steps.{owes_accepted, owes_stopped, owes_done}
 use Rattle.report_text.specs.Indented.{indented_laws}
 use Rattle.report_text.proofs.indenter.indentation.IndentedWriteStr.write_str.Goals as goal
 

@@ -1,5 +1,5 @@
 use Rattle.std.proofs.Common.{refl}
-use Rattle.report_text.proofs.Indents.{flush_put}
+use Rattle.report_text.proofs.lemmas.Indents.{flush_put}
 use Rattle.report_text.proofs.indenter.indentation.IndentedWriteStr.write_str_flush.Goals as goal
 
 pub returns-clause-text : goal.returns-clause-text

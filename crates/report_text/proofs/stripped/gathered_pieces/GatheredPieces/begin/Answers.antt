@@ -1,4 +1,4 @@
-use Rattle.report_text.proofs.Gathered.{begun}
+use Rattle.report_text.proofs.lemmas.Gathered.{begun}
 use Rattle.report_text.proofs.stripped.gathered_pieces.GatheredPieces.begin.Goals as goal
 
 pub returns : goal.returns

@@ -1,4 +1,4 @@
-use Rattle.report_text.proofs.Steps.{owes_accepted, owes_stopped, owes_done, split_parts}
+use Rattle.report_text.proofs.lemmas.Steps.{owes_accepted, owes_stopped, owes_done, split_parts}
 use Rattle.report_text.specs.Buffer.{buffer_laws}
 use Rattle.report_text.proofs.write_str.text_buffer.TextBuffer.write_long.Goals as goal
 

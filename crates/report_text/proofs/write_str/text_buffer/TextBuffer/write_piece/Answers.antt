@@ -1,5 +1,5 @@
 use Rattle.std.proofs.Common.{[]}
-use Rattle.report_text.proofs.Steps.{at_exit}
+use Rattle.report_text.proofs.lemmas.Steps.{at_exit}
 use Rattle.report_text.specs.Buffer.{buffer_laws}
 use Rattle.report_text.proofs.write_str.text_buffer.TextBuffer.write_piece.Goals as goal
 

@@ -1,0 +1,78 @@
+-- How wide a test's name can be (for `DisplayTestInstance::write_within`).
+use Rattle.std.proofs.Common.{ℕ, zero, suc, ◌+◌, ◌*◌, ◌<◌, ◌≤◌, ◌^◌, [], ◌∷◌, ◌++◌, arith, length, length-append, length-take, length-drop, Option, None, Some, take, drop, codes, ◌-◌, ◌==◌, inl, inr}
+use Rattle.std.proofs.lemmas.Bool.{cases_Bool}
+use Rattle.std.specs.Str.{chars, chars_after, continuation_len, lead_bits}
+use Rattle.std.specs.Option.{option_map, option_map_or}
+use Rattle.run_model.specs.Names.{last_colons}
+use Rattle.report_text.specs.Texts.{Text}
+use Rattle.report_text.specs.Escapes.{visible, visible_after, sequence_len}
+use Rattle.report_text.specs.Fitting.{columns}
+use Rattle.report_text.specs.Styles.{part_text, styled, style_prefix, style_suffix, Styled, paint}
+use Rattle.report_text.specs.Instances.{name_parts, name_text}
+use Rattle.report_text.specs.declared.style.Style.{Style}
+use Rattle.report_text.specs.declared.style.Style.TheVariants as style
+use Rattle.report_text.specs.declared.style.ListStyles.{ListStyles}
+use Rattle.report_text.proofs.lemmas.Fits.{columns_of-le}
+
+visible_after-le : (n : ℕ) (t : Text) → length (visible_after n t) ≤ length t
+unfolding visible_after
+visible_after-le zero [] = omega arith
+visible_after-le (suc n) [] = omega arith
+visible_after-le (suc n) (c ∷ t) = omega (arith, visible_after-le n t)
+visible_after-le zero (c ∷ t) = elim (cases_Bool (c == 27)) [
+  | inl y ↦ rw y (omega (arith, visible_after-le (sequence_len t) t))
+  | inr n ↦ rw n (omega (arith, visible_after-le 0 t))
+]
+
+style-le : (s : Style) → (length (style_prefix s) ≤ 7) × (length (style_suffix s) ≤ 4)
+style-le style.Plain = (omega arith, omega arith)
+style-le style.Bold = (omega arith, omega arith)
+style-le style.BoldRed = (omega arith, omega arith)
+style-le style.BoldGreen = (omega arith, omega arith)
+style-le style.BoldYellow = (omega arith, omega arith)
+style-le style.BoldBlue = (omega arith, omega arith)
+style-le style.BoldMagenta = (omega arith, omega arith)
+style-le style.Cyan = (omega arith, omega arith)
+style-le style.BrightBlack = (omega arith, omega arith)
+
+styled-le : (s : Style) (t : Text) → length (part_text (Styled s t)) ≤ length t + 11
+unfolding styled
+styled-le s t = omega (arith, style-le s, length-append (style_prefix s) (t ++ style_suffix s), length-append t (style_suffix s))
+
+chars_after-le : (n c : ℕ) (bs : Text) → length (chars_after n c bs) ≤ length bs + 1
+chars_after-le zero c [] = omega arith
+chars_after-le zero c (b ∷ bs) = omega (arith, chars_after-le (continuation_len b) (lead_bits b) bs)
+chars_after-le (suc n) c [] = omega arith
+chars_after-le (suc n) c (b ∷ bs) = omega (arith, chars_after-le n (c * 64 + (b - 128)) bs)
+
+chars-le : (bs : Text) → length (chars bs) ≤ length bs
+unfolding chars
+chars-le [] = omega arith
+chars-le (b ∷ bs) = omega (arith, chars_after-le (continuation_len b) (lead_bits b) bs)
+
+-- three columns a byte at most, whatever the bytes are
+columns-le : (t : Text) → columns t ≤ 3 * length t
+columns-le t = omega (arith, columns_of-le (chars (visible t)), chars-le (visible t), visible_after-le 0 t)
+
+paint-le : (s r : Style) (path last : Text) (n : ℕ) → length path ≤ n → length last ≤ n → length (paint (Styled s path ∷ Styled s (codes "::") ∷ Styled r last ∷ [])) ≤ 2 * n + 35
+paint-le s r path last n h k = omega (
+  arith,
+  length-append (part_text (Styled s path)) (part_text (Styled s (codes "::")) ++ (part_text (Styled r last) ++ [])),
+  length-append (part_text (Styled s (codes "::"))) (part_text (Styled r last) ++ []),
+  length-append (part_text (Styled r last)) [],
+  styled-le s path,
+  styled-le s (codes "::"),
+  styled-le r last,
+)
+
+name-le : (s : ListStyles) (name : Text) → length (name_text s name) ≤ 2 * length name + 35
+unfolding name_text
+name-le s name = go (last_colons name)
+  where
+    go : (o : Option ℕ) → length (paint (name_parts s (option_map (λ i. take i name) o) (option_map_or (λ i. drop (i + 2) name) o name))) ≤ 2 * length name + 35
+    go None = omega (arith, length-append (part_text (Styled s.test_name name)) [], styled-le s.test_name name)
+    go (Some i) = paint-le s.module_path s.test_name (take i name) (drop (i + 2) name) (length name) (omega (arith, length-take i name)) (omega (arith, length-drop (i + 2) name))
+
+-- a name in memory is not so wide
+pub name_columns : (s : ListStyles) (name : Text) → length name < 2 ^ 64 → columns (name_text s name) < 2 ^ 127
+name_columns s name h = omega (arith, columns-le (name_text s name), name-le s name)

@@ -1,0 +1,2 @@
+pub mod Highlights
+pub mod HighlightedLines
