@@ -2,11 +2,9 @@
 use Rattle.std.specs.Prelude.{ℕ, ◌-◌, Bool, false, List, [], ◌∷◌, ◌++◌, Option, Some, None, max}
 use Rattle.std.specs.Option.{option_to_list}
 use Rattle.std.specs.declared.cmp.Ordering.{Ordering}
-use Rattle.std.specs.Ordering.{is_lt, nat_cmp, on, then_cmp}
-use Rattle.std.specs.Cmp.Lexicographic.{slice_cmp}
+use Rattle.std.specs.Ordering.{is_lt}
 use Rattle.std.specs.List.{flat_map}
 use Rattle.std.specs.List.Sorted.{IsSorted, IsStable}
-use Rattle.run_model.specs.Instances.{instance_cmp}
 use Rattle.run_model.specs.Levels.{final_rank, reason_rank}
 use Rattle.run_model.specs.Statuses.{final_level_of}
 use Rattle.run_model.specs.Stress.{stress_key}
@@ -76,13 +74,6 @@ level_key e = 7 - final_rank (final_level_in e.output)
 -- the bytes of the binary's id and of the test's name
 abbrev pub entry_key : FinalOutputEntry → List (List ℕ)
 entry_key e = (level_key e ∷ []) ∷ iteration_key e.test.stress_index ∷ counter_key e.test.counter ∷ e.test.instance.binary_id.now ∷ e.test.instance.test_name.now ∷ []
-
--- the order of tests of one iteration, and that of tests
-abbrev pub counted_cmp : CountedInstance → CountedInstance → Ordering
-counted_cmp a b = then_cmp (on (λ t. counter_key t.counter) (slice_cmp nat_cmp)) (λ x y. instance_cmp x.instance y.instance) a b
-
-abbrev pub test_cmp : CountedInstance → CountedInstance → Ordering
-test_cmp a b = then_cmp (on (λ t. iteration_key t.stress_index) (slice_cmp nat_cmp)) counted_cmp a b
 
 abbrev pub entry_cmp : FinalOutputEntry → FinalOutputEntry → Ordering
 entry_cmp a b = key_cmp (entry_key a) (entry_key b)
