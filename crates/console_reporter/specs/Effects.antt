@@ -3,26 +3,26 @@ use Rattle.std.specs.Prelude.{ℕ, Bool, Option, None, Some, if◌then◌else◌
 use Rattle.std.specs.Option.{is_some, option_and_then}
 use Rattle.run_model.specs.declared.event.TestEventKind.{TestEventKind}
 use Rattle.run_model.specs.declared.event.TestEventKind.TheVariants.{TestFinished}
-use Rattle.event_text.specs.AttemptOutputs.{Written}
 use Rattle.event_text.specs.FinishedTests.{TestFinish, test_finish}
 use Rattle.event_text.specs.Finishes.{is_final_wanted, row_at_end, row_listed}
 use Rattle.event_text.specs.declared.settings.Settings.{Settings}
-use Rattle.console_reporter.specs.declared.imp.final_output.FinalOutput.TheVariants.{Executed}
+use Rattle.console_reporter.specs.declared.imp.final_output.FinalOutput.{FinalOutput}
+use Rattle.console_reporter.specs.declared.imp.final_output.FinalOutput.TheVariants.{Executed, ExecutedWithOutput}
 use Rattle.console_reporter.specs.declared.imp.final_output.FinalOutputEntry.{FinalOutputEntry}
 
--- the output of the last attempt of a finished test that the summary shows
-unfoldable pub output_at_end : TestFinish → Option Written
-output_at_end f = if row_at_end f.row f.display then Some f.last.output else None
+-- what the summary shows of a finished test: its line, and the output of its last attempt where that is shown at the end
+unfoldable pub final_output : TestFinish → FinalOutput
+final_output f = if row_at_end f.row f.display then ExecutedWithOutput f.summary f.last.output else Executed f.summary
 
--- what the summary shows of it
+-- its entry
 abbrev pub finished_entry : TestFinish → FinalOutputEntry
-finished_entry f = record { test = f.test; output = Executed f.summary (output_at_end f) }
+finished_entry f = record { test = f.test; output = final_output f }
 
 -- the summary lists it
 abbrev pub is_kept : Settings → TestFinish → Bool
 is_kept s f = row_listed f.row (is_final_wanted s f.display f.summary)
 
--- its entry, where the summary lists it
+-- what is kept of it
 abbrev pub kept_entry : Settings → TestFinish → Option FinalOutputEntry
 kept_entry s f = if is_kept s f then Some (finished_entry f) else None
 

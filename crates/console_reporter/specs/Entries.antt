@@ -11,19 +11,18 @@ use Rattle.run_model.specs.Stress.{stress_key}
 use Rattle.run_model.specs.UniquePrefixes.{UniquePrefix}
 use Rattle.run_model.specs.declared.level.CancelReason.TheVariants as cause
 use Rattle.run_model.specs.declared.level.FinalStatusLevel.{FinalStatusLevel}
-use Rattle.run_model.specs.declared.status.StatusSummary.{StatusSummary}
 use Rattle.run_model.specs.declared.stress.StressIndex.{StressIndex}
 use Rattle.report_text.specs.Texts.{Text}
 use Rattle.report_text.specs.declared.helpers.instance.DisplayCounterIndex.{DisplayCounterIndex}
 use Rattle.report_text.specs.declared.helpers.instance.DisplayCounterIndex.TheVariants.{Counter, Padded}
-use Rattle.event_text.specs.AttemptOutputs.{Written, attempt_output}
+use Rattle.event_text.specs.AttemptOutputs.{attempt_output}
 use Rattle.console_reporter.specs.Effects.{effect_of, entry_of}
 use Rattle.console_reporter.specs.Order.{key_cmp, ordered_by}
 use Rattle.event_text.specs.StatusLines.{status_line}
 use Rattle.console_reporter.specs.declared.imp.calls.ReportCall.{ReportCall}
 use Rattle.console_reporter.specs.declared.imp.calls.ReportCall.TheVariants.{Event, Prefix}
 use Rattle.console_reporter.specs.declared.imp.final_output.FinalOutput.{FinalOutput}
-use Rattle.console_reporter.specs.declared.imp.final_output.FinalOutput.TheVariants.{Executed}
+use Rattle.console_reporter.specs.declared.imp.final_output.FinalOutput.TheVariants.{Executed, ExecutedWithOutput}
 use Rattle.console_reporter.specs.declared.imp.final_output.FinalOutputEntry.{FinalOutputEntry}
 use Rattle.event_text.specs.declared.instance.CountedInstance.{CountedInstance}
 use Rattle.event_text.specs.declared.settings.Settings.{Settings}
@@ -64,7 +63,8 @@ counter_key (Some (Padded character width)) = 1 ∷ []
 
 -- the level of an entry
 abbrev pub final_level_in : FinalOutput → FinalStatusLevel
-final_level_in (Executed summary output) = final_level_of summary
+final_level_in (Executed summary) = final_level_of summary
+final_level_in (ExecutedWithOutput summary output) = final_level_of summary
 
 -- how far it stands below all
 abbrev pub level_key : FinalOutputEntry → ℕ
@@ -90,20 +90,14 @@ IsFinalOrder entries order = IsSorted entry_cmp order × IsStable entry_cmp entr
 abbrev pub final_order : List FinalOutputEntry → List FinalOutputEntry
 final_order entries = ordered_by is_before entries
 
--- the output of an entry, where the summary shows it
-unfoldable pub entry_output : Settings → StatusSummary → Option Written → Text
-entry_output s x None = []
-entry_output s x (Some output) = attempt_output s false x.is_slow x.result output
+-- how the summary shows a test: its line, and then what its last attempt wrote where that is kept
+unfoldable pub final_text : Settings → CountedInstance → FinalOutput → Text
+final_text s test (Executed summary) = status_line s.styles Final test summary
+final_text s test (ExecutedWithOutput summary output) =
+    status_line s.styles Final test summary ++ attempt_output s false summary.is_slow summary.result output
 
--- how the summary shows a test that was run
-unfoldable pub executed_text : Settings → CountedInstance → StatusSummary → Option Written → Text
-executed_text s test x output = status_line s.styles Final test x ++ entry_output s x output
-
--- how the summary shows an entry
-abbrev pub final_text : Settings → CountedInstance → FinalOutput → Text
-final_text s test (Executed summary output) = executed_text s test summary output
-
-unfoldable pub entry_text : Settings → FinalOutputEntry → Text
+-- how it shows an entry
+abbrev pub entry_text : Settings → FinalOutputEntry → Text
 entry_text s e = final_text s e.test e.output
 
 -- the entries as they stand, one after another

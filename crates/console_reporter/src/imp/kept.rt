@@ -2,7 +2,9 @@
 
 ghost use Rattle.std.specs.Prelude.{◌≡◌, List, [], ◌∷◌, ◌++◌, OnOk, OnErr};
 ghost use Rattle.report_text.specs.Writer.{Puts};
-ghost use Rattle.console_reporter.specs.Entries.{entry_output, executed_text, final_text, entries_text, final_order, IsFinalOrder};
+ghost use Rattle.event_text.specs.StatusLines.{status_line};
+ghost use Rattle.event_text.specs.declared.status_line.StatusLineKind.{StatusLineKind};
+ghost use Rattle.console_reporter.specs.Entries.{final_text, entries_text, final_order, IsFinalOrder};
 ghost use Rattle.console_reporter.specs.declared.imp.final_output.FinalOutputEntry.{FinalOutputEntry};
 
 use super::entry_key::EntryKey;
@@ -12,8 +14,6 @@ use event_text::instance::CountedInstance;
 use event_text::settings::Settings;
 use event_text::status_line::{StatusLine, StatusLineKind, write_status_line};
 use report_text::write_str::{WriteFault, WriteStr};
-use run_model::boxed::Boxed;
-use run_model::output::{ChildExecutionOutputDescription, LiveSpec};
 use run_model::status::StatusSummary;
 use std::alloc::{AllocError, Global};
 use std::collections::BTreeMap;
@@ -66,7 +66,6 @@ impl<'a> KeptEntries<'a> {
     }
 
     /// Writes the entries in their order. It takes no memory.
-    #[tactic(auto, unfolding(crate::specs::Entries::entry_text))]
     pub fn write<W: WriteStr>(&self, w: &mut W, settings: &Settings) -> Result<(), WriteFault>
         ensures { Puts W.meaning w.old (entries_text settings.now self.now) result w.new }
     {
@@ -85,7 +84,8 @@ pub fn one_final_order()
     ensures only { (kept order : List FinalOutputEntry) → IsFinalOrder kept order → order ≡ final_order kept }
 {}
 
-// Writes an entry.
+// Writes an entry: its line, and what the last attempt wrote where that is kept.
+#[tactic(auto, unfolding(crate::specs::Entries::final_text))]
 fn write_entry<W: WriteStr>(
     w: &mut W,
     settings: &Settings,
@@ -95,47 +95,30 @@ fn write_entry<W: WriteStr>(
     ensures { Puts W.meaning w.old (final_text settings.now test.entry output.now) result w.new }
 {
     match output {
-        FinalOutput::Executed { summary, output } => write_executed(
-            w, settings, test, summary, output,
-        ),
+        FinalOutput::Executed { summary } => write_line(w, settings, test, summary),
+        FinalOutput::ExecutedWithOutput { summary, output } => {
+            write_line(w, settings, test, summary)?;
+            write_test_execute_status(
+                w,
+                settings,
+                false,
+                summary.is_slow,
+                &summary.result,
+                output.get(),
+            )
+        }
     }
 }
 
-// Writes the line of a test that was run, and its output where the summary shows it.
-#[tactic(auto, unfolding(crate::specs::Entries::executed_text))]
-fn write_executed<W: WriteStr>(
+// Writes the line of a test that was run.
+fn write_line<W: WriteStr>(
     w: &mut W,
     settings: &Settings,
     test: CountedInstance<'_>,
     summary: &StatusSummary,
-    output: &Option<Boxed<ChildExecutionOutputDescription<LiveSpec>>>,
 ) -> Result<(), WriteFault>
-    ensures { Puts W.meaning w.old (executed_text settings.now test.entry summary.now output.now) result w.new }
+    ensures { Puts W.meaning w.old (status_line settings.now.styles StatusLineKind.Final test.entry summary.now) result w.new }
 {
     let line = StatusLine::of_summary(summary);
-    write_status_line(w, &settings.styles, StatusLineKind::Final, test, line)?;
-    write_entry_output(w, settings, summary, output)
-}
-
-// Writes the output of an entry, where the summary shows it.
-#[tactic(auto, unfolding(crate::specs::Entries::entry_output))]
-fn write_entry_output<W: WriteStr>(
-    w: &mut W,
-    settings: &Settings,
-    summary: &StatusSummary,
-    output: &Option<Boxed<ChildExecutionOutputDescription<LiveSpec>>>,
-) -> Result<(), WriteFault>
-    ensures { Puts W.meaning w.old (entry_output settings.now summary.now output.now) result w.new }
-{
-    match output {
-        None => Ok(()),
-        Some(output) => write_test_execute_status(
-            w,
-            settings,
-            false,
-            summary.is_slow,
-            &summary.result,
-            output.get(),
-        ),
-    }
+    write_status_line(w, &settings.styles, StatusLineKind::Final, test, line)
 }
