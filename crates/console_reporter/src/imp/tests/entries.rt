@@ -28,25 +28,32 @@ fn passed_after<'a>(
     finished(alloc, binary_id, test_name, status, None)
 }
 
+// The report of two tests of one name, the first of which took longer, of one whose name is less, and of two ends of their run.
+fn report_of_ties(alloc: Global) -> Result<String, Fail> {
+    let binary_id = RustBinaryId::new(alloc, "a")?;
+    let names = [
+        TestCaseName::new(alloc, "t1")?,
+        TestCaseName::new(alloc, "t1")?,
+        TestCaseName::new(alloc, "t0")?,
+    ];
+    let nanos = [2_000_000_000, 1_000_000_000, 3_000_000_000];
+    let mut calls = Vec::new(alloc);
+    for place in 0..3 {
+        calls.push(passed_after(alloc, &binary_id, &names[place], nanos[place])?)?;
+    }
+    calls.push(run_finished())?;
+    calls.push(run_finished())?;
+    printed(alloc, calls.as_slice())
+}
+
 #[test]
 fn each_end_of_a_run_lists_the_entries_and_those_of_one_key_as_they_came(
     rt: HostRuntime,
 ) -> Result<(), Fail> {
     let alloc = rt.alloc();
-    let binary_id = RustBinaryId::new(alloc, "a")?;
-    let first = TestCaseName::new(alloc, "t0")?;
-    let second = TestCaseName::new(alloc, "t1")?;
-    let calls = [
-        passed_after(alloc, &binary_id, &second, 2_000_000_000)?,
-        passed_after(alloc, &binary_id, &second, 1_000_000_000)?,
-        passed_after(alloc, &binary_id, &first, 3_000_000_000)?,
-        run_finished(),
-        run_finished(),
-    ];
-    let report = printed(alloc, calls.as_slice())?;
     let mut want = String::new(alloc);
     want.push_str(TIES)?;
     want.push_str(TIES)?;
-    assert_eq!(rt; report.as_str(), want.as_str());
+    assert_eq!(rt; report_of_ties(alloc)?.as_str(), want.as_str());
     Ok(())
 }

@@ -110,32 +110,27 @@ const PASSED: &str = "------------
 
 ";
 
+// The report of two tests that passed, the second of which asks for its output at the end.
+fn report_of_passes(alloc: Global) -> Result<String, Fail> {
+    let binary_id = RustBinaryId::new(alloc, "a")?;
+    let names = [
+        TestCaseName::new(alloc, "t1")?,
+        TestCaseName::new(alloc, "t2")?,
+    ];
+    let displays = [TestOutputDisplay::Never, TestOutputDisplay::Final];
+    let mut calls = Vec::new(alloc);
+    for place in 0..2 {
+        let pass = ExecutionResultDescription::Pass;
+        calls.push(finished_with_output(alloc, &binary_id, &names[place], pass, displays[place])?)?;
+    }
+    calls.push(run_finished())?;
+    printed(alloc, calls.as_slice())
+}
+
 #[test]
-fn a_summary_of_all_levels_shows_passed_tests_and_the_output_that_is_asked_for(
+fn a_summary_shows_the_output_of_a_passed_test_that_asks_for_it(
     rt: HostRuntime,
 ) -> Result<(), Fail> {
-    let alloc = rt.alloc();
-    let binary_id = RustBinaryId::new(alloc, "a")?;
-    let first = TestCaseName::new(alloc, "t1")?;
-    let second = TestCaseName::new(alloc, "t2")?;
-    let (never, at_end) = (TestOutputDisplay::Never, TestOutputDisplay::Final);
-    let calls = [
-        finished_with_output(
-            alloc,
-            &binary_id,
-            &first,
-            ExecutionResultDescription::Pass,
-            never,
-        )?,
-        finished_with_output(
-            alloc,
-            &binary_id,
-            &second,
-            ExecutionResultDescription::Pass,
-            at_end,
-        )?,
-        run_finished(),
-    ];
-    assert_eq!(rt; printed(alloc, calls.as_slice())?.as_str(), PASSED);
+    assert_eq!(rt; report_of_passes(rt.alloc())?.as_str(), PASSED);
     Ok(())
 }
