@@ -1,9 +1,12 @@
 #!/usr/bin/env python3
-"""bench/scene.py [--outputs] COUNT: writes a scene of so many finished tests to standard output, always the same one.
+"""bench/scene.py [--outputs] [--kept=ORDER] COUNT: writes a scene of so many finished tests to standard output, always the same one.
 
 Nine in ten pass; names have the lengths of a large workspace's, and each line carries the whole statistics, as in a run.
 With --outputs each test has written some lines, coloured as cargo's are; a test that failed shows them at once.
+With --kept every test passes and the summary lists it; tests finish in the order of the summary (`ordered`), in the opposite
+one (`reversed`) or in none (`shuffled`).
 """
+import random
 import sys
 
 RUN_ID = "00000000-0000-4000-8000-000000000001"
@@ -13,6 +16,22 @@ MODULES = ["parser", "parser::tokens", "store::index::tests", "net", "tests"]
 
 OUTPUT = "\\nrunning 1 test\\ntest {name} ... {word}\\n\\ntest result: {word}. 1 of 1; finished in 0.01s\\n"
 PANIC = "\\e[1mthread\\e[0m '{name}' panicked at src/parser/tokens.rs:214:9:\\nassertion `left == right` failed\\n  left: {i}\\n right: 0\\nnote: run with `RUST_BACKTRACE=1`\\n"
+
+
+def kept_lines(count, order):
+    tests = sorted((BINARIES[i % len(BINARIES)], f"{MODULES[i % len(MODULES)]}::case_{i:05}_of_the_table") for i in range(count))
+    if order == "reversed":
+        tests.reverse()
+    elif order == "shuffled":
+        random.Random(1).shuffle(tests)
+    elif order != "ordered":
+        sys.exit(f"no order: {order}")
+    yield "config\tfinal\tall"
+    yield f"run\t{RUN_ID}\tdefault\t{count}\t{len(BINARIES)}\t-"
+    for i, (binary, name) in enumerate(tests):
+        stats = f"initial={count} finished={i + 1} passed={i + 1}"
+        yield f"done\t-\t{binary}\t{name}\tnever\tnever\tpass\t{stats}\t1\tpass\t{(i * 7_919_000_003) % 3_000_000_000}\t0\tsplit\t\t\t-\t-"
+    yield f"end\t99000000000\tinitial={count} finished={count} passed={count}\t0\t-"
 
 
 def lines(count, has_outputs):
@@ -37,4 +56,7 @@ def lines(count, has_outputs):
 
 
 if __name__ == "__main__":
-    sys.stdout.write("\n".join(lines(int(sys.argv[-1]), "--outputs" in sys.argv)) + "\n")
+    count = int(sys.argv[-1])
+    orders = [word.removeprefix("--kept=") for word in sys.argv[1:] if word.startswith("--kept=")]
+    scene = kept_lines(count, orders[0]) if orders else lines(count, "--outputs" in sys.argv)
+    sys.stdout.write("\n".join(scene) + "\n")

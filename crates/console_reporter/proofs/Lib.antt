@@ -1,4 +1,5 @@
 pub mod Calls
+pub mod Inserts
 pub mod Keys
 pub mod Orders
 pub mod Pasts

@@ -1,7 +1,7 @@
 -- Texts that are empty or end in a line feed.
 use Rattle.run_model.specs.UniquePrefixes.{UniquePrefix}
 use Rattle.std.specs.Prelude.{nat_lt, ◌==◌}
-use Rattle.std.proofs.Common.{◌≡◌, ℕ, ℤ, Bool, false, List, [], ◌∷◌, ◌++◌, refl, sym, ap, subst, ◌∙◌, append_assoc, append-nil, Option, None, Some, inl, inr, codes}
+use Rattle.std.proofs.Common.{◌≡◌, ℕ, ℤ, Bool, false, List, [], ◌∷◌, ◌++◌, refl, sym, ap, subst, ◌∙◌, append_assoc, append-nil, Option, Some, inl, inr, codes}
 use Rattle.std.specs.List.{flat_map}
 use Rattle.std.proofs.lemmas.Bool.{cases_Bool}
 use Rattle.run_model.specs.declared.config.NextestRunMode.{NextestRunMode}
@@ -35,7 +35,7 @@ use Rattle.event_text.specs.AbortLines.{nt_line, job_object_line, line_of_abort,
 use Rattle.event_text.specs.AttemptOutputs.{Written, attempt_output, has_info_line, info_line, shown_info_line}
 use Rattle.console_reporter.specs.Configuration.{Configuration}
 use Rattle.event_text.specs.FinishedTests.{TestFinish, test_finish, line_at_once, output_at_once, test_finished_text}
-use Rattle.console_reporter.specs.Entries.{hiding_rank, entry_output, entry_text, executed_text, final_text}
+use Rattle.console_reporter.specs.Entries.{hiding_rank, entry_text, final_text}
 use Rattle.event_text.specs.Finishes.{is_line_shown, row_at_once}
 use Rattle.console_reporter.specs.Outcomes.{IsOfLines}
 use Rattle.console_reporter.specs.Report.{Known, listed_text, event_text, text}
@@ -44,7 +44,7 @@ use Rattle.event_text.specs.StatusLines.{is_flaky_failure, flaky_note, flaky_fai
 use Rattle.console_reporter.specs.declared.imp.calls.ReportCall.{ReportCall}
 use Rattle.console_reporter.specs.declared.imp.calls.ReportCall.TheVariants.{Event, Prefix}
 use Rattle.console_reporter.specs.declared.imp.final_output.FinalOutput.{FinalOutput}
-use Rattle.console_reporter.specs.declared.imp.final_output.FinalOutput.TheVariants.{Executed}
+use Rattle.console_reporter.specs.declared.imp.final_output.FinalOutput.TheVariants.{Executed, ExecutedWithOutput}
 use Rattle.console_reporter.specs.declared.imp.final_output.FinalOutputEntry.{FinalOutputEntry}
 use Rattle.event_text.specs.declared.instance.CountedInstance.{CountedInstance}
 use Rattle.event_text.specs.declared.status_line.StatusLineKind.{StatusLineKind}
@@ -169,25 +169,14 @@ of_lines-final_warnings s mode (Cancelled why (Test initial not_run)) = ends-not
 of_lines-final_warnings s mode (Failed SetupScript) = inl refl
 of_lines-final_warnings s mode (Failed (Test initial not_run)) = ends-not_run_warning s mode (Some reason.TestFailure) initial not_run
 
-of_lines-entry_output : (s : Settings) (x : StatusSummary) (output : Option Written) → IsOfLines (entry_output s x output)
-unfolding entry_output
-of_lines-entry_output s x None = inl refl
-of_lines-entry_output s x (Some output) = of_line _ (ends-attempt_output s false x.is_slow x.result output)
-
-ends-executed_text : (s : Settings) (test : CountedInstance) (x : StatusSummary) (output : Option Written) → EndsLine (executed_text s test x output)
-unfolding executed_text
-ends-executed_text s test x output = ends_before _ _ (ends-status_line s.styles Final test x) (of_lines-entry_output s x output)
-
 ends-final_text : (s : Settings) (test : CountedInstance) (x : FinalOutput) → EndsLine (final_text s test x)
-ends-final_text s test (Executed summary output) = ends-executed_text s test summary output
-
-ends-entry_text : (s : Settings) (e : FinalOutputEntry) → EndsLine (entry_text s e)
-unfolding entry_text
-ends-entry_text s e = ends-final_text s e.test e.output
+unfolding final_text
+ends-final_text s test (Executed summary) = ends-status_line s.styles Final test summary
+ends-final_text s test (ExecutedWithOutput summary output) = ends_after _ _ (ends-attempt_output s false summary.is_slow summary.result output)
 
 of_lines-entries : (s : Settings) (es : List FinalOutputEntry) → IsOfLines (flat_map (entry_text s) es)
 of_lines-entries s [] = inl refl
-of_lines-entries s (e ∷ es) = of_lines-append (entry_text s e) (flat_map (entry_text s) es) (of_line _ (ends-entry_text s e)) (of_lines-entries s es)
+of_lines-entries s (e ∷ es) = of_lines-append (entry_text s e) (flat_map (entry_text s) es) (of_line _ (ends-final_text s e.test e.output)) (of_lines-entries s es)
 
 of_lines-listed_text : (s : Settings) (known : Known) → IsOfLines (listed_text s known)
 unfolding listed_text

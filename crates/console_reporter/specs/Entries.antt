@@ -2,30 +2,27 @@
 use Rattle.std.specs.Prelude.{ℕ, ◌-◌, Bool, false, List, [], ◌∷◌, ◌++◌, Option, Some, None, max}
 use Rattle.std.specs.Option.{option_to_list}
 use Rattle.std.specs.declared.cmp.Ordering.{Ordering}
-use Rattle.std.specs.Ordering.{is_lt, nat_cmp, on, then_cmp}
-use Rattle.std.specs.Cmp.Lexicographic.{slice_cmp}
+use Rattle.std.specs.Ordering.{is_lt}
 use Rattle.std.specs.List.{flat_map}
 use Rattle.std.specs.List.Sorted.{IsSorted, IsStable}
-use Rattle.run_model.specs.Instances.{instance_cmp}
 use Rattle.run_model.specs.Levels.{final_rank, reason_rank}
 use Rattle.run_model.specs.Statuses.{final_level_of}
 use Rattle.run_model.specs.Stress.{stress_key}
 use Rattle.run_model.specs.UniquePrefixes.{UniquePrefix}
 use Rattle.run_model.specs.declared.level.CancelReason.TheVariants as cause
 use Rattle.run_model.specs.declared.level.FinalStatusLevel.{FinalStatusLevel}
-use Rattle.run_model.specs.declared.status.StatusSummary.{StatusSummary}
 use Rattle.run_model.specs.declared.stress.StressIndex.{StressIndex}
 use Rattle.report_text.specs.Texts.{Text}
 use Rattle.report_text.specs.declared.helpers.instance.DisplayCounterIndex.{DisplayCounterIndex}
 use Rattle.report_text.specs.declared.helpers.instance.DisplayCounterIndex.TheVariants.{Counter, Padded}
-use Rattle.event_text.specs.AttemptOutputs.{Written, attempt_output}
+use Rattle.event_text.specs.AttemptOutputs.{attempt_output}
 use Rattle.console_reporter.specs.Effects.{effect_of, entry_of}
 use Rattle.console_reporter.specs.Order.{key_cmp, ordered_by}
 use Rattle.event_text.specs.StatusLines.{status_line}
 use Rattle.console_reporter.specs.declared.imp.calls.ReportCall.{ReportCall}
 use Rattle.console_reporter.specs.declared.imp.calls.ReportCall.TheVariants.{Event, Prefix}
 use Rattle.console_reporter.specs.declared.imp.final_output.FinalOutput.{FinalOutput}
-use Rattle.console_reporter.specs.declared.imp.final_output.FinalOutput.TheVariants.{Executed}
+use Rattle.console_reporter.specs.declared.imp.final_output.FinalOutput.TheVariants.{Executed, ExecutedWithOutput}
 use Rattle.console_reporter.specs.declared.imp.final_output.FinalOutputEntry.{FinalOutputEntry}
 use Rattle.event_text.specs.declared.instance.CountedInstance.{CountedInstance}
 use Rattle.event_text.specs.declared.settings.Settings.{Settings}
@@ -66,7 +63,8 @@ counter_key (Some (Padded character width)) = 1 ∷ []
 
 -- the level of an entry
 abbrev pub final_level_in : FinalOutput → FinalStatusLevel
-final_level_in (Executed summary output) = final_level_of summary
+final_level_in (Executed summary) = final_level_of summary
+final_level_in (ExecutedWithOutput summary output) = final_level_of summary
 
 -- how far it stands below all
 abbrev pub level_key : FinalOutputEntry → ℕ
@@ -76,13 +74,6 @@ level_key e = 7 - final_rank (final_level_in e.output)
 -- the bytes of the binary's id and of the test's name
 abbrev pub entry_key : FinalOutputEntry → List (List ℕ)
 entry_key e = (level_key e ∷ []) ∷ iteration_key e.test.stress_index ∷ counter_key e.test.counter ∷ e.test.instance.binary_id.now ∷ e.test.instance.test_name.now ∷ []
-
--- the order of tests of one iteration, and that of tests
-abbrev pub counted_cmp : CountedInstance → CountedInstance → Ordering
-counted_cmp a b = then_cmp (on (λ t. counter_key t.counter) (slice_cmp nat_cmp)) (λ x y. instance_cmp x.instance y.instance) a b
-
-abbrev pub test_cmp : CountedInstance → CountedInstance → Ordering
-test_cmp a b = then_cmp (on (λ t. iteration_key t.stress_index) (slice_cmp nat_cmp)) counted_cmp a b
 
 abbrev pub entry_cmp : FinalOutputEntry → FinalOutputEntry → Ordering
 entry_cmp a b = key_cmp (entry_key a) (entry_key b)
@@ -99,20 +90,14 @@ IsFinalOrder entries order = IsSorted entry_cmp order × IsStable entry_cmp entr
 abbrev pub final_order : List FinalOutputEntry → List FinalOutputEntry
 final_order entries = ordered_by is_before entries
 
--- the output of an entry, where the summary shows it
-unfoldable pub entry_output : Settings → StatusSummary → Option Written → Text
-entry_output s x None = []
-entry_output s x (Some output) = attempt_output s false x.is_slow x.result output
+-- how the summary shows a test: its line, and then what its last attempt wrote where that is kept
+unfoldable pub final_text : Settings → CountedInstance → FinalOutput → Text
+final_text s test (Executed summary) = status_line s.styles Final test summary
+final_text s test (ExecutedWithOutput summary output) =
+    status_line s.styles Final test summary ++ attempt_output s false summary.is_slow summary.result output
 
--- how the summary shows a test that was run
-unfoldable pub executed_text : Settings → CountedInstance → StatusSummary → Option Written → Text
-executed_text s test x output = status_line s.styles Final test x ++ entry_output s x output
-
--- how the summary shows an entry
-abbrev pub final_text : Settings → CountedInstance → FinalOutput → Text
-final_text s test (Executed summary output) = executed_text s test summary output
-
-unfoldable pub entry_text : Settings → FinalOutputEntry → Text
+-- how it shows an entry
+abbrev pub entry_text : Settings → FinalOutputEntry → Text
 entry_text s e = final_text s e.test e.output
 
 -- the entries as they stand, one after another

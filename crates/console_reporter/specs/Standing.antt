@@ -1,12 +1,11 @@
 -- What a reporter holds after a past.
 use Rattle.std.specs.Prelude.{◌≡◌, ℕ, List, Bool, true, false, IsTrue, slice_get}
 use Rattle.std.specs.Option.{option_map_or}
-use Rattle.std.specs.List.Sorted.{IsStable}
 use Rattle.run_model.specs.Levels.{reason_rank}
 use Rattle.run_model.specs.declared.event.TestEvent.{TestEvent}
 use Rattle.console_reporter.specs.Configuration.{Configuration, settings_of}
 use Rattle.console_reporter.specs.Effects.{may_grow_for}
-use Rattle.console_reporter.specs.Entries.{cancel, entry_cmp, kept, prefix}
+use Rattle.console_reporter.specs.Entries.{cancel, final_order, kept, prefix}
 use Rattle.console_reporter.specs.Report.{Known, past_at}
 use Rattle.event_text.specs.declared.settings.Settings.{Settings}
 use Rattle.console_reporter.specs.declared.imp.calls.ReportCall.{ReportCall}
@@ -14,12 +13,12 @@ use Rattle.console_reporter.specs.declared.imp.calls.ReportCall.TheVariants.{Eve
 use Rattle.console_reporter.specs.declared.imp.reporter.DisplayReporter.{DisplayReporter}
 use Rattle.console_reporter.specs.declared.imp.reporter.ReporterState.{ReporterState}
 
--- the reporter works, and holds what the texts after this past need; its entries may stand in another order where their keys differ
+-- the reporter works, and holds what the texts after this past need: its entries stand in their final order
 pub record StandsAfter {W : Type 0} (config : Configuration) (past : List ReportCall) (reporter : DisplayReporter W) : Type 0 where
   pub settings : reporter.state.settings ≡ settings_of config
   pub prefix : reporter.state.unique_prefix ≡ prefix past
   pub reason : reason_rank reporter.state.cancel_status ≡ cancel past
-  pub kept : IsStable entry_cmp (kept (settings_of config) past) reporter.state.kept.items
+  pub kept : reporter.state.kept ≡ final_order (kept (settings_of config) past)
   pub works : reporter.state.has_failed ≡ false
 
 abbrev pub HasFailed : {W : Type 0} → DisplayReporter W → Type 0
@@ -29,12 +28,12 @@ HasFailed reporter = reporter.state.has_failed ≡ true
 abbrev pub IsSameWriter : {W : Type 0} → DisplayReporter W → DisplayReporter W → Type 0
 IsSameWriter old new = new.writer.ghost_name ≡ old.writer.ghost_name
 
--- what a reporter knows of the calls before, its entries as they stand
+-- what a reporter knows of the calls before
 abbrev pub known_by : ReporterState → Known
 known_by state = record {
   prefix = state.unique_prefix;
   reason = reason_rank state.cancel_status;
-  entries = state.kept.items;
+  entries = state.kept;
 }
 
 -- the reporter may take memory of its own for the event

@@ -1,12 +1,13 @@
 //! The reporter: what it is built from, its calls, and the run of a list of calls.
 //!
 //! One module a concern: `builder` says what a reporter is built from, `calls` and `faults` what it is asked and how it fails,
-//! `effect` what an event does beside its text, `final_output` what is kept of a test for the summary, `kept` how the summary
-//! lists that, `reporter` the calls. The texts of events stand in the crate `event_text`.
+//! `effect` what an event does beside its text, `final_output` what is kept of a test for the summary, `entry_key` what that is
+//! ordered by, `kept` how it is held and listed, `reporter` the calls. The texts of events stand in the crate `event_text`.
 
 mod builder;
 mod calls;
 mod effect;
+mod entry_key;
 mod faults;
 mod final_output;
 mod kept;

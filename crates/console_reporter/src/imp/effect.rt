@@ -18,8 +18,6 @@ pub struct EventEffect<'e, 'a> {
     pub reason: Option<CancelReason>,
     /// The test that it finishes.
     pub finished: Option<FinishedTest<'e, 'a>>,
-    /// Whether it lists the entries.
-    pub lists_entries: bool,
 }
 
 impl<'e, 'a> EventEffect<'e, 'a> {
@@ -31,12 +29,10 @@ impl<'e, 'a> EventEffect<'e, 'a> {
     ) -> EventEffect<'e, 'a>
         ensures reason { reason_rank result.reason ≡ (effect_of event.now.kind).reason }
         ensures finished { option_map finish_of result.finished ≡ (effect_of event.now.kind).finished settings.now (reason_rank reason) }
-        ensures lists_entries { result.lists_entries ≡ (effect_of event.now.kind).lists_entries }
     {
         let mut effect = EventEffect {
             reason: None,
             finished: None,
-            lists_entries: false,
         };
         match &event.kind {
             TestEventKind::TestFinished {
@@ -58,7 +54,6 @@ impl<'e, 'a> EventEffect<'e, 'a> {
                     current_stats,
                 ));
             }
-            TestEventKind::RunFinished { .. } => effect.lists_entries = true,
             _ => {}
         }
         effect

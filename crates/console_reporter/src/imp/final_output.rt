@@ -3,7 +3,7 @@
 ghost use Rattle.std.specs.Prelude.{◌≡◌, IfOk, IsOk, false};
 ghost use Rattle.run_model.specs.Statuses.{is_aborted};
 ghost use Rattle.event_text.specs.FinishedTests.{finish_of};
-ghost use Rattle.console_reporter.specs.Effects.{finished_entry, output_at_end};
+ghost use Rattle.console_reporter.specs.Effects.{final_output, finished_entry};
 ghost use Rattle.console_reporter.specs.Entries.{final_level_in};
 ghost use Rattle.event_text.specs.Finishes.{row_at_end};
 
@@ -29,12 +29,17 @@ pub struct FinalOutputEntry<'a> {
 /// What the summary shows of a test.
 #[derive(Debug, Drop)]
 pub enum FinalOutput {
-    /// It was run.
+    /// It was run, and its line is shown alone.
     Executed {
         /// What its attempts came to.
         summary: StatusSummary,
-        /// What its last attempt wrote, where the summary shows it.
-        output: Option<Boxed<ChildExecutionOutputDescription<LiveSpec>>>,
+    },
+    /// It was run, and its line is shown with what its last attempt wrote.
+    ExecutedWithOutput {
+        /// What its attempts came to.
+        summary: StatusSummary,
+        /// What its last attempt wrote.
+        output: Boxed<ChildExecutionOutputDescription<LiveSpec>>,
     },
 }
 
@@ -44,7 +49,26 @@ impl FinalOutput {
         ensures { result ≡ final_level_in self.now }
     {
         match self {
-            FinalOutput::Executed { summary, .. } => summary.final_status_level(),
+            FinalOutput::Executed { summary } => summary.final_status_level(),
+            FinalOutput::ExecutedWithOutput { summary, .. } => summary.final_status_level(),
+        }
+    }
+
+    // What the summary shows of a finished test.
+    #[tactic(auto, unfolding(crate::specs::Effects::final_output))]
+    fn of_test(alloc: Global, finished: &FinishedTest<'_, '_>) -> Result<FinalOutput, OutOfMemory>
+        ensures output { IfOk result (λ o. o ≡ final_output (finish_of finished.now)) }
+        ensures free { is_aborted (finish_of finished.now).last.result ≡ false → row_at_end finished.now.row finished.now.display ≡ false → IsOk result }
+    {
+        let summary = StatusLine::of_description(&finished.describe).to_summary(alloc)?;
+        if finished.row.is_shown_at_end(finished.display) {
+            let output = finished.describe.last_status().output.copy(alloc)?;
+            Ok(FinalOutput::ExecutedWithOutput {
+                summary,
+                output: Boxed::new(alloc, output)?,
+            })
+        } else {
+            Ok(FinalOutput::Executed { summary })
         }
     }
 }
@@ -59,28 +83,9 @@ impl<'a> FinalOutputEntry<'a> {
         ensures entry { IfOk result (λ e. e ≡ finished_entry (finish_of finished.now)) }
         ensures free { is_aborted (finish_of finished.now).last.result ≡ false → row_at_end finished.now.row finished.now.display ≡ false → IsOk result }
     {
-        let summary = StatusLine::of_description(&finished.describe).to_summary(alloc)?;
-        let output = output_at_end(alloc, finished)?;
         Ok(FinalOutputEntry {
             test: finished.test,
-            output: FinalOutput::Executed { summary, output },
+            output: FinalOutput::of_test(alloc, finished)?,
         })
-    }
-}
-
-// A copy of what the last attempt wrote, where the summary shows it.
-#[tactic(auto, unfolding(crate::specs::Effects::output_at_end))]
-fn output_at_end(
-    alloc: Global,
-    finished: &FinishedTest<'_, '_>,
-) -> Result<Option<Boxed<ChildExecutionOutputDescription<LiveSpec>>>, OutOfMemory>
-    ensures copy { IfOk result (λ o. o ≡ output_at_end (finish_of finished.now)) }
-    ensures free { row_at_end finished.now.row finished.now.display ≡ false → IsOk result }
-{
-    if finished.row.is_shown_at_end(finished.display) {
-        let output = finished.describe.last_status().output.copy(alloc)?;
-        Ok(Some(Boxed::new(alloc, output)?))
-    } else {
-        Ok(None)
     }
 }

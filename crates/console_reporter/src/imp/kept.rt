@@ -1,120 +1,79 @@
-//! How the summary lists what is kept.
+//! What is kept for the summary, and how it is listed.
 
-ghost use Rattle.std.specs.Prelude.{◌≡◌, List, OnOk, OnErr, Some};
-ghost use Rattle.std.specs.Ordering.{nat_cmp};
-ghost use Rattle.std.specs.Cmp.Lexicographic.{slice_cmp};
-ghost use Rattle.std.specs.List.Sorted.{IsSorted, IsStable};
+ghost use Rattle.std.specs.Prelude.{◌≡◌, List, [], ◌∷◌, ◌++◌, OnOk, OnErr};
 ghost use Rattle.report_text.specs.Writer.{Puts};
-ghost use Rattle.console_reporter.specs.Entries.{counter_key, counted_cmp, entry_cmp, entry_output, entry_text, executed_text, iteration_key, test_cmp, entries_text, final_order, IsFinalOrder};
+ghost use Rattle.event_text.specs.StatusLines.{status_line};
+ghost use Rattle.event_text.specs.declared.status_line.StatusLineKind.{StatusLineKind};
+ghost use Rattle.console_reporter.specs.Entries.{final_text, entries_text, final_order, IsFinalOrder};
 ghost use Rattle.console_reporter.specs.declared.imp.final_output.FinalOutputEntry.{FinalOutputEntry};
 
+use super::entry_key::EntryKey;
 use super::final_output::{FinalOutput, FinalOutputEntry};
 use event_text::attempt_output::write_test_execute_status;
 use event_text::instance::CountedInstance;
 use event_text::settings::Settings;
 use event_text::status_line::{StatusLine, StatusLineKind, write_status_line};
-use report_text::helpers::DisplayCounterIndex;
 use report_text::write_str::{WriteFault, WriteStr};
-use run_model::boxed::Boxed;
-use run_model::output::{ChildExecutionOutputDescription, LiveSpec};
 use run_model::status::StatusSummary;
-use run_model::stress::StressIndex;
-use std::alloc::AllocError;
-use std::cmp::Ordering;
+use std::alloc::{AllocError, Global};
+use std::collections::BTreeMap;
+use std::marker::Model;
 
-/// Compares the entries as the summary lists them: by the final level, the greatest first, then by the iteration, then by
-/// the counter where one is shown, then by the bytes of the binary's id and of the test's name.
-pub fn compare_entries(left: &FinalOutputEntry<'_>, right: &FinalOutputEntry<'_>) -> Ordering
-    ensures { result ≡ entry_cmp left.now right.now }
-{
-    let left_level = left.output.final_status_level().below_all();
-    let right_level = right.output.final_status_level().below_all();
-    match left_level.cmp(&right_level) {
-        Ordering::Less => Ordering::Less,
-        Ordering::Equal => compare_tests(&left.test, &right.test),
-        Ordering::Greater => Ordering::Greater,
-    }
+/// The entries that a summary lists. Contracts see them as the list in which it shows them.
+#[derive(Drop)]
+pub struct KeptEntries<'a> {
+    // a key holds the test of its entry
+    by_key: BTreeMap<EntryKey<'a>, FinalOutput>,
 }
 
-// Compares the iterations, then the counters and the instances.
-fn compare_tests(left: &CountedInstance<'_>, right: &CountedInstance<'_>) -> Ordering
-    ensures { result ≡ test_cmp left.now right.now }
-{
-    match compare_iterations(left.stress_index, right.stress_index) {
-        Ordering::Less => Ordering::Less,
-        Ordering::Equal => compare_counted(left, right),
-        Ordering::Greater => Ordering::Greater,
-    }
+impl<'a> Model for KeptEntries<'a> {
+    ghost use Rattle.std.specs.Prelude.{List};
+    ghost use Rattle.std.specs.BTreeMap.{btree_map_len};
+    ghost use Rattle.console_reporter.specs.Keys.{AreKeyed, entries_at};
+    ghost use Rattle.console_reporter.specs.declared.imp.final_output.FinalOutputEntry.{FinalOutputEntry};
+
+    ghost Value = { List FinalOutputEntry };
+
+    ghost view = { λ k. entries_at k.by_key.entries };
+
+    ghost invariant = { λ k. AreKeyed (btree_map_len k.by_key) k.by_key.entries };
 }
 
-// Compares iterations: none first.
-fn compare_iterations(left: Option<StressIndex>, right: Option<StressIndex>) -> Ordering
-    ensures { result ≡ slice_cmp nat_cmp (iteration_key left) (iteration_key right) }
-{
-    match (left, right) {
-        (None, None) => Ordering::Equal,
-        (None, Some(_)) => Ordering::Less,
-        (Some(_), None) => Ordering::Greater,
-        (Some(left), Some(right)) => left.compare(&right),
+impl<'a> KeptEntries<'a> {
+    /// No entries. It takes no memory.
+    #[tactic(auto, unfolding(crate::specs::Order::ordered_by))]
+    pub fn new(alloc: Global) -> KeptEntries<'a>
+        ensures { result ≡ final_order [] }
+    {
+        KeptEntries {
+            by_key: BTreeMap::new(alloc),
+        }
     }
-}
 
-// Compares the counters, then the instances.
-fn compare_counted(left: &CountedInstance<'_>, right: &CountedInstance<'_>) -> Ordering
-    ensures { result ≡ counted_cmp left.now right.now }
-{
-    match compare_counters(left.counter, right.counter) {
-        Ordering::Less => Ordering::Less,
-        Ordering::Equal => left.instance.cmp(&right.instance),
-        Ordering::Greater => Ordering::Greater,
+    /// Keeps an entry in its place in the final order: after those of its key that were kept before.
+    pub fn keep(&mut self, entry: FinalOutputEntry<'a>) -> Result<(), AllocError>
+        ensures ok { OnOk result ((kept : List FinalOutputEntry) → self.old ≡ final_order kept → self.new ≡ final_order (kept ++ entry.entry ∷ [])) }
+        ensures err { OnErr result (self.new ≡ self.old) }
+    {
+        let FinalOutputEntry { test, output } = entry;
+        let key = EntryKey {
+            level: output.final_status_level(),
+            test,
+            place: self.by_key.len(),
+        };
+        self.by_key.insert(key, output)?;
+        Ok(())
     }
-}
 
-// Compares counters: none first, then by their numbers, then padding.
-fn compare_counters(
-    left: Option<DisplayCounterIndex>,
-    right: Option<DisplayCounterIndex>,
-) -> Ordering
-    ensures { result ≡ slice_cmp nat_cmp (counter_key left) (counter_key right) }
-{
-    match (left, right) {
-        (None, None) => Ordering::Equal,
-        (None, Some(_)) => Ordering::Less,
-        (Some(_), None) => Ordering::Greater,
-        (Some(left), Some(right)) => compare_shown_counters(left, right),
+    /// Writes the entries in their order. It takes no memory.
+    pub fn write<W: WriteStr>(&self, w: &mut W, settings: &Settings) -> Result<(), WriteFault>
+        ensures { Puts W.meaning w.old (entries_text settings.now self.now) result w.new }
+    {
+        for (key, output) in self.by_key.iter() {
+            write_entry(w, settings, key.test, output)?;
+        }
+        Ok(())
     }
-}
-
-fn compare_shown_counters(left: DisplayCounterIndex, right: DisplayCounterIndex) -> Ordering
-    ensures { result ≡ slice_cmp nat_cmp (counter_key (Some left)) (counter_key (Some right)) }
-{
-    match (left, right) {
-        (
-            DisplayCounterIndex::Counter { current, total },
-            DisplayCounterIndex::Counter {
-                current: right_current,
-                total: right_total,
-            },
-        ) => match current.cmp(&right_current) {
-            Ordering::Less => Ordering::Less,
-            Ordering::Equal => total.cmp(&right_total),
-            Ordering::Greater => Ordering::Greater,
-        },
-        (DisplayCounterIndex::Counter { .. }, DisplayCounterIndex::Padded { .. }) => Ordering::Less,
-        (DisplayCounterIndex::Padded { .. }, DisplayCounterIndex::Counter { .. }) =>
-            Ordering::Greater,
-        (DisplayCounterIndex::Padded { .. }, DisplayCounterIndex::Padded { .. }) => Ordering::Equal,
-    }
-}
-
-/// Puts the entries into the order in which the summary lists them; those that tie stay as they came.
-pub fn sort_final_outputs(kept: &mut Vec<FinalOutputEntry<'_>>) -> Result<(), AllocError>
-    ensures sorted { OnOk result (IsSorted entry_cmp kept.new.items) }
-    ensures stable { OnOk result (IsStable entry_cmp kept.old.items kept.new.items) }
-    ensures err { OnErr result (kept.new.items ≡ kept.old.items) }
-{
-    kept.sort_by(|left, right| compare_entries(left, right))?;
-    Ok(())
 }
 
 /// Whatever was kept, it has exactly one final order: by key, and entries of one key as they were kept.
@@ -125,71 +84,41 @@ pub fn one_final_order()
     ensures only { (kept order : List FinalOutputEntry) → IsFinalOrder kept order → order ≡ final_order kept }
 {}
 
-/// Writes the entries as they stand.
-pub fn write_entries<W: WriteStr>(
-    w: &mut W,
-    settings: &Settings,
-    entries: &[FinalOutputEntry<'_>],
-) -> Result<(), WriteFault>
-    ensures { Puts W.meaning w.old (entries_text settings.now entries.now) result w.new }
-{
-    for entry in entries {
-        write_entry(w, settings, entry)?;
-    }
-    Ok(())
-}
-
-// Writes an entry.
-#[tactic(auto, unfolding(crate::specs::Entries::entry_text))]
+// Writes an entry: its line, and what the last attempt wrote where that is kept.
+#[tactic(auto, unfolding(crate::specs::Entries::final_text))]
 fn write_entry<W: WriteStr>(
     w: &mut W,
     settings: &Settings,
-    entry: &FinalOutputEntry<'_>,
+    test: CountedInstance<'_>,
+    output: &FinalOutput,
 ) -> Result<(), WriteFault>
-    ensures { Puts W.meaning w.old (entry_text settings.now entry.now) result w.new }
+    ensures { Puts W.meaning w.old (final_text settings.now test.entry output.now) result w.new }
 {
-    match &entry.output {
-        FinalOutput::Executed { summary, output } => write_executed(
-            w, settings, entry.test, summary, output,
-        ),
+    match output {
+        FinalOutput::Executed { summary } => write_line(w, settings, test, summary),
+        FinalOutput::ExecutedWithOutput { summary, output } => {
+            write_line(w, settings, test, summary)?;
+            write_test_execute_status(
+                w,
+                settings,
+                false,
+                summary.is_slow,
+                &summary.result,
+                output.get(),
+            )
+        }
     }
 }
 
-// Writes the line of a test that was run, and its output where the summary shows it.
-#[tactic(auto, unfolding(crate::specs::Entries::executed_text))]
-fn write_executed<W: WriteStr>(
+// Writes the line of a test that was run.
+fn write_line<W: WriteStr>(
     w: &mut W,
     settings: &Settings,
     test: CountedInstance<'_>,
     summary: &StatusSummary,
-    output: &Option<Boxed<ChildExecutionOutputDescription<LiveSpec>>>,
 ) -> Result<(), WriteFault>
-    ensures { Puts W.meaning w.old (executed_text settings.now test.entry summary.now output.now) result w.new }
+    ensures { Puts W.meaning w.old (status_line settings.now.styles StatusLineKind.Final test.entry summary.now) result w.new }
 {
     let line = StatusLine::of_summary(summary);
-    write_status_line(w, &settings.styles, StatusLineKind::Final, test, line)?;
-    write_entry_output(w, settings, summary, output)
-}
-
-// Writes the output of an entry, where the summary shows it.
-#[tactic(auto, unfolding(crate::specs::Entries::entry_output))]
-fn write_entry_output<W: WriteStr>(
-    w: &mut W,
-    settings: &Settings,
-    summary: &StatusSummary,
-    output: &Option<Boxed<ChildExecutionOutputDescription<LiveSpec>>>,
-) -> Result<(), WriteFault>
-    ensures { Puts W.meaning w.old (entry_output settings.now summary.now output.now) result w.new }
-{
-    match output {
-        None => Ok(()),
-        Some(output) => write_test_execute_status(
-            w,
-            settings,
-            false,
-            summary.is_slow,
-            &summary.result,
-            output.get(),
-        ),
-    }
+    write_status_line(w, &settings.styles, StatusLineKind::Final, test, line)
 }

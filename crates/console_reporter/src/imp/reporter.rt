@@ -2,16 +2,16 @@
 
 ghost use Rattle.std.specs.Prelude.{◌≡◌, ◌≤◌, ◌⊎◌, ◌+◌, List, ℕ, [], ◌∷◌, ◌++◌, OnOk, OnErr, IfErr, IsErrOf, Some, length, max, nat_lt, reverse, slice_get, take, true, false};
 ghost use Rattle.std.specs.List.{flat_map};
-ghost use Rattle.std.specs.List.Sorted.{IsSorted, IsStable};
 ghost use Rattle.std.specs.Option.{is_some, option_and_then, option_map, option_to_list};
 ghost use Rattle.run_model.specs.Levels.{reason_rank};
 ghost use Rattle.report_text.specs.Writer.{Puts, one_further};
 ghost use Rattle.event_text.specs.FinishedTests.{finish_of};
 ghost use Rattle.console_reporter.specs.declared.imp.calls.ReportCall.{ReportCall};
 ghost use Rattle.console_reporter.specs.declared.imp.faults.WriteEventError.{WriteEventError};
+ghost use Rattle.console_reporter.specs.declared.imp.final_output.FinalOutputEntry.{FinalOutputEntry};
 ghost use Rattle.console_reporter.specs.Configuration.{Configuration, configured, settings_of};
 ghost use Rattle.console_reporter.specs.Effects.{effect_of, is_kept, kept_entry};
-ghost use Rattle.console_reporter.specs.Entries.{entry_cmp, hiding_rank};
+ghost use Rattle.console_reporter.specs.Entries.{final_order, hiding_rank};
 ghost use Rattle.console_reporter.specs.Outcomes.{Stops, StopsAfter, IsOfLines, error_for};
 ghost use Rattle.console_reporter.specs.Report.{event_text, finished_text, listed_text, text, texts, report, past_at, text_at, AreAccepted};
 ghost use Rattle.console_reporter.specs.Standing.{StandsAfter, HasFailed, IsSameWriter, MayGrow, MayGrowAt, MayGrowIn, known_by};
@@ -21,7 +21,7 @@ use super::calls::ReportCall;
 use super::effect::{EventEffect, greater_reason};
 use super::faults::{RunFault, WriteEventError};
 use super::final_output::FinalOutputEntry;
-use super::kept::{sort_final_outputs, write_entries};
+use super::kept::KeptEntries;
 use event_text::run_text::{write_run_finished, write_run_started};
 use event_text::settings::Settings;
 use event_text::test_finished::{FinishedTest, write_test_finished};
@@ -30,7 +30,7 @@ use run_model::event::{TestEvent, TestEventKind};
 use run_model::level::CancelReason;
 use run_model::memory::OutOfMemory;
 use run_model::run_id::ShortestRunIdPrefix;
-use std::alloc::{AllocError, Global};
+use std::alloc::Global;
 use unit_report::formatters::write_final_warnings;
 
 /// Reports events to a writer.
@@ -47,7 +47,7 @@ pub struct DisplayReporter<'a, W> {
 #[derive(Drop)]
 struct ReporterState<'a> {
     alloc: Global,
-    kept: Vec<FinalOutputEntry<'a>>,
+    kept: KeptEntries<'a>,
     unique_prefix: Option<ShortestRunIdPrefix>,
     cancel_status: Option<CancelReason>,
     settings: Settings,
@@ -69,7 +69,7 @@ impl<'a, W: WriteStr> DisplayReporter<'a, W> {
             writer,
             state: ReporterState {
                 alloc,
-                kept: Vec::new(alloc),
+                kept: KeptEntries::new(alloc),
                 unique_prefix: None,
                 cancel_status: None,
                 settings,
@@ -112,7 +112,7 @@ impl<'a, W: WriteStr> DisplayReporter<'a, W> {
         }
     }
 
-    // Puts the entries in order where the event lists them, writes and delivers its text, and does what it does.
+    // Writes and delivers the text of an event, and does what it does.
     fn report_event(&mut self, event: &TestEvent<'a>) -> Result<(), WriteEventError>
         ensures same_writer { IsSameWriter self.old self.new }
         ensures accepted { OnOk result ((config : Configuration) (past : List ReportCall) → StandsAfter config past self.old →
@@ -126,9 +126,6 @@ impl<'a, W: WriteStr> DisplayReporter<'a, W> {
         ensures memory { IsErrOf result WriteEventError.Memory → W.meaning.may_refuse self.old.writer.now ⊎ MayGrow self.old event.now }
     {
         let effect = EventEffect::of_event(&self.state.settings, self.state.cancel_status, event);
-        if let Err(AllocError) = self.state.prepare(effect.lists_entries) {
-            return Err(WriteEventError::Memory);
-        }
         if let Err(fault) = write_delivered(self.writer, &self.state, event, &effect) {
             return Err(error_of(fault));
         }
@@ -226,30 +223,14 @@ impl<'a, W: WriteStr> DisplayReporter<'a, W> {
 }
 
 impl<'a> ReporterState<'a> {
-    // Puts the entries into their final order where an event lists them.
-    fn prepare(&mut self, lists_entries: bool) -> Result<(), AllocError>
-        ensures settings { self.new.settings ≡ self.old.settings }
-        ensures prefix { self.new.unique_prefix ≡ self.old.unique_prefix }
-        ensures reason { self.new.cancel_status ≡ self.old.cancel_status }
-        ensures works { self.new.has_failed ≡ self.old.has_failed }
-        ensures listed { OnOk result (lists_entries ≡ true → IsSorted entry_cmp self.new.kept.items) }
-        ensures stable { OnOk result (IsStable entry_cmp self.old.kept.items self.new.kept.items) }
-        ensures needed { OnErr result (lists_entries ≡ true) }
-    {
-        if lists_entries {
-            sort_final_outputs(&mut self.kept)
-        } else {
-            Ok(())
-        }
-    }
-
     // Does what an event does: it may cancel the run, and finish a test.
     fn apply(&mut self, effect: &EventEffect<'_, 'a>) -> Result<(), OutOfMemory>
         ensures settings { self.new.settings ≡ self.old.settings }
         ensures prefix { self.new.unique_prefix ≡ self.old.unique_prefix }
         ensures reason { OnOk result (reason_rank self.new.cancel_status ≡ max (reason_rank effect.now.reason) (reason_rank self.old.cancel_status)) }
         ensures works { self.new.has_failed ≡ self.old.has_failed }
-        ensures kept { OnOk result (self.new.kept.items ≡ self.old.kept.items ++ option_to_list (option_and_then (kept_entry self.old.settings) (option_map finish_of effect.now.finished))) }
+        ensures kept { OnOk result ((before : List FinalOutputEntry) → self.old.kept ≡ final_order before →
+            self.new.kept ≡ final_order (before ++ option_to_list (option_and_then (kept_entry self.old.settings) (option_map finish_of effect.now.finished)))) }
         ensures needed { OnErr result (is_some (option_and_then (kept_entry self.old.settings) (option_map finish_of effect.now.finished)) ≡ true) }
     {
         if let Some(finished) = &effect.finished {
@@ -265,7 +246,8 @@ impl<'a> ReporterState<'a> {
         ensures prefix { self.new.unique_prefix ≡ self.old.unique_prefix }
         ensures reason { self.new.cancel_status ≡ self.old.cancel_status }
         ensures works { self.new.has_failed ≡ self.old.has_failed }
-        ensures kept { OnOk result (self.new.kept.items ≡ self.old.kept.items ++ option_to_list (kept_entry self.old.settings (finish_of finished.now))) }
+        ensures kept { OnOk result ((before : List FinalOutputEntry) → self.old.kept ≡ final_order before →
+            self.new.kept ≡ final_order (before ++ option_to_list (kept_entry self.old.settings (finish_of finished.now)))) }
         ensures needed { OnErr result (is_kept self.old.settings (finish_of finished.now) ≡ true) }
     {
         let is_wanted = self
@@ -275,7 +257,7 @@ impl<'a> ReporterState<'a> {
             return Ok(());
         }
         let entry = FinalOutputEntry::of_test(self.alloc, finished)?;
-        self.kept.push(entry)?;
+        self.kept.keep(entry)?;
         Ok(())
     }
 }
@@ -305,7 +287,7 @@ fn write_delivered<W: WriteStr>(
     w.write_str_flush()
 }
 
-// Writes the text of an event, with the entries as they stand.
+// Writes the text of an event.
 #[tactic(auto, unfolding(crate::specs::Report::event_text))]
 fn write_event_text<W: WriteStr>(
     w: &mut W,
@@ -353,13 +335,13 @@ fn write_finished<W: WriteStr>(
     }
 }
 
-// Writes the entries as they stand, unless the run was interrupted.
+// Writes the entries, unless the run was interrupted.
 #[tactic(auto, unfolding(crate::specs::Report::listed_text))]
 fn write_listed<W: WriteStr>(w: &mut W, state: &ReporterState<'_>) -> Result<(), WriteFault>
     ensures { Puts W.meaning w.old (listed_text state.now.settings (known_by state.now)) result w.new }
 {
     if shows_entries(state.cancel_status) {
-        write_entries(w, &state.settings, &state.kept)
+        state.kept.write(w, &state.settings)
     } else {
         Ok(())
     }

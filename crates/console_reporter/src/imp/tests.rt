@@ -23,6 +23,7 @@ use std::io::{ErrorKind, Write};
 use std::test::Fail;
 use unit_report::config::{DisplayConfig, ShowProgress};
 
+mod entries;
 mod outputs;
 
 // Three tests ran: one passed, one passed at its second attempt, one failed.

@@ -45,29 +45,40 @@ fn attempt_with_output(
     Ok(status)
 }
 
-// The report of a test that failed and asks for this display, and of the end of its run. No line is shown at once.
-fn report_of_failure(alloc: Global, display: TestOutputDisplay) -> Result<String, Fail> {
-    let binary_id = RustBinaryId::new(alloc, "a")?;
-    let test_name = TestCaseName::new(alloc, "t1")?;
+// A test that ended so after it wrote a line, and asks for this display.
+fn finished_with_output<'a>(
+    alloc: Global,
+    binary_id: &'a RustBinaryId,
+    test_name: &'a TestCaseName,
+    outcome: ExecutionResultDescription,
+    display: TestOutputDisplay,
+) -> Result<ReportCall<'a>, Fail> {
     let mut statuses = Vec::new(alloc);
-    statuses.push(attempt_with_output(alloc, failed())?)?;
+    statuses.push(attempt_with_output(alloc, outcome)?)?;
     let Some(run_statuses) = ExecutionStatuses::new(statuses, FlakyResult::Pass) else {
         return Err(Fail::from("there is an attempt"));
     };
-    let finished = ReportCall::Event(TestEvent {
+    Ok(ReportCall::Event(TestEvent {
         elapsed: Nanos(0),
         kind: TestEventKind::TestFinished {
             stress_index: None,
             test_instance: TestInstanceId {
-                binary_id: &binary_id,
-                test_name: &test_name,
+                binary_id,
+                test_name,
             },
-            success_output: TestOutputDisplay::Never,
+            success_output: display,
             failure_output: display,
             run_statuses,
             current_stats: STATS,
         },
-    });
+    }))
+}
+
+// The report of a test that failed and asks for this display, and of the end of its run. No line is shown at once.
+fn report_of_failure(alloc: Global, display: TestOutputDisplay) -> Result<String, Fail> {
+    let binary_id = RustBinaryId::new(alloc, "a")?;
+    let test_name = TestCaseName::new(alloc, "t1")?;
+    let finished = finished_with_output(alloc, &binary_id, &test_name, failed(), display)?;
     printed(alloc, [finished, run_finished()].as_slice())
 }
 
@@ -87,5 +98,39 @@ fn an_output_is_shown_where_its_display_says(rt: HostRuntime) -> Result<(), Fail
         want.push_str(at_end)?;
         assert_eq!(rt; report.as_str(), want.as_str());
     }
+    Ok(())
+}
+
+const PASSED: &str = "------------
+     Summary [   3.000s] 3 tests run: 2 passed (1 flaky), 1 failed, 0 skipped
+        PASS [   1.000s] a t1
+        PASS [   1.000s] a t2
+  output ---
+    boom
+
+";
+
+// The report of two tests that passed, the second of which asks for its output at the end.
+fn report_of_passes(alloc: Global) -> Result<String, Fail> {
+    let binary_id = RustBinaryId::new(alloc, "a")?;
+    let names = [
+        TestCaseName::new(alloc, "t1")?,
+        TestCaseName::new(alloc, "t2")?,
+    ];
+    let displays = [TestOutputDisplay::Never, TestOutputDisplay::Final];
+    let mut calls = Vec::new(alloc);
+    for place in 0..2 {
+        let pass = ExecutionResultDescription::Pass;
+        calls.push(finished_with_output(alloc, &binary_id, &names[place], pass, displays[place])?)?;
+    }
+    calls.push(run_finished())?;
+    printed(alloc, calls.as_slice())
+}
+
+#[test]
+fn a_summary_shows_the_output_of_a_passed_test_that_asks_for_it(
+    rt: HostRuntime,
+) -> Result<(), Fail> {
+    assert_eq!(rt; report_of_passes(rt.alloc())?.as_str(), PASSED);
     Ok(())
 }

@@ -4,4 +4,4 @@ use Rattle.console_reporter.proofs.imp.reporter.DisplayReporter.new.Goals as goa
 
 pub returns-clause-stands : goal.returns-clause-stands
 unfolding cancel kept prefix
-returns-clause-stands g c = λ config same. record { settings = same; prefix = refl; reason = refl; kept = λ x. rw c.new.ensures.items; works = search rules }
+returns-clause-stands g c = λ config same. record { settings = same; prefix = refl; reason = refl; kept = c.new.ensures; works = search rules }

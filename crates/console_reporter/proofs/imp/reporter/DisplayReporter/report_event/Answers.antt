@@ -1,42 +1,34 @@
-use Rattle.std.proofs.Common.{rules, [], ◌++◌, ap, ap₂, sym, append-nil, inr, max, ◌∙◌}
-use Rattle.std.specs.Option.{option_map, option_to_list}
-use Rattle.run_model.specs.Levels.{reason_rank}
-use Rattle.console_reporter.proofs.Calls.{stops_error}
-use Rattle.console_reporter.proofs.Pasts.{entry-held, text-held, stable-then, stable-more}
+use Rattle.std.proofs.Common.{rules, [], ap₂, sym, append-nil, inr, max, ◌∙◌}
+use Rattle.std.specs.Option.{option_map}
 use Rattle.event_text.specs.FinishedTests.{finish_of}
+use Rattle.console_reporter.proofs.Calls.{stops_error}
+use Rattle.console_reporter.proofs.Pasts.{kept-more, text-held}
 use Rattle.console_reporter.specs.Entries.{cancel, prefix}
 use Rattle.console_reporter.specs.Report.{text}
-use Rattle.console_reporter.specs.Standing.{known_by}
 use Rattle.console_reporter.specs.declared.imp.calls.ReportCall.TheVariants.{Event}
 use Rattle.console_reporter.proofs.imp.reporter.DisplayReporter.report_event.Goals as goal
 
-pub returns-in-Err-write_delivered-clause-err : goal.returns-in-Err-write_delivered-clause-err
-returns-in-Err-write_delivered-clause-err g c = λ config past stands.
-    let held = text-held config past c.prepare.new.self.settings (known_by c.prepare.new.self) c.args.event.now (c.prepare.ensures.settings ∙ stands.settings) (c.prepare.ensures.prefix ∙ stands.prefix) (ap reason_rank c.prepare.ensures.reason ∙ stands.reason)
-    (λ lists. c.in_default.ensures.listed (c.of_event-effect.ensures.lists_entries ∙ lists)) (stable-then _ _ _ stands.kept c.in_default.ensures.stable) in
-    stops_error g.W.WriteStr.meaning c.args.self.now.writer.now c.write_delivered.new.w (text config past (Event c.args.event.now)) c.in-Err-write_delivered.fault c.error_of.result c.error_of.ensures (rw held at c.in-Err-write_delivered.ensures.text)
+pub returns-in-Err-clause-err : goal.returns-in-Err-clause-err
+returns-in-Err-clause-err g c = λ config past stands.
+    let held = text-held config past c.args.self.now c.args.event.now stands in
+    stops_error g.W.WriteStr.meaning c.args.self.now.writer.now c.write_delivered.new.w (text config past (Event c.args.event.now)) c.in-Err.fault c.error_of.result c.error_of.ensures (rw held at c.in-Err.ensures.text)
 
 pub returns-in-Ok-clause-accepted : goal.returns-in-Ok-clause-accepted
 returns-in-Ok-clause-accepted g c = λ config past stands.
-    let held = text-held config past c.prepare.new.self.settings (known_by c.prepare.new.self) c.args.event.now (c.prepare.ensures.settings ∙ stands.settings) (c.prepare.ensures.prefix ∙ stands.prefix) (ap reason_rank c.prepare.ensures.reason ∙ stands.reason)
-    (λ lists. c.in_default.ensures.listed (c.of_event-effect.ensures.lists_entries ∙ lists)) (stable-then _ _ _ stands.kept c.in_default.ensures.stable) in
-    rw held at c.in_default-write_delivered.ensures.text
+    let held = text-held config past c.args.self.now c.args.event.now stands in
+    rw held at c.in_default.ensures.text
 
 pub returns-in-Ok-clause-stands : goal.returns-in-Ok-clause-stands
 unfolding cancel prefix
-returns-in-Ok-clause-stands g c = λ config past stands.
-    let same = c.prepare.ensures.settings ∙ stands.settings in
-    let entry = entry-held config past c.args.event.now c.args.self.now.state.settings c.prepare.new.self.settings (reason_rank c.args.self.now.state.cancel_status) (option_map finish_of c.of_event-effect.result.finished) stands.settings same stands.reason c.of_event-effect.ensures.finished in
-    record {
-      settings = c.apply.ensures.settings ∙ same;
-      prefix = c.apply.ensures.prefix ∙ c.prepare.ensures.prefix ∙ stands.prefix;
-      reason = c.in-Ok.ensures.reason ∙ ap₂ max c.of_event-effect.ensures.reason (ap reason_rank c.prepare.ensures.reason ∙ stands.reason);
-      kept = stable-more config past c.args.event.now _ _ (stable-then _ _ _ stands.kept c.in_default.ensures.stable) (c.in-Ok.ensures.kept ∙ ap (λ o. c.prepare.new.self.kept.items ++ option_to_list o) entry);
-      works = search rules;
-    }
+returns-in-Ok-clause-stands g c = λ config past stands. record {
+  settings = c.apply.ensures.settings ∙ stands.settings;
+  prefix = c.apply.ensures.prefix ∙ stands.prefix;
+  reason = c.in-Ok.ensures.reason ∙ ap₂ max c.of_event-effect.ensures.reason stands.reason;
+  kept = kept-more config past c.args.self.now c.args.event.now (option_map finish_of c.of_event-effect.result.finished) _ stands c.of_event-effect.ensures.finished c.in-Ok.ensures.kept;
+  works = search rules;
+}
 
 pub returns-in-Err-apply-clause-err : goal.returns-in-Err-apply-clause-err
 returns-in-Err-apply-clause-err g c = λ config past stands.
-    let held = text-held config past c.prepare.new.self.settings (known_by c.prepare.new.self) c.args.event.now (c.prepare.ensures.settings ∙ stands.settings) (c.prepare.ensures.prefix ∙ stands.prefix) (ap reason_rank c.prepare.ensures.reason ∙ stands.reason)
-    (λ lists. c.in_default.ensures.listed (c.of_event-effect.ensures.lists_entries ∙ lists)) (stable-then _ _ _ stands.kept c.in_default.ensures.stable) in
-    inr (record { front = text config past (Event c.args.event.now); rest = []; whole = sym (append-nil _); accepted = rw held at c.in_default-write_delivered.ensures.text })
+    let held = text-held config past c.args.self.now c.args.event.now stands in
+    inr (record { front = text config past (Event c.args.event.now); rest = []; whole = sym (append-nil _); accepted = rw held at c.in_default.ensures.text })
