@@ -367,7 +367,7 @@ pub fn texts_make_the_report()
 ///
 /// On `Ok` the writer has accepted the report of the calls and delivered it. On a fault at a place it has accepted the
 /// report of the calls before that place and a beginning of the text of the call there.
-#[tactic(auto, using(crate::proofs::Calls::all_accepted))]
+#[tactic(auto, using(crate::proofs::lemmas::Calls::all_accepted))]
 pub fn run_report<'a, W: WriteStr>(
     alloc: Global,
     builder: DisplayReporterBuilder,

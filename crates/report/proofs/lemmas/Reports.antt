@@ -12,7 +12,7 @@ use Rattle.console_reporter.specs.Report.{text, text_at, past_at, report}
 use Rattle.console_reporter.specs.declared.imp.calls.ReportCall.{ReportCall}
 use Rattle.console_reporter.specs.declared.imp.faults.WriteEventError.{WriteEventError}
 use Rattle.console_reporter.specs.declared.imp.faults.WriteEventError.TheVariants.{Io, Memory, Failed}
-use Rattle.console_reporter.proofs.Calls.{past_more, past_all, text_past}
+use Rattle.console_reporter.proofs.lemmas.Calls.{past_more, past_all, text_past}
 
 -- the text begins so
 record Begins (front whole : Text) : Type 0 where

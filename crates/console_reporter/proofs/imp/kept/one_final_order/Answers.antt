@@ -1,4 +1,4 @@
-use Rattle.console_reporter.proofs.Pasts.{final_order-is, final_order-holds}
+use Rattle.console_reporter.proofs.lemmas.Pasts.{final_order-is, final_order-holds}
 use Rattle.console_reporter.proofs.imp.kept.one_final_order.Goals as goal
 
 pub returns-clause-exists : goal.returns-clause-exists

@@ -1,7 +1,7 @@
 use Rattle.std.proofs.Common.{rules}
 use Rattle.std.proofs.lemmas.Result.{on_ok_weaker, IfErr-weaker}
 use Rattle.console_reporter.specs.Configuration.{configured}
-use Rattle.console_reporter.proofs.Calls.{accepted_until, refused_from, stopped_io, stopped_known}
+use Rattle.console_reporter.proofs.lemmas.Calls.{accepted_until, refused_from, stopped_io, stopped_known}
 use Rattle.console_reporter.proofs.imp.reporter.run_report.Goals as goal
 
 pub returns-clause-ok : goal.returns-clause-ok

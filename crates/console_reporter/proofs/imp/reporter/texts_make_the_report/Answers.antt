@@ -1,4 +1,4 @@
-use Rattle.console_reporter.proofs.Texts.{report-joined, texts-placed}
+use Rattle.console_reporter.proofs.lemmas.Texts.{report-joined, texts-placed}
 use Rattle.console_reporter.proofs.imp.reporter.texts_make_the_report.Goals as goal
 
 pub returns-clause-joined : goal.returns-clause-joined

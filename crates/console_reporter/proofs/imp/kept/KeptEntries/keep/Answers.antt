@@ -1,5 +1,5 @@
 use Rattle.std.proofs.Common.{◌∙◌}
-use Rattle.console_reporter.proofs.Inserts.{shown_more, keyed_more}
+use Rattle.console_reporter.proofs.lemmas.Inserts.{shown_more, keyed_more}
 use Rattle.console_reporter.proofs.imp.kept.KeptEntries.keep.Goals as goal
 
 pub invariant_of-self-2 : goal.invariant_of-self-2

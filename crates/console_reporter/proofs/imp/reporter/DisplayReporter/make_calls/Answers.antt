@@ -1,6 +1,6 @@
 use Rattle.std.proofs.Common.{rules, arith, subst, sym}
 use Rattle.console_reporter.specs.Standing.{StandsAfter}
-use Rattle.console_reporter.proofs.Calls.{past_read, accepted_more, stopped_at, accepted_all, stopped_past}
+use Rattle.console_reporter.proofs.lemmas.Calls.{past_read, accepted_more, stopped_at, accepted_all, stopped_past}
 use Rattle.console_reporter.proofs.imp.reporter.DisplayReporter.make_calls.Goals as goal
 
 pub returns-in-Err-clause-err : goal.returns-in-Err-clause-err

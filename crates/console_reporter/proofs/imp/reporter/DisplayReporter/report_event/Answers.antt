@@ -1,8 +1,8 @@
 use Rattle.std.proofs.Common.{rules, [], ap₂, sym, append-nil, inr, max, ◌∙◌}
 use Rattle.std.specs.Option.{option_map}
 use Rattle.event_text.specs.FinishedTests.{finish_of}
-use Rattle.console_reporter.proofs.Calls.{stops_error}
-use Rattle.console_reporter.proofs.Pasts.{kept-more, text-held}
+use Rattle.console_reporter.proofs.lemmas.Calls.{stops_error}
+use Rattle.console_reporter.proofs.lemmas.Pasts.{kept-more, text-held}
 use Rattle.console_reporter.specs.Entries.{cancel, prefix}
 use Rattle.console_reporter.specs.Report.{text}
 use Rattle.console_reporter.specs.declared.imp.calls.ReportCall.TheVariants.{Event}

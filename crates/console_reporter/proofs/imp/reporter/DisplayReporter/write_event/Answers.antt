@@ -1,5 +1,5 @@
 use Rattle.console_reporter.specs.declared.imp.calls.ReportCall.TheVariants.{Event}
-use Rattle.console_reporter.proofs.Whole.{of_lines-text}
+use Rattle.console_reporter.proofs.lemmas.Whole.{of_lines-text}
 use Rattle.console_reporter.proofs.imp.reporter.DisplayReporter.write_event.Goals as goal
 
 pub returns-then-self-clause-lines : goal.returns-then-self-clause-lines

@@ -1,4 +1,4 @@
--- Texts that are empty or end in a line feed.
+-- Texts that are empty or end in a line feed (for `DisplayReporter::write_event`).
 use Rattle.run_model.specs.UniquePrefixes.{UniquePrefix}
 use Rattle.std.specs.Prelude.{nat_lt, ◌==◌}
 use Rattle.std.proofs.Common.{◌≡◌, ℕ, ℤ, Bool, false, List, [], ◌∷◌, ◌++◌, refl, sym, ap, subst, ◌∙◌, append_assoc, append-nil, Option, Some, inl, inr, codes}

@@ -1,4 +1,4 @@
--- An entry that is inserted at its key, whose place is after those of the entries that are there.
+-- An entry that is inserted at its key, whose place is after those of the entries that are there (for `KeptEntries::keep`).
 use Rattle.std.proofs.Common.{◌≡◌, ℕ, ◌<◌, ◌+◌, List, [], ◌∷◌, ◌++◌, refl, sym, subst, ◌∙◌, ap, ap₂, arith, length, Ordering, Less, Equal, Greater, nat_cmp}
 use Rattle.std.specs.Ordering.{ordering_then}
 use Rattle.std.specs.BTreeMap.{insert_entry}
@@ -10,8 +10,8 @@ use Rattle.console_reporter.specs.Keys.{AreKeyed, entries_at, entry_at, order_ke
 use Rattle.console_reporter.specs.declared.imp.entry_key.EntryKey.{EntryKey}
 use Rattle.console_reporter.specs.declared.imp.final_output.FinalOutput.{FinalOutput}
 use Rattle.console_reporter.specs.declared.imp.final_output.FinalOutputEntry.{FinalOutputEntry}
-use Rattle.console_reporter.proofs.Keys.{is_before-ranks}
-use Rattle.console_reporter.proofs.Orders.{put_last, order_more}
+use Rattle.console_reporter.proofs.lemmas.Keys.{is_before-ranks}
+use Rattle.console_reporter.proofs.lemmas.Orders.{put_last, order_more}
 
 later : (n p : ℕ) → p < n → nat_cmp n p ≡ Greater
 later n p h = grind arith

@@ -1,4 +1,4 @@
--- What stands of a past, and what one call more makes of it.
+-- What stands of a past, and what one call more makes of it (for `DisplayReporter::report_event`, `one_final_order`).
 use Rattle.std.proofs.Common.{◌≡◌, ℕ, Option, List, ◌∷◌, ◌++◌, refl, ap, ◌∙◌}
 use Rattle.std.specs.Option.{option_and_then, option_to_list}
 use Rattle.std.specs.List.Sorted.{IsSorted, IsStable}
@@ -15,8 +15,8 @@ use Rattle.console_reporter.specs.declared.imp.calls.ReportCall.TheVariants.{Eve
 use Rattle.console_reporter.specs.declared.imp.final_output.FinalOutputEntry.{FinalOutputEntry}
 use Rattle.console_reporter.specs.declared.imp.reporter.DisplayReporter.{DisplayReporter}
 use Rattle.event_text.specs.declared.settings.Settings.{Settings}
-use Rattle.console_reporter.proofs.Keys.{is_before-ranks}
-use Rattle.console_reporter.proofs.Orders.{is_ordered, ordered_only}
+use Rattle.console_reporter.proofs.lemmas.Keys.{is_before-ranks}
+use Rattle.console_reporter.proofs.lemmas.Orders.{is_ordered, ordered_only}
 
 -- the entries in their order are the final order
 pub final_order-is : (es order : List FinalOutputEntry) → IsSorted entry_cmp order → IsStable entry_cmp es order → order ≡ final_order es
