@@ -1,10 +1,12 @@
 #!/usr/bin/env python3
-"""bench/scene.py [--outputs] [--kept=ORDER] COUNT: writes a scene of so many finished tests to standard output, always the same one.
+"""bench/scene.py [--outputs] [--events] [--kept=ORDER] COUNT: writes a scene of so many finished tests to standard output, always the same one.
 
 Nine in ten pass; names have the lengths of a large workspace's, and each line carries the whole statistics, as in a run.
 With --outputs each test has written some lines, coloured as cargo's are; a test that failed shows them at once.
 With --kept every test passes and the summary lists it; tests finish in the order of the summary (`ordered`), in the opposite
 one (`reversed`) or in none (`shuffled`).
+With --events the run is told as it goes: a setup script, each test's start, slow ones, attempts that are tried again, skipped
+tests, the state on request, and a pause.
 """
 import random
 import sys
@@ -34,6 +36,39 @@ def kept_lines(count, order):
     yield f"end\t99000000000\tinitial={count} finished={count} passed={count}\t0\t-"
 
 
+def event_lines(count):
+    yield "config\tfinal\tfail"
+    yield f"run\t{RUN_ID}\tdefault\t{count}\t{len(BINARIES)}\t-"
+    script = "setup-db\tcargo\trun\\,-p\\,db"
+    yield f"setup\t-\t0\t1\t{script}"
+    yield f"setupslow\t-\t{script}\t60000000000\t0"
+    yield f"setupdone\t-\t{script}\tpass\t61000000000\t1\tsplit\t\t\t-\t-"
+    for i in range(count):
+        test = f"{BINARIES[i % len(BINARIES)]}\t{MODULES[i % len(MODULES)]}::case_{i:05}_of_the_table"
+        before = f"initial={count} finished={i} passed={i}"
+        after = f"initial={count} finished={i + 1} passed={i + 1}"
+        nanos = (i * 7_919_000_003) % 3_000_000_000
+        if i % 25 == 4:
+            yield f"skip\t-\t{test}_elsewhere"
+        if i % 500 == 250:
+            yield f"input\t{i * 1_000_000}\t{before}\t4"
+        if i % 2000 == 1000:
+            yield "pause\t0\t4"
+            yield "continue\t0\t4"
+        yield f"start\t-\t{test}\t{before}\tcargo\\,test"
+        if i % 20 == 3:
+            yield f"slow\t-\t{test}\t1\t2\t60000000000\t0"
+        attempt = f"pass\t{nanos}\t0\tsplit\t\t\t-\t-"
+        total = 1
+        if i % 10 == 7:
+            failed = f"fail:101\t{nanos}\t0\tsplit\t\t\t-\t-"
+            yield f"retry\t-\t{test}\t1\t2\t1000000000\tnever\t{failed}"
+            yield f"retrystart\t-\t{test}\t2\t2\tcargo\\,test"
+            attempt, total = f"{failed}\t{attempt}", 2
+        yield f"done\t-\t{test}\tnever\tnever\tpass\t{after}\t{total}\t{attempt}"
+    yield f"end\t99000000000\tinitial={count} finished={count} passed={count}\t0\t-"
+
+
 def lines(count, has_outputs):
     yield "config\tfinal\tfail"
     yield f"run\t{RUN_ID}\tdefault\t{count}\t{len(BINARIES)}\t-"
@@ -58,5 +93,10 @@ def lines(count, has_outputs):
 if __name__ == "__main__":
     count = int(sys.argv[-1])
     orders = [word.removeprefix("--kept=") for word in sys.argv[1:] if word.startswith("--kept=")]
-    scene = kept_lines(count, orders[0]) if orders else lines(count, "--outputs" in sys.argv)
+    if orders:
+        scene = kept_lines(count, orders[0])
+    elif "--events" in sys.argv:
+        scene = event_lines(count)
+    else:
+        scene = lines(count, "--outputs" in sys.argv)
     sys.stdout.write("\n".join(scene) + "\n")

@@ -3,6 +3,7 @@ pub mod Inserts
 pub mod Keys
 pub mod Orders
 pub mod Pasts
+pub mod Refusals
 pub mod Rows
 pub mod Texts
 pub mod Whole

@@ -46,4 +46,6 @@ settings_of c = record {
     display_empty_outputs = c.display_empty_outputs;
   };
   no_output_indent = c.builder.no_output_indent;
+  no_capture = c.builder.display_config.no_capture;
+  verbose = c.builder.verbose;
 }

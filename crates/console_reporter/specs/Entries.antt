@@ -11,6 +11,7 @@ use Rattle.run_model.specs.Stress.{stress_key}
 use Rattle.run_model.specs.UniquePrefixes.{UniquePrefix}
 use Rattle.run_model.specs.declared.level.CancelReason.TheVariants as cause
 use Rattle.run_model.specs.declared.level.FinalStatusLevel.{FinalStatusLevel}
+use Rattle.run_model.specs.declared.level.FinalStatusLevel.TheVariants as final
 use Rattle.run_model.specs.declared.stress.StressIndex.{StressIndex}
 use Rattle.report_text.specs.Texts.{Text}
 use Rattle.report_text.specs.declared.helpers.instance.DisplayCounterIndex.{DisplayCounterIndex}
@@ -18,11 +19,12 @@ use Rattle.report_text.specs.declared.helpers.instance.DisplayCounterIndex.TheVa
 use Rattle.event_text.specs.AttemptOutputs.{attempt_output}
 use Rattle.console_reporter.specs.Effects.{effect_of, entry_of}
 use Rattle.console_reporter.specs.Order.{key_cmp, ordered_by}
+use Rattle.event_text.specs.SkippedTests.{skip_line}
 use Rattle.event_text.specs.StatusLines.{status_line}
 use Rattle.console_reporter.specs.declared.imp.calls.ReportCall.{ReportCall}
-use Rattle.console_reporter.specs.declared.imp.calls.ReportCall.TheVariants.{Event, Prefix}
+use Rattle.console_reporter.specs.declared.imp.calls.ReportCall.TheVariants.{Event, Header, Prefix}
 use Rattle.console_reporter.specs.declared.imp.final_output.FinalOutput.{FinalOutput}
-use Rattle.console_reporter.specs.declared.imp.final_output.FinalOutput.TheVariants.{Executed, ExecutedWithOutput}
+use Rattle.console_reporter.specs.declared.imp.final_output.FinalOutput.TheVariants.{Executed, ExecutedWithOutput, Skipped}
 use Rattle.console_reporter.specs.declared.imp.final_output.FinalOutputEntry.{FinalOutputEntry}
 use Rattle.event_text.specs.declared.instance.CountedInstance.{CountedInstance}
 use Rattle.event_text.specs.declared.settings.Settings.{Settings}
@@ -32,12 +34,14 @@ use Rattle.event_text.specs.declared.status_line.StatusLineKind.TheVariants.{Fin
 unfoldable pub cancel : List ReportCall → ℕ
 cancel [] = 0
 cancel (Event e ∷ past) = max (effect_of e.kind).reason (cancel past)
+cancel (Header h ∷ past) = cancel past
 cancel (Prefix p ∷ past) = cancel past
 
 -- the unique prefix of the run's id that the last such call of a past gave
 unfoldable pub prefix : List ReportCall → Option UniquePrefix
 prefix [] = None
 prefix (Event e ∷ past) = prefix past
+prefix (Header h ∷ past) = prefix past
 prefix (Prefix p ∷ past) = Some p
 
 -- the rank from which on a reason hides tests and their entries: an interrupt
@@ -48,6 +52,7 @@ hiding_rank = reason_rank (Some cause.Interrupt)
 unfoldable pub kept : Settings → List ReportCall → List FinalOutputEntry
 kept s [] = []
 kept s (Event e ∷ past) = kept s past ++ option_to_list (entry_of s (cancel past) e.kind)
+kept s (Header h ∷ past) = kept s past
 kept s (Prefix p ∷ past) = kept s past
 
 -- the iteration's part of a key: none first, and then the iterations in their order
@@ -65,6 +70,7 @@ counter_key (Some (Padded character width)) = 1 ∷ []
 abbrev pub final_level_in : FinalOutput → FinalStatusLevel
 final_level_in (Executed summary) = final_level_of summary
 final_level_in (ExecutedWithOutput summary output) = final_level_of summary
+final_level_in Skipped = final.Skip
 
 -- how far it stands below all
 abbrev pub level_key : FinalOutputEntry → ℕ
@@ -90,11 +96,12 @@ IsFinalOrder entries order = IsSorted entry_cmp order × IsStable entry_cmp entr
 abbrev pub final_order : List FinalOutputEntry → List FinalOutputEntry
 final_order entries = ordered_by is_before entries
 
--- how the summary shows a test: its line, and then what its last attempt wrote where that is kept
+-- how the summary shows a test: its line, and then what its last attempt wrote where that is kept; or that it was skipped
 unfoldable pub final_text : Settings → CountedInstance → FinalOutput → Text
 final_text s test (Executed summary) = status_line s.styles Final test summary
 final_text s test (ExecutedWithOutput summary output) =
     status_line s.styles Final test summary ++ attempt_output s false summary.is_slow summary.result output
+final_text s test Skipped = skip_line s test
 
 -- how it shows an entry
 abbrev pub entry_text : Settings → FinalOutputEntry → Text

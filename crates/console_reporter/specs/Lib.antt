@@ -1,3 +1,4 @@
+pub mod Accepted
 pub mod Configuration
 pub mod Effects
 pub mod Entries
@@ -6,3 +7,4 @@ pub mod Order
 pub mod Outcomes
 pub mod Report
 pub mod Standing
+pub mod Topics

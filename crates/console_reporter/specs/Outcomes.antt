@@ -1,11 +1,11 @@
 -- How a call of a reporter ends.
-use Rattle.std.specs.Prelude.{◌≡◌, [], ◌∷◌, ◌++◌, ◌⊎◌}
+use Rattle.std.specs.Prelude.{◌≡◌, [], ◌∷◌, ◌++◌, ◌⊎◌, Option, None, Some, Result, Ok, Err}
 use Rattle.report_text.specs.Texts.{Text}
 use Rattle.report_text.specs.Writer.{Meaning}
 use Rattle.report_text.specs.declared.write_str.WriteFault.{WriteFault}
 use Rattle.report_text.specs.declared.write_str.WriteFault.TheVariants.{Device, Memory as RefusedMemory}
 use Rattle.console_reporter.specs.declared.imp.faults.WriteEventError.{WriteEventError}
-use Rattle.console_reporter.specs.declared.imp.faults.WriteEventError.TheVariants.{Io, Memory, Failed}
+use Rattle.console_reporter.specs.declared.imp.faults.WriteEventError.TheVariants.{RetriedSuccess, Io, Memory, Failed}
 
 -- a beginning of the text was accepted
 pub record HasFront {S : Type 0} (m : Meaning S) (old : S) (text : Text) (new : S) : Type 0 where
@@ -14,11 +14,25 @@ pub record HasFront {S : Type 0} (m : Meaning S) (old : S) (text : Text) (new : 
   pub whole : text ≡ front ++ rest
   pub accepted : m.accepts old front new
 
--- From old, the error stopped the text, of which a beginning was accepted, and left new. Memory is refused by the writer or to the reporter itself.
+-- From old, the error stopped the text, of which a beginning was accepted, and left new. Memory is refused by the writer or to
+-- the reporter itself; a refusal leaves the writer as it was.
 abbrev pub Stops : {S : Type 0} → Meaning S → S → Text → WriteEventError → S → Type 0
+Stops m old text RetriedSuccess new = new ≡ old
 Stops m old text Io new = m.stops old text Device new
 Stops m old text Memory new = m.stops old text RefusedMemory new ⊎ HasFront m old text new
 Stops m old text Failed new = ⊥
+
+-- the refusal that an error is
+abbrev pub refusal_in : WriteEventError → Option WriteEventError
+refusal_in RetriedSuccess = Some RetriedSuccess
+refusal_in Io = None
+refusal_in Memory = None
+refusal_in Failed = None
+
+-- the refusal that a call answered
+abbrev pub answered_refusal : Result (Unit {0}) WriteEventError → Option WriteEventError
+answered_refusal (Ok done) = None
+answered_refusal (Err e) = refusal_in e
 
 -- One text was accepted, and the error stopped the one after it.
 pub record StopsAfter {S : Type 0} (m : Meaning S) (old : S) (before here : Text) (e : WriteEventError) (new : S) : Type 0 where

@@ -1,26 +1,46 @@
 -- The report: the text of each call, from the call, the configuration and the calls before it.
 use Rattle.std.specs.Prelude.{ℕ, List, [], ◌∷◌, ◌++◌, Option, None, Some, nat_lt, reverse, take, slice_get, if◌then◌else◌}
-use Rattle.std.specs.List.{AllByRecursion}
 use Rattle.std.specs.Option.{option_map_or}
 use Rattle.run_model.specs.Stats.{final_stats_of_run}
 use Rattle.run_model.specs.UniquePrefixes.{UniquePrefix}
 use Rattle.run_model.specs.declared.event.TestEventKind.{TestEventKind}
-use Rattle.run_model.specs.declared.event.TestEventKind.TheVariants.{RunStarted, TestFinished, RunFinished}
+use Rattle.run_model.specs.declared.event.TestEventKind.TheVariants.{RunStarted, StressSubRunStarted, SetupScriptStarted, SetupScriptSlow, SetupScriptFinished, TestStarted, TestSlow, TestAttemptFailedWillRetry, TestRetryStarted, TestFinished, TestSkipped, RunBeginCancel, RunBeginKill, RunPaused, RunContinued, InfoStarted, InfoResponse, InfoFinished, InputEnter, StressSubRunFinished, RunFinished}
+use Rattle.run_model.specs.declared.not_seen.NotSeen.{NotSeen}
+use Rattle.run_model.specs.declared.stats.RunFinishedStats.{RunFinishedStats}
+use Rattle.run_model.specs.declared.stress.StressIndex.{StressIndex}
 use Rattle.report_text.specs.Texts.{Text}
 use Rattle.unit_report.specs.Warnings.{final_warnings}
-use Rattle.event_text.specs.FinishedTests.{TestFinish, test_finish, test_finished_text}
-use Rattle.event_text.specs.RunTexts.{run_started_text, run_finished_text}
+use Rattle.event_text.specs.FinishedTests.{test_finish, test_finished_text}
+use Rattle.event_text.specs.RetriedTests.{attempt_failed_text}
+use Rattle.event_text.specs.SkippedTests.{test_skipped_text}
+use Rattle.event_text.specs.SlowTests.{test_slow_text}
+use Rattle.event_text.specs.TestStarts.{test_retry_started_text, test_started_text}
+use Rattle.run_text.specs.Cancels.{begin_cancel_text, begin_kill_text}
+use Rattle.run_text.specs.Headers.{replay_header_text}
+use Rattle.run_text.specs.Inputs.{input_enter_text}
+use Rattle.run_text.specs.NotSeens.{not_seen_text}
+use Rattle.run_text.specs.Pauses.{run_continued_text, run_paused_text}
+use Rattle.run_text.specs.SetupScripts.{setup_script_finished_text, setup_script_slow_text, setup_script_started_text}
+use Rattle.run_text.specs.Starts.{run_started_text}
+use Rattle.run_text.specs.StressRuns.{stress_sub_run_finished_text, stress_sub_run_started_text}
+use Rattle.run_text.specs.Summaries.{run_finished_text}
+use Rattle.info_text.specs.Responses.{info_response_text}
+use Rattle.info_text.specs.Starts.{info_finished_text, info_started_text}
+use Rattle.event_text.specs.Scripts.{Script}
 use Rattle.event_text.specs.declared.settings.Settings.{Settings}
 use Rattle.console_reporter.specs.Configuration.{Configuration, settings_of}
+use Rattle.console_reporter.specs.Effects.{TestEnd}
+use Rattle.console_reporter.specs.Effects.TestEnd.{Finished, Skipped}
 use Rattle.console_reporter.specs.Entries.{cancel, entries_text, final_order, hiding_rank, kept, prefix}
 use Rattle.console_reporter.specs.declared.imp.calls.ReportCall.{ReportCall}
-use Rattle.console_reporter.specs.declared.imp.calls.ReportCall.TheVariants.{Event, Prefix}
+use Rattle.console_reporter.specs.declared.imp.calls.ReportCall.TheVariants.{Event, Header, Prefix}
 use Rattle.console_reporter.specs.declared.imp.final_output.FinalOutputEntry.{FinalOutputEntry}
 
 -- the text of the test that an event finishes
-abbrev pub finished_text : Settings → Option TestFinish → Text
+abbrev pub finished_text : Settings → Option TestEnd → Text
 finished_text s None = []
-finished_text s (Some f) = test_finished_text s f
+finished_text s (Some (Finished f)) = test_finished_text s f
+finished_text s (Some (Skipped test)) = []
 
 -- what a text may read of the calls before it: the prefix of the run's id, the rank of the reason, and the entries as they stand
 pub record Known : Type 0 where
@@ -32,13 +52,43 @@ pub record Known : Type 0 where
 unfoldable pub listed_text : Settings → Known → Text
 listed_text s known = if nat_lt known.reason hiding_rank then entries_text s known.entries else []
 
--- the text of an event, by what is known of the calls before it
-unfoldable pub event_text : Settings → Known → TestEventKind → Text
-event_text s known (RunStarted counts id profile) = run_started_text s known.prefix counts id profile
-event_text s known (TestFinished stress instance success failure statuses stats) =
+-- the end of a run: its summary, the entries, the tests that were not seen, and the warnings
+abbrev pub end_of_run_text : Settings → Known → ℕ → RunFinishedStats → Option NotSeen → Text
+end_of_run_text s known elapsed stats outstanding =
+    run_finished_text s elapsed stats
+    ++ (listed_text s known ++ (not_seen_text s outstanding ++ final_warnings s.styles s.mode (final_stats_of_run stats)))
+
+-- a setup script of an event
+abbrev pub script_by : Option StressIndex → Text → Text → List Text → Script
+script_by stress id program args = record { stress_index = stress; script_id = id; program = program; args = args }
+
+-- the text of an event, by what is known of the calls before it and how long the run has taken
+unfoldable pub event_text : Settings → Known → ℕ → TestEventKind → Text
+event_text s known elapsed (RunStarted counts id profile) = run_started_text s known.prefix counts id profile
+event_text s known elapsed (StressSubRunStarted progress) = stress_sub_run_started_text s progress
+event_text s known elapsed (SetupScriptStarted stress index total id program args) =
+    setup_script_started_text s.styles index total (script_by stress id program args)
+event_text s known elapsed (SetupScriptSlow stress id program args taken will_terminate) =
+    setup_script_slow_text s (script_by stress id program args) taken.0 will_terminate
+event_text s known elapsed (SetupScriptFinished stress id program args status) =
+    setup_script_finished_text s (script_by stress id program args) status
+event_text s known elapsed (TestStarted stress instance stats command) = test_started_text s stress instance stats command
+event_text s known elapsed (TestSlow stress instance retry taken will_terminate) = test_slow_text s stress instance retry taken.0 will_terminate
+event_text s known elapsed (TestAttemptFailedWillRetry stress instance status delay failure) = attempt_failed_text s stress instance status delay.0 failure
+event_text s known elapsed (TestRetryStarted stress instance retry command) = test_retry_started_text s stress instance retry command
+event_text s known elapsed (TestFinished stress instance success failure statuses stats) =
     test_finished_text s (test_finish s known.reason stress instance success failure statuses stats)
-event_text s known (RunFinished elapsed stats) =
-    run_finished_text s elapsed.0 stats ++ (listed_text s known ++ final_warnings s.styles s.mode (final_stats_of_run stats))
+event_text s known elapsed (TestSkipped stress instance) = test_skipped_text s stress instance
+event_text s known elapsed (RunBeginCancel scripts stats running) = begin_cancel_text s scripts stats.cancel_reason running
+event_text s known elapsed (RunBeginKill scripts stats running) = begin_kill_text s scripts stats.cancel_reason running
+event_text s known elapsed (RunPaused scripts running) = run_paused_text s scripts running
+event_text s known elapsed (RunContinued scripts running) = run_continued_text s scripts running
+event_text s known elapsed (InfoStarted total stats) = info_started_text s elapsed total stats
+event_text s known elapsed (InfoResponse index total response) = info_response_text s index total response
+event_text s known elapsed (InfoFinished missing) = info_finished_text s missing
+event_text s known elapsed (InputEnter stats running) = input_enter_text s.styles elapsed stats running
+event_text s known elapsed (StressSubRunFinished progress taken stats) = stress_sub_run_finished_text s progress taken.0 stats
+event_text s known elapsed (RunFinished taken stats outstanding) = end_of_run_text s known taken.0 stats outstanding
 
 -- what is known after a past, a list of calls with the latest first: the entries are in their final order
 abbrev pub known_after : Configuration → List ReportCall → Known
@@ -50,7 +100,8 @@ known_after config past = record {
 
 -- the text of a call after a past
 abbrev pub text : Configuration → List ReportCall → ReportCall → Text
-text config past (Event e) = event_text (settings_of config) (known_after config past) e.kind
+text config past (Event e) = event_text (settings_of config) (known_after config past) e.elapsed.0 e.kind
+text config past (Header h) = replay_header_text (settings_of config).styles h
 text config past (Prefix p) = []
 
 -- the texts of the calls of a past, in the order of the calls
@@ -70,11 +121,3 @@ past_at calls i = reverse (take i calls)
 -- the text of the call at a place; past the end there is none
 abbrev pub text_at : Configuration → List ReportCall → ℕ → Text
 text_at config calls i = option_map_or (text config (past_at calls i)) (slice_get calls i) []
-
--- a call that the reporter does not refuse: of these kinds each one
-abbrev pub IsAccepted : Configuration → ReportCall → Type 0
-IsAccepted config (Event e) = Unit {0}
-IsAccepted config (Prefix p) = Unit {0}
-
-abbrev pub AreAccepted : Configuration → List ReportCall → Type 0
-AreAccepted config calls = AllByRecursion (IsAccepted config) calls

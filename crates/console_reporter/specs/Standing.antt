@@ -9,7 +9,7 @@ use Rattle.console_reporter.specs.Entries.{cancel, final_order, kept, prefix}
 use Rattle.console_reporter.specs.Report.{Known, past_at}
 use Rattle.event_text.specs.declared.settings.Settings.{Settings}
 use Rattle.console_reporter.specs.declared.imp.calls.ReportCall.{ReportCall}
-use Rattle.console_reporter.specs.declared.imp.calls.ReportCall.TheVariants.{Event, Prefix}
+use Rattle.console_reporter.specs.declared.imp.calls.ReportCall.TheVariants.{Event, Header, Prefix}
 use Rattle.console_reporter.specs.declared.imp.reporter.DisplayReporter.{DisplayReporter}
 use Rattle.console_reporter.specs.declared.imp.reporter.ReporterState.{ReporterState}
 
@@ -43,6 +43,7 @@ MayGrow reporter event = IsTrue (may_grow_for reporter.state.settings (reason_ra
 -- the same of a call under a reason: a prefix is copied
 abbrev pub may_grow_in : Settings → ℕ → ReportCall → Bool
 may_grow_in s reason (Event e) = may_grow_for s reason e.kind
+may_grow_in s reason (Header h) = false
 may_grow_in s reason (Prefix p) = true
 
 abbrev pub MayGrowIn : {W : Type 0} → DisplayReporter W → ReportCall → Type 0

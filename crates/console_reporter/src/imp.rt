@@ -1,11 +1,13 @@
 //! The reporter: what it is built from, its calls, and the run of a list of calls.
 //!
 //! One module a concern: `builder` says what a reporter is built from, `calls` and `faults` what it is asked and how it fails,
-//! `effect` what an event does beside its text, `final_output` what is kept of a test for the summary, `entry_key` what that is
-//! ordered by, `kept` how it is held and listed, `reporter` the calls. The texts of events stand in the crate `event_text`.
+//! `decider` what it decides of an event by its metadata, `effect` what an event does beside its text, `final_output` what is kept
+//! of a test for the summary, `entry_key` what that is ordered by, `kept` how it is held and listed, `reporter` the calls, and
+//! `topics` what text an event has. The texts themselves stand in the crates `event_text` and `run_text`.
 
 mod builder;
 mod calls;
+mod decider;
 mod effect;
 mod entry_key;
 mod faults;
@@ -14,9 +16,11 @@ mod kept;
 mod reporter;
 #[cfg(test)]
 mod tests;
+mod topics;
 
 pub use builder::DisplayReporterBuilder;
 pub use calls::ReportCall;
+pub use decider::{OutputLoadDecider, first_refused};
 pub use event_text::finish::reasons_only_hide;
 pub use faults::{RunFault, WriteEventError};
 pub use kept::one_final_order;

@@ -1,4 +1,4 @@
--- The output of a finished attempt, and how the attempt ended.
+-- The output of a finished attempt or of a setup script, and how that ended.
 use Rattle.std.specs.Ordering.{int_eq}
 use Rattle.std.specs.Prelude.{pos, Bool, true, false, not, ◌&&◌, None, Some, [], ◌++◌, codes, if◌then◌else◌}
 use Rattle.run_model.specs.declared.output.ChildExecutionOutputDescription.{ChildExecutionOutputDescription}
@@ -10,6 +10,7 @@ use Rattle.run_model.specs.declared.status.FailureDescription.{FailureDescriptio
 use Rattle.run_model.specs.declared.status.FailureDescription.TheVariants.{ExitCode, Abort}
 use Rattle.run_model.specs.declared.status.LeakTimeoutResult.TheVariants as leak
 use Rattle.run_model.specs.declared.status.SlowTimeoutResult.TheVariants as slow
+use Rattle.run_model.specs.declared.unit.UnitKind.{UnitKind}
 use Rattle.run_model.specs.declared.unit.UnitKind.TheVariants as unit
 use Rattle.report_text.specs.Texts.{Text}
 use Rattle.report_text.specs.Styles.{plain}
@@ -54,9 +55,9 @@ abbrev pub output_margin : Bool → Text
 output_margin true = []
 output_margin false = codes "    "
 
-abbrev pub layout_in : Bool → ThemeCharacters → Style → OutputLayout
-layout_in no_indent theme style = record {
-  kind = unit.Test;
+abbrev pub layout_in : UnitKind → Bool → ThemeCharacters → Style → OutputLayout
+layout_in kind no_indent theme style = record {
+  kind = kind;
   stdout_header = stream_header no_indent theme style name.Stdout;
   stderr_header = stream_header no_indent theme style name.Stderr;
   combined_header = stream_header no_indent theme style name.Output;
@@ -64,11 +65,11 @@ layout_in no_indent theme style = record {
   output_indent = output_margin no_indent;
 }
 
--- how the output of an attempt is laid out that ended so
-abbrev pub finished_layout : Settings → ExecutionResultDescription → Bool → OutputLayout
-finished_layout s result is_retry = layout_in s.no_output_indent s.theme_characters (header_style s.styles result is_retry)
+-- how the output of a unit is laid out that ended so
+abbrev pub finished_layout : Settings → UnitKind → ExecutionResultDescription → Bool → OutputLayout
+finished_layout s kind result is_retry = layout_in kind s.no_output_indent s.theme_characters (header_style s.styles result is_retry)
 
--- how the attempt ended is said again after its output, unless that is plain: not of a panic, which ends with code 101,
+-- how the unit ended is said again after its output, unless that is plain: not of a panic, which ends with code 101,
 -- nor of a code where handles were left open
 abbrev pub has_info_after_failure : FailureDescription → Bool → Bool
 has_info_after_failure (ExitCode code) leaked = not (int_eq code (pos 101)) && not leaked
@@ -81,14 +82,26 @@ has_info_line (outcome.Fail failure leaked) = has_info_after_failure failure lea
 has_info_line outcome.ExecFail = false
 has_info_line (outcome.Timeout result) = true
 
--- the line that says so, aligned with the output, and an empty line
-unfoldable pub shown_info_line : Styles → Bool → ExecutionResultDescription → Text
-shown_info_line s is_slow result = plain (codes "    (test ") ++ (info_text s is_slow result ++ plain (codes ")\n\n"))
+-- how the line begins that says so; a benchmark is called a test there
+unfoldable pub info_line_start : UnitKind → Text
+info_line_start unit.Test = codes "    (test "
+info_line_start unit.Script = codes "    (script "
 
-unfoldable pub info_line : Styles → Bool → ExecutionResultDescription → Text
-info_line s is_slow result = if has_info_line result then shown_info_line s is_slow result else []
+-- that line, aligned with the output, and an empty line
+unfoldable pub shown_info_line : Styles → UnitKind → Bool → ExecutionResultDescription → Text
+shown_info_line s kind is_slow result = plain (info_line_start kind) ++ (info_text s is_slow result ++ plain (codes ")\n\n"))
 
--- what an attempt wrote, which ended so, and how it ended; one flag says that another attempt follows, one that it was slow
-unfoldable pub attempt_output : Settings → Bool → Bool → ExecutionResultDescription → Written → Text
-attempt_output s is_retry is_slow result output =
-    execution_output s.unit_output s.styles (finished_layout s result is_retry) output ++ info_line s.styles is_slow result
+unfoldable pub info_line : Styles → UnitKind → Bool → ExecutionResultDescription → Text
+info_line s kind is_slow result = if has_info_line result then shown_info_line s kind is_slow result else []
+
+-- what a unit wrote, which ended so, and how it ended; one flag says that another attempt follows, one that it was slow
+unfoldable pub unit_output : Settings → UnitKind → Bool → Bool → ExecutionResultDescription → Written → Text
+unit_output s kind is_retry is_slow result output =
+    execution_output s.unit_output s.styles (finished_layout s kind result is_retry) output ++ info_line s.styles kind is_slow result
+
+-- the same of an attempt of a test, and of a setup script, which is never tried again
+abbrev pub attempt_output : Settings → Bool → Bool → ExecutionResultDescription → Written → Text
+attempt_output s is_retry is_slow result output = unit_output s unit.Test is_retry is_slow result output
+
+abbrev pub script_output : Settings → Bool → ExecutionResultDescription → Written → Text
+script_output s is_slow result output = unit_output s unit.Script false is_slow result output

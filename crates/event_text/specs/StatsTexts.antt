@@ -73,3 +73,8 @@ summary_text s x =
     ++ (plain (codes ", ")
     ++ (failed_counts s x
     ++ counted_text s s.skip x.skipped (codes "skipped"))))
+
+-- how many units run, and all counts
+unfoldable pub progress_message : Styles → RunStats → ℕ → Text
+progress_message s x running =
+    counted_text s s.pass running (codes "running") ++ (plain (codes ", ") ++ summary_text s x)

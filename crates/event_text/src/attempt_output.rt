@@ -1,9 +1,9 @@
-//! The output of a finished attempt, and how the attempt ended.
+//! The output of a finished attempt or of a setup script, and how that ended.
 
 ghost use Rattle.std.specs.Prelude.{◌≡◌};
 ghost use Rattle.report_text.specs.Writer.{Puts};
 ghost use Rattle.unit_report.specs.UnitOutputs.{layout_of};
-ghost use Rattle.event_text.specs.AttemptOutputs.{attempt_output, exec_fail_header, finished_layout, has_info_after_failure, has_info_line, header_style, info_line, layout_in, output_margin, result_style, shown_info_line, stream_header};
+ghost use Rattle.event_text.specs.AttemptOutputs.{attempt_output, exec_fail_header, finished_layout, has_info_after_failure, has_info_line, header_style, info_line, info_line_start, layout_in, output_margin, result_style, script_output, shown_info_line, stream_header, unit_output};
 
 use crate::info_result::write_info_result;
 use crate::settings::Settings;
@@ -20,10 +20,9 @@ use unit_report::unit_output::{ChildOutputSpec, OutputHeader, OutputName};
 #[cfg(test)]
 mod tests;
 
-/// Writes what an attempt wrote, which ended so, and how it ended where that is worth a line of its own.
+/// Writes what an attempt of a test wrote, which ended so, and how it ended where that is worth a line of its own.
 ///
 /// `is_retry` says that another attempt follows, `is_slow` that this one was slow.
-#[tactic(auto, unfolding(crate::specs::AttemptOutputs::attempt_output))]
 pub fn write_test_execute_status<W: WriteStr>(
     w: &mut W,
     settings: &Settings,
@@ -34,43 +33,87 @@ pub fn write_test_execute_status<W: WriteStr>(
 ) -> Result<(), WriteFault>
     ensures { Puts W.meaning w.old (attempt_output settings.now is_retry is_slow outcome.now output.now) result w.new }
 {
-    let spec = output_spec_for_finished(settings, outcome, is_retry);
+    let kind = UnitKind::Test;
+    write_unit_execute_status(w, settings, kind, is_retry, is_slow, outcome, output)
+}
+
+/// Writes what a setup script wrote, which ended so, and how it ended where that is worth a line of its own.
+pub fn write_setup_script_execute_status<W: WriteStr>(
+    w: &mut W,
+    settings: &Settings,
+    is_slow: bool,
+    outcome: &ExecutionResultDescription,
+    output: &ChildExecutionOutputDescription<LiveSpec>,
+) -> Result<(), WriteFault>
+    ensures { Puts W.meaning w.old (script_output settings.now is_slow outcome.now output.now) result w.new }
+{
+    let kind = UnitKind::Script;
+    write_unit_execute_status(w, settings, kind, false, is_slow, outcome, output)
+}
+
+// Writes the same of either.
+#[tactic(auto, unfolding(crate::specs::AttemptOutputs::unit_output))]
+fn write_unit_execute_status<W: WriteStr>(
+    w: &mut W,
+    settings: &Settings,
+    kind: UnitKind,
+    is_retry: bool,
+    is_slow: bool,
+    outcome: &ExecutionResultDescription,
+    output: &ChildExecutionOutputDescription<LiveSpec>,
+) -> Result<(), WriteFault>
+    ensures { Puts W.meaning w.old (unit_output settings.now kind is_retry is_slow outcome.now output.now) result w.new }
+{
+    let spec = output_spec_for_finished(settings, kind, outcome, is_retry);
     settings
         .unit_output
         .write_child_execution_output(&settings.styles, &spec, output, w)?;
-    write_info_line(w, &settings.styles, is_slow, outcome)
+    write_info_line(w, &settings.styles, kind, is_slow, outcome)
 }
 
-// Writes how the attempt ended, unless that is plain.
+// Writes how the unit ended, unless that is plain.
 #[tactic(auto, unfolding(crate::specs::AttemptOutputs::info_line))]
 fn write_info_line<W: WriteStr>(
     w: &mut W,
     styles: &Styles,
+    kind: UnitKind,
     is_slow: bool,
     outcome: &ExecutionResultDescription,
 ) -> Result<(), WriteFault>
-    ensures { Puts W.meaning w.old (info_line styles.now is_slow outcome.now) result w.new }
+    ensures { Puts W.meaning w.old (info_line styles.now kind is_slow outcome.now) result w.new }
 {
     if show_finished_status_info_line(outcome) {
-        write_shown_info_line(w, styles, is_slow, outcome)
+        write_shown_info_line(w, styles, kind, is_slow, outcome)
     } else {
         Ok(())
     }
 }
 
-// Writes how the attempt ended, aligned with the output, and an empty line.
+// Writes how the unit ended, aligned with the output, and an empty line.
 #[tactic(auto, unfolding(crate::specs::AttemptOutputs::shown_info_line))]
 fn write_shown_info_line<W: WriteStr>(
     w: &mut W,
     styles: &Styles,
+    kind: UnitKind,
     is_slow: bool,
     outcome: &ExecutionResultDescription,
 ) -> Result<(), WriteFault>
-    ensures { Puts W.meaning w.old (shown_info_line styles.now is_slow outcome.now) result w.new }
+    ensures { Puts W.meaning w.old (shown_info_line styles.now kind is_slow outcome.now) result w.new }
 {
-    write_plain(w, "    (test ")?;
+    write_plain(w, info_line_start(kind))?;
     write_info_result(w, styles, is_slow, outcome)?;
     write_plain(w, ")\n\n")
+}
+
+// How that line begins. A benchmark is called a test there.
+#[tactic(auto, unfolding(crate::specs::AttemptOutputs::info_line_start))]
+fn info_line_start(kind: UnitKind) -> &'static str
+    ensures { result.now ≡ info_line_start kind }
+{
+    match kind {
+        UnitKind::Test => "    (test ",
+        UnitKind::Script => "    (script ",
+    }
 }
 
 // Whether how the attempt ended is said again after its output.
@@ -95,35 +138,42 @@ fn shows_failure(failure: &FailureDescription, leaked: bool) -> bool
     }
 }
 
-// How the output of an attempt is laid out that ended so.
+// How the output of a unit is laid out that ended so.
 fn output_spec_for_finished(
     settings: &Settings,
+    kind: UnitKind,
     outcome: &ExecutionResultDescription,
     is_retry: bool,
 ) -> ChildOutputSpec
-    ensures { layout_of result ≡ finished_layout settings.now outcome.now is_retry }
+    ensures { layout_of result ≡ finished_layout settings.now kind outcome.now is_retry }
 {
     let style = if is_retry {
         settings.styles.retry
     } else {
         result_style(&settings.styles, outcome)
     };
-    spec_in(settings.no_output_indent, settings.theme_characters, style)
+    spec_in(
+        kind,
+        settings.no_output_indent,
+        settings.theme_characters,
+        style,
+    )
 }
 
 // The layout with headers in this style. `no_output_indent` says that output stands at the beginning of its lines.
 fn spec_in(
+    kind: UnitKind,
     no_output_indent: bool,
     theme_characters: ThemeCharacters,
     style: Style,
 ) -> ChildOutputSpec
-    ensures { layout_of result ≡ layout_in no_output_indent theme_characters style }
+    ensures { layout_of result ≡ layout_in kind no_output_indent theme_characters style }
 {
     let stdout = OutputName::Stdout;
     let stderr = OutputName::Stderr;
     let combined = OutputName::Output;
     ChildOutputSpec {
-        kind: UnitKind::Test,
+        kind,
         stdout_header: stream_header(no_output_indent, theme_characters, style, stdout),
         stderr_header: stream_header(no_output_indent, theme_characters, style, stderr),
         combined_header: stream_header(no_output_indent, theme_characters, style, combined),

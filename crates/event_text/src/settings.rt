@@ -2,11 +2,12 @@
 
 ghost use Rattle.std.specs.Prelude.{◌≡◌};
 ghost use Rattle.report_text.specs.Styles.{styles_of};
-ghost use Rattle.event_text.specs.Settings.{counter_width_of, finished_counter, overrides_by, theme_of};
+ghost use Rattle.event_text.specs.Settings.{counter_width_of, finished_counter, is_level_shown, overrides_by, padded_counter, shows_starts, started_counter, theme_of};
 
 use report_text::helpers::{DisplayCounterIndex, ThemeCharacters, decimal_char_width};
 use report_text::style::Styles;
 use run_model::config::{CompiledDefaultFilter, NextestRunMode, TestOutputDisplay};
+use run_model::level::StatusLevel;
 use run_model::stats::RunStats;
 use unit_report::config::{ProgressDisplay, StatusLevels};
 use unit_report::unit_output::{OutputDisplayOverrides, UnitOutputReporter};
@@ -30,6 +31,11 @@ pub struct Settings {
     pub unit_output: UnitOutputReporter,
     /// Whether output stands at the beginning of its lines.
     pub no_output_indent: bool,
+    /// Whether the output of tests is not captured. What a test writes then stands after the line that says that it
+    /// started.
+    pub no_capture: bool,
+    /// Whether the command lines of tests are shown.
+    pub verbose: bool,
 }
 
 impl Settings {
@@ -44,6 +50,48 @@ impl Settings {
                 stats.initial_run_count,
             )),
         }
+    }
+
+    /// The counter of a test that starts, where counters are shown: one further than the tests that have finished.
+    pub fn started_counter(&self, stats: &RunStats) -> Option<DisplayCounterIndex>
+        ensures { result ≡ started_counter self.now stats.now }
+    {
+        match self.counter_width {
+            None => None,
+            Some(_) => Some(DisplayCounterIndex::Counter {
+                current: stats.finished_count as u128 + 1,
+                total: stats.initial_run_count as u128,
+            }),
+        }
+    }
+
+    /// What stands in the place of a counter, where counters are shown, in the lines of tests that have none.
+    pub fn padded_counter(&self) -> Option<DisplayCounterIndex>
+        ensures { result ≡ padded_counter self.now }
+    {
+        match self.counter_width {
+            None => None,
+            Some(width) => Some(DisplayCounterIndex::new_padded(
+                self.theme_characters.hbar_char(),
+                width,
+            )),
+        }
+    }
+
+    /// Whether what has this level is shown at once.
+    #[tactic(auto, unfolding(crate::specs::Settings::is_level_shown))]
+    pub fn is_level_shown(&self, level: StatusLevel) -> bool
+        ensures { result ≡ is_level_shown self.now level }
+    {
+        level.is_shown_at(self.status_levels.status_level)
+    }
+
+    /// Whether the start of a test is shown.
+    #[tactic(auto, unfolding(crate::specs::Settings::shows_starts))]
+    pub fn shows_starts(&self) -> bool
+        ensures { result ≡ shows_starts self.now }
+    {
+        self.no_capture || self.verbose
     }
 }
 

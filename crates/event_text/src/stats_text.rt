@@ -2,7 +2,7 @@
 
 ghost use Rattle.std.specs.Prelude.{◌≡◌};
 ghost use Rattle.report_text.specs.Writer.{Puts};
-ghost use Rattle.event_text.specs.StatsTexts.{summary_text, counted_text, passed_note, passed_notes, notes_end, leaky_failed_note, due_to_being, failed_count, failed_counts, exec_failed_count, timed_out_count, other_failed_count};
+ghost use Rattle.event_text.specs.StatsTexts.{progress_message, summary_text, counted_text, passed_note, passed_notes, notes_end, leaky_failed_note, due_to_being, failed_count, failed_counts, exec_failed_count, timed_out_count, other_failed_count};
 
 use report_text::style::{Style, Styles, write_plain};
 use report_text::write_str::{WriteFault, WriteStr};
@@ -22,6 +22,21 @@ pub fn write_summary_text<W: WriteStr>(
     write_plain(w, ", ")?;
     write_failed_counts(w, styles, stats)?;
     write_counted(w, styles, styles.skip, stats.skipped, "skipped")
+}
+
+/// Writes how many units run, and all counts.
+#[tactic(auto, unfolding(crate::specs::StatsTexts::progress_message))]
+pub fn write_progress_message<W: WriteStr>(
+    w: &mut W,
+    styles: &Styles,
+    stats: &RunStats,
+    running: usize,
+) -> Result<(), WriteFault>
+    ensures { Puts W.meaning w.old (progress_message styles.now stats.now running) result w.new }
+{
+    write_counted(w, styles, styles.pass, running, "running")?;
+    write_plain(w, ", ")?;
+    write_summary_text(w, styles, stats)
 }
 
 // Writes how many tests did not succeed.
@@ -62,9 +77,9 @@ fn write_timed_out_count<W: WriteStr>(
     write_other_failed_count(w, styles, count, "timed out")
 }
 
-// Writes how many there are, and of what.
+/// Writes how many there are, and of what.
 #[tactic(auto, unfolding(crate::specs::StatsTexts::counted_text))]
-fn write_counted<W: WriteStr>(
+pub fn write_counted<W: WriteStr>(
     w: &mut W,
     styles: &Styles,
     style: Style,

@@ -8,10 +8,9 @@ ghost use Rattle.report_text.specs.Texts.{right_in};
 ghost use Rattle.event_text.specs.StatusLines.{is_final, shown_summary, flaky_style, flaky_words, failure_words, success_text, is_flaky_failure, status_prefix, flaky_note, flaky_failure_line, status_line};
 
 use crate::abort_line::write_abort_line;
-use crate::instance::CountedInstance;
+use crate::instance::{CountedInstance, write_instance};
 use crate::result_words::{is_plain_success, spaced_short_status_str, status_str, success_str};
 use itoa::Buffer;
-use report_text::helpers::DisplayTestInstance;
 use report_text::style::{Styles, write_plain};
 use report_text::write_str::{WriteFault, WriteStr};
 use run_model::memory::OutOfMemory;
@@ -119,13 +118,7 @@ pub fn write_status_line<W: WriteStr>(
 {
     write_status_prefix(w, styles, kind, line)?;
     DisplayBracketedDuration(line.time_taken).write_to(w)?;
-    DisplayTestInstance::new(
-        test.stress_index,
-        test.counter,
-        test.instance,
-        &styles.list_styles,
-    )
-    .write_to(w)?;
+    write_instance(w, styles, test)?;
     write_plain(w, "\n")?;
     write_abort_line(w, styles, line.result)?;
     write_flaky_failure_line(w, styles, kind, line.case)

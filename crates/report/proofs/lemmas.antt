@@ -1,5 +1,6 @@
 pub mod Attempts
 pub mod Cuts
+pub mod Days
 pub mod Devices
 pub mod Displays
 pub mod FirstFaults

@@ -12,6 +12,7 @@ unconfigured = record {
   success_output = None;
   failure_output = None;
   no_capture = false;
+  verbose = false;
   no_output_indent = false;
   use_unicode = false;
   display_empty_outputs = false;

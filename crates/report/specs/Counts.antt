@@ -2,6 +2,7 @@
 use Rattle.std.specs.Prelude.{ℕ, List, [], ◌∷◌, true, false, if◌then◌else◌, get_or, slice_set, Option, None, Some, codes, bytes_eq}
 use Rattle.std.specs.Option.{option_map}
 use Rattle.run_model.specs.declared.event.SkipCounts.{SkipCounts}
+use Rattle.run_model.specs.declared.level.CancelReason.{CancelReason}
 use Rattle.run_model.specs.declared.stats.RunStats.{RunStats}
 use Rattle.report.specs.Split.{cut, parted}
 use Rattle.report.specs.Numbers.{number_in}
@@ -96,25 +97,29 @@ stats_cut before (Some x) = new_stat before x.1 (stats_key_in x.0)
 abbrev pub stats_pair : StatsRead → List ℕ → Option StatsRead
 stats_pair before t = stats_cut before (cut 61 t)
 
+-- statistics that count nothing, with this reason
+abbrev pub nothing_counted : Option CancelReason → RunStats
+nothing_counted reason = record {
+  initial_run_count = 0;
+  finished_count = 0;
+  passed = 0;
+  passed_slow = 0;
+  flaky = 0;
+  leaky = 0;
+  failed = 0;
+  leaky_failed = 0;
+  exec_failed = 0;
+  timed_out = 0;
+  skipped = 0;
+  setup_scripts_failed = 0;
+  setup_scripts_exec_failed = 0;
+  setup_scripts_timed_out = 0;
+  cancel_reason = reason;
+}
+
 abbrev pub no_stats : StatsRead
 no_stats = record {
-  stats = record {
-    initial_run_count = 0;
-    finished_count = 0;
-    passed = 0;
-    passed_slow = 0;
-    flaky = 0;
-    leaky = 0;
-    failed = 0;
-    leaky_failed = 0;
-    exec_failed = 0;
-    timed_out = 0;
-    skipped = 0;
-    setup_scripts_failed = 0;
-    setup_scripts_exec_failed = 0;
-    setup_scripts_timed_out = 0;
-    cancel_reason = None;
-  };
+  stats = nothing_counted None;
   has_key = false ∷ false ∷ false ∷ false ∷ false ∷ false ∷ false ∷ false ∷ false ∷ false ∷ false ∷ false ∷ false ∷ false ∷ false ∷ [];
 }
 

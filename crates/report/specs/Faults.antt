@@ -11,6 +11,7 @@ line_fault_text line.NotUtf8 = codes "not UTF-8"
 line_fault_text line.UnknownEvent = codes "unknown event"
 line_fault_text line.ConfigAfterEvent = codes "config after an event"
 line_fault_text line.WrongNumberOfFields = codes "wrong number of fields"
+line_fault_text line.RetriedSuccess = codes "a retried attempt succeeded"
 line_fault_text (line.BadField n) = codes "bad field " ++ decimal n
 
 -- the line on standard error

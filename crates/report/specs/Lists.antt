@@ -1,8 +1,10 @@
 -- Lists of words, with `\,` between them.
-use Rattle.std.specs.Prelude.{ℕ, zero, suc, List, [], ◌∷◌, ◌++◌, Bool, false, ◌==◌, if◌then◌else◌, Option, None, Some, codes, bytes_eq}
-use Rattle.std.specs.Option.{option_map}
+use Rattle.std.specs.Prelude.{String, string_bytes, ℕ, zero, suc, List, [], ◌∷◌, ◌++◌, Bool, false, ◌==◌, if◌then◌else◌, Option, None, Some, codes, bytes_eq}
+use Rattle.std.specs.Option.{option_map, option_and_then}
 use Rattle.std.specs.Borrow.{Bor}
+use Rattle.std.specs.declared.alloc.Global.{Global}
 use Rattle.run_model.specs.ErrorChains.{MessageAndCauses}
+use Rattle.run_model.specs.declared.name.OwnedTestInstanceId.{OwnedTestInstanceId}
 use Rattle.report.specs.Texts.{escape_byte, escape_len}
 
 abbrev pub Words : Type 0
@@ -45,9 +47,9 @@ more_words None = Some []
 more_words (Some list) = list_words list.now
 
 -- a word, and the words of the list that follows it
-abbrev pub words_from : Option (List ℕ × Option (Bor (List ℕ))) → Option Words
+abbrev pub words_from : Option (String Global × Option (Bor (List ℕ))) → Option Words
 words_from None = None
-words_from (Some x) = option_map (λ ws. x.0 ∷ ws) (more_words x.1)
+words_from (Some x) = option_map (λ ws. string_bytes x.0 ∷ ws) (more_words x.1)
 
 -- an error and its causes, as the list of them
 abbrev pub chain_of : Option Words → Option MessageAndCauses
@@ -61,3 +63,24 @@ chain_in t = chain_of (words_of t)
 -- errors, or `-`
 abbrev pub errors_in : List ℕ → Option (Option MessageAndCauses)
 errors_in t = if bytes_eq t (codes "-") then Some None else option_map (λ chain. Some chain) (chain_in t)
+
+abbrev pub Instances : Type 0
+Instances = List OwnedTestInstanceId
+
+abbrev pub instance : List ℕ → List ℕ → OwnedTestInstanceId
+instance id name = record { binary_id = id; test_name = name }
+
+-- tests by the ids of their binaries and their names in turn
+abbrev pub instances_of : Words → Option Instances
+instances_of [] = Some []
+instances_of (id ∷ []) = None
+instances_of (id ∷ name ∷ ws) = option_map (λ others. instance id name ∷ others) (instances_of ws)
+
+-- a test, and the tests of the list that follows it
+abbrev pub instances_from : Option (OwnedTestInstanceId × Option (Bor (List ℕ))) → Option Instances
+instances_from None = None
+instances_from (Some x) = option_map (λ others. x.0 ∷ others) (option_and_then instances_of (more_words x.1))
+
+-- the tests whose ids and names are the words of a list
+abbrev pub instances_in : List ℕ → Option Instances
+instances_in t = option_and_then instances_of (words_of t)

@@ -12,12 +12,12 @@ use Rattle.report_text.specs.Texts.{Text}
 use Rattle.report_text.specs.Buffer.{GrowsWithin}
 use Rattle.report_text.specs.Writer.{Meaning}
 use Rattle.console_reporter.specs.Configuration.{Configuration, configured}
-use Rattle.console_reporter.specs.Outcomes.{Stops}
+use Rattle.console_reporter.specs.Outcomes.{HasFront, Stops}
 use Rattle.console_reporter.specs.Report.{report}
 use Rattle.console_reporter.specs.declared.imp.builder.DisplayReporterBuilder.{DisplayReporterBuilder}
 use Rattle.console_reporter.specs.declared.imp.calls.ReportCall.{ReportCall}
 use Rattle.console_reporter.specs.declared.imp.faults.WriteEventError.{WriteEventError}
-use Rattle.console_reporter.specs.declared.imp.faults.WriteEventError.TheVariants.{Io, Memory, Failed}
+use Rattle.console_reporter.specs.declared.imp.faults.WriteEventError.TheVariants.{RetriedSuccess, Io, Memory, Failed}
 use Rattle.report.specs.Scenes.{IsCallOf}
 use Rattle.report.specs.declared.fault.Fault.{Fault}
 use Rattle.report.specs.declared.fault.Fault.TheVariants.{WriteFailed, OutOfMemory}
@@ -46,7 +46,7 @@ builder_for options scene = record {
   success_output = scene.config.success_output;
   failure_output = scene.config.failure_output;
   should_colorize = options.should_colorize;
-  verbose = false;
+  verbose = scene.config.verbose;
   no_output_indent = scene.config.no_output_indent;
   displayer_kind = kind_for options;
 }
@@ -61,6 +61,7 @@ report_of options scene calls = report (configuration_for options scene) (revers
 
 -- what the program tells where its report stopped
 abbrev pub fault_for : WriteEventError → Fault
+fault_for RetriedSuccess = WriteFailed
 fault_for Io = WriteFailed
 fault_for Memory = OutOfMemory
 fault_for Failed = WriteFailed
@@ -89,13 +90,20 @@ abbrev pub PrintsBeginning : Options → Scene → Option (List ℕ) → Option 
 PrintsBeginning options scene before after =
     (old new : List ℕ) → before ≡ Some old → after ≡ Some new → (new ≡ old) ⊎ BeginsReport options scene old new
 
+-- from old, the error ended the report of calls, of which a beginning was accepted, and left new
+abbrev pub Ends : {S : Type 0} → Meaning S → S → Text → WriteEventError → S → Type 0
+Ends m old text RetriedSuccess new = HasFront m old text new
+Ends m old text Io new = Stops m old text Io new
+Ends m old text Memory new = Stops m old text Memory new
+Ends m old text Failed new = Stops m old text Failed new
+
 -- from old, the fault stopped the report of the scene, of which a beginning was accepted, and left new
 pub record StopsReport {S : Type 0} (m : Meaning S) (options : Options) (scene : Scene) (old : S) (fault : Fault) (new : S) : Type 0 where
   pub calls : List ReportCall
   pub of_scene : AreCallsOf scene calls
   pub error : WriteEventError
   pub told : fault ≡ fault_for error
-  pub stopped : Stops m old (report_of options scene calls) error new
+  pub stopped : Ends m old (report_of options scene calls) error new
 
 -- memory was refused before anything was written
 pub record IsRefused {S : Type 0} (old : S) (fault : Fault) (new : S) : Type 0 where

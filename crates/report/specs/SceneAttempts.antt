@@ -5,7 +5,9 @@ use Rattle.run_model.specs.declared.output.ChildExecutionOutputDescription.TheVa
 use Rattle.run_model.specs.declared.output.ChildOutputDescription.{ChildOutputDescription}
 use Rattle.run_model.specs.declared.output.ChildOutputDescription.TheVariants.{Split}
 use Rattle.run_model.specs.declared.output.LiveSpec.{LiveSpec}
+use Rattle.run_model.specs.declared.status.ExecuteStatus.{ExecuteStatus}
 use Rattle.run_model.specs.declared.status.ExecutionResultDescription.{ExecutionResultDescription}
+use Rattle.run_model.specs.declared.status.SetupScriptExecuteStatus.{SetupScriptExecuteStatus}
 use Rattle.report.specs.declared.scene.attempts.SceneOutput.{SceneOutput}
 use Rattle.report.specs.declared.scene.attempts.SceneOutput.TheVariants as scene
 
@@ -21,3 +23,7 @@ silence result = Output (Some result) (Split (Some []) (Some [])) None None
 abbrev pub written : ExecutionResultDescription → SceneOutput → Written
 written result scene.Silent = silence result
 written result (scene.Told output) = output
+
+-- an attempt as that of a setup script, which has no other
+abbrev pub script_status : ExecuteStatus LiveSpec ChildOutputDescription → SetupScriptExecuteStatus LiveSpec ChildOutputDescription
+script_status attempt = record { time_taken = attempt.time_taken; result = attempt.result; output = attempt.output; is_slow = attempt.is_slow }

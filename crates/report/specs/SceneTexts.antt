@@ -1,10 +1,15 @@
 -- The scene that a text spells, or its first fault.
-use Rattle.std.specs.Prelude.{◌≡◌, ℕ, ◌+◌, List, [], ◌∷◌, ◌++◌, Bool, true, false, ◌==◌, if◌then◌else◌, Option, None, Some, Result, Ok, Err, length, ⊤}
+use Rattle.std.specs.Prelude.{◌≡◌, ℕ, ◌+◌, List, [], ◌∷◌, ◌++◌, Bool, true, false, ◌==◌, nat_lt, if◌then◌else◌, Option, None, Some, Result, Ok, Err, length, ⊤}
 use Rattle.std.specs.Str.{is_utf8}
 use Rattle.report.specs.Configs.{unconfigured}
 use Rattle.report.specs.Split.{parted}
 use Rattle.report.specs.Fields.{Fails, Place}
-use Rattle.report.specs.Lines.{config_line, done_line, end_line, line_in, run_line, takes}
+use Rattle.report.specs.Lines.{config_line, line_in, takes}
+use Rattle.report.specs.ReplayLines.{header_line, prefix_line}
+use Rattle.report.specs.RunLines.{cancel_line, end_line, input_line, pause_line, run_line}
+use Rattle.report.specs.ScriptLines.{setup_done_line, setup_line, setup_slow_line}
+use Rattle.report.specs.StressLines.{end_stress_line, sub_end_line, sub_start_line}
+use Rattle.report.specs.TestLines.{done_line, retry_line, retry_start_line, skip_line, slow_line, start_line}
 use Rattle.report.specs.declared.fault.Fault.{Fault}
 use Rattle.report.specs.declared.fault.Fault.TheVariants as fault
 use Rattle.report.specs.declared.fault.LineError.{LineError}
@@ -15,7 +20,8 @@ use Rattle.report.specs.declared.reader.lines.LineKind.{LineKind}
 use Rattle.report.specs.declared.reader.lines.LineKind.TheVariants as line
 use Rattle.report.specs.declared.scene.Scene.{Scene}
 use Rattle.report.specs.declared.scene.SceneConfig.{SceneConfig}
-use Rattle.report.specs.declared.scene.SceneEvent.{SceneEvent}
+use Rattle.report.specs.declared.scene.event.SceneEvent.{SceneEvent}
+use Rattle.report.specs.declared.scene.event.SceneEvent.TheVariants as event
 
 -- what lines tell: the last value of each key, and the events in order
 pub record Told : Type 0 where
@@ -37,15 +43,38 @@ abbrev pub with_event : Told → Result (SceneEvent × Place) LineFault → Resu
 with_event before (Ok x) = Ok (record before { events = before.events ++ x.0 ∷ [] })
 with_event before (Err f) = Err f
 
+-- the event that is made of what a line says
+abbrev pub with_made : {X : Type 0} → (X → SceneEvent) → Told → Result (X × Place) LineFault → Result Told LineFault
+with_made make before (Ok x) = with_event before (Ok (make x.0, x.1))
+with_made make before (Err f) = Err f
+
 -- what is told once the fields after the first, of which there are enough, are read
-abbrev pub fields_told : Told → LineKind → Place → Result Told LineFault
+unfoldable pub fields_told : Told → LineKind → Place → Result Told LineFault
 fields_told before line.Config fields = with_config before (config_line before.config fields)
+fields_told before line.Prefix fields = with_event before (prefix_line fields)
+fields_told before line.Header fields = with_event before (header_line fields)
 fields_told before line.Run fields = with_event before (run_line fields)
+fields_told before line.SubStart fields = with_event before (sub_start_line fields)
+fields_told before line.Setup fields = with_event before (setup_line fields)
+fields_told before line.SetupSlow fields = with_event before (setup_slow_line fields)
+fields_told before line.SetupDone fields = with_event before (setup_done_line fields)
+fields_told before line.Start fields = with_event before (start_line fields)
+fields_told before line.RetryStart fields = with_event before (retry_start_line fields)
+fields_told before line.Slow fields = with_event before (slow_line fields)
+fields_told before line.Retry fields = with_event before (retry_line fields)
 fields_told before line.Done fields = with_event before (done_line fields)
+fields_told before line.Skip fields = with_event before (skip_line fields)
+fields_told before line.Cancel fields = with_made event.RunBeginCancel before (cancel_line fields)
+fields_told before line.Kill fields = with_made event.RunBeginKill before (cancel_line fields)
+fields_told before line.Pause fields = with_made event.RunPaused before (pause_line fields)
+fields_told before line.Continue fields = with_made event.RunContinued before (pause_line fields)
+fields_told before line.Input fields = with_event before (input_line fields)
+fields_told before line.SubEnd fields = with_event before (sub_end_line fields)
 fields_told before line.End fields = with_event before (end_line fields)
+fields_told before line.EndStress fields = with_event before (end_stress_line fields)
 
 -- such a line may not stand after these events
-abbrev pub comes_late : LineKind → List SceneEvent → Bool
+unfoldable pub comes_late : LineKind → List SceneEvent → Bool
 comes_late line.Config [] = false
 comes_late line.Config (e ∷ es) = true
 comes_late other es = false
@@ -84,6 +113,19 @@ lines_told n before (t ∷ ts) = go_on (λ after. lines_told (n + 1) after ts) n
 abbrev pub text_told : List ℕ → Result Told (ℕ × LineFault)
 text_told t = lines_told 1 nothing_told (parted 10 t)
 
+-- the number of the line, where it told an event
+abbrev pub line_here : ℕ → Told → Told → List ℕ
+line_here n before after = if nat_lt (length before.events) (length after.events) then n ∷ [] else []
+
+abbrev pub lines_from : ℕ → Told → (Told → List ℕ) → Result Told LineFault → List ℕ
+lines_from n before next (Ok after) = line_here n before after ++ next after
+lines_from n before next (Err f) = []
+
+-- the numbers of the lines that tell events; the first line has this number
+unfoldable pub event_lines : ℕ → Told → List (List ℕ) → List ℕ
+event_lines n before [] = []
+event_lines n before (t ∷ ts) = lines_from n before (λ after. event_lines (n + 1) after ts) (line_told before t)
+
 -- what was returned is what is told, unless memory was refused
 abbrev pub IsAnswer : Result Scene Fault → Result Told (ℕ × LineFault) → Type 0
 IsAnswer (Ok scene) read = read ≡ Ok (told scene)
@@ -94,13 +136,13 @@ IsAnswer (Err fault.WriteFailed) read = ⊥
 IsAnswer (Err fault.OutOfMemory) read = ⊤
 
 -- the same, or the file cannot be read
-abbrev pub IsJudged : Result Scene Fault → Result Told (ℕ × LineFault) → Type 0
-IsJudged (Err (fault.CannotRead file)) read = ⊤
-IsJudged (Ok scene) read = read ≡ Ok (told scene)
-IsJudged (Err fault.Usage) read = ⊥
-IsJudged (Err (fault.Line n f)) read = read ≡ Err (n, f)
-IsJudged (Err fault.WriteFailed) read = ⊥
-IsJudged (Err fault.OutOfMemory) read = ⊤
+abbrev pub IsRead : Result Scene Fault → Result Told (ℕ × LineFault) → Type 0
+IsRead (Err (fault.CannotRead file)) read = ⊤
+IsRead (Ok scene) read = read ≡ Ok (told scene)
+IsRead (Err fault.Usage) read = ⊥
+IsRead (Err (fault.Line n f)) read = read ≡ Err (n, f)
+IsRead (Err fault.WriteFailed) read = ⊥
+IsRead (Err fault.OutOfMemory) read = ⊤
 
 abbrev pub IsLineAnswer : Result (Unit {0}) LineError → Told → Result Told LineFault → Type 0
 IsLineAnswer (Ok done) after read = read ≡ Ok after
@@ -109,6 +151,14 @@ IsLineAnswer (Err e) after read = Fails e read
 abbrev pub fault_at : ℕ → LineError → Fault
 fault_at n error.OutOfMemory = fault.OutOfMemory
 fault_at n (error.Fault f) = fault.Line n f
+
+-- a line of this number has the fault, unless memory was refused
+abbrev pub IsFaultHere : ℕ → Result Told LineFault → Fault → Type 0
+IsFaultHere n told fault.Usage = ⊥
+IsFaultHere n told (fault.CannotRead file) = ⊥
+IsFaultHere n told (fault.Line m f) = (m ≡ n) × (told ≡ Err f)
+IsFaultHere n told fault.WriteFailed = ⊥
+IsFaultHere n told fault.OutOfMemory = ⊤
 
 -- each line tells, one after the other
 abbrev pub AllTell : Told → List (List ℕ) → Told → Type 0
@@ -135,9 +185,9 @@ IsFaultOf text fault.WriteFailed = ⊥
 IsFaultOf text fault.OutOfMemory = ⊤
 
 -- the same, or the file cannot be read
-abbrev pub IsJudgedFault : List ℕ → Fault → Type 0
-IsJudgedFault text fault.Usage = ⊥
-IsJudgedFault text (fault.CannotRead file) = ⊤
-IsJudgedFault text (fault.Line n f) = IsFirstFault (parted 10 text) n f
-IsJudgedFault text fault.WriteFailed = ⊥
-IsJudgedFault text fault.OutOfMemory = ⊤
+abbrev pub IsReadFault : List ℕ → Fault → Type 0
+IsReadFault text fault.Usage = ⊥
+IsReadFault text (fault.CannotRead file) = ⊤
+IsReadFault text (fault.Line n f) = IsFirstFault (parted 10 text) n f
+IsReadFault text fault.WriteFailed = ⊥
+IsReadFault text fault.OutOfMemory = ⊤

@@ -1,27 +1,81 @@
 -- What a scene asks of a reporter.
-use Rattle.std.specs.Prelude.{◌≡◌, List, [], ◌∷◌, ◌++◌}
+use Rattle.std.specs.Prelude.{◌≡◌, ℕ, List, [], ◌∷◌, ◌++◌}
 use Rattle.run_model.specs.declared.event.TestEventKind.{TestEventKind}
 use Rattle.run_model.specs.declared.event.TestEventKind.TheVariants as kind
-use Rattle.run_model.specs.declared.stats.RunFinishedStats.TheVariants.{Single}
+use Rattle.run_model.specs.declared.name.TestInstanceId.{TestInstanceId}
+use Rattle.run_model.specs.declared.replay.ReplayHeader.{ReplayHeader}
 use Rattle.console_reporter.specs.declared.imp.calls.ReportCall.{ReportCall}
-use Rattle.console_reporter.specs.declared.imp.calls.ReportCall.TheVariants.{Event}
-use Rattle.report.specs.declared.scene.SceneEvent.{SceneEvent}
-use Rattle.report.specs.declared.scene.SceneEvent.TheVariants as scene
+use Rattle.console_reporter.specs.declared.imp.calls.ReportCall.TheVariants as call
+use Rattle.report.specs.Counts.{nothing_counted}
+use Rattle.report.specs.Moments.{moment_of}
+use Rattle.report.specs.SceneAttempts.{script_status}
+use Rattle.report.specs.declared.scene.event.SceneEvent.{SceneEvent}
+use Rattle.report.specs.declared.scene.event.SceneEvent.TheVariants as scene
+use Rattle.report.specs.declared.scene.replay_calls.SceneHeader.{SceneHeader}
+use Rattle.report.specs.declared.scene.script_events.SceneScript.{SceneScript}
+use Rattle.report.specs.declared.scene.test_events.SceneTest.{SceneTest}
+
+-- a reporter's test has the names of a scene's
+abbrev pub HasNames : SceneTest → TestInstanceId → Type 0
+HasNames test instance = (instance.binary_id.now ≡ test.binary_id) × (instance.test_name.now ≡ test.test_name)
+
+-- a reporter's event has the script of a scene's
+abbrev pub IsOfScript : SceneScript → List ℕ → List ℕ → List (List ℕ) → Type 0
+IsOfScript script id program args = (id ≡ script.script_id) × (program ≡ script.program) × (args ≡ script.args)
 
 -- a reporter's event says what a scene's does
 abbrev pub SaysSame : SceneEvent → TestEventKind → Type 0
-SaysSame (scene.RunStarted id profile counts) (kind.RunStarted test_list run_id profile_name) = (test_list ≡ counts) × (run_id ≡ id) × (profile_name ≡ profile)
-SaysSame (scene.TestFinished index binary name on_success on_failure attempts stats) (kind.TestFinished stress test success failure statuses current_stats) =
-    (stress ≡ index) × (test.binary_id.now ≡ binary) × (test.test_name.now ≡ name)
-    × (success ≡ on_success) × (failure ≡ on_failure)
-    × (statuses ≡ attempts) × (current_stats ≡ stats)
-SaysSame (scene.RunFinished time stats) (kind.RunFinished elapsed run_stats) = (elapsed ≡ time) × (run_stats ≡ Single stats)
+SaysSame (scene.RunStarted e) (kind.RunStarted test_list run_id profile_name) = (test_list ≡ e.test_list) × (run_id ≡ e.run_id) × (profile_name ≡ e.profile_name)
+SaysSame (scene.StressSubRunStarted e) (kind.StressSubRunStarted progress) = progress ≡ e.progress
+SaysSame (scene.SetupScriptStarted e) (kind.SetupScriptStarted stress index total id program args) =
+    (stress ≡ e.stress_index) × (index ≡ e.index) × (total ≡ e.total) × IsOfScript e.script id program args
+SaysSame (scene.SetupScriptSlow e) (kind.SetupScriptSlow stress id program args elapsed will_terminate) =
+    (stress ≡ e.stress_index) × IsOfScript e.script id program args × (elapsed ≡ e.elapsed) × (will_terminate ≡ e.will_terminate)
+SaysSame (scene.SetupScriptFinished e) (kind.SetupScriptFinished stress id program args status) =
+    (stress ≡ e.stress_index) × IsOfScript e.script id program args × (status ≡ script_status e.attempt)
+SaysSame (scene.TestStarted e) (kind.TestStarted stress test stats command) =
+    (stress ≡ e.test.stress_index) × HasNames e.test test × (stats ≡ e.current_stats) × (command ≡ e.command_line)
+SaysSame (scene.TestSlow e) (kind.TestSlow stress test retry_data elapsed will_terminate) =
+    (stress ≡ e.test.stress_index) × HasNames e.test test × (retry_data ≡ e.retry_data) × (elapsed ≡ e.elapsed) × (will_terminate ≡ e.will_terminate)
+SaysSame (scene.TestAttemptFailedWillRetry e) (kind.TestAttemptFailedWillRetry stress test status delay failure) =
+    (stress ≡ e.test.stress_index) × HasNames e.test test × (status ≡ e.attempt) × (delay ≡ e.delay_before_next_attempt) × (failure ≡ e.failure_output)
+SaysSame (scene.TestRetryStarted e) (kind.TestRetryStarted stress test retry_data command) =
+    (stress ≡ e.test.stress_index) × HasNames e.test test × (retry_data ≡ e.retry_data) × (command ≡ e.command_line)
+SaysSame (scene.TestFinished e) (kind.TestFinished stress test success failure statuses stats) =
+    (stress ≡ e.test.stress_index) × HasNames e.test test
+    × (success ≡ e.success_output) × (failure ≡ e.failure_output)
+    × (statuses ≡ e.attempts) × (stats ≡ e.current_stats)
+SaysSame (scene.TestSkipped e) (kind.TestSkipped stress test) = (stress ≡ e.stress_index) × HasNames e test
+SaysSame (scene.RunBeginCancel e) (kind.RunBeginCancel scripts stats running) =
+    (scripts ≡ e.setup_scripts_running) × (running ≡ e.running) × (stats ≡ nothing_counted e.reason)
+SaysSame (scene.RunBeginKill e) (kind.RunBeginKill scripts stats running) =
+    (scripts ≡ e.setup_scripts_running) × (running ≡ e.running) × (stats ≡ nothing_counted e.reason)
+SaysSame (scene.RunPaused e) (kind.RunPaused scripts running) = (scripts ≡ e.setup_scripts_running) × (running ≡ e.running)
+SaysSame (scene.RunContinued e) (kind.RunContinued scripts running) = (scripts ≡ e.setup_scripts_running) × (running ≡ e.running)
+SaysSame (scene.InputEnter e) (kind.InputEnter stats running) = (stats ≡ e.current_stats) × (running ≡ e.running)
+SaysSame (scene.StressSubRunFinished e) (kind.StressSubRunFinished progress elapsed stats) =
+    (progress ≡ e.progress) × (elapsed ≡ e.sub_elapsed) × (stats ≡ e.sub_stats)
+SaysSame (scene.RunFinished e) (kind.RunFinished elapsed run_stats outstanding) =
+    (elapsed ≡ e.elapsed) × (run_stats ≡ e.run_stats) × (outstanding ≡ e.outstanding_not_seen)
 SaysSame event other = ⊥
 
--- a call of a reporter that is an event of a scene. Only the end of a run says how long it took
+-- how long the run had taken when this happened, which a scene says only where the state of the run was asked for
+abbrev pub told_elapsed : SceneEvent → ℕ
+told_elapsed (scene.InputEnter e) = e.elapsed.0
+told_elapsed other = 0
+
+-- a reporter's header says what a scene's does
+abbrev pub SaysSameRun : SceneHeader → ReplayHeader → Type 0
+SaysSameRun header replay =
+    (replay.run_id ≡ header.run_id) × (replay.unique_prefix ≡ header.unique_prefix)
+    × (moment_of replay.started_at ≡ header.started_at) × (replay.status ≡ header.status)
+
+-- a call of a reporter that is what a scene asks for
 abbrev pub IsCallOf : SceneEvent → ReportCall → Type 0
-IsCallOf event (Event e) = (e.elapsed.0 ≡ 0) × SaysSame event e.kind
-IsCallOf event call = ⊥
+IsCallOf event (call.Event e) = (e.elapsed.0 ≡ told_elapsed event) × SaysSame event e.kind
+IsCallOf (scene.Prefix prefix) (call.Prefix p) = p ≡ prefix
+IsCallOf (scene.Header header) (call.Header h) = SaysSameRun header h
+IsCallOf event other = ⊥
 
 -- the list has one call more, which is the event
 pub record AddsCallOf (event : SceneEvent) (old new : List ReportCall) : Type 0 where

@@ -1,7 +1,8 @@
 -- From the text of a scene to the bytes of its report.
 use Rattle.std.specs.Prelude.{◌≡◌, ℕ, List, Option, Ok, Err}
 use Rattle.report.specs.Reports.{PrintsBeginning, PrintsReport}
-use Rattle.report.specs.SceneTexts.{IsJudged, text_told, told}
+use Rattle.report.specs.Judged.{IsJudged}
+use Rattle.report.specs.SceneTexts.{text_told, told}
 use Rattle.report.specs.declared.fault.Fault.{Fault}
 use Rattle.report.specs.declared.scene.Scene.{Scene}
 use Rattle.report.specs.declared.words.Options.{Options}
@@ -19,6 +20,6 @@ pub record BeginsRun (options : Options) (text : List ℕ) (old new : Option (Li
   pub begun : PrintsBeginning options scene old new
 
 -- the fault is the text's own, or that it was not read whole, and nothing was written
-pub record IsRejected {W : Type 0} (text : List ℕ) (fault : Fault) (old new : W) : Type 0 where
-  pub judged : IsJudged (Err fault) (text_told text)
+pub record IsRejected {W : Type 0} (options : Options) (text : List ℕ) (fault : Fault) (old new : W) : Type 0 where
+  pub judged : IsJudged options (Err fault) text
   pub untouched : new ≡ old

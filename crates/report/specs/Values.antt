@@ -1,5 +1,6 @@
 -- What single fields of a scene say.
-use Rattle.std.specs.Prelude.{ℕ, zero, suc, List, [], ◌∷◌, Bool, true, false, if◌then◌else◌, ◌==◌, Option, None, Some, codes, bytes_eq}
+use Rattle.std.specs.Prelude.{ℕ, zero, suc, List, [], ◌∷◌, Bool, true, false, if◌then◌else◌, Option, None, Some, codes, bytes_eq}
+use Rattle.std.specs.Option.{option_map}
 use Rattle.std.specs.declared.num.NonZeroU32.{NonZeroU32}
 use native.Mathlib.Nat.{zero-lt-suc}
 use Rattle.run_model.specs.Displays.{display_name}
@@ -28,14 +29,6 @@ of_word word (v ∷ vs) t = if bytes_eq t (word v) then Some v else of_word word
 abbrev pub absent_in : List ℕ → Option (Unit {0})
 absent_in t = if bytes_eq t (codes "-") then Some tt else None
 
--- the count of something that is not there
-abbrev pub zero_of : Option ℕ → Option (Unit {0})
-zero_of None = None
-zero_of (Some n) = if n == 0 then Some tt else None
-
-abbrev pub zero_in : List ℕ → Option (Unit {0})
-zero_in t = zero_of (number_in 64 t)
-
 abbrev pub config_key_word : ConfigKey → List ℕ
 config_key_word key.Final = codes "final"
 config_key_word key.Runs = codes "runs"
@@ -43,12 +36,13 @@ config_key_word key.Bench = codes "bench"
 config_key_word key.Success = codes "success"
 config_key_word key.Failure = codes "failure"
 config_key_word key.NoCapture = codes "nocapture"
+config_key_word key.Verbose = codes "verbose"
 config_key_word key.NoIndent = codes "noindent"
 config_key_word key.Unicode = codes "unicode"
 config_key_word key.Empty = codes "empty"
 
 abbrev pub config_key_in : List ℕ → Option ConfigKey
-config_key_in t = of_word config_key_word (key.Final ∷ key.Runs ∷ key.Bench ∷ key.Success ∷ key.Failure ∷ key.NoCapture ∷ key.NoIndent ∷ key.Unicode ∷ key.Empty ∷ []) t
+config_key_in t = of_word config_key_word (key.Final ∷ key.Runs ∷ key.Bench ∷ key.Success ∷ key.Failure ∷ key.NoCapture ∷ key.Verbose ∷ key.NoIndent ∷ key.Unicode ∷ key.Empty ∷ []) t
 
 abbrev pub flag_word : Bool → List ℕ
 flag_word false = codes "0"
@@ -101,6 +95,10 @@ abbrev pub reason_in : List ℕ → Option CancelReason
 reason_in t =
     of_word reason_word (reason.SetupScriptFailure ∷ reason.TestFailure ∷ reason.ReportError ∷ reason.GlobalTimeout
     ∷ reason.TestFailureImmediate ∷ reason.Signal ∷ reason.Interrupt ∷ reason.SecondSignal ∷ []) t
+
+-- a reason, or `-`
+abbrev pub reason_or_none_in : List ℕ → Option (Option CancelReason)
+reason_or_none_in t = if bytes_eq t (codes "-") then Some None else option_map (λ reason. Some reason) (reason_in t)
 
 -- the number, unless it is 0
 abbrev pub non_zero : ℕ → Option NonZeroU32

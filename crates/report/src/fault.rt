@@ -21,6 +21,8 @@ pub enum LineFault {
     ConfigAfterEvent,
     /// It has too few fields or too many.
     WrongNumberOfFields,
+    /// It says that another attempt follows one that succeeded.
+    RetriedSuccess,
     /// This field, from 1 for the event's name, is not what its event takes there. It is the first such field.
     BadField(usize),
 }
@@ -34,6 +36,7 @@ impl fmt::Display for LineFault {
             LineFault::UnknownEvent => f.write_str("unknown event"),
             LineFault::ConfigAfterEvent => f.write_str("config after an event"),
             LineFault::WrongNumberOfFields => f.write_str("wrong number of fields"),
+            LineFault::RetriedSuccess => f.write_str("a retried attempt succeeded"),
             LineFault::BadField(field) => write!(f, "bad field {field}"),
         }
     }

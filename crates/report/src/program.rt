@@ -1,19 +1,24 @@
 //! What the program does with a scene, over any reader and any writer.
 
-ghost use Rattle.std.specs.Prelude.{◌≡◌, ◌⊎◌, ℕ, List, Some, IfOk, IfErr, OnErr, OnOk};
+ghost use Rattle.std.specs.Prelude.{◌≡◌, ◌⊎◌, ℕ, List, None, Some, IfOk, IfErr, OnErr, OnOk};
 ghost use Rattle.report.specs.Split.{parted};
 ghost use Rattle.report.specs.Faults.{IsJudgeFault, status_of};
-ghost use Rattle.report.specs.Reports.{AcceptsReport, PrintsBeginning, PrintsReport, IsRefused, StopsReport, builder_for, fault_for, kind_for, progress_for};
-ghost use Rattle.report.specs.SceneTexts.{AllTell, IsJudged, IsJudgedFault, nothing_told, text_told, told};
+ghost use Rattle.console_reporter.specs.Accepted.{first_refused};
+ghost use Rattle.report.specs.Judged.{IsJudged, IsJudgedFault, IsRefusedCall, IsSceneAccepted, IsSceneRefused, decider_for};
+ghost use Rattle.report.specs.Reports.{AcceptsReport, AreCallsOf, PrintsBeginning, PrintsReport, IsRefused, StopsReport, builder_for, fault_for, kind_for, progress_for};
+ghost use Rattle.report.specs.SceneTexts.{AllTell, IsRead, IsReadFault, event_lines, nothing_told, text_told, told};
 ghost use Rattle.report.specs.SpelledRuns.{BeginsRun, IsRejected, PrintsRun};
 ghost use Rattle.report.specs.declared.fault.Fault.{Fault};
 
-use crate::fault::Fault;
+use crate::fault::{Fault, LineFault};
 use crate::reader::read_scene;
 use crate::scene::Scene;
 use crate::words::Options;
 use console_reporter::config::{DisplayConfig, ShowProgress};
-use console_reporter::imp::{DisplayReporterBuilder, DisplayerKind, WriteEventError, run_report};
+use console_reporter::imp::{
+    DisplayReporterBuilder, DisplayerKind, OutputLoadDecider, ReportCall, WriteEventError,
+    first_refused, run_report,
+};
 use console_reporter::write_str::{TextBuffer, WriteStr};
 use run_model::config::{CompiledDefaultFilter, CompiledDefaultFilterSection};
 use run_model::name::ProfileName;
@@ -21,8 +26,9 @@ use std::alloc::{AllocError, Global};
 use std::io::{ErrorKind, Read, Write};
 use std::mem::ManuallyDrop;
 
-/// Reads a scene to its end, and judges it whole. It answers the fault of the first line that has one, that the file
-/// cannot be read, or that memory is refused.
+/// Reads a scene to its end, and judges it whole: each line by itself, and then whether its reporter would refuse an event.
+/// It answers the fault of the first line that has one, the line of the first event that is refused, that the file cannot be
+/// read, or that memory is refused.
 pub fn judge<'a, R: Read + Drop>(
     alloc: Global,
     options: &Options<'a>,
@@ -31,18 +37,19 @@ pub fn judge<'a, R: Read + Drop>(
     ensures fault { IfErr result (IsJudgeFault options.now.file.now) }
     // Where the reader's bytes are known, the same as of reading them, or the file cannot be read.
     ensures scene { (bytes : List ℕ) → R.remaining reader ≡ Some bytes → IfOk result (λ scene. AllTell nothing_told (parted 10 bytes) (told scene)) }
-    ensures first_fault { (bytes : List ℕ) → R.remaining reader ≡ Some bytes → IfErr result (IsJudgedFault bytes) }
-    ensures answer { (bytes : List ℕ) → R.remaining reader ≡ Some bytes → IsJudged result (text_told bytes) }
+    ensures first_fault { (bytes : List ℕ) → R.remaining reader ≡ Some bytes → IfErr result (IsJudgedFault options.now bytes) }
+    ensures answer { (bytes : List ℕ) → R.remaining reader ≡ Some bytes → IsJudged options.now result bytes }
+    // No event of the scene is refused.
+    ensures accepted { IfOk result (IsSceneAccepted options.now) }
 {
-    let mut reader = reader;
-    let mut text = Vec::new(alloc);
-    if let Err(e) = reader.read_to_end(&mut text) {
-        return Err(match e.kind() {
-            ErrorKind::OutOfMemory => Fault::OutOfMemory,
-            _ => Fault::CannotRead { file: options.file },
-        });
+    let scene = read_whole(alloc, options, reader)?;
+    let calls = scene.calls(alloc, options)?;
+    match judge_calls(alloc, options, &scene, calls.as_slice()) {
+        Ok(()) => {}
+        Err(fault) => return Err(fault),
     }
-    read_scene(alloc, text.as_slice())
+    drop(calls);
+    Ok(scene)
 }
 
 /// Reads a scene to its end and writes its report to a device, which it gives back: the whole way from a file's bytes to
@@ -57,12 +64,98 @@ pub fn report_scene<'a, R: Read + Drop, W: Write>(
 ) -> (Result<(), Fault<'a>>, W)
     ensures ok { (text : List ℕ) → R.remaining reader ≡ Some text → OnOk result.0 (PrintsRun options.now text (W.contents writer) (W.contents result.1)) }
     ensures err { (text : List ℕ) → R.remaining reader ≡ Some text →
-        IfErr result.0 (λ fault. IsRejected text fault writer result.1 ⊎ BeginsRun options.now text (W.contents writer) (W.contents result.1)) }
+        IfErr result.0 (λ fault. IsRejected options.now text fault writer result.1 ⊎ BeginsRun options.now text (W.contents writer) (W.contents result.1)) }
 {
-    match judge(alloc, options, reader) {
-        Ok(scene) => write_and_return(alloc, options, &ManuallyDrop::new(scene), writer),
+    match read_whole(alloc, options, reader) {
+        Ok(scene) => report_read(alloc, options, &ManuallyDrop::new(scene), writer),
         Err(fault) => (Err(fault), writer),
     }
+}
+
+// Reads a scene to its end.
+fn read_whole<'a, R: Read + Drop>(
+    alloc: Global,
+    options: &Options<'a>,
+    reader: R,
+) -> Result<Scene, Fault<'a>>
+    ensures fault { IfErr result (IsJudgeFault options.now.file.now) }
+    ensures scene { (bytes : List ℕ) → R.remaining reader ≡ Some bytes → IfOk result (λ scene. AllTell nothing_told (parted 10 bytes) (told scene)) }
+    ensures lines { (bytes : List ℕ) → R.remaining reader ≡ Some bytes → IfOk result (λ scene. scene.lines.items ≡ event_lines 1 nothing_told (parted 10 bytes)) }
+    ensures first_fault { (bytes : List ℕ) → R.remaining reader ≡ Some bytes → IfErr result (IsReadFault bytes) }
+    ensures answer { (bytes : List ℕ) → R.remaining reader ≡ Some bytes → IsRead result (text_told bytes) }
+{
+    let mut reader = reader;
+    let mut text = Vec::new(alloc);
+    if let Err(e) = reader.read_to_end(&mut text) {
+        return Err(match e.kind() {
+            ErrorKind::OutOfMemory => Fault::OutOfMemory,
+            _ => Fault::CannotRead { file: options.file },
+        });
+    }
+    read_scene(alloc, text.as_slice())
+}
+
+// Judges the calls of a scene that was read, and writes its report where none is refused.
+fn report_read<W: Write>(
+    alloc: Global,
+    options: &Options<'_>,
+    scene: &Scene,
+    writer: W,
+) -> (Result<(), Fault<'static>>, W)
+    ensures ok { OnOk result.0 (PrintsReport options.now scene.now (W.contents writer) (W.contents result.1)) }
+    ensures err { IfErr result.0 (λ fault. (IsSceneRefused options.now scene.now fault × (result.1 ≡ writer)) ⊎ PrintsBeginning options.now scene.now (W.contents writer) (W.contents result.1)) }
+{
+    let calls = match scene.calls(alloc, options) {
+        Ok(calls) => calls,
+        Err(fault) => return (Err(fault), writer),
+    };
+    match judge_calls(alloc, options, scene, calls.as_slice()) {
+        Ok(()) => write_calls(alloc, options, scene, calls.as_slice(), writer),
+        Err(fault) => (Err(fault), writer),
+    }
+}
+
+// Judges the calls of a scene: the first that its reporter would refuse is the fault of its line.
+fn judge_calls(
+    alloc: Global,
+    options: &Options<'_>,
+    scene: &Scene,
+    calls: &[ReportCall<'_>],
+) -> Result<(), Fault<'static>>
+    ensures ok { OnOk result (first_refused (decider_for options.now scene.now) calls.now ≡ None) }
+    ensures err { IfErr result (IsRefusedCall options.now scene.now calls.now) }
+{
+    let decider = decider_of(alloc, options, scene)?;
+    match first_refused(&decider, calls) {
+        None => Ok(()),
+        Some(place) => Err(Fault::Line {
+            line: scene.line_of(place),
+            fault: LineFault::RetriedSuccess,
+        }),
+    }
+}
+
+// What decides which events the scene's reporter refuses. The reporter that is asked writes nothing.
+fn decider_of(
+    alloc: Global,
+    options: &Options<'_>,
+    scene: &Scene,
+) -> Result<OutputLoadDecider, Fault<'static>>
+    ensures ok { IfOk result (λ decider. decider ≡ decider_for options.now scene.now) }
+    ensures err { IfErr result (λ fault. fault ≡ Fault.OutOfMemory) }
+{
+    let builder = builder_of(alloc, options, scene)?;
+    let mut unwritten = String::new(alloc);
+    let (is_terminal, is_ci) = (false, false);
+    let reporter = builder.build(
+        alloc,
+        &mut unwritten,
+        scene.config.use_unicode,
+        is_terminal,
+        is_ci,
+        scene.config.display_empty_outputs,
+    );
+    Ok(reporter.output_load_decider())
 }
 
 /// Writes the report of a scene to a device. On a fault a beginning of it was written.
@@ -91,29 +184,49 @@ pub fn write_and_return<W: Write>(
     ensures err { OnErr result.0 (PrintsBeginning options.now scene.now (W.contents writer) (W.contents result.1)) }
     ensures status { IfErr result.0 (λ fault. status_of fault ≡ 3) }
 {
+    match scene.calls(alloc, options) {
+        Ok(calls) => write_calls(alloc, options, scene, calls.as_slice(), writer),
+        Err(fault) => (Err(fault), writer),
+    }
+}
+
+// Writes the report of a scene's calls to a device, and gives the device back.
+fn write_calls<'c, W: Write>(
+    alloc: Global,
+    options: &Options<'_>,
+    scene: &Scene,
+    calls: &'c [ReportCall<'c>],
+    writer: W,
+) -> (Result<(), Fault<'static>>, W)
+    requires { AreCallsOf scene.now calls.now }
+    ensures ok { OnOk result.0 (PrintsReport options.now scene.now (W.contents writer) (W.contents result.1)) }
+    ensures err { OnErr result.0 (PrintsBeginning options.now scene.now (W.contents writer) (W.contents result.1)) }
+    ensures status { IfErr result.0 (λ fault. status_of fault ≡ 3) }
+{
     let mut out = match TextBuffer::new(alloc, writer) {
         Ok(out) => out,
         Err((AllocError, writer)) => return (Err(Fault::OutOfMemory), writer),
     };
-    let outcome = report_to(alloc, options, scene, &mut out);
+    let outcome = report_to(alloc, options, scene, calls, &mut out);
     let (writer, _pending) = out.into_inner();
     (outcome, writer)
 }
 
-/// Writes the report of a scene, and delivers it. On a fault the writer has accepted a beginning of the report, which is
-/// the empty one where memory is refused for the scene's calls.
-pub fn report_to<W: WriteStr>(
+// Writes the report of a scene's calls, and delivers it. On a fault the writer has accepted a beginning of the report, which
+// is the empty one where memory is refused for the reporter.
+fn report_to<'c, W: WriteStr>(
     alloc: Global,
     options: &Options<'_>,
     scene: &Scene,
+    calls: &'c [ReportCall<'c>],
     writer: &mut W,
 ) -> Result<(), Fault<'static>>
+    requires { AreCallsOf scene.now calls.now }
     ensures ok { OnOk result (AcceptsReport W.meaning options.now scene.now writer.old writer.new) }
     ensures delivered { OnOk result (W.meaning.is_delivered writer.new) }
     ensures err { IfErr result (λ fault. IsRefused writer.old fault writer.new ⊎ StopsReport W.meaning options.now scene.now writer.old fault writer.new) }
     ensures status { IfErr result (λ fault. status_of fault ≡ 3) }
 {
-    let calls = scene.calls(alloc, options)?;
     let builder = builder_of(alloc, options, scene)?;
     let (is_terminal, is_ci) = (false, false);
     match run_report(
@@ -124,7 +237,7 @@ pub fn report_to<W: WriteStr>(
         is_terminal,
         is_ci,
         scene.config.display_empty_outputs,
-        calls.as_slice(),
+        calls,
     ) {
         Ok(()) => Ok(()),
         Err(stopped) => Err(fault_of(stopped.fault)),
@@ -156,7 +269,7 @@ fn builder_of(
         success_output: scene.config.success_output,
         failure_output: scene.config.failure_output,
         should_colorize: options.should_colorize,
-        verbose: false,
+        verbose: scene.config.verbose,
         no_output_indent: scene.config.no_output_indent,
         displayer_kind: kind_for(options),
     })
@@ -184,12 +297,13 @@ fn kind_for(options: &Options<'_>) -> DisplayerKind
     }
 }
 
-// The program's fault where its report stopped.
+// The program's fault where its report stopped. A scene that was judged has no event that is refused.
 fn fault_of(error: WriteEventError) -> Fault<'static>
     ensures { result ≡ fault_for error }
 {
     match error {
-        WriteEventError::Io | WriteEventError::Failed => Fault::WriteFailed,
+        WriteEventError::RetriedSuccess | WriteEventError::Io | WriteEventError::Failed =>
+            Fault::WriteFailed,
         WriteEventError::Memory => Fault::OutOfMemory,
     }
 }

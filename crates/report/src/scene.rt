@@ -1,23 +1,22 @@
 //! A run as a scene holds it, with names of its own.
 
-ghost use Rattle.std.specs.Prelude.{◌≡◌, IfOk, IfErr, OnOk};
+ghost use Rattle.std.specs.Prelude.{◌≡◌, IfOk, IfErr};
 
 pub mod attempts;
+pub mod event;
+pub mod replay_calls;
+pub mod run_events;
+pub mod script_events;
+pub mod stress_events;
+pub mod test_events;
 
 use crate::fault::Fault;
 use crate::words::Options;
-use attempts::SceneAttempts;
 use console_reporter::imp::ReportCall;
+use event::SceneEvent;
 use run_model::config::{NextestRunMode, TestOutputDisplay};
-use run_model::event::{TestCounts, TestEvent, TestEventKind};
 use run_model::level::FinalStatusLevel;
-use run_model::memory::OutOfMemory;
-use run_model::name::{ProfileName, RustBinaryId, TestCaseName, TestInstanceId};
-use run_model::stats::{RunFinishedStats, RunStats};
-use run_model::stress::StressIndex;
-use run_model::time::Nanos;
 use std::alloc::Global;
-use uuid::Uuid;
 
 /// A run: how it is reported, and its events in order.
 #[derive(Debug, Drop)]
@@ -26,6 +25,8 @@ pub struct Scene {
     pub config: SceneConfig,
     /// Its events.
     pub events: Vec<SceneEvent>,
+    /// The line of each event, from 1.
+    pub lines: Vec<u64>,
 }
 
 /// How a run is reported.
@@ -43,6 +44,8 @@ pub struct SceneConfig {
     pub failure_output: Option<TestOutputDisplay>,
     /// Whether tests write to the terminal themselves, so that nothing is captured.
     pub no_capture: bool,
+    /// Whether a test that starts is shown by its command.
+    pub verbose: bool,
     /// Whether output stands without indentation.
     pub no_output_indent: bool,
     /// Whether the report has characters beyond ASCII.
@@ -65,6 +68,7 @@ impl SceneConfig {
             success_output: None,
             failure_output: None,
             no_capture: false,
+            verbose: false,
             no_output_indent: false,
             use_unicode: false,
             display_empty_outputs: false,
@@ -72,47 +76,20 @@ impl SceneConfig {
     }
 }
 
-/// An event of a run.
-#[derive(Debug, Drop)]
-pub enum SceneEvent {
-    /// The run has started.
-    RunStarted {
-        /// The run's id.
-        run_id: Uuid,
-        /// The profile's name.
-        profile_name: ProfileName,
-        /// How many tests and binaries it has.
-        test_list: TestCounts,
-    },
-    /// A test has finished.
-    TestFinished {
-        /// Which iteration of a stress run it belongs to.
-        stress_index: Option<StressIndex>,
-        /// The binary's id.
-        binary_id: RustBinaryId,
-        /// The test's name.
-        test_name: TestCaseName,
-        /// When its output is to be shown if it succeeded.
-        success_output: TestOutputDisplay,
-        /// When its output is to be shown if it failed.
-        failure_output: TestOutputDisplay,
-        /// Its attempts.
-        attempts: SceneAttempts,
-        /// The counts of the run, this test among them.
-        current_stats: RunStats,
-    },
-    /// The run has finished.
-    RunFinished {
-        /// How long it took.
-        elapsed: Nanos,
-        /// Its counts.
-        run_stats: RunStats,
-    },
-}
-
 impl Scene {
     ghost use Rattle.std.specs.List.{AllZip};
+    ghost use Rattle.std.specs.Prelude.{get_or};
     ghost use Rattle.report.specs.Scenes.{IsCallOf};
+
+    /// The line of the event at this place, from 1; 0 where there is no such event.
+    pub fn line_of(&self, place: usize) -> u64
+        ensures { result ≡ get_or self.now.lines.items place 0 }
+    {
+        match self.lines.get(place) {
+            Some(line) => *line,
+            None => 0,
+        }
+    }
 
     /// The calls that the scene makes of a reporter, in order. They borrow its names. No option changes them yet.
     pub fn calls(
@@ -129,69 +106,4 @@ impl Scene {
         }
         Ok(calls)
     }
-}
-
-impl SceneEvent {
-    ghost use Rattle.report.specs.Scenes.{AddsCallOf};
-
-    // Adds the event as a reporter takes it, which is made where it stands: it is large.
-    fn push_call<'a>(
-        &'a self,
-        alloc: Global,
-        calls: &mut Vec<ReportCall<'a>>,
-    ) -> Result<(), OutOfMemory>
-        ensures { OnOk result (AddsCallOf self.now calls.old.items calls.new.items) }
-    {
-        match self {
-            SceneEvent::RunStarted {
-                run_id,
-                profile_name,
-                test_list,
-            } => calls.push(call_of(TestEventKind::RunStarted {
-                test_list: *test_list,
-                run_id: *run_id,
-                profile_name: ProfileName::new(alloc, profile_name.as_str())?,
-            }))?,
-            SceneEvent::TestFinished {
-                stress_index,
-                binary_id,
-                test_name,
-                success_output,
-                failure_output,
-                attempts,
-                current_stats,
-            } => {
-                let run_statuses = attempts.statuses(alloc)?;
-                calls.push(call_of(TestEventKind::TestFinished {
-                    stress_index: *stress_index,
-                    test_instance: TestInstanceId {
-                        binary_id,
-                        test_name,
-                    },
-                    success_output: *success_output,
-                    failure_output: *failure_output,
-                    run_statuses,
-                    current_stats: *current_stats,
-                }))?;
-            }
-            SceneEvent::RunFinished { elapsed, run_stats } => calls.push(call_of(
-                TestEventKind::RunFinished {
-                    elapsed: *elapsed,
-                    run_stats: RunFinishedStats::Single(*run_stats),
-                },
-            ))?,
-        }
-        Ok(())
-    }
-}
-
-// The call of an event. A scene says how long a run took only where it ends.
-#[inline(always)]
-fn call_of(kind: TestEventKind<'_>) -> ReportCall<'_>
-    ensures { result ≡ ReportCall.Event (record { elapsed = record { 0 = 0 }; kind = kind.entry }) }
-{
-    ReportCall::Event(TestEvent {
-        elapsed: Nanos(0),
-        kind,
-    })
 }

@@ -11,6 +11,9 @@ use std::io::{ErrorKind, Read, Write};
 use std::test::Fail;
 
 mod attempts;
+mod event_lines;
+mod replay_lines;
+mod script_lines;
 
 const RUN: &str = "run\t00000000-0000-4000-8000-000000000001\tdefault\t2\t1\t-";
 
@@ -402,14 +405,15 @@ fn reads_the_configuration(rt: HostRuntime) -> Result<(), Fail> {
         assert_eq!(rt; refused(alloc, line, 3, &good)?, None);
         assert_eq!(rt; taken(alloc, line, 3, &["", "-", "Final"])?, None);
     }
-    let keys = ["nocapture", "noindent", "unicode", "empty"];
+    let keys = ["nocapture", "verbose", "noindent", "unicode", "empty"];
     assert_eq!(rt; refused(alloc, "config\t\t1", 2, &keys)?, None);
     assert_eq!(rt;
-        taken(alloc, "config\t\t1", 2, &["verbose", "NoCapture"])?,
+        taken(alloc, "config\t\t1", 2, &["Verbose", "NoCapture"])?,
         None
     );
     for line in [
         "config\tnocapture\t",
+        "config\tverbose\t",
         "config\tnoindent\t",
         "config\tempty\t",
     ] {

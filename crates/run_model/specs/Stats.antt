@@ -1,5 +1,5 @@
 -- What the statistics of a run come to.
-use Rattle.std.specs.Prelude.{◌-◌, Bool, Option, None, Some, ◌||◌, ◌==◌, nat_lt, if◌then◌else◌}
+use Rattle.std.specs.Prelude.{ℕ, ◌-◌, Bool, Option, None, Some, ◌||◌, ◌==◌, nat_lt, if◌then◌else◌}
 use Rattle.run_model.specs.declared.level.CancelReason.{CancelReason}
 use Rattle.run_model.specs.declared.stats.RunStats.{RunStats}
 use Rattle.run_model.specs.declared.stats.RunStatsFailureKind.{RunStatsFailureKind}
@@ -7,7 +7,10 @@ use Rattle.run_model.specs.declared.stats.RunStatsFailureKind.TheVariants.{Setup
 use Rattle.run_model.specs.declared.stats.FinalRunStats.{FinalRunStats}
 use Rattle.run_model.specs.declared.stats.FinalRunStats.TheVariants.{Success, NoTestsRun, Cancelled, Failed}
 use Rattle.run_model.specs.declared.stats.RunFinishedStats.{RunFinishedStats}
-use Rattle.run_model.specs.declared.stats.RunFinishedStats.TheVariants.{Single}
+use Rattle.run_model.specs.declared.stats.RunFinishedStats.TheVariants.{Single, Stress}
+use Rattle.run_model.specs.declared.stats.StressFinalRunStats.{StressFinalRunStats}
+use Rattle.run_model.specs.declared.stats.StressFinalRunStats.TheVariants as stress
+use Rattle.run_model.specs.declared.stats.StressRunStats.{StressRunStats}
 
 -- a setup script failed, could not be started or timed out
 abbrev pub has_setup_failures : RunStats → Bool
@@ -39,6 +42,17 @@ stats_under (Some reason) s = Cancelled (Some reason) (failure_kind s)
 abbrev pub final_stats_of : RunStats → FinalRunStats
 final_stats_of s = stats_under s.cancel_reason s
 
--- what the statistics that end a run come to
+-- what a stress run came to: that the last iteration was cancelled stands above a failure of any, and that above all else
+abbrev pub stress_stats_by : FinalRunStats → ℕ → StressFinalRunStats
+stress_stats_by (Cancelled reason kind) failed = stress.Cancelled
+stress_stats_by (Failed kind) failed = if nat_lt 0 failed then stress.Failed else stress.Success
+stress_stats_by NoTestsRun failed = if nat_lt 0 failed then stress.Failed else stress.NoTestsRun
+stress_stats_by Success failed = if nat_lt 0 failed then stress.Failed else stress.Success
+
+abbrev pub stress_stats_of : StressRunStats → StressFinalRunStats
+stress_stats_of s = stress_stats_by s.last_final_stats s.failed_count
+
+-- what the statistics that end a run come to; those of a stress run what its last iteration came to
 abbrev pub final_stats_of_run : RunFinishedStats → FinalRunStats
 final_stats_of_run (Single s) = final_stats_of s
+final_stats_of_run (Stress s) = s.last_final_stats

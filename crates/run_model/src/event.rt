@@ -1,11 +1,14 @@
 //! What happens in a run.
 
+use crate::command::CommandLine;
 use crate::config::TestOutputDisplay;
-use crate::name::{ProfileName, TestInstanceId};
+use crate::info::InfoResponse;
+use crate::name::{ProfileName, ProgramName, ScriptId, TestInstanceId};
+use crate::not_seen::NotSeen;
 use crate::output::LiveSpec;
 use crate::stats::{RunFinishedStats, RunStats};
-use crate::status::ExecutionStatuses;
-use crate::stress::StressIndex;
+use crate::status::{ExecuteStatus, ExecutionStatuses, RetryData, SetupScriptExecuteStatus};
+use crate::stress::{StressIndex, StressProgress};
 use crate::time::Nanos;
 use uuid::Uuid;
 
@@ -30,6 +33,102 @@ pub enum TestEventKind<'a> {
         /// The profile's name.
         profile_name: ProfileName,
     },
+    /// An iteration of a stress run has started.
+    StressSubRunStarted {
+        /// How far the stress run has come.
+        progress: StressProgress,
+    },
+    /// A setup script has started.
+    SetupScriptStarted {
+        /// Which iteration of a stress run it belongs to.
+        stress_index: Option<StressIndex>,
+        /// Its place among the setup scripts, from 0.
+        index: usize,
+        /// How many setup scripts there are.
+        total: usize,
+        /// The script's id.
+        script_id: ScriptId,
+        /// The program that it runs.
+        program: ProgramName,
+        /// The program's arguments.
+        args: CommandLine,
+    },
+    /// A setup script runs longer than it should.
+    SetupScriptSlow {
+        /// Which iteration of a stress run it belongs to.
+        stress_index: Option<StressIndex>,
+        /// The script's id.
+        script_id: ScriptId,
+        /// The program that it runs.
+        program: ProgramName,
+        /// The program's arguments.
+        args: CommandLine,
+        /// How long it has taken.
+        elapsed: Nanos,
+        /// Whether it is ended for it.
+        will_terminate: bool,
+    },
+    /// A setup script has finished.
+    SetupScriptFinished {
+        /// Which iteration of a stress run it belongs to.
+        stress_index: Option<StressIndex>,
+        /// The script's id.
+        script_id: ScriptId,
+        /// The program that it ran.
+        program: ProgramName,
+        /// The program's arguments.
+        args: CommandLine,
+        /// How it ended, and what it wrote.
+        run_status: SetupScriptExecuteStatus<LiveSpec>,
+    },
+    /// A test has started.
+    TestStarted {
+        /// Which iteration of a stress run it belongs to.
+        stress_index: Option<StressIndex>,
+        /// The test.
+        test_instance: TestInstanceId<'a>,
+        /// The counts of the run.
+        current_stats: RunStats,
+        /// The command that runs it.
+        command_line: CommandLine,
+    },
+    /// A test runs longer than it should.
+    TestSlow {
+        /// Which iteration of a stress run it belongs to.
+        stress_index: Option<StressIndex>,
+        /// The test.
+        test_instance: TestInstanceId<'a>,
+        /// Which attempt it is.
+        retry_data: RetryData,
+        /// How long the attempt has taken.
+        elapsed: Nanos,
+        /// Whether the attempt is ended for it.
+        will_terminate: bool,
+    },
+    /// An attempt of a test has failed, and another one follows.
+    TestAttemptFailedWillRetry {
+        /// Which iteration of a stress run it belongs to.
+        stress_index: Option<StressIndex>,
+        /// The test.
+        test_instance: TestInstanceId<'a>,
+        /// The attempt.
+        run_status: ExecuteStatus<LiveSpec>,
+        /// How long the next attempt waits.
+        delay_before_next_attempt: Nanos,
+        /// When its output is to be shown.
+        failure_output: TestOutputDisplay,
+    },
+    /// Another attempt of a test has started.
+    TestRetryStarted {
+        /// Which iteration of a stress run it belongs to.
+        stress_index: Option<StressIndex>,
+        /// The test.
+        test_instance: TestInstanceId<'a>,
+        /// Which attempt it is.
+        retry_data: RetryData,
+        /// The command that runs it.
+        command_line: CommandLine,
+    },
     /// A test has finished.
     TestFinished {
         /// Which iteration of a stress run it belongs to.
@@ -45,12 +144,90 @@ pub enum TestEventKind<'a> {
         /// The counts of the run, this test among them.
         current_stats: RunStats,
     },
+    /// A test is not to run.
+    TestSkipped {
+        /// Which iteration of a stress run it belongs to.
+        stress_index: Option<StressIndex>,
+        /// The test.
+        test_instance: TestInstanceId<'a>,
+    },
+    /// The run is about to be cancelled: what runs is waited for, or ended.
+    RunBeginCancel {
+        /// How many setup scripts run.
+        setup_scripts_running: usize,
+        /// The counts of the run, with the reason.
+        current_stats: RunStats,
+        /// How many tests run.
+        running: usize,
+    },
+    /// The run is about to be killed: what runs is ended at once.
+    RunBeginKill {
+        /// How many setup scripts run.
+        setup_scripts_running: usize,
+        /// The counts of the run, with the reason.
+        current_stats: RunStats,
+        /// How many tests run.
+        running: usize,
+    },
+    /// The run was stopped for a while, by a signal.
+    RunPaused {
+        /// How many setup scripts run.
+        setup_scripts_running: usize,
+        /// How many tests run.
+        running: usize,
+    },
+    /// The run goes on after it was stopped.
+    RunContinued {
+        /// How many setup scripts run.
+        setup_scripts_running: usize,
+        /// How many tests run.
+        running: usize,
+    },
+    /// All units were asked what they are doing.
+    InfoStarted {
+        /// How many units were asked.
+        total: usize,
+        /// The counts of the run.
+        run_stats: RunStats,
+    },
+    /// A unit says what it is doing.
+    InfoResponse {
+        /// The place of its answer, from 0.
+        index: usize,
+        /// How many units were asked.
+        total: usize,
+        /// What it says.
+        response: InfoResponse<'a>,
+    },
+    /// No further answers are waited for.
+    InfoFinished {
+        /// How many units have not answered.
+        missing: usize,
+    },
+    /// The state of the run was asked for, by a key.
+    InputEnter {
+        /// The counts of the run.
+        current_stats: RunStats,
+        /// How many units run.
+        running: usize,
+    },
+    /// An iteration of a stress run has finished.
+    StressSubRunFinished {
+        /// How far the stress run has come.
+        progress: StressProgress,
+        /// How long the iteration took.
+        sub_elapsed: Nanos,
+        /// The counts of the iteration.
+        sub_stats: RunStats,
+    },
     /// The run has finished.
     RunFinished {
         /// How long it took.
         elapsed: Nanos,
         /// What it came to.
         run_stats: RunFinishedStats,
+        /// The tests that a rerun was to see and has not.
+        outstanding_not_seen: Option<NotSeen>,
     },
 }
 

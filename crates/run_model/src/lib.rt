@@ -6,12 +6,16 @@
 
 pub mod abort;
 pub mod boxed;
+pub mod command;
 pub mod config;
 pub mod event;
+pub mod info;
 pub mod level;
 pub mod memory;
 pub mod name;
+pub mod not_seen;
 pub mod output;
+pub mod replay;
 pub mod run_id;
 pub mod stats;
 pub mod status;

@@ -243,6 +243,38 @@ impl ScriptId {
     }
 }
 
+/// The program that a setup script runs, as it was given.
+#[derive(Debug, Drop)]
+pub struct ProgramName {
+    text: String,
+}
+
+impl Model for ProgramName {
+    ghost use Rattle.std.specs.Prelude.{List, ℕ, string_bytes};
+
+    ghost Value = { List ℕ };
+
+    ghost view = { λ program. string_bytes program.text };
+}
+
+impl ProgramName {
+    /// Copies the text.
+    pub fn new(alloc: Global, text: &str) -> Result<Self, OutOfMemory>
+        ensures { IfOk result (λ program. program ≡ text.now) }
+    {
+        Ok(ProgramName {
+            text: String::from_str(alloc, text)?,
+        })
+    }
+
+    /// The text.
+    pub fn as_str(&self) -> &str
+        ensures { result.now ≡ self.now }
+    {
+        self.text.as_str()
+    }
+}
+
 /// A test: its binary's id and its name in it.
 ///
 /// Its order is by the bytes of the id, then by those of the name.

@@ -1,9 +1,13 @@
 //! How many tests of a run passed, failed and so on, and what that makes of the run.
 
 ghost use Rattle.std.specs.Prelude.{◌≡◌};
-ghost use Rattle.run_model.specs.Stats.{has_failures, failure_kind, final_stats_of, final_stats_of_run};
+ghost use Rattle.run_model.specs.Stats.{has_failures, failure_kind, final_stats_of, final_stats_of_run, stress_stats_of};
 
 use crate::level::CancelReason;
+use crate::stress::StressIndex;
+
+#[cfg(test)]
+mod tests;
 
 /// The counts of a run so far.
 #[derive(Clone, Copy, Debug, PartialEq, Eq)]
@@ -131,20 +135,63 @@ pub enum RunStatsFailureKind {
     },
 }
 
+/// The counts of a stress run.
+#[derive(Clone, Copy, Debug, PartialEq, Eq)]
+pub struct StressRunStats {
+    /// How many iterations have finished, and how many there were to be.
+    pub completed: StressIndex,
+    /// Iterations that succeeded.
+    pub success_count: u32,
+    /// Iterations that failed.
+    pub failed_count: u32,
+    /// What the last iteration came to.
+    pub last_final_stats: FinalRunStats,
+}
+
+impl StressRunStats {
+    /// What the stress run came to: cancelled, failed, without tests or a success, the first that holds.
+    pub fn summarize_final(&self) -> StressFinalRunStats
+        ensures { result ≡ stress_stats_of self.now }
+    {
+        match self.last_final_stats {
+            FinalRunStats::Cancelled { .. } => StressFinalRunStats::Cancelled,
+            _ if self.failed_count > 0 => StressFinalRunStats::Failed,
+            FinalRunStats::NoTestsRun => StressFinalRunStats::NoTestsRun,
+            FinalRunStats::Success | FinalRunStats::Failed { .. } => StressFinalRunStats::Success,
+        }
+    }
+}
+
+/// What a stress run came to.
+#[derive(Clone, Copy, Debug, PartialEq, Eq)]
+pub enum StressFinalRunStats {
+    /// No iteration failed.
+    Success,
+    /// There was no test to run.
+    NoTestsRun,
+    /// The last iteration was cancelled, or did not run all its tests.
+    Cancelled,
+    /// An iteration failed.
+    Failed,
+}
+
 /// The statistics that end a run.
 #[derive(Clone, Copy, Debug, PartialEq, Eq)]
 pub enum RunFinishedStats {
     /// Of a single run.
     Single(RunStats),
+    /// Of a stress run.
+    Stress(StressRunStats),
 }
 
 impl RunFinishedStats {
-    /// What the run came to.
+    /// What the run came to; of a stress run what its last iteration came to.
     pub fn final_stats(&self) -> FinalRunStats
         ensures { result ≡ final_stats_of_run self.now }
     {
         match self {
             RunFinishedStats::Single(stats) => stats.summarize_final(),
+            RunFinishedStats::Stress(stats) => stats.last_final_stats,
         }
     }
 }

@@ -191,6 +191,19 @@ impl ExecuteStatus<LiveSpec> {
     }
 }
 
+/// The execution of a setup script.
+#[derive(Debug, Drop)]
+pub struct SetupScriptExecuteStatus<S: OutputSpec> {
+    /// How long it ran.
+    pub time_taken: Nanos,
+    /// How it ended.
+    pub result: ExecutionResultDescription,
+    /// What it wrote.
+    pub output: ChildExecutionOutputDescription<S>,
+    /// Whether it was marked as slow.
+    pub is_slow: bool,
+}
+
 /// What a test counts as that passed after earlier attempts.
 #[derive(Clone, Copy, Debug, PartialEq, Eq)]
 pub enum FlakyResult {

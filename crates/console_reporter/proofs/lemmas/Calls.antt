@@ -1,6 +1,6 @@
 -- Calls in turn (for `DisplayReporter::make_calls`, `DisplayReporter::report_event`, `run_report`, `write_delivered`).
-use Rattle.std.proofs.Common.{◌≡◌, ◌⊎◌, ℕ, ◌+◌, ◌<◌, ◌≤◌, List, [], ◌∷◌, length, reverse, take, get_or, sym, ap, ◌∙◌, subst, append-nil, arith, Result, Ok, Err, IfErr, inl}
-use Rattle.std.specs.Option.{option_map_or}
+use Rattle.std.proofs.Common.{◌≡◌, ◌⊎◌, ℕ, ◌+◌, ◌<◌, ◌≤◌, List, [], ◌∷◌, ◌++◌, length, reverse, take, get_or, sym, ap, ◌∙◌, subst, append-nil, arith, Result, Ok, Err, IfErr, OnOk, None, Some, inl}
+use Rattle.std.specs.Option.{option_and_then, option_map_or}
 use Rattle.std.proofs.lemmas.List.{take_more, take_all, reverse-append}
 use Rattle.std.proofs.lemmas.Option.{slice_get-get_or, slice_get_past}
 use Rattle.report_text.specs.Writer.{Meaning, WriterLaws, Puts, one_further}
@@ -8,7 +8,8 @@ use Rattle.report_text.specs.declared.write_str.WriteFault.{WriteFault}
 use Rattle.console_reporter.specs.declared.imp.faults.WriteEventError.{WriteEventError}
 use Rattle.console_reporter.specs.declared.imp.faults.WriteEventError.TheVariants.{Io, Memory, Failed}
 use Rattle.console_reporter.specs.declared.imp.faults.RunFault.{RunFault}
-use Rattle.console_reporter.specs.Report.{text, text_at, past_at, report, AreAccepted}
+use Rattle.console_reporter.specs.Accepted.{AreAccepted, IsAccepted, refusal, refusal_at}
+use Rattle.console_reporter.specs.Report.{text, text_at, past_at, report}
 use Rattle.console_reporter.specs.Configuration.{Configuration}
 use Rattle.console_reporter.specs.declared.imp.calls.ReportCall.{ReportCall}
 use Rattle.console_reporter.specs.declared.imp.calls.ReportCall.TheVariants.{Event, Prefix}
@@ -17,16 +18,29 @@ use Rattle.console_reporter.specs.Outcomes.{Stops, StopsAfter, error_for}
 use Rattle.console_reporter.specs.Standing.{StandsAfter, MayGrowAt}
 use Rattle.console_reporter.specs.declared.imp.reporter.DisplayReporter.{DisplayReporter}
 
--- no call of these kinds is refused
-pub all_accepted : (config : Configuration) (calls : List ReportCall) → AreAccepted config calls
-all_accepted config [] = tt
-all_accepted config (Event e ∷ calls) = (tt, all_accepted config calls)
-all_accepted config (Prefix p ∷ calls) = (tt, all_accepted config calls)
+-- one call more is accepted
+pub accepted_next : (config : Configuration) (calls : List ReportCall) (call : ReportCall) → AreAccepted config calls → IsAccepted config call → AreAccepted config (calls ++ call ∷ [])
+accepted_next config [] call all one = (one, tt)
+accepted_next config (first ∷ calls) call all one = (all.0, accepted_next config calls call all.1 one)
 
--- nor one before a fault, or at it
-pub accepted_until : (config : Configuration) (calls : List ReportCall) (r : Result (Unit {0}) RunFault) → IfErr r (λ stop. AreAccepted config (take (stop.position + 1) calls))
-accepted_until config calls (Ok x) = tt
-accepted_until config calls (Err stop) = all_accepted config (take (stop.position + 1) calls)
+-- the same of the calls before a place and the one that is read there
+pub accepted_read : (config : Configuration) (calls : List ReportCall) (i : ℕ) (call : ReportCall) → call ≡ get_or calls i call → i < length calls →
+    AreAccepted config (take i calls) → IsAccepted config call → AreAccepted config (take (i + 1) calls)
+accepted_read config calls i call is within all one =
+    subst (AreAccepted config) (sym (take_more calls i call within ∙ ap (λ c. take i calls ++ c ∷ []) (sym is))) (accepted_next config (take i calls) call all one)
+
+-- past the last place all calls are accepted
+pub accepted_to_end : (config : Configuration) (calls : List ReportCall) (i : ℕ) → length calls ≤ i → AreAccepted config (take i calls) → AreAccepted config calls
+accepted_to_end config calls i h all = subst (AreAccepted config) (take_all i calls h) all
+
+-- the refusal of the call that is read at a place, and that past the end
+pub refusal_read : (config : Configuration) (calls : List ReportCall) (i : ℕ) (call : ReportCall) → call ≡ get_or calls i call → i < length calls →
+    refusal_at config calls i ≡ refusal config call
+refusal_read config calls i call is within =
+    ap (λ o. option_and_then (refusal config) o) (slice_get-get_or calls i call within ∙ ap Some (sym is))
+
+pub refusal_past : (config : Configuration) (calls : List ReportCall) (i : ℕ) → length calls ≤ i → refusal_at config calls i ≡ None
+refusal_past config calls i h = ap (λ o. option_and_then (refusal config) o) (slice_get_past calls i h)
 
 -- the past of the next position
 pub past_more : (calls : List ReportCall) (i : ℕ) (d : ReportCall) → i < length calls → past_at calls (i + 1) ≡ get_or calls i d ∷ past_at calls i
@@ -103,3 +117,13 @@ pub refused_from : {W : Type 0} (m : Meaning W) (config : Configuration) (calls 
     ((c : Configuration) → StandsAfter c [] reporter → stop.fault ≡ Memory → m.may_refuse reporter.writer.now ⊎ MayGrowAt c calls stop.position) →
     stop.fault ≡ Memory → m.may_refuse writer ⊎ MayGrowAt config calls stop.position
 refused_from m config calls reporter same stands stop h is = subst (λ w. m.may_refuse w ⊎ MayGrowAt config calls stop.position) same (h config stands is)
+
+-- what holds after a run for each configuration after which its reporter stood holds for this one
+module _ {W : Type 0} (config : Configuration) (reporter : DisplayReporter W) (stands : StandsAfter config [] reporter) where
+  pub ok_here : (P : Configuration → Type 0) (r : Result (Unit {0}) RunFault) → OnOk r ((c : Configuration) → StandsAfter c [] reporter → P c) → OnOk r (P config)
+  ok_here P (Ok done) h = h config stands
+  ok_here P (Err stop) h = tt
+
+  pub err_here : (P : Configuration → RunFault → Type 0) (r : Result (Unit {0}) RunFault) → IfErr r (λ stop. (c : Configuration) → StandsAfter c [] reporter → P c stop) → IfErr r (P config)
+  err_here P (Ok done) h = tt
+  err_here P (Err stop) h = h config stands

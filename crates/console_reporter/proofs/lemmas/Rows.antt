@@ -44,7 +44,10 @@ use Rattle.console_reporter.specs.Entries.{cancel, kept, final_order}
 use Rattle.event_text.specs.FinishedTests.{test_finish}
 use Rattle.console_reporter.specs.Effects.{finished_entry}
 use Rattle.event_text.specs.Finishes.{display_of, finish_row, row_listed, is_final_wanted}
-use Rattle.event_text.specs.RunTexts.{bar_line, run_id_text, id_text, profile_text, run_id_line, test_counts_text, starting_line, run_started_text, initial_count_text, run_counts_text, summary_line, run_finished_text}
+use Rattle.event_text.specs.Bars.{bar_line}
+use Rattle.run_text.specs.RunIds.{id_text, run_id_text}
+use Rattle.run_text.specs.Starts.{profile_text, run_id_line, test_counts_text, starting_line, run_started_text}
+use Rattle.run_text.specs.Summaries.{initial_count_text, run_counts_text, summary_line, run_finished_text}
 use Rattle.event_text.specs.StatusLines.{status_prefix, flaky_failure_line, status_line}
 use Rattle.console_reporter.specs.declared.imp.calls.ReportCall.TheVariants.{Event}
 use Rattle.event_text.specs.declared.finish.FinishRow.TheVariants as row
@@ -71,6 +74,8 @@ settings = record {
     display_empty_outputs = false;
   };
   no_output_indent = false;
+  no_capture = false;
+  verbose = false;
 }
 
 abbrev none_skipped : SkipCounts
@@ -149,7 +154,7 @@ failed_line Intermediate test output code time binary name after = rw (binary, n
 
 -- what a second end of the run finds kept: the same entries
 twice : (event finish : TestEvent) (stress : Option StressIndex) (test : TestInstanceId) (success : TestOutputDisplay) (output : Written) (code : ℤ) (time elapsed : Nanos) →
-    event.kind ≡ TestFinished stress test success Never (failed output code time) stats → finish.kind ≡ RunFinished elapsed (Single stats) →
+    event.kind ≡ TestFinished stress test success Never (failed output code time) stats → finish.kind ≡ RunFinished elapsed (Single stats) None →
     final_order (kept settings (Event finish ∷ Event event ∷ [])) ≡ finished_entry (test_finish settings 0 stress test success Never (failed output code time) stats) ∷ []
 unfolding kept cancel ordered_by put_in display_of finish_row row_listed is_final_wanted
 twice event finish stress test success output code time elapsed is end = rw (is, end) refl

@@ -85,6 +85,8 @@ impl DisplayReporterBuilder {
                 display_empty_outputs,
             ),
             no_output_indent: self.no_output_indent,
+            no_capture: self.display_config.no_capture,
+            verbose: self.verbose,
         }
     }
 }

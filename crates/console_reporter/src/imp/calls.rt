@@ -1,6 +1,7 @@
 //! What a reporter is asked.
 
 use run_model::event::TestEvent;
+use run_model::replay::ReplayHeader;
 use run_model::run_id::ShortestRunIdPrefix;
 
 /// A call of a reporter.
@@ -8,6 +9,8 @@ use run_model::run_id::ShortestRunIdPrefix;
 pub enum ReportCall<'a> {
     /// Writes the text of an event.
     Event(TestEvent<'a>),
+    /// Writes what a replay says before it.
+    Header(ReplayHeader),
     /// Takes the unique prefix of the run's id, which later starts of a run show. It writes nothing.
     Prefix(ShortestRunIdPrefix),
 }

@@ -3,9 +3,9 @@
 ghost use Rattle.std.specs.Prelude.{◌≡◌, max};
 ghost use Rattle.std.specs.Option.{option_map};
 ghost use Rattle.run_model.specs.Levels.{reason_rank};
-ghost use Rattle.event_text.specs.FinishedTests.{finish_of};
-ghost use Rattle.console_reporter.specs.Effects.{effect_of};
+ghost use Rattle.console_reporter.specs.Effects.{effect_of, end_of};
 
+use event_text::instance::CountedInstance;
 use event_text::settings::Settings;
 use event_text::test_finished::FinishedTest;
 use run_model::event::{TestEvent, TestEventKind};
@@ -16,8 +16,17 @@ use run_model::level::CancelReason;
 pub struct EventEffect<'e, 'a> {
     /// The reason that it cancels the run for.
     pub reason: Option<CancelReason>,
-    /// The test that it finishes.
-    pub finished: Option<FinishedTest<'e, 'a>>,
+    /// The test that it ends.
+    pub ended: Option<EndedTest<'e, 'a>>,
+}
+
+/// How a test ended.
+#[derive(Clone, Copy, Debug)]
+pub enum EndedTest<'e, 'a> {
+    /// It finished.
+    Finished(FinishedTest<'e, 'a>),
+    /// It was not to run.
+    Skipped(CountedInstance<'a>),
 }
 
 impl<'e, 'a> EventEffect<'e, 'a> {
@@ -28,11 +37,11 @@ impl<'e, 'a> EventEffect<'e, 'a> {
         event: &'e TestEvent<'a>,
     ) -> EventEffect<'e, 'a>
         ensures reason { reason_rank result.reason ≡ (effect_of event.now.kind).reason }
-        ensures finished { option_map finish_of result.finished ≡ (effect_of event.now.kind).finished settings.now (reason_rank reason) }
+        ensures ended { option_map end_of result.ended ≡ (effect_of event.now.kind).ended settings.now (reason_rank reason) }
     {
         let mut effect = EventEffect {
             reason: None,
-            finished: None,
+            ended: None,
         };
         match &event.kind {
             TestEventKind::TestFinished {
@@ -43,7 +52,7 @@ impl<'e, 'a> EventEffect<'e, 'a> {
                 run_statuses,
                 current_stats,
             } => {
-                effect.finished = Some(FinishedTest::new(
+                effect.ended = Some(EndedTest::Finished(FinishedTest::new(
                     settings,
                     reason,
                     *stress_index,
@@ -52,7 +61,18 @@ impl<'e, 'a> EventEffect<'e, 'a> {
                     *failure_output,
                     run_statuses,
                     current_stats,
-                ));
+                )));
+            }
+            TestEventKind::TestSkipped {
+                stress_index,
+                test_instance,
+            } => {
+                let test = settings.padded_instance(*stress_index, *test_instance);
+                effect.ended = Some(EndedTest::Skipped(test));
+            }
+            TestEventKind::RunBeginCancel { current_stats, .. }
+            | TestEventKind::RunBeginKill { current_stats, .. } => {
+                effect.reason = current_stats.cancel_reason;
             }
             _ => {}
         }

@@ -3,8 +3,14 @@
 use thiserror::Error;
 
 /// Why a call of a reporter failed. What went out before is a beginning of the report.
+///
+/// A call that is refused leaves reporter and writer as they were, and the reporter goes on; after a fault of the writer or
+/// of memory it has failed.
 #[derive(Clone, Copy, Debug, PartialEq, Eq, Error)]
 pub enum WriteEventError {
+    /// The event is refused: another attempt is said to follow one that succeeded. Nothing was written.
+    #[error("a retried attempt succeeded")]
+    RetriedSuccess,
     /// The writer's device failed in this call. A beginning of the call's text was accepted.
     #[error("the report could not be written")]
     Io,

@@ -1,9 +1,9 @@
-//! What is kept of a finished test for the summary.
+//! What is kept of a test for the summary.
 
 ghost use Rattle.std.specs.Prelude.{◌≡◌, IfOk, IsOk, false};
 ghost use Rattle.run_model.specs.Statuses.{is_aborted};
 ghost use Rattle.event_text.specs.FinishedTests.{finish_of};
-ghost use Rattle.console_reporter.specs.Effects.{final_output, finished_entry};
+ghost use Rattle.console_reporter.specs.Effects.{final_output, finished_entry, skipped_entry};
 ghost use Rattle.console_reporter.specs.Entries.{final_level_in};
 ghost use Rattle.event_text.specs.Finishes.{row_at_end};
 
@@ -41,6 +41,8 @@ pub enum FinalOutput {
         /// What its last attempt wrote.
         output: Boxed<ChildExecutionOutputDescription<LiveSpec>>,
     },
+    /// It was not to run, and its line is shown.
+    Skipped,
 }
 
 impl FinalOutput {
@@ -51,6 +53,7 @@ impl FinalOutput {
         match self {
             FinalOutput::Executed { summary } => summary.final_status_level(),
             FinalOutput::ExecutedWithOutput { summary, .. } => summary.final_status_level(),
+            FinalOutput::Skipped => FinalStatusLevel::Skip,
         }
     }
 
@@ -87,5 +90,15 @@ impl<'a> FinalOutputEntry<'a> {
             test: finished.test,
             output: FinalOutput::of_test(alloc, finished)?,
         })
+    }
+
+    /// What the summary shows of a skipped test.
+    pub fn skipped(test: CountedInstance<'a>) -> FinalOutputEntry<'a>
+        ensures { result ≡ skipped_entry test.entry }
+    {
+        FinalOutputEntry {
+            test,
+            output: FinalOutput::Skipped,
+        }
     }
 }

@@ -13,6 +13,7 @@ use event_text::attempt_output::write_test_execute_status;
 use event_text::instance::CountedInstance;
 use event_text::settings::Settings;
 use event_text::status_line::{StatusLine, StatusLineKind, write_status_line};
+use event_text::test_skipped::write_skip_line;
 use report_text::write_str::{WriteFault, WriteStr};
 use run_model::status::StatusSummary;
 use std::alloc::{AllocError, Global};
@@ -84,7 +85,7 @@ pub fn one_final_order()
     ensures only { (kept order : List FinalOutputEntry) → IsFinalOrder kept order → order ≡ final_order kept }
 {}
 
-// Writes an entry: its line, and what the last attempt wrote where that is kept.
+// Writes an entry: its line, and what the last attempt wrote where that is kept; or that the test was skipped.
 #[tactic(auto, unfolding(crate::specs::Entries::final_text))]
 fn write_entry<W: WriteStr>(
     w: &mut W,
@@ -107,6 +108,7 @@ fn write_entry<W: WriteStr>(
                 output.get(),
             )
         }
+        FinalOutput::Skipped => write_skip_line(w, settings, test),
     }
 }
 

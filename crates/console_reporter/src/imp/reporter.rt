@@ -1,35 +1,51 @@
 //! The calls of a reporter, and the run of a list of calls.
 
-ghost use Rattle.std.specs.Prelude.{◌≡◌, ◌≤◌, ◌⊎◌, ◌+◌, List, ℕ, [], ◌∷◌, ◌++◌, OnOk, OnErr, IfErr, IsErrOf, Some, length, max, nat_lt, reverse, slice_get, take, true, false};
+ghost use Rattle.std.specs.Prelude.{◌≡◌, ◌≤◌, ◌⊎◌, ◌+◌, List, ℕ, [], ◌∷◌, ◌++◌, OnOk, OnErr, IfErr, IsErrOf, None, Some, length, max, nat_lt, reverse, slice_get, take, true, false};
 ghost use Rattle.std.specs.List.{flat_map};
 ghost use Rattle.std.specs.Option.{is_some, option_and_then, option_map, option_to_list};
 ghost use Rattle.run_model.specs.Levels.{reason_rank};
 ghost use Rattle.report_text.specs.Writer.{Puts, one_further};
 ghost use Rattle.event_text.specs.FinishedTests.{finish_of};
+ghost use Rattle.run_text.specs.Headers.{replay_header_text};
 ghost use Rattle.console_reporter.specs.declared.imp.calls.ReportCall.{ReportCall};
 ghost use Rattle.console_reporter.specs.declared.imp.faults.WriteEventError.{WriteEventError};
 ghost use Rattle.console_reporter.specs.declared.imp.final_output.FinalOutputEntry.{FinalOutputEntry};
 ghost use Rattle.console_reporter.specs.Configuration.{Configuration, configured, settings_of};
-ghost use Rattle.console_reporter.specs.Effects.{effect_of, is_kept, kept_entry};
+ghost use Rattle.console_reporter.specs.Accepted.{AreAccepted, IsAccepted, decider_of, refusal, refusal_at};
+ghost use Rattle.console_reporter.specs.Effects.{TestEnd, effect_of, end_of, kept_entry};
 ghost use Rattle.console_reporter.specs.Entries.{final_order, hiding_rank};
-ghost use Rattle.console_reporter.specs.Outcomes.{Stops, StopsAfter, IsOfLines, error_for};
-ghost use Rattle.console_reporter.specs.Report.{event_text, finished_text, listed_text, text, texts, report, past_at, text_at, AreAccepted};
+ghost use Rattle.console_reporter.specs.Outcomes.{Stops, StopsAfter, IsOfLines, answered_refusal, error_for, refusal_in};
+ghost use Rattle.console_reporter.specs.Report.{end_of_run_text, event_text, finished_text, listed_text, text, texts, report, past_at, text_at};
+ghost use Rattle.console_reporter.specs.Topics.{is_of_run};
 ghost use Rattle.console_reporter.specs.Standing.{StandsAfter, HasFailed, IsSameWriter, MayGrow, MayGrowAt, MayGrowIn, known_by};
 
 use super::builder::DisplayReporterBuilder;
 use super::calls::ReportCall;
-use super::effect::{EventEffect, greater_reason};
+use super::decider::OutputLoadDecider;
+use super::effect::{EndedTest, EventEffect, greater_reason};
 use super::faults::{RunFault, WriteEventError};
 use super::final_output::FinalOutputEntry;
 use super::kept::KeptEntries;
-use event_text::run_text::{write_run_finished, write_run_started};
+use super::topics::{write_attempt, write_info, write_setup_script, write_start, write_stop};
+use event_text::instance::CountedInstance;
 use event_text::settings::Settings;
 use event_text::test_finished::{FinishedTest, write_test_finished};
+use event_text::test_skipped::write_test_skipped;
 use report_text::write_str::{WriteFault, WriteStr};
 use run_model::event::{TestEvent, TestEventKind};
-use run_model::level::CancelReason;
+use run_model::level::{CancelReason, FinalStatusLevel};
 use run_model::memory::OutOfMemory;
+use run_model::not_seen::NotSeen;
+use run_model::replay::ReplayHeader;
 use run_model::run_id::ShortestRunIdPrefix;
+use run_model::stats::RunFinishedStats;
+use run_model::time::Nanos;
+use run_text::header::write_replay_header;
+use run_text::input::write_input_enter;
+use run_text::not_seen::write_not_seen;
+use run_text::start::write_run_started;
+use run_text::stress::{write_stress_sub_run_finished, write_stress_sub_run_started};
+use run_text::summary::write_run_finished;
 use std::alloc::Global;
 use unit_report::formatters::write_final_warnings;
 
@@ -78,7 +94,14 @@ impl<'a, W: WriteStr> DisplayReporter<'a, W> {
         }
     }
 
-    /// Writes the text of an event, and delivers it.
+    /// What decides by an event's metadata whether this reporter refuses it.
+    pub fn output_load_decider(&self) -> OutputLoadDecider
+        ensures { (config : Configuration) (past : List ReportCall) → StandsAfter config past self.now → result ≡ decider_of config }
+    {
+        OutputLoadDecider::of_settings(&self.state.settings)
+    }
+
+    /// Writes the text of an event, and delivers it. An event that is refused changes nothing.
     ///
     /// ```
     /// let mut reporter = builder.build(alloc, &mut writer, use_unicode, is_terminal, is_ci, false);
@@ -97,11 +120,17 @@ impl<'a, W: WriteStr> DisplayReporter<'a, W> {
             Stops W.meaning self.old.writer.now (text config past (ReportCall.Event event.now)) e self.new.writer.now) }
         ensures io { IsErrOf result WriteEventError.Io → W.meaning.failures self.new.writer.now ≡ one_further (W.meaning.failures self.old.writer.now) }
         ensures memory { IsErrOf result WriteEventError.Memory → W.meaning.may_refuse self.old.writer.now ⊎ MayGrow self.old event.now }
-        ensures fails { OnErr result (HasFailed self.new) }
+        ensures refused { (config : Configuration) (past : List ReportCall) → StandsAfter config past self.old →
+            answered_refusal result ≡ refusal config (ReportCall.Event event.now) }
+        ensures untouched { is_some (answered_refusal result) ≡ true → self.new ≡ self.old }
+        ensures fails { IfErr result (λ e. is_some (refusal_in e) ≡ false → HasFailed self.new) }
         ensures failed { HasFailed self.old → (result ≡ Err WriteEventError.Failed) × (self.new ≡ self.old) }
     {
         if self.state.has_failed {
             return Err(WriteEventError::Failed);
+        }
+        if let Some(refusal) = self.output_load_decider().refusal_of(event) {
+            return Err(refusal);
         }
         match self.report_event(event) {
             Ok(()) => Ok(()),
@@ -124,6 +153,7 @@ impl<'a, W: WriteStr> DisplayReporter<'a, W> {
             Stops W.meaning self.old.writer.now (text config past (ReportCall.Event event.now)) e self.new.writer.now) }
         ensures io { IsErrOf result WriteEventError.Io → W.meaning.failures self.new.writer.now ≡ one_further (W.meaning.failures self.old.writer.now) }
         ensures memory { IsErrOf result WriteEventError.Memory → W.meaning.may_refuse self.old.writer.now ⊎ MayGrow self.old event.now }
+        ensures unrefused { IfErr result (λ e. refusal_in e ≡ None) }
     {
         let effect = EventEffect::of_event(&self.state.settings, self.state.cancel_status, event);
         if let Err(fault) = write_delivered(self.writer, &self.state, event, &effect) {
@@ -132,6 +162,36 @@ impl<'a, W: WriteStr> DisplayReporter<'a, W> {
         match self.state.apply(&effect) {
             Ok(()) => Ok(()),
             Err(OutOfMemory) => Err(WriteEventError::Memory),
+        }
+    }
+
+    /// Writes what a replay says before it: which recorded run it shows, when that started and how it ended; and delivers it.
+    /// The run's id is shown by the header's own prefix.
+    pub fn write_replay_header(&mut self, header: &ReplayHeader) -> Result<(), WriteEventError>
+        ensures same_writer { IsSameWriter self.old self.new }
+        ensures accepted { OnOk result ((config : Configuration) (past : List ReportCall) → StandsAfter config past self.old →
+            W.meaning.accepts self.old.writer.now (text config past (ReportCall.Header header.now)) self.new.writer.now) }
+        ensures lines { (config : Configuration) (past : List ReportCall) → IsOfLines (text config past (ReportCall.Header header.now)) }
+        ensures stands { OnOk result ((config : Configuration) (past : List ReportCall) → StandsAfter config past self.old →
+            StandsAfter config (ReportCall.Header header.now ∷ past) self.new) }
+        ensures delivered { OnOk result (W.meaning.is_delivered self.new.writer.now) }
+        ensures err { IfErr result (λ e. (config : Configuration) (past : List ReportCall) → StandsAfter config past self.old →
+            Stops W.meaning self.old.writer.now (text config past (ReportCall.Header header.now)) e self.new.writer.now) }
+        ensures io { IsErrOf result WriteEventError.Io → W.meaning.failures self.new.writer.now ≡ one_further (W.meaning.failures self.old.writer.now) }
+        ensures memory { IsErrOf result WriteEventError.Memory → W.meaning.may_refuse self.old.writer.now }
+        ensures unrefused { IfErr result (λ e. refusal_in e ≡ None) }
+        ensures fails { OnErr result (HasFailed self.new) }
+        ensures failed { HasFailed self.old → (result ≡ Err WriteEventError.Failed) × (self.new ≡ self.old) }
+    {
+        if self.state.has_failed {
+            return Err(WriteEventError::Failed);
+        }
+        match deliver_header(self.writer, &self.state.settings, header) {
+            Ok(()) => Ok(()),
+            Err(fault) => {
+                self.state.has_failed = true;
+                Err(error_of(fault))
+            }
         }
     }
 
@@ -156,6 +216,7 @@ impl<'a, W: WriteStr> DisplayReporter<'a, W> {
             Stops W.meaning self.old.writer.now [] e self.new.writer.now) }
         ensures io { IsErrOf result WriteEventError.Io → W.meaning.failures self.new.writer.now ≡ one_further (W.meaning.failures self.old.writer.now) }
         ensures memory { IsErrOf result WriteEventError.Memory → W.meaning.may_refuse self.old.writer.now }
+        ensures unrefused { IfErr result (λ e. refusal_in e ≡ None) }
         ensures fails { OnErr result (HasFailed self.new) }
         ensures failed { HasFailed self.old → (result ≡ Err WriteEventError.Failed) × (self.new ≡ self.old) }
     {
@@ -177,7 +238,10 @@ impl<'a, W: WriteStr> DisplayReporter<'a, W> {
         ensures ok { OnOk result ((config : Configuration) → StandsAfter config [] self.old →
             W.meaning.accepts self.old.writer.now (report config (reverse calls.now)) self.new.writer.now) }
         ensures delivered { OnOk result (W.meaning.is_delivered self.new.writer.now) }
+        ensures accepted { OnOk result ((config : Configuration) → StandsAfter config [] self.old → AreAccepted config calls.now) }
         ensures position { IfErr result (λ stop. stop.position ≤ length calls.now) }
+        ensures accepted_before { IfErr result (λ stop. (config : Configuration) → StandsAfter config [] self.old → AreAccepted config (take stop.position calls.now)) }
+        ensures refused { IfErr result (λ stop. (config : Configuration) → StandsAfter config [] self.old → refusal_at config calls.now stop.position ≡ refusal_in stop.fault) }
         ensures err { IfErr result (λ stop. (config : Configuration) → StandsAfter config [] self.old →
             StopsAfter W.meaning self.old.writer.now (report config (past_at calls.now stop.position)) (text_at config calls.now stop.position) stop.fault self.new.writer.now) }
         ensures memory { IfErr result (λ stop. (config : Configuration) → StandsAfter config [] self.old → stop.fault ≡ WriteEventError.Memory →
@@ -207,10 +271,12 @@ impl<'a, W: WriteStr> DisplayReporter<'a, W> {
             StandsAfter config (call.now ∷ past) self.new) }
         ensures err { IfErr result (λ e. (config : Configuration) (past : List ReportCall) → StandsAfter config past self.old →
             Stops W.meaning self.old.writer.now (text config past call.now) e self.new.writer.now) }
+        ensures refused { (config : Configuration) (past : List ReportCall) → StandsAfter config past self.old → answered_refusal result ≡ refusal config call.now }
         ensures memory { IsErrOf result WriteEventError.Memory → W.meaning.may_refuse self.old.writer.now ⊎ MayGrowIn self.old call.now }
     {
         match call {
             ReportCall::Event(event) => self.write_event(event),
+            ReportCall::Header(header) => self.write_replay_header(header),
             ReportCall::Prefix(prefix) => match prefix.copy(alloc) {
                 Ok(prefix) => {
                     self.set_run_id_unique_prefix(prefix);
@@ -230,25 +296,41 @@ impl<'a> ReporterState<'a> {
         ensures reason { OnOk result (reason_rank self.new.cancel_status ≡ max (reason_rank effect.now.reason) (reason_rank self.old.cancel_status)) }
         ensures works { self.new.has_failed ≡ self.old.has_failed }
         ensures kept { OnOk result ((before : List FinalOutputEntry) → self.old.kept ≡ final_order before →
-            self.new.kept ≡ final_order (before ++ option_to_list (option_and_then (kept_entry self.old.settings) (option_map finish_of effect.now.finished)))) }
-        ensures needed { OnErr result (is_some (option_and_then (kept_entry self.old.settings) (option_map finish_of effect.now.finished)) ≡ true) }
+            self.new.kept ≡ final_order (before ++ option_to_list (option_and_then (kept_entry self.old.settings) (option_map end_of effect.now.ended)))) }
+        ensures needed { OnErr result (is_some (option_and_then (kept_entry self.old.settings) (option_map end_of effect.now.ended)) ≡ true) }
     {
-        if let Some(finished) = &effect.finished {
-            self.keep_test(finished)?;
+        if let Some(ended) = &effect.ended {
+            self.keep_test(ended)?;
         }
         self.cancel_status = greater_reason(self.cancel_status, effect.reason);
         Ok(())
     }
 
-    // Keeps a finished test where the summary lists it.
-    fn keep_test(&mut self, finished: &FinishedTest<'_, 'a>) -> Result<(), OutOfMemory>
+    // Keeps a test where the summary lists it.
+    fn keep_test(&mut self, ended: &EndedTest<'_, 'a>) -> Result<(), OutOfMemory>
         ensures settings { self.new.settings ≡ self.old.settings }
         ensures prefix { self.new.unique_prefix ≡ self.old.unique_prefix }
         ensures reason { self.new.cancel_status ≡ self.old.cancel_status }
         ensures works { self.new.has_failed ≡ self.old.has_failed }
         ensures kept { OnOk result ((before : List FinalOutputEntry) → self.old.kept ≡ final_order before →
-            self.new.kept ≡ final_order (before ++ option_to_list (kept_entry self.old.settings (finish_of finished.now)))) }
-        ensures needed { OnErr result (is_kept self.old.settings (finish_of finished.now) ≡ true) }
+            self.new.kept ≡ final_order (before ++ option_to_list (kept_entry self.old.settings (end_of ended.now)))) }
+        ensures needed { OnErr result (is_some (kept_entry self.old.settings (end_of ended.now)) ≡ true) }
+    {
+        match ended {
+            EndedTest::Finished(finished) => self.keep_finished(finished),
+            EndedTest::Skipped(test) => self.keep_skipped(*test),
+        }
+    }
+
+    // Keeps a finished test where the summary lists it.
+    fn keep_finished(&mut self, finished: &FinishedTest<'_, 'a>) -> Result<(), OutOfMemory>
+        ensures settings { self.new.settings ≡ self.old.settings }
+        ensures prefix { self.new.unique_prefix ≡ self.old.unique_prefix }
+        ensures reason { self.new.cancel_status ≡ self.old.cancel_status }
+        ensures works { self.new.has_failed ≡ self.old.has_failed }
+        ensures kept { OnOk result ((before : List FinalOutputEntry) → self.old.kept ≡ final_order before →
+            self.new.kept ≡ final_order (before ++ option_to_list (kept_entry self.old.settings (TestEnd.Finished (finish_of finished.now))))) }
+        ensures needed { OnErr result (is_some (kept_entry self.old.settings (TestEnd.Finished (finish_of finished.now))) ≡ true) }
     {
         let is_wanted = self
             .settings
@@ -260,16 +342,48 @@ impl<'a> ReporterState<'a> {
         self.kept.keep(entry)?;
         Ok(())
     }
+
+    // Keeps a skipped test where the summary lists it.
+    fn keep_skipped(&mut self, test: CountedInstance<'a>) -> Result<(), OutOfMemory>
+        ensures settings { self.new.settings ≡ self.old.settings }
+        ensures prefix { self.new.unique_prefix ≡ self.old.unique_prefix }
+        ensures reason { self.new.cancel_status ≡ self.old.cancel_status }
+        ensures works { self.new.has_failed ≡ self.old.has_failed }
+        ensures kept { OnOk result ((before : List FinalOutputEntry) → self.old.kept ≡ final_order before →
+            self.new.kept ≡ final_order (before ++ option_to_list (kept_entry self.old.settings (TestEnd.Skipped test.entry)))) }
+        ensures needed { OnErr result (is_some (kept_entry self.old.settings (TestEnd.Skipped test.entry)) ≡ true) }
+    {
+        let shown = self.settings.status_levels.final_status_level;
+        if !FinalStatusLevel::Skip.is_shown_at(shown) {
+            return Ok(());
+        }
+        self.kept.keep(FinalOutputEntry::skipped(test))?;
+        Ok(())
+    }
 }
 
 // What a fault of the writer is to the caller of a reporter.
 fn error_of(fault: WriteFault) -> WriteEventError
-    ensures { result ≡ error_for fault }
+    ensures error { result ≡ error_for fault }
+    ensures unrefused { refusal_in result ≡ None }
 {
     match fault {
         WriteFault::Device => WriteEventError::Io,
         WriteFault::Memory => WriteEventError::Memory,
     }
+}
+
+// Writes what a replay says before it, and delivers it.
+fn deliver_header<W: WriteStr>(
+    w: &mut W,
+    settings: &Settings,
+    header: &ReplayHeader,
+) -> Result<(), WriteFault>
+    ensures text { Puts W.meaning w.old (replay_header_text settings.now.styles header.now) result w.new }
+    ensures delivered { OnOk result (W.meaning.is_delivered w.new) }
+{
+    write_replay_header(w, &settings.styles, header)?;
+    w.write_str_flush()
 }
 
 // Writes the text of an event, and delivers it.
@@ -279,8 +393,8 @@ fn write_delivered<W: WriteStr>(
     event: &TestEvent<'_>,
     effect: &EventEffect<'_, '_>,
 ) -> Result<(), WriteFault>
-    requires { option_map finish_of effect.now.finished ≡ (effect_of event.now.kind).finished state.now.settings (reason_rank state.now.cancel_status) }
-    ensures text { Puts W.meaning w.old (event_text state.now.settings (known_by state.now) event.now.kind) result w.new }
+    requires { option_map end_of effect.now.ended ≡ (effect_of event.now.kind).ended state.now.settings (reason_rank state.now.cancel_status) }
+    ensures text { Puts W.meaning w.old (event_text state.now.settings (known_by state.now) event.now.elapsed.0 event.now.kind) result w.new }
     ensures delivered { OnOk result (W.meaning.is_delivered w.new) }
 {
     write_event_text(w, state, event, effect)?;
@@ -295,8 +409,49 @@ fn write_event_text<W: WriteStr>(
     event: &TestEvent<'_>,
     effect: &EventEffect<'_, '_>,
 ) -> Result<(), WriteFault>
-    requires { option_map finish_of effect.now.finished ≡ (effect_of event.now.kind).finished state.now.settings (reason_rank state.now.cancel_status) }
-    ensures { Puts W.meaning w.old (event_text state.now.settings (known_by state.now) event.now.kind) result w.new }
+    requires { option_map end_of effect.now.ended ≡ (effect_of event.now.kind).ended state.now.settings (reason_rank state.now.cancel_status) }
+    ensures { Puts W.meaning w.old (event_text state.now.settings (known_by state.now) event.now.elapsed.0 event.now.kind) result w.new }
+{
+    let (settings, kind) = (&state.settings, &event.kind);
+    match kind {
+        TestEventKind::SetupScriptStarted { .. }
+        | TestEventKind::SetupScriptSlow { .. }
+        | TestEventKind::SetupScriptFinished { .. } => write_setup_script(w, settings, kind),
+        TestEventKind::TestStarted { .. } | TestEventKind::TestRetryStarted { .. } => {
+            write_start(w, settings, kind)
+        }
+        TestEventKind::TestSlow { .. } | TestEventKind::TestAttemptFailedWillRetry { .. } => {
+            write_attempt(w, settings, kind)
+        }
+        TestEventKind::TestFinished { .. } => write_finished(w, settings, &effect.ended),
+        TestEventKind::TestSkipped {
+            stress_index,
+            test_instance,
+        } => write_test_skipped(w, settings, *stress_index, *test_instance),
+        TestEventKind::RunBeginCancel { .. }
+        | TestEventKind::RunBeginKill { .. }
+        | TestEventKind::RunPaused { .. }
+        | TestEventKind::RunContinued { .. } => write_stop(w, settings, kind),
+        TestEventKind::InfoStarted { .. }
+        | TestEventKind::InfoResponse { .. }
+        | TestEventKind::InfoFinished { .. } => write_info(w, settings, event.elapsed, kind),
+        TestEventKind::RunStarted { .. }
+        | TestEventKind::StressSubRunStarted { .. }
+        | TestEventKind::InputEnter { .. }
+        | TestEventKind::StressSubRunFinished { .. }
+        | TestEventKind::RunFinished { .. } => write_run(w, state, event),
+    }
+}
+
+// Writes that the run, or an iteration of it, has started or finished, or how it stands.
+#[tactic(auto, unfolding(crate::specs::Report::event_text))]
+fn write_run<W: WriteStr>(
+    w: &mut W,
+    state: &ReporterState<'_>,
+    event: &TestEvent<'_>,
+) -> Result<(), WriteFault>
+    requires { is_of_run event.now.kind ≡ true }
+    ensures { Puts W.meaning w.old (event_text state.now.settings (known_by state.now) event.now.elapsed.0 event.now.kind) result w.new }
 {
     let settings = &state.settings;
     match &event.kind {
@@ -304,34 +459,59 @@ fn write_event_text<W: WriteStr>(
             test_list,
             run_id,
             profile_name,
-        } => write_run_started(
-            w,
-            settings,
-            &state.unique_prefix,
-            test_list,
-            run_id,
-            profile_name,
-        ),
-        TestEventKind::TestFinished { .. } => write_finished(w, settings, &effect.finished),
-        TestEventKind::RunFinished { elapsed, run_stats } => {
-            write_run_finished(w, settings, *elapsed, run_stats)?;
-            write_listed(w, state)?;
-            write_final_warnings(settings.mode, run_stats.final_stats(), &settings.styles, w)
+        } => {
+            let prefix = &state.unique_prefix;
+            write_run_started(w, settings, prefix, test_list, run_id, profile_name)
         }
+        TestEventKind::StressSubRunStarted { progress } => {
+            write_stress_sub_run_started(w, settings, progress)
+        }
+        TestEventKind::InputEnter {
+            current_stats,
+            running,
+        } => write_input_enter(w, &settings.styles, event.elapsed, current_stats, *running),
+        TestEventKind::StressSubRunFinished {
+            progress,
+            sub_elapsed,
+            sub_stats,
+        } => write_stress_sub_run_finished(w, settings, progress, *sub_elapsed, sub_stats),
+        TestEventKind::RunFinished {
+            elapsed,
+            run_stats,
+            outstanding_not_seen,
+        } => write_end_of_run(w, state, *elapsed, run_stats, outstanding_not_seen),
+        _ => unreachable!(),
     }
+}
+
+// Writes the end of a run: its summary, the entries, the tests that were not seen, and the warnings.
+fn write_end_of_run<W: WriteStr>(
+    w: &mut W,
+    state: &ReporterState<'_>,
+    elapsed: Nanos,
+    run_stats: &RunFinishedStats,
+    outstanding_not_seen: &Option<NotSeen>,
+) -> Result<(), WriteFault>
+    ensures { Puts W.meaning w.old (end_of_run_text state.now.settings (known_by state.now) elapsed.0 run_stats.now outstanding_not_seen.now) result w.new }
+{
+    let settings = &state.settings;
+    write_run_finished(w, settings, elapsed, run_stats)?;
+    write_listed(w, state)?;
+    write_not_seen(w, settings, outstanding_not_seen)?;
+    write_final_warnings(settings.mode, run_stats.final_stats(), &settings.styles, w)
 }
 
 // Writes the test that an event finishes.
 fn write_finished<W: WriteStr>(
     w: &mut W,
     settings: &Settings,
-    finished: &Option<FinishedTest<'_, '_>>,
+    ended: &Option<EndedTest<'_, '_>>,
 ) -> Result<(), WriteFault>
-    ensures { Puts W.meaning w.old (finished_text settings.now (option_map finish_of finished.now)) result w.new }
+    ensures { Puts W.meaning w.old (finished_text settings.now (option_map end_of ended.now)) result w.new }
 {
-    match finished {
-        None => Ok(()),
-        Some(finished) => write_test_finished(w, settings, finished),
+    match ended {
+        Some(EndedTest::Finished(finished)) => write_test_finished(w, settings, finished),
+        Some(EndedTest::Skipped(_)) | None => Ok(()),
     }
 }
 
@@ -366,8 +546,8 @@ pub fn texts_make_the_report()
 /// Makes the calls in order on a reporter of its own, ends the report, and stops at the first fault.
 ///
 /// On `Ok` the writer has accepted the report of the calls and delivered it. On a fault at a place it has accepted the
-/// report of the calls before that place and a beginning of the text of the call there.
-#[tactic(auto, using(crate::proofs::lemmas::Calls::all_accepted))]
+/// report of the calls before that place and a beginning of the text of the call there. A refusal is of the first call that is
+/// not accepted, and nothing of that call was written.
 pub fn run_report<'a, W: WriteStr>(
     alloc: Global,
     builder: DisplayReporterBuilder,
@@ -385,7 +565,9 @@ pub fn run_report<'a, W: WriteStr>(
         OnOk result (AreAccepted config calls.now) }
     ensures position { IfErr result (λ stop. stop.position ≤ length calls.now) }
     ensures accepted_before { let config = configured builder use_unicode is_terminal is_ci display_empty_outputs in
-        IfErr result (λ stop. AreAccepted config (take (stop.position + 1) calls.now)) }
+        IfErr result (λ stop. AreAccepted config (take stop.position calls.now)) }
+    ensures refused { let config = configured builder use_unicode is_terminal is_ci display_empty_outputs in
+        IfErr result (λ stop. refusal_at config calls.now stop.position ≡ refusal_in stop.fault) }
     ensures err { let config = configured builder use_unicode is_terminal is_ci display_empty_outputs in
         IfErr result (λ stop. StopsAfter W.meaning writer.old (report config (past_at calls.now stop.position)) (text_at config calls.now stop.position) stop.fault writer.new) }
     ensures no_failure { OnOk result (W.meaning.failures writer.new ≡ W.meaning.failures writer.old) }

@@ -25,6 +25,7 @@ use unit_report::config::{DisplayConfig, ShowProgress};
 
 mod entries;
 mod outputs;
+mod refused;
 
 // Three tests ran: one passed, one passed at its second attempt, one failed.
 const STATS: RunStats = RunStats {
@@ -148,6 +149,7 @@ fn run_finished<'a>() -> ReportCall<'a> {
         kind: TestEventKind::RunFinished {
             elapsed: Nanos(3_000_000_000),
             run_stats: RunFinishedStats::Single(STATS),
+            outstanding_not_seen: None,
         },
     })
 }

@@ -1,14 +1,12 @@
 //! The outputs of attempts, and how they ended.
 
 use super::write_test_execute_status;
-use crate::settings::{Settings, overrides_for, theme_for};
+use crate::settings::Settings;
+use crate::testing::settings_at;
 use bytes::Bytes;
-use report_text::style::Styles;
 use run_model::abort::{AbortDescription, DescriptionText};
 use run_model::boxed::Boxed;
-use run_model::config::{CompiledDefaultFilter, CompiledDefaultFilterSection, NextestRunMode};
-use run_model::level::{FinalStatusLevel, StatusLevel};
-use run_model::name::ProfileName;
+use run_model::level::StatusLevel;
 use run_model::output::{
     ChildExecutionOutputDescription, ChildOutputDescription, ChildSingleOutput, ErrorChain,
     LiveSpec,
@@ -16,31 +14,12 @@ use run_model::output::{
 use run_model::status::{ExecutionResultDescription, FailureDescription};
 use std::alloc::Global;
 use std::test::Fail;
-use unit_report::config::StatusLevels;
-use unit_report::unit_output::{DisplayerKind, UnitOutputReporter};
 
 // What a reporter without colours goes by.
 fn settings(alloc: Global, no_output_indent: bool) -> Result<Settings, Fail> {
-    Ok(Settings {
-        mode: NextestRunMode::Test,
-        status_levels: StatusLevels {
-            status_level: StatusLevel::Pass,
-            final_status_level: FinalStatusLevel::Fail,
-        },
-        styles: Styles::default(),
-        counter_width: None,
-        default_filter: CompiledDefaultFilter {
-            profile: ProfileName::new(alloc, "default")?,
-            section: CompiledDefaultFilterSection::Profile,
-        },
-        theme_characters: theme_for(false),
-        unit_output: UnitOutputReporter::new(
-            overrides_for(false, None, None),
-            DisplayerKind::Live,
-            false,
-        ),
-        no_output_indent,
-    })
+    let mut settings = settings_at(alloc, StatusLevel::Pass)?;
+    settings.no_output_indent = no_output_indent;
+    Ok(settings)
 }
 
 // Why a process could not be started: three causes, one of them in two lines.

@@ -7,7 +7,7 @@ use Rattle.run_model.specs.declared.output.ChildOutputDescription.{ChildOutputDe
 use Rattle.run_model.specs.declared.output.LiveSpec.{LiveSpec}
 use Rattle.run_model.specs.declared.status.FlakyResult.{FlakyResult}
 use Rattle.report.specs.Fields.{Place, Fails, goes_on, said}
-use Rattle.report.specs.Lines.{Attempt, all_attempts, attempt_fields, attempts_from}
+use Rattle.report.specs.TestLines.{Attempt, all_attempts, attempt_fields, attempts_from, numbered}
 use Rattle.report.specs.declared.fault.LineError.{LineError}
 use Rattle.report.specs.declared.fault.LineError.TheVariants as error
 use Rattle.report.specs.declared.fault.LineFault.{LineFault}
@@ -41,7 +41,7 @@ no_front (Err f) = refl
 
 module _ (flaky : FlakyResult) (total : ℕ) (front : List Attempt) (number end : ℕ) (last : Attempt) (p : Place) (whole : Answer)
     (so_far : with_front front (attempts_from flaky total number (end - number) last p) ≡ whole) where
-  pub next_attempt : (q : Place) (next : Attempt) → number < end → number < 2 ^ 32 → attempt_fields total number p ≡ Ok (next, q)
+  pub next_attempt : (q : Place) (next : Attempt) → number < end → number < 2 ^ 32 → attempt_fields (numbered total number) p ≡ Ok (next, q)
       → with_front (front ++ last ∷ []) (attempts_from flaky total (number + 1) (end - (number + 1)) next q) ≡ whole
   unfolding attempts_from
   next_attempt q next lt small h =
@@ -52,7 +52,7 @@ module _ (flaky : FlakyResult) (total : ℕ) (front : List Attempt) (number end 
       rw (k, b, h, n) (regroup front last (attempts_from flaky total (number + 1) (end - (number + 1)) next q)) in
       sym one ∙ so_far
 
-  pub bad_attempt : (e : LineError) → number < end → number < 2 ^ 32 → Fails e (attempt_fields total number p) → Fails e whole
+  pub bad_attempt : (e : LineError) → number < end → number < 2 ^ 32 → Fails e (attempt_fields (numbered total number) p) → Fails e whole
   unfolding attempts_from
   bad_attempt error.OutOfMemory lt small h = tt
   bad_attempt (error.Fault f) lt small h =
@@ -79,11 +79,11 @@ module _ (flaky : FlakyResult) (total : ℕ) (front : List Attempt) (number end 
 
 -- the first attempt was read, or it is wrong
 module _ (flaky : FlakyResult) (total : ℕ) (p : Place) where
-  pub first_read : (q : Place) (first : Attempt) → attempt_fields total 1 p ≡ Ok (first, q) → all_attempts flaky total p ≡ attempts_from flaky total 2 (length q.left / 8) first q
+  pub first_read : (q : Place) (first : Attempt) → attempt_fields (numbered total 1) p ≡ Ok (first, q) → all_attempts flaky total p ≡ attempts_from flaky total 2 (length q.left / 8) first q
   unfolding all_attempts
   first_read q first h = rw h refl
 
-  pub first_fails : (e : LineError) → Fails e (attempt_fields total 1 p) → Fails e (all_attempts flaky total p)
+  pub first_fails : (e : LineError) → Fails e (attempt_fields (numbered total 1) p) → Fails e (all_attempts flaky total p)
   unfolding all_attempts
   first_fails error.OutOfMemory h = tt
   first_fails (error.Fault f) h = rw h refl

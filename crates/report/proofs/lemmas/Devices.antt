@@ -5,10 +5,10 @@ use Rattle.std.specs.Option.{option_map_or}
 use Rattle.report_text.specs.Buffer.{buffer_meaning, GrowsWithin}
 use Rattle.report_text.specs.declared.write_str.text_buffer.TextBuffer.{TextBuffer}
 use Rattle.report_text.proofs.lemmas.Deliveries.{accepted_delivers, begins_of, stopped_begins}
-use Rattle.console_reporter.specs.Outcomes.{HasFront, Stops}
+use Rattle.console_reporter.specs.Outcomes.{HasFront}
 use Rattle.console_reporter.specs.declared.imp.faults.WriteEventError.{WriteEventError}
-use Rattle.console_reporter.specs.declared.imp.faults.WriteEventError.TheVariants.{Io, Memory, Failed}
-use Rattle.report.specs.Reports.{BeginsReport, IsRefused, PrintsBeginning, StopsReport}
+use Rattle.console_reporter.specs.declared.imp.faults.WriteEventError.TheVariants.{RetriedSuccess, Io, Memory, Failed}
+use Rattle.report.specs.Reports.{BeginsReport, Ends, IsRefused, PrintsBeginning, StopsReport}
 use Rattle.report.specs.declared.fault.Fault.{Fault}
 use Rattle.report.specs.declared.scene.Scene.{Scene}
 use Rattle.report.specs.declared.words.Options.{Options}
@@ -20,7 +20,8 @@ module _ {W : Type 0} (contents : W → Option (List ℕ)) (a b : TextBuffer W) 
       begins_of old a.pending.items new b.pending.items text none
       (record { front = h.front; rest = h.rest; whole = h.whole; delivers = accepted_delivers contents a b old new h.front before after h.accepted })
 
-  stopped_grows : (text : List ℕ) (error : WriteEventError) → Stops (buffer_meaning contents) a text error b → GrowsWithin old new text
+  stopped_grows : (text : List ℕ) (error : WriteEventError) → Ends (buffer_meaning contents) a text error b → GrowsWithin old new text
+  stopped_grows text RetriedSuccess h = front_begins text h
   stopped_grows text Io h = stopped_begins contents a b old new text before after _ none h
   stopped_grows text Memory (inl h) = stopped_begins contents a b old new text before after _ none h
   stopped_grows text Memory (inr h) = front_begins text h

@@ -1,5 +1,5 @@
 -- A report that stopped at a call is a report that stopped (for `report_to`).
-use Rattle.std.proofs.Common.{◌≡◌, ℕ, ◌+◌, ◌<◌, List, [], ◌∷◌, ◌++◌, length, reverse, take, drop, sym, ap, ◌∙◌, subst, append-nil, append_assoc, arith, inl, inr}
+use Rattle.std.proofs.Common.{◌≡◌, ℕ, ◌+◌, ◌<◌, List, [], ◌∷◌, ◌++◌, length, reverse, take, drop, refl, sym, ap, ◌∙◌, subst, append-nil, append_assoc, arith, inl, inr}
 use Rattle.std.specs.Option.{option_map_or}
 use Rattle.std.proofs.lemmas.Bool.{cases_lt}
 use Rattle.std.proofs.lemmas.List.{take-append-drop, reverse-append}
@@ -7,11 +7,12 @@ use Rattle.std.proofs.lemmas.Option.{slice_get-get_or}
 use Rattle.report_text.specs.Texts.{Text}
 use Rattle.report_text.specs.Writer.{Meaning, WriterLaws}
 use Rattle.console_reporter.specs.Configuration.{Configuration}
-use Rattle.console_reporter.specs.Outcomes.{Stops, StopsAfter}
+use Rattle.console_reporter.specs.Outcomes.{HasFront, Stops, StopsAfter}
 use Rattle.console_reporter.specs.Report.{text, text_at, past_at, report}
 use Rattle.console_reporter.specs.declared.imp.calls.ReportCall.{ReportCall}
 use Rattle.console_reporter.specs.declared.imp.faults.WriteEventError.{WriteEventError}
-use Rattle.console_reporter.specs.declared.imp.faults.WriteEventError.TheVariants.{Io, Memory, Failed}
+use Rattle.console_reporter.specs.declared.imp.faults.WriteEventError.TheVariants.{RetriedSuccess, Io, Memory, Failed}
+use Rattle.report.specs.Reports.{Ends}
 use Rattle.console_reporter.proofs.lemmas.Calls.{past_more, past_all, text_past}
 
 -- the text begins so
@@ -48,22 +49,28 @@ begins_here config (call ∷ calls) i = elim (cases_lt i (length (call ∷ calls
 ]
 
 module _ {S : Type 0} {m : Meaning S} (laws : WriterLaws m) where
-  -- what stopped a text stopped a longer one
-  stops_longer : (a b : S) (t u : Text) (e : WriteEventError) → Stops m a t e b → Stops m a (t ++ u) e b
-  stops_longer a b t u Io h = laws.stops_within a b t u _ h
-  stops_longer a b t u Memory (inl h) = inl (laws.stops_within a b t u _ h)
-  stops_longer a b t u Memory (inr f) = inr (record { front = f.front; rest = f.rest ++ u; whole = ap (λ x. x ++ u) f.whole ∙ append_assoc f.front f.rest u; accepted = f.accepted })
-  stops_longer a b t u Failed h = absurd h
+  -- a beginning of a text is one of a longer text
+  front_longer : (a b : S) (t u : Text) → HasFront m a t b → HasFront m a (t ++ u) b
+  front_longer a b t u f = record { front = f.front; rest = f.rest ++ u; whole = ap (λ x. x ++ u) f.whole ∙ append_assoc f.front f.rest u; accepted = f.accepted }
 
-  -- what stopped a text stopped the text with what was accepted before
-  stops_joined : (a b c : S) (t u : Text) (e : WriteEventError) → m.accepts a t b → Stops m b u e c → Stops m a (t ++ u) e c
-  stops_joined a b c t u Io p h = laws.goes_on a b c t u _ p h
-  stops_joined a b c t u Memory p (inl h) = inl (laws.goes_on a b c t u _ p h)
-  stops_joined a b c t u Memory p (inr f) = inr (record { front = t ++ f.front; rest = f.rest; whole = ap (λ x. t ++ x) f.whole ∙ sym (append_assoc t f.front f.rest); accepted = laws.joins a b c t f.front p f.accepted })
-  stops_joined a b c t u Failed p h = absurd h
+  -- what ended a text ended a longer one
+  ends_longer : (a b : S) (t u : Text) (e : WriteEventError) → Ends m a t e b → Ends m a (t ++ u) e b
+  ends_longer a b t u RetriedSuccess f = front_longer a b t u f
+  ends_longer a b t u Io h = laws.stops_within a b t u _ h
+  ends_longer a b t u Memory (inl h) = inl (laws.stops_within a b t u _ h)
+  ends_longer a b t u Memory (inr f) = inr (front_longer a b t u f)
+  ends_longer a b t u Failed h = absurd h
 
-  -- what stopped the text at a place stopped the report
-  pub stopped_report : (config : Configuration) (calls : List ReportCall) (i : ℕ) (a c : S) (e : WriteEventError) → StopsAfter m a (report config (past_at calls i)) (text_at config calls i) e c → Stops m a (report config (reverse calls)) e c
+  -- what stopped a text ended the text with what was accepted before
+  ends_joined : (a b c : S) (t u : Text) (e : WriteEventError) → m.accepts a t b → Stops m b u e c → Ends m a (t ++ u) e c
+  ends_joined a b c t u RetriedSuccess p h = record { front = t; rest = u; whole = refl; accepted = subst (λ x. m.accepts a t x) (sym h) p }
+  ends_joined a b c t u Io p h = laws.goes_on a b c t u _ p h
+  ends_joined a b c t u Memory p (inl h) = inl (laws.goes_on a b c t u _ p h)
+  ends_joined a b c t u Memory p (inr f) = inr (record { front = t ++ f.front; rest = f.rest; whole = ap (λ x. t ++ x) f.whole ∙ sym (append_assoc t f.front f.rest); accepted = laws.joins a b c t f.front p f.accepted })
+  ends_joined a b c t u Failed p h = absurd h
+
+  -- what stopped the text at a place ended the report
+  pub stopped_report : (config : Configuration) (calls : List ReportCall) (i : ℕ) (a c : S) (e : WriteEventError) → StopsAfter m a (report config (past_at calls i)) (text_at config calls i) e c → Ends m a (report config (reverse calls)) e c
   stopped_report config calls i a c e h =
       let b = begins_here config calls i in
-      subst (λ t. Stops m a t e c) (sym b.is) (stops_longer a c _ b.rest e (stops_joined a h.mid c _ _ e h.accepted h.stopped))
+      subst (λ t. Ends m a t e c) (sym b.is) (ends_longer a c _ b.rest e (ends_joined a h.mid c _ _ e h.accepted h.stopped))

@@ -1,9 +1,12 @@
--- A run that was spelled and printed (for `report_scene`).
-use Rattle.std.proofs.Common.{◌≡◌, ℕ, List, Option, ◌⊎◌, inr}
-use Rattle.std.specs.Prelude.{Result, Ok, Err, IfErr, OnErr, OnOk}
-use Rattle.report.specs.Reports.{PrintsBeginning, PrintsReport}
-use Rattle.report.specs.SceneTexts.{text_told, told}
+-- A run that was spelled and printed (for `judge`, `report_scene`).
+use Rattle.std.proofs.Common.{◌≡◌, ℕ, List, Option, ◌⊎◌, inl, inr}
+use Rattle.std.specs.Prelude.{Result, Ok, Err, IfErr, OnOk}
+use Rattle.report.specs.Judged.{IsRefusedCall, IsRefusedText, IsSceneRefused}
+use Rattle.report.specs.Reports.{AreCallsOf, PrintsBeginning, PrintsReport}
+use Rattle.report.specs.SceneTexts.{event_lines, nothing_told, text_told, told}
+use Rattle.report.specs.Split.{parted}
 use Rattle.report.specs.SpelledRuns.{BeginsRun, IsRejected, PrintsRun}
+use Rattle.console_reporter.specs.declared.imp.calls.ReportCall.{ReportCall}
 use Rattle.report.specs.declared.fault.Fault.{Fault}
 use Rattle.report.specs.declared.scene.Scene.{Scene}
 use Rattle.report.specs.declared.words.Options.{Options}
@@ -13,7 +16,18 @@ module _ (options : Options) (scene : Scene) (text : List ℕ) (old new : Option
   prints_run (Ok done) printed = record { scene = scene; spelled = spelled; printed = printed }
   prints_run (Err fault) printed = tt
 
-  pub begins_run : {W : Type 0} (before after : W) (outcome : Result (Unit {0}) Fault) → OnErr outcome (PrintsBeginning options scene old new)
-      → IfErr outcome (λ fault. IsRejected text fault before after ⊎ BeginsRun options text old new)
-  begins_run before after (Ok done) begun = tt
-  begins_run before after (Err fault) begun = inr (record { scene = scene; spelled = spelled; begun = begun })
+  pub ends_run : scene.lines.items ≡ event_lines 1 nothing_told (parted 10 text) → {W : Type 0} (before after : W) (outcome : Result (Unit {0}) Fault)
+      → IfErr outcome (λ fault. (IsSceneRefused options scene fault × (after ≡ before)) ⊎ PrintsBeginning options scene old new)
+      → IfErr outcome (λ fault. IsRejected options text fault before after ⊎ BeginsRun options text old new)
+  ends_run lines before after (Ok done) ended = tt
+  ends_run lines before after (Err fault) (inl refused) = inl (record {
+    judged = inr (record { scene = scene; spelled = spelled; lines = lines; refused = refused.0 });
+    untouched = refused.1;
+  })
+  ends_run lines before after (Err fault) (inr begun) = inr (record { scene = scene; spelled = spelled; begun = begun })
+
+-- a scene that was spelled has a refused call
+pub refused_text : (options : Options) (scene : Scene) (text : List ℕ) → text_told text ≡ Ok (told scene) → scene.lines.items ≡ event_lines 1 nothing_told (parted 10 text)
+    → (calls : List ReportCall) → AreCallsOf scene calls → (fault : Fault) → IsRefusedCall options scene calls fault → IsRefusedText options text fault
+refused_text options scene text spelled lines calls of_scene fault refused =
+    record { scene = scene; spelled = spelled; lines = lines; refused = record { calls = calls; of_scene = of_scene; refused = refused } }

@@ -12,6 +12,7 @@ ghost use Rattle.report.specs.Counts.{in_turn, no_skips, no_stats, skips_in, ski
 use super::numbers::read_count;
 use super::split::{first_piece, split_at_byte};
 use super::values::read_reason;
+use crate::scene::run_events::nothing_counted;
 use run_model::event::SkipCounts;
 use run_model::stats::RunStats;
 
@@ -90,23 +91,7 @@ impl StatsRead {
         ensures { result ≡ no_stats }
     {
         StatsRead {
-            stats: RunStats {
-                initial_run_count: 0,
-                finished_count: 0,
-                passed: 0,
-                passed_slow: 0,
-                flaky: 0,
-                leaky: 0,
-                failed: 0,
-                leaky_failed: 0,
-                exec_failed: 0,
-                timed_out: 0,
-                skipped: 0,
-                setup_scripts_failed: 0,
-                setup_scripts_exec_failed: 0,
-                setup_scripts_timed_out: 0,
-                cancel_reason: None,
-            },
+            stats: nothing_counted(None),
             has_key: [false; STATS_KEYS],
         }
     }

@@ -5,7 +5,7 @@ ghost use Rattle.report.specs.Texts.{text_in};
 
 use super::texts::read_text;
 use run_model::memory::OutOfMemory;
-use run_model::name::{ProfileName, RustBinaryId, TestCaseName};
+use run_model::name::{ProfileName, ProgramName, RustBinaryId, ScriptId, TestCaseName};
 use std::alloc::Global;
 
 /// The name of a profile.
@@ -34,6 +34,26 @@ pub fn read_test_name(alloc: Global, field: &str) -> Result<Option<TestCaseName>
 {
     match read_text(alloc, field)? {
         Some(text) => Ok(Some(TestCaseName::new(alloc, text.as_str())?)),
+        None => Ok(None),
+    }
+}
+
+/// The id of a setup script.
+pub fn read_script_id(alloc: Global, field: &str) -> Result<Option<ScriptId>, OutOfMemory>
+    ensures { IfOk result (λ id. id ≡ text_in field.now) }
+{
+    match read_text(alloc, field)? {
+        Some(text) => Ok(Some(ScriptId::new(alloc, text.as_str())?)),
+        None => Ok(None),
+    }
+}
+
+/// The program of a setup script.
+pub fn read_program_name(alloc: Global, field: &str) -> Result<Option<ProgramName>, OutOfMemory>
+    ensures { IfOk result (λ name. name ≡ text_in field.now) }
+{
+    match read_text(alloc, field)? {
+        Some(text) => Ok(Some(ProgramName::new(alloc, text.as_str())?)),
         None => Ok(None),
     }
 }

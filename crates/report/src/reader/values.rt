@@ -1,10 +1,11 @@
 //! What the fields of a scene may hold. Each function answers None for a bad field.
 
 ghost use Rattle.std.specs.Prelude.{◌≡◌};
-ghost use Rattle.report.specs.Values.{absent_in, config_key_in, display_in, final_level_in, flag_in, flaky_in, mode_in, non_zero, reason_in, stress_in, zero_in};
+ghost use Rattle.report.specs.Values.{absent_in, config_key_in, display_in, final_level_in, flag_in, flaky_in, mode_in, non_zero, reason_in, reason_or_none_in, stress_in, total_in};
+ghost use Rattle.report.specs.Numbers.{number_in};
 ghost use Rattle.uuid.specs.Text.{parsed};
 
-use super::numbers::{read_count, read_small_count};
+use super::numbers::read_small_count;
 use super::split::split_at_byte;
 use run_model::config::{NextestRunMode, TestOutputDisplay};
 use run_model::level::{CancelReason, FinalStatusLevel};
@@ -28,6 +29,8 @@ pub enum ConfigKey {
     Failure,
     /// Whether tests write to the terminal themselves.
     NoCapture,
+    /// Whether a test that starts is shown by its command.
+    Verbose,
     /// Whether output stands without indentation.
     NoIndent,
     /// Whether the report has characters beyond ASCII.
@@ -47,6 +50,7 @@ pub fn read_config_key(field: &str) -> Option<ConfigKey>
         "success" => Some(ConfigKey::Success),
         "failure" => Some(ConfigKey::Failure),
         "nocapture" => Some(ConfigKey::NoCapture),
+        "verbose" => Some(ConfigKey::Verbose),
         "noindent" => Some(ConfigKey::NoIndent),
         "unicode" => Some(ConfigKey::Unicode),
         "empty" => Some(ConfigKey::Empty),
@@ -60,16 +64,6 @@ pub fn read_absent(field: &str) -> Option<()>
 {
     match field {
         "-" => Some(()),
-        _ => None,
-    }
-}
-
-/// The count of something that is not there, `0`.
-pub fn read_zero(field: &str) -> Option<()>
-    ensures { result ≡ zero_in field.now }
-{
-    match read_count(field) {
-        Some(0) => Some(()),
         _ => None,
     }
 }
@@ -157,9 +151,16 @@ pub fn read_stress_index(field: &str) -> Option<Option<StressIndex>>
         })),
         Some((current, total)) => Some(Some(StressIndex {
             current: read_small_count(current)?,
-            total: Some(non_zero(read_small_count(total)?)?),
+            total: Some(read_total(total)?),
         })),
     }
+}
+
+/// How many iterations of a stress run there are, which is not 0.
+pub fn read_total(text: &str) -> Option<NonZeroU32>
+    ensures { result ≡ total_in (number_in 32 text.now) }
+{
+    non_zero(read_small_count(text)?)
 }
 
 // The number, unless it is 0.
@@ -183,5 +184,15 @@ pub fn read_reason(field: &str) -> Option<CancelReason>
         "interrupt" => Some(CancelReason::Interrupt),
         "second-signal" => Some(CancelReason::SecondSignal),
         _ => None,
+    }
+}
+
+/// Why a run is cancelled, or `-`.
+pub fn read_reason_or_none(field: &str) -> Option<Option<CancelReason>>
+    ensures { result ≡ reason_or_none_in field.now }
+{
+    match field {
+        "-" => Some(None),
+        _ => Some(Some(read_reason(field)?)),
     }
 }

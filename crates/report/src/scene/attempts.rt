@@ -9,6 +9,7 @@ use run_model::output::{
 };
 use run_model::status::{
     ExecuteStatus, ExecutionResultDescription, ExecutionStatuses, FlakyResult, RetryData,
+    SetupScriptExecuteStatus,
 };
 use run_model::time::Nanos;
 use std::alloc::Global;
@@ -101,7 +102,7 @@ impl Model for SceneAttempt {
 }
 
 impl SceneAttempt {
-    ghost use Rattle.report.specs.SceneAttempts.{silence};
+    ghost use Rattle.report.specs.SceneAttempts.{script_status, silence};
 
     /// An attempt whose streams were both captured, and hold nothing. It takes no memory.
     pub fn silent(
@@ -153,13 +154,28 @@ impl SceneAttempt {
         })
     }
 
-    // Takes memory for the attempt as a reporter takes it.
-    fn status(&self, alloc: Global) -> Result<ExecuteStatus<LiveSpec>, OutOfMemory>
+    /// Takes memory for the attempt as a reporter takes it.
+    pub fn status(&self, alloc: Global) -> Result<ExecuteStatus<LiveSpec>, OutOfMemory>
         ensures { IfOk result (λ status. status ≡ self.now) }
     {
         Ok(ExecuteStatus {
             time_taken: self.time_taken,
             retry_data: self.retry_data,
+            result: self.result.copy(alloc)?,
+            output: self.output(alloc)?,
+            is_slow: self.is_slow,
+        })
+    }
+
+    /// Takes memory for the attempt of a setup script as a reporter takes it.
+    pub fn script_status(
+        &self,
+        alloc: Global,
+    ) -> Result<SetupScriptExecuteStatus<LiveSpec>, OutOfMemory>
+        ensures { IfOk result (λ status. status ≡ script_status self.now) }
+    {
+        Ok(SetupScriptExecuteStatus {
+            time_taken: self.time_taken,
             result: self.result.copy(alloc)?,
             output: self.output(alloc)?,
             is_slow: self.is_slow,

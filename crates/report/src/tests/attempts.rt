@@ -2,7 +2,8 @@
 
 use super::{DONE, OPTIONS, line_of, refused, taken};
 use crate::program::judge;
-use crate::scene::SceneEvent;
+use crate::scene::event::SceneEvent;
+use crate::scene::test_events::TestFinish;
 use run_model::output::{ChildExecutionOutputDescription, ChildOutputDescription};
 use run_model::status::{ExecutionDescription, RetryData};
 use std::test::Fail;
@@ -159,7 +160,7 @@ fn counts_the_fields_of_attempts(rt: HostRuntime) -> Result<(), Fail> {
 #[test]
 fn holds_the_last_attempt(rt: HostRuntime) -> Result<(), Fail> {
     let scene = judge(rt.alloc(), &OPTIONS, TWO_ATTEMPTS.as_bytes())?;
-    let [SceneEvent::TestFinished { attempts, .. }] = scene.events.as_slice() else {
+    let [SceneEvent::TestFinished(TestFinish { attempts, .. })] = scene.events.as_slice() else {
         return Err(Fail::from("one test has finished"));
     };
     let run_statuses = attempts.statuses(rt.alloc())?;
@@ -183,7 +184,7 @@ fn holds_the_last_attempt(rt: HostRuntime) -> Result<(), Fail> {
 #[test]
 fn holds_earlier_attempts(rt: HostRuntime) -> Result<(), Fail> {
     let scene = judge(rt.alloc(), &OPTIONS, TWO_ATTEMPTS.as_bytes())?;
-    let [SceneEvent::TestFinished { attempts, .. }] = scene.events.as_slice() else {
+    let [SceneEvent::TestFinished(TestFinish { attempts, .. })] = scene.events.as_slice() else {
         return Err(Fail::from("one test has finished"));
     };
     let run_statuses = attempts.statuses(rt.alloc())?;

@@ -1,20 +1,24 @@
 use Rattle.std.proofs.Common.{◌≡◌, ◌∷◌, arith}
 use Rattle.report.specs.Split.{parted, pieces_left}
-use Rattle.report.proofs.lemmas.Tellings.{goes_on, ends, is_done}
+use Rattle.report.proofs.lemmas.Tellings.{goes_on, ends, is_done, lines_done, lines_go_on}
 use Rattle.report.proofs.reader.read_lines.Goals as goal
 
-pub returns-in-Err : goal.returns-in-Err
-returns-in-Err c =
+pub returns-in-Err-clause-answer : goal.returns-in-Err-clause-answer
+returns-in-Err-clause-answer c =
     let cut : parted 10 c.in-Some.left.now ≡ c.first_line.result.0.now ∷ pieces_left 10 c.first_line.result.1 = c.first_line.ensures.lines in
-    rw c.fault_at.ensures (ends _ _ _ _ (rw c.in-Some.is at c.loop-rest.invariant.1) _ _ cut _ c.in-Err.ensures)
+    ends _ _ _ _ (rw c.in-Some.is at c.loop-rest.invariant.1) _ _ cut _ c.in-Err.ensures.err
 
 pub loop-rest-preserved : goal.loop-rest-preserved
 loop-rest-preserved c =
     let cut : parted 10 c.in-Some.left.now ≡ c.first_line.result.0.now ∷ pieces_left 10 c.first_line.result.1 = c.first_line.ensures.lines in
     let size = rw c.in-Some.is at c.loop-rest.invariant.0 in (
       omega (arith, size, c.first_line.ensures.shorter),
-      goes_on _ _ _ _ (rw c.in-Some.is at c.loop-rest.invariant.1) _ _ cut _ c.in_default-read_line.ensures,
+      goes_on _ _ _ _ (rw c.in-Some.is at c.loop-rest.invariant.1) _ _ cut _ c.in_default-told.ensures.ok,
+      rw c.in_default-told.ensures.lines (lines_go_on _ _ _ _ _ (rw c.in-Some.is at c.loop-rest.invariant.2) _ _ cut _ c.in_default-told.ensures.ok),
     )
 
-pub returns : goal.returns
-returns c = is_done _ _ _ (rw c.in_default.is at c.loop-rest.invariant.1)
+pub returns-clause-answer : goal.returns-clause-answer
+returns-clause-answer c = is_done _ _ _ (rw c.in_default.is at c.loop-rest.invariant.1)
+
+pub returns-clause-lines : goal.returns-clause-lines
+returns-clause-lines c = lines_done _ _ _ _ (rw c.in_default.is at c.loop-rest.invariant.2)

@@ -1,11 +1,25 @@
-use Rattle.std.proofs.Common.{rules}
+use Rattle.std.proofs.Common.{rules, take, ◌≡◌}
 use Rattle.std.proofs.lemmas.Result.{on_ok_weaker, IfErr-weaker}
 use Rattle.console_reporter.specs.Configuration.{configured}
-use Rattle.console_reporter.proofs.lemmas.Calls.{accepted_until, refused_from, stopped_io, stopped_known}
+use Rattle.console_reporter.specs.Accepted.{AreAccepted, refusal_at}
+use Rattle.console_reporter.specs.Outcomes.{refusal_in}
+use Rattle.console_reporter.proofs.lemmas.Calls.{err_here, ok_here, refused_from, stopped_io, stopped_known}
 use Rattle.console_reporter.proofs.imp.reporter.run_report.Goals as goal
 
 pub returns-clause-ok : goal.returns-clause-ok
 returns-clause-ok g c = search rules
+
+pub returns-clause-accepted : goal.returns-clause-accepted
+returns-clause-accepted g c =
+    ok_here _ c.build-reporter.result c.build-reporter.ensures.stands (λ config. AreAccepted config c.args.calls.now) c.make_calls-outcome.result c.make_calls-outcome.ensures.accepted
+
+pub returns-clause-accepted_before : goal.returns-clause-accepted_before
+returns-clause-accepted_before g c =
+    err_here _ c.build-reporter.result c.build-reporter.ensures.stands (λ config stop. AreAccepted config (take stop.position c.args.calls.now)) c.make_calls-outcome.result c.make_calls-outcome.ensures.accepted_before
+
+pub returns-clause-refused : goal.returns-clause-refused
+returns-clause-refused g c =
+    err_here _ c.build-reporter.result c.build-reporter.ensures.stands (λ config stop. refusal_at config c.args.calls.now stop.position ≡ refusal_in stop.fault) c.make_calls-outcome.result c.make_calls-outcome.ensures.refused
 
 pub returns-clause-err : goal.returns-clause-err
 returns-clause-err g c = search rules
@@ -23,6 +37,3 @@ returns-clause-memory g c =
 
 pub returns-clause-known : goal.returns-clause-known
 returns-clause-known g c = IfErr-weaker _ _ _ (λ stop h. stopped_known g.met.W.WriteStr.laws _ _ _ _ _ h) (returns-clause-err g c)
-
-pub returns-clause-accepted_before : goal.returns-clause-accepted_before
-returns-clause-accepted_before g c = accepted_until (configured c.args.builder c.args.use_unicode c.args.is_terminal c.args.is_ci c.args.display_empty_outputs) c.args.calls.now c.make_calls-outcome.result

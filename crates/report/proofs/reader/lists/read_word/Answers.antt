@@ -4,7 +4,7 @@ use Rattle.report.proofs.reader.lists.read_word.Goals as goal
 
 pub returns-in-Some-after_comma-clause-words : goal.returns-in-Some-after_comma-clause-words
 returns-in-Some-after_comma-clause-words c =
-    rw (c.in_ok-new.ensures, c.as_str.ensures.value, c.in_ok-push_str.ensures.bytes)
+    rw c.in_ok-push_str.ensures.bytes
     (word-ends _ _ _ c.loop-plain.invariant.2 _ _ c.in-Some.ensures.parts.1 c.in-Some.ensures.parts.0 _ c.in-Some-after_comma.ensures)
 
 pub returns-in_default-2-clause-words : goal.returns-in_default-2-clause-words
@@ -22,4 +22,4 @@ loop-plain-preserved c =
 
 pub returns-clause-words : goal.returns-clause-words
 returns-clause-words c =
-    rw (c.in_ok-new-2.ensures, c.as_str-2.ensures.value, c.in_ok-push_str-2.ensures.bytes) (word-ends-list _ _ _ c.loop-plain.invariant.2 c.in_default.ensures.parts)
+    rw c.in_ok-push_str-2.ensures.bytes (word-ends-list _ _ _ c.loop-plain.invariant.2 c.in_default.ensures.parts)

@@ -1,4 +1,4 @@
-use Rattle.std.proofs.Common.{◌≡◌, ◌++◌, ◌+◌, ℕ, List, length, Option, None, Some}
+use Rattle.std.proofs.Common.{◌≡◌, ◌++◌, ◌+◌, ℕ, List, length, map, string_bytes, Option, None, Some}
 use Rattle.std.specs.Borrow.{Bor}
 use Rattle.std.specs.Option.{option_map}
 use Rattle.report.specs.Lists.{more_words}
@@ -11,7 +11,7 @@ list_size (Some list) = length list.now + 1
 
 -- what was read, and then what is left, are the words
 abbrev pub invariant-loop-rest : goal.invariant-loop-rest
-invariant-loop-rest l = more_words l.list ≡ option_map (λ ws. l.words.items ++ ws) (more_words l.rest)
+invariant-loop-rest l = more_words l.list ≡ option_map (λ ws. map string_bytes l.words.items ++ ws) (more_words l.rest)
 
 abbrev pub decreases-loop-rest : goal.decreases-loop-rest
 decreases-loop-rest l = list_size l.rest

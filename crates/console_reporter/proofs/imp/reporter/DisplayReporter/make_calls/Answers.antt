@@ -1,6 +1,6 @@
-use Rattle.std.proofs.Common.{rules, arith, subst, sym}
+use Rattle.std.proofs.Common.{rules, arith, length, subst, sym, ◌∙◌}
 use Rattle.console_reporter.specs.Standing.{StandsAfter}
-use Rattle.console_reporter.proofs.lemmas.Calls.{past_read, accepted_more, stopped_at, accepted_all, stopped_past}
+use Rattle.console_reporter.proofs.lemmas.Calls.{past_read, accepted_more, accepted_read, accepted_to_end, refusal_past, refusal_read, stopped_at, accepted_all, stopped_past}
 use Rattle.console_reporter.proofs.imp.reporter.DisplayReporter.make_calls.Goals as goal
 
 pub returns-in-Err-clause-err : goal.returns-in-Err-clause-err
@@ -14,6 +14,9 @@ loop-position-preserved g c = record {
   accepted = λ config stands.
       let i = c.loop-position.invariant in
       accepted_more g.met.W.WriteStr.laws config _ _ _ _ _ (i.accepted config stands) _ c.index-calls-position.is c.loop-position-test.true (c.in-Ok.ensures.accepted config _ (i.stands config stands));
+  unrefused = λ config stands.
+      let i = c.loop-position.invariant in
+      accepted_read config _ _ _ c.index-calls-position.is c.loop-position-test.true (i.unrefused config stands) (sym (c.in-Ok.ensures.refused config _ (i.stands config stands)));
   stands = λ config stands.
       let i = c.loop-position.invariant in
       subst (λ past. StandsAfter config past c.make_call.new.self) (sym (past_read _ c.loop-position.position _ c.index-calls-position.is c.loop-position-test.true)) (c.in-Ok.ensures.stands config _ (i.stands config stands));
@@ -27,3 +30,15 @@ pub returns-in-Err-finish-clause-err : goal.returns-in-Err-finish-clause-err
 returns-in-Err-finish-clause-err g c = λ config stands.
     let i = c.loop-position.invariant in
     stopped_past g.met.W.WriteStr.laws config _ c.loop-position.position _ _ _ (i.accepted config stands) _ (omega arith) (c.in-Err-finish.ensures.err config _ (i.stands config stands))
+
+pub returns-in-Err-clause-refused : goal.returns-in-Err-clause-refused
+returns-in-Err-clause-refused g c = λ config stands.
+    let i = c.loop-position.invariant in
+    refusal_read config _ _ _ c.index-calls-position.is c.loop-position-test.true ∙ sym (c.in-Err.ensures.refused config _ (i.stands config stands))
+
+pub returns-in-Ok-finish-clause-accepted : goal.returns-in-Ok-finish-clause-accepted
+returns-in-Ok-finish-clause-accepted g c = λ config stands.
+    accepted_to_end config _ c.loop-position.position (omega arith) (c.loop-position.invariant.unrefused config stands)
+
+pub returns-in-Err-finish-clause-refused : goal.returns-in-Err-finish-clause-refused
+returns-in-Err-finish-clause-refused g c = λ config stands. refusal_past config c.args.calls.now (length c.args.calls.now) (omega arith) ∙ sym c.in-Err-finish.ensures.unrefused

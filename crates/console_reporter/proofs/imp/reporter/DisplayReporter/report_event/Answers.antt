@@ -1,6 +1,6 @@
 use Rattle.std.proofs.Common.{rules, [], ap₂, sym, append-nil, inr, max, ◌∙◌}
 use Rattle.std.specs.Option.{option_map}
-use Rattle.event_text.specs.FinishedTests.{finish_of}
+use Rattle.console_reporter.specs.Effects.{end_of}
 use Rattle.console_reporter.proofs.lemmas.Calls.{stops_error}
 use Rattle.console_reporter.proofs.lemmas.Pasts.{kept-more, text-held}
 use Rattle.console_reporter.specs.Entries.{cancel, prefix}
@@ -11,7 +11,7 @@ use Rattle.console_reporter.proofs.imp.reporter.DisplayReporter.report_event.Goa
 pub returns-in-Err-clause-err : goal.returns-in-Err-clause-err
 returns-in-Err-clause-err g c = λ config past stands.
     let held = text-held config past c.args.self.now c.args.event.now stands in
-    stops_error g.W.WriteStr.meaning c.args.self.now.writer.now c.write_delivered.new.w (text config past (Event c.args.event.now)) c.in-Err.fault c.error_of.result c.error_of.ensures (rw held at c.in-Err.ensures.text)
+    stops_error g.W.WriteStr.meaning c.args.self.now.writer.now c.write_delivered.new.w (text config past (Event c.args.event.now)) c.in-Err.fault c.error_of.result c.error_of.ensures.error (rw held at c.in-Err.ensures.text)
 
 pub returns-in-Ok-clause-accepted : goal.returns-in-Ok-clause-accepted
 returns-in-Ok-clause-accepted g c = λ config past stands.
@@ -24,7 +24,7 @@ returns-in-Ok-clause-stands g c = λ config past stands. record {
   settings = c.apply.ensures.settings ∙ stands.settings;
   prefix = c.apply.ensures.prefix ∙ stands.prefix;
   reason = c.in-Ok.ensures.reason ∙ ap₂ max c.of_event-effect.ensures.reason stands.reason;
-  kept = kept-more config past c.args.self.now c.args.event.now (option_map finish_of c.of_event-effect.result.finished) _ stands c.of_event-effect.ensures.finished c.in-Ok.ensures.kept;
+  kept = kept-more config past c.args.self.now c.args.event.now (option_map end_of c.of_event-effect.result.ended) _ stands c.of_event-effect.ensures.ended c.in-Ok.ensures.kept;
   works = search rules;
 }
 

@@ -1,0 +1,27 @@
+use Rattle.std.proofs.Common.{rules}
+use Rattle.console_reporter.proofs.lemmas.Calls.{stops_error}
+use Rattle.console_reporter.proofs.lemmas.Whole.{of_lines-text}
+use Rattle.console_reporter.specs.Entries.{cancel, kept, prefix}
+use Rattle.console_reporter.specs.Report.{text}
+use Rattle.console_reporter.specs.declared.imp.calls.ReportCall.TheVariants.{Header}
+use Rattle.console_reporter.proofs.imp.reporter.DisplayReporter.write_replay_header.Goals as goal
+
+pub returns-then-self-clause-lines : goal.returns-then-self-clause-lines
+returns-then-self-clause-lines g c = λ config past. of_lines-text config past (Header c.args.header.now)
+
+pub returns-in-Ok-clause-lines : goal.returns-in-Ok-clause-lines
+returns-in-Ok-clause-lines g c = λ config past. of_lines-text config past (Header c.args.header.now)
+
+pub returns-in-Err-clause-lines : goal.returns-in-Err-clause-lines
+returns-in-Err-clause-lines g c = λ config past. of_lines-text config past (Header c.args.header.now)
+
+pub returns-in-Ok-clause-accepted : goal.returns-in-Ok-clause-accepted
+returns-in-Ok-clause-accepted g c = λ config past stands. rw stands.settings at c.in-Ok.ensures.text
+
+pub returns-in-Ok-clause-stands : goal.returns-in-Ok-clause-stands
+unfolding cancel kept prefix
+returns-in-Ok-clause-stands g c = λ config past stands. record { settings = stands.settings; prefix = stands.prefix; reason = stands.reason; kept = stands.kept; works = stands.works }
+
+pub returns-in-Err-clause-err : goal.returns-in-Err-clause-err
+returns-in-Err-clause-err g c = λ config past stands.
+    stops_error g.W.WriteStr.meaning c.args.self.now.writer.now c.deliver_header.new.w (text config past (Header c.args.header.now)) c.in-Err.fault c.error_of.result c.error_of.ensures.error (rw stands.settings at c.in-Err.ensures.text)

@@ -1,0 +1,20 @@
+//! The bar that parts a report.
+
+ghost use Rattle.report_text.specs.Writer.{Puts};
+ghost use Rattle.event_text.specs.Bars.{bar_line};
+
+use report_text::helpers::ThemeCharacters;
+use report_text::style::write_plain;
+use report_text::write_str::{WriteFault, WriteStr};
+
+/// Writes the line of a bar of twelve characters.
+#[tactic(auto, unfolding(crate::specs::Bars::bar_line))]
+pub fn write_bar_line<W: WriteStr>(
+    w: &mut W,
+    theme_characters: ThemeCharacters,
+) -> Result<(), WriteFault>
+    ensures { Puts W.meaning w.old (bar_line theme_characters) result w.new }
+{
+    theme_characters.write_hbar(w, 12)?;
+    write_plain(w, "\n")
+}

@@ -1,0 +1,48 @@
+//! A test that is not run.
+
+ghost use Rattle.report_text.specs.Writer.{Puts};
+ghost use Rattle.event_text.specs.SkippedTests.{skip_line, test_skipped_text};
+
+use crate::instance::{CountedInstance, write_untimed_end};
+use crate::settings::Settings;
+use report_text::write_str::{WriteFault, WriteStr};
+use run_model::level::StatusLevel;
+use run_model::name::TestInstanceId;
+use run_model::stress::StressIndex;
+
+#[cfg(test)]
+mod tests;
+
+/// Writes that a test is not run, where skipped tests are shown.
+#[tactic(auto, unfolding(crate::specs::SkippedTests::test_skipped_text))]
+pub fn write_test_skipped<W: WriteStr>(
+    w: &mut W,
+    settings: &Settings,
+    stress_index: Option<StressIndex>,
+    instance: TestInstanceId<'_>,
+) -> Result<(), WriteFault>
+    ensures { Puts W.meaning w.old (test_skipped_text settings.now stress_index instance.entry) result w.new }
+{
+    if !settings.is_level_shown(StatusLevel::Skip) {
+        return Ok(());
+    }
+    let test = settings.padded_instance(stress_index, instance);
+    write_skip_line(w, settings, test)
+}
+
+/// Writes the line of a test that is not run, which the summary repeats.
+///
+/// ```
+/// write_skip_line(w, settings, test)?; // "        SKIP [         ] alpha t1" and a line feed
+/// ```
+#[tactic(auto, unfolding(crate::specs::SkippedTests::skip_line))]
+pub fn write_skip_line<W: WriteStr>(
+    w: &mut W,
+    settings: &Settings,
+    test: CountedInstance<'_>,
+) -> Result<(), WriteFault>
+    ensures { Puts W.meaning w.old (skip_line settings.now test.entry) result w.new }
+{
+    settings.styles.skip.write_right(w, 12, "SKIP")?;
+    write_untimed_end(w, &settings.styles, test)
+}

@@ -1,0 +1,34 @@
+use Rattle.report_text.proofs.lemmas.Steps.{puts_then, at_exit}
+use Rattle.info_text.specs.States.{terminating_note}
+use Rattle.info_text.proofs.state.write_terminating_note.Goals as goal
+
+pub returns-in_err-write_seconds : goal.returns-in_err-write_seconds
+unfolding terminating_note
+returns-in_err-write_seconds g c =
+    let laws = g.met.W.WriteStr.laws in
+    at_exit laws _ _ _ _ _ c.from_residual-in_err-write_seconds.ensures.1
+    (laws.goes_on _ _ _ _ _ _ c.in_ok-write_note_start.ensures
+    (laws.goes_on _ _ _ _ _ _ c.in_ok-write_plain.ensures
+    (laws.goes_on _ _ _ _ _ _ (rw c.signal_of.ensures at c.in_ok-write_plain-2.ensures)
+    (laws.stops_within _ _ _ _ _ c.in_err-write_seconds.ensures))))
+
+pub returns-in_err-write_to : goal.returns-in_err-write_to
+unfolding terminating_note
+returns-in_err-write_to g c =
+    let laws = g.met.W.WriteStr.laws in
+    at_exit laws _ _ _ _ _ c.from_residual-in_err-write_to.ensures.1
+    (laws.goes_on _ _ _ _ _ _ c.in_ok-write_note_start.ensures
+    (laws.goes_on _ _ _ _ _ _ c.in_ok-write_plain.ensures
+    (laws.goes_on _ _ _ _ _ _ (rw c.signal_of.ensures at c.in_ok-write_plain-2.ensures)
+    (laws.goes_on _ _ _ _ _ _ c.in_ok-write_seconds.ensures
+    (laws.stops_within _ _ _ _ _ (rw (c.new.ensures.mode, c.new.ensures.kind) at c.in_err-write_to.ensures))))))
+
+pub returns : goal.returns
+unfolding terminating_note
+returns g c =
+    let laws = g.met.W.WriteStr.laws in
+    puts_then laws _ _ _ _ _ _ c.in_ok-write_note_start.ensures
+    (puts_then laws _ _ _ _ _ _ c.in_ok-write_plain.ensures
+    (puts_then laws _ _ _ _ _ _ (rw c.signal_of.ensures at c.in_ok-write_plain-2.ensures)
+    (puts_then laws _ _ _ _ _ _ c.in_ok-write_seconds.ensures
+    (puts_then laws _ _ _ _ _ _ (rw (c.new.ensures.mode, c.new.ensures.kind) at c.in_ok-write_to.ensures) c.write_seconds-2.ensures))))

@@ -1,0 +1,4 @@
+pub mod Responses
+pub mod Seconds
+pub mod Starts
+pub mod States

@@ -1,0 +1,78 @@
+//! What the tests of this crate share.
+
+use bytes::Bytes;
+use event_text::settings::{Settings, overrides_for, styles_for, theme_for};
+use run_model::config::{CompiledDefaultFilter, CompiledDefaultFilterSection, NextestRunMode};
+use run_model::level::{FinalStatusLevel, StatusLevel};
+use run_model::name::ProfileName;
+use run_model::output::{
+    ChildExecutionOutputDescription, ChildOutputDescription, ChildSingleOutput, LiveSpec,
+};
+use run_model::status::{ExecutionResultDescription, FailureDescription};
+use std::alloc::Global;
+use std::test::Fail;
+use unit_report::config::StatusLevels;
+use unit_report::unit_output::{DisplayerKind, UnitOutputReporter};
+
+/// What a reporter goes by in a run of this mode.
+pub fn settings(
+    alloc: Global,
+    mode: NextestRunMode,
+    should_colorize: bool,
+) -> Result<Settings, Fail> {
+    Ok(Settings {
+        mode,
+        status_levels: StatusLevels {
+            status_level: StatusLevel::Pass,
+            final_status_level: FinalStatusLevel::Fail,
+        },
+        styles: styles_for(should_colorize),
+        counter_width: None,
+        default_filter: CompiledDefaultFilter {
+            profile: ProfileName::new(alloc, "default")?,
+            section: CompiledDefaultFilterSection::Profile,
+        },
+        theme_characters: theme_for(false),
+        unit_output: UnitOutputReporter::new(
+            overrides_for(false, None, None),
+            DisplayerKind::Live,
+            false,
+        ),
+        no_output_indent: false,
+        no_capture: false,
+        verbose: false,
+    })
+}
+
+/// A failure with code 1.
+pub fn failure() -> ExecutionResultDescription {
+    ExecutionResultDescription::Fail {
+        failure: FailureDescription::ExitCode { code: 1 },
+        leaked: false,
+    }
+}
+
+/// A process that has written so much on both streams by themselves, and has not ended.
+pub fn written(
+    alloc: Global,
+    stdout: Option<&'static [u8]>,
+    stderr: Option<&'static [u8]>,
+) -> Result<ChildExecutionOutputDescription<LiveSpec>, Fail> {
+    Ok(ChildExecutionOutputDescription::Output {
+        result: None,
+        output: ChildOutputDescription::Split {
+            stdout: stream(alloc, stdout)?,
+            stderr: stream(alloc, stderr)?,
+        },
+        errors: None,
+        highlight: None,
+    })
+}
+
+// A stream with these bytes, where it was captured.
+fn stream(alloc: Global, bytes: Option<&'static [u8]>) -> Result<Option<ChildSingleOutput>, Fail> {
+    match bytes {
+        Some(bytes) => Ok(Some(ChildSingleOutput::new(alloc, Bytes::from_static(bytes))?)),
+        None => Ok(None),
+    }
+}

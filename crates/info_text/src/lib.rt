@@ -1,0 +1,12 @@
+//! The texts of answers to the question what the units of a run are doing.
+//!
+//! `start` says that they are asked and that no further answers are waited for; `response` is the answer of a unit, and `state`
+//! in it what the unit is doing. The other texts of a run stand in `run_text`, those of tests in `event_text`.
+#![tactic(auto)]
+
+#[cfg(test)]
+mod fixtures;
+pub mod response;
+pub mod seconds;
+pub mod start;
+pub mod state;

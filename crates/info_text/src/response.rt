@@ -1,0 +1,281 @@
+//! The answer of a unit that is asked what it is doing.
+
+ghost use Rattle.std.specs.Prelude.{◌≡◌, ◌+◌, codes, false};
+ghost use Rattle.report_text.specs.Indent.{indent};
+ghost use Rattle.report_text.specs.Writer.{Puts};
+ghost use Rattle.unit_report.specs.UnitOutputs.{layout_of};
+ghost use Rattle.event_text.specs.Scripts.{script_of};
+ghost use Rattle.info_text.specs.Responses.{answer, answering_script, answering_test, info_layout, info_response_text, is_delay, number_padding, response_number, script_answer, script_unit, separator, test_answer, test_unit, told_attempt, unit_answer, valid_output};
+
+use crate::state::{InfoUnit, write_state};
+use event_text::instance::{CountedInstance, write_instance_end};
+use event_text::script::ScriptInstance;
+use event_text::settings::Settings;
+use report_text::helpers::{ThemeCharacters, decimal_char_width};
+use report_text::indenter::indented;
+use report_text::numbers::spaces_str;
+use report_text::style::{Styles, write_plain};
+use report_text::write_str::{WriteFault, WriteStr};
+use run_model::info::{InfoResponse, SetupScriptInfoResponse, TestInfoResponse, UnitState};
+use run_model::output::{ChildExecutionOutputDescription, LiveSpec};
+use run_model::status::RetryData;
+use run_model::unit::UnitKind;
+use unit_report::unit_output::{ChildOutputSpec, OutputHeader, OutputName};
+
+#[cfg(test)]
+mod tests;
+
+/// Writes the answer of a unit. `index` is its place among so many, from 0.
+#[tactic(auto, unfolding(crate::specs::Responses::info_response_text))]
+pub fn write_info_response<W: WriteStr>(
+    w: &mut W,
+    settings: &Settings,
+    index: usize,
+    total: usize,
+    response: &InfoResponse<'_>,
+) -> Result<(), WriteFault>
+    ensures { Puts W.meaning w.old (info_response_text settings.now index total response.now) result w.new }
+{
+    write_separator(w, settings.theme_characters, index)?;
+    write_response_number(w, &settings.styles, index as u128 + 1, total)?;
+    write_indented(w, settings, response)?;
+    write_plain(w, "\n")
+}
+
+// Writes a bar before each answer but the first. It is shorter than those round all answers.
+#[tactic(auto, unfolding(crate::specs::Responses::separator))]
+fn write_separator<W: WriteStr>(
+    w: &mut W,
+    theme_characters: ThemeCharacters,
+    index: usize,
+) -> Result<(), WriteFault>
+    ensures { Puts W.meaning w.old (separator theme_characters index) result w.new }
+{
+    if index == 0 {
+        return Ok(());
+    }
+    theme_characters.write_hbar(w, 8)?;
+    write_plain(w, "\n")
+}
+
+// Writes which of so many answers it is. The number is counted from 1, and may be above the greatest of its type.
+#[tactic(auto, unfolding(crate::specs::Responses::response_number))]
+fn write_response_number<W: WriteStr>(
+    w: &mut W,
+    styles: &Styles,
+    number: u128,
+    total: usize,
+) -> Result<(), WriteFault>
+    ensures { Puts W.meaning w.old (response_number styles.now number total) result w.new }
+{
+    write_plain(w, "\n* ")?;
+    styles.count.write_number(w, number)?;
+    write_plain(w, "/")?;
+    styles.count.write_number(w, total as u128)?;
+    write_plain(w, ": ")?;
+    write_plain(w, number_padding(number, total))
+}
+
+// The spaces after that number, which stands as wide as `status: ` where it has room.
+fn number_padding(number: u128, total: usize) -> &'static str
+    ensures { result.now ≡ number_padding number total }
+{
+    let left = 8usize
+        .saturating_sub(decimal_char_width(number))
+        .saturating_sub(decimal_char_width(total))
+        .saturating_sub(3);
+    spaces_str(left)
+}
+
+// Writes what stands after the number, indented from the second line on.
+fn write_indented<W: WriteStr>(
+    w: &mut W,
+    settings: &Settings,
+    response: &InfoResponse<'_>,
+) -> Result<(), WriteFault>
+    ensures { Puts W.meaning w.old (indent (codes "  ") false (answer settings.now response.now)) result w.new }
+{
+    let mut out = indented(w).with_str("  ").skip_initial();
+    let result = write_answer(&mut out, settings, response);
+    let back = out.into_inner();
+    let _ = &*back;
+    result
+}
+
+// Writes who answers, what it is doing and what it has written.
+fn write_answer<W: WriteStr>(
+    w: &mut W,
+    settings: &Settings,
+    response: &InfoResponse<'_>,
+) -> Result<(), WriteFault>
+    ensures { Puts W.meaning w.old (answer settings.now response.now) result w.new }
+{
+    match response {
+        InfoResponse::SetupScript(response) => write_script_answer(w, settings, response),
+        InfoResponse::Test(response) => write_test_answer(w, settings, response),
+    }
+}
+
+// Writes the answer of a setup script.
+#[tactic(auto, unfolding(crate::specs::Responses::script_answer))]
+fn write_script_answer<W: WriteStr>(
+    w: &mut W,
+    settings: &Settings,
+    response: &SetupScriptInfoResponse,
+) -> Result<(), WriteFault>
+    ensures { Puts W.meaning w.old (script_answer settings.now response.now) result w.new }
+{
+    script_of_response(response).write_to(w, &settings.styles)?;
+    write_plain(w, "\n")?;
+    write_unit_answer(
+        w,
+        settings,
+        script_unit(response),
+        response.state.get(),
+        response.output.get(),
+    )
+}
+
+// The setup script that answers.
+fn script_of_response(response: &SetupScriptInfoResponse) -> ScriptInstance<'_>
+    ensures { script_of result ≡ answering_script response.now }
+{
+    ScriptInstance {
+        stress_index: response.stress_index,
+        script_id: &response.script_id,
+        program: &response.program,
+        args: &response.args,
+    }
+}
+
+// How its state is told.
+fn script_unit(response: &SetupScriptInfoResponse) -> InfoUnit
+    ensures { result ≡ script_unit response.now }
+{
+    InfoUnit {
+        kind: UnitKind::Script,
+        attempt: None,
+        has_errors: response.output.get().has_errors(),
+    }
+}
+
+// Writes the answer of a test.
+#[tactic(auto, unfolding(crate::specs::Responses::test_answer))]
+fn write_test_answer<W: WriteStr>(
+    w: &mut W,
+    settings: &Settings,
+    response: &TestInfoResponse<'_>,
+) -> Result<(), WriteFault>
+    ensures { Puts W.meaning w.old (test_answer settings.now response.now) result w.new }
+{
+    write_instance_end(w, &settings.styles, test_of_response(response))?;
+    write_unit_answer(
+        w,
+        settings,
+        test_unit(response),
+        response.state.get(),
+        response.output.get(),
+    )
+}
+
+// The test that answers. Its line has no counter.
+fn test_of_response<'a>(response: &TestInfoResponse<'a>) -> CountedInstance<'a>
+    ensures { result ≡ answering_test response.now }
+{
+    CountedInstance {
+        stress_index: response.stress_index,
+        counter: None,
+        instance: response.test_instance,
+    }
+}
+
+// How its state is told.
+fn test_unit(response: &TestInfoResponse<'_>) -> InfoUnit
+    ensures { result ≡ test_unit response.now }
+{
+    InfoUnit {
+        kind: UnitKind::Test,
+        attempt: told_attempt(response.retry_data, response.state.get()),
+        has_errors: response.output.get().has_errors(),
+    }
+}
+
+// The attempt, where it is told: of a later one of several, and where the next one waits.
+fn told_attempt(retry_data: RetryData, state: &UnitState) -> Option<RetryData>
+    ensures { result ≡ told_attempt retry_data state.now }
+{
+    if retry_data.attempt > 1 && retry_data.total_attempts > 1 || is_delay(state) {
+        Some(retry_data)
+    } else {
+        None
+    }
+}
+
+// Whether the next attempt waits.
+fn is_delay(state: &UnitState) -> bool
+    ensures { result ≡ is_delay state.now }
+{
+    matches!(state, UnitState::DelayBeforeNextAttempt { .. })
+}
+
+// Writes what a unit is doing and what it has written.
+#[tactic(auto, unfolding(crate::specs::Responses::unit_answer))]
+fn write_unit_answer<W: WriteStr>(
+    w: &mut W,
+    settings: &Settings,
+    unit: InfoUnit,
+    state: &UnitState,
+    output: &ChildExecutionOutputDescription<LiveSpec>,
+) -> Result<(), WriteFault>
+    ensures { Puts W.meaning w.old (unit_answer settings.now unit state.now output.now) result w.new }
+{
+    write_state(w, settings, unit, state)?;
+    write_valid_output(w, settings, unit.kind, state, output)
+}
+
+// Writes the output, where it is that of the unit.
+#[tactic(auto, unfolding(crate::specs::Responses::valid_output))]
+fn write_valid_output<W: WriteStr>(
+    w: &mut W,
+    settings: &Settings,
+    kind: UnitKind,
+    state: &UnitState,
+    output: &ChildExecutionOutputDescription<LiveSpec>,
+) -> Result<(), WriteFault>
+    ensures { Puts W.meaning w.old (valid_output settings.now kind state.now output.now) result w.new }
+{
+    if !state.has_valid_output() {
+        return Ok(());
+    }
+    let spec = output_spec_for_info(&settings.styles, kind);
+    settings
+        .unit_output
+        .write_child_execution_output(&settings.styles, &spec, output, w)
+}
+
+// How the output within an answer is laid out.
+fn output_spec_for_info(styles: &Styles, kind: UnitKind) -> ChildOutputSpec
+    ensures { layout_of result ≡ info_layout styles.now kind }
+{
+    let style = styles.count;
+    ChildOutputSpec {
+        kind,
+        stdout_header: OutputHeader::Label {
+            style,
+            name: OutputName::Stdout,
+        },
+        stderr_header: OutputHeader::Label {
+            style,
+            name: OutputName::Stderr,
+        },
+        combined_header: OutputHeader::Label {
+            style,
+            name: OutputName::Output,
+        },
+        exec_fail_header: OutputHeader::Label {
+            style,
+            name: OutputName::Errors,
+        },
+        output_indent: "  ",
+    }
+}

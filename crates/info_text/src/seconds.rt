@@ -1,0 +1,25 @@
+//! Durations within lines.
+
+ghost use Rattle.report_text.specs.Writer.{Puts};
+ghost use Rattle.info_text.specs.Seconds.{seconds_between};
+
+use report_text::numbers::write_seconds_between;
+use report_text::write_str::{WriteFault, WriteStr};
+use run_model::time::Nanos;
+
+/// Writes a duration in seconds with three decimals between two texts.
+///
+/// ```
+/// write_seconds(w, " for ", Nanos(1_500_000_000), "s") // " for 1.500s"
+/// ```
+#[tactic(auto, unfolding(crate::specs::Seconds::seconds_between, report_text::specs::Texts::right_in))]
+pub fn write_seconds<W: WriteStr>(
+    w: &mut W,
+    before: &str,
+    duration: Nanos,
+    after: &str,
+) -> Result<(), WriteFault>
+    ensures { Puts W.meaning w.old (seconds_between before.now duration.0 after.now) result w.new }
+{
+    write_seconds_between(w, before, 0, duration.0, after)
+}

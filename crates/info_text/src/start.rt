@@ -1,0 +1,79 @@
+//! That all units are asked what they are doing, and that no further answers are waited for.
+
+ghost use Rattle.report_text.specs.Writer.{Puts};
+ghost use Rattle.info_text.specs.Starts.{info_finished_text, info_started_text, missing_line, missing_note};
+
+use crate::seconds::write_seconds;
+use event_text::bar::write_bar_line;
+use event_text::settings::Settings;
+use event_text::stats_text::write_progress_message;
+use report_text::style::{Styles, write_plain};
+use report_text::write_str::{WriteFault, WriteStr};
+use run_model::stats::RunStats;
+use run_model::time::Nanos;
+use run_text::input::failure_style;
+
+#[cfg(test)]
+mod tests;
+
+/// Writes that so many units are asked, which stand for those that run, with the counts of the run.
+#[tactic(auto, unfolding(crate::specs::Starts::info_started_text))]
+pub fn write_info_started<W: WriteStr>(
+    w: &mut W,
+    settings: &Settings,
+    elapsed: Nanos,
+    total: usize,
+    stats: &RunStats,
+) -> Result<(), WriteFault>
+    ensures { Puts W.meaning w.old (info_started_text settings.now elapsed.0 total stats.now) result w.new }
+{
+    let styles = &settings.styles;
+    write_bar_line(w, settings.theme_characters)?;
+    failure_style(styles, stats).write(w, "info")?;
+    write_plain(w, ": ")?;
+    write_progress_message(w, styles, stats, total)?;
+    write_seconds(w, " in ", elapsed, "s\n")
+}
+
+/// Writes that no further answers are waited for, and how many are missing.
+#[tactic(auto, unfolding(crate::specs::Starts::info_finished_text))]
+pub fn write_info_finished<W: WriteStr>(
+    w: &mut W,
+    settings: &Settings,
+    missing: usize,
+) -> Result<(), WriteFault>
+    ensures { Puts W.meaning w.old (info_finished_text settings.now missing) result w.new }
+{
+    write_missing_note(w, &settings.styles, missing)?;
+    write_bar_line(w, settings.theme_characters)
+}
+
+// Writes how many answers are missing, where there are some.
+#[tactic(auto, unfolding(crate::specs::Starts::missing_note))]
+fn write_missing_note<W: WriteStr>(
+    w: &mut W,
+    styles: &Styles,
+    missing: usize,
+) -> Result<(), WriteFault>
+    ensures { Puts W.meaning w.old (missing_note styles.now missing) result w.new }
+{
+    if missing == 0 {
+        return Ok(());
+    }
+    write_missing_line(w, styles, missing)
+}
+
+// Writes how many answers are missing.
+#[tactic(auto, unfolding(crate::specs::Starts::missing_line))]
+fn write_missing_line<W: WriteStr>(
+    w: &mut W,
+    styles: &Styles,
+    missing: usize,
+) -> Result<(), WriteFault>
+    ensures { Puts W.meaning w.old (missing_line styles.now missing) result w.new }
+{
+    styles.skip.write(w, "info")?;
+    write_plain(w, ": missing ")?;
+    styles.count.write_number(w, missing as u128)?;
+    write_plain(w, " responses\n")
+}

@@ -1,0 +1,409 @@
+//! What a unit is doing, in the lines of its answer.
+
+ghost use Rattle.std.specs.Prelude.{◌≡◌};
+ghost use Rattle.std.specs.Option.{is_some};
+ghost use Rattle.report_text.specs.Writer.{Puts};
+ghost use Rattle.info_text.specs.States.{attempt_text, delay_line, delay_note, exited_text, exiting_line, exiting_note, leak_note, nanos_of, note_start, process_of, running_style, running_text, signal_of, slow_end, state_text, status_start, taken_end, tentative_info, terminating_line, terminating_note, unit_start, unknown_info};
+ghost use Rattle.unit_report.specs.UnitKinds.{unit_word};
+
+use crate::seconds::write_seconds;
+use event_text::info_result::write_info_result;
+use event_text::settings::Settings;
+use itoa::Buffer;
+use report_text::style::{Style, Styles, write_plain};
+use report_text::write_str::{WriteFault, WriteStr};
+use run_model::info::{UnitState, UnitTerminateMethod, UnitTerminatingState};
+use run_model::status::{ExecutionResultDescription, RetryData};
+use run_model::time::Nanos;
+use run_model::unit::UnitKind;
+use unit_report::formatters::DisplayUnitKind;
+
+#[cfg(test)]
+mod tests;
+
+/// The unit that a state is told of.
+#[derive(Clone, Copy, Debug)]
+pub struct InfoUnit {
+    /// Whether it is a test or a setup script.
+    pub kind: UnitKind,
+    /// Which attempt it is, where that is told.
+    pub attempt: Option<RetryData>,
+    /// Whether its output has errors.
+    pub has_errors: bool,
+}
+
+/// Writes what a unit is doing.
+#[tactic(auto, unfolding(crate::specs::States::state_text))]
+pub fn write_state<W: WriteStr>(
+    w: &mut W,
+    settings: &Settings,
+    unit: InfoUnit,
+    state: &UnitState,
+) -> Result<(), WriteFault>
+    ensures { Puts W.meaning w.old (state_text settings.now unit state.now) result w.new }
+{
+    match state {
+        UnitState::Running {
+            pid,
+            time_taken,
+            slow_after,
+        } => write_running(w, settings, unit, *pid, *time_taken, *slow_after),
+        UnitState::Exiting {
+            pid,
+            time_taken,
+            slow_after,
+            tentative_result,
+            waiting_duration,
+            remaining,
+        } => {
+            write_exiting_line(
+                w,
+                settings,
+                unit,
+                tentative_result,
+                *time_taken,
+                *slow_after,
+            )?;
+            write_exiting_note(w, settings, unit, *pid, *waiting_duration, *remaining)
+        }
+        UnitState::Terminating(state) => {
+            write_terminating_line(w, settings, unit, state)?;
+            write_terminating_note(w, settings, unit, state)
+        }
+        UnitState::Exited {
+            result,
+            time_taken,
+            slow_after,
+        } => write_exited(w, settings, unit, result, *time_taken, *slow_after),
+        UnitState::DelayBeforeNextAttempt {
+            previous_result,
+            previous_slow,
+            waiting_duration,
+            remaining,
+        } => {
+            write_delay_line(w, settings, unit, previous_result, *previous_slow)?;
+            write_delay_note(w, settings, unit, *waiting_duration, *remaining)
+        }
+    }
+}
+
+// Writes that a process runs.
+#[tactic(auto, unfolding(crate::specs::States::running_text))]
+fn write_running<W: WriteStr>(
+    w: &mut W,
+    settings: &Settings,
+    unit: InfoUnit,
+    pid: u32,
+    time_taken: Nanos,
+    slow_after: Option<Nanos>,
+) -> Result<(), WriteFault>
+    ensures { Puts W.meaning w.old (running_text settings.now unit pid time_taken.0 slow_after) result w.new }
+{
+    let styles = &settings.styles;
+    write_unit_start(w, settings, unit)?;
+    running_style(styles, unit.has_errors, slow_after.is_some()).write(w, "running")?;
+    write_seconds(w, " for ", time_taken, "s as PID ")?;
+    styles.count.write_number(w, pid as u128)?;
+    write_slow_end(w, slow_after)
+}
+
+// The style in which a unit runs: one with errors in that of failures, a slow one in that of skipped tests.
+fn running_style(styles: &Styles, has_errors: bool, is_slow: bool) -> Style
+    ensures { result ≡ running_style styles.now has_errors is_slow }
+{
+    if has_errors {
+        styles.fail
+    } else if is_slow {
+        styles.skip
+    } else {
+        styles.pass
+    }
+}
+
+// Writes that a process has ended whose handles are waited for, and how as far as that is known.
+#[tactic(auto, unfolding(crate::specs::States::exiting_line))]
+fn write_exiting_line<W: WriteStr>(
+    w: &mut W,
+    settings: &Settings,
+    unit: InfoUnit,
+    outcome: &Option<ExecutionResultDescription>,
+    time_taken: Nanos,
+    slow_after: Option<Nanos>,
+) -> Result<(), WriteFault>
+    ensures { Puts W.meaning w.old (exiting_line settings.now unit outcome.now time_taken.0 slow_after) result w.new }
+{
+    write_unit_start(w, settings, unit)?;
+    write_tentative_info(w, &settings.styles, slow_after.is_some(), outcome)?;
+    write_taken_end(w, time_taken, slow_after)
+}
+
+// Writes how a unit ended as far as that is known.
+fn write_tentative_info<W: WriteStr>(
+    w: &mut W,
+    styles: &Styles,
+    is_slow: bool,
+    outcome: &Option<ExecutionResultDescription>,
+) -> Result<(), WriteFault>
+    ensures { Puts W.meaning w.old (tentative_info styles.now is_slow outcome.now) result w.new }
+{
+    match outcome {
+        None => write_unknown_info(w, styles),
+        Some(outcome) => write_info_result(w, styles, is_slow, outcome),
+    }
+}
+
+// Writes that it is not known how a unit ended.
+#[tactic(auto, unfolding(crate::specs::States::unknown_info))]
+fn write_unknown_info<W: WriteStr>(w: &mut W, styles: &Styles) -> Result<(), WriteFault>
+    ensures { Puts W.meaning w.old (unknown_info styles.now) result w.new }
+{
+    styles.fail.write(w, "failed")?;
+    write_plain(w, " with unknown status")
+}
+
+// Writes how long the handles that a process left open have been waited for, from a second on.
+#[tactic(auto, unfolding(crate::specs::States::exiting_note))]
+fn write_exiting_note<W: WriteStr>(
+    w: &mut W,
+    settings: &Settings,
+    unit: InfoUnit,
+    pid: u32,
+    waiting: Nanos,
+    remaining: Nanos,
+) -> Result<(), WriteFault>
+    ensures { Puts W.meaning w.old (exiting_note settings.now unit pid waiting.0 remaining.0) result w.new }
+{
+    if waiting.0 < 1_000_000_000 {
+        return Ok(());
+    }
+    write_leak_note(w, settings, unit, pid, waiting, remaining)
+}
+
+// Writes how long they have been waited for.
+#[tactic(auto, unfolding(crate::specs::States::leak_note))]
+fn write_leak_note<W: WriteStr>(
+    w: &mut W,
+    settings: &Settings,
+    unit: InfoUnit,
+    pid: u32,
+    waiting: Nanos,
+    remaining: Nanos,
+) -> Result<(), WriteFault>
+    ensures { Puts W.meaning w.old (leak_note settings.now unit pid waiting.0 remaining.0) result w.new }
+{
+    write_note_start(w, &settings.styles)?;
+    write_seconds(w, ":   spent ", waiting, "s waiting for ")?;
+    write_process(w, settings, unit, pid)?;
+    write_seconds(
+        w,
+        " to shut down, will mark as leaky after another ",
+        remaining,
+        "s\n",
+    )
+}
+
+// Writes that a process is being ended, and why.
+#[tactic(auto, unfolding(crate::specs::States::terminating_line))]
+fn write_terminating_line<W: WriteStr>(
+    w: &mut W,
+    settings: &Settings,
+    unit: InfoUnit,
+    state: &UnitTerminatingState,
+) -> Result<(), WriteFault>
+    ensures { Puts W.meaning w.old (terminating_line settings.now unit state.now) result w.new }
+{
+    let styles = &settings.styles;
+    write_status_start(w, settings, unit)?;
+    styles.fail.write(w, "terminating")?;
+    write_plain(w, " ")?;
+    write_process(w, settings, unit, state.pid)?;
+    write_plain(w, " due to ")?;
+    styles.count.write(w, state.reason.as_str())?;
+    write_plain(w, " (")?;
+    DisplayUnitKind::new(settings.mode, unit.kind).write_to(w)?;
+    write_seconds(w, " ran for ", state.time_taken, "s)\n")
+}
+
+// Writes how a process is being ended.
+#[tactic(auto, unfolding(crate::specs::States::terminating_note))]
+fn write_terminating_note<W: WriteStr>(
+    w: &mut W,
+    settings: &Settings,
+    unit: InfoUnit,
+    state: &UnitTerminatingState,
+) -> Result<(), WriteFault>
+    ensures { Puts W.meaning w.old (terminating_note settings.now unit state.now) result w.new }
+{
+    write_note_start(w, &settings.styles)?;
+    write_plain(w, ":   sent ")?;
+    write_plain(w, signal_of(&state.method))?;
+    write_seconds(
+        w,
+        " to process group; spent ",
+        state.waiting_duration,
+        "s waiting for ",
+    )?;
+    DisplayUnitKind::new(settings.mode, unit.kind).write_to(w)?;
+    write_seconds(
+        w,
+        " to exit, will SIGKILL after another ",
+        state.remaining,
+        "s\n",
+    )
+}
+
+// The name of the signal that was sent.
+fn signal_of(method: &UnitTerminateMethod) -> &str
+    ensures { result.now ≡ signal_of method.now }
+{
+    match method {
+        UnitTerminateMethod::Signal(signal) => signal.as_str(),
+    }
+}
+
+// Writes that a process has ended, and how.
+#[tactic(auto, unfolding(crate::specs::States::exited_text))]
+fn write_exited<W: WriteStr>(
+    w: &mut W,
+    settings: &Settings,
+    unit: InfoUnit,
+    outcome: &ExecutionResultDescription,
+    time_taken: Nanos,
+    slow_after: Option<Nanos>,
+) -> Result<(), WriteFault>
+    ensures { Puts W.meaning w.old (exited_text settings.now unit outcome.now time_taken.0 slow_after) result w.new }
+{
+    write_unit_start(w, settings, unit)?;
+    write_info_result(w, &settings.styles, slow_after.is_some(), outcome)?;
+    write_taken_end(w, time_taken, slow_after)
+}
+
+// Writes that the next attempt waits, and how the one before ended.
+#[tactic(auto, unfolding(crate::specs::States::delay_line))]
+fn write_delay_line<W: WriteStr>(
+    w: &mut W,
+    settings: &Settings,
+    unit: InfoUnit,
+    previous: &ExecutionResultDescription,
+    is_slow: bool,
+) -> Result<(), WriteFault>
+    ensures { Puts W.meaning w.old (delay_line settings.now unit previous.now is_slow) result w.new }
+{
+    write_unit_start(w, settings, unit)?;
+    write_info_result(w, &settings.styles, is_slow, previous)?;
+    write_plain(w, ", currently ")?;
+    settings.styles.count.write(w, "waiting")?;
+    write_plain(w, " before next attempt\n")
+}
+
+// Writes how long the next attempt has waited, and how much longer it waits.
+#[tactic(auto, unfolding(crate::specs::States::delay_note))]
+fn write_delay_note<W: WriteStr>(
+    w: &mut W,
+    settings: &Settings,
+    unit: InfoUnit,
+    waiting: Nanos,
+    remaining: Nanos,
+) -> Result<(), WriteFault>
+    ensures { Puts W.meaning w.old (delay_note settings.now unit waiting.0 remaining.0) result w.new }
+{
+    write_note_start(w, &settings.styles)?;
+    write_seconds(w, ":   waited ", waiting, "s so far")?;
+    write_seconds(w, ", will wait another ", remaining, "s before retrying ")?;
+    DisplayUnitKind::new(settings.mode, unit.kind).write_to(w)?;
+    write_plain(w, "\n")
+}
+
+// Writes how the line of a state begins, with the word for the unit.
+#[tactic(auto, unfolding(crate::specs::States::unit_start))]
+fn write_unit_start<W: WriteStr>(
+    w: &mut W,
+    settings: &Settings,
+    unit: InfoUnit,
+) -> Result<(), WriteFault>
+    ensures { Puts W.meaning w.old (unit_start settings.now unit) result w.new }
+{
+    write_status_start(w, settings, unit)?;
+    DisplayUnitKind::new(settings.mode, unit.kind).write_to(w)?;
+    write_plain(w, " ")
+}
+
+// Writes how the line of a state begins.
+#[tactic(auto, unfolding(crate::specs::States::status_start))]
+fn write_status_start<W: WriteStr>(
+    w: &mut W,
+    settings: &Settings,
+    unit: InfoUnit,
+) -> Result<(), WriteFault>
+    ensures { Puts W.meaning w.old (status_start settings.now unit) result w.new }
+{
+    settings.styles.count.write(w, "status")?;
+    write_plain(w, ": ")?;
+    write_attempt(w, unit.attempt)
+}
+
+// Writes which attempt it is, where that is told.
+#[tactic(auto, unfolding(crate::specs::States::attempt_text))]
+fn write_attempt<W: WriteStr>(w: &mut W, attempt: Option<RetryData>) -> Result<(), WriteFault>
+    ensures { Puts W.meaning w.old (attempt_text attempt) result w.new }
+{
+    match attempt {
+        None => Ok(()),
+        Some(retry_data) => {
+            let mut attempt = Buffer::new();
+            let mut total = Buffer::new();
+            write_plain(w, "(attempt ")?;
+            write_plain(w, attempt.format(retry_data.attempt))?;
+            write_plain(w, "/")?;
+            write_plain(w, total.format(retry_data.total_attempts))?;
+            write_plain(w, ") ")
+        }
+    }
+}
+
+// Writes how a note begins.
+#[tactic(auto, unfolding(crate::specs::States::note_start))]
+fn write_note_start<W: WriteStr>(w: &mut W, styles: &Styles) -> Result<(), WriteFault>
+    ensures { Puts W.meaning w.old (note_start styles.now) result w.new }
+{
+    styles.count.write(w, "note")
+}
+
+// Writes the word for a unit and its process's id.
+#[tactic(auto, unfolding(crate::specs::States::process_of))]
+fn write_process<W: WriteStr>(
+    w: &mut W,
+    settings: &Settings,
+    unit: InfoUnit,
+    pid: u32,
+) -> Result<(), WriteFault>
+    ensures { Puts W.meaning w.old (process_of settings.now unit pid) result w.new }
+{
+    DisplayUnitKind::new(settings.mode, unit.kind).write_to(w)?;
+    write_plain(w, " PID ")?;
+    settings.styles.count.write_number(w, pid as u128)
+}
+
+// Writes how long a unit took, and the end of the line.
+#[tactic(auto, unfolding(crate::specs::States::taken_end))]
+fn write_taken_end<W: WriteStr>(
+    w: &mut W,
+    time_taken: Nanos,
+    slow_after: Option<Nanos>,
+) -> Result<(), WriteFault>
+    ensures { Puts W.meaning w.old (taken_end time_taken.0 slow_after) result w.new }
+{
+    write_seconds(w, " after ", time_taken, "s")?;
+    write_slow_end(w, slow_after)
+}
+
+// Writes when a unit was marked as slow, where it was, and the end of the line.
+#[tactic(auto, unfolding(crate::specs::States::slow_end))]
+fn write_slow_end<W: WriteStr>(w: &mut W, slow_after: Option<Nanos>) -> Result<(), WriteFault>
+    ensures { Puts W.meaning w.old (slow_end (nanos_of slow_after)) result w.new }
+{
+    match slow_after {
+        None => write_plain(w, "\n"),
+        Some(slow_after) => write_seconds(w, " (marked slow after ", slow_after, "s)\n"),
+    }
+}

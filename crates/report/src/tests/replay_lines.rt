@@ -1,0 +1,125 @@
+//! What a scene says of a replay: the unique prefix of a run's id, and the header.
+
+use super::{OPTIONS, RUN, line_of, refused, report_of, taken};
+use std::test::Fail;
+
+const PREFIX: &str = "prefix\t0\t0000000-0000-4000-8000-000000000001";
+
+const HEADER: &str = "header\t00000000-0000-4000-8000-000000000001\t-\t-\t2024,2,29,7,5,9\tok";
+
+const WITH_PREFIX: &str =
+    "header\t00000000-0000-4000-8000-000000000001\t0\t0000000\t-5,2,28,23,59,59\tfailed: 1";
+
+#[test]
+fn takes_good_fields(rt: HostRuntime) -> Result<(), Fail> {
+    let alloc = rt.alloc();
+    let fields: [(&str, usize, &[&str]); 8] = [
+        (PREFIX, 2, &["", "-", "\\x2d"]),
+        (PREFIX, 3, &["", "-", "\\n"]),
+        (HEADER, 2, &["00000000000040008000000000000001"]),
+        (
+            HEADER,
+            5,
+            &[
+                "9999,12,31,0,0,0",
+                "-9999,1,1,23,59,59",
+                "-0,02,029,007,5,9",
+                "2000,2,29,0,0,0",
+            ],
+        ),
+        (HEADER, 6, &["", "-", "a b"]),
+        (WITH_PREFIX, 3, &["", "\\x2d"]),
+        (WITH_PREFIX, 4, &["", "\\x2d"]),
+        (WITH_PREFIX, 5, &["1900,2,28,0,0,0"]),
+    ];
+    for (line, field, texts) in fields {
+        assert_eq!(rt; refused(alloc, line, field, texts)?, None, "{line}");
+    }
+    Ok(())
+}
+
+#[test]
+fn tells_bad_fields(rt: HostRuntime) -> Result<(), Fail> {
+    let alloc = rt.alloc();
+    let dates = [
+        "",
+        "-",
+        "2024,2,29,7,5",
+        "2024,2,29,7,5,9,0",
+        "10000,1,1,0,0,0",
+        "-10000,1,1,0,0,0",
+        "+5,1,1,0,0,0",
+        "2024,0,1,0,0,0",
+        "2024,13,1,0,0,0",
+        "2024,1,0,0,0,0",
+        "2024,2,30,0,0,0",
+        "2023,2,29,0,0,0",
+        "1900,2,29,0,0,0",
+        "2024,4,31,0,0,0",
+        "2024,-1,1,0,0,0",
+        "2024,257,1,0,0,0",
+        "2024,1,1,24,0,0",
+        "2024,1,1,0,60,0",
+        "2024,1,1,0,0,60",
+        "2024,1,1,0,0,256",
+        "2024,1,1, 0,0,0",
+    ];
+    assert_eq!(rt; taken(alloc, HEADER, 5, &dates)?, None);
+    let fields: [(&str, usize, &[&str]); 7] = [
+        (PREFIX, 2, &["\\", "\\,"]),
+        (PREFIX, 3, &["\\xe9"]),
+        (HEADER, 2, &["", "-"]),
+        (HEADER, 4, &["", "0"]),
+        (HEADER, 6, &["\\"]),
+        (WITH_PREFIX, 3, &["\\q"]),
+        (WITH_PREFIX, 4, &["-", "\\q"]),
+    ];
+    for (line, field, texts) in fields {
+        assert_eq!(rt; taken(alloc, line, field, texts)?, None, "{line}");
+    }
+    Ok(())
+}
+
+#[test]
+fn counts_the_fields_of_lines(rt: HostRuntime) -> Result<(), Fail> {
+    let alloc = rt.alloc();
+    let fault = "report: line 1: wrong number of fields";
+    for line in [PREFIX, HEADER] {
+        assert_eq!(rt; line_of(alloc, line.as_bytes())?.as_str(), "");
+        let longer = format!(in alloc; "{line}\t-")?;
+        assert_eq!(rt; line_of(alloc, longer.as_bytes())?.as_str(), fault);
+        let Some((shorter, _)) = line.rsplit_once('\t') else {
+            return Err(Fail::from("the line has fields"));
+        };
+        assert_eq!(rt; line_of(alloc, shorter.as_bytes())?.as_str(), fault);
+        let late = format!(in alloc; "{line}\nconfig\tfinal\tall")?;
+        assert_eq!(rt;
+            line_of(alloc, late.as_bytes())?.as_str(),
+            "report: line 2: config after an event"
+        );
+    }
+    Ok(())
+}
+
+#[test]
+fn prints_headers_and_prefixes(rt: HostRuntime) -> Result<(), Fail> {
+    let alloc = rt.alloc();
+    let printed = report_of(alloc, &OPTIONS, HEADER.as_bytes())?;
+    let lines = "   Replaying recorded run 00000000-0000-4000-8000-000000000001
+     Started 2024-02-29 07:05:09  status: ok
+";
+    assert_eq!(rt; printed.as_slice(), lines.as_bytes());
+    let printed = report_of(alloc, &OPTIONS, WITH_PREFIX.as_bytes())?;
+    let lines = "   Replaying recorded run 00000000
+     Started -0005-02-28 23:59:59  status: failed: 1
+";
+    assert_eq!(rt; printed.as_slice(), lines.as_bytes());
+    let scene = format!(in alloc; "prefix\tx\ty\nprefix\tone\tmore\n{RUN}")?;
+    let printed = report_of(alloc, &OPTIONS, scene.as_bytes())?;
+    let lines = "------------
+ Nextest run ID onemore with nextest profile: default
+    Starting 2 tests across 1 binary
+";
+    assert_eq!(rt; printed.as_slice(), lines.as_bytes());
+    Ok(())
+}

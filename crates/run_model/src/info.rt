@@ -1,0 +1,184 @@
+//! What each unit of a run answers when it is asked what it is doing.
+
+ghost use Rattle.std.specs.Prelude.{◌≡◌, Some};
+ghost use Rattle.run_model.specs.Infos.{has_valid_output, terminate_reason_text};
+
+use crate::abort::DescriptionText;
+use crate::boxed::Boxed;
+use crate::command::CommandLine;
+use crate::name::{ProgramName, ScriptId, TestInstanceId};
+use crate::output::{ChildExecutionOutputDescription, LiveSpec};
+use crate::status::{ExecutionResultDescription, RetryData};
+use crate::stress::StressIndex;
+use crate::time::Nanos;
+use std::fmt;
+use std::fmt::Formatter;
+
+/// What a unit answers.
+///
+/// Its state and its output have memory of their own, since answers are rare and events are to stay small.
+#[derive(Debug, Drop)]
+pub enum InfoResponse<'a> {
+    /// A setup script does.
+    SetupScript(SetupScriptInfoResponse),
+    /// A test does.
+    Test(TestInfoResponse<'a>),
+}
+
+/// What a setup script answers.
+#[derive(Debug, Drop)]
+pub struct SetupScriptInfoResponse {
+    /// Which iteration of a stress run it belongs to.
+    pub stress_index: Option<StressIndex>,
+    /// The script's id.
+    pub script_id: ScriptId,
+    /// The program that it runs.
+    pub program: ProgramName,
+    /// The program's arguments.
+    pub args: CommandLine,
+    /// What it is doing.
+    pub state: Boxed<UnitState>,
+    /// What it has written so far.
+    pub output: Boxed<ChildExecutionOutputDescription<LiveSpec>>,
+}
+
+/// What a test answers.
+#[derive(Debug, Drop)]
+pub struct TestInfoResponse<'a> {
+    /// Which iteration of a stress run it belongs to.
+    pub stress_index: Option<StressIndex>,
+    /// The test.
+    pub test_instance: TestInstanceId<'a>,
+    /// Which attempt it is.
+    pub retry_data: RetryData,
+    /// What it is doing.
+    pub state: Boxed<UnitState>,
+    /// What the attempt has written so far.
+    pub output: Boxed<ChildExecutionOutputDescription<LiveSpec>>,
+}
+
+/// What a unit is doing.
+#[derive(Debug, Drop)]
+pub enum UnitState {
+    /// Its process runs.
+    Running {
+        /// The process's id.
+        pid: u32,
+        /// How long it has run.
+        time_taken: Nanos,
+        /// When it was marked as slow, where it was.
+        slow_after: Option<Nanos>,
+    },
+    /// Its process has ended, and handles that it left open are waited for.
+    Exiting {
+        /// The process's id.
+        pid: u32,
+        /// How long it ran.
+        time_taken: Nanos,
+        /// When it was marked as slow, where it was.
+        slow_after: Option<Nanos>,
+        /// How it ended as far as that is known.
+        tentative_result: Option<ExecutionResultDescription>,
+        /// How long its handles have been waited for.
+        waiting_duration: Nanos,
+        /// How much longer they are waited for.
+        remaining: Nanos,
+    },
+    /// Its process is being ended.
+    Terminating(UnitTerminatingState),
+    /// Its process has ended.
+    Exited {
+        /// How it ended.
+        result: ExecutionResultDescription,
+        /// How long it ran.
+        time_taken: Nanos,
+        /// When it was marked as slow, where it was.
+        slow_after: Option<Nanos>,
+    },
+    /// The next attempt waits.
+    DelayBeforeNextAttempt {
+        /// How the attempt before ended.
+        previous_result: ExecutionResultDescription,
+        /// Whether that was slow.
+        previous_slow: bool,
+        /// How long the next attempt has waited.
+        waiting_duration: Nanos,
+        /// How much longer it waits.
+        remaining: Nanos,
+    },
+}
+
+impl UnitState {
+    /// Whether the output that stands beside the state is that of the unit: between two attempts there is none.
+    pub fn has_valid_output(&self) -> bool
+        ensures { result ≡ has_valid_output self.now }
+    {
+        match self {
+            UnitState::Running { .. }
+            | UnitState::Exiting { .. }
+            | UnitState::Terminating(_)
+            | UnitState::Exited { .. } => true,
+            UnitState::DelayBeforeNextAttempt { .. } => false,
+        }
+    }
+}
+
+/// A process that is being ended.
+#[derive(Debug, Drop)]
+pub struct UnitTerminatingState {
+    /// The process's id.
+    pub pid: u32,
+    /// How long it has run.
+    pub time_taken: Nanos,
+    /// Why it is ended.
+    pub reason: UnitTerminateReason,
+    /// How it is ended.
+    pub method: UnitTerminateMethod,
+    /// How long its end has been waited for.
+    pub waiting_duration: Nanos,
+    /// How much longer it is waited for before it is killed.
+    pub remaining: Nanos,
+}
+
+/// Why a process is ended. It prints its name in lower case.
+///
+/// ```
+/// UnitTerminateReason::Timeout // "timeout"
+/// ```
+#[derive(Clone, Copy, Debug, PartialEq, Eq)]
+pub enum UnitTerminateReason {
+    /// It has run too long.
+    Timeout,
+    /// The run was ended by a signal.
+    Signal,
+    /// The run was interrupted.
+    Interrupt,
+}
+
+impl UnitTerminateReason {
+    /// The name in lower case.
+    pub fn as_str(self) -> &'static str
+        ensures { result.now ≡ terminate_reason_text self }
+    {
+        match self {
+            UnitTerminateReason::Timeout => "timeout",
+            UnitTerminateReason::Signal => "signal",
+            UnitTerminateReason::Interrupt => "interrupt",
+        }
+    }
+}
+
+impl fmt::Display for UnitTerminateReason {
+    ghost output = { λ reason. Some (terminate_reason_text reason) };
+
+    fn fmt<W: fmt::Write>(&self, f: &mut Formatter<W>) -> fmt::Result {
+        f.write_str(self.as_str())
+    }
+}
+
+/// How a process is ended.
+#[derive(Debug, Drop)]
+pub enum UnitTerminateMethod {
+    /// By the signal of this name, as `SIGTERM`.
+    Signal(DescriptionText),
+}

@@ -1,0 +1,50 @@
+//! Tests that a run was to see and has not.
+
+ghost use Rattle.std.specs.Prelude.{◌≡◌};
+
+use crate::name::OwnedTestInstanceId;
+use std::marker::Model;
+
+/// The tests that are outstanding from the run before and that a rerun has not seen.
+#[derive(Debug, Drop)]
+pub struct NotSeen {
+    /// Those that are listed. There may be more.
+    pub not_seen: TestInstanceList,
+    /// How many there are.
+    pub total_not_seen: usize,
+}
+
+/// Tests in order. Contracts see them as a list.
+///
+/// ```
+/// TestInstanceList::new(instances) // of a vector of tests whose names are their own
+/// ```
+#[derive(Debug, Drop)]
+pub struct TestInstanceList {
+    instances: Vec<OwnedTestInstanceId>,
+}
+
+impl Model for TestInstanceList {
+    ghost use Rattle.std.specs.Prelude.{List};
+    ghost use Rattle.run_model.specs.declared.name.OwnedTestInstanceId.{OwnedTestInstanceId};
+
+    ghost Value = { List OwnedTestInstanceId };
+
+    ghost view = { λ list. list.instances.items };
+}
+
+impl TestInstanceList {
+    /// These tests.
+    pub fn new(instances: Vec<OwnedTestInstanceId>) -> Self
+        ensures { result ≡ instances.items }
+    {
+        TestInstanceList { instances }
+    }
+
+    /// The tests.
+    pub fn as_slice(&self) -> &[OwnedTestInstanceId]
+        ensures { result.now ≡ self.now }
+    {
+        self.instances.as_slice()
+    }
+}

@@ -1,0 +1,11 @@
+pub mod Cancels
+pub mod Headers
+pub mod Inputs
+pub mod NotSeens
+pub mod Pauses
+pub mod RunIds
+pub mod Running
+pub mod SetupScripts
+pub mod Starts
+pub mod StressRuns
+pub mod Summaries

@@ -1,0 +1,132 @@
+//! What a replay says before it: which recorded run it shows, when that started, and how it ended.
+
+ghost use Rattle.std.specs.Prelude.{◌≡◌};
+ghost use Rattle.report_text.specs.Writer.{Puts};
+ghost use Rattle.run_text.specs.Headers.{date_text, replay_header_text, replaying_line, started_line, started_text, time_text, year_sign};
+
+use crate::run_id::write_run_id;
+use jiff::civil::{Date, DateTime, Time};
+use report_text::numbers::digit_str;
+use report_text::style::{Styles, write_plain};
+use report_text::write_str::{WriteFault, WriteStr, write_strs};
+use run_model::replay::ReplayHeader;
+
+#[cfg(test)]
+mod tests;
+
+/// Writes what a replay says before it.
+///
+/// ```
+/// //   Replaying recorded run 00000000-0000-4000-8000-000000000001
+/// //     Started 2024-02-29 07:05:09  status: ok
+/// write_replay_header(w, &styles, &header)?;
+/// ```
+#[tactic(auto, unfolding(crate::specs::Headers::replay_header_text))]
+pub fn write_replay_header<W: WriteStr>(
+    w: &mut W,
+    styles: &Styles,
+    header: &ReplayHeader,
+) -> Result<(), WriteFault>
+    ensures { Puts W.meaning w.old (replay_header_text styles.now header.now) result w.new }
+{
+    write_replaying_line(w, styles, header)?;
+    write_started_line(w, styles, header)
+}
+
+// Writes which run is shown.
+#[tactic(auto, unfolding(crate::specs::Headers::replaying_line))]
+fn write_replaying_line<W: WriteStr>(
+    w: &mut W,
+    styles: &Styles,
+    header: &ReplayHeader,
+) -> Result<(), WriteFault>
+    ensures { Puts W.meaning w.old (replaying_line styles.now header.now) result w.new }
+{
+    styles.pass.write_right(w, 12, "Replaying")?;
+    write_plain(w, " recorded run ")?;
+    write_run_id(w, styles, &header.unique_prefix, &header.run_id)?;
+    write_plain(w, "\n")
+}
+
+// Writes when the run started, and how it ended.
+#[tactic(auto, unfolding(crate::specs::Headers::started_line))]
+fn write_started_line<W: WriteStr>(
+    w: &mut W,
+    styles: &Styles,
+    header: &ReplayHeader,
+) -> Result<(), WriteFault>
+    ensures { Puts W.meaning w.old (started_line styles.now header.now) result w.new }
+{
+    styles.pass.write_right(w, 12, "Started")?;
+    write_plain(w, " ")?;
+    write_started_at(w, header.started_at)?;
+    write_plain(w, "  status: ")?;
+    styles.count.write(w, header.status.as_str())?;
+    write_plain(w, "\n")
+}
+
+// Writes a date and a time of day. A part of a second is left out.
+#[tactic(auto, unfolding(crate::specs::Headers::started_text))]
+fn write_started_at<W: WriteStr>(w: &mut W, started_at: DateTime) -> Result<(), WriteFault>
+    ensures { Puts W.meaning w.old (started_text started_at) result w.new }
+{
+    write_date(w, started_at.date())?;
+    write_plain(w, " ")?;
+    write_time(w, started_at.time())
+}
+
+// Writes a date: the year in four digits, the month and the day in two.
+#[tactic(auto, unfolding(crate::specs::Headers::date_text))]
+fn write_date<W: WriteStr>(w: &mut W, date: Date) -> Result<(), WriteFault>
+    ensures { Puts W.meaning w.old (date_text date) result w.new }
+{
+    let year = date.year().unsigned_abs() as u128;
+    let month = date.month().unsigned_abs() as u128;
+    let day = date.day().unsigned_abs() as u128;
+    write_strs(
+        w,
+        &[
+            year_sign(date.year()),
+            digit_str(year / 10 / 10 / 10 % 10),
+            digit_str(year / 10 / 10 % 10),
+            digit_str(year / 10 % 10),
+            digit_str(year % 10),
+            "-",
+            digit_str(month / 10 % 10),
+            digit_str(month % 10),
+            "-",
+            digit_str(day / 10 % 10),
+            digit_str(day % 10),
+        ],
+    )
+}
+
+// A minus before the year, where that is before the year 0.
+fn year_sign(year: i16) -> &'static str
+    ensures { result.now ≡ year_sign year }
+{
+    if year < 0 { "-" } else { "" }
+}
+
+// Writes a time of day: hour, minute and second in two digits.
+#[tactic(auto, unfolding(crate::specs::Headers::time_text))]
+fn write_time<W: WriteStr>(w: &mut W, time: Time) -> Result<(), WriteFault>
+    ensures { Puts W.meaning w.old (time_text time) result w.new }
+{
+    let hour = time.hour().unsigned_abs() as u128;
+    let minute = time.minute().unsigned_abs() as u128;
+    let second = time.second().unsigned_abs() as u128;
+    write_strs(
+        w,
+        &[
+            digit_str(hour / 10 % 10),
+            digit_str(hour % 10),
+            ":",
+            digit_str(minute / 10 % 10),
+            digit_str(minute % 10),
+            ":",
+            digit_str(second / 10 % 10),
+            digit_str(second % 10),
+        ],
+    )
+}

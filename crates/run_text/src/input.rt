@@ -1,0 +1,62 @@
+//! How a run stands, when it is asked for by a key.
+
+ghost use Rattle.std.specs.Prelude.{◌≡◌};
+ghost use Rattle.report_text.specs.Writer.{Puts};
+ghost use Rattle.run_text.specs.Inputs.{failure_style, finished_of_initial, input_enter_text};
+
+use event_text::stats_text::write_progress_message;
+use report_text::style::{Style, Styles, write_plain};
+use report_text::write_str::{WriteFault, WriteStr};
+use run_model::stats::RunStats;
+use run_model::time::Nanos;
+use unit_report::formatters::DisplayBracketedHhMmSs;
+
+#[cfg(test)]
+mod tests;
+
+/// Writes how long a run has taken, how many of its tests have finished, and its counts.
+#[tactic(auto, unfolding(crate::specs::Inputs::input_enter_text))]
+pub fn write_input_enter<W: WriteStr>(
+    w: &mut W,
+    styles: &Styles,
+    elapsed: Nanos,
+    stats: &RunStats,
+    running: usize,
+) -> Result<(), WriteFault>
+    ensures { Puts W.meaning w.old (input_enter_text styles.now elapsed.0 stats.now running) result w.new }
+{
+    failure_style(styles, stats).write_right(w, 12, "Running")?;
+    write_plain(w, " ")?;
+    DisplayBracketedHhMmSs(elapsed).write_to(w)?;
+    write_finished_of_initial(w, styles, stats)?;
+    write_progress_message(w, styles, stats, running)?;
+    write_plain(w, "\n")
+}
+
+/// The style of a run by whether something has failed in it.
+pub fn failure_style(styles: &Styles, stats: &RunStats) -> Style
+    ensures { result ≡ failure_style styles.now stats.now }
+{
+    if stats.has_failures() {
+        styles.fail
+    } else {
+        styles.pass
+    }
+}
+
+// Writes how many of how many tests have finished.
+#[tactic(auto, unfolding(crate::specs::Inputs::finished_of_initial))]
+fn write_finished_of_initial<W: WriteStr>(
+    w: &mut W,
+    styles: &Styles,
+    stats: &RunStats,
+) -> Result<(), WriteFault>
+    ensures { Puts W.meaning w.old (finished_of_initial styles.now stats.now) result w.new }
+{
+    styles.count.write_number(w, stats.finished_count as u128)?;
+    write_plain(w, "/")?;
+    styles
+        .count
+        .write_number(w, stats.initial_run_count as u128)?;
+    write_plain(w, ": ")
+}

@@ -1,0 +1,82 @@
+//! A run that is stopped for a while, and goes on.
+
+ghost use Rattle.report_text.specs.Writer.{Puts};
+ghost use Rattle.run_text.specs.Pauses.{now_running, pause_text, run_continued_text, run_paused_text};
+
+use crate::running::Running;
+use event_text::settings::Settings;
+use report_text::style::write_plain;
+use report_text::write_str::{WriteFault, WriteStr};
+
+#[cfg(test)]
+mod tests;
+
+/// Writes that the run was stopped for a while, and how many setup scripts or tests run.
+///
+/// ```
+/// // "     Pausing due to signal: 2 tests running"
+/// write_run_paused(w, settings, setup_scripts_running, running)?;
+/// ```
+#[tactic(auto, unfolding(crate::specs::Pauses::run_paused_text))]
+pub fn write_run_paused<W: WriteStr>(
+    w: &mut W,
+    settings: &Settings,
+    setup_scripts_running: usize,
+    running: usize,
+) -> Result<(), WriteFault>
+    ensures { Puts W.meaning w.old (run_paused_text settings.now setup_scripts_running running) result w.new }
+{
+    write_pause(w, settings, "Pausing", setup_scripts_running, running)
+}
+
+/// Writes that the run goes on after it was stopped, and how many setup scripts or tests run.
+#[tactic(auto, unfolding(crate::specs::Pauses::run_continued_text))]
+pub fn write_run_continued<W: WriteStr>(
+    w: &mut W,
+    settings: &Settings,
+    setup_scripts_running: usize,
+    running: usize,
+) -> Result<(), WriteFault>
+    ensures { Puts W.meaning w.old (run_continued_text settings.now setup_scripts_running running) result w.new }
+{
+    write_pause(w, settings, "Continuing", setup_scripts_running, running)
+}
+
+// Writes what the run does on a signal, and how many run.
+#[tactic(auto, unfolding(crate::specs::Pauses::pause_text))]
+fn write_pause<W: WriteStr>(
+    w: &mut W,
+    settings: &Settings,
+    word: &str,
+    setup_scripts_running: usize,
+    running: usize,
+) -> Result<(), WriteFault>
+    ensures { Puts W.meaning w.old (pause_text settings.now word.now setup_scripts_running running) result w.new }
+{
+    let running = Running {
+        setup_scripts: setup_scripts_running,
+        tests: running,
+    };
+    settings.styles.pass.write_right(w, 12, word)?;
+    write_plain(w, " due to ")?;
+    settings.styles.count.write(w, "signal")?;
+    write_now_running(w, settings, running)?;
+    write_plain(w, "\n")
+}
+
+// Writes how many run, where anything does.
+#[tactic(auto, unfolding(crate::specs::Pauses::now_running))]
+fn write_now_running<W: WriteStr>(
+    w: &mut W,
+    settings: &Settings,
+    running: Running,
+) -> Result<(), WriteFault>
+    ensures { Puts W.meaning w.old (now_running settings.now running) result w.new }
+{
+    if running.is_none() {
+        return Ok(());
+    }
+    write_plain(w, ": ")?;
+    running.write_to(w, settings.mode, &settings.styles)?;
+    write_plain(w, " running")
+}
