@@ -6,7 +6,9 @@ pub mod Instances
 pub mod Levels
 pub mod Names
 pub mod Outputs
+pub mod Recorded
 pub mod Stats
 pub mod Statuses
 pub mod Stress
 pub mod UniquePrefixes
+pub mod Unloaded

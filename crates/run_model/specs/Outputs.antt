@@ -6,6 +6,8 @@ use Rattle.run_model.specs.declared.status.ExecutionResultDescription.{Execution
 use Rattle.run_model.specs.declared.output.ByteSubslice.{ByteSubslice}
 use Rattle.run_model.specs.declared.output.ChildExecutionOutputDescription.{ChildExecutionOutputDescription}
 use Rattle.run_model.specs.declared.output.ChildExecutionOutputDescription.TheVariants.{Output, StartError}
+use Rattle.run_model.specs.declared.output.ChildOutputDescription.{ChildOutputDescription}
+use Rattle.run_model.specs.declared.output.ChildOutputDescription.TheVariants as captured
 use Rattle.run_model.specs.declared.output.Highlight.{Highlight}
 use Rattle.run_model.specs.declared.output.HighlightStream.{HighlightStream}
 use Rattle.run_model.specs.declared.output.HighlightStream.TheVariants.{Stdout, Stderr, Combined}
@@ -56,3 +58,14 @@ is_known_failure (Some result) = not (is_success result)
 abbrev pub has_errors : {S O : Type 0} → ChildExecutionOutputDescription S O → Bool
 has_errors (StartError chain) = true
 has_errors (Output result output errors highlight) = is_some errors || is_known_failure result
+
+-- captured output is there, and not left unread
+abbrev pub is_loaded : ChildOutputDescription → Bool
+is_loaded (captured.Split stdout stderr) = true
+is_loaded (captured.Combined output) = true
+is_loaded captured.NotLoaded = false
+
+-- what is known of an execution can be shown: it could not be started, or its output is there
+abbrev pub has_loaded_output : {S : Type 0} → ChildExecutionOutputDescription S ChildOutputDescription → Bool
+has_loaded_output (Output result output errors highlight) = is_loaded output
+has_loaded_output (StartError chain) = true

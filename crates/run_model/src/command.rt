@@ -1,7 +1,9 @@
 //! The commands that a run starts.
 
-ghost use Rattle.std.specs.Prelude.{◌≡◌, map, string_bytes};
+ghost use Rattle.std.specs.Prelude.{◌≡◌, IfOk, map, string_bytes};
 
+use crate::memory::OutOfMemory;
+use std::alloc::Global;
 use std::marker::Model;
 
 /// The words of a command, or the arguments of one. Contracts see them as a list of texts.
@@ -35,5 +37,17 @@ impl CommandLine {
         ensures { map string_bytes result.now ≡ self.now }
     {
         self.words.as_slice()
+    }
+
+    /// Takes memory for another one.
+    pub fn copy(&self, alloc: Global) -> Result<Self, OutOfMemory>
+        ensures { IfOk result (λ command. command ≡ self.now) }
+    {
+        let words = self.words.as_slice();
+        let mut copies = Vec::with_capacity(alloc, words.len())?;
+        for word in words {
+            copies.push(String::from_str(alloc, word.as_str())?)?;
+        }
+        Ok(CommandLine { words: copies })
     }
 }

@@ -1,15 +1,22 @@
 //! What happens in a run.
 
+ghost use Rattle.std.specs.Prelude.{◌≡◌, IfOk};
+ghost use Rattle.run_model.specs.Recorded.{recorded_kind};
+ghost use Rattle.run_model.specs.Unloaded.{unloaded_event};
+
 use crate::command::CommandLine;
 use crate::config::TestOutputDisplay;
 use crate::info::InfoResponse;
+use crate::memory::OutOfMemory;
 use crate::name::{ProfileName, ProgramName, ScriptId, TestInstanceId};
 use crate::not_seen::NotSeen;
-use crate::output::LiveSpec;
+use crate::output::{LiveSpec, RecordingSpec};
+use crate::output_event::OutputEventKind;
 use crate::stats::{RunFinishedStats, RunStats};
 use crate::status::{ExecuteStatus, ExecutionStatuses, RetryData, SetupScriptExecuteStatus};
 use crate::stress::{StressIndex, StressProgress};
 use crate::time::Nanos;
+use std::alloc::Global;
 use uuid::Uuid;
 
 /// An event of a run.
@@ -19,6 +26,68 @@ pub struct TestEvent<'a> {
     pub elapsed: Nanos,
     /// What happened.
     pub kind: TestEventKind<'a>,
+}
+
+impl<'a> TestEvent<'a> {
+    /// Leaves the captured output of every attempt of a decided event unread. Other events stay. It takes no memory.
+    pub fn unload(&mut self)
+        ensures { self.new ≡ unloaded_event self.old }
+    {
+        match &mut self.kind {
+            TestEventKind::SetupScriptFinished { run_status, .. } => run_status.unload(),
+            TestEventKind::TestAttemptFailedWillRetry { run_status, .. } => run_status.unload(),
+            TestEventKind::TestFinished { run_statuses, .. } => run_statuses.unload(),
+            _ => {}
+        }
+    }
+
+    /// Takes memory for a decided event as a record has it, with the same metadata. Of others there is none.
+    ///
+    /// The names of the archive's members are empty.
+    pub fn recorded(
+        &self,
+        alloc: Global,
+    ) -> Result<Option<OutputEventKind<RecordingSpec>>, OutOfMemory>
+        ensures { IfOk result (λ kind. kind ≡ recorded_kind self.now.kind) }
+    {
+        Ok(match &self.kind {
+            TestEventKind::SetupScriptFinished {
+                stress_index,
+                run_status,
+                ..
+            } => Some(OutputEventKind::SetupScriptFinished {
+                stress_index: *stress_index,
+                run_status: run_status.recorded(alloc)?,
+            }),
+            TestEventKind::TestAttemptFailedWillRetry {
+                stress_index,
+                run_status,
+                delay_before_next_attempt,
+                failure_output,
+                ..
+            } => Some(OutputEventKind::TestAttemptFailedWillRetry {
+                stress_index: *stress_index,
+                run_status: run_status.recorded(alloc)?,
+                delay_before_next_attempt: *delay_before_next_attempt,
+                failure_output: *failure_output,
+            }),
+            TestEventKind::TestFinished {
+                stress_index,
+                success_output,
+                failure_output,
+                run_statuses,
+                current_stats,
+                ..
+            } => Some(OutputEventKind::TestFinished {
+                stress_index: *stress_index,
+                success_output: *success_output,
+                failure_output: *failure_output,
+                run_statuses: run_statuses.recorded(alloc)?,
+                current_stats: *current_stats,
+            }),
+            _ => None,
+        })
+    }
 }
 
 /// What happened.

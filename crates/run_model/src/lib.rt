@@ -15,6 +15,7 @@ pub mod memory;
 pub mod name;
 pub mod not_seen;
 pub mod output;
+pub mod output_event;
 pub mod replay;
 pub mod run_id;
 pub mod stats;

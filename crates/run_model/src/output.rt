@@ -4,7 +4,9 @@ ghost use Rattle.std.specs.Prelude.{◌≡◌, [], length, ◌==◌, is_ok, true
 ghost use Rattle.std.specs.Cow.{cow_str_bytes, IsOwnedStr};
 ghost use Rattle.std.specs.Str.{encode_utf8_all, IsUtf8};
 ghost use Rattle.bstr.specs.Utf8.{lossy_chars};
-ghost use Rattle.run_model.specs.Outputs.{subslice_value, stdout_part, stderr_part, combined_part, has_errors};
+ghost use Rattle.run_model.specs.Outputs.{subslice_value, stdout_part, stderr_part, combined_part, has_errors, has_loaded_output, is_loaded};
+ghost use Rattle.run_model.specs.Recorded.{recorded_execution, recorded_member, recorded_output};
+ghost use Rattle.run_model.specs.Unloaded.{unloaded_output};
 
 use crate::abort::DescriptionText;
 use crate::boxed::Boxed;
@@ -133,9 +135,18 @@ pub enum ChildOutputDescription {
         /// Their bytes.
         output: ChildSingleOutput,
     },
+    /// A replay has left it unread, as no report shows it.
+    NotLoaded,
 }
 
 impl ChildOutputDescription {
+    /// Whether it is there, and not left unread.
+    pub fn is_loaded(&self) -> bool
+        ensures { result ≡ is_loaded self.now }
+    {
+        !matches!(self, ChildOutputDescription::NotLoaded)
+    }
+
     /// Another one of the same bytes, which both share.
     pub fn copy(&self) -> Result<Self, OutOfMemory>
         ensures { IfOk result (λ output. output ≡ self.now) }
@@ -148,7 +159,37 @@ impl ChildOutputDescription {
             ChildOutputDescription::Combined { output } => ChildOutputDescription::Combined {
                 output: output.copy()?,
             },
+            ChildOutputDescription::NotLoaded => ChildOutputDescription::NotLoaded,
         })
+    }
+
+    // The same by the names of members of an archive, which are empty. It takes memory for these.
+    fn recorded(&self, alloc: Global) -> Result<RecordedOutput, OutOfMemory>
+        ensures { IfOk result (λ output. output ≡ recorded_output self.now) }
+    {
+        Ok(match self {
+            ChildOutputDescription::Split { stdout, stderr } => RecordedOutput::Split {
+                stdout: recorded_member(alloc, stdout)?,
+                stderr: recorded_member(alloc, stderr)?,
+            },
+            ChildOutputDescription::Combined { .. } => RecordedOutput::Combined {
+                output: DescriptionText::new(alloc, "")?,
+            },
+            ChildOutputDescription::NotLoaded => RecordedOutput::NotLoaded,
+        })
+    }
+}
+
+// The name of the member of a stream, where it was captured.
+fn recorded_member(
+    alloc: Global,
+    stream: &Option<ChildSingleOutput>,
+) -> Result<Option<DescriptionText>, OutOfMemory>
+    ensures { IfOk result (λ name. name ≡ recorded_member stream.now) }
+{
+    match stream {
+        Some(_) => Ok(Some(DescriptionText::new(alloc, "")?)),
+        None => Ok(None),
     }
 }
 
@@ -177,6 +218,8 @@ pub enum RecordedOutput {
         /// The name of their member.
         output: DescriptionText,
     },
+    /// It is left unread.
+    NotLoaded,
 }
 
 /// What an attempt wrote, or why it could not be started.
@@ -229,6 +272,52 @@ impl ChildExecutionOutputDescription<LiveSpec> {
             } => ChildExecutionOutputDescription::Output {
                 result: copy_result(alloc, result)?,
                 output: output.copy()?,
+                errors: copy_errors(alloc, errors)?,
+                highlight: copy_highlight(alloc, highlight)?,
+            },
+            ChildExecutionOutputDescription::StartError(errors) =>
+                ChildExecutionOutputDescription::StartError(errors.copy(alloc)?),
+        })
+    }
+
+    /// Whether it can be shown: the process could not be started, or its output is there.
+    pub fn has_loaded_output(&self) -> bool
+        ensures { result ≡ has_loaded_output self.now }
+    {
+        match self {
+            ChildExecutionOutputDescription::Output { output, .. } => output.is_loaded(),
+            ChildExecutionOutputDescription::StartError(_) => true,
+        }
+    }
+
+    /// Leaves its captured output unread. A start error has none and stays; so do result, errors and highlight.
+    pub fn unload(&mut self)
+        ensures { self.new ≡ unloaded_output self.old }
+    {
+        match self {
+            ChildExecutionOutputDescription::Output { output, .. } => {
+                *output = ChildOutputDescription::NotLoaded;
+            }
+            ChildExecutionOutputDescription::StartError(_) => {}
+        }
+    }
+
+    /// Takes memory for the same as a record has it: with the names of its members, which are empty, for its output.
+    pub fn recorded(
+        &self,
+        alloc: Global,
+    ) -> Result<ChildExecutionOutputDescription<RecordingSpec>, OutOfMemory>
+        ensures { IfOk result (λ output. output ≡ recorded_execution self.now) }
+    {
+        Ok(match self {
+            ChildExecutionOutputDescription::Output {
+                result,
+                output,
+                errors,
+                highlight,
+            } => ChildExecutionOutputDescription::Output {
+                result: copy_result(alloc, result)?,
+                output: output.recorded(alloc)?,
                 errors: copy_errors(alloc, errors)?,
                 highlight: copy_highlight(alloc, highlight)?,
             },

@@ -1,13 +1,15 @@
 //! How the attempts of a test ended.
 
-ghost use Rattle.std.specs.Prelude.{◌≡◌, ◌≤◌, IfSome, IfNone, IfOk, IsOk, false, [], ◌∷◌, ◌++◌, IsTrue, ◌↔◌};
+ghost use Rattle.std.specs.Prelude.{◌≡◌, ◌≤◌, IfSome, IfNone, IfOk, IsOk, false, [], ◌∷◌, ◌++◌, map, IsTrue, ◌↔◌};
 ghost use Rattle.run_model.specs.Statuses.{is_aborted, is_abort, is_success, is_leaky_success, is_success_case, case_of, summary_of, summary_by, described_case, described_last, described_prior, described_summary, final_level_of, final_level_by, status_level_of, status_level_by};
+ghost use Rattle.run_model.specs.Recorded.{recorded_attempt, recorded_attempts, recorded_script};
+ghost use Rattle.run_model.specs.Unloaded.{unloaded_attempt, unloaded_attempts, unloaded_script};
 
 use crate::abort::AbortDescription;
 use crate::boxed::Boxed;
 use crate::level::{FinalStatusLevel, StatusLevel};
 use crate::memory::OutOfMemory;
-use crate::output::{ChildExecutionOutputDescription, LiveSpec, OutputSpec};
+use crate::output::{ChildExecutionOutputDescription, LiveSpec, OutputSpec, RecordingSpec};
 use crate::time::Nanos;
 use std::alloc::Global;
 use std::marker::Model;
@@ -189,6 +191,26 @@ impl ExecuteStatus<LiveSpec> {
             is_slow: self.is_slow,
         })
     }
+
+    /// Leaves its captured output unread.
+    pub fn unload(&mut self)
+        ensures { self.new ≡ unloaded_attempt self.old }
+    {
+        self.output.unload();
+    }
+
+    /// Takes memory for the same as a record has it.
+    pub fn recorded(&self, alloc: Global) -> Result<ExecuteStatus<RecordingSpec>, OutOfMemory>
+        ensures { IfOk result (λ status. status ≡ recorded_attempt self.now) }
+    {
+        Ok(ExecuteStatus {
+            retry_data: self.retry_data,
+            output: self.output.recorded(alloc)?,
+            result: self.result.copy(alloc)?,
+            time_taken: self.time_taken,
+            is_slow: self.is_slow,
+        })
+    }
 }
 
 /// The execution of a setup script.
@@ -202,6 +224,30 @@ pub struct SetupScriptExecuteStatus<S: OutputSpec> {
     pub output: ChildExecutionOutputDescription<S>,
     /// Whether it was marked as slow.
     pub is_slow: bool,
+}
+
+impl SetupScriptExecuteStatus<LiveSpec> {
+    /// Leaves its captured output unread.
+    pub fn unload(&mut self)
+        ensures { self.new ≡ unloaded_script self.old }
+    {
+        self.output.unload();
+    }
+
+    /// Takes memory for the same as a record has it.
+    pub fn recorded(
+        &self,
+        alloc: Global,
+    ) -> Result<SetupScriptExecuteStatus<RecordingSpec>, OutOfMemory>
+        ensures { IfOk result (λ status. status ≡ recorded_script self.now) }
+    {
+        Ok(SetupScriptExecuteStatus {
+            output: self.output.recorded(alloc)?,
+            result: self.result.copy(alloc)?,
+            time_taken: self.time_taken,
+            is_slow: self.is_slow,
+        })
+    }
 }
 
 /// What a test counts as that passed after earlier attempts.
@@ -413,6 +459,41 @@ impl ExecutionStatuses<LiveSpec> {
             flaky_result: self.flaky_result,
         })
     }
+
+    /// Leaves the captured output of every attempt unread.
+    pub fn unload(&mut self)
+        ensures { self.new ≡ unloaded_attempts self.old }
+    {
+        for attempt in self.earlier.iter_mut() {
+            attempt.unload();
+        }
+        self.last.unload();
+    }
+
+    /// Takes memory for the same attempts as a record has them.
+    pub fn recorded(&self, alloc: Global) -> Result<ExecutionStatuses<RecordingSpec>, OutOfMemory>
+        ensures { IfOk result (λ statuses. statuses ≡ recorded_attempts self.now) }
+    {
+        Ok(ExecutionStatuses {
+            earlier: recorded_earlier(alloc, &self.earlier)?,
+            last: self.last.recorded(alloc)?,
+            flaky_result: self.flaky_result,
+        })
+    }
+}
+
+// Takes memory for the same attempts as a record has them.
+fn recorded_earlier(
+    alloc: Global,
+    attempts: &[ExecuteStatus<LiveSpec>],
+) -> Result<Vec<ExecuteStatus<RecordingSpec>>, OutOfMemory>
+    ensures { IfOk result (λ recorded. recorded.items ≡ map recorded_attempt attempts.now) }
+{
+    let mut recorded = Vec::with_capacity(alloc, attempts.len())?;
+    for attempt in attempts {
+        recorded.push(attempt.recorded(alloc)?)?;
+    }
+    Ok(recorded)
 }
 
 // Takes memory for other attempts that are the same. Where there is none it takes none.
