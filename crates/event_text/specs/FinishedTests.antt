@@ -1,6 +1,7 @@
 -- A finished test, and its text.
-use Rattle.std.specs.Prelude.{ℕ, false, Option, [], ◌++◌, if◌then◌else◌}
+use Rattle.std.specs.Prelude.{◌≡◌, ℕ, true, false, Option, [], ◌++◌, if◌then◌else◌}
 use Rattle.run_model.specs.Attempts.{Attempts}
+use Rattle.run_model.specs.Outputs.{has_loaded_output}
 use Rattle.run_model.specs.Statuses.{described_last, described_summary, summary_of}
 use Rattle.run_model.specs.declared.config.TestOutputDisplay.{TestOutputDisplay}
 use Rattle.run_model.specs.declared.name.TestInstanceId.{TestInstanceId}
@@ -48,6 +49,10 @@ finish_of f = record {
   summary = described_summary f.describe;
   last = described_last f.describe;
 }
+
+-- the output of its last attempt is there, if it is shown at once
+abbrev pub HasOutputAtOnce : TestFinish → Type 0
+HasOutputAtOnce f = row_at_once f.row f.display ≡ true → has_loaded_output f.last.output ≡ true
 
 -- the line of a finished test, where the status level is at least the test's
 unfoldable pub line_at_once : Settings → TestFinish → Text

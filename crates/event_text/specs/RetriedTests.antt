@@ -1,7 +1,8 @@
 -- An attempt that failed where another one follows.
-use Rattle.std.specs.Prelude.{ℕ, ◌+◌, Bool, true, Option, [], ◌++◌, ◌==◌, codes, unwrap_or, if◌then◌else◌}
+use Rattle.std.specs.Prelude.{◌≡◌, ℕ, ◌+◌, Bool, true, Option, [], ◌++◌, ◌==◌, codes, unwrap_or, if◌then◌else◌}
 use Rattle.std.specs.Fmt.{decimal}
 use Rattle.run_model.specs.Displays.{is_immediate}
+use Rattle.run_model.specs.Outputs.{has_loaded_output}
 use Rattle.run_model.specs.declared.config.TestOutputDisplay.{TestOutputDisplay}
 use Rattle.run_model.specs.declared.level.StatusLevel.TheVariants as status
 use Rattle.run_model.specs.declared.name.TestInstanceId.{TestInstanceId}
@@ -35,6 +36,10 @@ attempt_failed_line s test x =
 -- its output is shown at once: by the setting of failures, also where the test could not be started
 unfoldable pub is_failed_output_shown : Settings → TestOutputDisplay → Bool
 is_failed_output_shown s failure = is_immediate (unwrap_or s.unit_output.overrides.force_failure_output failure)
+
+-- its output is there, if it is shown at once
+abbrev pub HasFailedOutput : Settings → Attempt → TestOutputDisplay → Type 0
+HasFailedOutput s x failure = is_failed_output_shown s failure ≡ true → has_loaded_output x.output ≡ true
 
 -- its output, where that is shown at once
 unfoldable pub failed_output : Settings → Attempt → TestOutputDisplay → Text

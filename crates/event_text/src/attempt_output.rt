@@ -1,6 +1,7 @@
 //! The output of a finished attempt or of a setup script, and how that ended.
 
-ghost use Rattle.std.specs.Prelude.{◌≡◌};
+ghost use Rattle.std.specs.Prelude.{◌≡◌, true};
+ghost use Rattle.run_model.specs.Outputs.{has_loaded_output};
 ghost use Rattle.report_text.specs.Writer.{Puts};
 ghost use Rattle.unit_report.specs.UnitOutputs.{layout_of};
 ghost use Rattle.event_text.specs.AttemptOutputs.{attempt_output, exec_fail_header, finished_layout, has_info_after_failure, has_info_line, header_style, info_line, info_line_start, layout_in, output_margin, result_style, script_output, shown_info_line, stream_header, unit_output};
@@ -22,7 +23,8 @@ mod tests;
 
 /// Writes what an attempt of a test wrote, which ended so, and how it ended where that is worth a line of its own.
 ///
-/// `is_retry` says that another attempt follows, `is_slow` that this one was slow.
+/// `is_retry` says that another attempt follows, `is_slow` that this one was slow. The output must not have been left
+/// unread.
 pub fn write_test_execute_status<W: WriteStr>(
     w: &mut W,
     settings: &Settings,
@@ -31,13 +33,15 @@ pub fn write_test_execute_status<W: WriteStr>(
     outcome: &ExecutionResultDescription,
     output: &ChildExecutionOutputDescription<LiveSpec>,
 ) -> Result<(), WriteFault>
+    requires { has_loaded_output output.now ≡ true }
     ensures { Puts W.meaning w.old (attempt_output settings.now is_retry is_slow outcome.now output.now) result w.new }
 {
     let kind = UnitKind::Test;
     write_unit_execute_status(w, settings, kind, is_retry, is_slow, outcome, output)
 }
 
-/// Writes what a setup script wrote, which ended so, and how it ended where that is worth a line of its own.
+/// Writes what a setup script wrote, which ended so, and how it ended where that is worth a line of its own. The output
+/// must not have been left unread.
 pub fn write_setup_script_execute_status<W: WriteStr>(
     w: &mut W,
     settings: &Settings,
@@ -45,6 +49,7 @@ pub fn write_setup_script_execute_status<W: WriteStr>(
     outcome: &ExecutionResultDescription,
     output: &ChildExecutionOutputDescription<LiveSpec>,
 ) -> Result<(), WriteFault>
+    requires { has_loaded_output output.now ≡ true }
     ensures { Puts W.meaning w.old (script_output settings.now is_slow outcome.now output.now) result w.new }
 {
     let kind = UnitKind::Script;
@@ -62,6 +67,7 @@ fn write_unit_execute_status<W: WriteStr>(
     outcome: &ExecutionResultDescription,
     output: &ChildExecutionOutputDescription<LiveSpec>,
 ) -> Result<(), WriteFault>
+    requires { has_loaded_output output.now ≡ true }
     ensures { Puts W.meaning w.old (unit_output settings.now kind is_retry is_slow outcome.now output.now) result w.new }
 {
     let spec = output_spec_for_finished(settings, kind, outcome, is_retry);

@@ -3,7 +3,7 @@
 ghost use Rattle.std.specs.Prelude.{◌≡◌};
 ghost use Rattle.run_model.specs.Levels.{reason_rank};
 ghost use Rattle.report_text.specs.Writer.{Puts};
-ghost use Rattle.event_text.specs.FinishedTests.{finish_of, line_at_once, output_at_once, test_finish, test_finished_text};
+ghost use Rattle.event_text.specs.FinishedTests.{HasOutputAtOnce, finish_of, line_at_once, output_at_once, test_finish, test_finished_text};
 
 use crate::attempt_output::write_test_execute_status;
 use crate::finish::FinishRow;
@@ -61,13 +61,14 @@ impl<'e, 'a> FinishedTest<'e, 'a> {
 }
 
 /// Writes the line of a finished test where its level is shown, and the output of its last attempt where that is
-/// shown at once.
+/// shown at once. That output must not have been left unread.
 #[tactic(auto, unfolding(crate::specs::FinishedTests::test_finished_text))]
 pub fn write_test_finished<W: WriteStr>(
     w: &mut W,
     settings: &Settings,
     finished: &FinishedTest<'_, '_>,
 ) -> Result<(), WriteFault>
+    requires { HasOutputAtOnce (finish_of finished.now) }
     ensures { Puts W.meaning w.old (test_finished_text settings.now (finish_of finished.now)) result w.new }
 {
     write_line_at_once(w, settings, finished)?;
@@ -104,6 +105,7 @@ fn write_output_at_once<W: WriteStr>(
     settings: &Settings,
     finished: &FinishedTest<'_, '_>,
 ) -> Result<(), WriteFault>
+    requires { HasOutputAtOnce (finish_of finished.now) }
     ensures { Puts W.meaning w.old (output_at_once settings.now (finish_of finished.now)) result w.new }
 {
     if finished.row.is_shown_at_once(finished.display) {

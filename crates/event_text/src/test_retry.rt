@@ -1,11 +1,13 @@
 //! An attempt that failed where another one follows.
 
-ghost use Rattle.std.specs.Prelude.{◌≡◌};
+ghost use Rattle.std.specs.Prelude.{◌≡◌, true};
 ghost use Rattle.report_text.specs.Styles.{styled};
 ghost use Rattle.report_text.specs.Texts.{right_in};
 ghost use Rattle.report_text.specs.Writer.{Puts};
-ghost use Rattle.event_text.specs.RetriedTests.{attempt_failed_line, attempt_failed_text, delay_line, delay_words, failed_output, is_failed_output_shown};
+ghost use Rattle.event_text.specs.RetriedTests.{HasFailedOutput, attempt_failed_line, attempt_failed_text, delay_line, delay_words, failed_output, is_failed_output_shown};
+ghost use Rattle.event_text.specs.Settings.{is_level_shown};
 ghost use Rattle.event_text.specs.StatusLines.{attempt_words};
+ghost use Rattle.run_model.specs.declared.level.StatusLevel.TheVariants.{Retry};
 ghost use Rattle.event_text.specs.ResultWords.{short_word};
 
 use crate::attempt_output::write_test_execute_status;
@@ -28,7 +30,7 @@ use unit_report::formatters::{DisplayBracketedDuration, DisplayDurationBy};
 mod tests;
 
 /// Writes that an attempt has failed and another one follows, where such attempts are shown: its line, its output where
-/// that is shown at once, and how long the next attempt waits.
+/// that is shown at once, and how long the next attempt waits. Output that is shown must not have been left unread.
 ///
 /// ```
 /// // "  TRY 1 FAIL [   0.500s] alpha t1", and before an attempt that waits "   DELAY 2/3 by   1.000s alpha t1"
@@ -44,6 +46,7 @@ pub fn write_attempt_failed<W: WriteStr>(
     delay_before_next_attempt: Nanos,
     failure_output: TestOutputDisplay,
 ) -> Result<(), WriteFault>
+    requires { is_level_shown settings.now Retry ≡ true → HasFailedOutput settings.now run_status.now failure_output }
     ensures { Puts W.meaning w.old (attempt_failed_text settings.now stress_index instance.entry run_status.now delay_before_next_attempt.0 failure_output) result w.new }
 {
     if !settings.is_level_shown(StatusLevel::Retry) {
@@ -105,6 +108,7 @@ fn write_failed_output<W: WriteStr>(
     run_status: &ExecuteStatus<LiveSpec>,
     failure_output: TestOutputDisplay,
 ) -> Result<(), WriteFault>
+    requires { HasFailedOutput settings.now run_status.now failure_output }
     ensures { Puts W.meaning w.old (failed_output settings.now run_status.now failure_output) result w.new }
 {
     if !shows_failed_output(settings, failure_output) {

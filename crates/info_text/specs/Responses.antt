@@ -1,8 +1,8 @@
 -- The answer of a unit that is asked what it is doing.
-use Rattle.std.specs.Prelude.{ℕ, ◌+◌, ◌-◌, ◌==◌, Bool, true, false, ◌&&◌, ◌||◌, Option, None, Some, [], ◌++◌, length, codes, nat_lt, if◌then◌else◌}
+use Rattle.std.specs.Prelude.{◌≡◌, ℕ, ◌+◌, ◌-◌, ◌==◌, Bool, true, false, ◌&&◌, ◌||◌, Option, None, Some, [], ◌++◌, length, codes, nat_lt, if◌then◌else◌}
 use Rattle.std.specs.Fmt.{decimal}
 use Rattle.run_model.specs.Infos.{has_valid_output}
-use Rattle.run_model.specs.Outputs.{has_errors}
+use Rattle.run_model.specs.Outputs.{has_errors, has_loaded_output}
 use Rattle.run_model.specs.declared.info.InfoResponse.{InfoResponse}
 use Rattle.run_model.specs.declared.info.InfoResponse.TheVariants.{SetupScript, Test}
 use Rattle.run_model.specs.declared.info.SetupScriptInfoResponse.{SetupScriptInfoResponse}
@@ -55,6 +55,10 @@ info_layout s kind = record {
   output_indent = codes "  ";
 }
 
+-- the output is there, if it is that of the unit
+abbrev pub HasValidOutput : UnitState → Written → Type 0
+HasValidOutput state output = has_valid_output state ≡ true → has_loaded_output output ≡ true
+
 -- the output, where it is that of the unit
 unfoldable pub valid_output : Settings → UnitKind → UnitState → Written → Text
 valid_output s kind state output =
@@ -98,6 +102,11 @@ test_unit x = record { kind = unit.Test; attempt = told_attempt x.retry_data x.s
 -- the answer of a test
 unfoldable pub test_answer : Settings → TestInfoResponse → Text
 test_answer s x = instance_end s.styles (answering_test x) ++ unit_answer s (test_unit x) x.state x.output
+
+-- the output of an answer is there, if it is that of its unit
+abbrev pub HasAnswerOutput : InfoResponse → Type 0
+HasAnswerOutput (SetupScript x) = HasValidOutput x.state x.output
+HasAnswerOutput (Test x) = HasValidOutput x.state x.output
 
 -- what stands after the number of an answer
 abbrev pub answer : Settings → InfoResponse → Text

@@ -5,7 +5,7 @@ ghost use Rattle.report_text.specs.Indent.{indent};
 ghost use Rattle.report_text.specs.Writer.{Puts};
 ghost use Rattle.unit_report.specs.UnitOutputs.{layout_of};
 ghost use Rattle.event_text.specs.Scripts.{script_of};
-ghost use Rattle.info_text.specs.Responses.{answer, answering_script, answering_test, info_layout, info_response_text, is_delay, number_padding, response_number, script_answer, script_unit, separator, test_answer, test_unit, told_attempt, unit_answer, valid_output};
+ghost use Rattle.info_text.specs.Responses.{HasAnswerOutput, HasValidOutput, answer, answering_script, answering_test, info_layout, info_response_text, is_delay, number_padding, response_number, script_answer, script_unit, separator, test_answer, test_unit, told_attempt, unit_answer, valid_output};
 
 use crate::state::{InfoUnit, write_state};
 use event_text::instance::{CountedInstance, write_instance_end};
@@ -25,7 +25,8 @@ use unit_report::unit_output::{ChildOutputSpec, OutputHeader, OutputName};
 #[cfg(test)]
 mod tests;
 
-/// Writes the answer of a unit. `index` is its place among so many, from 0.
+/// Writes the answer of a unit. `index` is its place among so many, from 0. Output of the unit must not have been left
+/// unread.
 #[tactic(auto, unfolding(crate::specs::Responses::info_response_text))]
 pub fn write_info_response<W: WriteStr>(
     w: &mut W,
@@ -34,6 +35,7 @@ pub fn write_info_response<W: WriteStr>(
     total: usize,
     response: &InfoResponse<'_>,
 ) -> Result<(), WriteFault>
+    requires { HasAnswerOutput response.now }
     ensures { Puts W.meaning w.old (info_response_text settings.now index total response.now) result w.new }
 {
     write_separator(w, settings.theme_characters, index)?;
@@ -93,6 +95,7 @@ fn write_indented<W: WriteStr>(
     settings: &Settings,
     response: &InfoResponse<'_>,
 ) -> Result<(), WriteFault>
+    requires { HasAnswerOutput response.now }
     ensures { Puts W.meaning w.old (indent (codes "  ") false (answer settings.now response.now)) result w.new }
 {
     let mut out = indented(w).with_str("  ").skip_initial();
@@ -108,6 +111,7 @@ fn write_answer<W: WriteStr>(
     settings: &Settings,
     response: &InfoResponse<'_>,
 ) -> Result<(), WriteFault>
+    requires { HasAnswerOutput response.now }
     ensures { Puts W.meaning w.old (answer settings.now response.now) result w.new }
 {
     match response {
@@ -123,6 +127,7 @@ fn write_script_answer<W: WriteStr>(
     settings: &Settings,
     response: &SetupScriptInfoResponse,
 ) -> Result<(), WriteFault>
+    requires { HasValidOutput response.now.state response.now.output }
     ensures { Puts W.meaning w.old (script_answer settings.now response.now) result w.new }
 {
     script_of_response(response).write_to(w, &settings.styles)?;
@@ -166,6 +171,7 @@ fn write_test_answer<W: WriteStr>(
     settings: &Settings,
     response: &TestInfoResponse<'_>,
 ) -> Result<(), WriteFault>
+    requires { HasValidOutput response.now.state response.now.output }
     ensures { Puts W.meaning w.old (test_answer settings.now response.now) result w.new }
 {
     write_instance_end(w, &settings.styles, test_of_response(response))?;
@@ -227,6 +233,7 @@ fn write_unit_answer<W: WriteStr>(
     state: &UnitState,
     output: &ChildExecutionOutputDescription<LiveSpec>,
 ) -> Result<(), WriteFault>
+    requires { HasValidOutput state.now output.now }
     ensures { Puts W.meaning w.old (unit_answer settings.now unit state.now output.now) result w.new }
 {
     write_state(w, settings, unit, state)?;
@@ -242,6 +249,7 @@ fn write_valid_output<W: WriteStr>(
     state: &UnitState,
     output: &ChildExecutionOutputDescription<LiveSpec>,
 ) -> Result<(), WriteFault>
+    requires { HasValidOutput state.now output.now }
     ensures { Puts W.meaning w.old (valid_output settings.now kind state.now output.now) result w.new }
 {
     if !state.has_valid_output() {

@@ -1,6 +1,7 @@
 -- Setup scripts: that one has started, runs for long or has finished.
-use Rattle.std.specs.Prelude.{ℕ, ◌+◌, Bool, true, false, [], ◌++◌, codes, if◌then◌else◌}
+use Rattle.std.specs.Prelude.{◌≡◌, ℕ, ◌+◌, Bool, true, false, [], ◌++◌, codes, if◌then◌else◌}
 use Rattle.std.specs.Fmt.{decimal}
+use Rattle.run_model.specs.Outputs.{has_loaded_output}
 use Rattle.run_model.specs.Statuses.{is_success}
 use Rattle.run_model.specs.declared.level.StatusLevel.{StatusLevel}
 use Rattle.run_model.specs.declared.level.StatusLevel.TheVariants as level
@@ -67,6 +68,10 @@ unfoldable pub setup_script_line : Styles → Script → ExecutionResultDescript
 setup_script_line s script result time_taken =
     styled (script_status_style s result) (right_in 12 (script_status_words result))
     ++ (plain (codes " ") ++ (bracketed_duration time_taken ++ (shown_script s script ++ plain (codes "\n"))))
+
+-- what a script wrote is there, unless it succeeded
+abbrev pub HasFailedOutput : SetupScriptExecuteStatus LiveSpec ChildOutputDescription → Type 0
+HasFailedOutput x = is_success x.result ≡ false → has_loaded_output x.output ≡ true
 
 -- what a script wrote, unless it succeeded
 unfoldable pub failed_script_output : Settings → SetupScriptExecuteStatus LiveSpec ChildOutputDescription → Text

@@ -5,7 +5,7 @@ ghost use Rattle.report_text.specs.Styles.{styled};
 ghost use Rattle.report_text.specs.Texts.{right_in};
 ghost use Rattle.report_text.specs.Writer.{Puts};
 ghost use Rattle.event_text.specs.Scripts.{script_of};
-ghost use Rattle.run_text.specs.SetupScripts.{failed_script_output, script_counter, script_status_style, script_status_words, setup_script_finished_text, setup_script_line, setup_script_slow_text, setup_script_started_text, shown_slow_script, slow_script_level, slow_script_words};
+ghost use Rattle.run_text.specs.SetupScripts.{HasFailedOutput, failed_script_output, script_counter, script_status_style, script_status_words, setup_script_finished_text, setup_script_line, setup_script_slow_text, setup_script_started_text, shown_slow_script, slow_script_level, slow_script_words};
 
 use event_text::attempt_output::write_setup_script_execute_status;
 use event_text::result_words::spaced_short_status_str;
@@ -122,7 +122,8 @@ fn write_slow_script_words<W: WriteStr>(
     }
 }
 
-/// Writes that a setup script has finished, and what it wrote unless it succeeded.
+/// Writes that a setup script has finished, and what it wrote unless it succeeded. What is shown must not have been left
+/// unread.
 #[tactic(auto, unfolding(crate::specs::SetupScripts::setup_script_finished_text))]
 pub fn write_setup_script_finished<W: WriteStr>(
     w: &mut W,
@@ -130,6 +131,7 @@ pub fn write_setup_script_finished<W: WriteStr>(
     script: ScriptInstance<'_>,
     run_status: &SetupScriptExecuteStatus<LiveSpec>,
 ) -> Result<(), WriteFault>
+    requires { HasFailedOutput run_status.now }
     ensures { Puts W.meaning w.old (setup_script_finished_text settings.now (script_of script.entry) run_status.now) result w.new }
 {
     let (outcome, time_taken) = (&run_status.result, run_status.time_taken);
@@ -195,6 +197,7 @@ fn write_failed_script_output<W: WriteStr>(
     settings: &Settings,
     run_status: &SetupScriptExecuteStatus<LiveSpec>,
 ) -> Result<(), WriteFault>
+    requires { HasFailedOutput run_status.now }
     ensures { Puts W.meaning w.old (failed_script_output settings.now run_status.now) result w.new }
 {
     let outcome = &run_status.result;

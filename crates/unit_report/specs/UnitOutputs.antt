@@ -6,7 +6,7 @@ use Rattle.run_model.specs.Outputs.{Part, stdout_part, stderr_part, combined_par
 use Rattle.run_model.specs.declared.output.ChildExecutionOutputDescription.{ChildExecutionOutputDescription}
 use Rattle.run_model.specs.declared.output.ChildExecutionOutputDescription.TheVariants.{Output, StartError}
 use Rattle.run_model.specs.declared.output.ChildOutputDescription.{ChildOutputDescription}
-use Rattle.run_model.specs.declared.output.ChildOutputDescription.TheVariants.{Split, Combined}
+use Rattle.run_model.specs.declared.output.ChildOutputDescription.TheVariants.{Split, Combined, NotLoaded}
 use Rattle.run_model.specs.declared.output.Highlight.{Highlight}
 use Rattle.run_model.specs.declared.output.LiveSpec.{LiveSpec}
 use Rattle.run_model.specs.declared.unit.UnitKind.{UnitKind}
@@ -83,11 +83,12 @@ split_text r s layout None None highlight =
 split_text r s layout None (Some stderr) highlight = both_streams r s layout None (Some stderr) highlight
 split_text r s layout (Some stdout) stderr highlight = both_streams r s layout (Some stdout) stderr highlight
 
--- what a process wrote
+-- what a process wrote. Of what was left unread nothing is asked: no text has it
 unfoldable pub child_output : UnitOutputReporter → Styles → OutputLayout → ChildOutputDescription → Option Highlight → Text
 child_output r s layout (Split stdout stderr) highlight = split_text r s layout stdout stderr highlight
 child_output r s layout (Combined output) highlight =
     present_stream r s layout.output_indent layout.combined_header output (option_and_then combined_part highlight)
+child_output r s layout NotLoaded highlight = []
 
 -- an error with its causes, indented below its header
 unfoldable pub errors_block : OutputLayout → MessageAndCauses → Text

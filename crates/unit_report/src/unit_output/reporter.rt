@@ -2,7 +2,7 @@
 
 ghost use Rattle.std.specs.Prelude.{◌≡◌, ◌∷◌, ◌++◌, [], true};
 ghost use Rattle.std.specs.Option.{option_map, option_and_then};
-ghost use Rattle.run_model.specs.Outputs.{combined_part, stderr_part, stdout_part, subslice_value};
+ghost use Rattle.run_model.specs.Outputs.{combined_part, has_loaded_output, is_loaded, stderr_part, stdout_part, subslice_value};
 ghost use Rattle.report_text.specs.Indent.{indent};
 ghost use Rattle.report_text.specs.Lossy.{decoded_text};
 ghost use Rattle.report_text.specs.Writer.{Puts};
@@ -75,7 +75,8 @@ impl UnitOutputReporter {
         self.overrides
     }
 
-    /// Writes all that is shown of an attempt: errors first, then what it wrote, then an empty line.
+    /// Writes all that is shown of an attempt: errors first, then what it wrote, then an empty line. Its output must
+    /// not have been left unread.
     ///
     /// # Errors
     ///
@@ -88,6 +89,7 @@ impl UnitOutputReporter {
         exec_output: &ChildExecutionOutputDescription<LiveSpec>,
         w: &mut W,
     ) -> Result<(), WriteFault>
+        requires { has_loaded_output exec_output.now ≡ true }
         ensures { Puts W.meaning w.old (execution_output self.now styles.now (layout_of spec.now) exec_output.now) result w.new }
     {
         match exec_output {
@@ -108,7 +110,7 @@ impl UnitOutputReporter {
         }
     }
 
-    /// Writes what a process wrote, each stream below its header.
+    /// Writes what a process wrote, each stream below its header. It must not have been left unread.
     ///
     /// # Errors
     ///
@@ -122,6 +124,7 @@ impl UnitOutputReporter {
         highlight: Option<&Highlight>,
         w: &mut W,
     ) -> Result<(), WriteFault>
+        requires { is_loaded output.now ≡ true }
         ensures { Puts W.meaning w.old (child_output self.now styles.now (layout_of spec.now) output.now (option_map (λ h. h.now) highlight.entry)) result w.new }
     {
         let streams = StreamWriter {
@@ -137,6 +140,7 @@ impl UnitOutputReporter {
                 let part = combined_subslice(highlight);
                 streams.write_present(w, spec.combined_header, output, part)
             }
+            ChildOutputDescription::NotLoaded => unreachable!(),
         }
     }
 }
