@@ -6,11 +6,12 @@ use Rattle.run_model.specs.Statuses.{is_success}
 use Rattle.run_model.specs.declared.event.TestEventKind.{TestEventKind}
 use Rattle.run_model.specs.declared.event.TestEventKind.TheVariants.{TestAttemptFailedWillRetry}
 use Rattle.console_reporter.specs.Configuration.{Configuration, settings_of}
+use Rattle.console_reporter.specs.Loads.{lacks_output}
 use Rattle.console_reporter.specs.declared.imp.calls.ReportCall.{ReportCall}
 use Rattle.console_reporter.specs.declared.imp.calls.ReportCall.TheVariants.{Event, Header, Prefix}
 use Rattle.console_reporter.specs.declared.imp.decider.OutputLoadDecider.{OutputLoadDecider}
 use Rattle.console_reporter.specs.declared.imp.faults.WriteEventError.{WriteEventError}
-use Rattle.console_reporter.specs.declared.imp.faults.WriteEventError.TheVariants.{RetriedSuccess}
+use Rattle.console_reporter.specs.declared.imp.faults.WriteEventError.TheVariants.{RetriedSuccess, OutputNotLoaded}
 use Rattle.event_text.specs.declared.settings.Settings.{Settings}
 
 -- what decides by settings
@@ -25,9 +26,10 @@ abbrev pub is_retried_success : TestEventKind → Bool
 is_retried_success (TestAttemptFailedWillRetry stress test status delay display) = is_success status.result
 is_retried_success _ = false
 
--- why an event is refused
+-- why an event is refused: output that it needs counts also where a reason for cancelling would hide it
 abbrev pub event_refusal : OutputLoadDecider → TestEventKind → Option WriteEventError
-event_refusal decider e = if is_retried_success e then Some RetriedSuccess else None
+event_refusal decider e =
+    if is_retried_success e then Some RetriedSuccess else (if lacks_output decider e then Some OutputNotLoaded else None)
 
 -- why a call is refused
 abbrev pub refusal_by : OutputLoadDecider → ReportCall → Option WriteEventError

@@ -5,7 +5,7 @@ use Rattle.run_model.specs.Levels.{final_rank, reason_rank}
 use Rattle.run_model.specs.declared.event.TestEventKind.{TestEventKind}
 use Rattle.run_model.specs.declared.event.TestEventKind.TheVariants.{TestFinished, TestSkipped, RunBeginCancel, RunBeginKill}
 use Rattle.run_model.specs.declared.level.FinalStatusLevel.TheVariants as final
-use Rattle.event_text.specs.FinishedTests.{TestFinish, finish_of, test_finish}
+use Rattle.event_text.specs.FinishedTests.{HasShownOutput, TestFinish, finish_of, test_finish}
 use Rattle.event_text.specs.Finishes.{is_final_wanted, row_at_end, row_listed}
 use Rattle.event_text.specs.Instances.{padded_instance}
 use Rattle.event_text.specs.declared.instance.CountedInstance.{CountedInstance}
@@ -25,6 +25,15 @@ pub data TestEnd : Type 0 where
 abbrev pub end_of : EndedTest → TestEnd
 end_of (ended.Finished f) = Finished (finish_of f)
 end_of (ended.Skipped test) = Skipped test
+
+-- output that is shown of it was not left unread
+abbrev pub HasEndOutput : TestEnd → Type 0
+HasEndOutput (Finished f) = HasShownOutput f
+HasEndOutput (Skipped test) = Unit {0}
+
+abbrev pub HasEndOutputIn : Option TestEnd → Type 0
+HasEndOutputIn None = Unit {0}
+HasEndOutputIn (Some end) = HasEndOutput end
 
 -- what the summary shows of a finished test: its line, and the output of its last attempt where that is shown at the end
 unfoldable pub final_output : TestFinish → FinalOutput

@@ -2,9 +2,12 @@ pub mod Accepted
 pub mod Configuration
 pub mod Effects
 pub mod Entries
+pub mod Isolation
 pub mod Keys
+pub mod Loads
 pub mod Order
 pub mod Outcomes
 pub mod Report
 pub mod Standing
 pub mod Topics
+pub mod Unread

@@ -5,7 +5,7 @@ use Rattle.report_text.specs.Writer.{Meaning}
 use Rattle.report_text.specs.declared.write_str.WriteFault.{WriteFault}
 use Rattle.report_text.specs.declared.write_str.WriteFault.TheVariants.{Device, Memory as RefusedMemory}
 use Rattle.console_reporter.specs.declared.imp.faults.WriteEventError.{WriteEventError}
-use Rattle.console_reporter.specs.declared.imp.faults.WriteEventError.TheVariants.{RetriedSuccess, Io, Memory, Failed}
+use Rattle.console_reporter.specs.declared.imp.faults.WriteEventError.TheVariants.{RetriedSuccess, OutputNotLoaded, Io, Memory, Failed}
 
 -- a beginning of the text was accepted
 pub record HasFront {S : Type 0} (m : Meaning S) (old : S) (text : Text) (new : S) : Type 0 where
@@ -18,6 +18,7 @@ pub record HasFront {S : Type 0} (m : Meaning S) (old : S) (text : Text) (new : 
 -- the reporter itself; a refusal leaves the writer as it was.
 abbrev pub Stops : {S : Type 0} → Meaning S → S → Text → WriteEventError → S → Type 0
 Stops m old text RetriedSuccess new = new ≡ old
+Stops m old text OutputNotLoaded new = new ≡ old
 Stops m old text Io new = m.stops old text Device new
 Stops m old text Memory new = m.stops old text RefusedMemory new ⊎ HasFront m old text new
 Stops m old text Failed new = ⊥
@@ -25,6 +26,7 @@ Stops m old text Failed new = ⊥
 -- the refusal that an error is
 abbrev pub refusal_in : WriteEventError → Option WriteEventError
 refusal_in RetriedSuccess = Some RetriedSuccess
+refusal_in OutputNotLoaded = Some OutputNotLoaded
 refusal_in Io = None
 refusal_in Memory = None
 refusal_in Failed = None

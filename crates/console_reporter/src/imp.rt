@@ -13,6 +13,7 @@ mod entry_key;
 mod faults;
 mod final_output;
 mod kept;
+mod loaded_output;
 mod reporter;
 #[cfg(test)]
 mod tests;
@@ -20,7 +21,7 @@ mod topics;
 
 pub use builder::DisplayReporterBuilder;
 pub use calls::ReportCall;
-pub use decider::{OutputLoadDecider, first_refused};
+pub use decider::{OutputLoadDecider, first_refused, unload_skipped};
 pub use event_text::finish::reasons_only_hide;
 pub use faults::{RunFault, WriteEventError};
 pub use kept::one_final_order;

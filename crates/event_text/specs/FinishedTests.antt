@@ -13,7 +13,7 @@ use Rattle.run_model.specs.declared.status.StatusSummary.{StatusSummary}
 use Rattle.run_model.specs.declared.stress.StressIndex.{StressIndex}
 use Rattle.report_text.specs.Texts.{Text}
 use Rattle.event_text.specs.AttemptOutputs.{attempt_output}
-use Rattle.event_text.specs.Finishes.{display_of, finish_row, is_line_shown, row_at_once}
+use Rattle.event_text.specs.Finishes.{display_of, finish_row, is_ever_shown, is_line_shown, row_at_once}
 use Rattle.event_text.specs.Settings.{finished_counter}
 use Rattle.event_text.specs.StatusLines.{status_line}
 use Rattle.event_text.specs.declared.finish.FinishRow.{FinishRow}
@@ -50,9 +50,9 @@ finish_of f = record {
   last = described_last f.describe;
 }
 
--- the output of its last attempt is there, if it is shown at once
-abbrev pub HasOutputAtOnce : TestFinish → Type 0
-HasOutputAtOnce f = row_at_once f.row f.display ≡ true → has_loaded_output f.last.output ≡ true
+-- the output of its last attempt is there, if it is shown, at once or at the end of the run
+abbrev pub HasShownOutput : TestFinish → Type 0
+HasShownOutput f = is_ever_shown f.display ≡ true → has_loaded_output f.last.output ≡ true
 
 -- the line of a finished test, where the status level is at least the test's
 unfoldable pub line_at_once : Settings → TestFinish → Text

@@ -42,6 +42,10 @@ finish_row reason result =
     else (if nat_lt reason (reason_rank (Some cause.Signal)) then row.Shown
     else (if reason == reason_rank (Some cause.Signal) then row.ShownOnce else row.Hidden))
 
+-- output with this setting is shown, at once or at the end of the run, unless a reason for cancelling hides it
+abbrev pub is_ever_shown : TestOutputDisplay → Bool
+is_ever_shown display = is_immediate display || is_final display
+
 -- what a row says of a display: whether the output is shown at once, and whether it is at the end
 unfoldable pub row_at_once : FinishRow → TestOutputDisplay → Bool
 row_at_once row.Hidden display = false

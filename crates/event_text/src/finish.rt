@@ -1,9 +1,9 @@
 //! When a finished test is shown: at once, and at the end of the run.
 
-ghost use Rattle.std.specs.Prelude.{◌≡◌};
+ghost use Rattle.std.specs.Prelude.{◌≡◌, true};
 ghost use Rattle.run_model.specs.Levels.{reason_rank};
 ghost use Rattle.run_model.specs.Statuses.{described_summary};
-ghost use Rattle.event_text.specs.Finishes.{IsOnlyHidden, IsSameBelowImmediate, display_of, finish_row, is_shown_at_end, is_shown_at_once, is_final_wanted, is_line_shown, is_terminated, is_terminated_abort, is_terminated_failure, row_at_end, row_at_once, row_listed};
+ghost use Rattle.event_text.specs.Finishes.{IsOnlyHidden, IsSameBelowImmediate, display_of, finish_row, is_ever_shown, is_shown_at_end, is_shown_at_once, is_final_wanted, is_line_shown, is_terminated, is_terminated_abort, is_terminated_failure, row_at_end, row_at_once, row_listed};
 
 use crate::settings::Settings;
 use run_model::abort::AbortDescription;
@@ -52,7 +52,8 @@ impl FinishRow {
     /// Whether output with this display is shown at once.
     #[tactic(auto, unfolding(crate::specs::Finishes::row_at_once))]
     pub fn is_shown_at_once(self, display: TestOutputDisplay) -> bool
-        ensures { result ≡ row_at_once self display }
+        ensures row { result ≡ row_at_once self display }
+        ensures shown { result ≡ true → is_ever_shown display ≡ true }
     {
         match self {
             FinishRow::Hidden => false,
@@ -64,7 +65,8 @@ impl FinishRow {
     /// Whether output with this display is shown at the end of the run.
     #[tactic(auto, unfolding(crate::specs::Finishes::row_at_end))]
     pub fn is_shown_at_end(self, display: TestOutputDisplay) -> bool
-        ensures { result ≡ row_at_end self display }
+        ensures row { result ≡ row_at_end self display }
+        ensures shown { result ≡ true → is_ever_shown display ≡ true }
     {
         match self {
             FinishRow::Hidden => false,

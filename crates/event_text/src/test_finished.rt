@@ -3,7 +3,7 @@
 ghost use Rattle.std.specs.Prelude.{◌≡◌};
 ghost use Rattle.run_model.specs.Levels.{reason_rank};
 ghost use Rattle.report_text.specs.Writer.{Puts};
-ghost use Rattle.event_text.specs.FinishedTests.{HasOutputAtOnce, finish_of, line_at_once, output_at_once, test_finish, test_finished_text};
+ghost use Rattle.event_text.specs.FinishedTests.{HasShownOutput, finish_of, line_at_once, output_at_once, test_finish, test_finished_text};
 
 use crate::attempt_output::write_test_execute_status;
 use crate::finish::FinishRow;
@@ -68,7 +68,7 @@ pub fn write_test_finished<W: WriteStr>(
     settings: &Settings,
     finished: &FinishedTest<'_, '_>,
 ) -> Result<(), WriteFault>
-    requires { HasOutputAtOnce (finish_of finished.now) }
+    requires { HasShownOutput (finish_of finished.now) }
     ensures { Puts W.meaning w.old (test_finished_text settings.now (finish_of finished.now)) result w.new }
 {
     write_line_at_once(w, settings, finished)?;
@@ -105,7 +105,7 @@ fn write_output_at_once<W: WriteStr>(
     settings: &Settings,
     finished: &FinishedTest<'_, '_>,
 ) -> Result<(), WriteFault>
-    requires { HasOutputAtOnce (finish_of finished.now) }
+    requires { HasShownOutput (finish_of finished.now) }
     ensures { Puts W.meaning w.old (output_at_once settings.now (finish_of finished.now)) result w.new }
 {
     if finished.row.is_shown_at_once(finished.display) {

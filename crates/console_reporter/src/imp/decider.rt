@@ -1,14 +1,25 @@
 //! What a reporter decides of an event by its metadata alone.
 
-ghost use Rattle.std.specs.Prelude.{◌≡◌};
-ghost use Rattle.std.specs.Option.{is_some};
+ghost use Rattle.std.specs.Prelude.{◌≡◌, None, Some, false, map};
+ghost use Rattle.std.specs.Option.{is_some, option_map};
+ghost use Rattle.run_model.specs.Recorded.{recorded_kind};
+ghost use Rattle.run_model.specs.Statuses.{described_summary, summary_of};
+ghost use Rattle.run_model.specs.declared.event.TestEventKind.{TestEventKind};
 ghost use Rattle.console_reporter.specs.Accepted.{decider_by, event_refusal, first_refused, is_retried_success, refusal_by};
+ghost use Rattle.console_reporter.specs.Isolation.{IsIsolated};
+ghost use Rattle.console_reporter.specs.Loads.{answered_output, decision, lacks_output, load_if, loads, loads_attempt, loads_finish, loads_script, needed_answer, needed_output};
+ghost use Rattle.console_reporter.specs.Unread.{is_skipped, unread, unread_call};
 
 use super::calls::ReportCall;
 use super::faults::WriteEventError;
 use event_text::settings::Settings;
+use run_model::config::TestOutputDisplay;
 use run_model::event::{TestEvent, TestEventKind};
+use run_model::info::InfoResponse;
 use run_model::level::StatusLevel;
+use run_model::output::{ChildExecutionOutputDescription, LiveSpec, OutputSpec, RecordingSpec};
+use run_model::output_event::{LoadOutput, OutputEventKind};
+use run_model::status::{ExecutionResultDescription, ExecutionStatuses};
 use unit_report::unit_output::OutputDisplayOverrides;
 
 /// Decides by an event's metadata what a reporter of one configuration does with it: no call before it matters.
@@ -33,12 +44,129 @@ impl OutputLoadDecider {
         }
     }
 
+    /// Whether a replay has to load the captured output of a recorded event: where a report shows it, at once or at the end of
+    /// the run, unless a reason for cancelling hides it. It takes no memory.
+    ///
+    /// An event of a run that is going on has the answer of its recorded form.
+    ///
+    /// ```
+    /// match decider.should_load_output(&recorded) { LoadOutput::Load => {} LoadOutput::Skip => {} }
+    /// ```
+    pub fn should_load_output(&self, event: &OutputEventKind<RecordingSpec>) -> LoadOutput
+        ensures loads { result ≡ load_if (loads self.now event.now) }
+        ensures live { (kind : TestEventKind) → recorded_kind kind ≡ Some event.now → decision self.now kind ≡ Some result }
+    {
+        load_if(match event {
+            OutputEventKind::SetupScriptFinished { run_status, .. } => {
+                loads_script(&run_status.result)
+            }
+            OutputEventKind::TestAttemptFailedWillRetry { failure_output, .. } => {
+                self.loads_attempt(*failure_output)
+            }
+            OutputEventKind::TestFinished {
+                success_output,
+                failure_output,
+                run_statuses,
+                ..
+            } => self.loads_finish(*success_output, *failure_output, run_statuses),
+        })
+    }
+
+    // The same of an event of a run that is going on, if it is a decided one.
+    fn decision(&self, kind: &TestEventKind<'_>) -> Option<LoadOutput>
+        ensures { result ≡ decision self.now kind.now }
+    {
+        Some(load_if(match kind {
+            TestEventKind::SetupScriptFinished { run_status, .. } => {
+                loads_script(&run_status.result)
+            }
+            TestEventKind::TestAttemptFailedWillRetry { failure_output, .. } => {
+                self.loads_attempt(*failure_output)
+            }
+            TestEventKind::TestFinished {
+                success_output,
+                failure_output,
+                run_statuses,
+                ..
+            } => self.loads_finish(*success_output, *failure_output, run_statuses),
+            _ => return None,
+        }))
+    }
+
+    // Whether the output of an attempt that failed where another one follows is shown.
+    fn loads_attempt(&self, failure_output: TestOutputDisplay) -> bool
+        ensures { result ≡ loads_attempt self.now failure_output }
+    {
+        StatusLevel::Retry.is_shown_at(self.status_level)
+            && self.overrides.failure_output(failure_output).is_immediate()
+    }
+
+    // Whether the output of a finished test is shown, at once or at the end of the run.
+    fn loads_finish<S: OutputSpec>(
+        &self,
+        success_output: TestOutputDisplay,
+        failure_output: TestOutputDisplay,
+        run_statuses: &ExecutionStatuses<S>,
+    ) -> bool
+        ensures { result ≡ loads_finish self.now success_output failure_output (summary_of run_statuses.now) }
+    {
+        let describe = run_statuses.describe();
+        let display = self
+            .overrides
+            .resolve_for_describe(success_output, failure_output, &describe);
+        display.is_immediate() || display.is_final()
+    }
+
+    // The output that the event needs.
+    fn needed_output<'e>(
+        &self,
+        kind: &'e TestEventKind<'_>,
+    ) -> Option<&'e ChildExecutionOutputDescription<LiveSpec>>
+        ensures { option_map (λ o. o.now) result ≡ needed_output self.now kind.now }
+    {
+        match kind {
+            TestEventKind::SetupScriptFinished { run_status, .. } => {
+                loads_script(&run_status.result).then_some(&run_status.output)
+            }
+            TestEventKind::TestAttemptFailedWillRetry {
+                run_status,
+                failure_output,
+                ..
+            } => self
+                .loads_attempt(*failure_output)
+                .then_some(&run_status.output),
+            TestEventKind::TestFinished {
+                success_output,
+                failure_output,
+                run_statuses,
+                ..
+            } => self
+                .loads_finish(*success_output, *failure_output, run_statuses)
+                .then_some(&run_statuses.last_status().output),
+            TestEventKind::InfoResponse { response, .. } => needed_answer(response),
+            _ => None,
+        }
+    }
+
+    // Whether output that the event needs was left unread.
+    fn lacks_output(&self, kind: &TestEventKind<'_>) -> bool
+        ensures { result ≡ lacks_output self.now kind.now }
+    {
+        match self.needed_output(kind) {
+            Some(output) => !output.has_loaded_output(),
+            None => false,
+        }
+    }
+
     // Why the reporter refuses the event, if it does.
     pub(super) fn refusal_of(&self, event: &TestEvent<'_>) -> Option<WriteEventError>
-        ensures { result ≡ event_refusal self.now event.now.kind }
+        ensures refusal { result ≡ event_refusal self.now event.now.kind }
+        ensures accepted { result ≡ None → lacks_output self.now event.now.kind ≡ false }
     {
         if is_retried_success(&event.kind) {
             Some(WriteEventError::RetriedSuccess)
+        } else if self.lacks_output(&event.kind) {
+            Some(WriteEventError::OutputNotLoaded)
         } else {
             None
         }
@@ -53,6 +181,17 @@ impl OutputLoadDecider {
             ReportCall::Header(_) | ReportCall::Prefix(_) => false,
         }
     }
+
+    // Leaves the output of a call unread if it is not needed.
+    fn unload(&self, call: &mut ReportCall<'_>)
+        ensures { call.new ≡ unread_call self.now call.old }
+    {
+        if let ReportCall::Event(event) = call {
+            if self.decision(&event.kind) == Some(LoadOutput::Skip) {
+                event.unload();
+            }
+        }
+    }
 }
 
 /// The place of the first call that a reporter of the decider's configuration refuses, or None where it accepts each. It
@@ -65,6 +204,54 @@ pub fn first_refused(decider: &OutputLoadDecider, calls: &[ReportCall<'_>]) -> O
     ensures { result ≡ first_refused decider.now calls.now }
 {
     calls.iter().position(|call| decider.refuses(call))
+}
+
+/// Leaves the captured output of every attempt unread of each event that the decider skips, as a replay does that did not load
+/// it. It takes no memory.
+///
+/// No reporter of the decider's configuration then writes another byte, and it accepts what it accepted.
+///
+/// ```
+/// unload_skipped(&reporter.output_load_decider(), &mut calls);
+/// ```
+pub fn unload_skipped(decider: &OutputLoadDecider, calls: &mut [ReportCall<'_>])
+    ensures unread { calls.new ≡ unread decider.now calls.old }
+    ensures isolation { IsIsolated decider.now calls.old calls.new }
+{
+    for call in calls.iter_mut() {
+        decider.unload(call);
+    }
+}
+
+// What the decider answers.
+fn load_if(is_shown: bool) -> LoadOutput
+    ensures { result ≡ load_if is_shown }
+{
+    if is_shown {
+        LoadOutput::Load
+    } else {
+        LoadOutput::Skip
+    }
+}
+
+// Whether the output of a setup script that ended so is shown.
+fn loads_script(outcome: &ExecutionResultDescription) -> bool
+    ensures { result ≡ loads_script outcome.now }
+{
+    !outcome.is_success()
+}
+
+// The output that the answer of a unit needs.
+fn needed_answer<'e>(
+    response: &'e InfoResponse<'_>,
+) -> Option<&'e ChildExecutionOutputDescription<LiveSpec>>
+    ensures { option_map (λ o. o.now) result ≡ needed_answer response.now }
+{
+    let (state, output) = match response {
+        InfoResponse::SetupScript(response) => (response.state.get(), response.output.get()),
+        InfoResponse::Test(response) => (response.state.get(), response.output.get()),
+    };
+    state.has_valid_output().then_some(output)
 }
 
 // Whether another attempt is said to follow one that succeeded.

@@ -11,6 +11,9 @@ pub enum WriteEventError {
     /// The event is refused: another attempt is said to follow one that succeeded. Nothing was written.
     #[error("a retried attempt succeeded")]
     RetriedSuccess,
+    /// The event is refused: output that it needs was left unread. Nothing was written.
+    #[error("output not loaded")]
+    OutputNotLoaded,
     /// The writer's device failed in this call. A beginning of the call's text was accepted.
     #[error("the report could not be written")]
     Io,

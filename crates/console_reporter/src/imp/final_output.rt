@@ -2,18 +2,17 @@
 
 ghost use Rattle.std.specs.Prelude.{◌≡◌, IfOk, IsOk, false};
 ghost use Rattle.run_model.specs.Statuses.{is_aborted};
-ghost use Rattle.event_text.specs.FinishedTests.{finish_of};
+ghost use Rattle.event_text.specs.FinishedTests.{HasShownOutput, finish_of};
 ghost use Rattle.console_reporter.specs.Effects.{final_output, finished_entry, skipped_entry};
 ghost use Rattle.console_reporter.specs.Entries.{final_level_in};
 ghost use Rattle.event_text.specs.Finishes.{row_at_end};
 
+use super::loaded_output::LoadedOutput;
 use event_text::instance::CountedInstance;
 use event_text::status_line::StatusLine;
 use event_text::test_finished::FinishedTest;
-use run_model::boxed::Boxed;
 use run_model::level::FinalStatusLevel;
 use run_model::memory::OutOfMemory;
-use run_model::output::{ChildExecutionOutputDescription, LiveSpec};
 use run_model::status::StatusSummary;
 use std::alloc::Global;
 
@@ -39,7 +38,7 @@ pub enum FinalOutput {
         /// What its attempts came to.
         summary: StatusSummary,
         /// What its last attempt wrote.
-        output: Boxed<ChildExecutionOutputDescription<LiveSpec>>,
+        output: LoadedOutput,
     },
     /// It was not to run, and its line is shown.
     Skipped,
@@ -60,15 +59,16 @@ impl FinalOutput {
     // What the summary shows of a finished test.
     #[tactic(auto, unfolding(crate::specs::Effects::final_output))]
     fn of_test(alloc: Global, finished: &FinishedTest<'_, '_>) -> Result<FinalOutput, OutOfMemory>
+        requires { HasShownOutput (finish_of finished.now) }
         ensures output { IfOk result (λ o. o ≡ final_output (finish_of finished.now)) }
         ensures free { is_aborted (finish_of finished.now).last.result ≡ false → row_at_end finished.now.row finished.now.display ≡ false → IsOk result }
     {
         let summary = StatusLine::of_description(&finished.describe).to_summary(alloc)?;
         if finished.row.is_shown_at_end(finished.display) {
-            let output = finished.describe.last_status().output.copy(alloc)?;
+            let output = &finished.describe.last_status().output;
             Ok(FinalOutput::ExecutedWithOutput {
                 summary,
-                output: Boxed::new(alloc, output)?,
+                output: LoadedOutput::copy_of(alloc, output)?,
             })
         } else {
             Ok(FinalOutput::Executed { summary })
@@ -78,11 +78,12 @@ impl FinalOutput {
 
 impl<'a> FinalOutputEntry<'a> {
     /// What the summary shows of a finished test. It takes memory for the texts of the last attempt; the bytes of its output
-    /// are shared.
+    /// are shared. Output that is shown must not have been left unread.
     pub fn of_test(
         alloc: Global,
         finished: &FinishedTest<'_, 'a>,
     ) -> Result<FinalOutputEntry<'a>, OutOfMemory>
+        requires { HasShownOutput (finish_of finished.now) }
         ensures entry { IfOk result (λ e. e ≡ finished_entry (finish_of finished.now)) }
         ensures free { is_aborted (finish_of finished.now).last.result ≡ false → row_at_end finished.now.row finished.now.display ≡ false → IsOk result }
     {

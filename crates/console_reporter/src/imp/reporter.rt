@@ -5,14 +5,15 @@ ghost use Rattle.std.specs.List.{flat_map};
 ghost use Rattle.std.specs.Option.{is_some, option_and_then, option_map, option_to_list};
 ghost use Rattle.run_model.specs.Levels.{reason_rank};
 ghost use Rattle.report_text.specs.Writer.{Puts, one_further};
-ghost use Rattle.event_text.specs.FinishedTests.{finish_of};
+ghost use Rattle.event_text.specs.FinishedTests.{HasShownOutput, finish_of};
 ghost use Rattle.run_text.specs.Headers.{replay_header_text};
 ghost use Rattle.console_reporter.specs.declared.imp.calls.ReportCall.{ReportCall};
 ghost use Rattle.console_reporter.specs.declared.imp.faults.WriteEventError.{WriteEventError};
 ghost use Rattle.console_reporter.specs.declared.imp.final_output.FinalOutputEntry.{FinalOutputEntry};
 ghost use Rattle.console_reporter.specs.Configuration.{Configuration, configured, settings_of};
-ghost use Rattle.console_reporter.specs.Accepted.{AreAccepted, IsAccepted, decider_of, refusal, refusal_at};
-ghost use Rattle.console_reporter.specs.Effects.{TestEnd, effect_of, end_of, kept_entry};
+ghost use Rattle.console_reporter.specs.Accepted.{AreAccepted, IsAccepted, decider_by, decider_of, refusal, refusal_at};
+ghost use Rattle.console_reporter.specs.Effects.{HasEndOutput, HasEndOutputIn, TestEnd, effect_of, end_of, kept_entry};
+ghost use Rattle.console_reporter.specs.Loads.{lacks_output};
 ghost use Rattle.console_reporter.specs.Entries.{final_order, hiding_rank};
 ghost use Rattle.console_reporter.specs.Outcomes.{Stops, StopsAfter, IsOfLines, answered_refusal, error_for, refusal_in};
 ghost use Rattle.console_reporter.specs.Report.{end_of_run_text, event_text, finished_text, listed_text, text, texts, report, past_at, text_at};
@@ -94,7 +95,7 @@ impl<'a, W: WriteStr> DisplayReporter<'a, W> {
         }
     }
 
-    /// What decides by an event's metadata whether this reporter refuses it.
+    /// What decides by an event's metadata whether this reporter refuses it, and whether it shows its output.
     pub fn output_load_decider(&self) -> OutputLoadDecider
         ensures { (config : Configuration) (past : List ReportCall) → StandsAfter config past self.now → result ≡ decider_of config }
     {
@@ -143,6 +144,7 @@ impl<'a, W: WriteStr> DisplayReporter<'a, W> {
 
     // Writes and delivers the text of an event, and does what it does.
     fn report_event(&mut self, event: &TestEvent<'a>) -> Result<(), WriteEventError>
+        requires { lacks_output (decider_by self.old.state.settings) event.now.kind ≡ false }
         ensures same_writer { IsSameWriter self.old self.new }
         ensures accepted { OnOk result ((config : Configuration) (past : List ReportCall) → StandsAfter config past self.old →
             W.meaning.accepts self.old.writer.now (text config past (ReportCall.Event event.now)) self.new.writer.now) }
@@ -291,6 +293,7 @@ impl<'a, W: WriteStr> DisplayReporter<'a, W> {
 impl<'a> ReporterState<'a> {
     // Does what an event does: it may cancel the run, and finish a test.
     fn apply(&mut self, effect: &EventEffect<'_, 'a>) -> Result<(), OutOfMemory>
+        requires { HasEndOutputIn (option_map end_of effect.now.ended) }
         ensures settings { self.new.settings ≡ self.old.settings }
         ensures prefix { self.new.unique_prefix ≡ self.old.unique_prefix }
         ensures reason { OnOk result (reason_rank self.new.cancel_status ≡ max (reason_rank effect.now.reason) (reason_rank self.old.cancel_status)) }
@@ -308,6 +311,7 @@ impl<'a> ReporterState<'a> {
 
     // Keeps a test where the summary lists it.
     fn keep_test(&mut self, ended: &EndedTest<'_, 'a>) -> Result<(), OutOfMemory>
+        requires { HasEndOutput (end_of ended.now) }
         ensures settings { self.new.settings ≡ self.old.settings }
         ensures prefix { self.new.unique_prefix ≡ self.old.unique_prefix }
         ensures reason { self.new.cancel_status ≡ self.old.cancel_status }
@@ -324,6 +328,7 @@ impl<'a> ReporterState<'a> {
 
     // Keeps a finished test where the summary lists it.
     fn keep_finished(&mut self, finished: &FinishedTest<'_, 'a>) -> Result<(), OutOfMemory>
+        requires { HasShownOutput (finish_of finished.now) }
         ensures settings { self.new.settings ≡ self.old.settings }
         ensures prefix { self.new.unique_prefix ≡ self.old.unique_prefix }
         ensures reason { self.new.cancel_status ≡ self.old.cancel_status }
@@ -393,7 +398,9 @@ fn write_delivered<W: WriteStr>(
     event: &TestEvent<'_>,
     effect: &EventEffect<'_, '_>,
 ) -> Result<(), WriteFault>
-    requires { option_map end_of effect.now.ended ≡ (effect_of event.now.kind).ended state.now.settings (reason_rank state.now.cancel_status) }
+    requires ended { option_map end_of effect.now.ended ≡ (effect_of event.now.kind).ended state.now.settings (reason_rank state.now.cancel_status) }
+    requires loaded { HasEndOutputIn (option_map end_of effect.now.ended) }
+    requires accepted { lacks_output (decider_by state.now.settings) event.now.kind ≡ false }
     ensures text { Puts W.meaning w.old (event_text state.now.settings (known_by state.now) event.now.elapsed.0 event.now.kind) result w.new }
     ensures delivered { OnOk result (W.meaning.is_delivered w.new) }
 {
@@ -409,7 +416,9 @@ fn write_event_text<W: WriteStr>(
     event: &TestEvent<'_>,
     effect: &EventEffect<'_, '_>,
 ) -> Result<(), WriteFault>
-    requires { option_map end_of effect.now.ended ≡ (effect_of event.now.kind).ended state.now.settings (reason_rank state.now.cancel_status) }
+    requires ended { option_map end_of effect.now.ended ≡ (effect_of event.now.kind).ended state.now.settings (reason_rank state.now.cancel_status) }
+    requires loaded { HasEndOutputIn (option_map end_of effect.now.ended) }
+    requires accepted { lacks_output (decider_by state.now.settings) event.now.kind ≡ false }
     ensures { Puts W.meaning w.old (event_text state.now.settings (known_by state.now) event.now.elapsed.0 event.now.kind) result w.new }
 {
     let (settings, kind) = (&state.settings, &event.kind);
@@ -507,6 +516,7 @@ fn write_finished<W: WriteStr>(
     settings: &Settings,
     ended: &Option<EndedTest<'_, '_>>,
 ) -> Result<(), WriteFault>
+    requires { HasEndOutputIn (option_map end_of ended.now) }
     ensures { Puts W.meaning w.old (finished_text settings.now (option_map end_of ended.now)) result w.new }
 {
     match ended {

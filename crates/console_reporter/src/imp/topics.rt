@@ -1,8 +1,10 @@
 //! The texts of events by their topics. An event's own text stands in the crates `event_text`, `run_text` and `info_text`.
 
-ghost use Rattle.std.specs.Prelude.{◌≡◌, ℕ, true};
+ghost use Rattle.std.specs.Prelude.{◌≡◌, ℕ, false, true};
 ghost use Rattle.report_text.specs.Writer.{Puts};
 ghost use Rattle.event_text.specs.Scripts.{script_of};
+ghost use Rattle.console_reporter.specs.Accepted.{decider_by};
+ghost use Rattle.console_reporter.specs.Loads.{lacks_output};
 ghost use Rattle.console_reporter.specs.Report.{Known, event_text, script_by};
 ghost use Rattle.console_reporter.specs.Topics.{is_of_attempt, is_of_info, is_of_setup_script, is_of_start, is_of_stop};
 
@@ -73,7 +75,8 @@ pub fn write_attempt<W: WriteStr>(
     settings: &Settings,
     kind: &TestEventKind<'_>,
 ) -> Result<(), WriteFault>
-    requires { is_of_attempt kind.now ≡ true }
+    requires topic { is_of_attempt kind.now ≡ true }
+    requires accepted { lacks_output (decider_by settings.now) kind.now ≡ false }
     ensures { (known : Known) (elapsed : ℕ) → Puts W.meaning w.old (event_text settings.now known elapsed kind.now) result w.new }
 {
     match kind {
@@ -145,7 +148,8 @@ pub fn write_info<W: WriteStr>(
     elapsed: Nanos,
     kind: &TestEventKind<'_>,
 ) -> Result<(), WriteFault>
-    requires { is_of_info kind.now ≡ true }
+    requires topic { is_of_info kind.now ≡ true }
+    requires accepted { lacks_output (decider_by settings.now) kind.now ≡ false }
     ensures { (known : Known) → Puts W.meaning w.old (event_text settings.now known elapsed.0 kind.now) result w.new }
 {
     match kind {
@@ -169,7 +173,8 @@ pub fn write_setup_script<W: WriteStr>(
     settings: &Settings,
     kind: &TestEventKind<'_>,
 ) -> Result<(), WriteFault>
-    requires { is_of_setup_script kind.now ≡ true }
+    requires topic { is_of_setup_script kind.now ≡ true }
+    requires accepted { lacks_output (decider_by settings.now) kind.now ≡ false }
     ensures { (known : Known) (elapsed : ℕ) → Puts W.meaning w.old (event_text settings.now known elapsed kind.now) result w.new }
 {
     match kind {

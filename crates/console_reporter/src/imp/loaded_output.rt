@@ -1,0 +1,50 @@
+//! Output that was not left unread.
+
+ghost use Rattle.std.specs.Prelude.{◌≡◌, IfOk, true};
+ghost use Rattle.run_model.specs.Outputs.{has_loaded_output};
+
+use run_model::boxed::Boxed;
+use run_model::memory::OutOfMemory;
+use run_model::output::{ChildExecutionOutputDescription, LiveSpec};
+use std::alloc::Global;
+use std::marker::Model;
+
+/// What an attempt wrote, which is there: an entry that shows output has nothing else. Contracts see the output.
+#[derive(Debug, Drop)]
+pub struct LoadedOutput {
+    output: Boxed<ChildExecutionOutputDescription<LiveSpec>>,
+}
+
+impl Model for LoadedOutput {
+    ghost use Rattle.run_model.specs.Outputs.{has_loaded_output};
+    ghost use Rattle.event_text.specs.AttemptOutputs.{Written};
+
+    ghost Value = { Written };
+
+    ghost view = { λ o. o.output };
+
+    ghost invariant = { λ o. has_loaded_output o.output ≡ true };
+}
+
+impl LoadedOutput {
+    /// Takes memory for the texts of an output that is there. Its captured bytes are shared.
+    pub fn copy_of(
+        alloc: Global,
+        output: &ChildExecutionOutputDescription<LiveSpec>,
+    ) -> Result<LoadedOutput, OutOfMemory>
+        requires { has_loaded_output output.now ≡ true }
+        ensures { IfOk result (λ o. o ≡ output.now) }
+    {
+        Ok(LoadedOutput {
+            output: Boxed::new(alloc, output.copy(alloc)?)?,
+        })
+    }
+
+    /// The output.
+    pub fn get(&self) -> &ChildExecutionOutputDescription<LiveSpec>
+        ensures same { result.now ≡ self.now }
+        ensures loaded { has_loaded_output self.now ≡ true }
+    {
+        self.output.get()
+    }
+}
