@@ -1,9 +1,12 @@
 pub mod Calls
 pub mod Inserts
+pub mod Isolation
 pub mod Keys
+pub mod Loads
 pub mod Orders
 pub mod Pasts
 pub mod Refusals
 pub mod Rows
+pub mod Same
 pub mod Texts
 pub mod Whole

@@ -1,5 +1,5 @@
 -- Isolation: a replay may leave unread every captured output that the load decider skips, and no byte changes.
-use Rattle.std.specs.Prelude.{◌≡◌, ◌×◌, List, reverse}
+use Rattle.std.specs.Prelude.{◌≡◌, List, reverse}
 use Rattle.console_reporter.specs.Accepted.{AreAcceptedBy, decider_of}
 use Rattle.console_reporter.specs.Configuration.{Configuration}
 use Rattle.console_reporter.specs.Report.{report, texts}

@@ -1,8 +1,10 @@
 -- Refusals (for `DisplayReporter::write_event`).
-use Rattle.std.proofs.Common.{◌≡◌, true, Option, None, Some, refl}
+use Rattle.std.proofs.Common.{◌≡◌, ℕ, List, true, Option, None, Some, false, refl}
 use Rattle.std.specs.Option.{is_some}
-use Rattle.console_reporter.specs.Outcomes.{refusal_in}
+use Rattle.report_text.specs.Writer.{Meaning}
+use Rattle.console_reporter.specs.Outcomes.{Stops, refusal_in}
 use Rattle.console_reporter.specs.declared.imp.faults.WriteEventError.{WriteEventError}
+use Rattle.console_reporter.specs.declared.imp.faults.WriteEventError.TheVariants.{RetriedSuccess, OutputNotLoaded, Io, Memory, Failed}
 
 -- what is not there
 pub none_where_not_some : {X : Type 0} (o : Option X) → ((x : X) → o ≡ Some x → ⊥) → o ≡ None
@@ -12,3 +14,21 @@ none_where_not_some (Some x) not_some = absurd (not_some x refl)
 -- an error that is no refusal
 pub not_refused : (e : WriteEventError) → refusal_in e ≡ None → is_some (refusal_in e) ≡ true → ⊥
 not_refused e none some = cc
+
+-- a refusal leaves the writer as it was
+pub stops_refused : {S : Type 0} (m : Meaning S) (w : S) (t : List ℕ) (e : WriteEventError) → refusal_in e ≡ Some e → Stops m w t e w
+stops_refused m w t RetriedSuccess told = refl
+stops_refused m w t OutputNotLoaded told = refl
+stops_refused m w t Io told = cc
+stops_refused m w t Memory told = cc
+stops_refused m w t Failed told = cc
+
+-- and is no fault of the device or of memory
+pub refused_not_io : (e : WriteEventError) → refusal_in e ≡ Some e → e ≡ Io → ⊥
+refused_not_io e told is = cc
+
+pub refused_not_memory : (e : WriteEventError) → refusal_in e ≡ Some e → e ≡ Memory → ⊥
+refused_not_memory e told is = cc
+
+pub told_is_some : (e : WriteEventError) → refusal_in e ≡ Some e → is_some (refusal_in e) ≡ false → ⊥
+told_is_some e told none = cc

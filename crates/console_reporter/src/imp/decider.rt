@@ -1,14 +1,15 @@
 //! What a reporter decides of an event by its metadata alone.
 
-ghost use Rattle.std.specs.Prelude.{◌≡◌, None, Some, false, map};
+ghost use Rattle.std.specs.Prelude.{◌≡◌, IfSome, None, Some, false};
 ghost use Rattle.std.specs.Option.{is_some, option_map};
 ghost use Rattle.run_model.specs.Recorded.{recorded_kind};
 ghost use Rattle.run_model.specs.Statuses.{described_summary, summary_of};
 ghost use Rattle.run_model.specs.declared.event.TestEventKind.{TestEventKind};
 ghost use Rattle.console_reporter.specs.Accepted.{decider_by, event_refusal, first_refused, is_retried_success, refusal_by};
 ghost use Rattle.console_reporter.specs.Isolation.{IsIsolated};
-ghost use Rattle.console_reporter.specs.Loads.{answered_output, decision, lacks_output, load_if, loads, loads_attempt, loads_finish, loads_script, needed_answer, needed_output};
-ghost use Rattle.console_reporter.specs.Unread.{is_skipped, unread, unread_call};
+ghost use Rattle.console_reporter.specs.Loads.{decision, lacks_output, load_if, loads, loads_attempt, loads_finish, loads_script, needed_answer, needed_output};
+ghost use Rattle.console_reporter.specs.Outcomes.{refusal_in};
+ghost use Rattle.console_reporter.specs.Unread.{unread, unread_call};
 
 use super::calls::ReportCall;
 use super::faults::WriteEventError;
@@ -161,6 +162,7 @@ impl OutputLoadDecider {
     // Why the reporter refuses the event, if it does.
     pub(super) fn refusal_of(&self, event: &TestEvent<'_>) -> Option<WriteEventError>
         ensures refusal { result ≡ event_refusal self.now event.now.kind }
+        ensures told { IfSome result (λ e. refusal_in e ≡ Some e) }
         ensures accepted { result ≡ None → lacks_output self.now event.now.kind ≡ false }
     {
         if is_retried_success(&event.kind) {

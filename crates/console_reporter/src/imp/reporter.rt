@@ -130,7 +130,8 @@ impl<'a, W: WriteStr> DisplayReporter<'a, W> {
         if self.state.has_failed {
             return Err(WriteEventError::Failed);
         }
-        if let Some(refusal) = self.output_load_decider().refusal_of(event) {
+        let decider = OutputLoadDecider::of_settings(&self.state.settings);
+        if let Some(refusal) = decider.refusal_of(event) {
             return Err(refusal);
         }
         match self.report_event(event) {

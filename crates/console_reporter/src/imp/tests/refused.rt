@@ -56,7 +56,8 @@ fn a_refused_event_is_as_if_it_had_not_come(rt: HostRuntime) -> Result<(), Fail>
     let mut calls = Vec::new(alloc);
     calls.push(test_at(alloc, 0, &binary_id, &names)?)?;
     calls.push(run_finished())?;
-    let refused = retried(&binary_id, &names[1], ExecutionResultDescription::Pass);
+    let name = TestCaseName::new(alloc, "t2")?;
+    let refused = retried(&binary_id, &name, ExecutionResultDescription::Pass);
     let mut report = String::new(alloc);
     let mut reporter = builder(alloc)?.build(alloc, &mut report, false, false, false, false);
     for call in &calls {

@@ -1,0 +1,233 @@
+-- What the decider skips is not shown (for `unload_skipped`).
+use Rattle.std.proofs.Common.{◌≡◌, ℕ, Bool, true, false, not, ◌&&◌, ◌||◌, Option, None, Some, List, [], ◌∷◌, ◌++◌, map, reverse, length, ◌==◌, if◌then◌else◌, refl, sym, ap, subst, ◌∙◌, inl, inr}
+use Rattle.std.specs.List.{AllByRecursion}
+use Rattle.std.specs.Option.{option_map_or}
+use Rattle.std.proofs.lemmas.Bool.{cases_Bool, false≢true}
+use Rattle.std.proofs.lemmas.List.{length-map, map-append, reverse-append}
+use Rattle.run_model.specs.Attempts.{Attempts}
+use Rattle.run_model.specs.Displays.{is_immediate, is_final}
+use Rattle.run_model.specs.Outputs.{has_loaded_output}
+use Rattle.run_model.specs.Statuses.{is_success, summary_by, summary_of, case_of}
+use Rattle.run_model.specs.Unloaded.{unloaded_attempt, unloaded_attempts, unloaded_event, unloaded_kind, unloaded_script}
+use Rattle.run_model.specs.declared.config.TestOutputDisplay.{TestOutputDisplay}
+use Rattle.run_model.specs.declared.event.TestEvent.{TestEvent}
+use Rattle.run_model.specs.declared.event.TestEventKind.{TestEventKind}
+use Rattle.run_model.specs.declared.event.TestEventKind.TheVariants.{RunStarted, StressSubRunStarted, SetupScriptStarted, SetupScriptSlow, SetupScriptFinished, TestStarted, TestSlow, TestAttemptFailedWillRetry, TestRetryStarted, TestFinished, TestSkipped, RunBeginCancel, RunBeginKill, RunPaused, RunContinued, InfoStarted, InfoResponse, InfoFinished, InputEnter, StressSubRunFinished, RunFinished}
+use Rattle.run_model.specs.declared.level.StatusLevel.TheVariants as level
+use Rattle.run_model.specs.declared.name.TestInstanceId.{TestInstanceId}
+use Rattle.run_model.specs.declared.output.ChildOutputDescription.{ChildOutputDescription}
+use Rattle.run_model.specs.declared.output.LiveSpec.{LiveSpec}
+use Rattle.run_model.specs.declared.output_event.LoadOutput.TheVariants.{Load, Skip}
+use Rattle.run_model.specs.declared.stats.RunStats.{RunStats}
+use Rattle.run_model.specs.declared.status.SetupScriptExecuteStatus.{SetupScriptExecuteStatus}
+use Rattle.run_model.specs.declared.stress.StressIndex.{StressIndex}
+use Rattle.run_model.specs.declared.time.Nanos.{Nanos}
+use Rattle.report_text.specs.Texts.{Text}
+use Rattle.event_text.specs.AttemptOutputs.{Written}
+use Rattle.event_text.specs.FinishedTests.{TestFinish, line_at_once, output_at_once, test_finish, test_finished_text}
+use Rattle.event_text.specs.Finishes.{display_of, is_ever_shown, row_at_end, row_at_once, row_listed}
+use Rattle.event_text.specs.RetriedTests.{Attempt, attempt_failed_text, attempt_failed_line, delay_line, failed_output, is_failed_output_shown}
+use Rattle.event_text.specs.Settings.{is_level_shown}
+use Rattle.event_text.specs.declared.finish.FinishRow.{FinishRow}
+use Rattle.event_text.specs.declared.finish.FinishRow.TheVariants.{Hidden, Shown, ShownOnce}
+use Rattle.event_text.specs.declared.settings.Settings.{Settings}
+use Rattle.run_text.specs.SetupScripts.{failed_script_output, setup_script_line, setup_script_finished_text}
+use Rattle.event_text.specs.Scripts.{Script}
+use Rattle.console_reporter.specs.Accepted.{AreAcceptedBy, IsAcceptedBy, decider_by, decider_of, event_refusal, refusal_by}
+use Rattle.console_reporter.specs.Configuration.{Configuration, settings_of}
+use Rattle.console_reporter.specs.Effects.{effect_of, entry_of, final_output, kept_entry}
+use Rattle.console_reporter.specs.Isolation.{IsIsolated}
+use Rattle.console_reporter.specs.Loads.{load_if, loads_attempt, loads_finish, loads_script}
+use Rattle.console_reporter.specs.Report.{Known, event_text, script_by}
+use Rattle.console_reporter.specs.Unread.{is_skip, is_skipped, unread, unread_call}
+use Rattle.console_reporter.specs.declared.imp.calls.ReportCall.{ReportCall}
+use Rattle.console_reporter.specs.declared.imp.calls.ReportCall.TheVariants.{Event, Header, Prefix}
+use Rattle.console_reporter.specs.declared.imp.decider.OutputLoadDecider.{OutputLoadDecider}
+use Rattle.console_reporter.specs.declared.imp.faults.WriteEventError.TheVariants.{OutputNotLoaded, RetriedSuccess}
+use Rattle.console_reporter.proofs.lemmas.Same.{AreSame, IsSameCall, IsSameEvent, same-report, same-texts}
+
+-- an answer of Skip
+not_loaded : (b : Bool) → is_skip (Some (load_if b)) ≡ true → b ≡ false
+not_loaded true h = absurd (false≢true h)
+not_loaded false h = refl
+
+-- a display that shows nothing, in each row
+never-at_once : (row : FinishRow) (display : TestOutputDisplay) → is_ever_shown display ≡ false → row_at_once row display ≡ false
+unfolding row_at_once
+never-at_once Hidden display h = refl
+never-at_once Shown display h = elim (cases_Bool (is_immediate display)) [ inl y ↦ absurd (false≢true (sym (rw y at h))) | inr n ↦ n ]
+never-at_once ShownOnce display h = elim (cases_Bool (is_immediate display)) [ inl y ↦ absurd (false≢true (sym (rw y at h))) | inr n ↦ n ]
+
+never-final : (display : TestOutputDisplay) → is_ever_shown display ≡ false → is_final display ≡ false
+never-final display h = elim (cases_Bool (is_immediate display)) [ inl y ↦ absurd (false≢true (sym (rw y at h))) | inr n ↦ rw n at h ]
+
+never-at_end : (row : FinishRow) (display : TestOutputDisplay) → is_ever_shown display ≡ false → row_at_end row display ≡ false
+unfolding row_at_end
+never-at_end Hidden display h = refl
+never-at_end Shown display h = never-final display h
+never-at_end ShownOnce display h = rw (never-final display h) refl
+
+-- attempts come to the same, whatever they wrote
+unloaded-summary : (a : Attempts LiveSpec ChildOutputDescription) → summary_of (unloaded_attempts a) ≡ summary_of a
+unloaded-summary a = rw (length-map a.earlier unloaded_attempt) refl
+
+-- a finished test whose output is not shown
+module _ (s : Settings) (stress : Option StressIndex) (test : TestInstanceId) (success failure : TestOutputDisplay) (statuses : Attempts LiveSpec ChildOutputDescription) (stats : RunStats)
+    (never : loads_finish (decider_by s) success failure (summary_of statuses) ≡ false) where
+  finish : ℕ → TestFinish
+  finish reason = test_finish s reason stress test success failure statuses stats
+
+  never-finish-text : (reason : ℕ) →
+      test_finished_text s (test_finish s reason stress test success failure (unloaded_attempts statuses) stats) ≡ test_finished_text s (test_finish s reason stress test success failure statuses stats)
+  unfolding test_finished_text output_at_once display_of
+  never-finish-text reason =
+      rw (unloaded-summary statuses, never-at_once (finish reason).row (finish reason).display never) refl
+
+  never-finish-entry : (reason : ℕ) →
+      entry_of s reason (TestFinished stress test success failure (unloaded_attempts statuses) stats) ≡ entry_of s reason (TestFinished stress test success failure statuses stats)
+  unfolding final_output display_of
+  never-finish-entry reason =
+      rw (unloaded-summary statuses, never-at_end (finish reason).row (finish reason).display never) refl
+
+  same-finish : (elapsed : Nanos) → IsSameEvent s (record { elapsed = elapsed; kind = TestFinished stress test success failure statuses stats })
+      (record { elapsed = elapsed; kind = TestFinished stress test success failure (unloaded_attempts statuses) stats })
+  unfolding event_text
+  same-finish elapsed = record { reason = refl; entry = never-finish-entry; text = λ known. never-finish-text known.reason }
+
+-- an attempt that failed whose output is not shown
+never-attempt : (s : Settings) (stress : Option StressIndex) (test : TestInstanceId) (x : Attempt) (delay : ℕ) (failure : TestOutputDisplay) → loads_attempt (decider_by s) failure ≡ false →
+    attempt_failed_text s stress test (unloaded_attempt x) delay failure ≡ attempt_failed_text s stress test x delay failure
+unfolding attempt_failed_text attempt_failed_line failed_output is_level_shown is_failed_output_shown
+never-attempt s stress test x delay failure never =
+    elim (cases_Bool (is_level_shown s level.Retry)) [
+      | inl shown ↦ elim (cases_Bool (is_failed_output_shown s failure)) [
+        | inl at_once ↦ absurd (false≢true (sym (rw (shown, at_once) at never)))
+        | inr none ↦ rw none refl
+      ]
+      | inr hidden ↦ rw hidden refl
+    ]
+
+-- a setup script that succeeded
+never-script : (s : Settings) (script : Script) (x : SetupScriptExecuteStatus LiveSpec ChildOutputDescription) → loads_script x.result ≡ false →
+    setup_script_finished_text s script (unloaded_script x) ≡ setup_script_finished_text s script x
+unfolding setup_script_finished_text failed_script_output
+never-script s script x never =
+    elim (cases_Bool (is_success x.result)) [ inl y ↦ rw y refl | inr n ↦ absurd (false≢true (sym (rw n at never))) ]
+
+-- an event whose output the decider skips is the same without it
+same-unloaded : (s : Settings) (elapsed : Nanos) (e : TestEventKind) → is_skipped (decider_by s) e ≡ true →
+    IsSameEvent s (record { elapsed = elapsed; kind = e }) (record { elapsed = elapsed; kind = unloaded_kind e })
+unfolding event_text
+same-unloaded s elapsed (SetupScriptFinished stress id program args status) h = record {
+  reason = refl;
+  entry = λ before. refl;
+  text = λ known. never-script s (script_by stress id program args) status (not_loaded (loads_script status.result) h);
+}
+same-unloaded s elapsed (TestAttemptFailedWillRetry stress test status delay failure) h = record {
+  reason = refl;
+  entry = λ before. refl;
+  text = λ known. never-attempt s stress test status delay.0 failure (not_loaded (loads_attempt (decider_by s) failure) h);
+}
+same-unloaded s elapsed (TestFinished stress test success failure statuses stats) h =
+    same-finish s stress test success failure statuses stats (not_loaded (loads_finish (decider_by s) success failure (summary_of statuses)) h) elapsed
+same-unloaded s elapsed (RunStarted counts id profile) h = absurd (false≢true h)
+same-unloaded s elapsed (StressSubRunStarted progress) h = absurd (false≢true h)
+same-unloaded s elapsed (SetupScriptStarted stress index total id program args) h = absurd (false≢true h)
+same-unloaded s elapsed (SetupScriptSlow stress id program args taken will_terminate) h = absurd (false≢true h)
+same-unloaded s elapsed (TestStarted stress test stats command) h = absurd (false≢true h)
+same-unloaded s elapsed (TestSlow stress test retry taken will_terminate) h = absurd (false≢true h)
+same-unloaded s elapsed (TestRetryStarted stress test retry command) h = absurd (false≢true h)
+same-unloaded s elapsed (TestSkipped stress test) h = absurd (false≢true h)
+same-unloaded s elapsed (RunBeginCancel scripts stats running) h = absurd (false≢true h)
+same-unloaded s elapsed (RunBeginKill scripts stats running) h = absurd (false≢true h)
+same-unloaded s elapsed (RunPaused scripts running) h = absurd (false≢true h)
+same-unloaded s elapsed (RunContinued scripts running) h = absurd (false≢true h)
+same-unloaded s elapsed (InfoStarted total stats) h = absurd (false≢true h)
+same-unloaded s elapsed (InfoResponse index total response) h = absurd (false≢true h)
+same-unloaded s elapsed (InfoFinished missing) h = absurd (false≢true h)
+same-unloaded s elapsed (InputEnter stats running) h = absurd (false≢true h)
+same-unloaded s elapsed (StressSubRunFinished progress taken stats) h = absurd (false≢true h)
+same-unloaded s elapsed (RunFinished taken stats outstanding) h = absurd (false≢true h)
+
+-- a call is the same without the output that the decider skips
+same-call : (s : Settings) (call : ReportCall) → IsSameCall s call (unread_call (decider_by s) call)
+same-call s (Event e) =
+    elim (cases_Bool (is_skipped (decider_by s) e.kind)) [
+      | inl y ↦ rw y (same-unloaded s e.elapsed e.kind y)
+      | inr n ↦ rw n (record { reason = refl; entry = λ before. refl; text = λ known. refl })
+    ]
+same-call s (Header h) = refl
+same-call s (Prefix p) = refl
+
+same-calls : (s : Settings) (calls : List ReportCall) → AreSame s calls (unread (decider_by s) calls)
+same-calls s [] = tt
+same-calls s (call ∷ calls) = (same-call s call, same-calls s calls)
+
+-- nothing is lacking of what is not needed
+none-needed : (is_needed : Bool) (output : Written) → is_needed ≡ false →
+    option_map_or (λ (o : Written). not (has_loaded_output o)) (if is_needed then Some output else None) false ≡ false
+none-needed is_needed output h = rw h refl
+
+-- the refusal of an event does not go by what its skipped output is
+same-refusal : (d : OutputLoadDecider) (e : TestEventKind) → is_skipped d e ≡ true → event_refusal d (unloaded_kind e) ≡ event_refusal d e
+same-refusal d (SetupScriptFinished stress id program args status) h =
+    let never = not_loaded (loads_script status.result) h in
+    ap (λ (lacks : Bool). if lacks then Some OutputNotLoaded else None)
+    (none-needed (loads_script status.result) (unloaded_script status).output never ∙ sym (none-needed (loads_script status.result) status.output never))
+same-refusal d (TestAttemptFailedWillRetry stress test status delay failure) h =
+    let never = not_loaded (loads_attempt d failure) h in
+    ap (λ (lacks : Bool). if is_success status.result then Some RetriedSuccess else (if lacks then Some OutputNotLoaded else None))
+    (none-needed (loads_attempt d failure) (unloaded_attempt status).output never ∙ sym (none-needed (loads_attempt d failure) status.output never))
+same-refusal d (TestFinished stress test success failure statuses stats) h =
+    let never = not_loaded (loads_finish d success failure (summary_of statuses)) h in
+    let also = ap (loads_finish d success failure) (unloaded-summary statuses) ∙ never in
+    ap (λ (lacks : Bool). if lacks then Some OutputNotLoaded else None)
+    (none-needed (loads_finish d success failure (summary_of (unloaded_attempts statuses))) (unloaded_attempts statuses).last.output also
+    ∙ sym (none-needed (loads_finish d success failure (summary_of statuses)) statuses.last.output never))
+same-refusal d (RunStarted counts id profile) h = absurd (false≢true h)
+same-refusal d (StressSubRunStarted progress) h = absurd (false≢true h)
+same-refusal d (SetupScriptStarted stress index total id program args) h = absurd (false≢true h)
+same-refusal d (SetupScriptSlow stress id program args taken will_terminate) h = absurd (false≢true h)
+same-refusal d (TestStarted stress test stats command) h = absurd (false≢true h)
+same-refusal d (TestSlow stress test retry taken will_terminate) h = absurd (false≢true h)
+same-refusal d (TestRetryStarted stress test retry command) h = absurd (false≢true h)
+same-refusal d (TestSkipped stress test) h = absurd (false≢true h)
+same-refusal d (RunBeginCancel scripts stats running) h = absurd (false≢true h)
+same-refusal d (RunBeginKill scripts stats running) h = absurd (false≢true h)
+same-refusal d (RunPaused scripts running) h = absurd (false≢true h)
+same-refusal d (RunContinued scripts running) h = absurd (false≢true h)
+same-refusal d (InfoStarted total stats) h = absurd (false≢true h)
+same-refusal d (InfoResponse index total response) h = absurd (false≢true h)
+same-refusal d (InfoFinished missing) h = absurd (false≢true h)
+same-refusal d (InputEnter stats running) h = absurd (false≢true h)
+same-refusal d (StressSubRunFinished progress taken stats) h = absurd (false≢true h)
+same-refusal d (RunFinished taken stats outstanding) h = absurd (false≢true h)
+
+still-accepted : (d : OutputLoadDecider) (call : ReportCall) → IsAcceptedBy d call → IsAcceptedBy d (unread_call d call)
+still-accepted d (Event e) h =
+    elim (cases_Bool (is_skipped d e.kind)) [ inl y ↦ rw (y, same-refusal d e.kind y) h | inr n ↦ rw n h ]
+still-accepted d (Header k) h = h
+still-accepted d (Prefix p) h = h
+
+all-accepted : (d : OutputLoadDecider) (calls : List ReportCall) → AreAcceptedBy d calls → AreAcceptedBy d (unread d calls)
+all-accepted d [] h = tt
+all-accepted d (call ∷ calls) h = (still-accepted d call h.0, all-accepted d calls h.1)
+
+map_reverse : {X Y : Type 0} (f : X → Y) (xs : List X) → map f (reverse xs) ≡ reverse (map f xs)
+map_reverse f [] = refl
+map_reverse f (x ∷ xs) =
+    ap (map f) (reverse-append (x ∷ []) xs) ∙ map-append f (reverse xs) (x ∷ []) ∙ ap (λ ys. ys ++ f x ∷ []) (map_reverse f xs)
+    ∙ sym (reverse-append (f x ∷ []) (map f xs))
+
+-- the same from the latest call on, as a past has them
+same-past : (config : Configuration) (d : OutputLoadDecider) (calls : List ReportCall) → decider_of config ≡ d → AreSame (settings_of config) (reverse calls) (reverse (unread d calls))
+same-past config d calls is =
+    subst (AreSame (settings_of config) (reverse calls)) (map_reverse (unread_call d) calls)
+    (subst (λ x. AreSame (settings_of config) (reverse calls) (unread x (reverse calls))) is (same-calls (settings_of config) (reverse calls)))
+
+pub isolated : (d : OutputLoadDecider) (calls : List ReportCall) → IsIsolated d calls (unread d calls)
+isolated d calls = (
+  λ config is. same-texts config (reverse calls) (reverse (unread d calls)) (same-past config d calls is),
+  λ config is. same-report config (reverse calls) (reverse (unread d calls)) (same-past config d calls is),
+  all-accepted d calls,
+)
