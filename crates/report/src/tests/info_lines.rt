@@ -201,12 +201,13 @@ fn counts_the_fields_of_lines(rt: HostRuntime) -> Result<(), Fail> {
     Ok(())
 }
 
+const ENDING: &str =
+    "answer-test\t3\t4\t-\ta\tt1\t2\t3\tterminating:42:5:interrupt:SIG\\nINT:6:7\t-\tsplit\t-\t-\t-\t-";
+
 #[test]
-fn makes_calls_of_answers(rt: HostRuntime) -> Result<(), Fail> {
+fn makes_calls_of_the_beginning_and_the_end(rt: HostRuntime) -> Result<(), Fail> {
     let alloc = rt.alloc();
-    let ending =
-        "answer-test\t3\t4\t-\ta\tt1\t2\t3\tterminating:42:5:interrupt:SIG\\nINT:6:7\t-\tsplit\t-\t-\t-\t-";
-    let text = format!(in alloc; "{INFO}\n{ending}\n{INFO_END}\n")?;
+    let text = format!(in alloc; "{INFO}\n{INFO_END}\n")?;
     let scene = judge(alloc, &OPTIONS, text.as_bytes())?;
     let calls = scene.calls(alloc, &OPTIONS)?;
     let [
@@ -218,43 +219,65 @@ fn makes_calls_of_answers(rt: HostRuntime) -> Result<(), Fail> {
         ),
         ReportCall::Event(
             TestEvent {
-                kind: TestEventKind::InfoResponse {
-                    index,
-                    response: InfoResponse::Test(answer),
-                    ..
-                },
-                ..
-            },
-        ),
-        ReportCall::Event(
-            TestEvent {
                 kind: TestEventKind::InfoFinished { missing },
                 ..
             },
         ),
     ] = calls.as_slice()
     else {
-        return Err(Fail::from("units are asked, a test answers, and that ends"));
+        return Err(Fail::from("units are asked, and that ends"));
     };
     assert_eq!(rt; (*elapsed, *total), (Nanos(3_500_000_000), 1));
-    assert_eq!(rt; (*index, *missing), (3, 2));
+    assert_eq!(rt; *missing, 2);
+    Ok(())
+}
+
+#[test]
+fn makes_calls_of_answers(rt: HostRuntime) -> Result<(), Fail> {
+    let alloc = rt.alloc();
+    let scene = judge(alloc, &OPTIONS, ENDING.as_bytes())?;
+    let calls = scene.calls(alloc, &OPTIONS)?;
+    let [
+        ReportCall::Event(
+            TestEvent {
+                kind: TestEventKind::InfoResponse {
+                    index,
+                    total,
+                    response: InfoResponse::Test(answer),
+                },
+                ..
+            },
+        ),
+    ] = calls.as_slice()
+    else {
+        return Err(Fail::from("a test answers"));
+    };
+    assert_eq!(rt; (*index, *total), (3, 4));
+    let (attempt, total_attempts) = (2, 3);
     let retry_data = RetryData {
-        attempt: 2,
-        total_attempts: 3,
+        attempt,
+        total_attempts,
     };
     assert_eq!(rt; answer.retry_data, retry_data);
-    let UnitState::Terminating(terminating) = answer.state.get() else {
-        return Err(Fail::from("the test is being ended"));
-    };
-    assert_eq!(rt; (terminating.pid, terminating.time_taken), (42, Nanos(5)));
-    assert_eq!(rt; terminating.reason, UnitTerminateReason::Interrupt);
-    assert_eq!(rt;
-        (terminating.waiting_duration, terminating.remaining),
-        (Nanos(6), Nanos(7))
-    );
-    let UnitTerminateMethod::Signal(signal) = &terminating.method;
-    assert_eq!(rt; signal.as_str(), "SIG\nINT");
+    assert!(rt; is_being_ended(answer.state.get()));
     Ok(())
+}
+
+// Whether it is the state that the line above tells.
+fn is_being_ended(state: &UnitState) -> bool {
+    let UnitState::Terminating(terminating) = state else {
+        return false;
+    };
+    let UnitTerminateMethod::Signal(signal) = &terminating.method;
+    let numbers = (
+        terminating.pid,
+        terminating.time_taken,
+        terminating.waiting_duration,
+        terminating.remaining,
+    );
+    terminating.reason == UnitTerminateReason::Interrupt
+        && signal.as_str() == "SIG\nINT"
+        && numbers == (42, Nanos(5), Nanos(6), Nanos(7))
 }
 
 #[test]
@@ -291,6 +314,45 @@ fn prints_answers(rt: HostRuntime) -> Result<(), Fail> {
     Ok(())
 }
 
+// States with the results beside them, and what is told of a script that answers so.
+const STATUSES: [(&str, &str); 6] = [
+    (
+        "running:42:1500000000:1000000000\tfail:1",
+        "script running for 1.500s as PID 42 (marked slow after 1.000s)\n\n\n",
+    ),
+    (
+        "exiting:42:1500000000:-:1000000000:2000000000\tpass",
+        "script passed after 1.500s
+  note:   spent 1.000s waiting for script PID 42 to shut down, will mark as leaky after another 2.000s
+
+
+",
+    ),
+    (
+        "exiting:42:1500000000:-:999999999:2000000000\t-",
+        "script failed with unknown status after 1.500s\n\n\n",
+    ),
+    (
+        "terminating:42:1500000000:timeout:SIGTERM:1000000000:2000000000\t-",
+        "terminating script PID 42 due to timeout (script ran for 1.500s)
+  note:   sent SIGTERM to process group; spent 1.000s waiting for script to exit, will SIGKILL after another 2.000s
+
+
+",
+    ),
+    (
+        "exited:1500000000:1000000000\tfail:2",
+        "script failed with exit code 2 after 1.500s (marked slow after 1.000s)\n\n\n",
+    ),
+    (
+        "delay:1:200000000:800000000\tpass",
+        "script passed, currently waiting before next attempt
+  note:   waited 0.200s so far, will wait another 0.800s before retrying script
+
+",
+    ),
+];
+
 // What the program prints of the status of a script that answers so.
 fn status_of(alloc: Global, state: &str) -> Result<String, Fail> {
     let line = format!(in alloc;
@@ -306,44 +368,7 @@ fn status_of(alloc: Global, state: &str) -> Result<String, Fail> {
 
 #[test]
 fn prints_every_state(rt: HostRuntime) -> Result<(), Fail> {
-    let states = [
-        (
-            "running:42:1500000000:1000000000\tfail:1",
-            "script running for 1.500s as PID 42 (marked slow after 1.000s)\n\n\n",
-        ),
-        (
-            "exiting:42:1500000000:-:1000000000:2000000000\tpass",
-            "script passed after 1.500s
-  note:   spent 1.000s waiting for script PID 42 to shut down, will mark as leaky after another 2.000s
-
-
-",
-        ),
-        (
-            "exiting:42:1500000000:-:999999999:2000000000\t-",
-            "script failed with unknown status after 1.500s\n\n\n",
-        ),
-        (
-            "terminating:42:1500000000:timeout:SIGTERM:1000000000:2000000000\t-",
-            "terminating script PID 42 due to timeout (script ran for 1.500s)
-  note:   sent SIGTERM to process group; spent 1.000s waiting for script to exit, will SIGKILL after another 2.000s
-
-
-",
-        ),
-        (
-            "exited:1500000000:1000000000\tfail:2",
-            "script failed with exit code 2 after 1.500s (marked slow after 1.000s)\n\n\n",
-        ),
-        (
-            "delay:1:200000000:800000000\tpass",
-            "script passed, currently waiting before next attempt
-  note:   waited 0.200s so far, will wait another 0.800s before retrying script
-
-",
-        ),
-    ];
-    for (state, status) in states {
+    for (state, status) in STATUSES {
         assert_eq!(rt; status_of(rt.alloc(), state)?.as_str(), status, "{state}");
     }
     Ok(())
