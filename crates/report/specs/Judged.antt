@@ -1,5 +1,5 @@
 -- Scenes that are judged: each line by itself, and then whether the scene's reporter would refuse an event.
-use Rattle.std.specs.Prelude.{◌≡◌, ◌⊎◌, ℕ, List, get_or, Option, None, Some, Result, Ok, Err, ⊤}
+use Rattle.std.specs.Prelude.{◌≡◌, ◌⊎◌, ℕ, List, get_or, None, Some, Result, Ok, Err, ⊤}
 use Rattle.console_reporter.specs.Accepted.{decider_of, first_refused}
 use Rattle.console_reporter.specs.declared.imp.calls.ReportCall.{ReportCall}
 use Rattle.console_reporter.specs.declared.imp.decider.OutputLoadDecider.{OutputLoadDecider}

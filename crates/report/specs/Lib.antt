@@ -2,6 +2,7 @@ pub mod Configs
 pub mod Counts
 pub mod Faults
 pub mod Fields
+pub mod InfoLines
 pub mod Judged
 pub mod Lines
 pub mod Lists
@@ -18,6 +19,7 @@ pub mod Scenes
 pub mod ScriptLines
 pub mod SpelledRuns
 pub mod Split
+pub mod States
 pub mod StressLines
 pub mod TestLines
 pub mod Texts

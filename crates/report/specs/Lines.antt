@@ -29,6 +29,10 @@ line_word line.Cancel = codes "cancel"
 line_word line.Kill = codes "kill"
 line_word line.Pause = codes "pause"
 line_word line.Continue = codes "continue"
+line_word line.Info = codes "info"
+line_word line.AnswerScript = codes "answer-script"
+line_word line.AnswerTest = codes "answer-test"
+line_word line.InfoEnd = codes "infoend"
 line_word line.Input = codes "input"
 line_word line.SubEnd = codes "subend"
 line_word line.End = codes "end"
@@ -38,7 +42,7 @@ unfoldable pub line_in : List ℕ → Option LineKind
 line_in t =
     of_word line_word (line.Config ∷ line.Prefix ∷ line.Header ∷ line.Run ∷ line.SubStart ∷ line.Setup ∷ line.SetupSlow ∷ line.SetupDone
     ∷ line.Start ∷ line.RetryStart ∷ line.Slow ∷ line.Retry ∷ line.Done ∷ line.Skip ∷ line.Cancel ∷ line.Kill ∷ line.Pause ∷ line.Continue
-    ∷ line.Input ∷ line.SubEnd ∷ line.End ∷ line.EndStress ∷ []) t
+    ∷ line.Info ∷ line.AnswerScript ∷ line.AnswerTest ∷ line.InfoEnd ∷ line.Input ∷ line.SubEnd ∷ line.End ∷ line.EndStress ∷ []) t
 
 -- how many fields may follow it. An attempt has eight: a setup script and a retried test have one, and a finished test
 -- one or more
@@ -61,6 +65,10 @@ takes line.Cancel n = n == 3
 takes line.Kill n = n == 3
 takes line.Pause n = n == 2
 takes line.Continue n = n == 2
+takes line.Info n = n == 3
+takes line.AnswerScript n = n == 13
+takes line.AnswerTest n = n == 14
+takes line.InfoEnd n = n == 1
 takes line.Input n = n == 3
 takes line.SubEnd n = n == 3
 takes line.End n = n == 4

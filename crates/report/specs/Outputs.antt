@@ -54,15 +54,15 @@ highlight_cut t (Some x) = part_cut x.0 (cut 58 x.1)
 abbrev pub highlight_in : List ℕ → Option (Option Highlight)
 highlight_in t = highlight_cut t (cut 58 t)
 
--- errors and a highlight, after the streams of an attempt that ended so
-unfoldable pub after_streams : ExecutionResultDescription → ChildOutputDescription → Line Written
+-- errors and a highlight, after the streams of an attempt that ended so, where it has
+unfoldable pub after_streams : Option ExecutionResultDescription → ChildOutputDescription → Line Written
 after_streams result output = do
   errors ← field errors_in
   highlight ← field highlight_in
-  said (written.Output (Some result) output errors highlight)
+  said (written.Output result output errors highlight)
 
 -- the fields after the form
-abbrev pub formed : ExecutionResultDescription → OutputForm → Line Written
+abbrev pub formed : Option ExecutionResultDescription → OutputForm → Line Written
 formed result form.Split = do
   stdout ← field stream_in
   stderr ← field stream_in
@@ -79,7 +79,7 @@ formed result form.StartError = do
   said (written.StartError error)
 
 -- an output: its form, what that takes first and second, errors, and a highlight
-unfoldable pub output_fields : ExecutionResultDescription → Line Written
+unfoldable pub output_fields : Option ExecutionResultDescription → Line Written
 output_fields result = do
   form ← field output_form_in
   formed result form
@@ -90,5 +90,5 @@ silent_fields = codes "split" ∷ [] ∷ [] ∷ codes "-" ∷ codes "-" ∷ []
 
 -- the fields of such an output were taken, whatever the result; or none was
 abbrev pub TakesSilence : Bool → Place → Place → Type 0
-TakesSilence true old new = (result : ExecutionResultDescription) → output_fields result old ≡ Ok (silence result, new)
+TakesSilence true old new = (result : ExecutionResultDescription) → output_fields (Some result) old ≡ Ok (silence result, new)
 TakesSilence false old new = new ≡ old

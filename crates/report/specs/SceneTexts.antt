@@ -4,6 +4,7 @@ use Rattle.std.specs.Str.{is_utf8}
 use Rattle.report.specs.Configs.{unconfigured}
 use Rattle.report.specs.Split.{parted}
 use Rattle.report.specs.Fields.{Fails, Place}
+use Rattle.report.specs.InfoLines.{answer_script_line, answer_test_line, info_end_line, info_line}
 use Rattle.report.specs.Lines.{config_line, line_in, takes}
 use Rattle.report.specs.ReplayLines.{header_line, prefix_line}
 use Rattle.report.specs.RunLines.{cancel_line, end_line, input_line, pause_line, run_line}
@@ -68,6 +69,10 @@ fields_told before line.Cancel fields = with_made event.RunBeginCancel before (c
 fields_told before line.Kill fields = with_made event.RunBeginKill before (cancel_line fields)
 fields_told before line.Pause fields = with_made event.RunPaused before (pause_line fields)
 fields_told before line.Continue fields = with_made event.RunContinued before (pause_line fields)
+fields_told before line.Info fields = with_event before (info_line fields)
+fields_told before line.AnswerScript fields = with_event before (answer_script_line fields)
+fields_told before line.AnswerTest fields = with_event before (answer_test_line fields)
+fields_told before line.InfoEnd fields = with_event before (info_end_line fields)
 fields_told before line.Input fields = with_event before (input_line fields)
 fields_told before line.SubEnd fields = with_event before (sub_end_line fields)
 fields_told before line.End fields = with_event before (end_line fields)

@@ -2,15 +2,22 @@
 use Rattle.std.specs.Prelude.{◌≡◌, ℕ, List, [], ◌∷◌, ◌++◌}
 use Rattle.run_model.specs.declared.event.TestEventKind.{TestEventKind}
 use Rattle.run_model.specs.declared.event.TestEventKind.TheVariants as kind
+use Rattle.run_model.specs.declared.info.InfoResponse.{InfoResponse}
+use Rattle.run_model.specs.declared.info.InfoResponse.TheVariants as response
+use Rattle.run_model.specs.declared.info.UnitState.{UnitState}
 use Rattle.run_model.specs.declared.name.TestInstanceId.{TestInstanceId}
 use Rattle.run_model.specs.declared.replay.ReplayHeader.{ReplayHeader}
 use Rattle.console_reporter.specs.declared.imp.calls.ReportCall.{ReportCall}
 use Rattle.console_reporter.specs.declared.imp.calls.ReportCall.TheVariants as call
 use Rattle.report.specs.Counts.{nothing_counted}
 use Rattle.report.specs.Moments.{moment_of}
-use Rattle.report.specs.SceneAttempts.{script_status}
+use Rattle.report.specs.SceneAttempts.{Written, script_status}
+use Rattle.report.specs.States.{unit_state}
 use Rattle.report.specs.declared.scene.event.SceneEvent.{SceneEvent}
 use Rattle.report.specs.declared.scene.event.SceneEvent.TheVariants as scene
+use Rattle.report.specs.declared.scene.info_events.ScriptAnswer.{ScriptAnswer}
+use Rattle.report.specs.declared.scene.info_events.TestAnswer.{TestAnswer}
+use Rattle.report.specs.declared.scene.info_events.UnitAnswer.{UnitAnswer}
 use Rattle.report.specs.declared.scene.replay_calls.SceneHeader.{SceneHeader}
 use Rattle.report.specs.declared.scene.script_events.SceneScript.{SceneScript}
 use Rattle.report.specs.declared.scene.test_events.SceneTest.{SceneTest}
@@ -22,6 +29,20 @@ HasNames test instance = (instance.binary_id.now ≡ test.binary_id) × (instanc
 -- a reporter's event has the script of a scene's
 abbrev pub IsOfScript : SceneScript → List ℕ → List ℕ → List (List ℕ) → Type 0
 IsOfScript script id program args = (id ≡ script.script_id) × (program ≡ script.program) × (args ≡ script.args)
+
+-- a reporter's answer has the state and the output of a scene's
+abbrev pub HasAnswer : UnitAnswer → UnitState → Written → Type 0
+HasAnswer answer state output = (state ≡ unit_state answer.state) × (output ≡ answer.output)
+
+-- a reporter's answer is that of a scene's setup script, or of a scene's test
+abbrev pub IsScriptAnswer : ScriptAnswer → InfoResponse → Type 0
+IsScriptAnswer e (response.SetupScript r) = (r.stress_index ≡ e.stress_index) × IsOfScript e.script r.script_id r.program r.args × HasAnswer e.answer r.state r.output
+IsScriptAnswer e (response.Test r) = ⊥
+
+abbrev pub IsTestAnswer : TestAnswer → InfoResponse → Type 0
+IsTestAnswer e (response.SetupScript r) = ⊥
+IsTestAnswer e (response.Test r) =
+    (r.stress_index ≡ e.test.stress_index) × HasNames e.test r.test_instance × (r.retry_data ≡ e.retry_data) × HasAnswer e.answer r.state r.output
 
 -- a reporter's event says what a scene's does
 abbrev pub SaysSame : SceneEvent → TestEventKind → Type 0
@@ -52,6 +73,10 @@ SaysSame (scene.RunBeginKill e) (kind.RunBeginKill scripts stats running) =
     (scripts ≡ e.setup_scripts_running) × (running ≡ e.running) × (stats ≡ nothing_counted e.reason)
 SaysSame (scene.RunPaused e) (kind.RunPaused scripts running) = (scripts ≡ e.setup_scripts_running) × (running ≡ e.running)
 SaysSame (scene.RunContinued e) (kind.RunContinued scripts running) = (scripts ≡ e.setup_scripts_running) × (running ≡ e.running)
+SaysSame (scene.InfoStarted e) (kind.InfoStarted total stats) = (total ≡ e.total) × (stats ≡ e.run_stats)
+SaysSame (scene.ScriptAnswered e) (kind.InfoResponse index total answer) = (index ≡ e.index) × (total ≡ e.total) × IsScriptAnswer e answer
+SaysSame (scene.TestAnswered e) (kind.InfoResponse index total answer) = (index ≡ e.index) × (total ≡ e.total) × IsTestAnswer e answer
+SaysSame (scene.InfoFinished e) (kind.InfoFinished missing) = missing ≡ e.missing
 SaysSame (scene.InputEnter e) (kind.InputEnter stats running) = (stats ≡ e.current_stats) × (running ≡ e.running)
 SaysSame (scene.StressSubRunFinished e) (kind.StressSubRunFinished progress elapsed stats) =
     (progress ≡ e.progress) × (elapsed ≡ e.sub_elapsed) × (stats ≡ e.sub_stats)
@@ -59,8 +84,10 @@ SaysSame (scene.RunFinished e) (kind.RunFinished elapsed run_stats outstanding) 
     (elapsed ≡ e.elapsed) × (run_stats ≡ e.run_stats) × (outstanding ≡ e.outstanding_not_seen)
 SaysSame event other = ⊥
 
--- how long the run had taken when this happened, which a scene says only where the state of the run was asked for
+-- how long the run had taken when this happened, which a scene says only where the state of the run or of its units was
+-- asked for
 abbrev pub told_elapsed : SceneEvent → ℕ
+told_elapsed (scene.InfoStarted e) = e.elapsed.0
 told_elapsed (scene.InputEnter e) = e.elapsed.0
 told_elapsed other = 0
 

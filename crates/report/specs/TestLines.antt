@@ -43,7 +43,7 @@ attempt_fields retry_data = do
   result ← field result_in
   time_taken ← field nanos_in
   is_slow ← field flag_in
-  output ← output_fields result
+  output ← output_fields (Some result)
   said (record { retry_data = retry_data; output = output; result = result; time_taken = time_taken; is_slow = is_slow })
 
 -- the attempt of this number, of so many that there can be

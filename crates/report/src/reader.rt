@@ -2,10 +2,11 @@
 //!
 //! A scene is lines of fields that are parted by tabs. The first field names an event, and what follows it is read by
 //! the kind of the event. Each module knows one thing: `lines` which kinds there are, `test_lines`, `script_lines`,
-//! `stress_lines`, `run_lines` and `replay_lines` what fields the events of tests, of setup scripts, of stress runs and of
-//! the run have, and the calls of a replay, `moments` when it was, `values` what each field may hold, `names` names, `counts` the counts of
-//! a field that has several, `results` how an attempt ended, `outputs` what it wrote, `lists` lists of words, `fields` how a
-//! line is taken apart, and `split`, `texts` and `numbers` how those are written.
+//! `stress_lines`, `run_lines`, `info_lines` and `replay_lines` what fields the events of tests, of setup scripts, of stress
+//! runs, of the run and of its units' answers have, and the calls of a replay, `moments` when it was, `values` what each field
+//! may hold, `names` names, `counts` the counts of a field that has several, `results` how an attempt ended, `states` what a
+//! unit is doing, `outputs` what it wrote, `lists` lists of words, `fields` how a line is taken apart, and `split`, `texts` and
+//! `numbers` how those are written.
 
 ghost use Rattle.std.specs.Prelude.{◌≡◌, ◌++◌, IfOk, IfErr, OnOk, Ok};
 ghost use Rattle.report.specs.Split.{parted, texts};
@@ -13,6 +14,7 @@ ghost use Rattle.report.specs.SceneTexts.{AllTell, IsAnswer, IsFaultOf, IsFaultH
 
 mod counts;
 mod fields;
+mod info_lines;
 mod lines;
 mod lists;
 mod moments;
@@ -24,6 +26,7 @@ mod results;
 mod run_lines;
 mod script_lines;
 mod split;
+mod states;
 mod stress_lines;
 mod test_lines;
 mod texts;
@@ -33,6 +36,7 @@ use crate::fault::{Fault, LineError, LineFault};
 use crate::scene::event::SceneEvent;
 use crate::scene::{Scene, SceneConfig};
 use fields::{Fields, split_fields};
+use info_lines::{read_answer_script, read_answer_test, read_info, read_info_end};
 use lines::{LineKind, read_config};
 use replay_lines::{read_header, read_prefix};
 use run_lines::{read_cancel, read_end, read_input, read_pause, read_run};
@@ -211,6 +215,10 @@ fn read_fields(
         LineKind::Kill => SceneEvent::RunBeginKill(read_cancel(fields)?),
         LineKind::Pause => SceneEvent::RunPaused(read_pause(fields)?),
         LineKind::Continue => SceneEvent::RunContinued(read_pause(fields)?),
+        LineKind::Info => read_info(fields)?,
+        LineKind::AnswerScript => read_answer_script(alloc, fields)?,
+        LineKind::AnswerTest => read_answer_test(alloc, fields)?,
+        LineKind::InfoEnd => read_info_end(fields)?,
         LineKind::Input => read_input(fields)?,
         LineKind::SubEnd => read_sub_end(fields)?,
         LineKind::End => read_end(alloc, fields)?,

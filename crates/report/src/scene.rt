@@ -4,9 +4,11 @@ ghost use Rattle.std.specs.Prelude.{◌≡◌, IfOk, IfErr};
 
 pub mod attempts;
 pub mod event;
+pub mod info_events;
 pub mod replay_calls;
 pub mod run_events;
 pub mod script_events;
+pub mod states;
 pub mod stress_events;
 pub mod test_events;
 

@@ -12,6 +12,7 @@ use std::test::Fail;
 
 mod attempts;
 mod event_lines;
+mod info_lines;
 mod replay_lines;
 mod script_lines;
 

@@ -10,7 +10,7 @@ use mir.Syntax.{Width}
 use Rattle.jiff_core.specs.Calendar.{days_in_month, IsBetween, IsDate, IsYear}
 use Rattle.jiff_core.specs.Date.{IsYmd}
 use Rattle.jiff_core.specs.declared.civil.date.Date.{Date}
-use Rattle.report.specs.Moments.{Day, checked_day, day_of, is_day}
+use Rattle.report.specs.Moments.{checked_day, day_of, is_day}
 
 at_most : (a b : ℕ) → Decides (nat_le a b) (a ≤ b)
 at_most a b = (leb-true a b, le-leb a b)

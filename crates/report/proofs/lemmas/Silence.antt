@@ -1,5 +1,5 @@
 -- The fields of an output that holds nothing (for `take_silence`).
-use Rattle.std.proofs.Common.{◌≡◌, ℕ, ◌+◌, List, ◌++◌, true, drop, Ok, refl, ap, sym, ◌∙◌, arith}
+use Rattle.std.proofs.Common.{◌≡◌, ℕ, ◌+◌, List, ◌++◌, true, drop, Ok, Some, refl, ap, sym, ◌∙◌, arith}
 use Rattle.run_model.specs.declared.status.ExecutionResultDescription.{ExecutionResultDescription}
 use Rattle.report.specs.Split.{cut}
 use Rattle.report.specs.Fields.{Place}
@@ -14,7 +14,7 @@ five_on n rest = record { number = n + 1 + 1 + 1 + 1 + 1; left = rest }
 abbrev place : Place → Place
 place p = p
 
-says_nothing : (n : ℕ) (rest : List (List ℕ)) (result : ExecutionResultDescription) → output_fields result (record { number = n; left = silent_fields ++ rest }) ≡ Ok (silence result, five_on n rest)
+says_nothing : (n : ℕ) (rest : List (List ℕ)) (result : ExecutionResultDescription) → output_fields (Some result) (record { number = n; left = silent_fields ++ rest }) ≡ Ok (silence result, five_on n rest)
 unfolding output_fields after_streams unescaped_after cut
 says_nothing n rest result = refl
 
@@ -26,4 +26,4 @@ silence_by old new whole number left = λ result.
     let at : place old ≡ record { number = old.number; left = silent_fields ++ drop 5 old.left } = ap (λ (l : List (List ℕ)). place (record { number = old.number; left = l })) whole in
     let n : old.number + 1 + 1 + 1 + 1 + 1 ≡ new.number = omega (arith, number) in
     let to : five_on old.number (drop 5 old.left) ≡ new = place_by new _ _ n (sym left) in
-    ap (output_fields result) at ∙ says_nothing old.number (drop 5 old.left) result ∙ ap (λ (p : Place). Ok (silence result, p)) to
+    ap (output_fields (Some result)) at ∙ says_nothing old.number (drop 5 old.left) result ∙ ap (λ (p : Place). Ok (silence result, p)) to

@@ -51,6 +51,14 @@ pub enum LineKind {
     Pause,
     /// The run goes on after it was stopped.
     Continue,
+    /// All units are asked what they are doing.
+    Info,
+    /// A setup script says what it is doing.
+    AnswerScript,
+    /// A test says what it is doing.
+    AnswerTest,
+    /// No further answers are waited for.
+    InfoEnd,
     /// The state of the run was asked for.
     Input,
     /// An iteration of a stress run has finished.
@@ -86,6 +94,10 @@ impl LineKind {
             "kill" => Some(LineKind::Kill),
             "pause" => Some(LineKind::Pause),
             "continue" => Some(LineKind::Continue),
+            "info" => Some(LineKind::Info),
+            "answer-script" => Some(LineKind::AnswerScript),
+            "answer-test" => Some(LineKind::AnswerTest),
+            "infoend" => Some(LineKind::InfoEnd),
             "input" => Some(LineKind::Input),
             "subend" => Some(LineKind::SubEnd),
             "end" => Some(LineKind::End),
@@ -114,6 +126,10 @@ impl LineKind {
             LineKind::Skip => fields == 3,
             LineKind::Cancel | LineKind::Kill => fields == 3,
             LineKind::Pause | LineKind::Continue => fields == 2,
+            LineKind::Info => fields == 3,
+            LineKind::AnswerScript => fields == 13,
+            LineKind::AnswerTest => fields == 14,
+            LineKind::InfoEnd => fields == 1,
             LineKind::Input | LineKind::SubEnd => fields == 3,
             LineKind::End => fields == 4,
             LineKind::EndStress => fields == 7,

@@ -4,6 +4,7 @@
 //! but `-` is a bad field.
 
 ghost use Rattle.std.specs.Prelude.{◌≡◌, ◌++◌, drop, IsTrue, IfOk};
+ghost use Rattle.std.specs.Option.{option_copied};
 ghost use Rattle.report.specs.Split.{texts};
 ghost use Rattle.report.specs.Fields.{Gives};
 ghost use Rattle.report.specs.Lists.{errors_in};
@@ -50,14 +51,14 @@ pub fn read_output_form(field: &str) -> Option<OutputForm>
     }
 }
 
-/// Reads what an attempt wrote that ended so.
+/// Reads what an attempt wrote that ended so, where it has.
 #[tactic(auto, unfolding(crate::specs::Outputs::output_fields))]
 pub fn read_output(
     alloc: Global,
     fields: &mut Fields<'_>,
-    outcome: &ExecutionResultDescription,
+    outcome: Option<&ExecutionResultDescription>,
 ) -> Result<ChildExecutionOutputDescription<LiveSpec>, LineError>
-    ensures { Gives (λ o. o) fields.old result fields.new (output_fields outcome.now) }
+    ensures { Gives (λ o. o) fields.old result fields.new (output_fields (option_copied outcome.entry)) }
 {
     match fields.read(read_output_form)? {
         OutputForm::Split => {
@@ -106,20 +107,24 @@ fn is_silence(fields: &[&str]) -> bool
     }
 }
 
-// Reads the errors and the highlight that follow the streams of an attempt that ended so.
+// Reads the errors and the highlight that follow the streams of an attempt that ended so, where it has.
 #[tactic(auto, unfolding(crate::specs::Outputs::after_streams))]
 fn read_after_streams(
     alloc: Global,
     fields: &mut Fields<'_>,
-    outcome: &ExecutionResultDescription,
+    outcome: Option<&ExecutionResultDescription>,
     output: ChildOutputDescription,
 ) -> Result<ChildExecutionOutputDescription<LiveSpec>, LineError>
-    ensures { Gives (λ o. o) fields.old result fields.new (after_streams outcome.now output) }
+    ensures { Gives (λ o. o) fields.old result fields.new (after_streams (option_copied outcome.entry) output) }
 {
     let errors = fields.try_read(|field| read_errors(alloc, field))?;
     let highlight = fields.try_read(|field| read_highlight(alloc, field))?;
+    let result = match outcome {
+        Some(outcome) => Some(outcome.copy(alloc)?),
+        None => None,
+    };
     Ok(ChildExecutionOutputDescription::Output {
-        result: Some(outcome.copy(alloc)?),
+        result,
         output,
         errors,
         highlight,

@@ -70,9 +70,9 @@ pub fn read_setup_done(alloc: Global, fields: &mut Fields<'_>) -> Result<SceneEv
     }))
 }
 
-// Reads which script it is: its id, the program, and the program's arguments.
+/// Reads which script it is: its id, the program, and the program's arguments.
 #[tactic(auto, unfolding(crate::specs::ScriptLines::script_fields))]
-fn read_script(alloc: Global, fields: &mut Fields<'_>) -> Result<SceneScript, LineError>
+pub fn read_script(alloc: Global, fields: &mut Fields<'_>) -> Result<SceneScript, LineError>
     ensures { Gives (λ s. s) fields.old result fields.new script_fields }
 {
     let script_id = fields.try_read(|field| read_script_id(alloc, field))?;

@@ -119,10 +119,10 @@ pub fn read_skip(alloc: Global, fields: &mut Fields<'_>) -> Result<SceneEvent, L
     Ok(SceneEvent::TestSkipped(test))
 }
 
-// Reads which test it is: stress index, binary id and name.
+/// Reads which test it is: stress index, binary id and name.
 #[inline(always)]
 #[tactic(auto, unfolding(crate::specs::TestLines::test_fields))]
-fn read_test(alloc: Global, fields: &mut Fields<'_>) -> Result<SceneTest, LineError>
+pub fn read_test(alloc: Global, fields: &mut Fields<'_>) -> Result<SceneTest, LineError>
     ensures { Gives (λ t. t) fields.old result fields.new test_fields }
 {
     let stress_index = fields.read(read_stress_index)?;
@@ -135,9 +135,9 @@ fn read_test(alloc: Global, fields: &mut Fields<'_>) -> Result<SceneTest, LineEr
     })
 }
 
-// Reads which attempt it is, and how many there can be.
+/// Reads which attempt it is, and how many there can be.
 #[tactic(auto, unfolding(crate::specs::TestLines::retry_fields))]
-fn read_retry_data(fields: &mut Fields<'_>) -> Result<RetryData, LineFault>
+pub fn read_retry_data(fields: &mut Fields<'_>) -> Result<RetryData, LineFault>
     ensures { retry_fields fields.old ≡ answered result fields.new }
 {
     let attempt = fields.read(read_small_count)?;
@@ -192,6 +192,6 @@ pub fn read_attempt(
     if take_silence(fields) {
         return Ok(SceneAttempt::silent(outcome, time_taken, retry_data, is_slow));
     }
-    let output = read_output(alloc, fields, &outcome)?;
+    let output = read_output(alloc, fields, Some(&outcome))?;
     Ok(SceneAttempt::with_output(alloc, outcome, time_taken, retry_data, is_slow, output)?)
 }

@@ -2,6 +2,7 @@
 
 ghost use Rattle.std.specs.Prelude.{◌≡◌, OnOk};
 
+use super::info_events::{InfoFinish, InfoStart, ScriptAnswer, TestAnswer};
 use super::replay_calls::{SceneHeader, push_prefix_call};
 use super::run_events::{RunCancel, RunFinish, RunPause, RunStart, StateRequest};
 use super::script_events::{SetupFinish, SetupStart, SlowSetup};
@@ -53,6 +54,14 @@ pub enum SceneEvent {
     RunPaused(RunPause),
     /// The run goes on after it was stopped.
     RunContinued(RunPause),
+    /// All units are asked what they are doing.
+    InfoStarted(InfoStart),
+    /// A setup script says what it is doing.
+    ScriptAnswered(ScriptAnswer),
+    /// A test says what it is doing.
+    TestAnswered(TestAnswer),
+    /// No further answers are waited for.
+    InfoFinished(InfoFinish),
     /// The state of the run was asked for, by a key.
     InputEnter(StateRequest),
     /// An iteration of a stress run has finished.
@@ -93,6 +102,10 @@ impl SceneEvent {
             SceneEvent::RunBeginKill(cancel) => cancel.push_kill_call(calls),
             SceneEvent::RunPaused(pause) => pause.push_paused_call(calls),
             SceneEvent::RunContinued(pause) => pause.push_continued_call(calls),
+            SceneEvent::InfoStarted(start) => start.push_call(calls),
+            SceneEvent::ScriptAnswered(answer) => answer.push_call(alloc, calls),
+            SceneEvent::TestAnswered(answer) => answer.push_call(alloc, calls),
+            SceneEvent::InfoFinished(finish) => finish.push_call(calls),
             SceneEvent::InputEnter(request) => request.push_call(calls),
             SceneEvent::StressSubRunFinished(finish) => finish.push_call(calls),
             SceneEvent::RunFinished(finish) => finish.push_call(alloc, calls),

@@ -65,8 +65,8 @@ pub struct SetupFinish {
 }
 
 impl SceneScript {
-    // Takes memory for the names of another one.
-    fn copy(&self, alloc: Global) -> Result<SceneScript, OutOfMemory>
+    /// Takes memory for the names of another one.
+    pub fn copy(&self, alloc: Global) -> Result<SceneScript, OutOfMemory>
         ensures { IfOk result (λ copy. copy ≡ self.now) }
     {
         Ok(SceneScript {

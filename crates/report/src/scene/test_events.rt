@@ -109,9 +109,9 @@ impl SceneTest {
         Ok(())
     }
 
-    // The test as a reporter takes it, which borrows the names.
+    /// The test as a reporter takes it, which borrows the names.
     #[inline(always)]
-    fn instance(&self) -> TestInstanceId<'_>
+    pub fn instance(&self) -> TestInstanceId<'_>
         ensures { HasNames self.now result }
     {
         TestInstanceId {

@@ -1,7 +1,7 @@
 //! What a scene says of tests that start, are slow, retried or skipped, and of a run that is cancelled or paused.
 
 use super::{OPTIONS, line_of, refused, taken};
-use crate::program::judge;
+use crate::program::{judge, report_scene};
 use console_reporter::imp::ReportCall;
 use run_model::event::{TestEvent, TestEventKind};
 use run_model::level::CancelReason;
@@ -134,6 +134,43 @@ fn tells_the_smallest_bad_field(rt: HostRuntime) -> Result<(), Fail> {
             fault.as_str()
         );
     }
+    Ok(())
+}
+
+// The `retry` line, of an attempt that succeeded.
+const RETRIED_SUCCESS: &str = "retry\t-\ta\tt1\t1\t3\t0\tnever\tpass\t5000000\t0\tsplit\t\t\t-\t-";
+
+#[test]
+fn refuses_a_retried_success(rt: HostRuntime) -> Result<(), Fail> {
+    let alloc = rt.alloc();
+    let scenes = [
+        (format!(in alloc; "{RETRIED_SUCCESS}")?, 1),
+        (
+            format!(in alloc; "config\tfinal\tall\n\n# a comment\n{START}\n{RETRIED_SUCCESS}\n")?,
+            5,
+        ),
+        (
+            format!(in alloc; "{RETRY}\n{RETRIED_SUCCESS}\n{RETRIED_SUCCESS}\n{SKIP}")?,
+            2,
+        ),
+    ];
+    for (scene, line) in &scenes {
+        let told = format!(in alloc; "report: line {line}: a retried attempt succeeded")?;
+        let Err(judged) = judge(alloc, &OPTIONS, scene.as_bytes()) else {
+            return Err(Fail::from("the scene is refused"));
+        };
+        assert_eq!(rt; judged.to_string(alloc)?.as_str(), told.as_str());
+        assert_eq!(rt; judged.status(), 2);
+        let (outcome, printed) = report_scene(alloc, &OPTIONS, scene.as_bytes(), Vec::new(alloc));
+        let Err(fault) = outcome else {
+            return Err(Fail::from("the scene is refused"));
+        };
+        assert_eq!(rt; fault.to_string(alloc)?.as_str(), told.as_str());
+        assert!(rt; printed.is_empty());
+    }
+    let bogus = format!(in alloc; "{RETRIED_SUCCESS}\nbogus\n")?;
+    let first = "report: line 2: unknown event";
+    assert_eq!(rt; line_of(alloc, bogus.as_bytes())?.as_str(), first);
     Ok(())
 }
 
