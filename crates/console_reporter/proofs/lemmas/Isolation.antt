@@ -1,7 +1,7 @@
 -- What the decider skips is not shown (for `unload_skipped`).
-use Rattle.std.proofs.Common.{◌≡◌, ℕ, Bool, true, false, not, ◌&&◌, ◌||◌, Option, None, Some, List, [], ◌∷◌, ◌++◌, map, reverse, length, ◌==◌, if◌then◌else◌, refl, sym, ap, subst, ◌∙◌, inl, inr}
-use Rattle.std.specs.List.{AllByRecursion}
-use Rattle.std.specs.Option.{option_map_or}
+use Rattle.std.proofs.Common.{◌≡◌, ℕ, ◌+◌, Bool, true, false, not, ◌&&◌, ◌||◌, Option, None, Some, List, [], ◌∷◌, ◌++◌, map, reverse, length, ◌==◌, if◌then◌else◌, refl, sym, ap, subst, ◌∙◌, inl, inr}
+use Rattle.std.specs.List.{AllByRecursion, position_or_len}
+use Rattle.std.specs.Option.{is_some, option_map_or}
 use Rattle.std.proofs.lemmas.Bool.{cases_Bool, false≢true}
 use Rattle.std.proofs.lemmas.List.{length-map, map-append, reverse-append}
 use Rattle.run_model.specs.Attempts.{Attempts}
@@ -33,9 +33,13 @@ use Rattle.event_text.specs.declared.finish.FinishRow.TheVariants.{Hidden, Shown
 use Rattle.event_text.specs.declared.settings.Settings.{Settings}
 use Rattle.run_text.specs.SetupScripts.{failed_script_output, setup_script_line, setup_script_finished_text}
 use Rattle.event_text.specs.Scripts.{Script}
-use Rattle.console_reporter.specs.Accepted.{AreAcceptedBy, IsAcceptedBy, decider_by, decider_of, event_refusal, refusal_by}
+use Rattle.console_reporter.specs.Accepted.{AreAcceptedBy, decider_by, decider_of, event_refusal, first_refused, refusal_by}
 use Rattle.console_reporter.specs.Configuration.{Configuration, settings_of}
-use Rattle.console_reporter.specs.Effects.{effect_of, entry_of, final_output, kept_entry}
+use Rattle.console_reporter.specs.Effects.{effect_of, entry_of, final_output, is_kept, kept_entry}
+use Rattle.console_reporter.specs.Effects.TestEnd.{Finished}
+use Rattle.console_reporter.specs.declared.imp.final_output.FinalOutput.{FinalOutput}
+use Rattle.console_reporter.specs.declared.imp.final_output.FinalOutputEntry.{FinalOutputEntry}
+use Rattle.run_model.specs.declared.status.StatusSummary.{StatusSummary}
 use Rattle.console_reporter.specs.Isolation.{IsIsolated}
 use Rattle.console_reporter.specs.Loads.{load_if, loads_attempt, loads_finish, loads_script}
 use Rattle.console_reporter.specs.Report.{Known, event_text, script_by}
@@ -67,32 +71,46 @@ never-at_end Hidden display h = refl
 never-at_end Shown display h = never-final display h
 never-at_end ShownOnce display h = rw (never-final display h) refl
 
+-- a finished test whose output is not shown has one text and one entry, whatever its last attempt wrote
+never-text : (s : Settings) (f : TestFinish) (last : Attempt) → is_ever_shown f.display ≡ false → test_finished_text s (record f { last = last }) ≡ test_finished_text s f
+unfolding test_finished_text line_at_once output_at_once
+never-text s f last h = rw (never-at_once f.row f.display h) refl
+
+never-output : (f : TestFinish) (last : Attempt) → is_ever_shown f.display ≡ false → final_output (record f { last = last }) ≡ final_output f
+unfolding final_output
+never-output f last h = rw (never-at_end f.row f.display h) refl
+
+never-kept : (s : Settings) (f : TestFinish) (last : Attempt) → is_ever_shown f.display ≡ false → kept_entry s (Finished (record f { last = last })) ≡ kept_entry s (Finished f)
+never-kept s f last h =
+    ap (λ (o : FinalOutput). if is_kept s f then Some (record { test = f.test; output = o }) else None) (never-output f last h)
+
 -- attempts come to the same, whatever they wrote
 unloaded-summary : (a : Attempts LiveSpec ChildOutputDescription) → summary_of (unloaded_attempts a) ≡ summary_of a
 unloaded-summary a = rw (length-map a.earlier unloaded_attempt) refl
 
--- a finished test whose output is not shown
+-- the same of its event
 module _ (s : Settings) (stress : Option StressIndex) (test : TestInstanceId) (success failure : TestOutputDisplay) (statuses : Attempts LiveSpec ChildOutputDescription) (stats : RunStats)
     (never : loads_finish (decider_by s) success failure (summary_of statuses) ≡ false) where
-  finish : ℕ → TestFinish
+  abbrev finish : ℕ → TestFinish
   finish reason = test_finish s reason stress test success failure statuses stats
 
-  never-finish-text : (reason : ℕ) →
-      test_finished_text s (test_finish s reason stress test success failure (unloaded_attempts statuses) stats) ≡ test_finished_text s (test_finish s reason stress test success failure statuses stats)
-  unfolding test_finished_text output_at_once display_of
-  never-finish-text reason =
-      rw (unloaded-summary statuses, never-at_once (finish reason).row (finish reason).display never) refl
+  finish-unloaded : (reason : ℕ) → test_finish s reason stress test success failure (unloaded_attempts statuses) stats ≡ record (finish reason) { last = unloaded_attempt statuses.last }
+  finish-unloaded reason =
+      ap (λ (x : StatusSummary). record { test = (finish reason).test; display = display_of s success failure x; row = (finish reason).row; summary = x; last = unloaded_attempt statuses.last })
+      (unloaded-summary statuses)
 
-  never-finish-entry : (reason : ℕ) →
-      entry_of s reason (TestFinished stress test success failure (unloaded_attempts statuses) stats) ≡ entry_of s reason (TestFinished stress test success failure statuses stats)
-  unfolding final_output display_of
-  never-finish-entry reason =
-      rw (unloaded-summary statuses, never-at_end (finish reason).row (finish reason).display never) refl
+  never-shown : (reason : ℕ) → is_ever_shown (finish reason).display ≡ false
+  unfolding display_of
+  never-shown reason = never
 
   same-finish : (elapsed : Nanos) → IsSameEvent s (record { elapsed = elapsed; kind = TestFinished stress test success failure statuses stats })
       (record { elapsed = elapsed; kind = TestFinished stress test success failure (unloaded_attempts statuses) stats })
   unfolding event_text
-  same-finish elapsed = record { reason = refl; entry = never-finish-entry; text = λ known. never-finish-text known.reason }
+  same-finish elapsed = record {
+    reason = refl;
+    entry = λ before. ap (λ f. kept_entry s (Finished f)) (finish-unloaded before) ∙ never-kept s (finish before) (unloaded_attempt statuses.last) (never-shown before);
+    text = λ known. ap (test_finished_text s) (finish-unloaded known.reason) ∙ never-text s (finish known.reason) (unloaded_attempt statuses.last) (never-shown known.reason);
+  }
 
 -- an attempt that failed whose output is not shown
 never-attempt : (s : Settings) (stress : Option StressIndex) (test : TestInstanceId) (x : Attempt) (delay : ℕ) (failure : TestOutputDisplay) → loads_attempt (decider_by s) failure ≡ false →
@@ -203,15 +221,22 @@ same-refusal d (InputEnter stats running) h = absurd (false≢true h)
 same-refusal d (StressSubRunFinished progress taken stats) h = absurd (false≢true h)
 same-refusal d (RunFinished taken stats outstanding) h = absurd (false≢true h)
 
-still-accepted : (d : OutputLoadDecider) (call : ReportCall) → IsAcceptedBy d call → IsAcceptedBy d (unread_call d call)
-still-accepted d (Event e) h =
-    elim (cases_Bool (is_skipped d e.kind)) [ inl y ↦ rw (y, same-refusal d e.kind y) h | inr n ↦ rw n h ]
-still-accepted d (Header k) h = h
-still-accepted d (Prefix p) h = h
+same-call-refusal : (d : OutputLoadDecider) (call : ReportCall) → refusal_by d (unread_call d call) ≡ refusal_by d call
+same-call-refusal d (Event e) = elim (cases_Bool (is_skipped d e.kind)) [ inl y ↦ rw y (same-refusal d e.kind y) | inr n ↦ rw n refl ]
+same-call-refusal d (Header k) = refl
+same-call-refusal d (Prefix p) = refl
+
+same-len : (d : OutputLoadDecider) (calls : List ReportCall) →
+    position_or_len (λ call. is_some (refusal_by d call)) (unread d calls) ≡ position_or_len (λ call. is_some (refusal_by d call)) calls
+same-len d [] = refl
+same-len d (call ∷ calls) = rw (same-call-refusal d call, same-len d calls) refl
+
+same-first : (d : OutputLoadDecider) (calls : List ReportCall) → first_refused d (unread d calls) ≡ first_refused d calls
+same-first d calls = rw (same-len d calls, length-map calls (unread_call d)) refl
 
 all-accepted : (d : OutputLoadDecider) (calls : List ReportCall) → AreAcceptedBy d calls → AreAcceptedBy d (unread d calls)
 all-accepted d [] h = tt
-all-accepted d (call ∷ calls) h = (still-accepted d call h.0, all-accepted d calls h.1)
+all-accepted d (call ∷ calls) h = (same-call-refusal d call ∙ h.0, all-accepted d calls h.1)
 
 map_reverse : {X Y : Type 0} (f : X → Y) (xs : List X) → map f (reverse xs) ≡ reverse (map f xs)
 map_reverse f [] = refl
@@ -230,4 +255,5 @@ isolated d calls = (
   λ config is. same-texts config (reverse calls) (reverse (unread d calls)) (same-past config d calls is),
   λ config is. same-report config (reverse calls) (reverse (unread d calls)) (same-past config d calls is),
   all-accepted d calls,
+  same-first d calls,
 )

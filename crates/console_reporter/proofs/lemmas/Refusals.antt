@@ -1,6 +1,7 @@
 -- Refusals (for `DisplayReporter::write_event`).
-use Rattle.std.proofs.Common.{◌≡◌, ℕ, List, true, Option, None, Some, false, refl}
+use Rattle.std.proofs.Common.{◌≡◌, ℕ, List, true, Option, None, Some, Err, false, refl}
 use Rattle.std.specs.Option.{is_some}
+use Rattle.std.specs.Result.{IsErrOf}
 use Rattle.report_text.specs.Writer.{Meaning}
 use Rattle.console_reporter.specs.Outcomes.{Stops, refusal_in}
 use Rattle.console_reporter.specs.declared.imp.faults.WriteEventError.{WriteEventError}
@@ -24,10 +25,10 @@ stops_refused m w t Memory told = cc
 stops_refused m w t Failed told = cc
 
 -- and is no fault of the device or of memory
-pub refused_not_io : (e : WriteEventError) → refusal_in e ≡ Some e → e ≡ Io → ⊥
+pub refused_not_io : (e : WriteEventError) → refusal_in e ≡ Some e → IsErrOf {T = Unit {0}} (Err e) Io → ⊥
 refused_not_io e told is = cc
 
-pub refused_not_memory : (e : WriteEventError) → refusal_in e ≡ Some e → e ≡ Memory → ⊥
+pub refused_not_memory : (e : WriteEventError) → refusal_in e ≡ Some e → IsErrOf {T = Unit {0}} (Err e) Memory → ⊥
 refused_not_memory e told is = cc
 
 pub told_is_some : (e : WriteEventError) → refusal_in e ≡ Some e → is_some (refusal_in e) ≡ false → ⊥
