@@ -4,6 +4,8 @@ use crate::fault::Fault;
 use crate::program::{judge, write_report};
 use crate::words::{Options, words};
 use bstr::ByteSlice;
+use console_reporter::imp::ReportCall;
+use run_model::event::TestEvent;
 use run_model::level::StatusLevel;
 use std::alloc::Global;
 use std::io;
@@ -198,6 +200,14 @@ fn line_of(alloc: Global, scene: &[u8]) -> Result<String, Fail> {
     match judge(alloc, &OPTIONS, scene) {
         Ok(_) => Ok(String::new(alloc)),
         Err(fault) => Ok(fault.to_string(alloc)?),
+    }
+}
+
+// The event of a call.
+fn event_of<'c, 'a>(call: &'c ReportCall<'a>) -> Result<&'c TestEvent<'a>, Fail> {
+    match call {
+        ReportCall::Event(event) => Ok(event),
+        _ => Err(Fail::from("the call is no event")),
     }
 }
 

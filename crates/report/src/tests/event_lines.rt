@@ -1,9 +1,8 @@
 //! What a scene says of tests that start, are slow, retried or skipped, and of a run that is cancelled or paused.
 
-use super::{OPTIONS, line_of, refused, taken};
+use super::{OPTIONS, event_of, line_of, refused, taken};
 use crate::program::{judge, report_scene};
-use console_reporter::imp::ReportCall;
-use run_model::event::{TestEvent, TestEventKind};
+use run_model::event::TestEventKind;
 use run_model::level::CancelReason;
 use run_model::status::RetryData;
 use std::test::Fail;
@@ -38,10 +37,12 @@ const LINES: [&str; 9] = [
     CONTINUE,
 ];
 
+// The greatest count.
+const MOST: &str = "18446744073709551615";
+
 #[test]
 fn takes_good_fields(rt: HostRuntime) -> Result<(), Fail> {
     let alloc = rt.alloc();
-    let most = "18446744073709551615";
     let fields: [(&str, usize, &[&str]); 19] = [
         (START, 2, &["-", "7", "0/1"]),
         (START, 3, &["", "-", "\\n"]),
@@ -57,11 +58,11 @@ fn takes_good_fields(rt: HostRuntime) -> Result<(), Fail> {
         (RETRY, 8, &["immediate", "immediate-final", "final"]),
         (RETRY, 9, &["sig:11:SEGV", "tmout", "exec"]),
         (SKIP, 4, &["", "-", "mod::t"]),
-        (CANCEL, 2, &["007", most]),
+        (CANCEL, 2, &["007", MOST]),
         (CANCEL, 4, &["-", "setup-script-failure", "signal"]),
         (KILL, 4, &["interrupt", "second-signal"]),
-        (PAUSE, 3, &["0", most]),
-        (CONTINUE, 2, &["0", most]),
+        (PAUSE, 3, &["0", MOST]),
+        (CONTINUE, 2, &["0", MOST]),
     ];
     for (line, field, texts) in fields {
         assert_eq!(rt; refused(alloc, line, field, texts)?, None, "{line}");
@@ -196,26 +197,19 @@ fn makes_calls_of_tests(rt: HostRuntime) -> Result<(), Fail> {
     let text = format!(in alloc; "{START}\n{RETRY}\n")?;
     let scene = judge(alloc, &OPTIONS, text.as_bytes())?;
     let calls = scene.calls(alloc, &OPTIONS)?;
-    let [
-        ReportCall::Event(
-            TestEvent {
-                kind: TestEventKind::TestStarted { command_line, .. },
-                ..
-            },
-        ),
-        ReportCall::Event(
-            TestEvent {
-                kind: TestEventKind::TestAttemptFailedWillRetry {
-                    test_instance,
-                    run_status,
-                    ..
-                },
-                ..
-            },
-        ),
-    ] = calls.as_slice()
+    let [started, failed] = calls.as_slice() else {
+        return Err(Fail::from("there are two calls"));
+    };
+    let TestEventKind::TestStarted { command_line, .. } = &event_of(started)?.kind else {
+        return Err(Fail::from("a test starts"));
+    };
+    let TestEventKind::TestAttemptFailedWillRetry {
+        test_instance,
+        run_status,
+        ..
+    } = &event_of(failed)?.kind
     else {
-        return Err(Fail::from("a test starts, and an attempt fails"));
+        return Err(Fail::from("an attempt fails"));
     };
     let [first, second] = command_line.words() else {
         return Err(Fail::from("the command has two words"));
@@ -237,34 +231,25 @@ fn makes_calls_of_a_cancelled_run(rt: HostRuntime) -> Result<(), Fail> {
     let text = format!(in alloc; "{CANCEL}\n{KILL}\n{CONTINUE}\n")?;
     let scene = judge(alloc, &OPTIONS, text.as_bytes())?;
     let calls = scene.calls(alloc, &OPTIONS)?;
-    let [
-        ReportCall::Event(
-            TestEvent {
-                kind: TestEventKind::RunBeginCancel { current_stats, .. },
-                ..
-            },
-        ),
-        ReportCall::Event(
-            TestEvent {
-                kind: TestEventKind::RunBeginKill {
-                    setup_scripts_running: killed,
-                    ..
-                },
-                ..
-            },
-        ),
-        ReportCall::Event(
-            TestEvent {
-                kind: TestEventKind::RunContinued {
-                    setup_scripts_running,
-                    running,
-                },
-                ..
-            },
-        ),
-    ] = calls.as_slice()
+    let [cancelled, killed, continued] = calls.as_slice() else {
+        return Err(Fail::from("there are three calls"));
+    };
+    let TestEventKind::RunBeginCancel { current_stats, .. } = &event_of(cancelled)?.kind else {
+        return Err(Fail::from("the run is cancelled"));
+    };
+    let TestEventKind::RunBeginKill {
+        setup_scripts_running: killed,
+        ..
+    } = &event_of(killed)?.kind
     else {
-        return Err(Fail::from("a run is cancelled, killed, and goes on"));
+        return Err(Fail::from("the run is killed"));
+    };
+    let TestEventKind::RunContinued {
+        setup_scripts_running,
+        running,
+    } = &event_of(continued)?.kind
+    else {
+        return Err(Fail::from("the run goes on"));
     };
     assert_eq!(rt;
         current_stats.cancel_reason,

@@ -1,9 +1,8 @@
 //! What a scene says of what units are doing: the beginning, each answer, and the end.
 
-use super::{OPTIONS, line_of, refused, report_of, taken};
+use super::{OPTIONS, event_of, line_of, refused, report_of, taken};
 use crate::program::judge;
-use console_reporter::imp::ReportCall;
-use run_model::event::{TestEvent, TestEventKind};
+use run_model::event::TestEventKind;
 use run_model::info::{InfoResponse, UnitState, UnitTerminateMethod, UnitTerminateReason};
 use run_model::status::RetryData;
 use run_model::time::Nanos;
@@ -67,17 +66,19 @@ const BAD_STATES: [&str; 27] = [
     "delay:0:1:1:1",
 ];
 
+// The greatest count.
+const MOST: &str = "18446744073709551615";
+
 #[test]
 fn takes_good_fields(rt: HostRuntime) -> Result<(), Fail> {
     let alloc = rt.alloc();
-    let most = "18446744073709551615";
     let fields: [(&str, usize, &[&str]); 20] = [
         (INFO, 2, &["0", "340282366920938463463374607431768211455"]),
-        (INFO, 3, &["0", most]),
+        (INFO, 3, &["0", MOST]),
         (INFO, 4, &["-"]),
-        (INFO_END, 2, &["0", "007", most]),
-        (RUNNING, 2, &["7", most]),
-        (RUNNING, 3, &["0", most]),
+        (INFO_END, 2, &["0", "007", MOST]),
+        (RUNNING, 2, &["7", MOST]),
+        (RUNNING, 3, &["0", MOST]),
         (RUNNING, 4, &["0", "3/1"]),
         (RUNNING, 5, &["", "-"]),
         (RUNNING, 7, &["0", "4294967295"]),
@@ -87,7 +88,7 @@ fn takes_good_fields(rt: HostRuntime) -> Result<(), Fail> {
         (RUNNING, 15, &["out:0:hi"]),
         (DELAY, 9, &GOOD_STATES),
         (DELAY, 10, &["pass", "exec", "nt:5:a:b"]),
-        (SCRIPT, 2, &[most]),
+        (SCRIPT, 2, &[MOST]),
         (SCRIPT, 4, &["1/2"]),
         (SCRIPT, 7, &["-", ""]),
         (SCRIPT, 8, &GOOD_STATES),
@@ -210,24 +211,17 @@ fn makes_calls_of_the_beginning_and_the_end(rt: HostRuntime) -> Result<(), Fail>
     let text = format!(in alloc; "{INFO}\n{INFO_END}\n")?;
     let scene = judge(alloc, &OPTIONS, text.as_bytes())?;
     let calls = scene.calls(alloc, &OPTIONS)?;
-    let [
-        ReportCall::Event(
-            TestEvent {
-                elapsed,
-                kind: TestEventKind::InfoStarted { total, .. },
-            },
-        ),
-        ReportCall::Event(
-            TestEvent {
-                kind: TestEventKind::InfoFinished { missing },
-                ..
-            },
-        ),
-    ] = calls.as_slice()
-    else {
-        return Err(Fail::from("units are asked, and that ends"));
+    let [asked, ended] = calls.as_slice() else {
+        return Err(Fail::from("there are two calls"));
     };
-    assert_eq!(rt; (*elapsed, *total), (Nanos(3_500_000_000), 1));
+    let start = event_of(asked)?;
+    let TestEventKind::InfoStarted { total, .. } = &start.kind else {
+        return Err(Fail::from("units are asked"));
+    };
+    let TestEventKind::InfoFinished { missing } = &event_of(ended)?.kind else {
+        return Err(Fail::from("that ends"));
+    };
+    assert_eq!(rt; (start.elapsed, *total), (Nanos(3_500_000_000), 1));
     assert_eq!(rt; *missing, 2);
     Ok(())
 }
@@ -237,20 +231,19 @@ fn makes_calls_of_answers(rt: HostRuntime) -> Result<(), Fail> {
     let alloc = rt.alloc();
     let scene = judge(alloc, &OPTIONS, ENDING.as_bytes())?;
     let calls = scene.calls(alloc, &OPTIONS)?;
-    let [
-        ReportCall::Event(
-            TestEvent {
-                kind: TestEventKind::InfoResponse {
-                    index,
-                    total,
-                    response: InfoResponse::Test(answer),
-                },
-                ..
-            },
-        ),
-    ] = calls.as_slice()
+    let [call] = calls.as_slice() else {
+        return Err(Fail::from("there is one call"));
+    };
+    let TestEventKind::InfoResponse {
+        index,
+        total,
+        response,
+    } = &event_of(call)?.kind
     else {
-        return Err(Fail::from("a test answers"));
+        return Err(Fail::from("a unit answers"));
+    };
+    let InfoResponse::Test(answer) = response else {
+        return Err(Fail::from("it is a test"));
     };
     assert_eq!(rt; (*index, *total), (3, 4));
     let (attempt, total_attempts) = (2, 3);

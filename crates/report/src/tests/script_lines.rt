@@ -1,9 +1,8 @@
 //! What a scene says of setup scripts, of stress runs, of the state on request, and of tests that were not seen.
 
-use super::{OPTIONS, line_of, refused, report_of, taken};
+use super::{OPTIONS, event_of, line_of, refused, report_of, taken};
 use crate::program::judge;
-use console_reporter::imp::ReportCall;
-use run_model::event::{TestEvent, TestEventKind};
+use run_model::event::TestEventKind;
 use run_model::time::Nanos;
 use std::test::Fail;
 
@@ -36,14 +35,16 @@ const PROGRESSES: [&str; 6] = [
     "time:340282366920938463463374607431768211455:0:0",
 ];
 
+// The greatest count.
+const MOST: &str = "18446744073709551615";
+
 #[test]
 fn takes_good_fields(rt: HostRuntime) -> Result<(), Fail> {
     let alloc = rt.alloc();
-    let most = "18446744073709551615";
     let fields: [(&str, usize, &[&str]); 19] = [
         (SETUP, 2, &["-", "7", "0/1"]),
-        (SETUP, 3, &["0", "007", most]),
-        (SETUP, 4, &["0", most]),
+        (SETUP, 3, &["0", "007", MOST]),
+        (SETUP, 4, &["0", MOST]),
         (SETUP, 5, &["", "-", "\\n"]),
         (SETUP, 6, &["", "-", "a b"]),
         (SETUP, 7, &["-", "", "\\,", "a,b"]),
@@ -54,8 +55,8 @@ fn takes_good_fields(rt: HostRuntime) -> Result<(), Fail> {
         (SUB_END, 2, &PROGRESSES),
         (SUB_END, 4, &["-"]),
         (INPUT, 2, &["0"]),
-        (INPUT, 4, &["0", most]),
-        (END, 4, &["0", "1", most]),
+        (INPUT, 4, &["0", MOST]),
+        (END, 4, &["0", "1", MOST]),
         (END, 5, &["-", "\\,", "a\\,t", "\\,\\,a\\,\\\\"]),
         (END_STRESS, 3, &["0", "9", "3/1"]),
         (END_STRESS, 4, &["0", "4294967295"]),
@@ -171,32 +172,23 @@ fn makes_calls_of_scripts_and_requests(rt: HostRuntime) -> Result<(), Fail> {
     let text = format!(in alloc; "{SETUP}\n{SETUP_DONE}\n{INPUT}\n")?;
     let scene = judge(alloc, &OPTIONS, text.as_bytes())?;
     let calls = scene.calls(alloc, &OPTIONS)?;
-    let [
-        ReportCall::Event(
-            TestEvent {
-                kind: TestEventKind::SetupScriptStarted {
-                    script_id,
-                    program,
-                    ..
-                },
-                ..
-            },
-        ),
-        ReportCall::Event(
-            TestEvent {
-                kind: TestEventKind::SetupScriptFinished { run_status, .. },
-                ..
-            },
-        ),
-        ReportCall::Event(
-            TestEvent {
-                elapsed,
-                kind: TestEventKind::InputEnter { running, .. },
-            },
-        ),
-    ] = calls.as_slice()
+    let [started, finished, requested] = calls.as_slice() else {
+        return Err(Fail::from("there are three calls"));
+    };
+    let TestEventKind::SetupScriptStarted {
+        script_id,
+        program,
+        ..
+    } = &event_of(started)?.kind
     else {
-        return Err(Fail::from("a script starts and ends, and a key is pressed"));
+        return Err(Fail::from("a script starts"));
+    };
+    let TestEventKind::SetupScriptFinished { run_status, .. } = &event_of(finished)?.kind else {
+        return Err(Fail::from("a script ends"));
+    };
+    let request = event_of(requested)?;
+    let TestEventKind::InputEnter { running, .. } = &request.kind else {
+        return Err(Fail::from("a key is pressed"));
     };
     assert_eq!(rt; script_id.as_str(), "db");
     assert_eq!(rt; program.as_str(), "make-db");
@@ -204,7 +196,7 @@ fn makes_calls_of_scripts_and_requests(rt: HostRuntime) -> Result<(), Fail> {
         (run_status.time_taken, run_status.is_slow),
         (Nanos(5_000_000), true)
     );
-    assert_eq!(rt; (*elapsed, *running), (Nanos(3_725_000_000_000), 2));
+    assert_eq!(rt; (request.elapsed, *running), (Nanos(3_725_000_000_000), 2));
     Ok(())
 }
 
