@@ -24,6 +24,7 @@ use std::test::Fail;
 use unit_report::config::{DisplayConfig, ShowProgress};
 
 mod entries;
+mod loads;
 mod outputs;
 mod refused;
 
