@@ -6,7 +6,7 @@ With --outputs each test has written some lines, coloured as cargo's are; a test
 With --kept every test passes and the summary lists it; tests finish in the order of the summary (`ordered`), in the opposite
 one (`reversed`) or in none (`shuffled`).
 With --events the run is told as it goes: a setup script, each test's start, slow ones, attempts that are tried again, skipped
-tests, the state on request, and a pause.
+tests, the state on request, what a test is doing, and a pause.
 """
 import random
 import sys
@@ -52,6 +52,10 @@ def event_lines(count):
             yield f"skip\t-\t{test}_elsewhere"
         if i % 500 == 250:
             yield f"input\t{i * 1_000_000}\t{before}\t4"
+        if i % 1000 == 500:
+            yield f"info\t{i * 1_000_000}\t1\t{before}"
+            yield f"answer-test\t0\t1\t-\t{test}\t1\t1\trunning:42:1500000000:-\t-\tsplit\trunning 1 test\\n\t\t-\t-"
+            yield "infoend\t0"
         if i % 2000 == 1000:
             yield "pause\t0\t4"
             yield "continue\t0\t4"

@@ -1,5 +1,8 @@
 //! What the tests of this crate share.
 
+ghost use Rattle.std.specs.Prelude.{◌≡◌, IfOk, true};
+ghost use Rattle.run_model.specs.Outputs.{has_loaded_output};
+
 use bytes::Bytes;
 use event_text::settings::{Settings, overrides_for, styles_for, theme_for};
 use run_model::config::{CompiledDefaultFilter, CompiledDefaultFilterSection, NextestRunMode};
@@ -57,7 +60,9 @@ pub fn written(
     alloc: Global,
     stdout: Option<&'static [u8]>,
     stderr: Option<&'static [u8]>,
-) -> Result<ChildExecutionOutputDescription<LiveSpec>, Fail> {
+) -> Result<ChildExecutionOutputDescription<LiveSpec>, Fail>
+    ensures { IfOk result (λ output. has_loaded_output output ≡ true) }
+{
     Ok(ChildExecutionOutputDescription::Output {
         result: None,
         output: ChildOutputDescription::Split {

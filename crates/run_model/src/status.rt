@@ -464,9 +464,7 @@ impl ExecutionStatuses<LiveSpec> {
     pub fn unload(&mut self)
         ensures { self.new ≡ unloaded_attempts self.old }
     {
-        for attempt in self.earlier.iter_mut() {
-            attempt.unload();
-        }
+        unload_attempts(self.earlier.as_mut_slice());
         self.last.unload();
     }
 
@@ -479,6 +477,15 @@ impl ExecutionStatuses<LiveSpec> {
             last: self.last.recorded(alloc)?,
             flaky_result: self.flaky_result,
         })
+    }
+}
+
+// Leaves the captured output of every attempt unread.
+fn unload_attempts(attempts: &mut [ExecuteStatus<LiveSpec>])
+    ensures { attempts.new ≡ map unloaded_attempt attempts.old }
+{
+    for attempt in attempts.iter_mut() {
+        attempt.unload();
     }
 }
 

@@ -1,5 +1,8 @@
 //! The outputs of attempts, and how they ended.
 
+ghost use Rattle.std.specs.Prelude.{◌≡◌, IfOk, true};
+ghost use Rattle.run_model.specs.Outputs.{has_loaded_output};
+
 use super::write_test_execute_status;
 use crate::settings::Settings;
 use crate::testing::settings_at;
@@ -23,7 +26,9 @@ fn settings(alloc: Global, no_output_indent: bool) -> Result<Settings, Fail> {
 }
 
 // Why a process could not be started: three causes, one of them in two lines.
-fn start_error(alloc: Global) -> Result<ChildExecutionOutputDescription<LiveSpec>, Fail> {
+fn start_error(alloc: Global) -> Result<ChildExecutionOutputDescription<LiveSpec>, Fail>
+    ensures { IfOk result (λ output. has_loaded_output output ≡ true) }
+{
     let mut causes = Vec::new(alloc);
     for cause in ["one", "two\nlines", "three"] {
         causes.push(DescriptionText::new(alloc, cause)?)?;
@@ -34,7 +39,9 @@ fn start_error(alloc: Global) -> Result<ChildExecutionOutputDescription<LiveSpec
 }
 
 // A process that wrote a line on both streams together.
-fn written(alloc: Global) -> Result<ChildExecutionOutputDescription<LiveSpec>, Fail> {
+fn written(alloc: Global) -> Result<ChildExecutionOutputDescription<LiveSpec>, Fail>
+    ensures { IfOk result (λ output. has_loaded_output output ≡ true) }
+{
     Ok(ChildExecutionOutputDescription::Output {
         result: None,
         output: ChildOutputDescription::Combined {

@@ -1,5 +1,8 @@
 //! Attempts that failed, by the status level, the setting of their output and the delay after them.
 
+ghost use Rattle.std.specs.Prelude.{◌≡◌, IfOk, true};
+ghost use Rattle.run_model.specs.Outputs.{has_loaded_output};
+
 use super::write_attempt_failed;
 use crate::settings::{Settings, overrides_for};
 use crate::testing::{Names, settings_at};
@@ -19,7 +22,9 @@ use unit_report::unit_output::{DisplayerKind, UnitOutputReporter};
 fn attempt(
     alloc: Global,
     outcome: ExecutionResultDescription,
-) -> Result<ExecuteStatus<LiveSpec>, Fail> {
+) -> Result<ExecuteStatus<LiveSpec>, Fail>
+    ensures { IfOk result (λ status. has_loaded_output status.output ≡ true) }
+{
     let output = ChildOutputDescription::Combined {
         output: ChildSingleOutput::new(alloc, Bytes::from_static(b"boom\n"))?,
     };
@@ -40,7 +45,9 @@ fn attempt(
     })
 }
 
-fn failed(alloc: Global) -> Result<ExecuteStatus<LiveSpec>, Fail> {
+fn failed(alloc: Global) -> Result<ExecuteStatus<LiveSpec>, Fail>
+    ensures { IfOk result (λ status. has_loaded_output status.output ≡ true) }
+{
     let failure = FailureDescription::ExitCode { code: 1 };
     attempt(
         alloc,
@@ -58,7 +65,9 @@ fn text_of(
     status: &ExecuteStatus<LiveSpec>,
     delay: Nanos,
     display: TestOutputDisplay,
-) -> Result<String, Fail> {
+) -> Result<String, Fail>
+    requires { has_loaded_output status.now.output ≡ true }
+{
     let names = Names::of_a_t1(alloc)?;
     let mut text = String::new(alloc);
     write_attempt_failed(

@@ -1,5 +1,8 @@
 //! Whole answers: who gives them, their place among the others, and the output in them.
 
+ghost use Rattle.std.specs.Prelude.{◌≡◌, true};
+ghost use Rattle.run_model.specs.Outputs.{has_loaded_output};
+
 use super::write_info_response;
 use crate::fixtures::{failure, settings, written};
 use run_model::abort::DescriptionText;
@@ -42,7 +45,9 @@ fn test_answer(
     retry_data: RetryData,
     state: UnitState,
     output: ChildExecutionOutputDescription<LiveSpec>,
-) -> Result<String, Fail> {
+) -> Result<String, Fail>
+    requires { has_loaded_output output ≡ true }
+{
     let binary_id = RustBinaryId::new(alloc, "a")?;
     let test_name = TestCaseName::new(alloc, "t1")?;
     let response = InfoResponse::Test(TestInfoResponse {

@@ -1,9 +1,0 @@
-use Rattle.std.proofs.Common.{◌<◌, length, arith}
-use Rattle.std.proofs.lemmas.List.Edits.{map_over_more}
-use Rattle.run_model.specs.Unloaded.{unloaded_attempt}
-use Rattle.run_model.proofs.status.ExecutionStatuses+LiveSpec.unload.Goals as goal
-
-pub loop-attempt-preserved : goal.loop-attempt-preserved
-loop-attempt-preserved c =
-    let within : c.loop-attempt.attempt-index < length c.deref_mut-attempt-items.result.now = omega arith in
-    rw (c.unload.ensures, ← c.attempt-item.is) (map_over_more unloaded_attempt c.deref_mut-attempt-items.result.now c.loop-attempt.attempt-items c.loop-attempt.attempt-index c.attempt-item.result within c.loop-attempt.invariant c.attempt-item.is)

@@ -1,7 +1,0 @@
-use Rattle.std.proofs.Common.{◌≡◌, ◌++◌, map, take, drop}
-use Rattle.run_model.specs.Unloaded.{unloaded_attempt}
-use Rattle.run_model.proofs.status.ExecutionStatuses+LiveSpec.unload.Given as goal
-
--- the attempts so far are unloaded
-abbrev pub invariant-loop-attempt : goal.invariant-loop-attempt
-invariant-loop-attempt l = l.attempt-items ≡ map unloaded_attempt (take l.attempt-index l.initial.attempt-items) ++ drop l.attempt-index l.initial.attempt-items
