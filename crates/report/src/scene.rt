@@ -97,6 +97,7 @@ impl Scene {
 
     /// The calls that the scene makes of a reporter, in order. They borrow its names. Where the options ask for it, the output
     /// that the reporter does not show is left unread, which changes neither its report nor what it refuses.
+    #[tactic(auto, using(crate::proofs::lemmas::Unloads::ready_whole, crate::proofs::lemmas::Unloads::ready_unread))]
     pub fn calls(
         &self,
         alloc: Global,
@@ -106,10 +107,11 @@ impl Scene {
         ensures err { IfErr result (λ fault. fault ≡ Fault.OutOfMemory) }
     {
         let mut calls = self.whole_calls(alloc)?;
-        if options.unload_skipped {
-            let decider = decider_of(alloc, options, self)?;
-            unload_skipped(&decider, calls.as_mut_slice());
+        if !options.unload_skipped {
+            return Ok(calls);
         }
+        let decider = decider_of(alloc, options, self)?;
+        unload_skipped(&decider, calls.as_mut_slice());
         Ok(calls)
     }
 

@@ -1,5 +1,5 @@
 -- What the line of the first refused call says (for `judge_calls`).
-use Rattle.std.proofs.Common.{◌≡◌, ℕ, ◌<◌, List, true, false, length, get_or, refl, sym, ap, ◌∙◌, subst, Option, None, Some, inl, inr}
+use Rattle.std.proofs.Common.{◌≡◌, ℕ, ◌<◌, List, true, false, length, get_or, refl, sym, ap, ◌∙◌, None, Some, inl, inr}
 use Rattle.std.specs.Option.{is_some, option_and_then}
 use Rattle.std.proofs.lemmas.Bool.{cases_Bool, false≢true}
 use Rattle.std.proofs.lemmas.List.{get_or-map}
@@ -60,7 +60,7 @@ same-says d (Header k) = refl
 same-says d (Prefix p) = refl
 
 -- the place of the first refused call is one of the list
-pub refused_within : (d : OutputLoadDecider) (calls : List ReportCall) (i : ℕ) (x : ReportCall) → first_refused d calls ≡ Some i → i < length calls
+refused_within : (d : OutputLoadDecider) (calls : List ReportCall) (i : ℕ) (x : ReportCall) → first_refused d calls ≡ Some i → i < length calls
 refused_within d calls i x h = (position-Some (λ call. is_some (refusal_by d call)) calls i x h).0
 
 -- the call there says why
@@ -79,11 +79,11 @@ same-there options scene made i x within = elim (cases_Bool options.unload_skipp
 -- the scene's reporter accepts the calls that it gets, or refuses one
 module _ (options : Options) (scene : Scene) (calls : List ReportCall) (r : AreReadyCallsOf options scene calls) where
   pub ready_accepted : first_refused (decider_for options scene) calls ≡ None → IsSceneAccepted options scene
-  ready_accepted none = record { calls = r.made; of_scene = r.of_scene; accepted = sym r.isolated.1.1.1 ∙ none }
+  ready_accepted none = record { calls = r.made; of_scene = r.of_scene; accepted = sym r.isolated.3 ∙ none }
 
   pub ready_refused : (i n : ℕ) (x : ReportCall) (f : LineFault) → first_refused (decider_for options scene) calls ≡ Some i → n ≡ get_or scene.lines.items i 0 → x ≡ get_or calls i x → f ≡ fault_if_refused x → IsSceneRefused options scene (fault.Line n f)
   ready_refused i n x f first number there says =
-      let also : first_refused (decider_for options scene) r.made ≡ Some i = sym r.isolated.1.1.1 ∙ first in
+      let also : first_refused (decider_for options scene) r.made ≡ Some i = sym r.isolated.3 ∙ first in
       let within = refused_within (decider_for options scene) r.made i x also in
       let same : f ≡ fault_if_refused (get_or r.made i x) = says ∙ ap fault_if_refused there ∙ ap (λ (cs : List ReportCall). fault_if_refused (get_or cs i x)) r.ready ∙ same-there options scene r.made i x within in
       record {

@@ -1,6 +1,5 @@
 -- Calls of which output is left unread make the same report (for `Scene::calls`, `report_to`).
-use Rattle.std.proofs.Common.{◌≡◌, List, Bool, true, false, reverse, refl, ap, sym, ◌∙◌}
-use Rattle.report_text.specs.Texts.{Text}
+use Rattle.std.proofs.Common.{◌≡◌, List, true, false, refl, ◌∙◌}
 use Rattle.console_reporter.specs.Isolation.{IsIsolated}
 use Rattle.console_reporter.specs.Unread.{unread}
 use Rattle.console_reporter.specs.declared.imp.calls.ReportCall.{ReportCall}
@@ -11,19 +10,19 @@ use Rattle.report.specs.declared.words.Options.{Options}
 
 module _ (options : Options) (scene : Scene) where
   -- nothing is left unread
-  pub ready_whole : (calls : List ReportCall) → false ≡ options.unload_skipped → AreCallsOf scene calls → AreReadyCallsOf options scene calls
+  pub ready_whole : (calls : List ReportCall) → options.unload_skipped ≡ false → AreCallsOf scene calls → AreReadyCallsOf options scene calls
   ready_whole calls off of_scene = record {
     made = calls;
     of_scene = of_scene;
-    ready = rw (sym off) refl;
+    ready = rw off refl;
     isolated = (λ config is. refl, λ config is. refl, λ accepted. accepted, refl);
   }
 
   -- what is skipped is left unread
-  pub ready_unread : (made calls : List ReportCall) → true ≡ options.unload_skipped → AreCallsOf scene made → calls ≡ unread (decider_for options scene) made → IsIsolated (decider_for options scene) made calls
+  pub ready_unread : (made calls : List ReportCall) → options.unload_skipped ≡ true → AreCallsOf scene made → calls ≡ unread (decider_for options scene) made → IsIsolated (decider_for options scene) made calls
       → AreReadyCallsOf options scene calls
-  ready_unread made calls on of_scene left isolated = record { made = made; of_scene = of_scene; ready = left ∙ (rw (sym on) refl); isolated = isolated }
+  ready_unread made calls on of_scene left isolated = record { made = made; of_scene = of_scene; ready = left ∙ rw on refl; isolated = isolated }
 
   -- the report is that of the scene's calls
   pub ready_report : (calls : List ReportCall) (r : AreReadyCallsOf options scene calls) → report_of options scene calls ≡ report_of options scene r.made
-  ready_report calls r = r.isolated.1.0 (configuration_for options scene) refl
+  ready_report calls r = r.isolated.1 (configuration_for options scene) refl
