@@ -8,12 +8,14 @@ pub mod NonZero
 pub mod Numbers
 pub mod Options
 pub mod Pairs
+pub mod Refusals
 pub mod Reports
 pub mod Silence
 pub mod Tabs
 pub mod SpelledRuns
 pub mod Tellings
 pub mod Unescaped
+pub mod Unloads
 pub mod Utf8
 pub mod WordLists
 pub mod Zips

@@ -12,6 +12,7 @@ line_fault_text line.UnknownEvent = codes "unknown event"
 line_fault_text line.ConfigAfterEvent = codes "config after an event"
 line_fault_text line.WrongNumberOfFields = codes "wrong number of fields"
 line_fault_text line.RetriedSuccess = codes "a retried attempt succeeded"
+line_fault_text line.OutputNotLoaded = codes "output not loaded"
 line_fault_text (line.BadField n) = codes "bad field " ++ decimal n
 
 -- the line on standard error

@@ -23,5 +23,6 @@ pub mod States
 pub mod StressLines
 pub mod TestLines
 pub mod Texts
+pub mod Unloads
 pub mod Values
 pub mod Words

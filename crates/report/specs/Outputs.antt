@@ -21,10 +21,11 @@ use Rattle.report.specs.declared.reader.outputs.OutputForm.TheVariants as form
 abbrev pub output_form_word : OutputForm → List ℕ
 output_form_word form.Split = codes "split"
 output_form_word form.Combined = codes "comb"
+output_form_word form.Unloaded = codes "unloaded"
 output_form_word form.StartError = codes "start"
 
 abbrev pub output_form_in : List ℕ → Option OutputForm
-output_form_in t = of_word output_form_word (form.Split ∷ form.Combined ∷ form.StartError ∷ []) t
+output_form_in t = of_word output_form_word (form.Split ∷ form.Combined ∷ form.Unloaded ∷ form.StartError ∷ []) t
 
 -- the bytes of a stream, or `-`
 abbrev pub stream_in : List ℕ → Option (Option (List ℕ))
@@ -71,6 +72,10 @@ formed result form.Combined = do
   output ← field bytes_in
   none ← field absent_in
   after_streams result (streams.Combined output)
+formed result form.Unloaded = do
+  first ← field absent_in
+  second ← field absent_in
+  after_streams result streams.NotLoaded
 formed result form.StartError = do
   error ← field chain_in
   second ← field absent_in

@@ -17,7 +17,7 @@ use Rattle.console_reporter.specs.Report.{report}
 use Rattle.console_reporter.specs.declared.imp.builder.DisplayReporterBuilder.{DisplayReporterBuilder}
 use Rattle.console_reporter.specs.declared.imp.calls.ReportCall.{ReportCall}
 use Rattle.console_reporter.specs.declared.imp.faults.WriteEventError.{WriteEventError}
-use Rattle.console_reporter.specs.declared.imp.faults.WriteEventError.TheVariants.{RetriedSuccess, Io, Memory, Failed}
+use Rattle.console_reporter.specs.declared.imp.faults.WriteEventError.TheVariants.{RetriedSuccess, OutputNotLoaded, Io, Memory, Failed}
 use Rattle.report.specs.Scenes.{IsCallOf}
 use Rattle.report.specs.declared.fault.Fault.{Fault}
 use Rattle.report.specs.declared.fault.Fault.TheVariants.{WriteFailed, OutOfMemory}
@@ -62,6 +62,7 @@ report_of options scene calls = report (configuration_for options scene) (revers
 -- what the program tells where its report stopped
 abbrev pub fault_for : WriteEventError → Fault
 fault_for RetriedSuccess = WriteFailed
+fault_for OutputNotLoaded = WriteFailed
 fault_for Io = WriteFailed
 fault_for Memory = OutOfMemory
 fault_for Failed = WriteFailed
@@ -93,6 +94,7 @@ PrintsBeginning options scene before after =
 -- from old, the error ended the report of calls, of which a beginning was accepted, and left new
 abbrev pub Ends : {S : Type 0} → Meaning S → S → Text → WriteEventError → S → Type 0
 Ends m old text RetriedSuccess new = HasFront m old text new
+Ends m old text OutputNotLoaded new = HasFront m old text new
 Ends m old text Io new = Stops m old text Io new
 Ends m old text Memory new = Stops m old text Memory new
 Ends m old text Failed new = Stops m old text Failed new

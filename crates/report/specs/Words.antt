@@ -22,6 +22,8 @@ pub record Asked : Type 0 where
   pub show_counter : Bool
   -- the run was recorded, and is shown again
   pub is_replay : Bool
+  -- the output that the report does not show is left unread
+  pub unload_skipped : Bool
   -- from which status level on the lines of tests are shown
   pub status_level : StatusLevel
   -- the file that holds the scene
@@ -33,13 +35,14 @@ asked_of given file = record {
   should_colorize = given.color;
   show_counter = given.counter;
   is_replay = given.replay;
+  unload_skipped = given.unload;
   status_level = unwrap_or given.level status.Pass;
   file = file;
 }
 
 -- no option
 abbrev pub none_given : Given
-none_given = record { color = false; counter = false; replay = false; level = None }
+none_given = record { color = false; counter = false; replay = false; unload = false; level = None }
 
 -- these options and a flag, if it is one and was not there before
 abbrev pub with_flag : Given → Text → Option Given
@@ -47,7 +50,8 @@ with_flag given flag =
     if bytes_eq flag (codes "--color") && not given.color then Some (record given { color = true })
     else (if bytes_eq flag (codes "--counter") && not given.counter then Some (record given { counter = true })
     else (if bytes_eq flag (codes "--replay") && not given.replay then Some (record given { replay = true })
-    else None))
+    else (if bytes_eq flag (codes "--unload") && not given.unload then Some (record given { unload = true })
+    else None)))
 
 -- the status level of a word
 abbrev pub level_of : Text → Option StatusLevel
@@ -86,6 +90,7 @@ asked_for o = record {
   should_colorize = o.should_colorize;
   show_counter = o.show_counter;
   is_replay = o.is_replay;
+  unload_skipped = o.unload_skipped;
   status_level = o.status_level;
   file = o.file.now;
 }

@@ -23,6 +23,8 @@ pub enum LineFault {
     WrongNumberOfFields,
     /// It says that another attempt follows one that succeeded.
     RetriedSuccess,
+    /// The report needs output that it says was left unread.
+    OutputNotLoaded,
     /// This field, from 1 for the event's name, is not what its event takes there. It is the first such field.
     BadField(usize),
 }
@@ -37,6 +39,7 @@ impl fmt::Display for LineFault {
             LineFault::ConfigAfterEvent => f.write_str("config after an event"),
             LineFault::WrongNumberOfFields => f.write_str("wrong number of fields"),
             LineFault::RetriedSuccess => f.write_str("a retried attempt succeeded"),
+            LineFault::OutputNotLoaded => f.write_str("output not loaded"),
             LineFault::BadField(field) => write!(f, "bad field {field}"),
         }
     }

@@ -7,6 +7,7 @@
 mod fault;
 mod program;
 mod reader;
+mod reporter;
 mod scene;
 #[cfg(test)]
 mod tests;

@@ -3,25 +3,21 @@
 ghost use Rattle.std.specs.Prelude.{◌≡◌, ◌⊎◌, ℕ, List, None, Some, IfOk, IfErr, OnErr, OnOk};
 ghost use Rattle.report.specs.Split.{parted};
 ghost use Rattle.report.specs.Faults.{IsJudgeFault, status_of};
-ghost use Rattle.console_reporter.specs.Accepted.{first_refused};
-ghost use Rattle.report.specs.Judged.{IsJudged, IsJudgedFault, IsRefusedCall, IsSceneAccepted, IsSceneRefused, decider_for};
-ghost use Rattle.report.specs.Reports.{AcceptsReport, AreCallsOf, PrintsBeginning, PrintsReport, IsRefused, StopsReport, builder_for, fault_for, kind_for, progress_for};
+ghost use Rattle.console_reporter.specs.Accepted.{is_retried_success};
+ghost use Rattle.report.specs.Judged.{IsJudged, IsJudgedFault, IsSceneAccepted, IsSceneRefused, fault_if_refused};
+ghost use Rattle.report.specs.Reports.{AcceptsReport, PrintsBeginning, PrintsReport, IsRefused, StopsReport, fault_for};
 ghost use Rattle.report.specs.SceneTexts.{AllTell, IsRead, IsReadFault, event_lines, nothing_told, text_told, told};
 ghost use Rattle.report.specs.SpelledRuns.{BeginsRun, IsRejected, PrintsRun};
-ghost use Rattle.report.specs.declared.fault.Fault.{Fault};
+ghost use Rattle.report.specs.Unloads.{AreReadyCallsOf};
 
 use crate::fault::{Fault, LineFault};
 use crate::reader::read_scene;
+use crate::reporter::{builder_of, decider_of};
 use crate::scene::Scene;
 use crate::words::Options;
-use console_reporter::config::{DisplayConfig, ShowProgress};
-use console_reporter::imp::{
-    DisplayReporterBuilder, DisplayerKind, OutputLoadDecider, ReportCall, WriteEventError,
-    first_refused, run_report,
-};
+use console_reporter::imp::{ReportCall, WriteEventError, first_refused, run_report};
 use console_reporter::write_str::{TextBuffer, WriteStr};
-use run_model::config::{CompiledDefaultFilter, CompiledDefaultFilterSection};
-use run_model::name::ProfileName;
+use run_model::event::TestEventKind;
 use std::alloc::{AllocError, Global};
 use std::io::{ErrorKind, Read, Write};
 use std::mem::ManuallyDrop;
@@ -122,40 +118,40 @@ fn judge_calls(
     scene: &Scene,
     calls: &[ReportCall<'_>],
 ) -> Result<(), Fault<'static>>
-    ensures ok { OnOk result (first_refused (decider_for options.now scene.now) calls.now ≡ None) }
-    ensures err { IfErr result (IsRefusedCall options.now scene.now calls.now) }
+    requires { AreReadyCallsOf options.now scene.now calls.now }
+    ensures ok { OnOk result (IsSceneAccepted options.now scene.now) }
+    ensures err { IfErr result (IsSceneRefused options.now scene.now) }
 {
     let decider = decider_of(alloc, options, scene)?;
     match first_refused(&decider, calls) {
         None => Ok(()),
         Some(place) => Err(Fault::Line {
             line: scene.line_of(place),
-            fault: LineFault::RetriedSuccess,
+            fault: fault_if_refused(&calls[place]),
         }),
     }
 }
 
-// What decides which events the scene's reporter refuses. The reporter that is asked writes nothing.
-fn decider_of(
-    alloc: Global,
-    options: &Options<'_>,
-    scene: &Scene,
-) -> Result<OutputLoadDecider, Fault<'static>>
-    ensures ok { IfOk result (λ decider. decider ≡ decider_for options.now scene.now) }
-    ensures err { IfErr result (λ fault. fault ≡ Fault.OutOfMemory) }
+// What the line of a call says that is refused.
+fn fault_if_refused(call: &ReportCall<'_>) -> LineFault
+    ensures { result ≡ fault_if_refused call.now }
 {
-    let builder = builder_of(alloc, options, scene)?;
-    let mut unwritten = String::new(alloc);
-    let (is_terminal, is_ci) = (false, false);
-    let reporter = builder.build(
-        alloc,
-        &mut unwritten,
-        scene.config.use_unicode,
-        is_terminal,
-        is_ci,
-        scene.config.display_empty_outputs,
-    );
-    Ok(reporter.output_load_decider())
+    match call {
+        ReportCall::Event(event) if is_retried_success(&event.kind) => LineFault::RetriedSuccess,
+        _ => LineFault::OutputNotLoaded,
+    }
+}
+
+// Whether another attempt is said to follow one that succeeded.
+fn is_retried_success(event: &TestEventKind<'_>) -> bool
+    ensures { result ≡ is_retried_success event.now }
+{
+    match event {
+        TestEventKind::TestAttemptFailedWillRetry { run_status, .. } => {
+            run_status.result.is_success()
+        }
+        _ => false,
+    }
 }
 
 /// Writes the report of a scene to a device. On a fault a beginning of it was written.
@@ -198,7 +194,7 @@ fn write_calls<'c, W: Write>(
     calls: &'c [ReportCall<'c>],
     writer: W,
 ) -> (Result<(), Fault<'static>>, W)
-    requires { AreCallsOf scene.now calls.now }
+    requires { AreReadyCallsOf options.now scene.now calls.now }
     ensures ok { OnOk result.0 (PrintsReport options.now scene.now (W.contents writer) (W.contents result.1)) }
     ensures err { OnErr result.0 (PrintsBeginning options.now scene.now (W.contents writer) (W.contents result.1)) }
     ensures status { IfErr result.0 (λ fault. status_of fault ≡ 3) }
@@ -221,7 +217,7 @@ fn report_to<'c, W: WriteStr>(
     calls: &'c [ReportCall<'c>],
     writer: &mut W,
 ) -> Result<(), Fault<'static>>
-    requires { AreCallsOf scene.now calls.now }
+    requires { AreReadyCallsOf options.now scene.now calls.now }
     ensures ok { OnOk result (AcceptsReport W.meaning options.now scene.now writer.old writer.new) }
     ensures delivered { OnOk result (W.meaning.is_delivered writer.new) }
     ensures err { IfErr result (λ fault. IsRefused writer.old fault writer.new ⊎ StopsReport W.meaning options.now scene.now writer.old fault writer.new) }
@@ -244,66 +240,15 @@ fn report_to<'c, W: WriteStr>(
     }
 }
 
-// What the scene's reporter is built from.
-fn builder_of(
-    alloc: Global,
-    options: &Options<'_>,
-    scene: &Scene,
-) -> Result<DisplayReporterBuilder, Fault<'static>>
-    ensures ok { IfOk result (λ builder. builder ≡ builder_for options.now scene.now) }
-    ensures err { IfErr result (λ fault. fault ≡ Fault.OutOfMemory) }
-{
-    Ok(DisplayReporterBuilder {
-        mode: scene.config.mode,
-        default_filter: CompiledDefaultFilter {
-            profile: ProfileName::new(alloc, "default")?,
-            section: CompiledDefaultFilterSection::Profile,
-        },
-        display_config: DisplayConfig::with_overrides(
-            progress_for(options),
-            scene.config.no_capture,
-            options.status_level,
-            scene.config.final_status_level,
-        ),
-        run_count: scene.config.run_count,
-        success_output: scene.config.success_output,
-        failure_output: scene.config.failure_output,
-        should_colorize: options.should_colorize,
-        verbose: scene.config.verbose,
-        no_output_indent: scene.config.no_output_indent,
-        displayer_kind: kind_for(options),
-    })
-}
-
-// A counter, or nothing.
-fn progress_for(options: &Options<'_>) -> ShowProgress
-    ensures { result ≡ progress_for options.now }
-{
-    if options.show_counter {
-        ShowProgress::Counter
-    } else {
-        ShowProgress::None
-    }
-}
-
-// A recorded run, or one that goes on.
-fn kind_for(options: &Options<'_>) -> DisplayerKind
-    ensures { result ≡ kind_for options.now }
-{
-    if options.is_replay {
-        DisplayerKind::Replay
-    } else {
-        DisplayerKind::Live
-    }
-}
-
 // The program's fault where its report stopped. A scene that was judged has no event that is refused.
 fn fault_of(error: WriteEventError) -> Fault<'static>
     ensures { result ≡ fault_for error }
 {
     match error {
-        WriteEventError::RetriedSuccess | WriteEventError::Io | WriteEventError::Failed =>
-            Fault::WriteFailed,
+        WriteEventError::RetriedSuccess
+        | WriteEventError::OutputNotLoaded
+        | WriteEventError::Io
+        | WriteEventError::Failed => Fault::WriteFailed,
         WriteEventError::Memory => Fault::OutOfMemory,
     }
 }

@@ -1,6 +1,7 @@
 //! A run as a scene holds it, with names of its own.
 
 ghost use Rattle.std.specs.Prelude.{◌≡◌, IfOk, IfErr};
+ghost use Rattle.report.specs.Unloads.{AreReadyCallsOf};
 
 pub mod attempts;
 pub mod event;
@@ -13,8 +14,9 @@ pub mod stress_events;
 pub mod test_events;
 
 use crate::fault::Fault;
+use crate::reporter::decider_of;
 use crate::words::Options;
-use console_reporter::imp::ReportCall;
+use console_reporter::imp::{ReportCall, unload_skipped};
 use event::SceneEvent;
 use run_model::config::{NextestRunMode, TestOutputDisplay};
 use run_model::level::FinalStatusLevel;
@@ -93,12 +95,28 @@ impl Scene {
         }
     }
 
-    /// The calls that the scene makes of a reporter, in order. They borrow its names. No option changes them yet.
+    /// The calls that the scene makes of a reporter, in order. They borrow its names. Where the options ask for it, the output
+    /// that the reporter does not show is left unread, which changes neither its report nor what it refuses.
+    #[tactic(auto, using(crate::proofs::lemmas::Unloads::ready_whole, crate::proofs::lemmas::Unloads::ready_unread))]
     pub fn calls(
         &self,
         alloc: Global,
-        _options: &Options<'_>,
+        options: &Options<'_>,
     ) -> Result<Vec<ReportCall<'_>>, Fault<'static>>
+        ensures calls { IfOk result (λ calls. AreReadyCallsOf options.now self.now calls.items) }
+        ensures err { IfErr result (λ fault. fault ≡ Fault.OutOfMemory) }
+    {
+        let mut calls = self.whole_calls(alloc)?;
+        if !options.unload_skipped {
+            return Ok(calls);
+        }
+        let decider = decider_of(alloc, options, self)?;
+        unload_skipped(&decider, calls.as_mut_slice());
+        Ok(calls)
+    }
+
+    // The same with what the scene says of output.
+    fn whole_calls(&self, alloc: Global) -> Result<Vec<ReportCall<'_>>, Fault<'static>>
         ensures calls { IfOk result (λ calls. AllZip IsCallOf self.now.events.items calls.items) }
         ensures err { IfErr result (λ fault. fault ≡ Fault.OutOfMemory) }
     {

@@ -17,6 +17,7 @@ mod event_lines;
 mod info_lines;
 mod replay_lines;
 mod script_lines;
+mod unload;
 
 const RUN: &str = "run\t00000000-0000-4000-8000-000000000001\tdefault\t2\t1\t-";
 
@@ -29,6 +30,7 @@ const OPTIONS: Options<'static> = Options {
     should_colorize: false,
     show_counter: false,
     is_replay: false,
+    unload_skipped: false,
     status_level: StatusLevel::Pass,
     file: "FILE",
 };
@@ -479,6 +481,7 @@ fn takes_options_in_any_order(rt: HostRuntime) -> Result<(), Fail> {
     let all = Options {
         show_counter: true,
         is_replay: true,
+        unload_skipped: true,
         status_level: StatusLevel::Skip,
         ..IN_COLOUR
     };
@@ -499,12 +502,14 @@ fn takes_options_in_any_order(rt: HostRuntime) -> Result<(), Fail> {
                 "--color",
                 "--counter",
                 "--replay",
+                "--unload",
                 "FILE",
             ],
             all,
         ),
         (
             &[
+                "--unload",
                 "--replay",
                 "--counter",
                 "--color",
@@ -542,7 +547,7 @@ fn refuses_other_words(rt: HostRuntime) -> Result<(), Fail> {
         &["--level", "pass", "--level", "pass", "FILE"],
         &["--level=pass", "FILE"],
         &["--replay", "--replay", "FILE"],
-        &["--unload", "FILE"],
+        &["--unload", "--unload", "FILE"],
     ];
     for texts in lines {
         let args = words_of(rt.alloc(), texts)?;

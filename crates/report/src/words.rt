@@ -16,6 +16,8 @@ pub struct Options<'a> {
     pub show_counter: bool,
     /// Whether the run was recorded, and is shown again.
     pub is_replay: bool,
+    /// Whether the output that the report does not show is left unread.
+    pub unload_skipped: bool,
     /// From which status level on the lines of tests are shown.
     pub status_level: StatusLevel,
     /// The file that holds the scene.
@@ -57,6 +59,7 @@ struct Given {
     color: bool,
     counter: bool,
     replay: bool,
+    unload: bool,
     level: Option<StatusLevel>,
 }
 
@@ -76,6 +79,10 @@ impl Given {
             }),
             "--replay" if !self.replay => Some(Given {
                 replay: true,
+                ..self
+            }),
+            "--unload" if !self.unload => Some(Given {
+                unload: true,
                 ..self
             }),
             _ => None,
@@ -104,6 +111,7 @@ impl Given {
             should_colorize: self.color,
             show_counter: self.counter,
             is_replay: self.replay,
+            unload_skipped: self.unload,
             status_level: self.level.unwrap_or(StatusLevel::Pass),
             file,
         }

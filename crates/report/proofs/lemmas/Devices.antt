@@ -7,7 +7,7 @@ use Rattle.report_text.specs.declared.write_str.text_buffer.TextBuffer.{TextBuff
 use Rattle.report_text.proofs.lemmas.Deliveries.{accepted_delivers, begins_of, stopped_begins}
 use Rattle.console_reporter.specs.Outcomes.{HasFront}
 use Rattle.console_reporter.specs.declared.imp.faults.WriteEventError.{WriteEventError}
-use Rattle.console_reporter.specs.declared.imp.faults.WriteEventError.TheVariants.{RetriedSuccess, Io, Memory, Failed}
+use Rattle.console_reporter.specs.declared.imp.faults.WriteEventError.TheVariants.{RetriedSuccess, OutputNotLoaded, Io, Memory, Failed}
 use Rattle.report.specs.Reports.{BeginsReport, Ends, IsRefused, PrintsBeginning, StopsReport}
 use Rattle.report.specs.declared.fault.Fault.{Fault}
 use Rattle.report.specs.declared.scene.Scene.{Scene}
@@ -22,6 +22,7 @@ module _ {W : Type 0} (contents : W → Option (List ℕ)) (a b : TextBuffer W) 
 
   stopped_grows : (text : List ℕ) (error : WriteEventError) → Ends (buffer_meaning contents) a text error b → GrowsWithin old new text
   stopped_grows text RetriedSuccess h = front_begins text h
+  stopped_grows text OutputNotLoaded h = front_begins text h
   stopped_grows text Io h = stopped_begins contents a b old new text before after _ none h
   stopped_grows text Memory (inl h) = stopped_begins contents a b old new text before after _ none h
   stopped_grows text Memory (inr h) = front_begins text h

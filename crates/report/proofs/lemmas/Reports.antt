@@ -11,7 +11,7 @@ use Rattle.console_reporter.specs.Outcomes.{HasFront, Stops, StopsAfter}
 use Rattle.console_reporter.specs.Report.{text, text_at, past_at, report}
 use Rattle.console_reporter.specs.declared.imp.calls.ReportCall.{ReportCall}
 use Rattle.console_reporter.specs.declared.imp.faults.WriteEventError.{WriteEventError}
-use Rattle.console_reporter.specs.declared.imp.faults.WriteEventError.TheVariants.{RetriedSuccess, Io, Memory, Failed}
+use Rattle.console_reporter.specs.declared.imp.faults.WriteEventError.TheVariants.{RetriedSuccess, OutputNotLoaded, Io, Memory, Failed}
 use Rattle.report.specs.Reports.{Ends}
 use Rattle.console_reporter.proofs.lemmas.Calls.{past_more, past_all, text_past}
 
@@ -56,6 +56,7 @@ module _ {S : Type 0} {m : Meaning S} (laws : WriterLaws m) where
   -- what ended a text ended a longer one
   ends_longer : (a b : S) (t u : Text) (e : WriteEventError) → Ends m a t e b → Ends m a (t ++ u) e b
   ends_longer a b t u RetriedSuccess f = front_longer a b t u f
+  ends_longer a b t u OutputNotLoaded f = front_longer a b t u f
   ends_longer a b t u Io h = laws.stops_within a b t u _ h
   ends_longer a b t u Memory (inl h) = inl (laws.stops_within a b t u _ h)
   ends_longer a b t u Memory (inr f) = inr (front_longer a b t u f)
@@ -64,6 +65,7 @@ module _ {S : Type 0} {m : Meaning S} (laws : WriterLaws m) where
   -- what stopped a text ended the text with what was accepted before
   ends_joined : (a b c : S) (t u : Text) (e : WriteEventError) → m.accepts a t b → Stops m b u e c → Ends m a (t ++ u) e c
   ends_joined a b c t u RetriedSuccess p h = record { front = t; rest = u; whole = refl; accepted = subst (λ x. m.accepts a t x) (sym h) p }
+  ends_joined a b c t u OutputNotLoaded p h = record { front = t; rest = u; whole = refl; accepted = subst (λ x. m.accepts a t x) (sym h) p }
   ends_joined a b c t u Io p h = laws.goes_on a b c t u _ p h
   ends_joined a b c t u Memory p (inl h) = inl (laws.goes_on a b c t u _ p h)
   ends_joined a b c t u Memory p (inr f) = inr (record { front = t ++ f.front; rest = f.rest; whole = ap (λ x. t ++ x) f.whole ∙ sym (append_assoc t f.front f.rest); accepted = laws.joins a b c t f.front p f.accepted })

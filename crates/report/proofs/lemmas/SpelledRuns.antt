@@ -1,12 +1,11 @@
 -- A run that was spelled and printed (for `judge`, `report_scene`).
 use Rattle.std.proofs.Common.{◌≡◌, ℕ, List, Option, ◌⊎◌, inl, inr}
 use Rattle.std.specs.Prelude.{Result, Ok, Err, IfErr, OnOk}
-use Rattle.report.specs.Judged.{IsRefusedCall, IsRefusedText, IsSceneRefused}
-use Rattle.report.specs.Reports.{AreCallsOf, PrintsBeginning, PrintsReport}
+use Rattle.report.specs.Judged.{IsRefusedText, IsSceneRefused}
+use Rattle.report.specs.Reports.{PrintsBeginning, PrintsReport}
 use Rattle.report.specs.SceneTexts.{event_lines, nothing_told, text_told, told}
 use Rattle.report.specs.Split.{parted}
 use Rattle.report.specs.SpelledRuns.{BeginsRun, IsRejected, PrintsRun}
-use Rattle.console_reporter.specs.declared.imp.calls.ReportCall.{ReportCall}
 use Rattle.report.specs.declared.fault.Fault.{Fault}
 use Rattle.report.specs.declared.scene.Scene.{Scene}
 use Rattle.report.specs.declared.words.Options.{Options}
@@ -28,6 +27,5 @@ module _ (options : Options) (scene : Scene) (text : List ℕ) (old new : Option
 
 -- a scene that was spelled has a refused call
 pub refused_text : (options : Options) (scene : Scene) (text : List ℕ) → text_told text ≡ Ok (told scene) → scene.lines.items ≡ event_lines 1 nothing_told (parted 10 text)
-    → (calls : List ReportCall) → AreCallsOf scene calls → (fault : Fault) → IsRefusedCall options scene calls fault → IsRefusedText options text fault
-refused_text options scene text spelled lines calls of_scene fault refused =
-    record { scene = scene; spelled = spelled; lines = lines; refused = record { calls = calls; of_scene = of_scene; refused = refused } }
+    → (fault : Fault) → IsSceneRefused options scene fault → IsRefusedText options text fault
+refused_text options scene text spelled lines fault refused = record { scene = scene; spelled = spelled; lines = lines; refused = refused }

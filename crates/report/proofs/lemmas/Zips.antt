@@ -1,4 +1,4 @@
--- Two lists element by element (for `Scene::calls`).
+-- Two lists element by element (for `Scene::whole_calls`).
 use Rattle.std.proofs.Common.{◌≡◌, ℕ, ◌+◌, ◌<◌, List, [], ◌∷◌, ◌++◌, length, get_or, take, sym, ◌∙◌, ap}
 use Rattle.std.proofs.lemmas.List.{take_more}
 use Rattle.std.specs.List.{AllZip}

@@ -35,6 +35,8 @@ pub enum OutputForm {
     Split,
     /// Both streams together.
     Combined,
+    /// What was captured was left unread.
+    Unloaded,
     /// The process could not be started.
     StartError,
 }
@@ -46,6 +48,7 @@ pub fn read_output_form(field: &str) -> Option<OutputForm>
     match field {
         "split" => Some(OutputForm::Split),
         "comb" => Some(OutputForm::Combined),
+        "unloaded" => Some(OutputForm::Unloaded),
         "start" => Some(OutputForm::StartError),
         _ => None,
     }
@@ -72,6 +75,11 @@ pub fn read_output(
             fields.read(read_absent)?;
             let output = ChildOutputDescription::Combined { output };
             read_after_streams(alloc, fields, outcome, output)
+        }
+        OutputForm::Unloaded => {
+            fields.read(read_absent)?;
+            fields.read(read_absent)?;
+            read_after_streams(alloc, fields, outcome, ChildOutputDescription::NotLoaded)
         }
         OutputForm::StartError => {
             let error = fields.try_read(|field| read_chain(alloc, field))?;

@@ -93,7 +93,7 @@ fn reads_iterations_and_displays(rt: HostRuntime) -> Result<(), Fail> {
 fn reads_streams(rt: HostRuntime) -> Result<(), Fail> {
     let alloc = rt.alloc();
     assert_eq!(rt;
-        taken(alloc, DONE, 13, &["unloaded", "Comb", "start:"])?,
+        taken(alloc, DONE, 13, &["unload", "Comb", "start:"])?,
         None
     );
     assert_eq!(rt;

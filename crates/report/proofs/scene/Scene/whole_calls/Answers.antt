@@ -1,6 +1,6 @@
 use Rattle.report.proofs.lemmas.Zips.{AllZip-more}
 use Rattle.report.specs.Scenes.{IsCallOf}
-use Rattle.report.proofs.scene.Scene.calls.Goals as goal
+use Rattle.report.proofs.scene.Scene.whole_calls.Goals as goal
 
 pub loop-event-preserved : goal.loop-event-preserved
 loop-event-preserved c =
