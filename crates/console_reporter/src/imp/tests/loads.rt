@@ -18,6 +18,29 @@ use std::alloc::Global;
 use std::test::Fail;
 use unit_report::config::{DisplayConfig, ShowProgress};
 
+// The names of a test.
+#[derive(Drop)]
+struct Names {
+    binary_id: RustBinaryId,
+    test_name: TestCaseName,
+}
+
+impl Names {
+    fn new(alloc: Global) -> Result<Names, Fail> {
+        Ok(Names {
+            binary_id: RustBinaryId::new(alloc, "a")?,
+            test_name: TestCaseName::new(alloc, "t1")?,
+        })
+    }
+
+    fn instance(&self) -> TestInstanceId<'_> {
+        TestInstanceId {
+            binary_id: &self.binary_id,
+            test_name: &self.test_name,
+        }
+    }
+}
+
 // The decider of a reporter with this status level.
 fn decider(alloc: Global, status_level: StatusLevel) -> Result<OutputLoadDecider, Fail> {
     let mut builder = builder(alloc)?;
@@ -104,48 +127,97 @@ fn answer(
     )
 }
 
+// What a replay of a test of these attempts does.
+fn answer_of(
+    alloc: Global,
+    statuses: Vec<ExecuteStatus<LiveSpec>>,
+    success_output: TestOutputDisplay,
+    failure_output: TestOutputDisplay,
+) -> Result<Option<LoadOutput>, Fail> {
+    let names = Names::new(alloc)?;
+    let event = finished(names.instance(), statuses, success_output, failure_output)?;
+    answer(alloc, StatusLevel::Pass, &event)
+}
+
+// What a replay of an attempt that failed does at this level.
+fn answer_of_retry(alloc: Global, status_level: StatusLevel) -> Result<Option<LoadOutput>, Fail> {
+    let names = Names::new(alloc)?;
+    answer(alloc, status_level, &retried(names.instance()))
+}
+
+// One attempt that ended so.
+fn once(
+    alloc: Global,
+    outcome: ExecutionResultDescription,
+) -> Result<Vec<ExecuteStatus<LiveSpec>>, Fail> {
+    let mut statuses = Vec::new(alloc);
+    statuses.push(attempt(1, 1, outcome))?;
+    Ok(statuses)
+}
+
+// An attempt that failed, and one that ended so.
+fn twice(
+    alloc: Global,
+    outcome: ExecutionResultDescription,
+) -> Result<Vec<ExecuteStatus<LiveSpec>>, Fail> {
+    let mut statuses = Vec::new(alloc);
+    statuses.push(attempt(1, 2, failed()))?;
+    statuses.push(attempt(2, 2, outcome))?;
+    Ok(statuses)
+}
+
 #[test]
-fn output_is_loaded_where_it_is_shown(rt: HostRuntime) -> Result<(), Fail> {
-    let alloc = rt.alloc();
-    let binary_id = RustBinaryId::new(alloc, "a")?;
-    let test_name = TestCaseName::new(alloc, "t1")?;
-    let test = TestInstanceId {
-        binary_id: &binary_id,
-        test_name: &test_name,
-    };
+fn a_test_that_passed_goes_by_its_setting_of_successes(rt: HostRuntime) -> Result<(), Fail> {
     let (never, immediate) = (TestOutputDisplay::Never, TestOutputDisplay::Immediate);
-    let (at_end, twice) = (TestOutputDisplay::Final, TestOutputDisplay::ImmediateFinal);
-    let (load, skip) = (Some(LoadOutput::Load), Some(LoadOutput::Skip));
-    let pass = StatusLevel::Pass;
+    for (success, want) in [
+        (never, LoadOutput::Skip),
+        (TestOutputDisplay::Final, LoadOutput::Load),
+    ] {
+        let statuses = once(rt.alloc(), ExecutionResultDescription::Pass)?;
+        assert_eq!(rt;
+            answer_of(rt.alloc(), statuses, success, immediate)?,
+            Some(want)
+        );
+    }
+    let flaky = twice(rt.alloc(), ExecutionResultDescription::Pass)?;
+    assert_eq!(rt;
+        answer_of(rt.alloc(), flaky, never, immediate)?,
+        Some(LoadOutput::Skip)
+    );
+    Ok(())
+}
 
-    let mut once = Vec::new(alloc);
-    once.push(attempt(1, 1, ExecutionResultDescription::Pass))?;
-    let event = finished(test, once, never, immediate)?;
-    assert_eq!(rt; answer(alloc, pass, &event)?, skip);
+#[test]
+fn a_test_that_failed_goes_by_its_setting_of_failures(rt: HostRuntime) -> Result<(), Fail> {
+    let statuses = once(rt.alloc(), failed())?;
+    let (success, failure) = (TestOutputDisplay::Never, TestOutputDisplay::ImmediateFinal);
+    assert_eq!(rt;
+        answer_of(rt.alloc(), statuses, success, failure)?,
+        Some(LoadOutput::Load)
+    );
+    Ok(())
+}
 
-    let mut once = Vec::new(alloc);
-    once.push(attempt(1, 1, ExecutionResultDescription::Pass))?;
-    let event = finished(test, once, at_end, never)?;
-    assert_eq!(rt; answer(alloc, pass, &event)?, load);
+#[test]
+fn a_retry_goes_by_the_status_level(rt: HostRuntime) -> Result<(), Fail> {
+    for (level, want) in [
+        (StatusLevel::Fail, LoadOutput::Skip),
+        (StatusLevel::Retry, LoadOutput::Load),
+    ] {
+        assert_eq!(rt; answer_of_retry(rt.alloc(), level)?, Some(want));
+    }
+    Ok(())
+}
 
-    let mut flaky = Vec::new(alloc);
-    flaky.push(attempt(1, 2, failed()))?;
-    flaky.push(attempt(2, 2, ExecutionResultDescription::Pass))?;
-    let event = finished(test, flaky, never, immediate)?;
-    assert_eq!(rt; answer(alloc, pass, &event)?, skip);
-
-    let mut failing = Vec::new(alloc);
-    failing.push(attempt(1, 1, failed()))?;
-    let event = finished(test, failing, never, twice)?;
-    assert_eq!(rt; answer(alloc, pass, &event)?, load);
-
-    assert_eq!(rt; answer(alloc, StatusLevel::Fail, &retried(test))?, skip);
-    assert_eq!(rt; answer(alloc, StatusLevel::Retry, &retried(test))?, load);
-
-    let passed = script(alloc, LeakTimeoutResult::Pass)?;
-    assert_eq!(rt; answer(alloc, pass, &passed)?, skip);
-    let failed = script(alloc, LeakTimeoutResult::Fail)?;
-    assert_eq!(rt; answer(alloc, pass, &failed)?, load);
+#[test]
+fn a_setup_script_is_loaded_unless_it_succeeded(rt: HostRuntime) -> Result<(), Fail> {
+    for (counts_as, want) in [
+        (LeakTimeoutResult::Pass, LoadOutput::Skip),
+        (LeakTimeoutResult::Fail, LoadOutput::Load),
+    ] {
+        let event = script(rt.alloc(), counts_as)?;
+        assert_eq!(rt; answer(rt.alloc(), StatusLevel::Pass, &event)?, Some(want));
+    }
     Ok(())
 }
 
@@ -181,28 +253,25 @@ fn is_unread(status: &ExecuteStatus<LiveSpec>) -> bool {
     }
 }
 
+// How many attempts of a test with this display are left unread, of two that failed.
+fn unread_of(alloc: Global, failure_output: TestOutputDisplay) -> Result<usize, Fail> {
+    let names = Names::new(alloc)?;
+    let statuses = twice(alloc, failed())?;
+    let success_output = TestOutputDisplay::Never;
+    let event = finished(names.instance(), statuses, success_output, failure_output)?;
+    let mut calls = Vec::new(alloc);
+    calls.push(ReportCall::Event(event))?;
+    let decider = decider(alloc, StatusLevel::Pass)?;
+    unload_skipped(&decider, calls.as_mut_slice());
+    if first_refused(&decider, calls.as_slice()).is_some() {
+        return Err(Fail::from("it is accepted still"));
+    }
+    Ok(calls.first().map_or(0, |call| unread_attempts(call)))
+}
+
 #[test]
 fn every_attempt_of_a_skipped_test_is_left_unread(rt: HostRuntime) -> Result<(), Fail> {
-    let alloc = rt.alloc();
-    let binary_id = RustBinaryId::new(alloc, "a")?;
-    let test_name = TestCaseName::new(alloc, "t1")?;
-    let test = TestInstanceId {
-        binary_id: &binary_id,
-        test_name: &test_name,
-    };
-    let (never, at_end) = (TestOutputDisplay::Never, TestOutputDisplay::Final);
-    let decider = decider(alloc, StatusLevel::Pass)?;
-    for (display, unread) in [(never, 2usize), (at_end, 0)] {
-        let mut statuses = Vec::new(alloc);
-        statuses.push(attempt(1, 2, failed()))?;
-        statuses.push(attempt(2, 2, failed()))?;
-        let mut calls = Vec::new(alloc);
-        calls.push(ReportCall::Event(finished(test, statuses, never, display)?))?;
-        unload_skipped(&decider, calls.as_mut_slice());
-        for call in &calls {
-            assert_eq!(rt; unread_attempts(call), unread);
-        }
-        assert_eq!(rt; first_refused(&decider, calls.as_slice()), None);
-    }
+    assert_eq!(rt; unread_of(rt.alloc(), TestOutputDisplay::Never)?, 2);
+    assert_eq!(rt; unread_of(rt.alloc(), TestOutputDisplay::Final)?, 0);
     Ok(())
 }

@@ -1,12 +1,13 @@
 //! Events that a reporter refuses.
 
-use super::{attempt, builder, failed, printed, run_finished, test_at};
+use super::{STATS, attempt, builder, failed};
 use crate::imp::{
     OutputLoadDecider, ReportCall, RunFault, WriteEventError, first_refused, run_report,
 };
 use run_model::config::TestOutputDisplay;
 use run_model::event::{TestEvent, TestEventKind};
 use run_model::name::{RustBinaryId, TestCaseName, TestInstanceId};
+use run_model::stats::RunFinishedStats;
 use run_model::status::ExecutionResultDescription;
 use run_model::time::Nanos;
 use std::alloc::Global;
@@ -48,30 +49,38 @@ fn decider(alloc: Global) -> Result<OutputLoadDecider, Fail> {
     Ok(reporter.output_load_decider())
 }
 
+// The end of a run.
+fn ended<'a>() -> TestEvent<'a> {
+    TestEvent {
+        elapsed: Nanos(0),
+        kind: TestEventKind::RunFinished {
+            elapsed: Nanos(3_000_000_000),
+            run_stats: RunFinishedStats::Single(STATS),
+            outstanding_not_seen: None,
+        },
+    }
+}
+
+const END: &str = "------------
+     Summary [   3.000s] 3 tests run: 2 passed (1 flaky), 1 failed, 0 skipped
+";
+
 #[test]
 fn a_refused_event_is_as_if_it_had_not_come(rt: HostRuntime) -> Result<(), Fail> {
     let alloc = rt.alloc();
     let binary_id = RustBinaryId::new(alloc, "a")?;
-    let names = names(alloc)?;
-    let mut calls = Vec::new(alloc);
-    calls.push(test_at(alloc, 0, &binary_id, &names)?)?;
-    calls.push(run_finished())?;
-    let name = TestCaseName::new(alloc, "t2")?;
+    let name = TestCaseName::new(alloc, "t1")?;
     let refused = retried(&binary_id, &name, ExecutionResultDescription::Pass);
+    let end = ended();
     let mut report = String::new(alloc);
     let mut reporter = builder(alloc)?.build(alloc, &mut report, false, false, false, false);
-    for call in &calls {
-        assert_eq!(rt;
-            reporter.write_event(&refused),
-            Err(WriteEventError::RetriedSuccess)
-        );
-        let ReportCall::Event(event) = call else {
-            return Err(Fail::from("it is an event"));
-        };
-        reporter.write_event(event)?;
+    for _ in 0..2 {
+        let outcome = reporter.write_event(&refused);
+        assert_eq!(rt; outcome, Err(WriteEventError::RetriedSuccess));
+        reporter.write_event(&end)?;
     }
     drop(reporter);
-    assert_eq!(rt; report.as_str(), printed(alloc, calls.as_slice())?.as_str());
+    assert_eq!(rt; report.as_str(), format!(in alloc; "{END}{END}")?.as_str());
     Ok(())
 }
 
