@@ -102,6 +102,25 @@ fn refuses_what_lacks_needed_output(rt: HostRuntime) -> Result<(), Fail> {
 }
 
 #[test]
+fn goes_by_the_settings_without_capture(rt: HostRuntime) -> Result<(), Fail> {
+    let alloc = rt.alloc();
+    let test = "config\tnocapture\t1\ndone\t-\ta\tt1\timmediate\timmediate\tpass\t-\t1";
+    let failed = format!(in alloc; "{test}\texec\t5000000\t0\t{UNREAD}\n")?;
+    assert_eq!(rt;
+        fault_of(alloc, &OPTIONS, failed.as_bytes())?.as_str(),
+        "report: line 2: output not loaded"
+    );
+    let loaded = format!(in alloc; "{test}\tpass\t5000000\t0\t{LOADED}\n")?;
+    let unread = format!(in alloc; "{test}\tpass\t5000000\t0\t{UNREAD}\n")?;
+    let whole = report_of(alloc, &OPTIONS, loaded.as_bytes())?;
+    assert_eq!(rt;
+        report_of(alloc, &OPTIONS, unread.as_bytes())?.as_slice(),
+        whole.as_slice()
+    );
+    Ok(())
+}
+
+#[test]
 fn prints_needed_output_with_the_option(rt: HostRuntime) -> Result<(), Fail> {
     let alloc = rt.alloc();
     for event in NEEDED {
