@@ -4,21 +4,15 @@
 //! scene was accepted.
 #![tactic(auto)]
 
-mod fault;
-mod program;
-mod reader;
-mod reporter;
-mod scene;
 #[cfg(test)]
 mod tests;
-mod words;
 
-use fault::Fault;
-use program::report_scene;
+use scenes::fault::Fault;
+use scenes::program::report_scene;
+use scenes::words::words;
 use std::fs::File;
 use std::process::ExitCode;
 use std::{env, io};
-use words::words;
 
 fn main(rt: HostRuntime) -> ExitCode {
     let status = match command_line(&rt) {

@@ -1,12 +1,12 @@
 //! The program over scenes and writers in memory.
 
-use crate::fault::Fault;
-use crate::program::{judge, write_report};
-use crate::words::{Options, words};
 use bstr::ByteSlice;
 use console_reporter::imp::ReportCall;
 use run_model::event::TestEvent;
 use run_model::level::StatusLevel;
+use scenes::fault::Fault;
+use scenes::program::{judge, write_report};
+use scenes::words::{Options, words};
 use std::alloc::Global;
 use std::io;
 use std::io::{ErrorKind, Read, Write};

@@ -1,11 +1,11 @@
 //! What a scene says of the attempts of a finished test.
 
 use super::{DONE, OPTIONS, line_of, refused, taken};
-use crate::program::judge;
-use crate::scene::event::SceneEvent;
-use crate::scene::test_events::TestFinish;
 use run_model::output::{ChildExecutionOutputDescription, ChildOutputDescription};
 use run_model::status::{ExecutionDescription, RetryData};
+use scenes::program::judge;
+use scenes::scene::event::SceneEvent;
+use scenes::scene::test_events::TestFinish;
 use std::test::Fail;
 
 const COMBINED: &str =

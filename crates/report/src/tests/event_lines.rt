@@ -1,10 +1,10 @@
 //! What a scene says of tests that start, are slow, retried or skipped, and of a run that is cancelled or paused.
 
 use super::{OPTIONS, event_of, line_of, refused, taken};
-use crate::program::{judge, report_scene};
 use run_model::event::TestEventKind;
 use run_model::level::CancelReason;
 use run_model::status::RetryData;
+use scenes::program::{judge, report_scene};
 use std::test::Fail;
 
 const START: &str = "start\t-\ta\tt1\t-\tcargo\\,nextest";

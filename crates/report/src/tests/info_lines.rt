@@ -1,11 +1,11 @@
 //! What a scene says of what units are doing: the beginning, each answer, and the end.
 
 use super::{OPTIONS, event_of, line_of, refused, report_of, taken};
-use crate::program::judge;
 use run_model::event::TestEventKind;
 use run_model::info::{InfoResponse, UnitState, UnitTerminateMethod, UnitTerminateReason};
 use run_model::status::RetryData;
 use run_model::time::Nanos;
+use scenes::program::judge;
 use std::alloc::Global;
 use std::test::Fail;
 

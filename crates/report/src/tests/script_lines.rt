@@ -1,9 +1,9 @@
 //! What a scene says of setup scripts, of stress runs, of the state on request, and of tests that were not seen.
 
 use super::{OPTIONS, event_of, line_of, refused, report_of, taken};
-use crate::program::judge;
 use run_model::event::TestEventKind;
 use run_model::time::Nanos;
+use scenes::program::judge;
 use std::test::Fail;
 
 const SETUP: &str = "setup\t-\t0\t2\tdb\tmake-db\t--port\\,80";

@@ -1,11 +1,11 @@
 //! Output that was left unread, and the option that leaves unread what the report does not show.
 
 use super::{BEGINNING, OPTIONS, RUN, SUMMARY, TWO_TESTS, event_of, refused, report_of, taken};
-use crate::program::{judge, report_scene};
-use crate::words::Options;
 use run_model::event::TestEventKind;
 use run_model::level::StatusLevel;
 use run_model::output::{ChildExecutionOutputDescription, ChildOutputDescription};
+use scenes::program::{judge, report_scene};
+use scenes::words::Options;
 use std::alloc::Global;
 use std::test::Fail;
 

@@ -1,0 +1,28 @@
+-- Calls of which output is left unread make the same report (for `Scene::calls`, `report_to`).
+use Rattle.std.proofs.Common.{◌≡◌, List, true, false, refl, ◌∙◌}
+use Rattle.console_reporter.specs.Isolation.{IsIsolated}
+use Rattle.console_reporter.specs.Unread.{unread}
+use Rattle.console_reporter.specs.declared.imp.calls.ReportCall.{ReportCall}
+use Rattle.scenes.specs.Reports.{AreCallsOf, configuration_for, report_of}
+use Rattle.scenes.specs.Unloads.{AreReadyCallsOf, decider_for}
+use Rattle.scenes.specs.declared.scene.Scene.{Scene}
+use Rattle.scenes.specs.declared.words.Options.{Options}
+
+module _ (options : Options) (scene : Scene) where
+  -- nothing is left unread
+  pub ready_whole : (calls : List ReportCall) → options.unload_skipped ≡ false → AreCallsOf scene calls → AreReadyCallsOf options scene calls
+  ready_whole calls off of_scene = record {
+    made = calls;
+    of_scene = of_scene;
+    ready = rw off refl;
+    isolated = (λ config is. refl, λ config is. refl, λ accepted. accepted, refl);
+  }
+
+  -- what is skipped is left unread
+  pub ready_unread : (made calls : List ReportCall) → options.unload_skipped ≡ true → AreCallsOf scene made → calls ≡ unread (decider_for options scene) made → IsIsolated (decider_for options scene) made calls
+      → AreReadyCallsOf options scene calls
+  ready_unread made calls on of_scene left isolated = record { made = made; of_scene = of_scene; ready = left ∙ rw on refl; isolated = isolated }
+
+  -- the report is that of the scene's calls
+  pub ready_report : (calls : List ReportCall) (r : AreReadyCallsOf options scene calls) → report_of options scene calls ≡ report_of options scene r.made
+  ready_report calls r = r.isolated.1 (configuration_for options scene) refl

@@ -1,0 +1,75 @@
+-- Scenes that are judged: each line by itself, and then whether the scene's reporter would refuse an event.
+use Rattle.std.specs.Prelude.{◌≡◌, ◌⊎◌, ℕ, List, get_or, if◌then◌else◌, Option, None, Some, Result, Ok, Err, ⊤}
+use Rattle.std.specs.Option.{option_and_then}
+use Rattle.console_reporter.specs.Accepted.{first_refused, is_retried_success, refusal_at_by}
+use Rattle.console_reporter.specs.declared.imp.calls.ReportCall.{ReportCall}
+use Rattle.console_reporter.specs.declared.imp.calls.ReportCall.TheVariants.{Event, Header, Prefix}
+use Rattle.console_reporter.specs.declared.imp.faults.WriteEventError.{WriteEventError}
+use Rattle.console_reporter.specs.declared.imp.faults.WriteEventError.TheVariants.{RetriedSuccess, OutputNotLoaded, Io, Memory, Failed}
+use Rattle.scenes.specs.Reports.{AreCallsOf}
+use Rattle.scenes.specs.SceneTexts.{IsRead, IsReadFault, event_lines, nothing_told, text_told, told}
+use Rattle.scenes.specs.Split.{parted}
+use Rattle.scenes.specs.Unloads.{decider_for}
+use Rattle.scenes.specs.declared.fault.Fault.{Fault}
+use Rattle.scenes.specs.declared.fault.Fault.TheVariants as fault
+use Rattle.scenes.specs.declared.fault.LineFault.{LineFault}
+use Rattle.scenes.specs.declared.fault.LineFault.TheVariants as line
+use Rattle.scenes.specs.declared.scene.Scene.{Scene}
+use Rattle.scenes.specs.declared.words.Options.{Options}
+
+-- no call of the scene is refused
+pub record IsSceneAccepted (options : Options) (scene : Scene) : Type 0 where
+  pub calls : List ReportCall
+  pub of_scene : AreCallsOf scene calls
+  pub accepted : first_refused (decider_for options scene) calls ≡ None
+
+-- what the line of a call says that is refused so
+abbrev pub line_fault_for : WriteEventError → Option LineFault
+line_fault_for RetriedSuccess = Some line.RetriedSuccess
+line_fault_for OutputNotLoaded = Some line.OutputNotLoaded
+line_fault_for Io = None
+line_fault_for Memory = None
+line_fault_for Failed = None
+
+-- the same by the call alone
+abbrev pub fault_if_refused : ReportCall → LineFault
+fault_if_refused (Event e) = if is_retried_success e.kind then line.RetriedSuccess else line.OutputNotLoaded
+fault_if_refused (Header h) = line.OutputNotLoaded
+fault_if_refused (Prefix p) = line.OutputNotLoaded
+
+-- the line is that of the first call that is refused, and it says why
+pub record IsRefusedLine (options : Options) (scene : Scene) (calls : List ReportCall) (n : ℕ) (f : LineFault) : Type 0 where
+  pub place : ℕ
+  pub refused : first_refused (decider_for options scene) calls ≡ Some place
+  pub number : n ≡ get_or scene.lines.items place 0
+  pub says : option_and_then line_fault_for (refusal_at_by (decider_for options scene) calls place) ≡ Some f
+
+-- the fault is that the first refused call has, unless memory was refused
+abbrev pub IsRefusedCall : Options → Scene → List ReportCall → Fault → Type 0
+IsRefusedCall options scene calls fault.Usage = ⊥
+IsRefusedCall options scene calls (fault.CannotRead file) = ⊥
+IsRefusedCall options scene calls (fault.Line n f) = IsRefusedLine options scene calls n f
+IsRefusedCall options scene calls fault.WriteFailed = ⊥
+IsRefusedCall options scene calls fault.OutOfMemory = ⊤
+
+-- the same of the scene's calls
+pub record IsSceneRefused (options : Options) (scene : Scene) (fault : Fault) : Type 0 where
+  pub calls : List ReportCall
+  pub of_scene : AreCallsOf scene calls
+  pub refused : IsRefusedCall options scene calls fault
+
+-- the text spells a scene that has a refused call, and the fault is that call's
+pub record IsRefusedText (options : Options) (text : List ℕ) (fault : Fault) : Type 0 where
+  pub scene : Scene
+  pub spelled : text_told text ≡ Ok (told scene)
+  pub lines : scene.lines.items ≡ event_lines 1 nothing_told (parted 10 text)
+  pub refused : IsSceneRefused options scene fault
+
+-- what was returned is what the text tells; or the file cannot be read, a call is refused, or memory was
+abbrev pub IsJudged : Options → Result Scene Fault → List ℕ → Type 0
+IsJudged options (Ok scene) text = IsRead (Ok scene) (text_told text)
+IsJudged options (Err fault) text = IsRead (Err fault) (text_told text) ⊎ IsRefusedText options text fault
+
+-- the fault is the first one of the text, or that of a refused call; or the file cannot be read, or memory was refused
+abbrev pub IsJudgedFault : Options → List ℕ → Fault → Type 0
+IsJudgedFault options text fault = IsReadFault text fault ⊎ IsRefusedText options text fault

@@ -1,0 +1,26 @@
+-- The calls that a scene's reporter gets: those of its events, where it is asked for with the output left unread that no report
+-- shows.
+use Rattle.std.specs.Prelude.{◌≡◌, List, if◌then◌else◌}
+use Rattle.console_reporter.specs.Accepted.{decider_of}
+use Rattle.console_reporter.specs.Isolation.{IsIsolated}
+use Rattle.console_reporter.specs.Unread.{unread}
+use Rattle.console_reporter.specs.declared.imp.calls.ReportCall.{ReportCall}
+use Rattle.console_reporter.specs.declared.imp.decider.OutputLoadDecider.{OutputLoadDecider}
+use Rattle.scenes.specs.Reports.{AreCallsOf, configuration_for}
+use Rattle.scenes.specs.declared.scene.Scene.{Scene}
+use Rattle.scenes.specs.declared.words.Options.{Options}
+
+-- what the scene's reporter decides by
+abbrev pub decider_for : Options → Scene → OutputLoadDecider
+decider_for options scene = decider_of (configuration_for options scene)
+
+-- the calls of the scene, or the same with the output left unread that the decider skips
+abbrev pub unloaded_for : Options → Scene → List ReportCall → List ReportCall
+unloaded_for options scene made = if options.unload_skipped then unread (decider_for options scene) made else made
+
+-- the calls are those, and so they have the report of the scene's calls, and the first that is refused is the same
+pub record AreReadyCallsOf (options : Options) (scene : Scene) (calls : List ReportCall) : Type 0 where
+  pub made : List ReportCall
+  pub of_scene : AreCallsOf scene made
+  pub ready : calls ≡ unloaded_for options scene made
+  pub isolated : IsIsolated (decider_for options scene) made calls

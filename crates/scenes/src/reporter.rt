@@ -1,0 +1,92 @@
+//! The reporter of a scene: what it is built from, and what it decides by.
+
+ghost use Rattle.std.specs.Prelude.{◌≡◌, IfOk, IfErr};
+ghost use Rattle.scenes.specs.Reports.{builder_for, kind_for, progress_for};
+ghost use Rattle.scenes.specs.Unloads.{decider_for};
+ghost use Rattle.scenes.specs.declared.fault.Fault.{Fault};
+
+use crate::fault::Fault;
+use crate::scene::Scene;
+use crate::words::Options;
+use console_reporter::config::{DisplayConfig, ShowProgress};
+use console_reporter::imp::{DisplayReporterBuilder, DisplayerKind, OutputLoadDecider};
+use run_model::config::{CompiledDefaultFilter, CompiledDefaultFilterSection};
+use run_model::name::ProfileName;
+use std::alloc::Global;
+
+/// What decides which output the scene's reporter needs and which events it refuses. The reporter that is asked writes
+/// nothing.
+pub fn decider_of(
+    alloc: Global,
+    options: &Options<'_>,
+    scene: &Scene,
+) -> Result<OutputLoadDecider, Fault<'static>>
+    ensures ok { IfOk result (λ decider. decider ≡ decider_for options.now scene.now) }
+    ensures err { IfErr result (λ fault. fault ≡ Fault.OutOfMemory) }
+{
+    let builder = builder_of(alloc, options, scene)?;
+    let mut unwritten = String::new(alloc);
+    let (is_terminal, is_ci) = (false, false);
+    let reporter = builder.build(
+        alloc,
+        &mut unwritten,
+        scene.config.use_unicode,
+        is_terminal,
+        is_ci,
+        scene.config.display_empty_outputs,
+    );
+    Ok(reporter.output_load_decider())
+}
+
+/// What the scene's reporter is built from.
+pub fn builder_of(
+    alloc: Global,
+    options: &Options<'_>,
+    scene: &Scene,
+) -> Result<DisplayReporterBuilder, Fault<'static>>
+    ensures ok { IfOk result (λ builder. builder ≡ builder_for options.now scene.now) }
+    ensures err { IfErr result (λ fault. fault ≡ Fault.OutOfMemory) }
+{
+    Ok(DisplayReporterBuilder {
+        mode: scene.config.mode,
+        default_filter: CompiledDefaultFilter {
+            profile: ProfileName::new(alloc, "default")?,
+            section: CompiledDefaultFilterSection::Profile,
+        },
+        display_config: DisplayConfig::with_overrides(
+            progress_for(options),
+            scene.config.no_capture,
+            options.status_level,
+            scene.config.final_status_level,
+        ),
+        run_count: scene.config.run_count,
+        success_output: scene.config.success_output,
+        failure_output: scene.config.failure_output,
+        should_colorize: options.should_colorize,
+        verbose: scene.config.verbose,
+        no_output_indent: scene.config.no_output_indent,
+        displayer_kind: kind_for(options),
+    })
+}
+
+// A counter, or nothing.
+fn progress_for(options: &Options<'_>) -> ShowProgress
+    ensures { result ≡ progress_for options.now }
+{
+    if options.show_counter {
+        ShowProgress::Counter
+    } else {
+        ShowProgress::None
+    }
+}
+
+// A recorded run, or one that goes on.
+fn kind_for(options: &Options<'_>) -> DisplayerKind
+    ensures { result ≡ kind_for options.now }
+{
+    if options.is_replay {
+        DisplayerKind::Replay
+    } else {
+        DisplayerKind::Live
+    }
+}
