@@ -15,8 +15,6 @@ mod final_output;
 mod kept;
 mod loaded_output;
 mod reporter;
-#[cfg(test)]
-mod tests;
 mod topics;
 
 pub use builder::DisplayReporterBuilder;

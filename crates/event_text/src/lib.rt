@@ -22,5 +22,3 @@ pub mod test_retry;
 pub mod test_skipped;
 pub mod test_slow;
 pub mod test_started;
-#[cfg(test)]
-mod testing;

@@ -9,8 +9,6 @@ use run_model::status::{
     ExecutionResultDescription, FailureDescription, LeakTimeoutResult, SlowTimeoutResult,
 };
 
-#[cfg(test)]
-mod tests;
 
 /// A word in two pieces, of which the second may be empty.
 #[derive(Clone, Copy, Debug)]

@@ -23,8 +23,6 @@ use run_model::time::Nanos;
 use std::alloc::Global;
 use unit_report::formatters::DisplayBracketedDuration;
 
-#[cfg(test)]
-mod tests;
 
 /// Where the line of a finished test stands.
 #[derive(Clone, Copy, Debug, PartialEq, Eq)]

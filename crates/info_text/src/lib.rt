@@ -4,8 +4,6 @@
 //! in it what the unit is doing. The other texts of a run stand in `run_text`, those of tests in `event_text`.
 #![tactic(auto)]
 
-#[cfg(test)]
-mod fixtures;
 pub mod response;
 pub mod seconds;
 pub mod start;

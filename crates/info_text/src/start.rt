@@ -13,8 +13,6 @@ use run_model::stats::RunStats;
 use run_model::time::Nanos;
 use run_text::input::failure_style;
 
-#[cfg(test)]
-mod tests;
 
 /// Writes that so many units are asked, which stand for those that run, with the counts of the run.
 #[tactic(auto, unfolding(crate::specs::Starts::info_started_text))]

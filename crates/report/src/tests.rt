@@ -14,6 +14,8 @@ use std::test::Fail;
 
 mod attempts;
 mod event_lines;
+mod faults;
+mod growths;
 mod info_lines;
 mod replay_lines;
 mod script_lines;

@@ -18,8 +18,6 @@ ghost use Rattle.report_text.specs.Writer.{Puts};
 ghost use Rattle.report_text.specs.declared.escapes.Mode.TheVariants.{Text};
 ghost use Rattle.report_text.specs.declared.escapes.State.TheVariants.{Parameters, Intermediates, Command, Short};
 
-#[cfg(test)]
-mod tests;
 
 use crate::write_str::{WriteFault, WriteStr};
 use memchr::memchr;

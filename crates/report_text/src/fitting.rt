@@ -14,8 +14,6 @@ ghost use Rattle.report_text.specs.Writer.{Puts};
 mod column_counter;
 mod fitted;
 mod standing;
-#[cfg(test)]
-mod tests;
 
 use crate::write_str::{WriteFault, WriteStr};
 use column_counter::ColumnCounter;

@@ -15,8 +15,6 @@ pub mod quoting;
 pub mod repeated;
 pub mod run_id;
 pub mod script;
-#[cfg(test)]
-mod tests;
 pub mod theme;
 
 pub use crate::style::RESET_COLOR;

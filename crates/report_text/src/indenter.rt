@@ -12,8 +12,6 @@ use std::fmt;
 use std::fmt::{Formatter, Write};
 
 mod indentation;
-#[cfg(test)]
-mod tests;
 
 pub use indentation::Indented;
 

@@ -9,8 +9,6 @@ ghost use Rattle.report_text.specs.Writer.{Puts};
 
 mod gathered_pieces;
 mod piece_buffer;
-#[cfg(test)]
-mod tests;
 
 use crate::end_line::EndLine;
 use crate::escapes::{ESCAPE, Mode, advance, sequence_len};

@@ -6,8 +6,6 @@ ghost use Rattle.run_model.specs.Stats.{has_failures, failure_kind, final_stats_
 use crate::level::CancelReason;
 use crate::stress::StressIndex;
 
-#[cfg(test)]
-mod tests;
 
 /// The counts of a run so far.
 #[derive(Clone, Copy, Debug, PartialEq, Eq)]

@@ -14,8 +14,6 @@ use crate::time::Nanos;
 use std::alloc::Global;
 use std::marker::Model;
 
-#[cfg(test)]
-mod tests;
 
 /// Which attempt of a test this is.
 #[derive(Clone, Copy, Debug, PartialEq, Eq)]

@@ -11,8 +11,6 @@ use crate::time::Nanos;
 use std::cmp::Ordering;
 use std::num::NonZeroU32;
 
-#[cfg(test)]
-mod tests;
 
 /// Which iteration of a stress run it is.
 ///

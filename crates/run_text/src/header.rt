@@ -11,8 +11,6 @@ use report_text::style::{Styles, write_plain};
 use report_text::write_str::{WriteFault, WriteStr, write_strs};
 use run_model::replay::ReplayHeader;
 
-#[cfg(test)]
-mod tests;
 
 /// Writes what a replay says before it.
 ///

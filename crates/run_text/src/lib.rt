@@ -17,5 +17,3 @@ pub mod setup_script;
 pub mod start;
 pub mod stress;
 pub mod summary;
-#[cfg(test)]
-mod testing;

@@ -20,8 +20,6 @@ use run_model::time::Nanos;
 use std::num::NonZeroU32;
 use unit_report::formatters::DisplayBracketedDuration;
 
-#[cfg(test)]
-mod tests;
 
 /// Writes the end of a run before its entries: how long it took and its counts.
 #[tactic(auto, unfolding(crate::specs::Summaries::run_finished_text))]

@@ -8,6 +8,6 @@
 pub mod fault;
 pub mod program;
 mod reader;
-mod reporter;
+pub mod reporter;
 pub mod scene;
 pub mod words;

@@ -2,8 +2,6 @@
 
 mod durations;
 mod skip_counts;
-#[cfg(test)]
-mod tests;
 mod unit_kind;
 mod warnings;
 

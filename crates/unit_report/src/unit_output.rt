@@ -7,8 +7,6 @@ mod header;
 mod highlighted_lines;
 mod overrides;
 mod reporter;
-#[cfg(test)]
-mod tests;
 
 pub use error_chain::write_error_chain;
 pub use fmt_style::{FmtPrefix, FmtSuffix};

@@ -7,8 +7,6 @@ ghost use Rattle.std.specs.Prelude.{◌≡◌, ℕ, ◌+◌, ◌-◌, ◌≤◌,
 ghost use Rattle.std.specs.Bool.{OnTrue};
 ghost use Rattle.std.specs.Io.KnownBytes.{Appends, Keeps};
 
-#[cfg(test)]
-mod tests;
 
 use super::{WriteFault, WriteStr};
 use std::alloc::{AllocError, Global};

@@ -1,0 +1,5 @@
+//! The responses of units that are asked what they do.
+
+mod response;
+mod start;
+mod state;

@@ -1,0 +1,149 @@
+//! Reports whose memory may be refused. With ample memory each is whole. `scripts/faults` runs these tests once for each growth,
+//! which is refused then: a test answers that, and panics where the text is no beginning of its report.
+
+use super::faults::{ASKED, CANCELLED, OF_ASKED, OF_CANCELLED, run_to};
+use super::{OPTIONS, TWO_TESTS};
+use console_reporter::imp::{ReportCall, RunFault, WriteEventError};
+use report_text::write_str::TextBuffer;
+use scenes::fault::Fault;
+use scenes::program::{judge, write_report};
+use std::io;
+use std::io::{ErrorKind, Write};
+use std::test::Fail;
+
+const OF_TWO_TESTS: &str = "------------
+ Nextest run ID 00000000-0000-4000-8000-000000000001 with nextest profile: default
+    Starting 2 tests across 1 binary
+        PASS [   0.005s] alpha t1
+        FAIL [   1.500s] alpha mod::t2
+------------
+     Summary [   1.520s] 2 tests run: 1 passed, 1 failed, 0 skipped
+        FAIL [   1.500s] alpha mod::t2
+";
+
+// Scenes and their reports.
+const REPORTS: [(&str, &str); 3] = [
+    (TWO_TESTS, OF_TWO_TESTS),
+    (CANCELLED, OF_CANCELLED),
+    (ASKED, OF_ASKED),
+];
+
+/// A device that takes no memory: it holds what it took.
+#[derive(Drop)]
+struct FixedDevice {
+    taken: [u8; 600],
+    len: usize,
+}
+
+impl FixedDevice {
+    fn new() -> FixedDevice {
+        FixedDevice {
+            taken: [0; 600],
+            len: 0,
+        }
+    }
+
+    fn taken(&self) -> &[u8] {
+        self.taken.get(..self.len).unwrap_or(&[])
+    }
+}
+
+impl Write for FixedDevice {
+    fn write(&mut self, buf: &[u8]) -> io::Result<usize> {
+        for byte in buf {
+            let Some(place) = self.taken.get_mut(self.len) else {
+                return Err(io::Error::from(ErrorKind::Other));
+            };
+            *place = *byte;
+            self.len += 1;
+        }
+        Ok(buf.len())
+    }
+
+    fn flush(&mut self) -> io::Result<()> {
+        Ok(())
+    }
+}
+
+// Whether a run answered so leaves this text: all of its report, or a beginning where memory was refused.
+fn leaves(outcome: &Result<(), RunFault>, text: &[u8], whole: &str) -> bool {
+    match outcome {
+        Ok(()) => text == whole.as_bytes(),
+        Err(fault) => {
+            fault.fault == WriteEventError::Memory && whole.as_bytes().starts_with(text)
+        }
+    }
+}
+
+#[test]
+fn a_text_that_grows(rt: HostRuntime) -> Result<(), Fail> {
+    let alloc = rt.alloc();
+    for (text, whole) in REPORTS {
+        let scene = judge(alloc, &OPTIONS, text.as_bytes())?;
+        let calls = scene.calls(alloc, &OPTIONS)?;
+        let mut report = String::new(alloc);
+        let outcome = run_to(alloc, &scene, calls.as_slice(), &mut report)?;
+        assert!(rt; leaves(&outcome, report.as_bytes(), whole));
+        outcome?;
+    }
+    Ok(())
+}
+
+#[test]
+fn a_buffer_that_is_made(rt: HostRuntime) -> Result<(), Fail> {
+    let alloc = rt.alloc();
+    for (text, whole) in REPORTS {
+        let scene = judge(alloc, &OPTIONS, text.as_bytes())?;
+        let calls = scene.calls(alloc, &OPTIONS)?;
+        let Ok(mut writer) = TextBuffer::new(alloc, FixedDevice::new()) else {
+            return Err(Fail::from("memory was refused"));
+        };
+        let outcome = run_to(alloc, &scene, calls.as_slice(), &mut writer)?;
+        let (device, _) = writer.into_inner();
+        assert!(rt; leaves(&outcome, device.taken(), whole));
+        outcome?;
+    }
+    Ok(())
+}
+
+#[test]
+fn records_of_decided_events(rt: HostRuntime) -> Result<(), Fail> {
+    let alloc = rt.alloc();
+    for (text, _) in REPORTS {
+        let scene = judge(alloc, &OPTIONS, text.as_bytes())?;
+        for call in scene.calls(alloc, &OPTIONS)?.as_slice() {
+            if let ReportCall::Event(event) = call {
+                let _ = event.recorded(alloc)?;
+            }
+        }
+    }
+    Ok(())
+}
+
+#[test]
+fn a_scene_from_its_text_to_its_report(rt: HostRuntime) -> Result<(), Fail> {
+    let alloc = rt.alloc();
+    for (text, _) in REPORTS {
+        let scene = match judge(alloc, &OPTIONS, text.as_bytes()) {
+            Ok(scene) => scene,
+            Err(fault) => {
+                assert!(rt; is_out_of_memory(&fault));
+                return Err(Fail::from("memory was refused"));
+            }
+        };
+        let outcome = write_report(alloc, &OPTIONS, &scene, FixedDevice::new());
+        if let Err(fault) = &outcome {
+            assert!(rt; is_out_of_memory(fault));
+        }
+        outcome?;
+    }
+    Ok(())
+}
+
+// Whether a fault says that memory was refused, with its status.
+fn is_out_of_memory(fault: &Fault<'_>) -> bool {
+    match fault {
+        Fault::OutOfMemory => fault.status() == 3,
+        _ => false,
+    }
+}

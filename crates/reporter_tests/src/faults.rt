@@ -1,0 +1,96 @@
+//! Devices that fail.
+
+use crate::testing::{builder, run_finished};
+use console_reporter::imp::{ReportCall, RunFault, WriteEventError, run_report};
+use report_text::write_str::TextBuffer;
+use std::io;
+use std::io::{ErrorKind, Write};
+use std::test::Fail;
+
+// A device that takes ten bytes and then fails.
+#[derive(Drop)]
+struct TenBytes {
+    taken: Vec<u8>,
+}
+
+impl Write for TenBytes {
+    fn write(&mut self, buf: &[u8]) -> io::Result<usize> {
+        let room = 10usize.saturating_sub(self.taken.len()).min(buf.len());
+        if room == 0 {
+            return Err(io::Error::from(ErrorKind::Other));
+        }
+        let (front, _) = buf.split_at(room);
+        self.taken.extend_from_slice(front)?;
+        Ok(room)
+    }
+
+    fn flush(&mut self) -> io::Result<()> {
+        Ok(())
+    }
+}
+
+#[test]
+fn a_reporter_has_failed_after_a_fault(rt: HostRuntime) -> Result<(), Fail> {
+    let alloc = rt.alloc();
+    let device = TenBytes {
+        taken: Vec::new(alloc),
+    };
+    let Ok(mut writer) = TextBuffer::new(alloc, device) else {
+        return Err(Fail::from("there is memory"));
+    };
+    let ReportCall::Event(event) = run_finished() else {
+        return Err(Fail::from("it is an event"));
+    };
+    let mut reporter = builder(alloc)?.build(alloc, &mut writer, false, false, false, false);
+    assert_eq!(rt; reporter.write_event(&event), Err(WriteEventError::Io));
+    assert_eq!(rt; reporter.write_event(&event), Err(WriteEventError::Failed));
+    assert_eq!(rt; reporter.finish(), Err(WriteEventError::Failed));
+    drop(reporter);
+    let (device, _) = writer.into_inner();
+    assert_eq!(rt; device.taken.as_slice(), b"----------".as_slice());
+    Ok(())
+}
+
+// A device that takes every byte, and whose second flush fails.
+#[derive(Drop)]
+struct SecondFlushFails {
+    flushed: bool,
+}
+
+impl Write for SecondFlushFails {
+    fn write(&mut self, buf: &[u8]) -> io::Result<usize> {
+        Ok(buf.len())
+    }
+
+    fn flush(&mut self) -> io::Result<()> {
+        if self.flushed {
+            return Err(io::Error::from(ErrorKind::Other));
+        }
+        self.flushed = true;
+        Ok(())
+    }
+}
+
+#[test]
+fn a_fault_of_the_end_stands_past_the_last_call(rt: HostRuntime) -> Result<(), Fail> {
+    let alloc = rt.alloc();
+    let device = SecondFlushFails { flushed: false };
+    let Ok(mut writer) = TextBuffer::new(alloc, device) else {
+        return Err(Fail::from("there is memory"));
+    };
+    let mut calls = Vec::new(alloc);
+    calls.push(run_finished())?;
+    let outcome = run_report(
+        alloc,
+        builder(alloc)?,
+        &mut writer,
+        false,
+        false,
+        false,
+        false,
+        calls.as_slice(),
+    );
+    let fault = WriteEventError::Io;
+    assert_eq!(rt; outcome, Err(RunFault { position: 1, fault }));
+    Ok(())
+}

@@ -1,0 +1,157 @@
+//! What the tests share: a reporter that shows all at its end, attempts, events, and what is printed of calls.
+
+use console_reporter::imp::{DisplayReporterBuilder, DisplayerKind, ReportCall, run_report};
+use run_model::config::{
+    CompiledDefaultFilter, CompiledDefaultFilterSection, NextestRunMode, TestOutputDisplay,
+};
+use run_model::event::{TestEvent, TestEventKind};
+use run_model::level::{FinalStatusLevel, StatusLevel};
+use run_model::name::{ProfileName, RustBinaryId, TestCaseName, TestInstanceId};
+use run_model::output::{ChildExecutionOutputDescription, ChildOutputDescription, LiveSpec};
+use run_model::stats::{RunFinishedStats, RunStats};
+use run_model::status::{
+    ExecuteStatus, ExecutionResultDescription, ExecutionStatuses, FailureDescription, FlakyResult,
+    RetryData,
+};
+use run_model::time::Nanos;
+use std::alloc::Global;
+use std::test::Fail;
+use unit_report::config::{DisplayConfig, ShowProgress};
+
+/// Three tests ran: one passed, one passed at its second attempt, one failed.
+pub const STATS: RunStats = RunStats {
+    initial_run_count: 3,
+    finished_count: 3,
+    passed: 2,
+    passed_slow: 0,
+    flaky: 1,
+    leaky: 0,
+    failed: 1,
+    leaky_failed: 0,
+    exec_failed: 0,
+    timed_out: 0,
+    skipped: 0,
+    setup_scripts_failed: 0,
+    setup_scripts_exec_failed: 0,
+    setup_scripts_timed_out: 0,
+    cancel_reason: None,
+};
+
+/// A reporter that shows no line at once, and every test in the summary.
+pub fn builder(alloc: Global) -> Result<DisplayReporterBuilder, Fail> {
+    Ok(DisplayReporterBuilder {
+        mode: NextestRunMode::Test,
+        default_filter: CompiledDefaultFilter {
+            profile: ProfileName::new(alloc, "default")?,
+            section: CompiledDefaultFilterSection::Profile,
+        },
+        display_config: DisplayConfig::with_overrides(
+            ShowProgress::None,
+            false,
+            StatusLevel::None,
+            FinalStatusLevel::All,
+        ),
+        run_count: 3,
+        success_output: None,
+        failure_output: None,
+        should_colorize: false,
+        verbose: false,
+        no_output_indent: false,
+        displayer_kind: DisplayerKind::Live,
+    })
+}
+
+/// An attempt of a second that ended so.
+pub fn attempt(
+    attempt: u32,
+    total_attempts: u32,
+    outcome: ExecutionResultDescription,
+) -> ExecuteStatus<LiveSpec> {
+    ExecuteStatus {
+        retry_data: RetryData {
+            attempt,
+            total_attempts,
+        },
+        output: ChildExecutionOutputDescription::Output {
+            result: None,
+            output: ChildOutputDescription::Split {
+                stdout: None,
+                stderr: None,
+            },
+            errors: None,
+            highlight: None,
+        },
+        result: outcome,
+        time_taken: Nanos(1_000_000_000),
+        is_slow: false,
+    }
+}
+
+/// A failure with the code 1.
+pub fn failed() -> ExecutionResultDescription {
+    ExecutionResultDescription::Fail {
+        failure: FailureDescription::ExitCode { code: 1 },
+        leaked: false,
+    }
+}
+
+/// A test that finished after an attempt, or after this and a second one.
+pub fn finished<'a>(
+    alloc: Global,
+    binary_id: &'a RustBinaryId,
+    test_name: &'a TestCaseName,
+    first: ExecuteStatus<LiveSpec>,
+    second: Option<ExecuteStatus<LiveSpec>>,
+) -> Result<ReportCall<'a>, Fail> {
+    let mut statuses = Vec::new(alloc);
+    statuses.push(first)?;
+    if let Some(second) = second {
+        statuses.push(second)?;
+    }
+    let Some(run_statuses) = ExecutionStatuses::new(statuses, FlakyResult::Pass) else {
+        return Err(Fail::from("there are attempts"));
+    };
+    Ok(ReportCall::Event(TestEvent {
+        elapsed: Nanos(0),
+        kind: TestEventKind::TestFinished {
+            stress_index: None,
+            test_instance: TestInstanceId {
+                binary_id,
+                test_name,
+            },
+            success_output: TestOutputDisplay::Never,
+            failure_output: TestOutputDisplay::Never,
+            run_statuses,
+            current_stats: STATS,
+        },
+    }))
+}
+
+/// The end of that run, after three seconds.
+pub fn run_finished<'a>() -> ReportCall<'a> {
+    ReportCall::Event(TestEvent {
+        elapsed: Nanos(0),
+        kind: TestEventKind::RunFinished {
+            elapsed: Nanos(3_000_000_000),
+            run_stats: RunFinishedStats::Single(STATS),
+            outstanding_not_seen: None,
+        },
+    })
+}
+
+/// What is printed of these calls.
+pub fn printed<'a>(alloc: Global, calls: &'a [ReportCall<'a>]) -> Result<String, Fail> {
+    let mut report = String::new(alloc);
+    let builder = builder(alloc)?;
+    run_report(
+        alloc,
+        builder,
+        &mut report,
+        false,
+        false,
+        false,
+        false,
+        calls,
+    )?;
+    Ok(report)
+}

@@ -1,0 +1,115 @@
+//! Texts and tests that are cut: wide, combining and control characters at the cut, sequences, and parts that meet.
+
+ghost use Rattle.std.specs.Prelude.{◌≡◌};
+
+use report_text::fitting::{WriteText, count_columns, write_fitted};
+use report_text::helpers::DisplayTestInstance;
+use report_text::helpers::instance::DisplayCounterIndex;
+use report_text::style::ListStyles;
+use report_text::write_str::{WriteFault, WriteStr};
+use run_model::name::{RustBinaryId, TestCaseName, TestInstanceId};
+use std::alloc::Global;
+use std::test::Fail;
+
+/// Words, as a text.
+#[derive(Clone, Copy)]
+struct Words<'a>(&'a str);
+
+impl WriteText for Words<'_> {
+    ghost text = { λ p. p.0.now };
+
+    fn write_to<W: WriteStr>(&self, w: &mut W) -> Result<(), WriteFault> {
+        w.write_str(self.0)
+    }
+}
+
+#[test]
+fn fits_words(rt: HostRuntime) -> Result<(), Fail> {
+    for (text, start, end, want) in [
+        ("e\u{301}", 1, 1, "\u{301}"),
+        ("e\u{301}", 0, 1, "e\u{301}"),
+        ("日本x", 0, 3, "日"),
+        ("日本x", 1, 5, "本x"),
+        ("a\tb", 0, 1, "a\t"),
+        ("a\x1b[1mbc\x1b[0m", 0, 0, "\x1b[1m\x1b[0m"),
+        ("a\x1b[1mbc\x1b[0md", 1, 2, "\x1b[1mb\x1b[0m"),
+        ("a\x1b[31日b", 0, 3, "a\x1b[31日"),
+        ("", 0, 5, ""),
+    ] {
+        let words = Words(text);
+        let _ = count_columns(&words);
+        let mut out = String::new(rt.alloc());
+        write_fitted(&mut out, &words, start, end)?;
+        assert_eq!(rt; out.as_str(), want);
+    }
+    assert_eq!(rt; count_columns(&Words("\x1b[1m日e\u{301}\t\x1b[0m")), 3);
+    Ok(())
+}
+
+/// What a test shows in a greatest width.
+fn shown(
+    alloc: Global,
+    binary_id: &str,
+    name: &str,
+    is_colorized: bool,
+    width: usize,
+) -> Result<String, Fail> {
+    let binary_id = RustBinaryId::new(alloc, binary_id)?;
+    let test_name = TestCaseName::new(alloc, name)?;
+    let instance = TestInstanceId {
+        binary_id: &binary_id,
+        test_name: &test_name,
+    };
+    let mut styles = ListStyles::default();
+    if is_colorized {
+        styles.colorize();
+    }
+    let test = DisplayTestInstance::new(None, None, instance, &styles).with_max_width(width);
+    Ok(format!(in alloc; "{test}")?)
+}
+
+#[test]
+fn fits_tests(rt: HostRuntime) -> Result<(), Fail> {
+    for (binary_id, name, is_colorized, width, want) in [
+        ("b", "日本x", false, 7, "b 日本x"),
+        ("b", "日本x", false, 5, "b 本x"),
+        ("b", "日本x", false, 4, "b x"),
+        ("b", "日本x", false, 1, "b"),
+        ("b", "日本x", false, 0, ""),
+        ("b", "日本x", true, 0, "\x1b[35;1m\x1b[0m\x1b[34;1m\x1b[0m"),
+        ("b", "e\u{301}f", false, 3, "b \u{301}f"),
+        ("b", "a::\u{301}", false, 2, "b \u{301}"),
+        (
+            "b",
+            "a::\u{301}",
+            true,
+            2,
+            "\x1b[35;1mb\x1b[0m \x1b[36m\x1b[0m\x1b[36m\x1b[0m\x1b[34;1m\x1b[0m",
+        ),
+    ] {
+        let text = shown(rt.alloc(), binary_id, name, is_colorized, width)?;
+        assert_eq!(rt; text.as_str(), want);
+    }
+    Ok(())
+}
+
+#[test]
+fn fits_the_counter_before_the_names(rt: HostRuntime) -> Result<(), Fail> {
+    let binary_id = RustBinaryId::new(rt.alloc(), "b")?;
+    let test_name = TestCaseName::new(rt.alloc(), "t")?;
+    let instance = TestInstanceId {
+        binary_id: &binary_id,
+        test_name: &test_name,
+    };
+    let counter = DisplayCounterIndex::new_padded('─', 1);
+    for (width, want) in [(9, "(───) b t"), (8, "(───) b "), (6, "(───) "), (3, "(──")] {
+        let test = DisplayTestInstance::new(
+            None,
+            Some(counter),
+            instance,
+            &ListStyles::default(),
+        ).with_max_width(width);
+        assert_eq!(rt; format!(in rt.alloc(); "{test}")?.as_str(), want);
+    }
+    Ok(())
+}

@@ -1,0 +1,106 @@
+//! Pieces that cut a sequence, and line feeds at the end of a piece.
+
+ghost use Rattle.std.specs.Str.{IsUtf8};
+ghost use Rattle.report_text.specs.EndLine.{without_end_line};
+ghost use Rattle.report_text.specs.Escapes.{visible};
+ghost use Rattle.report_text.specs.Texts.{strs};
+ghost use Rattle.report_text.specs.Writer.{Puts};
+
+use report_text::end_line::EndLine;
+use report_text::stripped::{StrippedPieces, write_stripped_text};
+use report_text::write_str::{WriteFault, WriteStr};
+use std::test::Fail;
+
+// Writes the pieces without their sequences and the line feed that closes what is left.
+fn write_stripped_pieces<W: WriteStr>(w: &mut W, pieces: &[&str]) -> Result<(), WriteFault>
+    ensures { IsUtf8 (strs pieces.now) → Puts W.meaning w.old (without_end_line (visible (strs pieces.now))) result w.new }
+{
+    let mut stripped = StrippedPieces::new();
+    for piece in pieces {
+        stripped.write(w, piece)?;
+    }
+    Ok(())
+}
+
+// Writes the pieces without the line feed that closes them.
+fn write_without_end_line<W: WriteStr>(w: &mut W, pieces: &[&str]) -> Result<(), WriteFault>
+    ensures { Puts W.meaning w.old (without_end_line (strs pieces.now)) result w.new }
+{
+    let mut end_line = EndLine::new();
+    for piece in pieces {
+        end_line.write(w, piece)?;
+    }
+    Ok(())
+}
+
+#[test]
+fn strips_pieces(rt: HostRuntime) -> Result<(), Fail> {
+    for (first, second, want) in [
+        ("a\n\x1b[0m", "", "a"),
+        ("\x1b]8;;", "x\u{7}b\n", "b"),
+        ("a\n", "\n", "a\n"),
+        ("\x1b", "[31mq", "q"),
+        ("é\x1b]0;\x1b", "\\日", "é日"),
+        ("a\x1b[3", "\nb", "a\nb"),
+    ] {
+        let mut written = String::new(rt.alloc());
+        write_stripped_pieces(&mut written, &[first, second])?;
+        assert_eq!(rt; written.as_str(), want);
+    }
+    Ok(())
+}
+
+#[test]
+fn strips_a_text(rt: HostRuntime) -> Result<(), Fail> {
+    for (text, want) in [
+        ("", ""),
+        ("plain\n\n", "plain\n"),
+        ("a\n\x1b[0m", "a"),
+        ("\x1b[31ma\x1b[0m\nb\n\x1b]0;t", "a\nb"),
+        ("\x1b", ""),
+    ] {
+        let mut written = String::new(rt.alloc());
+        write_stripped_text(&mut written, text)?;
+        assert_eq!(rt; written.as_str(), want);
+    }
+    Ok(())
+}
+
+// Stretches of so many bytes, each before a sequence: they fill what is gathered, go past it, or are longer than it.
+#[test]
+fn strips_long_texts(rt: HostRuntime) -> Result<(), Fail> {
+    for len in [1, 1023, 1024, 2047, 2048, 2049, 5000] {
+        let mut text = String::new(rt.alloc());
+        let mut want = String::new(rt.alloc());
+        for _ in 0..4 {
+            for _ in 1..len {
+                text.push('x')?;
+                want.push('x')?;
+            }
+            text.push_str("\n\x1b[0m")?;
+            want.push('\n')?;
+        }
+        want.pop();
+        let mut written = String::new(rt.alloc());
+        write_stripped_text(&mut written, text.as_str())?;
+        assert_eq!(rt; written.as_str(), want.as_str());
+    }
+    Ok(())
+}
+
+#[test]
+fn holds_a_line_feed_back(rt: HostRuntime) -> Result<(), Fail> {
+    for (first, second, want) in [
+        ("a\n", "\n", "a\n"),
+        ("a\n", "", "a"),
+        ("a\n", "b", "a\nb"),
+        ("\n", "", ""),
+        ("", "", ""),
+        ("\x1b[0m\r", "\n", "\x1b[0m\r"),
+    ] {
+        let mut written = String::new(rt.alloc());
+        write_without_end_line(&mut written, &[first, second])?;
+        assert_eq!(rt; written.as_str(), want);
+    }
+    Ok(())
+}
