@@ -78,15 +78,13 @@ fn a_slow_leak_is_called_so(rt: HostRuntime) -> Result<(), Fail> {
 #[test]
 fn a_failure_is_told_by_its_attempt(rt: HostRuntime) -> Result<(), Fail> {
     let styles = Styles::default();
-    for (attempt, want) in [
-        (1, "ABORT SIG 64 [   1.000s] a t1\n"),
-        (2, "TRY 2 SIG 64 [   1.000s] a t1\n"),
-        (10, "TRY 10 SIG 64 [   1.000s] a t1\n"),
+    for (signal, attempt, want) in [
+        (64, 1, "ABORT SIG 64 [   1.000s] a t1\n"),
+        (64, 2, "TRY 2 SIG 64 [   1.000s] a t1\n"),
+        (64, 10, "TRY 10 SIG 64 [   1.000s] a t1\n"),
+        (i32::MAX, 1, "ABORT SIG 2147483647 [   1.000s] a t1\n"),
     ] {
-        let abort = AbortDescription::UnixSignal {
-            signal: 64,
-            name: None,
-        };
+        let abort = AbortDescription::UnixSignal { signal, name: None };
         let failure = FailureDescription::Abort {
             abort: Boxed::new(rt.alloc(), abort)?,
         };

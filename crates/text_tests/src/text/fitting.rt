@@ -78,6 +78,8 @@ fn fits_tests(rt: HostRuntime) -> Result<(), Fail> {
         ("b", "日本x", false, 0, ""),
         ("b", "日本x", true, 0, "\x1b[35;1m\x1b[0m\x1b[34;1m\x1b[0m"),
         ("b", "e\u{301}f", false, 3, "b \u{301}f"),
+        ("b", "e\u{301}f", false, 2, "b "),
+        ("日", "x", false, 1, ""),
         ("b", "a::\u{301}", false, 2, "b \u{301}"),
         (
             "b",

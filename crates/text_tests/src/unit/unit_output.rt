@@ -180,6 +180,7 @@ fn plain_output_is_stripped_and_then_cut(rt: HostRuntime) -> Result<(), Fail> {
         (b"a\n\x1b[0m".as_slice(), "output:\n  a\n"),
         (b"a\n\n".as_slice(), "output:\n  a\n\n"),
         (b"\x1b[31mx\x1b]8;;\ny".as_slice(), "output:\n  x\n  y\n"),
+        (b"x\x1b]8;;\ny".as_slice(), "output:\n  x\n  y\n"),
         (b"\x1b[0m".as_slice(), "output:\n\n"),
     ] {
         let text = combined(rt.alloc(), &Styles::default(), "  ", bytes, Some((0, b"a")))?;
