@@ -6,7 +6,6 @@ ghost use Rattle.scenes.specs.declared.scene.event.SceneEvent.{SceneEvent};
 
 use super::attempts::SceneAttempt;
 use super::event::call_of;
-use super::test_events::copy_command;
 use console_reporter::imp::ReportCall;
 use run_model::command::CommandLine;
 use run_model::event::TestEventKind;
@@ -72,7 +71,7 @@ impl SceneScript {
         Ok(SceneScript {
             script_id: ScriptId::new(alloc, self.script_id.as_str())?,
             program: ProgramName::new(alloc, self.program.as_str())?,
-            args: copy_command(alloc, &self.args)?,
+            args: self.args.copy(alloc)?,
         })
     }
 }

@@ -130,7 +130,7 @@ impl TestStart {
     ) -> Result<(), OutOfMemory>
         ensures { OnOk result (AddsCallOf (SceneEvent.TestStarted self.now) calls.old.items calls.new.items) }
     {
-        let command_line = copy_command(alloc, &self.command_line)?;
+        let command_line = self.command_line.copy(alloc)?;
         calls.push(call_of(TestEventKind::TestStarted {
             stress_index: self.test.stress_index,
             test_instance: self.test.instance(),
@@ -150,7 +150,7 @@ impl TestRetryStart {
     ) -> Result<(), OutOfMemory>
         ensures { OnOk result (AddsCallOf (SceneEvent.TestRetryStarted self.now) calls.old.items calls.new.items) }
     {
-        let command_line = copy_command(alloc, &self.command_line)?;
+        let command_line = self.command_line.copy(alloc)?;
         calls.push(call_of(TestEventKind::TestRetryStarted {
             stress_index: self.test.stress_index,
             test_instance: self.test.instance(),
@@ -218,16 +218,4 @@ impl TestFinish {
         }))?;
         Ok(())
     }
-}
-
-/// Takes memory for another command of these words.
-pub fn copy_command(alloc: Global, command: &CommandLine) -> Result<CommandLine, OutOfMemory>
-    ensures { IfOk result (λ copy. copy ≡ command.now) }
-{
-    let words = command.words();
-    let mut copies = Vec::with_capacity(alloc, words.len())?;
-    for word in words {
-        copies.push(String::from_str(alloc, word.as_str())?)?;
-    }
-    Ok(CommandLine::new(copies))
 }

@@ -1,0 +1,82 @@
+/* Loaded before the C library, it makes one call of a program fail: the growth of memory, or the write to standard output, or the
+   read, whose number FAULT_AT says, of the kind that FAULT_KIND names. A short write takes one byte. It creates the file FAULT_TOLD
+   where the call came. `scripts/faults` builds and uses it. */
+#define _GNU_SOURCE
+#include <dlfcn.h>
+#include <errno.h>
+#include <fcntl.h>
+#include <stdlib.h>
+#include <string.h>
+#include <sys/uio.h>
+#include <unistd.h>
+
+static long calls_before = -1;
+static const char *kind = "";
+
+__attribute__((constructor)) static void begin(void)
+{
+    if (getenv("FAULT_KIND") && getenv("FAULT_AT")) {
+        kind = getenv("FAULT_KIND");
+        calls_before = atol(getenv("FAULT_AT")) - 1;
+    }
+}
+
+/* Whether this call, of these kinds, is the one. */
+static int fails(const char *one, const char *other)
+{
+    if (calls_before < 0 || (strcmp(kind, one) && strcmp(kind, other)))
+        return 0;
+    if (calls_before-- > 0)
+        return 0;
+    int told = open(getenv("FAULT_TOLD"), O_CREAT | O_WRONLY, 0600);
+    if (told >= 0)
+        close(told);
+    return 1;
+}
+
+static void *next(const char *name)
+{
+    return dlsym(RTLD_NEXT, name);
+}
+
+void *malloc(size_t size)
+{
+    static void *(*real)(size_t);
+    if (!real)
+        real = next("malloc");
+    return fails("growth", "growth") ? NULL : real(size);
+}
+
+void *realloc(void *block, size_t size)
+{
+    static void *(*real)(void *, size_t);
+    if (!real)
+        real = next("realloc");
+    return fails("growth", "growth") ? NULL : real(block, size);
+}
+
+ssize_t write(int file, const void *bytes, size_t count)
+{
+    static ssize_t (*real)(int, const void *, size_t);
+    if (!real)
+        real = next("write");
+    if (file == 1 && fails("write", "short-write")) {
+        if (!strcmp(kind, "short-write"))
+            return real(file, bytes, count ? 1 : 0);
+        errno = ENOSPC;
+        return -1;
+    }
+    return real(file, bytes, count);
+}
+
+ssize_t read(int file, void *bytes, size_t count)
+{
+    static ssize_t (*real)(int, void *, size_t);
+    if (!real)
+        real = next("read");
+    if (fails("read", "read")) {
+        errno = EIO;
+        return -1;
+    }
+    return real(file, bytes, count);
+}
