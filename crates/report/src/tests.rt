@@ -396,6 +396,38 @@ fn taken<'a>(
     Ok(None)
 }
 
+// The first of these lines that is refused, or taken with a field more or less.
+fn miscounted<'a>(alloc: Global, lines: &[&'a str]) -> Result<Option<&'a str>, Fail> {
+    let fault = "report: line 1: wrong number of fields";
+    for line in lines {
+        let longer = format!(in alloc; "{line}\t-")?;
+        let Some((shorter, _)) = line.rsplit_once('\t') else {
+            return Ok(Some(line));
+        };
+        if !line_of(alloc, line.as_bytes())?.is_empty()
+            || line_of(alloc, longer.as_bytes())?.as_str() != fault
+            || line_of(alloc, shorter.as_bytes())?.as_str() != fault
+        {
+            return Ok(Some(line));
+        }
+    }
+    Ok(None)
+}
+
+#[test]
+fn counts_the_fields_of_lines(rt: HostRuntime) -> Result<(), Fail> {
+    let tables: [&[&str]; 4] = [
+        &event_lines::LINES,
+        &script_lines::LINES,
+        &info_lines::LINES,
+        &replay_lines::LINES,
+    ];
+    for lines in tables {
+        assert_eq!(rt; miscounted(rt.alloc(), lines)?, None);
+    }
+    Ok(())
+}
+
 // The first of these texts that is refused there.
 fn refused<'a>(
     alloc: Global,

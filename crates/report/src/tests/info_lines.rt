@@ -22,7 +22,7 @@ const SCRIPT: &str =
 
 const INFO_END: &str = "infoend\t2";
 
-const LINES: [&str; 5] = [INFO, RUNNING, DELAY, SCRIPT, INFO_END];
+pub const LINES: [&str; 5] = [INFO, RUNNING, DELAY, SCRIPT, INFO_END];
 
 const GOOD_STATES: [&str; 9] = [
     "running:0:0:-",
@@ -182,22 +182,6 @@ fn wants_a_result_of_what_has_ended(rt: HostRuntime) -> Result<(), Fail> {
             "answer-test\t0\t1\t-\ta\tt1\t1\t1\t{state}\tsplit\t\t\t-\t-"
         )?;
         assert_eq!(rt; line_of(alloc, line.as_bytes())?.as_str(), fault, "{state}");
-    }
-    Ok(())
-}
-
-#[test]
-fn counts_the_fields_of_lines(rt: HostRuntime) -> Result<(), Fail> {
-    let alloc = rt.alloc();
-    let fault = "report: line 1: wrong number of fields";
-    for line in LINES {
-        assert_eq!(rt; line_of(alloc, line.as_bytes())?.as_str(), "");
-        let longer = format!(in alloc; "{line}\t-")?;
-        assert_eq!(rt; line_of(alloc, longer.as_bytes())?.as_str(), fault);
-        let Some((shorter, _)) = line.rsplit_once('\t') else {
-            return Err(Fail::from("the line has fields"));
-        };
-        assert_eq!(rt; line_of(alloc, shorter.as_bytes())?.as_str(), fault);
     }
     Ok(())
 }

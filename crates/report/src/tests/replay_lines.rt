@@ -1,6 +1,6 @@
 //! What a scene says of a replay: the unique prefix of a run's id, and the header.
 
-use super::{OPTIONS, RUN, line_of, refused, report_of, taken};
+use super::{OPTIONS, RUN, refused, report_of, taken};
 use std::test::Fail;
 
 const PREFIX: &str = "prefix\t0\t0000000-0000-4000-8000-000000000001";
@@ -9,6 +9,8 @@ const HEADER: &str = "header\t00000000-0000-4000-8000-000000000001\t-\t-\t2024,2
 
 const WITH_PREFIX: &str =
     "header\t00000000-0000-4000-8000-000000000001\t0\t0000000\t-5,2,28,23,59,59\tfailed: 1";
+
+pub const LINES: [&str; 2] = [PREFIX, HEADER];
 
 #[test]
 fn takes_good_fields(rt: HostRuntime) -> Result<(), Fail> {
@@ -76,27 +78,6 @@ fn tells_bad_fields(rt: HostRuntime) -> Result<(), Fail> {
     ];
     for (line, field, texts) in fields {
         assert_eq!(rt; taken(alloc, line, field, texts)?, None, "{line}");
-    }
-    Ok(())
-}
-
-#[test]
-fn counts_the_fields_of_lines(rt: HostRuntime) -> Result<(), Fail> {
-    let alloc = rt.alloc();
-    let fault = "report: line 1: wrong number of fields";
-    for line in [PREFIX, HEADER] {
-        assert_eq!(rt; line_of(alloc, line.as_bytes())?.as_str(), "");
-        let longer = format!(in alloc; "{line}\t-")?;
-        assert_eq!(rt; line_of(alloc, longer.as_bytes())?.as_str(), fault);
-        let Some((shorter, _)) = line.rsplit_once('\t') else {
-            return Err(Fail::from("the line has fields"));
-        };
-        assert_eq!(rt; line_of(alloc, shorter.as_bytes())?.as_str(), fault);
-        let late = format!(in alloc; "{line}\nconfig\tfinal\tall")?;
-        assert_eq!(rt;
-            line_of(alloc, late.as_bytes())?.as_str(),
-            "report: line 2: config after an event"
-        );
     }
     Ok(())
 }

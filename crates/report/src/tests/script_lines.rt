@@ -1,6 +1,6 @@
 //! What a scene says of setup scripts, of stress runs, of the state on request, and of tests that were not seen.
 
-use super::{OPTIONS, event_of, line_of, refused, report_of, taken};
+use super::{OPTIONS, event_of, refused, report_of, taken};
 use run_model::event::TestEventKind;
 use run_model::time::Nanos;
 use scenes::program::judge;
@@ -22,7 +22,7 @@ const END: &str = "end\t1\tinitial=3 finished=3 passed=3\t3\talpha\\,t1\\,beta\\
 
 const END_STRESS: &str = "endstress\t1\t2/3\t1\t1\tinitial=1 finished=1 failed=1\t0\t-";
 
-const LINES: [&str; 8] = [
+pub const LINES: [&str; 8] = [
     SETUP, SETUP_SLOW, SETUP_DONE, SUB_START, SUB_END, INPUT, END, END_STRESS,
 ];
 
@@ -146,22 +146,6 @@ fn tells_bad_fields_of_runs(rt: HostRuntime) -> Result<(), Fail> {
     ];
     for (line, field, texts) in fields {
         assert_eq!(rt; taken(alloc, line, field, texts)?, None, "{line}");
-    }
-    Ok(())
-}
-
-#[test]
-fn counts_the_fields_of_lines(rt: HostRuntime) -> Result<(), Fail> {
-    let alloc = rt.alloc();
-    let fault = "report: line 1: wrong number of fields";
-    for line in LINES {
-        assert_eq!(rt; line_of(alloc, line.as_bytes())?.as_str(), "");
-        let longer = format!(in alloc; "{line}\t-")?;
-        assert_eq!(rt; line_of(alloc, longer.as_bytes())?.as_str(), fault);
-        let Some((shorter, _)) = line.rsplit_once('\t') else {
-            return Err(Fail::from("the line has fields"));
-        };
-        assert_eq!(rt; line_of(alloc, shorter.as_bytes())?.as_str(), fault);
     }
     Ok(())
 }
