@@ -1,10 +1,8 @@
 -- A text in pieces, without one line feed that closes it (for `EndLine::write`, `StrippedPieces::write`, `split_end_line`, `write_stripped_pieces` and others).
-use Rattle.std.proofs.Common.{◌≡◌, ◌≢◌, ℕ, ◌<◌, Bool, true, false, inl, inr, [], ◌∷◌, ◌++◌, refl, sym, ap, ◌∙◌, arith, length, append-nil, append_assoc, Result, Ok, Err, OnOk, List, Bor, drop, get_or, add-one, ◌+◌, ◌≤◌}
+use Rattle.std.proofs.Common.{◌≡◌, ◌≢◌, ℕ, ◌<◌, Bool, true, false, inl, inr, [], ◌∷◌, ◌++◌, refl, sym, ap, ◌∙◌, arith, length, append-nil, append_assoc, Result, Ok, Err, OnOk, ◌+◌}
 use Rattle.std.proofs.lemmas.Bool.Decides.{eqb_tells}
-use Rattle.std.proofs.lemmas.List.{drop_all}
-use Rattle.std.proofs.Math.Seq.{drop-cons}
 use Rattle.std.specs.Result.{IsErrAnd}
-use Rattle.report_text.specs.Texts.{Text, strs}
+use Rattle.report_text.specs.Texts.{Text}
 use Rattle.report_text.specs.EndLine.{without_end_line, ends_in_line_feed, held}
 use Rattle.report_text.specs.Writer.{Meaning, WriterLaws, Puts, Owes}
 use Rattle.report_text.specs.declared.write_str.WriteFault.{WriteFault}
@@ -98,13 +96,6 @@ pub piece_next : (h k : Bool) (rest piece after : Text) → rest ≡ piece ++ af
     → without_end_line (held h ++ rest) ≡ without_end_line (held h ++ piece) ++ without_end_line (held k ++ after)
 piece_next h k rest piece after e q =
     rw (q, e) (ap without_end_line (sym (append_assoc (held h) piece after)) ∙ without_end_line-append (held h ++ piece) after)
-
--- the next of a list of pieces
-pub strs-next : (pieces : List (Bor Text)) (i : ℕ) (none : Bor Text) → i < length pieces → strs (drop i pieces) ≡ (get_or pieces i none).now ++ strs (drop (i + 1) pieces)
-strs-next pieces i none h = rw (add-one, drop-cons pieces i none) refl
-
-pub strs-none : (pieces : List (Bor Text)) (i : ℕ) → length pieces ≤ i → strs (drop i pieces) ≡ []
-strs-none pieces i h = ap strs (drop_all i pieces h)
 
 -- A loop over pieces that join to a text: what it has written and what it owes.
 module _ {S : Type 0} {m : Meaning S} (laws : WriterLaws m) where

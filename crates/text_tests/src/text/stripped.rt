@@ -1,20 +1,12 @@
 //! Pieces that cut a sequence, and line feeds at the end of a piece.
 
-ghost use Rattle.std.specs.Str.{IsUtf8};
-ghost use Rattle.report_text.specs.EndLine.{without_end_line};
-ghost use Rattle.report_text.specs.Escapes.{visible};
-ghost use Rattle.report_text.specs.Texts.{strs};
-ghost use Rattle.report_text.specs.Writer.{Puts};
-
 use report_text::end_line::EndLine;
 use report_text::stripped::{StrippedPieces, write_stripped_text};
 use report_text::write_str::{WriteFault, WriteStr};
 use std::test::Fail;
 
 // Writes the pieces without their sequences and the line feed that closes what is left.
-fn write_stripped_pieces<W: WriteStr>(w: &mut W, pieces: &[&str]) -> Result<(), WriteFault>
-    ensures { IsUtf8 (strs pieces.now) → Puts W.meaning w.old (without_end_line (visible (strs pieces.now))) result w.new }
-{
+fn write_stripped_pieces<W: WriteStr>(w: &mut W, pieces: &[&str]) -> Result<(), WriteFault> {
     let mut stripped = StrippedPieces::new();
     for piece in pieces {
         stripped.write(w, piece)?;
@@ -23,9 +15,7 @@ fn write_stripped_pieces<W: WriteStr>(w: &mut W, pieces: &[&str]) -> Result<(), 
 }
 
 // Writes the pieces without the line feed that closes them.
-fn write_without_end_line<W: WriteStr>(w: &mut W, pieces: &[&str]) -> Result<(), WriteFault>
-    ensures { Puts W.meaning w.old (without_end_line (strs pieces.now)) result w.new }
-{
+fn write_without_end_line<W: WriteStr>(w: &mut W, pieces: &[&str]) -> Result<(), WriteFault> {
     let mut end_line = EndLine::new();
     for piece in pieces {
         end_line.write(w, piece)?;
