@@ -1,9 +1,9 @@
 -- Words without escape characters (for `tints`).
-use Rattle.std.proofs.Common.{◌≡◌, ℕ, ℤ, pos, negsuc, zero, suc, ◌+◌, ◌-◌, Bool, true, false, cond, ◌==◌, nat_lt, inl, inr, List, [], ◌∷◌, codes, refl, arith, take, drop, encode_utf8, ◌/◌, ◌%◌}
+use Rattle.std.proofs.Common.{◌≡◌, ℕ, ℤ, pos, negsuc, zero, suc, ◌+◌, ◌-◌, Bool, true, false, cond, ◌==◌, nat_lt, inl, inr, List, [], ◌∷◌, ◌++◌, codes, refl, arith, take, drop, encode_utf8, ◌/◌, ◌%◌}
 use Rattle.std.proofs.lemmas.Bool.{cases_Bool}
 use Rattle.std.proofs.lemmas.Bool.Decides.{nat_tests}
 use Rattle.std.specs.Fmt.{signed_decimal}
-use Rattle.std.specs.List.{AllByRecursion, flat_map, join_by, repeat}
+use Rattle.std.specs.List.{AllByRecursion, flat_map}
 use Rattle.uuid.specs.Text.{by_index, hyphenated_text, lower, is_hyphen_place, hex_digit as id_digit, nibble, digit_place}
 use Rattle.run_model.specs.declared.config.NextestRunMode.{NextestRunMode}
 use Rattle.run_model.specs.declared.config.NextestRunMode.TheVariants.{Test, Benchmark}
@@ -16,7 +16,7 @@ use Rattle.report_text.specs.Numbers.{last_digits, with_point, seconds}
 use Rattle.report_text.specs.Durations.{clock_text}
 use Rattle.report_text.specs.Plural.{were_word, tests_word_if, setup_scripts_word, binaries_word, iterations_word}
 use Rattle.report_text.specs.Quoting.{is_unquoted, quoted_byte, quoted_text, shell_word, shell_words}
-use Rattle.report_text.specs.Styles.{part_text, plain}
+use Rattle.report_text.specs.Styles.{plain}
 use Rattle.report_text.specs.Theme.{hbar_text}
 use Rattle.report_text.proofs.lemmas.Closed.{decimal_free, right_free, repeat_free, char_free}
 use Rattle.report_text.proofs.lemmas.Pieces.{free_parts, visible_after-free}
@@ -41,7 +41,7 @@ free-signed (pos n) = decimal_free n
 free-signed (negsuc n) = decimal_free (suc n)
 
 pub free-plain : (t : Text) → HasNoEscape t → HasNoEscape (plain t)
-unfolding part_text
+unfolding plain
 free-plain t h = h
 
 pub free-digit : (d : ℕ) → HasNoEscape ((48 + d) ∷ [])
@@ -54,6 +54,10 @@ free-last_digits (suc k) n = free_both (last_digits k (n / 10)) ((48 + n % 10) �
 pub free-seconds : (k n : ℕ) → HasNoEscape (seconds k n)
 unfolding seconds with_point
 free-seconds k n = search (free_both, decimal_free, free-last_digits) depth 8
+
+pub free-clock_text : (s : ℕ) → HasNoEscape (clock_text s)
+unfolding clock_text
+free-clock_text s = search (free_both, free-if, decimal_free, free-last_digits) depth 12
 
 free-hex_digit : (d : ℕ) → HasNoEscape (hex_digit d ∷ [])
 free-hex_digit d = elim (cases_Bool (nat_lt d 10)) [
@@ -133,13 +137,13 @@ free-quoted_text (c ∷ t) h = let both = free_parts c t h in free_both (quoted_
 
 free-shell_word : (t : Text) → HasNoEscape t → HasNoEscape (shell_word t)
 unfolding shell_word
-free-shell_word t h = free-if (is_unquoted t) _ _ h (free_both _ _ refl (free_both (quoted_text t) _ (free-quoted_text t h) refl))
+free-shell_word t h = free-if (is_unquoted t) _ _ h (free_both (codes "'") (quoted_text t ++ codes "'") refl (free_both (quoted_text t) (codes "'") (free-quoted_text t h) refl))
 
 pub free-shell_words : (ts : List Text) → AllByRecursion HasNoEscape ts → HasNoEscape (shell_words ts)
 unfolding shell_words
 free-shell_words [] h = refl
-free-shell_words (t ∷ []) h = free-shell_word t h.0
-free-shell_words (t ∷ u ∷ ts) h = free_both (shell_word t) _ (free-shell_word t h.0) (free_both (codes " ") _ refl (free-shell_words (u ∷ ts) h.1))
+free-shell_words (t ∷ []) h = free_both (shell_word t) [] (free-shell_word t h.0) refl
+free-shell_words (t ∷ u ∷ ts) h = free_both (shell_word t) _ (free-shell_word t h.0) (free_both (codes " ") (shell_words (u ∷ ts)) refl (free-shell_words (u ∷ ts) h.1))
 
 -- what is visible of a text is so whatever the text holds
 pub free-visible : (t : Text) → HasNoEscape (visible t)

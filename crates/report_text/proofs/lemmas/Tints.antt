@@ -5,7 +5,7 @@ use Rattle.report_text.specs.Texts.{Text}
 use Rattle.report_text.specs.Alike.{IsAlike}
 use Rattle.report_text.specs.Escapes.{visible_after, sequence_len, visible, HasNoEscape}
 use Rattle.report_text.specs.Indent.{indent}
-use Rattle.report_text.specs.Styles.{part_text, plain, styled, reset_color, style_prefix, style_suffix}
+use Rattle.report_text.specs.Styles.{plain, styled, reset_color, style_prefix, style_suffix}
 use Rattle.report_text.specs.declared.style.Style.{Style}
 use Rattle.report_text.specs.declared.style.Style.TheVariants as style
 use Rattle.report_text.proofs.lemmas.AlikeIndents.{IsBlank, alike-front, alike-line, indent-visible, indent-alike, indent-feed}
@@ -105,7 +105,7 @@ pub tinted-plain : (k : Bool) (t : Text) → HasNoEscape t → IsTinted k (plain
 tinted-plain k t h = tinted-free k (plain t) (free-plain t h)
 
 pub tinted-styled : (k : Bool) (s : Style) (t : Text) → HasNoEscape t → IsTinted k (styled s t) (styled style.Plain t)
-unfolding part_text
+unfolding styled
 tinted-styled k s t h = record {
   coloured = λ e. in_colour-exact _ _ (λ rest. wrapped-append s t rest h ∙ ap (λ x. x ++ visible rest) (sym (append-nil t)));
   plain = λ e. free_both t [] h refl;
