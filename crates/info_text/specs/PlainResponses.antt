@@ -19,7 +19,7 @@ IsPlainState (Terminating x) = HasNoEscape (signal_of x.method)
 IsPlainState (Exited result taken mark) = IsPlainResult result
 IsPlainState (DelayBeforeNextAttempt result is_slow waiting remaining) = IsPlainResult result
 
--- nor do the names of a unit, its state and what it wrote
+-- nor do the names of a unit and its state. What it wrote is plain by the flag, which says that texts are in colour
 abbrev pub IsPlainResponse : Bool → InfoResponse → Type 0
 IsPlainResponse k (SetupScript x) = IsPlainScript (answering_script x) × IsPlainState x.state × IsPlainWritten k x.output
 IsPlainResponse k (Test x) = IsPlainInstance x.test_instance × IsPlainState x.state × IsPlainWritten k x.output
