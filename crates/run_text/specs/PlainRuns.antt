@@ -25,7 +25,7 @@ IsPlainHeader h = HoldsIf IsPlainPrefix h.unique_prefix × HasNoEscape h.status
 abbrev pub IsPlainScript : Script → Type 0
 IsPlainScript x = HasNoEscape x.script_id × HasNoEscape x.program × AllByRecursion HasNoEscape x.args
 
--- nor does what the script came to and wrote
+-- nor does what the script came to. What it wrote is plain by the flag, which says that texts are in colour
 abbrev pub IsPlainScriptStatus : Bool → SetupScriptExecuteStatus LiveSpec ChildOutputDescription → Type 0
 IsPlainScriptStatus k x = IsPlainResult x.result × IsPlainWritten k x.output
 
