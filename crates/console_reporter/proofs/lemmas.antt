@@ -1,4 +1,5 @@
 pub mod Calls
+pub mod EntryTints
 pub mod Inserts
 pub mod Isolation
 pub mod Keys
@@ -6,6 +7,7 @@ pub mod Loads
 pub mod Orders
 pub mod Pasts
 pub mod Refusals
+pub mod ReportTints
 pub mod Rows
 pub mod Same
 pub mod Texts

@@ -1,4 +1,5 @@
 pub mod Accepted
+pub mod ColourLaw
 pub mod Configuration
 pub mod Effects
 pub mod Entries
@@ -7,6 +8,8 @@ pub mod Keys
 pub mod Loads
 pub mod Order
 pub mod Outcomes
+pub mod PlainCalls
+pub mod PlainLaw
 pub mod Report
 pub mod Standing
 pub mod Topics

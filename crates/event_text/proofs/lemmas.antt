@@ -1,1 +1,7 @@
 pub mod Finishes
+pub mod LineTints
+pub mod OutputTints
+pub mod ResultTints
+pub mod StatsTints
+pub mod StatusTints
+pub mod TestTints

@@ -1,3 +1,4 @@
+pub mod PlainResponses
 pub mod Responses
 pub mod Seconds
 pub mod Starts

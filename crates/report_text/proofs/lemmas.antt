@@ -1,3 +1,4 @@
+pub mod AlikeIndents
 pub mod Chunked
 pub mod Clocks
 pub mod Closed
@@ -15,11 +16,14 @@ pub mod FitMarks
 pub mod Fits
 pub mod FittedPuts
 pub mod FittedTexts
+pub mod FreeWords
 pub mod Gathered
 pub mod Highlighted
 pub mod IndentedCalls
 pub mod Indents
+pub mod InstanceTints
 pub mod InstanceWidths
+pub mod LineSequences
 pub mod Marks
 pub mod NameWidths
 pub mod Pieces
@@ -30,4 +34,5 @@ pub mod ScannerSteps
 pub mod Spaces
 pub mod Steps
 pub mod StrippedTexts
+pub mod Tints
 pub mod Widths

@@ -1,4 +1,5 @@
 pub mod Accept
+pub mod Alike
 pub mod Buffer
 pub mod ChunkEnds
 pub mod Chunks
@@ -21,6 +22,7 @@ pub mod Lossy
 pub mod Numbers
 pub mod Paths
 pub mod Piece
+pub mod PlainTexts
 pub mod Plural
 pub mod Quoting
 pub mod RunIds

@@ -3,6 +3,7 @@ pub mod Headers
 pub mod Inputs
 pub mod NotSeens
 pub mod Pauses
+pub mod PlainRuns
 pub mod RunIds
 pub mod Running
 pub mod SetupScripts

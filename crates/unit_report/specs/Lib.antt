@@ -5,6 +5,7 @@ pub mod HighlightedLines
 pub mod Levels
 pub mod OutputHeaders
 pub mod Overrides
+pub mod PlainOutputs
 pub mod SkipCounts
 pub mod UnitKinds
 pub mod UnitOutputs

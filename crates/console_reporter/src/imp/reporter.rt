@@ -10,6 +10,8 @@ ghost use Rattle.run_text.specs.Headers.{replay_header_text};
 ghost use Rattle.console_reporter.specs.declared.imp.calls.ReportCall.{ReportCall};
 ghost use Rattle.console_reporter.specs.declared.imp.faults.WriteEventError.{WriteEventError};
 ghost use Rattle.console_reporter.specs.declared.imp.final_output.FinalOutputEntry.{FinalOutputEntry};
+ghost use Rattle.console_reporter.specs.ColourLaw.{ColourLaw};
+ghost use Rattle.console_reporter.specs.PlainLaw.{PlainLaw};
 ghost use Rattle.console_reporter.specs.Configuration.{Configuration, configured, settings_of};
 ghost use Rattle.console_reporter.specs.Accepted.{AreAccepted, IsAccepted, decider_by, decider_of, refusal, refusal_at};
 ghost use Rattle.console_reporter.specs.Effects.{HasEndOutput, HasEndOutputIn, TestEnd, effect_of, end_of, kept_entry};
@@ -586,6 +588,8 @@ pub fn run_report<'a, W: WriteStr>(
     ensures memory { let config = configured builder use_unicode is_terminal is_ci display_empty_outputs in
         IfErr result (λ stop. stop.fault ≡ WriteEventError.Memory → W.meaning.may_refuse writer.old ⊎ MayGrowAt config calls.now stop.position) }
     ensures known { IfErr result (λ stop. stop.fault ≡ WriteEventError.Failed → ⊥) }
+    ensures colour { ColourLaw (configured builder use_unicode is_terminal is_ci display_empty_outputs) calls.now }
+    ensures plain { PlainLaw (configured builder use_unicode is_terminal is_ci display_empty_outputs) calls.now }
 {
     let mut reporter = builder.build(
         alloc,

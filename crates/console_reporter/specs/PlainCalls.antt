@@ -1,0 +1,57 @@
+-- What is handed to a reporter for texts without escape characters. The flag says that texts are in colour: then it is asked of
+-- captured outputs too.
+use Rattle.std.specs.Prelude.{Bool, List}
+use Rattle.std.specs.List.{AllByRecursion}
+use Rattle.run_model.specs.declared.event.TestEventKind.{TestEventKind}
+use Rattle.run_model.specs.declared.event.TestEventKind.TheVariants.{RunStarted, SetupScriptStarted, SetupScriptSlow, SetupScriptFinished, TestStarted, TestSlow, TestAttemptFailedWillRetry, TestRetryStarted, TestFinished, TestSkipped, InfoResponse, RunFinished}
+use Rattle.run_model.specs.declared.output.ChildOutputDescription.{ChildOutputDescription}
+use Rattle.run_model.specs.declared.output.LiveSpec.{LiveSpec}
+use Rattle.run_model.specs.declared.status.ExecuteStatus.{ExecuteStatus}
+use Rattle.report_text.specs.Escapes.{HasNoEscape}
+use Rattle.report_text.specs.PlainTexts.{IsPlainInstance, IsPlainResult}
+use Rattle.report_text.specs.Texts.{Text}
+use Rattle.unit_report.specs.PlainOutputs.{IsPlainWritten}
+use Rattle.run_text.specs.PlainRuns.{IsPlainHeader, IsPlainNotSeen, IsPlainPrefix, IsPlainScript, IsPlainScriptStatus}
+use Rattle.info_text.specs.PlainResponses.{IsPlainResponse}
+use Rattle.console_reporter.specs.Configuration.{Configuration}
+use Rattle.console_reporter.specs.Report.{script_by}
+use Rattle.console_reporter.specs.declared.imp.calls.ReportCall.{ReportCall}
+use Rattle.console_reporter.specs.declared.imp.calls.ReportCall.TheVariants.{Event, Header, Prefix}
+
+-- the name of the default filter's profile holds no escape character
+abbrev pub IsPlainConfiguration : Configuration → Type 0
+IsPlainConfiguration config = HasNoEscape config.builder.default_filter.profile
+
+-- nor do the words of a command line
+abbrev pub ArePlainWords : List Text → Type 0
+ArePlainWords words = AllByRecursion HasNoEscape words
+
+-- nor does what an attempt came to and wrote
+abbrev pub IsPlainAttempt : Bool → ExecuteStatus LiveSpec ChildOutputDescription → Type 0
+IsPlainAttempt k x = IsPlainResult x.result × IsPlainWritten k x.output
+
+-- nor do the names and texts of an event; of the attempts of a finished test the last one is shown
+abbrev pub IsPlainKind : Bool → TestEventKind → Type 0
+IsPlainKind k (RunStarted counts id profile) = HasNoEscape profile
+IsPlainKind k (SetupScriptStarted stress index total id program args) = IsPlainScript (script_by stress id program args)
+IsPlainKind k (SetupScriptSlow stress id program args taken will_terminate) = IsPlainScript (script_by stress id program args)
+IsPlainKind k (SetupScriptFinished stress id program args status) = IsPlainScript (script_by stress id program args) × IsPlainScriptStatus k status
+IsPlainKind k (TestStarted stress instance stats command) = IsPlainInstance instance × ArePlainWords command
+IsPlainKind k (TestSlow stress instance retry taken will_terminate) = IsPlainInstance instance
+IsPlainKind k (TestAttemptFailedWillRetry stress instance status delay failure) = IsPlainInstance instance × IsPlainAttempt k status
+IsPlainKind k (TestRetryStarted stress instance retry command) = IsPlainInstance instance × ArePlainWords command
+IsPlainKind k (TestFinished stress instance success failure statuses stats) = IsPlainInstance instance × IsPlainAttempt k statuses.last
+IsPlainKind k (TestSkipped stress instance) = IsPlainInstance instance
+IsPlainKind k (InfoResponse index total response) = IsPlainResponse k response
+IsPlainKind k (RunFinished taken stats outstanding) = IsPlainNotSeen outstanding
+IsPlainKind k _ = Unit {0}
+
+-- nor do those of a call
+abbrev pub IsPlainCall : Bool → ReportCall → Type 0
+IsPlainCall k (Event e) = IsPlainKind k e.kind
+IsPlainCall k (Header h) = IsPlainHeader h
+IsPlainCall k (Prefix p) = IsPlainPrefix p
+
+-- nor do those of any of the calls
+abbrev pub ArePlain : Bool → List ReportCall → Type 0
+ArePlain k calls = AllByRecursion (IsPlainCall k) calls

@@ -1,0 +1,16 @@
+-- The law of plain reports: captured output puts no escape character into them.
+use Rattle.std.specs.Prelude.{◌≡◌, ℕ, List, false, reverse}
+use Rattle.report_text.specs.Escapes.{HasNoEscape}
+use Rattle.console_reporter.specs.Configuration.{Configuration}
+use Rattle.console_reporter.specs.PlainCalls.{ArePlain, IsPlainConfiguration}
+use Rattle.console_reporter.specs.Report.{report, text_at}
+use Rattle.console_reporter.specs.declared.imp.calls.ReportCall.{ReportCall}
+
+-- no escape character is in the text of any call, nor in the whole report
+pub record IsPlainReport (config : Configuration) (calls : List ReportCall) : Type 0 where
+  pub at_each : (position : ℕ) → HasNoEscape (text_at config calls position)
+  pub whole : HasNoEscape (report config (reverse calls))
+
+-- it is so without colour, where no text that is handed in holds one but for captured outputs, which may hold anything
+abbrev pub PlainLaw : Configuration → List ReportCall → Type 0
+PlainLaw config calls = config.builder.should_colorize ≡ false → IsPlainConfiguration config → ArePlain false calls → IsPlainReport config calls

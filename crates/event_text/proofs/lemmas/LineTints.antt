@@ -1,0 +1,67 @@
+-- Bars and the tests that lines speak of, in colour and plain (for all lines of tests).
+use Rattle.std.proofs.Common.{◌≢◌, ℕ, Bool, true, false, arith, Option, None, Some}
+use Rattle.run_model.specs.declared.name.TestInstanceId.{TestInstanceId}
+use Rattle.run_model.specs.declared.stats.RunStats.{RunStats}
+use Rattle.run_model.specs.declared.stress.StressIndex.{StressIndex}
+use Rattle.report_text.specs.Instances.{HasPlainCounter}
+use Rattle.report_text.specs.PlainTexts.{IsPlainInstance}
+use Rattle.report_text.specs.Styles.{styles_of}
+use Rattle.report_text.specs.Theme.{hbar_character}
+use Rattle.report_text.specs.declared.helpers.theme.ThemeCharacters.{ThemeCharacters}
+use Rattle.report_text.proofs.lemmas.InstanceTints.{tinted-instance_text}
+use Rattle.report_text.proofs.lemmas.Tints.{IsTinted, tinted-append, tinted-free, tints}
+use Rattle.event_text.specs.Bars.{bar_line}
+use Rattle.event_text.specs.Instances.{padded_instance, instance_end, untimed_end}
+use Rattle.event_text.specs.Settings.{counter_where, finished_counter, next_where, started_counter, padded_where, padded_counter}
+use Rattle.event_text.specs.declared.instance.CountedInstance.{CountedInstance}
+use Rattle.event_text.specs.declared.settings.Settings.{Settings}
+
+-- the same settings, in colour or plain
+abbrev pub painted : Bool → Settings → Settings
+painted b s = record s { styles = styles_of b }
+
+pub tinted-bar_line : (k : Bool) (theme : ThemeCharacters) → IsTinted k (bar_line theme) (bar_line theme)
+unfolding bar_line
+tinted-bar_line k theme = search (tints, tinted-free) depth 12
+
+-- no counter holds an escape character
+pub plain-finished_counter : (s : Settings) (x : RunStats) → HasPlainCounter (finished_counter s x)
+plain-finished_counter s x = go s.counter_width
+  where
+    go : (w : Option ℕ) → HasPlainCounter (counter_where w x)
+    go None = tt
+    go (Some width) = tt
+
+pub plain-started_counter : (s : Settings) (x : RunStats) → HasPlainCounter (started_counter s x)
+plain-started_counter s x = go s.counter_width
+  where
+    go : (w : Option ℕ) → HasPlainCounter (next_where w x)
+    go None = tt
+    go (Some width) = tt
+
+plain-hbar : (b : Bool) → hbar_character b ≢ 27
+plain-hbar true = λ e. omega (arith, e)
+plain-hbar false = λ e. omega (arith, e)
+
+pub plain-padded_counter : (s : Settings) → HasPlainCounter (padded_counter s)
+plain-padded_counter s = go s.counter_width
+  where
+    go : (w : Option ℕ) → HasPlainCounter (padded_where w s.theme_characters)
+    go None = tt
+    go (Some width) = plain-hbar s.theme_characters.is_unicode
+
+-- nor does a test in a line
+abbrev pub IsPlainTest : CountedInstance → Type 0
+IsPlainTest test = HasPlainCounter test.counter × IsPlainInstance test.instance
+
+pub plain-padded : (s : Settings) (stress : Option StressIndex) (i : TestInstanceId) → IsPlainInstance i → IsPlainTest (padded_instance s stress i)
+plain-padded s stress i h = (plain-padded_counter s, h)
+
+-- the ends of a test's lines
+pub tinted-instance_end : (k : Bool) (test : CountedInstance) → IsPlainTest test → IsTinted k (instance_end (styles_of true) test) (instance_end (styles_of false) test)
+unfolding instance_end
+tinted-instance_end k test h = let name = tinted-instance_text k test.stress_index test.counter test.instance h.0 h.1 in tinted-append k _ _ _ _ name (search tints)
+
+pub tinted-untimed_end : (k : Bool) (test : CountedInstance) → IsPlainTest test → IsTinted k (untimed_end (styles_of true) test) (untimed_end (styles_of false) test)
+unfolding untimed_end
+tinted-untimed_end k test h = let end = tinted-instance_end k test h in search tints depth 12

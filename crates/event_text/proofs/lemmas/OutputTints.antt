@@ -1,0 +1,57 @@
+-- The output of an attempt or of a setup script, in colour and plain (for the lines that it follows).
+use Rattle.std.proofs.Common.{◌≡◌, Bool, true, false, refl}
+use Rattle.run_model.specs.declared.status.ExecutionResultDescription.{ExecutionResultDescription}
+use Rattle.run_model.specs.declared.status.ExecutionResultDescription.TheVariants as outcome
+use Rattle.run_model.specs.declared.status.LeakTimeoutResult.TheVariants as leak
+use Rattle.run_model.specs.declared.status.SlowTimeoutResult.TheVariants as slow
+use Rattle.run_model.specs.declared.unit.UnitKind.{UnitKind}
+use Rattle.run_model.specs.declared.unit.UnitKind.TheVariants as unit
+use Rattle.report_text.specs.Alike.{without_end_spaces}
+use Rattle.report_text.specs.Escapes.{HasNoEscape}
+use Rattle.report_text.specs.PlainTexts.{IsPlainResult}
+use Rattle.report_text.specs.Styles.{styles_of}
+use Rattle.report_text.specs.declared.helpers.theme.ThemeCharacters.{ThemeCharacters}
+use Rattle.report_text.specs.declared.style.Style.{Style}
+use Rattle.report_text.specs.declared.style.Style.TheVariants as style
+use Rattle.report_text.proofs.lemmas.Tints.{IsTinted, tints}
+use Rattle.unit_report.specs.PlainOutputs.{IsPlainWritten}
+use Rattle.unit_report.proofs.lemmas.UnitTints.{IsTintedLayout, tinted-bars, tinted-execution_output}
+use Rattle.event_text.specs.AttemptOutputs.{Written, header_style, layout_in, info_line_start, shown_info_line, info_line, unit_output}
+use Rattle.event_text.specs.declared.settings.Settings.{Settings}
+use Rattle.event_text.proofs.lemmas.LineTints.{painted}
+use Rattle.event_text.proofs.lemmas.ResultTints.{tinted-info_text}
+
+-- a layout in a style and in none
+tinted-layout_in : (k : Bool) (kind : UnitKind) (b : Bool) (theme : ThemeCharacters) (s : Style) → IsTintedLayout k (layout_in kind b theme s) (layout_in kind b theme style.Plain)
+unfolding without_end_spaces
+tinted-layout_in k kind true theme s = record { stdout = tinted-bars k _ _ _ _ _; stderr = tinted-bars k _ _ _ _ _; combined = tinted-bars k _ _ _ _ _; exec_fail = tinted-bars k _ _ _ _ _; margin = refl; free = refl; blank = refl }
+tinted-layout_in k kind false theme s = record { stdout = tinted-bars k _ _ _ _ _; stderr = tinted-bars k _ _ _ _ _; combined = tinted-bars k _ _ _ _ _; exec_fail = tinted-bars k _ _ _ _ _; margin = refl; free = refl; blank = refl }
+
+-- without colour each style is plain
+plain_style : (x : ExecutionResultDescription) (b : Bool) → header_style (styles_of false) x b ≡ style.Plain
+plain_style x true = refl
+plain_style outcome.Pass false = refl
+plain_style (outcome.Leak leak.Pass) false = refl
+plain_style (outcome.Leak leak.Fail) false = refl
+plain_style (outcome.Fail f leaked) false = refl
+plain_style outcome.ExecFail false = refl
+plain_style (outcome.Timeout slow.Pass) false = refl
+plain_style (outcome.Timeout slow.Fail) false = refl
+
+free-info_line_start : (kind : UnitKind) → HasNoEscape (info_line_start kind)
+unfolding info_line_start
+free-info_line_start unit.Test = refl
+free-info_line_start unit.Script = refl
+
+tinted-info_line : (k : Bool) (kind : UnitKind) (b : Bool) (x : ExecutionResultDescription) → IsPlainResult x → IsTinted k (info_line (styles_of true) kind b x) (info_line (styles_of false) kind b x)
+unfolding info_line shown_info_line
+tinted-info_line k kind b x h = let info = tinted-info_text k b x h in search (tints, free-info_line_start) depth 12
+
+pub tinted-unit_output : (k : Bool) (s : Settings) (kind : UnitKind) (is_retry is_slow : Bool) (x : ExecutionResultDescription) (w : Written) → IsPlainResult x → IsPlainWritten k w
+    → IsTinted k (unit_output (painted true s) kind is_retry is_slow x w) (unit_output (painted false s) kind is_retry is_slow x w)
+unfolding unit_output
+tinted-unit_output k s kind is_retry is_slow x w h j =
+    let layout = tinted-layout_in k kind s.no_output_indent s.theme_characters (header_style (styles_of true) x is_retry) in
+    let shown = tinted-execution_output k s.unit_output _ _ layout w j in
+    let info = tinted-info_line k kind is_slow x h in
+    rw plain_style (search (tints, shown, info) depth 12)

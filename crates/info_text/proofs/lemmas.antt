@@ -1,0 +1,2 @@
+pub mod ResponseTints
+pub mod StateTints

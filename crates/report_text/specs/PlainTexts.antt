@@ -1,0 +1,44 @@
+-- What is handed in for texts without escape characters.
+use Rattle.std.specs.Prelude.{Option, None, Some}
+use Rattle.std.specs.List.{AllByRecursion}
+use Rattle.run_model.specs.ErrorChains.{MessageAndCauses}
+use Rattle.run_model.specs.declared.abort.AbortDescription.{AbortDescription}
+use Rattle.run_model.specs.declared.abort.AbortDescription.TheVariants.{UnixSignal, WindowsNtStatus, WindowsJobObject}
+use Rattle.run_model.specs.declared.name.TestInstanceId.{TestInstanceId}
+use Rattle.run_model.specs.declared.status.ExecutionResultDescription.{ExecutionResultDescription}
+use Rattle.run_model.specs.declared.status.ExecutionResultDescription.TheVariants as outcome
+use Rattle.run_model.specs.declared.status.FailureDescription.{FailureDescription}
+use Rattle.run_model.specs.declared.status.FailureDescription.TheVariants.{ExitCode, Abort}
+use Rattle.report_text.specs.Escapes.{HasNoEscape}
+
+-- what holds of a value, where there is one
+abbrev pub HoldsIf : {X : Type 0} → (X → Type 0) → Option X → Type 0
+HoldsIf p None = Unit {0}
+HoldsIf p (Some x) = p x
+
+-- the name of a signal and the message of a status hold no escape character
+abbrev pub IsPlainAbort : AbortDescription → Type 0
+IsPlainAbort (UnixSignal signal name) = HoldsIf HasNoEscape name
+IsPlainAbort (WindowsNtStatus code message) = HoldsIf HasNoEscape message
+IsPlainAbort WindowsJobObject = Unit {0}
+
+-- nor do those of a failure
+abbrev pub IsPlainFailure : FailureDescription → Type 0
+IsPlainFailure (ExitCode code) = Unit {0}
+IsPlainFailure (Abort abort) = IsPlainAbort abort
+
+-- nor those of a result
+abbrev pub IsPlainResult : ExecutionResultDescription → Type 0
+IsPlainResult outcome.Pass = Unit {0}
+IsPlainResult (outcome.Leak result) = Unit {0}
+IsPlainResult (outcome.Fail failure leaked) = IsPlainFailure failure
+IsPlainResult outcome.ExecFail = Unit {0}
+IsPlainResult (outcome.Timeout result) = Unit {0}
+
+-- a test's names hold none
+abbrev pub IsPlainInstance : TestInstanceId → Type 0
+IsPlainInstance i = HasNoEscape i.binary_id.now × HasNoEscape i.test_name.now
+
+-- an error's message and those of its causes hold none
+abbrev pub IsPlainChain : MessageAndCauses → Type 0
+IsPlainChain chain = HasNoEscape chain.message × AllByRecursion HasNoEscape chain.causes

@@ -1,0 +1,68 @@
+-- Setup scripts that have started, run for long or have finished, in colour and plain.
+use Rattle.std.proofs.Common.{ℕ, Bool, true, false, ◌∷◌}
+use Rattle.run_model.specs.declared.output.ChildOutputDescription.{ChildOutputDescription}
+use Rattle.run_model.specs.declared.output.LiveSpec.{LiveSpec}
+use Rattle.run_model.specs.declared.status.ExecutionResultDescription.{ExecutionResultDescription}
+use Rattle.run_model.specs.declared.status.ExecutionResultDescription.TheVariants as outcome
+use Rattle.run_model.specs.declared.status.LeakTimeoutResult.TheVariants as leak
+use Rattle.run_model.specs.declared.status.SetupScriptExecuteStatus.{SetupScriptExecuteStatus}
+use Rattle.run_model.specs.declared.unit.UnitKind.TheVariants as unit
+use Rattle.report_text.specs.Escapes.{HasNoEscape}
+use Rattle.report_text.specs.PlainTexts.{IsPlainResult}
+use Rattle.report_text.specs.Styles.{styled, styles_of}
+use Rattle.report_text.specs.Texts.{Text}
+use Rattle.report_text.proofs.lemmas.FreeWords.{frees, free-shell_words}
+use Rattle.report_text.proofs.lemmas.InstanceTints.{tinted-script_text}
+use Rattle.report_text.proofs.lemmas.Tints.{IsTinted, tinted-append, tinted-free, tints}
+use Rattle.unit_report.proofs.lemmas.DurationTints.{tinted-bracketed_duration, tinted-slow_duration}
+use Rattle.event_text.specs.Scripts.{Script, shown_script}
+use Rattle.event_text.specs.Settings.{is_level_shown}
+use Rattle.event_text.specs.declared.settings.Settings.{Settings}
+use Rattle.event_text.proofs.lemmas.LineTints.{painted}
+use Rattle.event_text.proofs.lemmas.OutputTints.{tinted-unit_output}
+use Rattle.event_text.proofs.lemmas.ResultTints.{free-short_word}
+use Rattle.run_text.specs.PlainRuns.{IsPlainScript, IsPlainScriptStatus}
+use Rattle.run_text.specs.SetupScripts.{script_counter, setup_script_started_text, slow_script_words, shown_slow_script, setup_script_slow_text, script_status_style, setup_script_line, failed_script_output, setup_script_finished_text}
+
+-- a script as its lines name it
+pub tinted-shown_script : (k : Bool) (x : Script) → IsPlainScript x → IsTinted k (shown_script (styles_of true) x) (shown_script (styles_of false) x)
+tinted-shown_script k x h = tinted-script_text k _ _ x.stress_index x.script_id _ h.0 (free-shell_words (x.program ∷ x.args) (h.1, h.2))
+
+tinted-script_counter : (k : Bool) (index total : ℕ) → IsTinted k (script_counter index total) (script_counter index total)
+unfolding script_counter
+tinted-script_counter k index total = search (tints, tinted-free) depth 12
+
+pub tinted-setup_script_started_text : (k : Bool) (index total : ℕ) (x : Script) → IsPlainScript x → IsTinted k (setup_script_started_text (styles_of true) index total x) (setup_script_started_text (styles_of false) index total x)
+unfolding setup_script_started_text
+tinted-setup_script_started_text k index total x h = let script = tinted-shown_script k x h in search (tints, tinted-script_counter) depth 12
+
+tinted-slow_script_words : (k b : Bool) → IsTinted k (slow_script_words (styles_of true) b) (slow_script_words (styles_of false) b)
+unfolding slow_script_words
+tinted-slow_script_words k true = search tints depth 12
+tinted-slow_script_words k false = search tints depth 12
+
+pub tinted-setup_script_slow_text : (k : Bool) (s : Settings) (x : Script) (elapsed : ℕ) (b : Bool) → IsPlainScript x → IsTinted k (setup_script_slow_text (painted true s) x elapsed b) (setup_script_slow_text (painted false s) x elapsed b)
+unfolding setup_script_slow_text shown_slow_script is_level_shown
+tinted-setup_script_slow_text k s x elapsed b h = let script = tinted-shown_script k x h in search (tints, tinted-slow_script_words, tinted-slow_duration) depth 12
+
+tinted-script_status : (k : Bool) (x : ExecutionResultDescription) (t : Text) → HasNoEscape t → IsTinted k (styled (script_status_style (styles_of true) x) t) (styled (script_status_style (styles_of false) x) t)
+tinted-script_status k outcome.Pass t h = search tints
+tinted-script_status k (outcome.Leak leak.Pass) t h = search tints
+tinted-script_status k (outcome.Leak leak.Fail) t h = search tints
+tinted-script_status k (outcome.Fail failure leaked) t h = search tints
+tinted-script_status k outcome.ExecFail t h = search tints
+tinted-script_status k (outcome.Timeout result) t h = search tints
+
+tinted-setup_script_line : (k : Bool) (x : Script) (result : ExecutionResultDescription) (taken : ℕ) → IsPlainScript x → IsPlainResult result → IsTinted k (setup_script_line (styles_of true) x result taken) (setup_script_line (styles_of false) x result taken)
+unfolding setup_script_line
+tinted-setup_script_line k x result taken h p =
+    let word = free-short_word result p in let script = tinted-shown_script k x h in
+    tinted-append k _ _ _ _ (tinted-script_status k result _ (search frees depth 12)) (search (tints, tinted-bracketed_duration) depth 12)
+
+pub tinted-setup_script_finished_text : (k : Bool) (s : Settings) (x : Script) (status : SetupScriptExecuteStatus LiveSpec ChildOutputDescription) → IsPlainScript x → IsPlainScriptStatus k status
+    → IsTinted k (setup_script_finished_text (painted true s) x status) (setup_script_finished_text (painted false s) x status)
+unfolding setup_script_finished_text failed_script_output
+tinted-setup_script_finished_text k s x status h p =
+    let line = tinted-setup_script_line k x status.result status.time_taken.0 h p.0 in
+    let output = tinted-unit_output k s unit.Script false status.is_slow status.result status.output p.0 p.1 in
+    search tints depth 12

@@ -1,0 +1,37 @@
+-- What is handed in for the texts of a run without escape characters.
+use Rattle.std.specs.Prelude.{Bool, Option}
+use Rattle.std.specs.List.{AllByRecursion}
+use Rattle.run_model.specs.UniquePrefixes.{UniquePrefix}
+use Rattle.run_model.specs.declared.name.OwnedTestInstanceId.{OwnedTestInstanceId}
+use Rattle.run_model.specs.declared.not_seen.NotSeen.{NotSeen}
+use Rattle.run_model.specs.declared.output.ChildOutputDescription.{ChildOutputDescription}
+use Rattle.run_model.specs.declared.output.LiveSpec.{LiveSpec}
+use Rattle.run_model.specs.declared.replay.ReplayHeader.{ReplayHeader}
+use Rattle.run_model.specs.declared.status.SetupScriptExecuteStatus.{SetupScriptExecuteStatus}
+use Rattle.report_text.specs.Escapes.{HasNoEscape}
+use Rattle.report_text.specs.PlainTexts.{HoldsIf, IsPlainResult}
+use Rattle.unit_report.specs.PlainOutputs.{IsPlainWritten}
+use Rattle.event_text.specs.Scripts.{Script}
+
+-- a run's id in two parts holds no escape character
+abbrev pub IsPlainPrefix : UniquePrefix → Type 0
+IsPlainPrefix p = HasNoEscape p.prefix × HasNoEscape p.rest
+
+-- nor do the id and the words of the record that a replay shows
+abbrev pub IsPlainHeader : ReplayHeader → Type 0
+IsPlainHeader h = HoldsIf IsPlainPrefix h.unique_prefix × HasNoEscape h.status
+
+-- a setup script's id, its program and the program's arguments hold none
+abbrev pub IsPlainScript : Script → Type 0
+IsPlainScript x = HasNoEscape x.script_id × HasNoEscape x.program × AllByRecursion HasNoEscape x.args
+
+-- nor does what the script came to. What it wrote is plain by the flag, which says that texts are in colour
+abbrev pub IsPlainScriptStatus : Bool → SetupScriptExecuteStatus LiveSpec ChildOutputDescription → Type 0
+IsPlainScriptStatus k x = IsPlainResult x.result × IsPlainWritten k x.output
+
+-- nor do the names of tests that were not seen
+abbrev pub IsPlainOwned : OwnedTestInstanceId → Type 0
+IsPlainOwned i = HasNoEscape i.binary_id × HasNoEscape i.test_name
+
+abbrev pub IsPlainNotSeen : Option NotSeen → Type 0
+IsPlainNotSeen = HoldsIf (λ (x : NotSeen). AllByRecursion IsPlainOwned x.not_seen)
