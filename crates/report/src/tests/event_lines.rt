@@ -13,7 +13,7 @@ const RETRY_START: &str = "retrystart\t-\ta\tt1\t2\t3\t-";
 
 const SLOW: &str = "slow\t-\ta\tt1\t1\t3\t60000000000\t0";
 
-const RETRY: &str = "retry\t0/3\ta\tt1\t1\t3\t0\tnever\tfail:1\t5000000\t0\tsplit\tx\t\t-\t-";
+pub const RETRY: &str = "retry\t0/3\ta\tt1\t1\t3\t0\tnever\tfail:1\t5000000\t0\tsplit\tx\t\t-\t-";
 
 const SKIP: &str = "skip\t-\ta\tt1";
 

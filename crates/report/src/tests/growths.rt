@@ -1,7 +1,9 @@
 //! Reports whose memory may be refused. With ample memory each is whole. `scripts/faults` runs these tests once for each growth,
 //! which is refused then: a test answers that, and panics where the text is no beginning of its report.
 
+use super::event_lines::RETRY;
 use super::faults::{ASKED, CANCELLED, OF_ASKED, OF_CANCELLED, run_to};
+use super::script_lines::SETUP_DONE;
 use super::{OPTIONS, TWO_TESTS};
 use console_reporter::imp::{ReportCall, RunFault, WriteEventError};
 use report_text::write_str::TextBuffer;
@@ -109,7 +111,7 @@ fn a_buffer_that_is_made(rt: HostRuntime) -> Result<(), Fail> {
 #[test]
 fn records_of_decided_events(rt: HostRuntime) -> Result<(), Fail> {
     let alloc = rt.alloc();
-    for (text, _) in REPORTS {
+    for text in [TWO_TESTS, RETRY, SETUP_DONE] {
         let scene = judge(alloc, &OPTIONS, text.as_bytes())?;
         for call in scene.calls(alloc, &OPTIONS)?.as_slice() {
             if let ReportCall::Event(event) = call {

@@ -10,7 +10,7 @@ const SETUP: &str = "setup\t-\t0\t2\tdb\tmake-db\t--port\\,80";
 
 const SETUP_SLOW: &str = "setupslow\t-\tdb\tmake-db\t-\t60000000000\t0";
 
-const SETUP_DONE: &str = "setupdone\t1/3\tdb\tmake-db\t-\tfail:2\t5000000\t1\tsplit\tx\t\t-\t-";
+pub const SETUP_DONE: &str = "setupdone\t1/3\tdb\tmake-db\t-\tfail:2\t5000000\t1\tsplit\tx\t\t-\t-";
 
 const SUB_START: &str = "substart\tcount:3:5:1";
 

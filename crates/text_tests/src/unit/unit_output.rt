@@ -1,6 +1,7 @@
 //! Captured output: highlights, escapes, bytes that are no text, and streams that are absent or empty.
 
 use bytes::Bytes;
+use report_text::escapes::strip;
 use report_text::style::{Style, Styles};
 use run_model::abort::DescriptionText;
 use run_model::output::{
@@ -104,6 +105,48 @@ fn a_highlight_is_painted_line_by_line(rt: HostRuntime) -> Result<(), Fail> {
         text.as_str(),
         "output:\no\x1b[0m\x1b[31;1mutpu\x1b[0mt\x1b[0m\n"
     );
+    Ok(())
+}
+
+// A text without the spaces at the ends of its lines.
+fn without_end_spaces(alloc: Global, text: &str) -> Result<String, Fail> {
+    let mut lines = String::new(alloc);
+    for (index, line) in text.split('\n').enumerate() {
+        if index > 0 {
+            lines.push('\n')?;
+        }
+        lines.push_str(line.trim_end_matches(' '))?;
+    }
+    Ok(lines)
+}
+
+// The highlight of an output shows in colour what is there without, but where it ends the text behind its line feed.
+#[test]
+fn a_highlight_adds_no_text(rt: HostRuntime) -> Result<(), Fail> {
+    let alloc = rt.alloc();
+    for (output_indent, bytes, start, slice, visible, plain, is_alike) in [
+        (
+            "    ",
+            b"\np\nq\n".as_slice(),
+            0,
+            b"\np\nq\n".as_slice(),
+            "output:\n    \n    p\n    q\n",
+            "output:\n\n    p\n    q\n",
+            true,
+        ),
+        ("", b"a\n", 2, b"", "output:\na\n\n", "output:\na\n", false),
+    ] {
+        let highlight = Some((start, slice));
+        let coloured = combined(alloc, &coloured(), output_indent, bytes, highlight)?;
+        let coloured = strip(alloc, coloured.as_str())?;
+        let text = combined(alloc, &Styles::default(), output_indent, bytes, highlight)?;
+        assert_eq!(rt; (coloured.as_str(), text.as_str()), (visible, plain));
+        let without = without_end_spaces(alloc, coloured.as_str())?;
+        assert_eq!(rt;
+            without == without_end_spaces(alloc, text.as_str())?,
+            is_alike
+        );
+    }
     Ok(())
 }
 
