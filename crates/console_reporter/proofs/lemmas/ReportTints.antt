@@ -73,8 +73,8 @@ tinted-text : (k : Bool) (config : Configuration) (past : List ReportCall) (call
     → IsTinted k (text (in_colour true config) past call) (text (in_colour false config) past call)
 tinted-text k config past (Event e) c all h =
     let s = settings_of config in
-    let known = record { prefix = prefix past; reason = cancel past; entries = final_order (kept (painted false s) past) } in
-    let plain = record { prefix = plain-prefix k past all; entries = All-final_order (IsPlainEntry k) (kept (painted false s) past) (plain-kept k (painted false s) past all) } in
+    let known : Known = record { prefix = prefix past; reason = cancel past; entries = final_order (kept (painted false s) past) } in
+    let plain : IsPlainKnown k known = record { prefix = plain-prefix k past all; entries = All-final_order (IsPlainEntry k) (kept (painted false s) past) (plain-kept k (painted false s) past all) } in
     rw (same-kept s past) (tinted-event_text k s known e.elapsed.0 e.kind c plain h)
 tinted-text k config past (Header x) c all h = tinted-replay_header_text k x h
 tinted-text k config past (Prefix p) c all h = tinted-none k
