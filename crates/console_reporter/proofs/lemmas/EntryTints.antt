@@ -18,8 +18,8 @@ use Rattle.event_text.proofs.lemmas.OutputTints.{tinted-unit_output}
 use Rattle.event_text.proofs.lemmas.StatusTints.{IsPlainFinish, tinted-status_line}
 use Rattle.event_text.proofs.lemmas.TestTints.{tinted-skip_line}
 use Rattle.run_text.specs.PlainRuns.{IsPlainPrefix}
-use Rattle.console_reporter.specs.Effects.{final_output, finished_entry, is_kept, is_skip_kept, kept_entry, skipped_entry, entry_of}
-use Rattle.console_reporter.specs.Entries.{cancel, prefix, kept, final_order, is_before, final_text, entry_text, entries_text}
+use Rattle.console_reporter.specs.Effects.{final_output, finished_entry, is_kept, is_skip_kept, entry_of}
+use Rattle.console_reporter.specs.Entries.{cancel, prefix, kept, final_order, is_before, final_text, entries_text}
 use Rattle.console_reporter.specs.Order.{put_in, ordered_by}
 use Rattle.console_reporter.specs.PlainCalls.{IsPlainKind, IsPlainCall}
 use Rattle.console_reporter.specs.declared.imp.calls.ReportCall.{ReportCall}

@@ -1,13 +1,12 @@
 -- The report in colour and plain (for `run_report`).
-use Rattle.std.proofs.Common.{◌≡◌, ℕ, zero, suc, Bool, true, false, refl, sym, subst, List, [], ◌∷◌, ◌++◌, Option, None, Some, take, reverse, slice_get, cond}
+use Rattle.std.proofs.Common.{◌≡◌, ℕ, zero, suc, Bool, true, false, refl, sym, subst, List, [], ◌∷◌, Option, None, Some, take, reverse, slice_get}
 use Rattle.std.specs.List.{AllByRecursion}
 use Rattle.std.specs.Option.{option_map_or}
 use Rattle.std.proofs.lemmas.List.{reverse-append}
 use Rattle.run_model.specs.Stats.{final_stats_of_run}
 use Rattle.run_model.specs.declared.event.TestEventKind.{TestEventKind}
 use Rattle.run_model.specs.declared.event.TestEventKind.TheVariants.{RunStarted, StressSubRunStarted, SetupScriptStarted, SetupScriptSlow, SetupScriptFinished, TestStarted, TestSlow, TestAttemptFailedWillRetry, TestRetryStarted, TestFinished, TestSkipped, RunBeginCancel, RunBeginKill, RunPaused, RunContinued, InfoStarted, InfoResponse, InfoFinished, InputEnter, StressSubRunFinished, RunFinished}
-use Rattle.report_text.specs.Alike.{IsAlike}
-use Rattle.report_text.specs.Escapes.{visible, HasNoEscape}
+use Rattle.report_text.specs.Escapes.{HasNoEscape}
 use Rattle.report_text.specs.PlainTexts.{HoldsIf}
 use Rattle.report_text.proofs.lemmas.Tints.{IsTinted, tinted-none, tinted-append, tinted-if, tinted-whole}
 use Rattle.unit_report.proofs.lemmas.SkipTints.{tinted-final_warnings}
@@ -23,12 +22,12 @@ use Rattle.run_text.proofs.lemmas.ScriptTints.{tinted-setup_script_started_text,
 use Rattle.run_text.proofs.lemmas.StartTints.{tinted-run_started_text, tinted-replay_header_text}
 use Rattle.run_text.proofs.lemmas.SummaryTints.{tinted-run_finished_text, tinted-stress_sub_run_started_text, tinted-stress_sub_run_finished_text}
 use Rattle.info_text.proofs.lemmas.ResponseTints.{tinted-info_started_text, tinted-info_response_text, tinted-info_finished_text}
-use Rattle.console_reporter.specs.ColourLaw.{in_colour, IsAlikeInColour, ColourLaw}
+use Rattle.console_reporter.specs.ColourLaw.{in_colour, ColourLaw}
 use Rattle.console_reporter.specs.Configuration.{Configuration, settings_of}
 use Rattle.console_reporter.specs.Entries.{cancel, prefix, kept, final_order}
 use Rattle.console_reporter.specs.PlainCalls.{IsPlainConfiguration, IsPlainKind, IsPlainCall, ArePlain}
 use Rattle.console_reporter.specs.PlainLaw.{IsPlainReport, PlainLaw}
-use Rattle.console_reporter.specs.Report.{Known, script_by, listed_text, event_text, known_after, text, report, past_at, text_at}
+use Rattle.console_reporter.specs.Report.{Known, script_by, listed_text, event_text, text, report, past_at, text_at}
 use Rattle.console_reporter.specs.declared.imp.calls.ReportCall.{ReportCall}
 use Rattle.console_reporter.specs.declared.imp.calls.ReportCall.TheVariants.{Event, Header, Prefix}
 use Rattle.console_reporter.proofs.lemmas.EntryTints.{IsPlainEntry, All-append, All-final_order, plain-test_finish, plain-kept, plain-prefix, same-kept, tinted-entries_text}
@@ -73,8 +72,8 @@ tinted-text : (k : Bool) (config : Configuration) (past : List ReportCall) (call
     → IsTinted k (text (in_colour true config) past call) (text (in_colour false config) past call)
 tinted-text k config past (Event e) c all h =
     let s = settings_of config in
-    let known = record { prefix = prefix past; reason = cancel past; entries = final_order (kept (painted false s) past) } in
-    let plain = record { prefix = plain-prefix k past all; entries = All-final_order (IsPlainEntry k) (kept (painted false s) past) (plain-kept k (painted false s) past all) } in
+    let known : Known = record { prefix = prefix past; reason = cancel past; entries = final_order (kept (painted false s) past) } in
+    let plain : IsPlainKnown k known = record { prefix = plain-prefix k past all; entries = All-final_order (IsPlainEntry k) (kept (painted false s) past) (plain-kept k (painted false s) past all) } in
     rw (same-kept s past) (tinted-event_text k s known e.elapsed.0 e.kind c plain h)
 tinted-text k config past (Header x) c all h = tinted-replay_header_text k x h
 tinted-text k config past (Prefix p) c all h = tinted-none k
