@@ -1,4 +1,6 @@
 pub mod Calls
+pub mod CalmRuns
+pub mod Exchanges
 pub mod Inserts
 pub mod Isolation
 pub mod Keys

@@ -1,7 +1,9 @@
 pub mod Accepted
+pub mod Calm
 pub mod Configuration
 pub mod Effects
 pub mod Entries
+pub mod Exchanges
 pub mod Isolation
 pub mod Keys
 pub mod Loads
@@ -9,5 +11,6 @@ pub mod Order
 pub mod Outcomes
 pub mod Report
 pub mod Standing
+pub mod Statistics
 pub mod Topics
 pub mod Unread

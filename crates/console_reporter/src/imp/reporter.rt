@@ -15,8 +15,10 @@ ghost use Rattle.console_reporter.specs.Accepted.{AreAccepted, IsAccepted, decid
 ghost use Rattle.console_reporter.specs.Effects.{HasEndOutput, HasEndOutputIn, TestEnd, effect_of, end_of, kept_entry};
 ghost use Rattle.console_reporter.specs.Loads.{lacks_output};
 ghost use Rattle.console_reporter.specs.Entries.{final_order, hiding_rank};
+ghost use Rattle.console_reporter.specs.Exchanges.{IsOrderIndependent};
 ghost use Rattle.console_reporter.specs.Outcomes.{Stops, StopsAfter, IsOfLines, answered_refusal, error_for, refusal_in};
 ghost use Rattle.console_reporter.specs.Report.{end_of_run_text, event_text, finished_text, listed_text, text, texts, report, past_at, text_at};
+ghost use Rattle.console_reporter.specs.Statistics.{IsStatsIndependent};
 ghost use Rattle.console_reporter.specs.Topics.{is_of_run};
 ghost use Rattle.console_reporter.specs.Standing.{StandsAfter, HasFailed, IsSameWriter, MayGrow, MayGrowAt, MayGrowIn, known_by};
 
@@ -586,6 +588,10 @@ pub fn run_report<'a, W: WriteStr>(
     ensures memory { let config = configured builder use_unicode is_terminal is_ci display_empty_outputs in
         IfErr result (λ stop. stop.fault ≡ WriteEventError.Memory → W.meaning.may_refuse writer.old ⊎ MayGrowAt config calls.now stop.position) }
     ensures known { IfErr result (λ stop. stop.fault ≡ WriteEventError.Failed → ⊥) }
+    ensures order { let config = configured builder use_unicode is_terminal is_ci display_empty_outputs in
+        IsOrderIndependent config calls.now }
+    ensures statistics { let config = configured builder use_unicode is_terminal is_ci display_empty_outputs in
+        IsStatsIndependent config calls.now }
 {
     let mut reporter = builder.build(
         alloc,

@@ -4,6 +4,7 @@ use Rattle.console_reporter.specs.Configuration.{configured}
 use Rattle.console_reporter.specs.Accepted.{AreAccepted, refusal_at}
 use Rattle.console_reporter.specs.Outcomes.{refusal_in}
 use Rattle.console_reporter.proofs.lemmas.Calls.{err_here, ok_here, refused_from, stopped_io, stopped_known}
+use Rattle.console_reporter.proofs.lemmas.Exchanges.{order_independent, stats_independent}
 use Rattle.console_reporter.proofs.imp.reporter.run_report.Goals as goal
 
 pub returns-clause-ok : goal.returns-clause-ok
@@ -37,3 +38,9 @@ returns-clause-memory g c =
 
 pub returns-clause-known : goal.returns-clause-known
 returns-clause-known g c = IfErr-weaker _ _ _ (λ stop h. stopped_known g.met.W.WriteStr.laws _ _ _ _ _ h) (returns-clause-err g c)
+
+pub returns-clause-order : goal.returns-clause-order
+returns-clause-order g c = order_independent (configured c.args.builder c.args.use_unicode c.args.is_terminal c.args.is_ci c.args.display_empty_outputs) c.args.calls.now
+
+pub returns-clause-statistics : goal.returns-clause-statistics
+returns-clause-statistics g c = stats_independent (configured c.args.builder c.args.use_unicode c.args.is_terminal c.args.is_ci c.args.display_empty_outputs) c.args.calls.now
