@@ -3,6 +3,7 @@ pub mod Calm
 pub mod Configuration
 pub mod Effects
 pub mod Entries
+pub mod Exactness
 pub mod Exchanges
 pub mod Isolation
 pub mod Keys

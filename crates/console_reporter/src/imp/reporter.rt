@@ -15,6 +15,7 @@ ghost use Rattle.console_reporter.specs.Accepted.{AreAccepted, IsAccepted, decid
 ghost use Rattle.console_reporter.specs.Effects.{HasEndOutput, HasEndOutputIn, TestEnd, effect_of, end_of, kept_entry};
 ghost use Rattle.console_reporter.specs.Loads.{lacks_output};
 ghost use Rattle.console_reporter.specs.Entries.{final_order, hiding_rank};
+ghost use Rattle.console_reporter.specs.Exactness.{IsExact};
 ghost use Rattle.console_reporter.specs.Exchanges.{IsOrderIndependent};
 ghost use Rattle.console_reporter.specs.Outcomes.{Stops, StopsAfter, IsOfLines, answered_refusal, error_for, refusal_in};
 ghost use Rattle.console_reporter.specs.Report.{end_of_run_text, event_text, finished_text, listed_text, text, texts, report, past_at, text_at};
@@ -97,9 +98,11 @@ impl<'a, W: WriteStr> DisplayReporter<'a, W> {
         }
     }
 
-    /// What decides by an event's metadata whether this reporter refuses it, and whether it shows its output.
+    /// What decides by an event's metadata whether this reporter refuses it, and whether it shows its output: a replay that
+    /// loads less shows less, and one that loads more shows no more.
     pub fn output_load_decider(&self) -> OutputLoadDecider
-        ensures { (config : Configuration) (past : List ReportCall) → StandsAfter config past self.now → result ≡ decider_of config }
+        ensures decider { (config : Configuration) (past : List ReportCall) → StandsAfter config past self.now → result ≡ decider_of config }
+        ensures exactness { (config : Configuration) (past : List ReportCall) → StandsAfter config past self.now → IsExact config result }
     {
         OutputLoadDecider::of_settings(&self.state.settings)
     }
