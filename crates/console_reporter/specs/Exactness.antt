@@ -45,4 +45,4 @@ IsExact config decider =
     (before : List ReportCall) (event : TestEvent) (answer : LoadOutput) → decision decider event.kind ≡ Some answer →
     ((after : List ReportCall) → IsObserved config before event after → answer ≡ Load)
     × ((after : List ReportCall) (end : TestEvent) → is_end_of_run end.kind ≡ true → AreCalm (before ++ Event event ∷ (after ++ Event end ∷ [])) →
-        IsObserved config before event (after ++ Event end ∷ []) ↔ (answer ≡ Load))
+    IsObserved config before event (after ++ Event end ∷ []) ↔ (answer ≡ Load))

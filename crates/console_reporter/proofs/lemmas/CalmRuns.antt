@@ -1,6 +1,6 @@
 -- What the end of a calm run shows (for `run_report`, `DisplayReporter::output_load_decider`).
-use Rattle.std.specs.Prelude.{◌==◌, nat_lt}
-use Rattle.std.proofs.Common.{◌≡◌, ℕ, ◌<◌, true, false, List, [], ◌∷◌, ◌++◌, None, refl, sym, ap, ap₂, ◌∙◌, reverse, append-nil, append_assoc, arith, subst}
+use Rattle.std.specs.Prelude.{nat_lt}
+use Rattle.std.proofs.Common.{◌≡◌, ℕ, ◌<◌, true, List, [], ◌∷◌, ◌++◌, None, refl, sym, ap, ◌∙◌, reverse, append-nil, append_assoc, arith, subst}
 use Rattle.std.specs.List.{flat_map}
 use Rattle.std.specs.Option.{option_to_list}
 use Rattle.std.proofs.lemmas.Bool.{false≢true}
@@ -9,9 +9,7 @@ use Rattle.std.proofs.lemmas.List.{reverse-append}
 use Rattle.run_model.specs.declared.event.TestEvent.{TestEvent}
 use Rattle.run_model.specs.declared.event.TestEventKind.{TestEventKind}
 use Rattle.run_model.specs.declared.event.TestEventKind.TheVariants.{TestFinished, RunFinished}
-use Rattle.run_model.specs.declared.status.ExecutionResultDescription.{ExecutionResultDescription}
-use Rattle.event_text.specs.Finishes.{finish_row}
-use Rattle.event_text.specs.declared.finish.FinishRow.TheVariants.{Shown}
+use Rattle.event_text.proofs.lemmas.Finishes.{row_below}
 use Rattle.event_text.specs.declared.settings.Settings.{Settings}
 use Rattle.console_reporter.specs.Calm.{AreCalm, carried_reason, is_end_of_run}
 use Rattle.console_reporter.specs.Configuration.{Configuration, settings_of}
@@ -35,17 +33,10 @@ pub calm_both : (xs ys : List ReportCall) → AreCalm xs → AreCalm ys → AreC
 calm_both [] ys a b = b
 calm_both (x ∷ xs) ys a b = (a.0, calm_both xs ys a.1 b)
 
--- under a calm reason a test is shown as under none
-pub calm_row : (reason : ℕ) (result : ExecutionResultDescription) → reason < 5 → finish_row reason result ≡ Shown
-unfolding finish_row
-calm_row reason result h =
-    let other : (reason == 5) ≡ false = grind (arith, nat_tests) in
-    let less : nat_lt reason 6 ≡ true = grind (arith, nat_tests) in
-    rw (other, less) refl
-
+-- what a calm reason hides of an event: nothing
 pub calm_entry : (s : Settings) (reason : ℕ) (e : TestEventKind) → reason < 5 → entry_of s reason e ≡ entry_of s 0 e
 calm_entry s reason (TestFinished stress test success failure statuses stats) h =
-    rw (calm_row reason statuses.last.result h, calm_row 0 statuses.last.result (omega arith)) refl
+    rw (row_below reason statuses.last.result h, row_below 0 statuses.last.result (omega arith)) refl
 calm_entry s reason other h = refl
 
 pub calm_more : (call : ReportCall) (past : List ReportCall) → carried_reason call < 5 → cancel past < 5 → cancel (call ∷ past) < 5

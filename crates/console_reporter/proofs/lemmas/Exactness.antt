@@ -26,14 +26,15 @@ use Rattle.run_model.specs.declared.stress.StressIndex.{StressIndex}
 use Rattle.run_model.specs.declared.time.Nanos.{Nanos}
 use Rattle.run_model.specs.declared.unit.UnitKind.TheVariants as unit
 use Rattle.report_text.specs.Texts.{Text}
-use Rattle.event_text.specs.AttemptOutputs.{Written, attempt_output, script_output}
-use Rattle.event_text.specs.FinishedTests.{line_at_once, output_at_once, test_finish, test_finished_text}
+use Rattle.event_text.specs.AttemptOutputs.{Written}
+use Rattle.event_text.specs.FinishedTests.{line_at_once, output_at_once, test_finished_text}
 use Rattle.event_text.specs.Finishes.{display_of, is_final_wanted, row_at_end, row_at_once, row_listed}
 use Rattle.event_text.specs.Instances.{padded_instance}
 use Rattle.event_text.specs.RetriedTests.{Attempt, attempt_failed_line, attempt_failed_text, delay_line, failed_output, is_failed_output_shown}
 use Rattle.event_text.specs.Scripts.{Script}
 use Rattle.event_text.specs.Settings.{finished_counter, is_level_shown}
 use Rattle.event_text.specs.StatusLines.{status_line}
+use Rattle.event_text.proofs.lemmas.Finishes.{row_below}
 use Rattle.event_text.specs.declared.instance.CountedInstance.{CountedInstance}
 use Rattle.event_text.specs.declared.settings.Settings.{Settings}
 use Rattle.event_text.specs.declared.status_line.StatusLineKind.TheVariants.{Final}
@@ -46,16 +47,16 @@ use Rattle.console_reporter.specs.Accepted.{decider_by, decider_of}
 use Rattle.console_reporter.specs.Calm.{AreCalm, is_end_of_run}
 use Rattle.console_reporter.specs.Configuration.{Configuration, settings_of}
 use Rattle.console_reporter.specs.Effects.{entry_of, final_output}
-use Rattle.console_reporter.specs.Entries.{cancel, entry_text, final_order, final_text}
+use Rattle.console_reporter.specs.Entries.{cancel, final_order, final_text}
 use Rattle.console_reporter.specs.Exactness.{IsExact, IsObserved, combined, with_output, writing}
-use Rattle.console_reporter.specs.Loads.{decision, load_if, loads_attempt, loads_finish, loads_script}
+use Rattle.console_reporter.specs.Loads.{decision, load_if, loads_attempt, loads_script}
 use Rattle.console_reporter.specs.Report.{event_text, listed_text, script_by, text, texts}
 use Rattle.console_reporter.specs.Unread.{is_skip}
 use Rattle.console_reporter.specs.declared.imp.calls.ReportCall.{ReportCall}
 use Rattle.console_reporter.specs.declared.imp.calls.ReportCall.TheVariants.{Event}
 use Rattle.console_reporter.specs.declared.imp.decider.OutputLoadDecider.{OutputLoadDecider}
 use Rattle.console_reporter.specs.declared.imp.final_output.FinalOutputEntry.{FinalOutputEntry}
-use Rattle.console_reporter.proofs.lemmas.CalmRuns.{calm_back, calm_both, calm_end, calm_entries, calm_front, calm_past, calm_row, listing}
+use Rattle.console_reporter.proofs.lemmas.CalmRuns.{calm_back, calm_both, calm_end, calm_entries, calm_front, calm_past, listing}
 use Rattle.console_reporter.proofs.lemmas.Isolation.{same-unloaded}
 use Rattle.console_reporter.proofs.lemmas.OtherOutputs.{outputs_differ}
 use Rattle.console_reporter.proofs.lemmas.Places.{entry_with, text-place}
@@ -169,20 +170,20 @@ module _ (config : Configuration) (before after : List ReportCall) (elapsed : Na
   finish_at_once : (rest : List ReportCall) → is_immediate display ≡ true → IsObserved config before finished rest
   unfolding event_text test_finished_text line_at_once output_at_once row_at_once
   finish_at_once rest now = observed_at_once config before rest finished (λ e.
-      let row = calm_row (cancel (reverse before)) statuses.last.result (calm_past before calm) in
+      let row = row_below (cancel (reverse before)) statuses.last.result (calm_past before calm) in
       outputs_differ s unit.Test false statuses.last.is_slow statuses.last.result (append_cancel_left _ _ _ (rw (row, now) at e)))
 
   kept_with : (output : Written) → is_final display ≡ true →
       entry_of s 0 (with_output output finished.kind) ≡ Some (entry_with (record { stress_index = stress; counter = finished_counter s stats; instance = test }) (summary_of statuses) output)
   unfolding final_output row_at_end row_listed is_final_wanted
-  kept_with output final = rw (calm_row 0 statuses.last.result (omega arith), final) refl
+  kept_with output final = rw (row_below 0 statuses.last.result (omega arith), final) refl
 
   finish_at_end : (end : TestEvent) → is_end_of_run end.kind ≡ true → AreCalm after → is_final display ≡ true → IsObserved config before finished (after ++ Event end ∷ [])
   finish_at_end end ends calm_after final =
       let f = calm_entries s in
       let shown = λ (t : Text). entry_with (record { stress_index = stress; counter = finished_counter s stats; instance = test }) (summary_of statuses) (combined t) in
       let said : (t : Text) → text config (reverse (before ++ writing t finished ∷ after)) (Event end)
-          ≡ event_text s (listing (final_order (flat_map f before ++ shown t ∷ flat_map f after))) end.elapsed.0 end.kind =
+      ≡ event_text s (listing (final_order (flat_map f before ++ shown t ∷ flat_map f after))) end.elapsed.0 end.kind =
       λ t. calm_end config (before ++ writing t finished ∷ after) end (calm_both before (writing t finished ∷ after) calm (lit< tt, calm_after)) ends
       ∙ ap (λ entries. event_text s (listing (final_order entries)) end.elapsed.0 end.kind)
       (flat_map-append f before (writing t finished ∷ after) ∙ ap (λ o. flat_map f before ++ (option_to_list o ++ flat_map f after)) (kept_with (combined t) final)) in

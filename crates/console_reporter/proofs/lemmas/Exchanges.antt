@@ -1,22 +1,21 @@
 -- An exchange of neighbours, and other statistics, leave texts as they are (for `run_report`).
-use Rattle.std.proofs.Common.{◌≡◌, ◌<◌, true, List, [], ◌∷◌, ◌++◌, Option, None, Some, refl, sym, ap, ◌∙◌, subst, reverse, Ordering, Less, Equal, Greater}
+use Rattle.std.proofs.Common.{◌≡◌, ◌<◌, List, [], ◌∷◌, ◌++◌, Option, None, Some, refl, sym, ap, ◌∙◌, subst, reverse, Ordering, Less, Equal, Greater}
 use Rattle.std.specs.FinMap.{nat_cmp-IsAntisymmetric, slice_cmp-IsAntisymmetric}
 use Rattle.std.specs.List.{flat_map}
 use Rattle.std.specs.Cmp.Lexicographic.{lists_total, nat_list_cmp_total}
 use Rattle.std.specs.Option.{option_to_list}
 use Rattle.std.specs.Ordering.{is_lt, ordering_reverse}
 use Rattle.std.proofs.lemmas.Grind.{flat_map-append}
-use Rattle.run_model.specs.declared.event.TestEvent.{TestEvent}
 use Rattle.run_model.specs.declared.event.TestEventKind.{TestEventKind}
 use Rattle.run_model.specs.declared.event.TestEventKind.TheVariants.{TestFinished}
 use Rattle.run_model.specs.declared.stats.RunStats.{RunStats}
 use Rattle.run_model.specs.declared.time.Nanos.{Nanos}
 use Rattle.event_text.specs.declared.settings.Settings.{Settings}
-use Rattle.console_reporter.specs.Calm.{AreCalm, is_end_of_run}
+use Rattle.console_reporter.specs.Calm.{AreCalm}
 use Rattle.console_reporter.specs.Configuration.{Configuration, settings_of}
 use Rattle.console_reporter.specs.Entries.{cancel, entry_cmp, entry_key, final_order, is_before}
 use Rattle.console_reporter.specs.Exchanges.{AreOfOneKey, IsOrderIndependent, entry_after}
-use Rattle.console_reporter.specs.Report.{event_text, text, texts}
+use Rattle.console_reporter.specs.Report.{event_text, texts}
 use Rattle.console_reporter.specs.Statistics.{IsStatsIndependent, with_stats}
 use Rattle.console_reporter.specs.declared.imp.calls.ReportCall.{ReportCall}
 use Rattle.console_reporter.specs.declared.imp.calls.ReportCall.TheVariants.{Event, Header, Prefix}

@@ -1,54 +1,50 @@
 -- What the decider skips is not shown (for `unload_skipped`, `DisplayReporter::output_load_decider`).
-use Rattle.std.proofs.Common.{◌≡◌, ℕ, ◌+◌, Bool, true, false, not, ◌&&◌, ◌||◌, Option, None, Some, List, [], ◌∷◌, ◌++◌, map, reverse, length, ◌==◌, if◌then◌else◌, refl, sym, ap, subst, ◌∙◌, inl, inr}
-use Rattle.std.specs.List.{AllByRecursion, position_or_len}
+use Rattle.std.proofs.Common.{◌≡◌, ℕ, Bool, true, false, not, Option, None, Some, List, [], ◌∷◌, ◌++◌, map, reverse, if◌then◌else◌, refl, sym, ap, subst, ◌∙◌, inl, inr}
+use Rattle.std.specs.List.{position_or_len}
 use Rattle.std.specs.Option.{is_some, option_map_or}
 use Rattle.std.proofs.lemmas.Bool.{cases_Bool, false≢true}
 use Rattle.std.proofs.lemmas.List.{length-map, map-append, reverse-append}
 use Rattle.run_model.specs.Attempts.{Attempts}
 use Rattle.run_model.specs.Displays.{is_immediate, is_final}
 use Rattle.run_model.specs.Outputs.{has_loaded_output}
-use Rattle.run_model.specs.Statuses.{is_success, summary_by, summary_of, case_of}
+use Rattle.run_model.specs.Statuses.{is_success, summary_of}
 use Rattle.run_model.specs.Unloaded.{unloaded_attempt, unloaded_attempts, unloaded_event, unloaded_kind, unloaded_script}
 use Rattle.run_model.specs.declared.config.TestOutputDisplay.{TestOutputDisplay}
-use Rattle.run_model.specs.declared.event.TestEvent.{TestEvent}
 use Rattle.run_model.specs.declared.event.TestEventKind.{TestEventKind}
 use Rattle.run_model.specs.declared.event.TestEventKind.TheVariants.{SetupScriptFinished, TestAttemptFailedWillRetry, TestFinished}
 use Rattle.run_model.specs.declared.level.StatusLevel.TheVariants as level
 use Rattle.run_model.specs.declared.name.TestInstanceId.{TestInstanceId}
 use Rattle.run_model.specs.declared.output.ChildOutputDescription.{ChildOutputDescription}
 use Rattle.run_model.specs.declared.output.LiveSpec.{LiveSpec}
-use Rattle.run_model.specs.declared.output_event.LoadOutput.TheVariants.{Load, Skip}
 use Rattle.run_model.specs.declared.stats.RunStats.{RunStats}
 use Rattle.run_model.specs.declared.status.SetupScriptExecuteStatus.{SetupScriptExecuteStatus}
 use Rattle.run_model.specs.declared.stress.StressIndex.{StressIndex}
 use Rattle.run_model.specs.declared.time.Nanos.{Nanos}
-use Rattle.report_text.specs.Texts.{Text}
 use Rattle.event_text.specs.AttemptOutputs.{Written}
 use Rattle.event_text.specs.FinishedTests.{TestFinish, line_at_once, output_at_once, test_finish, test_finished_text}
-use Rattle.event_text.specs.Finishes.{display_of, is_ever_shown, row_at_end, row_at_once, row_listed}
-use Rattle.event_text.specs.RetriedTests.{Attempt, attempt_failed_text, attempt_failed_line, delay_line, failed_output, is_failed_output_shown}
+use Rattle.event_text.specs.Finishes.{display_of, is_ever_shown, row_at_end, row_at_once}
+use Rattle.event_text.specs.RetriedTests.{Attempt, attempt_failed_text, attempt_failed_line, failed_output, is_failed_output_shown}
 use Rattle.event_text.specs.Settings.{is_level_shown}
 use Rattle.event_text.specs.declared.finish.FinishRow.{FinishRow}
 use Rattle.event_text.specs.declared.finish.FinishRow.TheVariants.{Hidden, Shown, ShownOnce}
 use Rattle.event_text.specs.declared.settings.Settings.{Settings}
-use Rattle.run_text.specs.SetupScripts.{failed_script_output, setup_script_line, setup_script_finished_text}
+use Rattle.run_text.specs.SetupScripts.{failed_script_output, setup_script_finished_text}
 use Rattle.event_text.specs.Scripts.{Script}
 use Rattle.console_reporter.specs.Accepted.{AreAcceptedBy, decider_by, decider_of, event_refusal, first_refused, refusal_by}
 use Rattle.console_reporter.specs.Configuration.{Configuration, settings_of}
-use Rattle.console_reporter.specs.Effects.{effect_of, entry_of, final_output, is_kept, kept_entry}
+use Rattle.console_reporter.specs.Effects.{final_output, is_kept, kept_entry}
 use Rattle.console_reporter.specs.Effects.TestEnd.{Finished}
 use Rattle.console_reporter.specs.declared.imp.final_output.FinalOutput.{FinalOutput}
-use Rattle.console_reporter.specs.declared.imp.final_output.FinalOutputEntry.{FinalOutputEntry}
 use Rattle.run_model.specs.declared.status.StatusSummary.{StatusSummary}
 use Rattle.console_reporter.specs.Isolation.{IsIsolated}
 use Rattle.console_reporter.specs.Loads.{load_if, loads_attempt, loads_finish, loads_script}
-use Rattle.console_reporter.specs.Report.{Known, event_text, script_by}
+use Rattle.console_reporter.specs.Report.{event_text, script_by}
 use Rattle.console_reporter.specs.Unread.{is_skip, is_skipped, unread, unread_call}
 use Rattle.console_reporter.specs.declared.imp.calls.ReportCall.{ReportCall}
 use Rattle.console_reporter.specs.declared.imp.calls.ReportCall.TheVariants.{Event, Header, Prefix}
 use Rattle.console_reporter.specs.declared.imp.decider.OutputLoadDecider.{OutputLoadDecider}
 use Rattle.console_reporter.specs.declared.imp.faults.WriteEventError.TheVariants.{OutputNotLoaded, RetriedSuccess}
-use Rattle.console_reporter.proofs.lemmas.Same.{AreSame, IsSameEvent, same-call, same-event, same-none, same-report}
+use Rattle.console_reporter.proofs.lemmas.Same.{AreSame, IsSameEvent, same-call, same-event, same-itself, same-report}
 
 -- an answer of Skip
 not_loaded : (b : Bool) → is_skip (Some (load_if b)) ≡ true → b ≡ false
@@ -152,7 +148,7 @@ same-unloaded s elapsed other h = absurd (false≢true h)
 
 -- calls are the same without the outputs that the decider skips
 same-calls : (config : Configuration) (calls : List ReportCall) → AreSame config calls (unread (decider_of config) calls)
-same-calls config [] = same-none config
+same-calls config [] = same-itself config []
 same-calls config (Event e ∷ calls) =
     let d = decider_of config in
     let all = same-calls config calls in

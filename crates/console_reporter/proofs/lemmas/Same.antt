@@ -1,7 +1,6 @@
 -- Lists of calls that a report cannot tell apart (for `unload_skipped`, `run_report`, `DisplayReporter::output_load_decider`).
 use Rattle.std.proofs.Common.{◌≡◌, ℕ, List, [], ◌∷◌, ◌++◌, refl, sym, ap, ap₂, ◌∙◌, max, reverse, append_assoc}
 use Rattle.std.specs.List.{flat_map}
-use Rattle.std.specs.Option.{option_to_list}
 use Rattle.std.proofs.lemmas.List.{reverse-append}
 use Rattle.report_text.specs.Texts.{Text}
 use Rattle.run_model.specs.declared.event.TestEvent.{TestEvent}
@@ -22,18 +21,18 @@ pub record IsSameEvent (s : Settings) (e f : TestEvent) : Type 0 where
 
 -- two pasts after which one thing is known, and whose texts are the same
 pub record AreSame (config : Configuration) (xs ys : List ReportCall) : Type 0 where
-  pub known : prefix ys ≡ prefix xs
-  pub reason : cancel ys ≡ cancel xs
-  pub entries : kept (settings_of config) ys ≡ kept (settings_of config) xs
+  pub prefix : prefix ys ≡ prefix xs
+  pub cancel : cancel ys ≡ cancel xs
+  pub kept : kept (settings_of config) ys ≡ kept (settings_of config) xs
   pub texts : texts config ys ≡ texts config xs
 
 module _ (config : Configuration) where
-  pub same-none : AreSame config [] []
-  same-none = record { known = refl; reason = refl; entries = refl; texts = refl }
+  pub same-itself : (xs : List ReportCall) → AreSame config xs xs
+  same-itself xs = record { prefix = refl; cancel = refl; kept = refl; texts = refl }
 
   module _ (xs ys : List ReportCall) (all : AreSame config xs ys) where
     same-known : known_after config ys ≡ known_after config xs
-    same-known = rw (all.known, all.reason, all.entries) refl
+    same-known = rw (all.prefix, all.cancel, all.kept) refl
 
     same-texts : (x y : ReportCall) → text config ys y ≡ text config xs x → texts config (y ∷ ys) ≡ texts config (x ∷ xs)
     unfolding texts
@@ -43,9 +42,9 @@ module _ (config : Configuration) where
     pub same-event : (e f : TestEvent) → IsSameEvent (settings_of config) e f → AreSame config (Event e ∷ xs) (Event f ∷ ys)
     unfolding prefix cancel kept
     same-event e f one = record {
-      known = all.known;
-      reason = ap₂ max one.reason all.reason;
-      entries = rw (all.entries, all.reason, one.entry (cancel xs)) refl;
+      prefix = all.prefix;
+      cancel = ap₂ max one.reason all.cancel;
+      kept = rw (all.kept, all.cancel, one.entry (cancel xs)) refl;
       texts = same-texts (Event e) (Event f) (ap (λ known. event_text (settings_of config) known f.elapsed.0 f.kind) same-known ∙ one.text (known_after config xs));
     }
 
@@ -53,8 +52,8 @@ module _ (config : Configuration) where
     pub same-call : (call : ReportCall) → AreSame config (call ∷ xs) (call ∷ ys)
     unfolding prefix cancel kept
     same-call (Event e) = same-event e e (record { reason = refl; entry = λ before. refl; text = λ known. refl })
-    same-call (Header h) = record { known = all.known; reason = all.reason; entries = all.entries; texts = same-texts (Header h) (Header h) refl }
-    same-call (Prefix p) = record { known = refl; reason = all.reason; entries = all.entries; texts = same-texts (Prefix p) (Prefix p) refl }
+    same-call (Header h) = record { prefix = all.prefix; cancel = all.cancel; kept = all.kept; texts = same-texts (Header h) (Header h) refl }
+    same-call (Prefix p) = record { prefix = refl; cancel = all.cancel; kept = all.kept; texts = same-texts (Prefix p) (Prefix p) refl }
 
     pub same-report : report config ys ≡ report config xs
     same-report = report-joined config ys ∙ ap (flat_map (λ t. t)) all.texts ∙ sym (report-joined config xs)
@@ -64,7 +63,7 @@ module _ (config : Configuration) where
   same-onto xs ys all [] = all
   same-onto xs ys all (call ∷ later) = same-call (later ++ xs) (later ++ ys) (same-onto xs ys all later) call
 
--- what stood before the end of calls one of which is named
+-- a list in reverse, around one of its elements
 pub reverse-middle : {X : Type 0} (front : List X) (x : X) (back : List X) → reverse (front ++ x ∷ back) ≡ reverse back ++ x ∷ reverse front
 reverse-middle front x back =
     reverse-append front (x ∷ back) ∙ ap (λ l. l ++ reverse front) (reverse-append (x ∷ []) back) ∙ append_assoc (reverse back) (x ∷ []) (reverse front)
@@ -74,6 +73,5 @@ pub same-but-one : (config : Configuration) (front back : List ReportCall) (e f 
     texts config (reverse (front ++ Event f ∷ back)) ≡ texts config (reverse (front ++ Event e ∷ back))
 same-but-one config front back e f one =
     let past = reverse front in
-    let itself : AreSame config past past = record { known = refl; reason = refl; entries = refl; texts = refl } in
-    let all = same-onto config (Event e ∷ past) (Event f ∷ past) (same-event config past past itself e f one) (reverse back) in
+    let all = same-onto config (Event e ∷ past) (Event f ∷ past) (same-event config past past (same-itself config past) e f one) (reverse back) in
     rw (reverse-middle front (Event f) back, reverse-middle front (Event e) back) all.texts

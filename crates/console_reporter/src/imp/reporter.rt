@@ -98,8 +98,10 @@ impl<'a, W: WriteStr> DisplayReporter<'a, W> {
         }
     }
 
-    /// What decides by an event's metadata whether this reporter refuses it, and whether it shows its output: a replay that
-    /// loads less shows less, and one that loads more shows no more.
+    /// What decides by an event's metadata whether this reporter refuses it, and whether it shows its output.
+    ///
+    /// No output that it skips changes a report. In a run that comes to its end, and is not cancelled at once, each that it loads
+    /// does.
     pub fn output_load_decider(&self) -> OutputLoadDecider
         ensures decider { (config : Configuration) (past : List ReportCall) → StandsAfter config past self.now → result ≡ decider_of config }
         ensures exactness { (config : Configuration) (past : List ReportCall) → StandsAfter config past self.now → IsExact config result }
