@@ -1,11 +1,16 @@
 pub mod Calls
+pub mod CalmRuns
 pub mod EntryTints
+pub mod Exactness
+pub mod Exchanges
 pub mod Inserts
 pub mod Isolation
 pub mod Keys
 pub mod Loads
 pub mod Orders
+pub mod OtherOutputs
 pub mod Pasts
+pub mod Places
 pub mod Refusals
 pub mod ReportTints
 pub mod Rows

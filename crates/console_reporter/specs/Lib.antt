@@ -1,8 +1,11 @@
 pub mod Accepted
+pub mod Calm
 pub mod ColourLaw
 pub mod Configuration
 pub mod Effects
 pub mod Entries
+pub mod Exactness
+pub mod Exchanges
 pub mod Isolation
 pub mod Keys
 pub mod Loads
@@ -12,5 +15,6 @@ pub mod PlainCalls
 pub mod PlainLaw
 pub mod Report
 pub mod Standing
+pub mod Statistics
 pub mod Topics
 pub mod Unread

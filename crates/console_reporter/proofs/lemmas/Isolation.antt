@@ -1,54 +1,50 @@
--- What the decider skips is not shown (for `unload_skipped`).
-use Rattle.std.proofs.Common.{◌≡◌, ℕ, ◌+◌, Bool, true, false, not, ◌&&◌, ◌||◌, Option, None, Some, List, [], ◌∷◌, ◌++◌, map, reverse, length, ◌==◌, if◌then◌else◌, refl, sym, ap, subst, ◌∙◌, inl, inr}
-use Rattle.std.specs.List.{AllByRecursion, position_or_len}
+-- What the decider skips is not shown (for `unload_skipped`, `DisplayReporter::output_load_decider`).
+use Rattle.std.proofs.Common.{◌≡◌, ℕ, Bool, true, false, not, Option, None, Some, List, [], ◌∷◌, ◌++◌, map, reverse, if◌then◌else◌, refl, sym, ap, subst, ◌∙◌, inl, inr}
+use Rattle.std.specs.List.{position_or_len}
 use Rattle.std.specs.Option.{is_some, option_map_or}
 use Rattle.std.proofs.lemmas.Bool.{cases_Bool, false≢true}
 use Rattle.std.proofs.lemmas.List.{length-map, map-append, reverse-append}
 use Rattle.run_model.specs.Attempts.{Attempts}
 use Rattle.run_model.specs.Displays.{is_immediate, is_final}
 use Rattle.run_model.specs.Outputs.{has_loaded_output}
-use Rattle.run_model.specs.Statuses.{is_success, summary_by, summary_of, case_of}
+use Rattle.run_model.specs.Statuses.{is_success, summary_of}
 use Rattle.run_model.specs.Unloaded.{unloaded_attempt, unloaded_attempts, unloaded_event, unloaded_kind, unloaded_script}
 use Rattle.run_model.specs.declared.config.TestOutputDisplay.{TestOutputDisplay}
-use Rattle.run_model.specs.declared.event.TestEvent.{TestEvent}
 use Rattle.run_model.specs.declared.event.TestEventKind.{TestEventKind}
-use Rattle.run_model.specs.declared.event.TestEventKind.TheVariants.{RunStarted, StressSubRunStarted, SetupScriptStarted, SetupScriptSlow, SetupScriptFinished, TestStarted, TestSlow, TestAttemptFailedWillRetry, TestRetryStarted, TestFinished, TestSkipped, RunBeginCancel, RunBeginKill, RunPaused, RunContinued, InfoStarted, InfoResponse, InfoFinished, InputEnter, StressSubRunFinished, RunFinished}
+use Rattle.run_model.specs.declared.event.TestEventKind.TheVariants.{SetupScriptFinished, TestAttemptFailedWillRetry, TestFinished}
 use Rattle.run_model.specs.declared.level.StatusLevel.TheVariants as level
 use Rattle.run_model.specs.declared.name.TestInstanceId.{TestInstanceId}
 use Rattle.run_model.specs.declared.output.ChildOutputDescription.{ChildOutputDescription}
 use Rattle.run_model.specs.declared.output.LiveSpec.{LiveSpec}
-use Rattle.run_model.specs.declared.output_event.LoadOutput.TheVariants.{Load, Skip}
 use Rattle.run_model.specs.declared.stats.RunStats.{RunStats}
 use Rattle.run_model.specs.declared.status.SetupScriptExecuteStatus.{SetupScriptExecuteStatus}
 use Rattle.run_model.specs.declared.stress.StressIndex.{StressIndex}
 use Rattle.run_model.specs.declared.time.Nanos.{Nanos}
-use Rattle.report_text.specs.Texts.{Text}
 use Rattle.event_text.specs.AttemptOutputs.{Written}
 use Rattle.event_text.specs.FinishedTests.{TestFinish, line_at_once, output_at_once, test_finish, test_finished_text}
-use Rattle.event_text.specs.Finishes.{display_of, is_ever_shown, row_at_end, row_at_once, row_listed}
-use Rattle.event_text.specs.RetriedTests.{Attempt, attempt_failed_text, attempt_failed_line, delay_line, failed_output, is_failed_output_shown}
+use Rattle.event_text.specs.Finishes.{display_of, is_ever_shown, row_at_end, row_at_once}
+use Rattle.event_text.specs.RetriedTests.{Attempt, attempt_failed_text, attempt_failed_line, failed_output, is_failed_output_shown}
 use Rattle.event_text.specs.Settings.{is_level_shown}
 use Rattle.event_text.specs.declared.finish.FinishRow.{FinishRow}
 use Rattle.event_text.specs.declared.finish.FinishRow.TheVariants.{Hidden, Shown, ShownOnce}
 use Rattle.event_text.specs.declared.settings.Settings.{Settings}
-use Rattle.run_text.specs.SetupScripts.{failed_script_output, setup_script_line, setup_script_finished_text}
+use Rattle.run_text.specs.SetupScripts.{failed_script_output, setup_script_finished_text}
 use Rattle.event_text.specs.Scripts.{Script}
 use Rattle.console_reporter.specs.Accepted.{AreAcceptedBy, decider_by, decider_of, event_refusal, first_refused, refusal_by}
 use Rattle.console_reporter.specs.Configuration.{Configuration, settings_of}
-use Rattle.console_reporter.specs.Effects.{effect_of, entry_of, final_output, is_kept, kept_entry}
+use Rattle.console_reporter.specs.Effects.{final_output, is_kept, kept_entry}
 use Rattle.console_reporter.specs.Effects.TestEnd.{Finished}
 use Rattle.console_reporter.specs.declared.imp.final_output.FinalOutput.{FinalOutput}
-use Rattle.console_reporter.specs.declared.imp.final_output.FinalOutputEntry.{FinalOutputEntry}
 use Rattle.run_model.specs.declared.status.StatusSummary.{StatusSummary}
 use Rattle.console_reporter.specs.Isolation.{IsIsolated}
 use Rattle.console_reporter.specs.Loads.{load_if, loads_attempt, loads_finish, loads_script}
-use Rattle.console_reporter.specs.Report.{Known, event_text, script_by}
+use Rattle.console_reporter.specs.Report.{event_text, script_by}
 use Rattle.console_reporter.specs.Unread.{is_skip, is_skipped, unread, unread_call}
 use Rattle.console_reporter.specs.declared.imp.calls.ReportCall.{ReportCall}
 use Rattle.console_reporter.specs.declared.imp.calls.ReportCall.TheVariants.{Event, Header, Prefix}
 use Rattle.console_reporter.specs.declared.imp.decider.OutputLoadDecider.{OutputLoadDecider}
 use Rattle.console_reporter.specs.declared.imp.faults.WriteEventError.TheVariants.{OutputNotLoaded, RetriedSuccess}
-use Rattle.console_reporter.proofs.lemmas.Same.{AreSame, IsSameCall, IsSameEvent, same-report, same-texts}
+use Rattle.console_reporter.proofs.lemmas.Same.{AreSame, IsSameEvent, same-call, same-event, same-itself, same-report}
 
 -- an answer of Skip
 not_loaded : (b : Bool) → is_skip (Some (load_if b)) ≡ true → b ≡ false
@@ -133,7 +129,7 @@ never-script s script x never =
     elim (cases_Bool (is_success x.result)) [ inl y ↦ rw y refl | inr n ↦ absurd (false≢true (sym (rw n at never))) ]
 
 -- an event whose output the decider skips is the same without it
-same-unloaded : (s : Settings) (elapsed : Nanos) (e : TestEventKind) → is_skipped (decider_by s) e ≡ true →
+pub same-unloaded : (s : Settings) (elapsed : Nanos) (e : TestEventKind) → is_skipped (decider_by s) e ≡ true →
     IsSameEvent s (record { elapsed = elapsed; kind = e }) (record { elapsed = elapsed; kind = unloaded_kind e })
 unfolding event_text
 same-unloaded s elapsed (SetupScriptFinished stress id program args status) h = record {
@@ -148,38 +144,20 @@ same-unloaded s elapsed (TestAttemptFailedWillRetry stress test status delay fai
 }
 same-unloaded s elapsed (TestFinished stress test success failure statuses stats) h =
     same-finish s stress test success failure statuses stats (not_loaded (loads_finish (decider_by s) success failure (summary_of statuses)) h) elapsed
-same-unloaded s elapsed (RunStarted counts id profile) h = absurd (false≢true h)
-same-unloaded s elapsed (StressSubRunStarted progress) h = absurd (false≢true h)
-same-unloaded s elapsed (SetupScriptStarted stress index total id program args) h = absurd (false≢true h)
-same-unloaded s elapsed (SetupScriptSlow stress id program args taken will_terminate) h = absurd (false≢true h)
-same-unloaded s elapsed (TestStarted stress test stats command) h = absurd (false≢true h)
-same-unloaded s elapsed (TestSlow stress test retry taken will_terminate) h = absurd (false≢true h)
-same-unloaded s elapsed (TestRetryStarted stress test retry command) h = absurd (false≢true h)
-same-unloaded s elapsed (TestSkipped stress test) h = absurd (false≢true h)
-same-unloaded s elapsed (RunBeginCancel scripts stats running) h = absurd (false≢true h)
-same-unloaded s elapsed (RunBeginKill scripts stats running) h = absurd (false≢true h)
-same-unloaded s elapsed (RunPaused scripts running) h = absurd (false≢true h)
-same-unloaded s elapsed (RunContinued scripts running) h = absurd (false≢true h)
-same-unloaded s elapsed (InfoStarted total stats) h = absurd (false≢true h)
-same-unloaded s elapsed (InfoResponse index total response) h = absurd (false≢true h)
-same-unloaded s elapsed (InfoFinished missing) h = absurd (false≢true h)
-same-unloaded s elapsed (InputEnter stats running) h = absurd (false≢true h)
-same-unloaded s elapsed (StressSubRunFinished progress taken stats) h = absurd (false≢true h)
-same-unloaded s elapsed (RunFinished taken stats outstanding) h = absurd (false≢true h)
+same-unloaded s elapsed other h = absurd (false≢true h)
 
--- a call is the same without the output that the decider skips
-same-call : (s : Settings) (call : ReportCall) → IsSameCall s call (unread_call (decider_by s) call)
-same-call s (Event e) =
-    elim (cases_Bool (is_skipped (decider_by s) e.kind)) [
-      | inl y ↦ rw y (same-unloaded s e.elapsed e.kind y)
-      | inr n ↦ rw n (record { reason = refl; entry = λ before. refl; text = λ known. refl })
+-- calls are the same without the outputs that the decider skips
+same-calls : (config : Configuration) (calls : List ReportCall) → AreSame config calls (unread (decider_of config) calls)
+same-calls config [] = same-itself config []
+same-calls config (Event e ∷ calls) =
+    let d = decider_of config in
+    let all = same-calls config calls in
+    elim (cases_Bool (is_skipped d e.kind)) [
+      | inl y ↦ rw y (same-event config calls (unread d calls) all e (unloaded_event e) (same-unloaded (settings_of config) e.elapsed e.kind y))
+      | inr n ↦ rw n (same-call config calls (unread d calls) all (Event e))
     ]
-same-call s (Header h) = refl
-same-call s (Prefix p) = refl
-
-same-calls : (s : Settings) (calls : List ReportCall) → AreSame s calls (unread (decider_by s) calls)
-same-calls s [] = tt
-same-calls s (call ∷ calls) = (same-call s call, same-calls s calls)
+same-calls config (Header h ∷ calls) = same-call config calls (unread (decider_of config) calls) (same-calls config calls) (Header h)
+same-calls config (Prefix p ∷ calls) = same-call config calls (unread (decider_of config) calls) (same-calls config calls) (Prefix p)
 
 -- nothing is lacking of what is not needed
 none-needed : (is_needed : Bool) (output : Written) → is_needed ≡ false →
@@ -202,24 +180,7 @@ same-refusal d (TestFinished stress test success failure statuses stats) h =
     ap (λ (lacks : Bool). if lacks then Some OutputNotLoaded else None)
     (none-needed (loads_finish d success failure (summary_of (unloaded_attempts statuses))) (unloaded_attempts statuses).last.output also
     ∙ sym (none-needed (loads_finish d success failure (summary_of statuses)) statuses.last.output never))
-same-refusal d (RunStarted counts id profile) h = absurd (false≢true h)
-same-refusal d (StressSubRunStarted progress) h = absurd (false≢true h)
-same-refusal d (SetupScriptStarted stress index total id program args) h = absurd (false≢true h)
-same-refusal d (SetupScriptSlow stress id program args taken will_terminate) h = absurd (false≢true h)
-same-refusal d (TestStarted stress test stats command) h = absurd (false≢true h)
-same-refusal d (TestSlow stress test retry taken will_terminate) h = absurd (false≢true h)
-same-refusal d (TestRetryStarted stress test retry command) h = absurd (false≢true h)
-same-refusal d (TestSkipped stress test) h = absurd (false≢true h)
-same-refusal d (RunBeginCancel scripts stats running) h = absurd (false≢true h)
-same-refusal d (RunBeginKill scripts stats running) h = absurd (false≢true h)
-same-refusal d (RunPaused scripts running) h = absurd (false≢true h)
-same-refusal d (RunContinued scripts running) h = absurd (false≢true h)
-same-refusal d (InfoStarted total stats) h = absurd (false≢true h)
-same-refusal d (InfoResponse index total response) h = absurd (false≢true h)
-same-refusal d (InfoFinished missing) h = absurd (false≢true h)
-same-refusal d (InputEnter stats running) h = absurd (false≢true h)
-same-refusal d (StressSubRunFinished progress taken stats) h = absurd (false≢true h)
-same-refusal d (RunFinished taken stats outstanding) h = absurd (false≢true h)
+same-refusal d other h = absurd (false≢true h)
 
 same-call-refusal : (d : OutputLoadDecider) (call : ReportCall) → refusal_by d (unread_call d call) ≡ refusal_by d call
 same-call-refusal d (Event e) = elim (cases_Bool (is_skipped d e.kind)) [ inl y ↦ rw y (same-refusal d e.kind y) | inr n ↦ rw n refl ]
@@ -245,14 +206,14 @@ map_reverse f (x ∷ xs) =
     ∙ sym (reverse-append (f x ∷ []) (map f xs))
 
 -- the same from the latest call on, as a past has them
-same-past : (config : Configuration) (d : OutputLoadDecider) (calls : List ReportCall) → decider_of config ≡ d → AreSame (settings_of config) (reverse calls) (reverse (unread d calls))
+same-past : (config : Configuration) (d : OutputLoadDecider) (calls : List ReportCall) → decider_of config ≡ d → AreSame config (reverse calls) (reverse (unread d calls))
 same-past config d calls is =
-    subst (AreSame (settings_of config) (reverse calls)) (map_reverse (unread_call d) calls)
-    (subst (λ x. AreSame (settings_of config) (reverse calls) (unread x (reverse calls))) is (same-calls (settings_of config) (reverse calls)))
+    subst (AreSame config (reverse calls)) (map_reverse (unread_call d) calls)
+    (subst (λ x. AreSame config (reverse calls) (unread x (reverse calls))) is (same-calls config (reverse calls)))
 
 pub isolated : (d : OutputLoadDecider) (calls : List ReportCall) → IsIsolated d calls (unread d calls)
 isolated d calls = (
-  λ config is. same-texts config (reverse calls) (reverse (unread d calls)) (same-past config d calls is),
+  λ config is. (same-past config d calls is).texts,
   λ config is. same-report config (reverse calls) (reverse (unread d calls)) (same-past config d calls is),
   all-accepted d calls,
   same-first d calls,

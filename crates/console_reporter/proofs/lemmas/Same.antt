@@ -1,15 +1,17 @@
--- Lists of calls that a report cannot tell apart (for `unload_skipped`).
-use Rattle.std.proofs.Common.{◌≡◌, ℕ, List, [], ◌∷◌, ◌++◌, refl, sym, ap, ap₂, ◌∙◌, max, Option, Some}
-use Rattle.std.specs.Option.{option_to_list}
+-- Lists of calls that a report cannot tell apart (for `unload_skipped`, `run_report`, `DisplayReporter::output_load_decider`).
+use Rattle.std.proofs.Common.{◌≡◌, ℕ, List, [], ◌∷◌, ◌++◌, refl, sym, ap, ap₂, ◌∙◌, max, reverse, append_assoc}
+use Rattle.std.specs.List.{flat_map}
+use Rattle.std.proofs.lemmas.List.{reverse-append}
+use Rattle.report_text.specs.Texts.{Text}
 use Rattle.run_model.specs.declared.event.TestEvent.{TestEvent}
-use Rattle.run_model.specs.declared.event.TestEventKind.{TestEventKind}
 use Rattle.event_text.specs.declared.settings.Settings.{Settings}
 use Rattle.console_reporter.specs.Configuration.{Configuration, settings_of}
 use Rattle.console_reporter.specs.Effects.{effect_of, entry_of}
-use Rattle.console_reporter.specs.Entries.{cancel, final_order, kept, prefix}
+use Rattle.console_reporter.specs.Entries.{cancel, kept, prefix}
 use Rattle.console_reporter.specs.Report.{Known, event_text, known_after, report, text, texts}
 use Rattle.console_reporter.specs.declared.imp.calls.ReportCall.{ReportCall}
 use Rattle.console_reporter.specs.declared.imp.calls.ReportCall.TheVariants.{Event, Header, Prefix}
+use Rattle.console_reporter.proofs.lemmas.Texts.{report-joined}
 
 -- one reason, one entry under each reason before, and one text whatever is known
 pub record IsSameEvent (s : Settings) (e f : TestEvent) : Type 0 where
@@ -17,100 +19,59 @@ pub record IsSameEvent (s : Settings) (e f : TestEvent) : Type 0 where
   pub entry : (before : ℕ) → entry_of s before f.kind ≡ entry_of s before e.kind
   pub text : (known : Known) → event_text s known f.elapsed.0 f.kind ≡ event_text s known e.elapsed.0 e.kind
 
-abbrev pub IsSameCall : Settings → ReportCall → ReportCall → Type 0
-IsSameCall s (Event e) (Event f) = IsSameEvent s e f
-IsSameCall s (Event e) (Header h) = ⊥
-IsSameCall s (Event e) (Prefix p) = ⊥
-IsSameCall s (Header h) (Event f) = ⊥
-IsSameCall s (Header h) (Header k) = k ≡ h
-IsSameCall s (Header h) (Prefix p) = ⊥
-IsSameCall s (Prefix p) (Event f) = ⊥
-IsSameCall s (Prefix p) (Header h) = ⊥
-IsSameCall s (Prefix p) (Prefix q) = q ≡ p
+-- two pasts after which one thing is known, and whose texts are the same
+pub record AreSame (config : Configuration) (xs ys : List ReportCall) : Type 0 where
+  pub prefix : prefix ys ≡ prefix xs
+  pub cancel : cancel ys ≡ cancel xs
+  pub kept : kept (settings_of config) ys ≡ kept (settings_of config) xs
+  pub texts : texts config ys ≡ texts config xs
 
--- the same at each place
-abbrev pub AreSame : Settings → List ReportCall → List ReportCall → Type 0
-AreSame s [] [] = Unit {0}
-AreSame s [] (y ∷ ys) = ⊥
-AreSame s (x ∷ xs) [] = ⊥
-AreSame s (x ∷ xs) (y ∷ ys) = IsSameCall s x y × AreSame s xs ys
+module _ (config : Configuration) where
+  pub same-itself : (xs : List ReportCall) → AreSame config xs xs
+  same-itself xs = record { prefix = refl; cancel = refl; kept = refl; texts = refl }
 
-same-cancel : (s : Settings) (xs ys : List ReportCall) → AreSame s xs ys → cancel ys ≡ cancel xs
-unfolding cancel
-same-cancel s [] [] h = refl
-same-cancel s [] (y ∷ ys) h = absurd h
-same-cancel s (x ∷ xs) [] h = absurd h
-same-cancel s (Event e ∷ xs) (Event f ∷ ys) h = ap₂ max h.0.reason (same-cancel s xs ys h.1)
-same-cancel s (Event e ∷ xs) (Header k ∷ ys) h = absurd h.0
-same-cancel s (Event e ∷ xs) (Prefix q ∷ ys) h = absurd h.0
-same-cancel s (Header k ∷ xs) (Event f ∷ ys) h = absurd h.0
-same-cancel s (Header k ∷ xs) (Header l ∷ ys) h = same-cancel s xs ys h.1
-same-cancel s (Header k ∷ xs) (Prefix q ∷ ys) h = absurd h.0
-same-cancel s (Prefix p ∷ xs) (Event f ∷ ys) h = absurd h.0
-same-cancel s (Prefix p ∷ xs) (Header k ∷ ys) h = absurd h.0
-same-cancel s (Prefix p ∷ xs) (Prefix q ∷ ys) h = same-cancel s xs ys h.1
+  module _ (xs ys : List ReportCall) (all : AreSame config xs ys) where
+    same-known : known_after config ys ≡ known_after config xs
+    same-known = rw (all.prefix, all.cancel, all.kept) refl
 
-same-prefix : (s : Settings) (xs ys : List ReportCall) → AreSame s xs ys → prefix ys ≡ prefix xs
-unfolding prefix
-same-prefix s [] [] h = refl
-same-prefix s [] (y ∷ ys) h = absurd h
-same-prefix s (x ∷ xs) [] h = absurd h
-same-prefix s (Event e ∷ xs) (Event f ∷ ys) h = same-prefix s xs ys h.1
-same-prefix s (Event e ∷ xs) (Header k ∷ ys) h = absurd h.0
-same-prefix s (Event e ∷ xs) (Prefix q ∷ ys) h = absurd h.0
-same-prefix s (Header k ∷ xs) (Event f ∷ ys) h = absurd h.0
-same-prefix s (Header k ∷ xs) (Header l ∷ ys) h = same-prefix s xs ys h.1
-same-prefix s (Header k ∷ xs) (Prefix q ∷ ys) h = absurd h.0
-same-prefix s (Prefix p ∷ xs) (Event f ∷ ys) h = absurd h.0
-same-prefix s (Prefix p ∷ xs) (Header k ∷ ys) h = absurd h.0
-same-prefix s (Prefix p ∷ xs) (Prefix q ∷ ys) h = ap Some h.0
+    same-texts : (x y : ReportCall) → text config ys y ≡ text config xs x → texts config (y ∷ ys) ≡ texts config (x ∷ xs)
+    unfolding texts
+    same-texts x y here = ap₂ (λ (before : List Text) (t : Text). before ++ t ∷ []) all.texts here
 
-same-kept : (s : Settings) (xs ys : List ReportCall) → AreSame s xs ys → kept s ys ≡ kept s xs
-unfolding kept
-same-kept s [] [] h = refl
-same-kept s [] (y ∷ ys) h = absurd h
-same-kept s (x ∷ xs) [] h = absurd h
-same-kept s (Event e ∷ xs) (Event f ∷ ys) h =
-    rw (same-kept s xs ys h.1, same-cancel s xs ys h.1, h.0.entry (cancel xs)) refl
-same-kept s (Event e ∷ xs) (Header k ∷ ys) h = absurd h.0
-same-kept s (Event e ∷ xs) (Prefix q ∷ ys) h = absurd h.0
-same-kept s (Header k ∷ xs) (Event f ∷ ys) h = absurd h.0
-same-kept s (Header k ∷ xs) (Header l ∷ ys) h = same-kept s xs ys h.1
-same-kept s (Header k ∷ xs) (Prefix q ∷ ys) h = absurd h.0
-same-kept s (Prefix p ∷ xs) (Event f ∷ ys) h = absurd h.0
-same-kept s (Prefix p ∷ xs) (Header k ∷ ys) h = absurd h.0
-same-kept s (Prefix p ∷ xs) (Prefix q ∷ ys) h = same-kept s xs ys h.1
+    -- the same event after them
+    pub same-event : (e f : TestEvent) → IsSameEvent (settings_of config) e f → AreSame config (Event e ∷ xs) (Event f ∷ ys)
+    unfolding prefix cancel kept
+    same-event e f one = record {
+      prefix = all.prefix;
+      cancel = ap₂ max one.reason all.cancel;
+      kept = rw (all.kept, all.cancel, one.entry (cancel xs)) refl;
+      texts = same-texts (Event e) (Event f) (ap (λ known. event_text (settings_of config) known f.elapsed.0 f.kind) same-known ∙ one.text (known_after config xs));
+    }
 
--- so one thing is known after them
-same-known : (config : Configuration) (xs ys : List ReportCall) → AreSame (settings_of config) xs ys → known_after config ys ≡ known_after config xs
-same-known config xs ys h =
-    rw (same-prefix (settings_of config) xs ys h, same-cancel (settings_of config) xs ys h, same-kept (settings_of config) xs ys h) refl
+    -- one call after them
+    pub same-call : (call : ReportCall) → AreSame config (call ∷ xs) (call ∷ ys)
+    unfolding prefix cancel kept
+    same-call (Event e) = same-event e e (record { reason = refl; entry = λ before. refl; text = λ known. refl })
+    same-call (Header h) = record { prefix = all.prefix; cancel = all.cancel; kept = all.kept; texts = same-texts (Header h) (Header h) refl }
+    same-call (Prefix p) = record { prefix = refl; cancel = all.cancel; kept = all.kept; texts = same-texts (Prefix p) (Prefix p) refl }
 
--- the text of the same call after the same calls
-same-text : (config : Configuration) (x y : ReportCall) (xs ys : List ReportCall) → IsSameCall (settings_of config) x y → AreSame (settings_of config) xs ys →
-    text config ys y ≡ text config xs x
-same-text config (Event e) (Event f) xs ys one all =
-    ap (λ known. event_text (settings_of config) known f.elapsed.0 f.kind) (same-known config xs ys all) ∙ one.text (known_after config xs)
-same-text config (Event e) (Header k) xs ys one all = absurd one
-same-text config (Event e) (Prefix q) xs ys one all = absurd one
-same-text config (Header k) (Event f) xs ys one all = absurd one
-same-text config (Header k) (Header l) xs ys one all = rw one refl
-same-text config (Header k) (Prefix q) xs ys one all = absurd one
-same-text config (Prefix p) (Event f) xs ys one all = absurd one
-same-text config (Prefix p) (Header k) xs ys one all = absurd one
-same-text config (Prefix p) (Prefix q) xs ys one all = refl
+    pub same-report : report config ys ≡ report config xs
+    same-report = report-joined config ys ∙ ap (flat_map (λ t. t)) all.texts ∙ sym (report-joined config xs)
 
--- so each place has one text, and the report is one
-pub same-texts : (config : Configuration) (xs ys : List ReportCall) → AreSame (settings_of config) xs ys → texts config ys ≡ texts config xs
-unfolding texts
-same-texts config [] [] h = refl
-same-texts config [] (y ∷ ys) h = absurd h
-same-texts config (x ∷ xs) [] h = absurd h
-same-texts config (x ∷ xs) (y ∷ ys) h =
-    ap₂ (λ (before : List (List ℕ)) (here : List ℕ). before ++ here ∷ []) (same-texts config xs ys h.1) (same-text config x y xs ys h.0 h.1)
+  -- calls after them
+  pub same-onto : (xs ys : List ReportCall) → AreSame config xs ys → (later : List ReportCall) → AreSame config (later ++ xs) (later ++ ys)
+  same-onto xs ys all [] = all
+  same-onto xs ys all (call ∷ later) = same-call (later ++ xs) (later ++ ys) (same-onto xs ys all later) call
 
-pub same-report : (config : Configuration) (xs ys : List ReportCall) → AreSame (settings_of config) xs ys → report config ys ≡ report config xs
-same-report config [] [] h = refl
-same-report config [] (y ∷ ys) h = absurd h
-same-report config (x ∷ xs) [] h = absurd h
-same-report config (x ∷ xs) (y ∷ ys) h = ap₂ (λ (before here : List ℕ). before ++ here) (same-report config xs ys h.1) (same-text config x y xs ys h.0 h.1)
+-- a list in reverse, around one of its elements
+pub reverse-middle : {X : Type 0} (front : List X) (x : X) (back : List X) → reverse (front ++ x ∷ back) ≡ reverse back ++ x ∷ reverse front
+reverse-middle front x back =
+    reverse-append front (x ∷ back) ∙ ap (λ l. l ++ reverse front) (reverse-append (x ∷ []) back) ∙ append_assoc (reverse back) (x ∷ []) (reverse front)
+
+-- one event in the place of another that is the same
+pub same-but-one : (config : Configuration) (front back : List ReportCall) (e f : TestEvent) → IsSameEvent (settings_of config) e f →
+    texts config (reverse (front ++ Event f ∷ back)) ≡ texts config (reverse (front ++ Event e ∷ back))
+same-but-one config front back e f one =
+    let past = reverse front in
+    let all = same-onto config (Event e ∷ past) (Event f ∷ past) (same-event config past past (same-itself config past) e f one) (reverse back) in
+    rw (reverse-middle front (Event f) back, reverse-middle front (Event e) back) all.texts

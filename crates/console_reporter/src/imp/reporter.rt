@@ -17,8 +17,11 @@ ghost use Rattle.console_reporter.specs.Accepted.{AreAccepted, IsAccepted, decid
 ghost use Rattle.console_reporter.specs.Effects.{HasEndOutput, HasEndOutputIn, TestEnd, effect_of, end_of, kept_entry};
 ghost use Rattle.console_reporter.specs.Loads.{lacks_output};
 ghost use Rattle.console_reporter.specs.Entries.{final_order, hiding_rank};
+ghost use Rattle.console_reporter.specs.Exactness.{IsExact};
+ghost use Rattle.console_reporter.specs.Exchanges.{IsOrderIndependent};
 ghost use Rattle.console_reporter.specs.Outcomes.{Stops, StopsAfter, IsOfLines, answered_refusal, error_for, refusal_in};
 ghost use Rattle.console_reporter.specs.Report.{end_of_run_text, event_text, finished_text, listed_text, text, texts, report, past_at, text_at};
+ghost use Rattle.console_reporter.specs.Statistics.{IsStatsIndependent};
 ghost use Rattle.console_reporter.specs.Topics.{is_of_run};
 ghost use Rattle.console_reporter.specs.Standing.{StandsAfter, HasFailed, IsSameWriter, MayGrow, MayGrowAt, MayGrowIn, known_by};
 
@@ -98,8 +101,12 @@ impl<'a, W: WriteStr> DisplayReporter<'a, W> {
     }
 
     /// What decides by an event's metadata whether this reporter refuses it, and whether it shows its output.
+    ///
+    /// No output that it skips changes a report. In a run that comes to its end, and is not cancelled at once, each that it loads
+    /// does.
     pub fn output_load_decider(&self) -> OutputLoadDecider
-        ensures { (config : Configuration) (past : List ReportCall) → StandsAfter config past self.now → result ≡ decider_of config }
+        ensures decider { (config : Configuration) (past : List ReportCall) → StandsAfter config past self.now → result ≡ decider_of config }
+        ensures exactness { (config : Configuration) (past : List ReportCall) → StandsAfter config past self.now → IsExact config result }
     {
         OutputLoadDecider::of_settings(&self.state.settings)
     }
@@ -590,6 +597,10 @@ pub fn run_report<'a, W: WriteStr>(
     ensures known { IfErr result (λ stop. stop.fault ≡ WriteEventError.Failed → ⊥) }
     ensures colour { ColourLaw (configured builder use_unicode is_terminal is_ci display_empty_outputs) calls.now }
     ensures plain { PlainLaw (configured builder use_unicode is_terminal is_ci display_empty_outputs) calls.now }
+    ensures order { let config = configured builder use_unicode is_terminal is_ci display_empty_outputs in
+        IsOrderIndependent config calls.now }
+    ensures statistics { let config = configured builder use_unicode is_terminal is_ci display_empty_outputs in
+        IsStatsIndependent config calls.now }
 {
     let mut reporter = builder.build(
         alloc,

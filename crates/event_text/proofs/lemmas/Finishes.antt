@@ -1,4 +1,4 @@
--- What a reason for cancelling does to the outputs of tests (for `reasons_only_hide`).
+-- What a reason for cancelling does to the outputs of tests (for `reasons_only_hide`, and in console_reporter for the lemmas of CalmRuns, Exactness).
 use Rattle.std.specs.Prelude.{◌==◌, nat_lt}
 use Rattle.std.proofs.Common.{◌≡◌, ℕ, ◌<◌, ◌∙◌, true, false, refl, sym, ap, arith}
 use Rattle.std.proofs.lemmas.Bool.{false≢true}
@@ -12,7 +12,7 @@ use Rattle.event_text.specs.declared.finish.FinishRow.{FinishRow}
 use Rattle.event_text.specs.declared.finish.FinishRow.TheVariants.{Hidden, Shown, ShownOnce}
 
 -- below the immediate end, and without a reason, the row is one
-row_below : (reason : ℕ) (result : ExecutionResultDescription) → reason < 5 → finish_row reason result ≡ Shown
+pub row_below : (reason : ℕ) (result : ExecutionResultDescription) → reason < 5 → finish_row reason result ≡ Shown
 unfolding finish_row
 row_below reason result h =
     let other : (reason == 5) ≡ false = grind (arith, nat_tests) in

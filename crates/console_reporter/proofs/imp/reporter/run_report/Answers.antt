@@ -5,6 +5,7 @@ use Rattle.console_reporter.specs.Accepted.{AreAccepted, refusal_at}
 use Rattle.console_reporter.specs.Outcomes.{refusal_in}
 use Rattle.console_reporter.proofs.lemmas.Calls.{err_here, ok_here, refused_from, stopped_io, stopped_known}
 use Rattle.console_reporter.proofs.lemmas.ReportTints.{colour_holds, plain_holds}
+use Rattle.console_reporter.proofs.lemmas.Exchanges.{order_independent, stats_independent}
 use Rattle.console_reporter.proofs.imp.reporter.run_report.Goals as goal
 
 pub returns-clause-ok : goal.returns-clause-ok
@@ -44,3 +45,9 @@ returns-clause-colour g c = colour_holds (configured c.args.builder c.args.use_u
 
 pub returns-clause-plain : goal.returns-clause-plain
 returns-clause-plain g c = plain_holds (configured c.args.builder c.args.use_unicode c.args.is_terminal c.args.is_ci c.args.display_empty_outputs) c.args.calls.now
+
+pub returns-clause-order : goal.returns-clause-order
+returns-clause-order g c = order_independent (configured c.args.builder c.args.use_unicode c.args.is_terminal c.args.is_ci c.args.display_empty_outputs) c.args.calls.now
+
+pub returns-clause-statistics : goal.returns-clause-statistics
+returns-clause-statistics g c = stats_independent (configured c.args.builder c.args.use_unicode c.args.is_terminal c.args.is_ci c.args.display_empty_outputs) c.args.calls.now

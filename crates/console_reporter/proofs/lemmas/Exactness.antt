@@ -1,0 +1,224 @@
+-- What is observed is loaded, and in a calm run what is loaded is observed (for `DisplayReporter::output_load_decider`).
+use Rattle.std.proofs.Common.{◌≢◌, ◌≡◌, ℕ, Bool, true, false, List, [], ◌∷◌, ◌++◌, Option, Some, refl, sym, ap, ◌∙◌, reverse, append_assoc, inl, inr, codes, arith, lit<}
+use Rattle.std.specs.List.{flat_map}
+use Rattle.std.specs.Option.{option_to_list}
+use Rattle.std.proofs.lemmas.Bool.{false≢true, and_parts, not-true, or_cases}
+use Rattle.std.proofs.lemmas.Grind.{flat_map-append}
+use Rattle.std.proofs.lemmas.List.{append_cancel_left, append_cancel_right, reverse-append, same_from_push}
+use Rattle.run_model.specs.Attempts.{Attempts}
+use Rattle.run_model.specs.Displays.{is_final, is_immediate}
+use Rattle.run_model.specs.Statuses.{is_success, summary_of}
+use Rattle.run_model.specs.Unloaded.{unloaded_event, unloaded_kind}
+use Rattle.run_model.specs.declared.config.TestOutputDisplay.{TestOutputDisplay}
+use Rattle.run_model.specs.declared.event.TestEvent.{TestEvent}
+use Rattle.run_model.specs.declared.event.TestEventKind.{TestEventKind}
+use Rattle.run_model.specs.declared.event.TestEventKind.TheVariants.{SetupScriptFinished, TestAttemptFailedWillRetry, TestFinished, RunFinished}
+use Rattle.run_model.specs.declared.level.StatusLevel.TheVariants as level
+use Rattle.run_model.specs.declared.name.TestInstanceId.{TestInstanceId}
+use Rattle.run_model.specs.declared.output.ChildOutputDescription.{ChildOutputDescription}
+use Rattle.run_model.specs.declared.output.LiveSpec.{LiveSpec}
+use Rattle.run_model.specs.declared.output_event.LoadOutput.{LoadOutput}
+use Rattle.run_model.specs.declared.output_event.LoadOutput.TheVariants.{Load, Skip}
+use Rattle.run_model.specs.declared.stats.RunStats.{RunStats}
+use Rattle.run_model.specs.declared.status.SetupScriptExecuteStatus.{SetupScriptExecuteStatus}
+use Rattle.run_model.specs.declared.status.StatusSummary.{StatusSummary}
+use Rattle.run_model.specs.declared.stress.StressIndex.{StressIndex}
+use Rattle.run_model.specs.declared.time.Nanos.{Nanos}
+use Rattle.run_model.specs.declared.unit.UnitKind.TheVariants as unit
+use Rattle.report_text.specs.Texts.{Text}
+use Rattle.event_text.specs.AttemptOutputs.{Written}
+use Rattle.event_text.specs.FinishedTests.{line_at_once, output_at_once, test_finished_text}
+use Rattle.event_text.specs.Finishes.{display_of, is_final_wanted, row_at_end, row_at_once, row_listed}
+use Rattle.event_text.specs.Instances.{padded_instance}
+use Rattle.event_text.specs.RetriedTests.{Attempt, attempt_failed_line, attempt_failed_text, delay_line, failed_output, is_failed_output_shown}
+use Rattle.event_text.specs.Scripts.{Script}
+use Rattle.event_text.specs.Settings.{finished_counter, is_level_shown}
+use Rattle.event_text.specs.StatusLines.{status_line}
+use Rattle.event_text.proofs.lemmas.Finishes.{row_below}
+use Rattle.event_text.specs.declared.instance.CountedInstance.{CountedInstance}
+use Rattle.event_text.specs.declared.settings.Settings.{Settings}
+use Rattle.event_text.specs.declared.status_line.StatusLineKind.TheVariants.{Final}
+use Rattle.run_model.specs.Stats.{final_stats_of_run}
+use Rattle.unit_report.specs.Warnings.{final_warnings}
+use Rattle.run_text.specs.NotSeens.{not_seen_text}
+use Rattle.run_text.specs.Summaries.{run_finished_text}
+use Rattle.run_text.specs.SetupScripts.{failed_script_output, setup_script_finished_text, setup_script_line}
+use Rattle.console_reporter.specs.Accepted.{decider_by, decider_of}
+use Rattle.console_reporter.specs.Calm.{AreCalm, is_end_of_run}
+use Rattle.console_reporter.specs.Configuration.{Configuration, settings_of}
+use Rattle.console_reporter.specs.Effects.{entry_of, final_output}
+use Rattle.console_reporter.specs.Entries.{cancel, final_order, final_text}
+use Rattle.console_reporter.specs.Exactness.{IsExact, IsObserved, combined, with_output, writing}
+use Rattle.console_reporter.specs.Loads.{decision, load_if, loads_attempt, loads_script}
+use Rattle.console_reporter.specs.Report.{event_text, listed_text, script_by, text, texts}
+use Rattle.console_reporter.specs.Unread.{is_skip}
+use Rattle.console_reporter.specs.declared.imp.calls.ReportCall.{ReportCall}
+use Rattle.console_reporter.specs.declared.imp.calls.ReportCall.TheVariants.{Event}
+use Rattle.console_reporter.specs.declared.imp.decider.OutputLoadDecider.{OutputLoadDecider}
+use Rattle.console_reporter.specs.declared.imp.final_output.FinalOutputEntry.{FinalOutputEntry}
+use Rattle.console_reporter.proofs.lemmas.CalmRuns.{calm_back, calm_both, calm_end, calm_entries, calm_front, calm_past, listing}
+use Rattle.console_reporter.proofs.lemmas.Isolation.{same-unloaded}
+use Rattle.console_reporter.proofs.lemmas.OtherOutputs.{outputs_differ}
+use Rattle.console_reporter.proofs.lemmas.Places.{entry_with, text-place}
+use Rattle.console_reporter.proofs.lemmas.Same.{reverse-middle, same-but-one}
+
+abbrev wrote_a : Written
+wrote_a = combined (codes "a")
+
+abbrev wrote_b : Written
+wrote_b = combined (codes "b")
+
+-- the decider looks at no output
+same-decision : (d : OutputLoadDecider) (output : Written) (e : TestEventKind) → decision d (with_output output e) ≡ decision d e
+same-decision d output (SetupScriptFinished stress id program args status) = refl
+same-decision d output (TestAttemptFailedWillRetry stress test status delay failure) = refl
+same-decision d output (TestFinished stress test success failure statuses stats) = refl
+same-decision d output other = refl
+
+-- left unread, combined outputs are one
+same-unread : (t u : Text) (e : TestEventKind) → unloaded_kind (with_output (combined t) e) ≡ unloaded_kind (with_output (combined u) e)
+same-unread t u (SetupScriptFinished stress id program args status) = refl
+same-unread t u (TestAttemptFailedWillRetry stress test status delay failure) = refl
+same-unread t u (TestFinished stress test success failure statuses stats) = refl
+same-unread t u other = refl
+
+module _ (config : Configuration) (before after : List ReportCall) (event : TestEvent) where
+  -- what the decider skips can be left unread
+  unread-texts : (t : Text) → decision (decider_of config) event.kind ≡ Some Skip →
+      texts config (reverse (before ++ Event (unloaded_event (record event { kind = with_output (combined t) event.kind })) ∷ after)) ≡ texts config (reverse (before ++ writing t event ∷ after))
+  unread-texts t skips =
+      same-but-one config before after (record event { kind = with_output (combined t) event.kind }) _
+      (same-unloaded (settings_of config) event.elapsed (with_output (combined t) event.kind) (ap is_skip (same-decision (decider_of config) (combined t) event.kind ∙ skips)))
+
+  observed_is_loaded : (answer : LoadOutput) → decision (decider_of config) event.kind ≡ Some answer → IsObserved config before event after → answer ≡ Load
+  observed_is_loaded Load is observed = refl
+  observed_is_loaded Skip is observed = absurd (observed
+      (sym (unread-texts (codes "a") is)
+      ∙ ap (λ kind. texts config (reverse (before ++ Event (record event { kind = kind }) ∷ after))) (same-unread (codes "a") (codes "b") event.kind)
+      ∙ unread-texts (codes "b") is))
+
+-- one text where one call stands
+text_of_one : (config : Configuration) (later past : List ReportCall) (x y : ReportCall) → texts config (later ++ x ∷ past) ≡ texts config (later ++ y ∷ past) → text config past x ≡ text config past y
+unfolding texts
+text_of_one config [] past x y is = (same_from_push _ _ _ _ is).1
+text_of_one config (call ∷ later) past x y is = text_of_one config later past x y (same_from_push _ _ _ _ is).0
+
+-- so it is enough that the event's own text is another one
+observed_at_once : (config : Configuration) (before after : List ReportCall) (event : TestEvent) →
+    text config (reverse before) (writing (codes "a") event) ≢ text config (reverse before) (writing (codes "b") event) → IsObserved config before event after
+observed_at_once config before after event differ same =
+    differ (text_of_one config (reverse after) (reverse before) (writing (codes "a") event) (writing (codes "b") event)
+    (rw (reverse-middle before (writing (codes "a") event) after, reverse-middle before (writing (codes "b") event) after) at same))
+
+-- or the text of the end
+observed_at_end : (config : Configuration) (before after : List ReportCall) (event end : TestEvent) →
+    text config (reverse (before ++ writing (codes "a") event ∷ after)) (Event end) ≢ text config (reverse (before ++ writing (codes "b") event ∷ after)) (Event end) →
+    IsObserved config before event (after ++ Event end ∷ [])
+unfolding texts
+observed_at_end config before after event end differ same =
+    let last : (x : ReportCall) → reverse (before ++ x ∷ (after ++ Event end ∷ [])) ≡ Event end ∷ reverse (before ++ x ∷ after) =
+    λ x. ap reverse (sym (append_assoc before (x ∷ after) (Event end ∷ []))) ∙ reverse-append (before ++ x ∷ after) (Event end ∷ []) in
+    let ends : texts config (Event end ∷ reverse (before ++ writing (codes "a") event ∷ after)) ≡ texts config (Event end ∷ reverse (before ++ writing (codes "b") event ∷ after)) =
+    ap (texts config) (sym (last (writing (codes "a") event))) ∙ same ∙ ap (texts config) (last (writing (codes "b") event)) in
+    differ (same_from_push _ _ _ _ ends).1
+
+-- a setup script that did not succeed
+script_differs : (s : Settings) (script : Script) (x : SetupScriptExecuteStatus LiveSpec ChildOutputDescription) → loads_script x.result ≡ true →
+    setup_script_finished_text s script (record x { output = wrote_a }) ≢ setup_script_finished_text s script (record x { output = wrote_b })
+unfolding setup_script_finished_text failed_script_output
+script_differs s script x is e =
+    let failed : is_success x.result ≡ false = not-true _ is in
+    outputs_differ s unit.Script false x.is_slow x.result (append_cancel_left (setup_script_line s.styles script x.result x.time_taken.0) _ _ (rw failed at e))
+
+-- an attempt that failed, whose output is shown
+attempt_differs : (s : Settings) (stress : Option StressIndex) (test : TestInstanceId) (x : Attempt) (delay : ℕ) (failure : TestOutputDisplay) → loads_attempt (decider_by s) failure ≡ true →
+    attempt_failed_text s stress test (record x { output = wrote_a }) delay failure ≢ attempt_failed_text s stress test (record x { output = wrote_b }) delay failure
+unfolding attempt_failed_text attempt_failed_line failed_output is_level_shown is_failed_output_shown
+attempt_differs s stress test x delay failure is e =
+    let parts = and_parts _ _ is in
+    let shown : is_level_shown s level.Retry ≡ true = parts.0 in
+    let at_once : is_failed_output_shown s failure ≡ true = parts.1 in
+    let same = rw (shown, at_once) at e in
+    outputs_differ s unit.Test true x.is_slow x.result
+    (append_cancel_right _ _ (delay_line s.styles (padded_instance s stress test) x.retry_data delay)
+    (append_cancel_left (attempt_failed_line s.styles (padded_instance s stress test) x) _ _ same))
+
+-- an entry's output, among those of a run that ends
+listed_differ : (s : Settings) (test : CountedInstance) (x : StatusSummary) (front back : List FinalOutputEntry) (elapsed : ℕ) (end : TestEventKind) → is_end_of_run end ≡ true →
+    event_text s (listing (final_order (front ++ entry_with test x wrote_a ∷ back))) elapsed end ≢ event_text s (listing (final_order (front ++ entry_with test x wrote_b ∷ back))) elapsed end
+unfolding event_text listed_text final_text
+listed_differ s test x front back elapsed (RunFinished taken stats outstanding) is e =
+    let place = text-place test x s front back in
+    let rest = not_seen_text s outstanding ++ final_warnings s.styles s.mode (final_stats_of_run stats) in
+    let entries = append_cancel_right _ _ rest (append_cancel_left (run_finished_text s taken.0 stats) _ _ e) in
+    let outputs = append_cancel_right _ _ place.1 (append_cancel_left place.0 _ _ (sym (place.2 wrote_a) ∙ entries ∙ place.2 wrote_b)) in
+    outputs_differ s unit.Test false x.is_slow x.result (append_cancel_left (status_line s.styles Final test x) _ _ outputs)
+listed_differ s test x front back elapsed other is e = absurd (false≢true is)
+
+-- a finished test whose output is shown
+module _ (config : Configuration) (before after : List ReportCall) (elapsed : Nanos) (stress : Option StressIndex) (test : TestInstanceId) (success failure : TestOutputDisplay)
+    (statuses : Attempts LiveSpec ChildOutputDescription) (stats : RunStats) (calm : AreCalm before) where
+  abbrev s : Settings
+  s = settings_of config
+
+  abbrev finished : TestEvent
+  finished = record { elapsed = elapsed; kind = TestFinished stress test success failure statuses stats }
+
+  abbrev display : TestOutputDisplay
+  display = display_of s success failure (summary_of statuses)
+
+  finish_at_once : (rest : List ReportCall) → is_immediate display ≡ true → IsObserved config before finished rest
+  unfolding event_text test_finished_text line_at_once output_at_once row_at_once
+  finish_at_once rest now = observed_at_once config before rest finished (λ e.
+      let row = row_below (cancel (reverse before)) statuses.last.result (calm_past before calm) in
+      outputs_differ s unit.Test false statuses.last.is_slow statuses.last.result (append_cancel_left _ _ _ (rw (row, now) at e)))
+
+  kept_with : (output : Written) → is_final display ≡ true →
+      entry_of s 0 (with_output output finished.kind) ≡ Some (entry_with (record { stress_index = stress; counter = finished_counter s stats; instance = test }) (summary_of statuses) output)
+  unfolding final_output row_at_end row_listed is_final_wanted
+  kept_with output final = rw (row_below 0 statuses.last.result (omega arith), final) refl
+
+  finish_at_end : (end : TestEvent) → is_end_of_run end.kind ≡ true → AreCalm after → is_final display ≡ true → IsObserved config before finished (after ++ Event end ∷ [])
+  finish_at_end end ends calm_after final =
+      let f = calm_entries s in
+      let shown = λ (t : Text). entry_with (record { stress_index = stress; counter = finished_counter s stats; instance = test }) (summary_of statuses) (combined t) in
+      let said : (t : Text) → text config (reverse (before ++ writing t finished ∷ after)) (Event end)
+      ≡ event_text s (listing (final_order (flat_map f before ++ shown t ∷ flat_map f after))) end.elapsed.0 end.kind =
+      λ t. calm_end config (before ++ writing t finished ∷ after) end (calm_both before (writing t finished ∷ after) calm (lit< tt, calm_after)) ends
+      ∙ ap (λ entries. event_text s (listing (final_order entries)) end.elapsed.0 end.kind)
+      (flat_map-append f before (writing t finished ∷ after) ∙ ap (λ o. flat_map f before ++ (option_to_list o ++ flat_map f after)) (kept_with (combined t) final)) in
+      observed_at_end config before after finished end (λ e.
+      listed_differ s _ _ (flat_map f before) (flat_map f after) end.elapsed.0 end.kind ends (sym (said (codes "a")) ∙ e ∙ said (codes "b")))
+
+is_loaded : (b : Bool) → Some (load_if b) ≡ Some Load → b ≡ true
+is_loaded true h = refl
+is_loaded false h = cc
+
+loaded_is_observed : (config : Configuration) (before after : List ReportCall) (elapsed : Nanos) (kind : TestEventKind) (end : TestEvent) → is_end_of_run end.kind ≡ true →
+    AreCalm before → AreCalm after → decision (decider_of config) kind ≡ Some Load → IsObserved config before (record { elapsed = elapsed; kind = kind }) (after ++ Event end ∷ [])
+unfolding event_text display_of
+loaded_is_observed config before after elapsed (SetupScriptFinished stress id program args status) end ends front back loads =
+    observed_at_once config before (after ++ Event end ∷ []) (record { elapsed = elapsed; kind = SetupScriptFinished stress id program args status })
+    (script_differs (settings_of config) (script_by stress id program args) status (is_loaded _ loads))
+loaded_is_observed config before after elapsed (TestAttemptFailedWillRetry stress test status delay failure) end ends front back loads =
+    observed_at_once config before (after ++ Event end ∷ []) (record { elapsed = elapsed; kind = TestAttemptFailedWillRetry stress test status delay failure })
+    (attempt_differs (settings_of config) stress test status delay.0 failure (is_loaded _ loads))
+loaded_is_observed config before after elapsed (TestFinished stress test success failure statuses stats) end ends front back loads =
+    let display = display_of (settings_of config) success failure (summary_of statuses) in
+    elim (or_cases (is_immediate display) (is_final display) (is_loaded _ loads)) [
+      | inl now ↦ finish_at_once config before after elapsed stress test success failure statuses stats front (after ++ Event end ∷ []) now
+      | inr final ↦ finish_at_end config before after elapsed stress test success failure statuses stats front end ends back final
+    ]
+loaded_is_observed config before after elapsed other end ends front back loads = cc
+
+pub exact : (config : Configuration) → IsExact config (decider_of config)
+exact config before event answer is = (
+  λ after observed. observed_is_loaded config before after event answer is observed,
+  λ after end ends calm.
+      let front = calm_front before (Event event ∷ (after ++ Event end ∷ [])) calm in
+      let rest = calm_back before (Event event ∷ (after ++ Event end ∷ [])) calm in
+      let back = calm_front after (Event end ∷ []) rest.1 in (
+        λ observed. observed_is_loaded config before (after ++ Event end ∷ []) event answer is observed,
+        λ loaded. loaded_is_observed config before after event.elapsed event.kind end ends front back (is ∙ ap Some loaded),
+      ),
+)

@@ -1,0 +1,53 @@
+-- Outputs "a" and "b" are shown as different texts, wherever an output is shown (for the lemmas of Exactness).
+use Rattle.std.proofs.Common.{◌≢◌, ◌≡◌, ℕ, zero, suc, ◌<◌, Bool, true, false, [], ◌∷◌, ◌++◌, refl, sym, ◌∙◌, ap, arith, get_or, inl, inr, append_assoc, None, codes, lit<}
+use Rattle.std.specs.Str.{IsAscii}
+use Rattle.std.proofs.lemmas.Bool.{cases_Bool}
+use Rattle.std.proofs.lemmas.List.{append_cancel_left, append_cancel_right}
+use Rattle.std.proofs.lemmas.Str.{IsUtf8-from_ascii}
+use Rattle.run_model.specs.declared.status.ExecutionResultDescription.{ExecutionResultDescription}
+use Rattle.run_model.specs.declared.unit.UnitKind.{UnitKind}
+use Rattle.report_text.specs.EndLine.{without_end_line}
+use Rattle.report_text.specs.Escapes.{visible_after}
+use Rattle.report_text.specs.Indent.{indent}
+use Rattle.report_text.specs.Styles.{plain}
+use Rattle.report_text.specs.Texts.{Text}
+use Rattle.report_text.specs.declared.style.Styles.{Styles}
+use Rattle.report_text.proofs.lemmas.Decoded.{decoded-same}
+use Rattle.unit_report.specs.Captured.{captured, coloured_output, plain_output, reset_output}
+use Rattle.unit_report.specs.OutputHeaders.{header_text}
+use Rattle.unit_report.specs.UnitOutputs.{child_output, errors_text, execution_output, present_stream, shown_stream}
+use Rattle.event_text.specs.AttemptOutputs.{finished_layout, info_line, output_margin, unit_output}
+use Rattle.event_text.specs.declared.settings.Settings.{Settings}
+use Rattle.console_reporter.specs.Exactness.{combined}
+
+abbrev shown : Bool → Styles → Text → Text
+shown no_indent s t = indent (output_margin no_indent) true (captured s t None)
+
+shown_differ : (no_indent : Bool) (s : Styles) (c : Bool) → s.is_colorized ≡ c → shown no_indent s (codes "a") ≢ shown no_indent s (codes "b")
+unfolding indent captured coloured_output plain_output reset_output without_end_line visible_after
+shown_differ true s true is e = let f = rw is at e in let h : ◌≡◌ {A = ℕ} 97 98 = ap (λ l. get_or l 0 0) f in absurd (omega arith)
+shown_differ true s false is e = let f = rw is at e in let h : ◌≡◌ {A = ℕ} 97 98 = ap (λ l. get_or l 0 0) f in absurd (omega arith)
+shown_differ false s true is e = let f = rw is at e in let h : ◌≡◌ {A = ℕ} 97 98 = ap (λ l. get_or l 4 0) f in absurd (omega arith)
+shown_differ false s false is e = let f = rw is at e in let h : ◌≡◌ {A = ℕ} 97 98 = ap (λ l. get_or l 4 0) f in absurd (omega arith)
+
+ascii : (b : ℕ) → b < 128 → IsAscii (b ∷ [])
+ascii b h zero = h
+ascii b h (suc i) = lit< tt
+
+module _ (s : Settings) (kind : UnitKind) (is_retry is_slow : Bool) (x : ExecutionResultDescription) where
+  -- the output of a unit that wrote a letter, around what is shown of that
+  output-place : (front back : Text) × ((b : ℕ) → b < 128 → unit_output s kind is_retry is_slow x (combined (b ∷ [])) ≡ front ++ (shown s.no_output_indent s.styles (b ∷ []) ++ back))
+  unfolding unit_output execution_output errors_text child_output present_stream shown_stream
+  output-place = (
+    header_text (finished_layout s kind x is_retry).combined_header ++ plain (codes "\n"),
+    plain (codes "\n") ++ info_line s.styles kind is_slow x,
+    λ b h.
+        let same = decoded-same (b ∷ []) (IsUtf8-from_ascii (b ∷ []) (ascii b h)) in
+        elim (cases_Bool s.unit_output.display_empty_outputs) [ inl y ↦ rw (y, same) (simp append_assoc refl) | inr n ↦ rw (n, same) (simp append_assoc refl) ],
+  )
+
+  pub outputs_differ : unit_output s kind is_retry is_slow x (combined (codes "a")) ≢ unit_output s kind is_retry is_slow x (combined (codes "b"))
+  outputs_differ e =
+      let place = output-place in
+      shown_differ s.no_output_indent s.styles s.styles.is_colorized refl
+      (append_cancel_right _ _ place.1 (append_cancel_left place.0 _ _ (sym (place.2 97 (lit< tt)) ∙ e ∙ place.2 98 (lit< tt))))

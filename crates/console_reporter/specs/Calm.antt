@@ -1,0 +1,25 @@
+-- Calm calls, and the end of a run.
+use Rattle.std.specs.Prelude.{ℕ, ◌<◌, Bool, true, false, List, Some}
+use Rattle.std.specs.List.{AllByRecursion}
+use Rattle.run_model.specs.Levels.{reason_rank}
+use Rattle.run_model.specs.declared.event.TestEventKind.{TestEventKind}
+use Rattle.run_model.specs.declared.event.TestEventKind.TheVariants.{RunFinished}
+use Rattle.run_model.specs.declared.level.CancelReason.TheVariants as cause
+use Rattle.console_reporter.specs.Effects.{effect_of}
+use Rattle.console_reporter.specs.declared.imp.calls.ReportCall.{ReportCall}
+use Rattle.console_reporter.specs.declared.imp.calls.ReportCall.TheVariants.{Event, Header, Prefix}
+
+-- the rank of the reason that a call carries, 0 where it carries none
+abbrev pub carried_reason : ReportCall → ℕ
+carried_reason (Event e) = (effect_of e.kind).reason
+carried_reason (Header h) = 0
+carried_reason (Prefix p) = 0
+
+-- each reason that the calls carry is below the immediate end of a failed run
+abbrev pub AreCalm : List ReportCall → Type 0
+AreCalm calls = AllByRecursion (λ call. carried_reason call < reason_rank (Some cause.TestFailureImmediate)) calls
+
+-- the event is the end of a run
+abbrev pub is_end_of_run : TestEventKind → Bool
+is_end_of_run (RunFinished elapsed stats outstanding) = true
+is_end_of_run _ = false

@@ -1,0 +1,22 @@
+-- Statistics: where no counter is shown, nothing shows how far the run was when a test finished.
+use Rattle.std.specs.Prelude.{◌≡◌, List, ◌∷◌, ◌++◌, reverse, None}
+use Rattle.run_model.specs.declared.event.TestEvent.{TestEvent}
+use Rattle.run_model.specs.declared.event.TestEventKind.{TestEventKind}
+use Rattle.run_model.specs.declared.event.TestEventKind.TheVariants.{TestFinished}
+use Rattle.run_model.specs.declared.stats.RunStats.{RunStats}
+use Rattle.console_reporter.specs.Configuration.{Configuration, settings_of}
+use Rattle.console_reporter.specs.Report.{texts}
+use Rattle.console_reporter.specs.declared.imp.calls.ReportCall.{ReportCall}
+use Rattle.console_reporter.specs.declared.imp.calls.ReportCall.TheVariants.{Event}
+
+-- the event with these statistics, if a test has finished
+abbrev pub with_stats : RunStats → TestEventKind → TestEventKind
+with_stats stats (TestFinished stress test success failure statuses old) = TestFinished stress test success failure statuses stats
+with_stats stats e = e
+
+-- Where no counter is shown, other statistics in the event of a finished test leave the text of each position as it is.
+abbrev pub IsStatsIndependent : Configuration → List ReportCall → Type 0
+IsStatsIndependent config calls =
+    (before after : List ReportCall) (e : TestEvent) (stats : RunStats) →
+    calls ≡ before ++ Event e ∷ after → (settings_of config).counter_width ≡ None →
+    texts config (reverse (before ++ Event (record e { kind = with_stats stats e.kind }) ∷ after)) ≡ texts config (reverse calls)
