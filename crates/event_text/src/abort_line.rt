@@ -13,7 +13,6 @@ use report_text::write_str::{WriteFault, WriteStr};
 use run_model::abort::{AbortDescription, DescriptionText};
 use run_model::status::{ExecutionResultDescription, FailureDescription};
 
-
 /// Writes what is said of an abort after the line of its test. A signal is told by the line itself.
 #[tactic(auto, unfolding(crate::specs::AbortLines::abort_line))]
 pub fn write_abort_line<W: WriteStr>(

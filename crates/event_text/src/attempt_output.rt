@@ -18,7 +18,6 @@ use run_model::status::{
 use run_model::unit::UnitKind;
 use unit_report::unit_output::{ChildOutputSpec, OutputHeader, OutputName};
 
-
 /// Writes what an attempt of a test wrote, which ended so, and how it ended where that is worth a line of its own.
 ///
 /// `is_retry` says that another attempt follows, `is_slow` that this one was slow. The output must not have been left

@@ -9,7 +9,6 @@ use run_model::status::{
     ExecutionResultDescription, FailureDescription, LeakTimeoutResult, SlowTimeoutResult,
 };
 
-
 /// A word in two pieces, of which the second may be empty.
 #[derive(Clone, Copy, Debug)]
 pub struct Word<'b> {

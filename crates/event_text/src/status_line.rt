@@ -23,7 +23,6 @@ use run_model::time::Nanos;
 use std::alloc::Global;
 use unit_report::formatters::DisplayBracketedDuration;
 
-
 /// Where the line of a finished test stands.
 #[derive(Clone, Copy, Debug, PartialEq, Eq)]
 pub enum StatusLineKind {

@@ -26,7 +26,6 @@ use run_model::stress::StressIndex;
 use run_model::time::Nanos;
 use unit_report::formatters::{DisplayBracketedDuration, DisplayDurationBy};
 
-
 /// Writes that an attempt has failed and another one follows, where such attempts are shown: its line, its output where
 /// that is shown at once, and how long the next attempt waits. Output that is shown must not have been left unread.
 ///

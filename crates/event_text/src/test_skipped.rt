@@ -10,7 +10,6 @@ use run_model::level::StatusLevel;
 use run_model::name::TestInstanceId;
 use run_model::stress::StressIndex;
 
-
 /// Writes that a test is not run, where skipped tests are shown.
 #[tactic(auto, unfolding(crate::specs::SkippedTests::test_skipped_text))]
 pub fn write_test_skipped<W: WriteStr>(

@@ -18,7 +18,6 @@ use run_model::stress::StressIndex;
 use run_model::time::Nanos;
 use unit_report::formatters::DisplaySlowDuration;
 
-
 /// Writes that an attempt of a test is slow, or that it is ended for that, where its level is shown.
 ///
 /// ```

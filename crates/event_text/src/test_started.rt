@@ -17,7 +17,6 @@ use run_model::stats::RunStats;
 use run_model::status::RetryData;
 use run_model::stress::StressIndex;
 
-
 /// Writes that a test has started, and the command that runs it.
 ///
 /// ```

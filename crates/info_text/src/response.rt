@@ -22,7 +22,6 @@ use run_model::status::RetryData;
 use run_model::unit::UnitKind;
 use unit_report::unit_output::{ChildOutputSpec, OutputHeader, OutputName};
 
-
 /// Writes the answer of a unit. `index` is its place among so many, from 0. Output of the unit must not have been left
 /// unread.
 #[tactic(auto, unfolding(crate::specs::Responses::info_response_text))]

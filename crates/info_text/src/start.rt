@@ -13,7 +13,6 @@ use run_model::stats::RunStats;
 use run_model::time::Nanos;
 use run_text::input::failure_style;
 
-
 /// Writes that so many units are asked, which stand for those that run, with the counts of the run.
 #[tactic(auto, unfolding(crate::specs::Starts::info_started_text))]
 pub fn write_info_started<W: WriteStr>(

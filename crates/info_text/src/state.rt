@@ -18,7 +18,6 @@ use run_model::time::Nanos;
 use run_model::unit::UnitKind;
 use unit_report::formatters::DisplayUnitKind;
 
-
 /// The unit that a state is told of.
 #[derive(Clone, Copy, Debug)]
 pub struct InfoUnit {

@@ -18,7 +18,6 @@ ghost use Rattle.report_text.specs.Writer.{Puts};
 ghost use Rattle.report_text.specs.declared.escapes.Mode.TheVariants.{Text};
 ghost use Rattle.report_text.specs.declared.escapes.State.TheVariants.{Parameters, Intermediates, Command, Short};
 
-
 use crate::write_str::{WriteFault, WriteStr};
 use memchr::memchr;
 use run_model::memory::OutOfMemory;

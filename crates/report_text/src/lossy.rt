@@ -9,7 +9,6 @@ ghost use Rattle.std.specs.Str.Lossy.{utf8_lossy};
 ghost use Rattle.report_text.specs.Lossy.{decoded_text, front_text};
 ghost use Rattle.report_text.specs.Writer.{Puts};
 
-
 use crate::write_str::{WriteFault, WriteStr};
 use std::marker::Model;
 

@@ -5,7 +5,6 @@ ghost use Rattle.report_text.specs.ChunkEnds.{IsChunkEnd};
 ghost use Rattle.report_text.specs.Chunks.{IsChunk, VisitsChunks};
 ghost use Rattle.report_text.specs.Highlights.{highlight_end};
 
-
 pub use crate::style::Styles;
 use bstr::ByteSlice;
 

@@ -20,7 +20,6 @@ use std::fmt;
 use std::marker::Model;
 use std::sync::Arc;
 
-
 /// Where captured output is held: in memory, or by name in the archive of a recorded run.
 pub trait OutputSpec {
     /// The captured output of a child process.

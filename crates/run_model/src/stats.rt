@@ -6,7 +6,6 @@ ghost use Rattle.run_model.specs.Stats.{has_failures, failure_kind, final_stats_
 use crate::level::CancelReason;
 use crate::stress::StressIndex;
 
-
 /// The counts of a run so far.
 #[derive(Clone, Copy, Debug, PartialEq, Eq)]
 pub struct RunStats {

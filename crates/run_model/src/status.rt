@@ -14,7 +14,6 @@ use crate::time::Nanos;
 use std::alloc::Global;
 use std::marker::Model;
 
-
 /// Which attempt of a test this is.
 #[derive(Clone, Copy, Debug, PartialEq, Eq)]
 pub struct RetryData {

@@ -11,7 +11,6 @@ use crate::time::Nanos;
 use std::cmp::Ordering;
 use std::num::NonZeroU32;
 
-
 /// Which iteration of a stress run it is.
 ///
 /// Its order is by the iteration, then by how many there are; without that number it comes first.

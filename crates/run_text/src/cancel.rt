@@ -10,7 +10,6 @@ use report_text::style::{Styles, write_plain};
 use report_text::write_str::{WriteFault, WriteStr};
 use run_model::level::CancelReason;
 
-
 /// Writes that the run is about to be cancelled, why, and how many setup scripts or tests still run.
 ///
 /// ```

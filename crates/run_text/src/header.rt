@@ -11,7 +11,6 @@ use report_text::style::{Styles, write_plain};
 use report_text::write_str::{WriteFault, WriteStr, write_strs};
 use run_model::replay::ReplayHeader;
 
-
 /// Writes what a replay says before it.
 ///
 /// ```

@@ -11,7 +11,6 @@ use run_model::stats::RunStats;
 use run_model::time::Nanos;
 use unit_report::formatters::DisplayBracketedHhMmSs;
 
-
 /// Writes how long a run has taken, how many of its tests have finished, and its counts.
 #[tactic(auto, unfolding(crate::specs::Inputs::input_enter_text))]
 pub fn write_input_enter<W: WriteStr>(

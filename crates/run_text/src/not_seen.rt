@@ -14,7 +14,6 @@ use run_model::config::NextestRunMode;
 use run_model::name::OwnedTestInstanceId;
 use run_model::not_seen::NotSeen;
 
-
 /// Writes how many outstanding tests were not seen, where there are such, and those that are listed.
 pub fn write_not_seen<W: WriteStr>(
     w: &mut W,

@@ -8,7 +8,6 @@ use event_text::settings::Settings;
 use report_text::style::write_plain;
 use report_text::write_str::{WriteFault, WriteStr};
 
-
 /// Writes that the run was stopped for a while, and how many setup scripts or tests run.
 ///
 /// ```

@@ -21,7 +21,6 @@ use run_model::status::{ExecutionResultDescription, LeakTimeoutResult, SetupScri
 use run_model::time::Nanos;
 use unit_report::formatters::{DisplayBracketedDuration, DisplaySlowDuration};
 
-
 /// Writes that a setup script has started. `index` is its place among so many, from 0.
 #[tactic(auto, unfolding(crate::specs::SetupScripts::setup_script_started_text))]
 pub fn write_setup_script_started<W: WriteStr>(

@@ -22,7 +22,6 @@ use run_model::time::Nanos;
 use std::num::NonZeroU32;
 use unit_report::formatters::DisplayBracketedDuration;
 
-
 /// Writes that an iteration of a stress run has started, and what of the run has passed and remains.
 #[tactic(auto, unfolding(crate::specs::StressRuns::stress_sub_run_started_text))]
 pub fn write_stress_sub_run_started<W: WriteStr>(

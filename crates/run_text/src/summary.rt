@@ -20,7 +20,6 @@ use run_model::time::Nanos;
 use std::num::NonZeroU32;
 use unit_report::formatters::DisplayBracketedDuration;
 
-
 /// Writes the end of a run before its entries: how long it took and its counts.
 #[tactic(auto, unfolding(crate::specs::Summaries::run_finished_text))]
 pub fn write_run_finished<W: WriteStr>(

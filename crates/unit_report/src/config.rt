@@ -4,7 +4,6 @@ ghost use Rattle.std.specs.Prelude.{◌≡◌, ◌≤◌, IsTrue, true, false};
 ghost use Rattle.run_model.specs.Levels.{status_rank};
 ghost use Rattle.unit_report.specs.Levels.{progress_of, suppresses, raised, resolved_levels, resolved_display, overridden};
 
-
 use run_model::level::{FinalStatusLevel, StatusLevel};
 
 /// How the progress of a run is asked to be shown.
