@@ -1,7 +1,8 @@
 -- Calm calls, and the end of a run.
-use Rattle.std.specs.Prelude.{ℕ, ◌<◌, Bool, true, false, List, Some}
+use Rattle.std.specs.Prelude.{◌≡◌, ℕ, ◌<◌, Bool, true, false, List, [], ◌∷◌, ◌++◌, Some}
 use Rattle.std.specs.List.{AllByRecursion}
 use Rattle.run_model.specs.Levels.{reason_rank}
+use Rattle.run_model.specs.declared.event.TestEvent.{TestEvent}
 use Rattle.run_model.specs.declared.event.TestEventKind.{TestEventKind}
 use Rattle.run_model.specs.declared.event.TestEventKind.TheVariants.{RunFinished}
 use Rattle.run_model.specs.declared.level.CancelReason.TheVariants as cause
@@ -23,3 +24,7 @@ AreCalm calls = AllByRecursion (λ call. carried_reason call < reason_rank (Some
 abbrev pub is_end_of_run : TestEventKind → Bool
 is_end_of_run (RunFinished elapsed stats outstanding) = true
 is_end_of_run _ = false
+
+-- the last of the calls is the end of a run
+abbrev pub EndsRun : List ReportCall → Type 0
+EndsRun calls = (front : List ReportCall) × (end : TestEvent) × (calls ≡ front ++ Event end ∷ []) × (is_end_of_run end.kind ≡ true)

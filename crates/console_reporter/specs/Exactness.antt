@@ -1,15 +1,14 @@
 -- Exactness: the load decider loads what a report shows, and nothing else.
-use Rattle.std.specs.Prelude.{◌≡◌, ◌≢◌, ◌↔◌, true, List, [], ◌∷◌, ◌++◌, reverse, None, Some, codes}
+use Rattle.std.specs.Prelude.{◌≡◌, ◌≢◌, ◌↔◌, List, ◌∷◌, ◌++◌, reverse, None, Some, codes}
 use Rattle.run_model.specs.declared.event.TestEvent.{TestEvent}
 use Rattle.run_model.specs.declared.event.TestEventKind.{TestEventKind}
 use Rattle.run_model.specs.declared.event.TestEventKind.TheVariants.{SetupScriptFinished, TestAttemptFailedWillRetry, TestFinished}
 use Rattle.run_model.specs.declared.output.ChildExecutionOutputDescription.TheVariants.{Output}
 use Rattle.run_model.specs.declared.output.ChildOutputDescription.TheVariants.{Combined}
-use Rattle.run_model.specs.declared.output_event.LoadOutput.{LoadOutput}
 use Rattle.run_model.specs.declared.output_event.LoadOutput.TheVariants.{Load}
 use Rattle.report_text.specs.Texts.{Text}
 use Rattle.event_text.specs.AttemptOutputs.{Written}
-use Rattle.console_reporter.specs.Calm.{AreCalm, is_end_of_run}
+use Rattle.console_reporter.specs.Calm.{AreCalm, EndsRun}
 use Rattle.console_reporter.specs.Configuration.{Configuration}
 use Rattle.console_reporter.specs.Loads.{decision}
 use Rattle.console_reporter.specs.Report.{texts}
@@ -21,7 +20,7 @@ use Rattle.console_reporter.specs.declared.imp.decider.OutputLoadDecider.{Output
 abbrev pub combined : Text → Written
 combined t = Output None (Combined t) None None
 
--- a decided event with this execution output: of a finished test, that of the last attempt
+-- a decided event with this execution output: of a finished test, that of the last attempt. Other events stay
 abbrev pub with_output : Written → TestEventKind → TestEventKind
 with_output output (SetupScriptFinished stress script program args status) = SetupScriptFinished stress script program args (record status { output = output })
 with_output output (TestAttemptFailedWillRetry stress test status delay failure) = TestAttemptFailedWillRetry stress test (record status { output = output }) delay failure
@@ -38,11 +37,14 @@ abbrev pub IsObserved : Configuration → List ReportCall → TestEvent → List
 IsObserved config before event after =
     texts config (reverse (before ++ writing (codes "a") event ∷ after)) ≢ texts config (reverse (before ++ writing (codes "b") event ∷ after))
 
--- In every list of calls a decided event is observed only where the decider answers Load; and in calm calls, of which the last
--- is the end of a run, it is observed exactly where the decider answers Load.
+-- the decider answers Load: none but decided events have an answer
+abbrev pub IsLoaded : OutputLoadDecider → TestEvent → Type 0
+IsLoaded decider event = decision decider event.kind ≡ Some Load
+
+-- In every list of calls an event is observed only where the decider answers Load; and in calm calls, of which the last is the
+-- end of a run, it is observed exactly where the decider answers Load.
 abbrev pub IsExact : Configuration → OutputLoadDecider → Type 0
 IsExact config decider =
-    (before : List ReportCall) (event : TestEvent) (answer : LoadOutput) → decision decider event.kind ≡ Some answer →
-    ((after : List ReportCall) → IsObserved config before event after → answer ≡ Load)
-    × ((after : List ReportCall) (end : TestEvent) → is_end_of_run end.kind ≡ true → AreCalm (before ++ Event event ∷ (after ++ Event end ∷ [])) →
-    IsObserved config before event (after ++ Event end ∷ []) ↔ (answer ≡ Load))
+    (before after : List ReportCall) (event : TestEvent) →
+    (IsObserved config before event after → IsLoaded decider event)
+    × (AreCalm (before ++ Event event ∷ after) → EndsRun after → IsObserved config before event after ↔ IsLoaded decider event)

@@ -20,7 +20,7 @@ use Rattle.console_reporter.specs.declared.imp.calls.ReportCall.{ReportCall}
 use Rattle.console_reporter.specs.declared.imp.calls.ReportCall.TheVariants.{Event, Header, Prefix}
 use Rattle.console_reporter.specs.declared.imp.final_output.FinalOutputEntry.{FinalOutputEntry}
 
--- the calls of a list that is calm
+-- parts of calm calls
 pub calm_front : (xs ys : List ReportCall) → AreCalm (xs ++ ys) → AreCalm xs
 calm_front [] ys calm = tt
 calm_front (x ∷ xs) ys calm = (calm.0, calm_front xs ys calm.1)
@@ -33,7 +33,7 @@ pub calm_both : (xs ys : List ReportCall) → AreCalm xs → AreCalm ys → AreC
 calm_both [] ys a b = b
 calm_both (x ∷ xs) ys a b = (a.0, calm_both xs ys a.1 b)
 
--- what a calm reason hides of an event: nothing
+-- under a calm reason the same is kept of an event as under none
 pub calm_entry : (s : Settings) (reason : ℕ) (e : TestEventKind) → reason < 5 → entry_of s reason e ≡ entry_of s 0 e
 calm_entry s reason (TestFinished stress test success failure statuses stats) h =
     rw (row_below reason statuses.last.result h, row_below 0 statuses.last.result (omega arith)) refl
@@ -57,7 +57,7 @@ kept_more s (Event e) past h = ap (λ o. kept s past ++ option_to_list o) (calm_
 kept_more s (Header k) past h = sym (append-nil (kept s past))
 kept_more s (Prefix p) past h = sym (append-nil (kept s past))
 
--- a first call more of those that stand before a past
+-- a past, and calls after it of which one is the first
 reverse_onto : (call : ReportCall) (calls past : List ReportCall) → reverse (call ∷ calls) ++ past ≡ reverse calls ++ call ∷ past
 reverse_onto call calls past = ap (λ l. l ++ past) (reverse-append (call ∷ []) calls) ∙ append_assoc (reverse calls) (call ∷ []) past
 
@@ -85,7 +85,7 @@ calm_kept : (s : Settings) (calls : List ReportCall) → AreCalm calls → kept 
 unfolding kept
 calm_kept s calls calm = ap (kept s) (sym (append-nil (reverse calls))) ∙ kept_onto s calls [] calm none_given
 
--- what a calm end of a run goes by
+-- what the end of a calm run goes by
 abbrev pub listing : List FinalOutputEntry → Known
 listing entries = record { prefix = None; reason = 0; entries = entries }
 

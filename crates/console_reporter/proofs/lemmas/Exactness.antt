@@ -1,5 +1,5 @@
 -- What is observed is loaded, and in a calm run what is loaded is observed (for `DisplayReporter::output_load_decider`).
-use Rattle.std.proofs.Common.{◌≢◌, ◌≡◌, ℕ, Bool, true, false, List, [], ◌∷◌, ◌++◌, Option, Some, refl, sym, ap, ◌∙◌, reverse, append_assoc, inl, inr, codes, arith, lit<}
+use Rattle.std.proofs.Common.{◌≢◌, ◌≡◌, ℕ, Bool, true, false, List, [], ◌∷◌, ◌++◌, Option, None, Some, refl, sym, ap, ◌∙◌, reverse, append_assoc, inl, inr, codes, arith, lit<, subst}
 use Rattle.std.specs.List.{flat_map}
 use Rattle.std.specs.Option.{option_to_list}
 use Rattle.std.proofs.lemmas.Bool.{false≢true, and_parts, not-true, or_cases}
@@ -82,6 +82,13 @@ same-unread t u (TestAttemptFailedWillRetry stress test status delay failure) = 
 same-unread t u (TestFinished stress test success failure statuses stats) = refl
 same-unread t u other = refl
 
+-- an event that is not decided has no output
+undecided : (d : OutputLoadDecider) (t : Text) (e : TestEventKind) → decision d e ≡ None → with_output (combined t) e ≡ e
+undecided d t (SetupScriptFinished stress id program args status) is = cc
+undecided d t (TestAttemptFailedWillRetry stress test status delay failure) is = cc
+undecided d t (TestFinished stress test success failure statuses stats) is = cc
+undecided d t other is = refl
+
 module _ (config : Configuration) (before after : List ReportCall) (event : TestEvent) where
   -- what the decider skips can be left unread
   unread-texts : (t : Text) → decision (decider_of config) event.kind ≡ Some Skip →
@@ -90,12 +97,14 @@ module _ (config : Configuration) (before after : List ReportCall) (event : Test
       same-but-one config before after (record event { kind = with_output (combined t) event.kind }) _
       (same-unloaded (settings_of config) event.elapsed (with_output (combined t) event.kind) (ap is_skip (same-decision (decider_of config) (combined t) event.kind ∙ skips)))
 
-  observed_is_loaded : (answer : LoadOutput) → decision (decider_of config) event.kind ≡ Some answer → IsObserved config before event after → answer ≡ Load
-  observed_is_loaded Load is observed = refl
-  observed_is_loaded Skip is observed = absurd (observed
+  observed_is_loaded : (answer : Option LoadOutput) → decision (decider_of config) event.kind ≡ answer → IsObserved config before event after → answer ≡ Some Load
+  observed_is_loaded (Some Load) is observed = refl
+  observed_is_loaded (Some Skip) is observed = absurd (observed
       (sym (unread-texts (codes "a") is)
       ∙ ap (λ kind. texts config (reverse (before ++ Event (record event { kind = kind }) ∷ after))) (same-unread (codes "a") (codes "b") event.kind)
       ∙ unread-texts (codes "b") is))
+  observed_is_loaded None is observed = absurd (observed (ap (λ kind. texts config (reverse (before ++ Event (record event { kind = kind }) ∷ after)))
+      (undecided (decider_of config) (codes "a") event.kind is ∙ sym (undecided (decider_of config) (codes "b") event.kind is))))
 
 -- one text where one call stands
 text_of_one : (config : Configuration) (later past : List ReportCall) (x y : ReportCall) → texts config (later ++ x ∷ past) ≡ texts config (later ++ y ∷ past) → text config past x ≡ text config past y
@@ -212,13 +221,14 @@ loaded_is_observed config before after elapsed (TestFinished stress test success
 loaded_is_observed config before after elapsed other end ends front back loads = cc
 
 pub exact : (config : Configuration) → IsExact config (decider_of config)
-exact config before event answer is = (
-  λ after observed. observed_is_loaded config before after event answer is observed,
-  λ after end ends calm.
-      let front = calm_front before (Event event ∷ (after ++ Event end ∷ [])) calm in
-      let rest = calm_back before (Event event ∷ (after ++ Event end ∷ [])) calm in
-      let back = calm_front after (Event end ∷ []) rest.1 in (
-        λ observed. observed_is_loaded config before (after ++ Event end ∷ []) event answer is observed,
-        λ loaded. loaded_is_observed config before after event.elapsed event.kind end ends front back (is ∙ ap Some loaded),
-      ),
+exact config before after event = (
+  λ observed. observed_is_loaded config before after event (decision (decider_of config) event.kind) refl observed,
+  λ calm ends. (
+    λ observed. observed_is_loaded config before after event (decision (decider_of config) event.kind) refl observed,
+    λ loaded.
+        let front = calm_front before (Event event ∷ after) calm in
+        let rest = calm_back before (Event event ∷ after) calm in
+        let back = calm_front ends.0 (Event ends.1 ∷ []) (subst AreCalm ends.2 rest.1) in
+        subst (IsObserved config before event) (sym ends.2) (loaded_is_observed config before ends.0 event.elapsed event.kind ends.1 ends.3 front back loaded),
+  ),
 )
