@@ -414,16 +414,35 @@ fn miscounted<'a>(alloc: Global, lines: &[&'a str]) -> Result<Option<&'a str>, F
     Ok(None)
 }
 
-#[test]
-fn counts_the_fields_of_lines(rt: HostRuntime) -> Result<(), Fail> {
-    let tables: [&[&str]; 4] = [
+// The lines of every kind but `config`.
+fn tables() -> [&'static [&'static str]; 5] {
+    [
+        &[RUN, DONE],
         &event_lines::LINES,
         &script_lines::LINES,
         &info_lines::LINES,
         &replay_lines::LINES,
-    ];
-    for lines in tables {
+    ]
+}
+
+#[test]
+fn counts_the_fields_of_lines(rt: HostRuntime) -> Result<(), Fail> {
+    for lines in tables() {
         assert_eq!(rt; miscounted(rt.alloc(), lines)?, None);
+    }
+    Ok(())
+}
+
+#[test]
+fn names_every_bad_field_of_every_line(rt: HostRuntime) -> Result<(), Fail> {
+    for lines in tables() {
+        for line in lines {
+            for field in 2..line.split('\t').count() + 1 {
+                // No field takes an escape that there is none of.
+                let bad = taken(rt.alloc(), line, field, &["\\q"])?;
+                assert_eq!(rt; bad, None, "field {field} of {line}");
+            }
+        }
     }
     Ok(())
 }
