@@ -3,6 +3,7 @@
 use crate::testing::{builder, run_finished};
 use console_reporter::imp::{ReportCall, RunFault, WriteEventError, run_report};
 use report_text::write_str::TextBuffer;
+use std::alloc::Global;
 use std::io;
 use std::io::{ErrorKind, Write};
 use std::test::Fail;
@@ -29,12 +30,12 @@ impl Write for TenBytes {
     }
 }
 
-#[test]
-fn a_reporter_has_failed_after_a_fault(rt: HostRuntime) -> Result<(), Fail> {
-    let alloc = rt.alloc();
-    let device = TenBytes {
-        taken: Vec::new(alloc),
-    };
+// What a reporter over this device answers to the end of a run, to the same once more and to the end of the report, and what
+// the device took.
+fn answers_over(
+    alloc: Global,
+    device: TenBytes,
+) -> Result<([Result<(), WriteEventError>; 3], Vec<u8>), Fail> {
     let Ok(mut writer) = TextBuffer::new(alloc, device) else {
         return Err(Fail::from("there is memory"));
     };
@@ -42,12 +43,26 @@ fn a_reporter_has_failed_after_a_fault(rt: HostRuntime) -> Result<(), Fail> {
         return Err(Fail::from("it is an event"));
     };
     let mut reporter = builder(alloc)?.build(alloc, &mut writer, false, false, false, false);
-    assert_eq!(rt; reporter.write_event(&event), Err(WriteEventError::Io));
-    assert_eq!(rt; reporter.write_event(&event), Err(WriteEventError::Failed));
-    assert_eq!(rt; reporter.finish(), Err(WriteEventError::Failed));
+    let answers = [
+        reporter.write_event(&event),
+        reporter.write_event(&event),
+        reporter.finish(),
+    ];
     drop(reporter);
     let (device, _) = writer.into_inner();
-    assert_eq!(rt; device.taken.as_slice(), b"----------".as_slice());
+    Ok((answers, device.taken))
+}
+
+#[test]
+fn a_reporter_has_failed_after_a_fault(rt: HostRuntime) -> Result<(), Fail> {
+    let alloc = rt.alloc();
+    let device = TenBytes {
+        taken: Vec::new(alloc),
+    };
+    let (answers, taken) = answers_over(alloc, device)?;
+    let failed = Err(WriteEventError::Failed);
+    assert_eq!(rt; answers, [Err(WriteEventError::Io), failed, failed]);
+    assert_eq!(rt; taken.as_slice(), b"----------".as_slice());
     Ok(())
 }
 

@@ -124,7 +124,7 @@ fn ends_of<'a>(
     calls: &'a [ReportCall<'a>],
 ) -> Result<Vec<usize>, Fail> {
     let mut ends = Vec::new(alloc);
-    for number in 0..calls.len() + 1 {
+    for number in 0..=calls.len() {
         ends.push(report_of_calls(alloc, scene, &calls[..number])?.len())?;
     }
     Ok(ends)
@@ -209,7 +209,7 @@ fn count_faults<'a>(
 
 // Whether so many bytes end within the text of the call at this place, or after all where it is that of the end.
 fn stands_at(ends: &[usize], position: usize, taken: usize) -> bool {
-    match (ends.get(position), ends.get(position + 1)) {
+    match (ends.get(position), ends.get(position.saturating_add(1))) {
         (Some(start), Some(end)) => *start <= taken && taken <= *end,
         (Some(start), None) => *start == taken,
         _ => false,
@@ -221,7 +221,10 @@ fn count_writes(ends: &[usize]) -> usize {
     let mut writes = 0;
     for pair in ends.windows(2) {
         if let [start, end] = pair {
-            writes += (end - start).div_ceil(7);
+            writes = end
+                .saturating_sub(*start)
+                .div_ceil(7)
+                .saturating_add(writes);
         }
     }
     writes
@@ -236,7 +239,7 @@ fn each_write_fails_once(rt: HostRuntime) -> Result<(), Fail> {
         let calls = calls.as_slice();
         let writes = count_writes(ends_of(alloc, &scene, calls)?.as_slice());
         // Each call and the end of the report flush the device once.
-        let with_flushes = writes + calls.len() + 1;
+        let with_flushes = writes.saturating_add(calls.len()).saturating_add(1);
         let faults = count_faults(alloc, &scene, calls, Failure::Error)?;
         assert_eq!(rt; faults, with_flushes, "{text}");
         let faults = count_faults(alloc, &scene, calls, Failure::NothingTaken)?;

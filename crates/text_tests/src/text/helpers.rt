@@ -9,6 +9,7 @@ use run_model::config::NextestRunMode;
 use run_model::name::{OwnedTestInstanceId, RustBinaryId, ScriptId, TestCaseName, TestInstanceId};
 use run_model::stress::StressIndex;
 use run_model::time::Nanos;
+use std::alloc::Global;
 use std::num::NonZeroU32;
 use std::test::Fail;
 
@@ -298,35 +299,50 @@ fn ids_of_runs(rt: HostRuntime) -> Result<(), Fail> {
     Ok(())
 }
 
-#[test]
-fn how_processes_end(rt: HostRuntime) -> Result<(), Fail> {
-    let abort = AbortDescription::UnixSignal {
-        signal: 11,
-        name: Some(DescriptionText::new(rt.alloc(), "SEGV")?),
+// An abort with a text of its own.
+fn signal(alloc: Global, signal: i32, name: Option<&str>) -> Result<AbortDescription, Fail> {
+    let name = match name {
+        Some(name) => Some(DescriptionText::new(alloc, name)?),
+        None => None,
     };
-    let text = display_abort_status(rt.alloc(), &abort)?;
-    assert_eq!(rt; text.as_str(), "aborted with signal 11 (SIGSEGV)");
-    let abort = AbortDescription::WindowsNtStatus {
+    Ok(AbortDescription::UnixSignal { signal, name })
+}
+
+#[test]
+fn how_a_process_is_aborted(rt: HostRuntime) -> Result<(), Fail> {
+    let segv = signal(rt.alloc(), 11, Some("SEGV"))?;
+    let told = display_abort_status(rt.alloc(), &segv)?;
+    assert_eq!(rt; told.as_str(), "aborted with signal 11 (SIGSEGV)");
+    let told = display_abort_status(rt.alloc(), &AbortDescription::WindowsJobObject)?;
+    assert_eq!(rt; told.as_str(), "terminated via job object");
+    Ok(())
+}
+
+#[test]
+fn how_a_process_is_aborted_on_windows(rt: HostRuntime) -> Result<(), Fail> {
+    let violation = AbortDescription::WindowsNtStatus {
         code: -1073741819,
         message: Some(DescriptionText::new(rt.alloc(), "Access violation")?),
     };
-    let text = display_abort_status(rt.alloc(), &abort)?;
+    let told = display_abort_status(rt.alloc(), &violation)?;
     assert_eq!(rt;
-        text.as_str(),
+        told.as_str(),
         "aborted with code 0xc0000005: Access violation"
     );
-    let exit = ExitDescription::Abort(AbortDescription::UnixSignal {
-        signal: 2147483647,
-        name: None,
-    });
-    let text = display_exited_with(rt.alloc(), &exit)?;
-    assert_eq!(rt; text.as_str(), "aborted with signal 2147483647");
-    let text = display_abort_status(rt.alloc(), &AbortDescription::WindowsJobObject)?;
-    assert_eq!(rt; text.as_str(), "terminated via job object");
-    let text = display_exited_with(rt.alloc(), &ExitDescription::Code(3))?;
-    assert_eq!(rt; text.as_str(), "exited with exit code 3");
-    let text = display_exited_with(rt.alloc(), &ExitDescription::Unknown)?;
-    assert_eq!(rt; text.as_str(), "exited with an unknown error");
+    Ok(())
+}
+
+#[test]
+fn how_a_process_exits(rt: HostRuntime) -> Result<(), Fail> {
+    let aborted = ExitDescription::Abort(signal(rt.alloc(), i32::MAX, None)?);
+    for (exit, want) in [
+        (aborted, "aborted with signal 2147483647"),
+        (ExitDescription::Code(3), "exited with exit code 3"),
+        (ExitDescription::Unknown, "exited with an unknown error"),
+    ] {
+        let told = display_exited_with(rt.alloc(), &exit)?;
+        assert_eq!(rt; told.as_str(), want);
+    }
     Ok(())
 }
 
