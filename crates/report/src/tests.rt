@@ -433,16 +433,22 @@ fn counts_the_fields_of_lines(rt: HostRuntime) -> Result<(), Fail> {
     Ok(())
 }
 
+// The first of these lines that has a field which takes an escape that there is none of.
+fn lenient<'a>(alloc: Global, lines: &[&'a str]) -> Result<Option<&'a str>, Fail> {
+    for line in lines {
+        for field in 2..=line.split('\t').count() {
+            if taken(alloc, line, field, &["\\q"])?.is_some() {
+                return Ok(Some(line));
+            }
+        }
+    }
+    Ok(None)
+}
+
 #[test]
 fn names_every_bad_field_of_every_line(rt: HostRuntime) -> Result<(), Fail> {
     for lines in tables() {
-        for line in lines {
-            for field in 2..=line.split('\t').count() {
-                // No field takes an escape that there is none of.
-                let bad = taken(rt.alloc(), line, field, &["\\q"])?;
-                assert_eq!(rt; bad, None, "field {field} of {line}");
-            }
-        }
+        assert_eq!(rt; lenient(rt.alloc(), lines)?, None);
     }
     Ok(())
 }
