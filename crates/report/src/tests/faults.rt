@@ -13,12 +13,13 @@ use std::io;
 use std::io::{ErrorKind, Write};
 use std::test::Fail;
 
-// A run that is cancelled twice, and the report of it.
+/// A run that is cancelled twice.
 pub const CANCELLED: &str = "cancel\t0\t0\tinterrupt\n\
 cancel\t0\t0\tsignal\n\
 done\t-\ta\tt1\tnever\timmediate\tpass\tinitial=2 finished=1 failed=1\t1\tfail:1\t1000000000\t0\tsplit\tboom\\n\t\t-\t-\n\
 end\t2000000000\tinitial=2 finished=1 failed=1 cancel=signal\t0\t-\n";
 
+/// The report of it.
 pub const OF_CANCELLED: &str = "  Cancelling due to interrupt
   Cancelling due to signal
         FAIL [   1.000s] a t1
@@ -27,10 +28,11 @@ pub const OF_CANCELLED: &str = "  Cancelling due to interrupt
 warning: 1/2 tests were not run due to signal
 ";
 
-// A test that is asked what it does, and the report of that.
+/// A test that is asked what it does.
 pub const ASKED: &str =
     "answer-test\t0\t1\t-\ta\tt1\t1\t1\trunning:42:1500000000:-\t-\tsplit\thi\\n\t\t-\t-\n";
 
+/// The report of that.
 pub const OF_ASKED: &str = "
 * 1/1:    a t1
   status: test running for 1.500s as PID 42
@@ -106,7 +108,7 @@ fn report_of_calls<'a>(
     Ok(report)
 }
 
-// What the run of these calls answers over a writer.
+/// What the run of these calls answers over a writer.
 pub fn run_to<'a, W: WriteStr>(
     alloc: Global,
     scene: &Scene,
