@@ -2,7 +2,7 @@
 
 use crate::testing::{builder, run_finished};
 use console_reporter::imp::{ReportCall, RunFault, WriteEventError, run_report};
-use report_text::write_str::TextBuffer;
+use report_text::write_str::{TextBuffer, WriteStr};
 use std::alloc::Global;
 use std::io;
 use std::io::{ErrorKind, Write};
@@ -32,25 +32,32 @@ impl Write for TenBytes {
 
 // What a reporter over this device answers to the end of a run, to the same once more and to the end of the report, and what
 // the device took.
-fn answers_over(
+fn answers_and_bytes(
     alloc: Global,
     device: TenBytes,
 ) -> Result<([Result<(), WriteEventError>; 3], Vec<u8>), Fail> {
     let Ok(mut writer) = TextBuffer::new(alloc, device) else {
         return Err(Fail::from("there is memory"));
     };
+    let answers = answers_over(alloc, &mut writer)?;
+    let (device, _) = writer.into_inner();
+    Ok((answers, device.taken))
+}
+
+// The same over any writer.
+fn answers_over<W: WriteStr>(
+    alloc: Global,
+    writer: &mut W,
+) -> Result<[Result<(), WriteEventError>; 3], Fail> {
     let ReportCall::Event(event) = run_finished() else {
         return Err(Fail::from("it is an event"));
     };
-    let mut reporter = builder(alloc)?.build(alloc, &mut writer, false, false, false, false);
-    let answers = [
+    let mut reporter = builder(alloc)?.build(alloc, writer, false, false, false, false);
+    Ok([
         reporter.write_event(&event),
         reporter.write_event(&event),
         reporter.finish(),
-    ];
-    drop(reporter);
-    let (device, _) = writer.into_inner();
-    Ok((answers, device.taken))
+    ])
 }
 
 #[test]
@@ -59,7 +66,7 @@ fn a_reporter_has_failed_after_a_fault(rt: HostRuntime) -> Result<(), Fail> {
     let device = TenBytes {
         taken: Vec::new(alloc),
     };
-    let (answers, taken) = answers_over(alloc, device)?;
+    let (answers, taken) = answers_and_bytes(alloc, device)?;
     let failed = Err(WriteEventError::Failed);
     assert_eq!(rt; answers, [Err(WriteEventError::Io), failed, failed]);
     assert_eq!(rt; taken.as_slice(), b"----------".as_slice());

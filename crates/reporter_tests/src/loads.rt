@@ -101,7 +101,7 @@ fn script<'a>(alloc: Global, counts_as: LeakTimeoutResult) -> Result<TestEvent<'
             stress_index: None,
             script_id: ScriptId::new(alloc, "s1")?,
             program: ProgramName::new(alloc, "cmd")?,
-            args: CommandLine::new(Vec::new(alloc)),
+            args: CommandLine::new(alloc, Vec::new(alloc))?,
             run_status: SetupScriptExecuteStatus {
                 output: attempt(1, 1, failed()).output,
                 result: ExecutionResultDescription::Leak { result: counts_as },
@@ -143,6 +143,15 @@ fn answer_of(
 fn answer_of_retry(alloc: Global, status_level: StatusLevel) -> Result<Option<LoadOutput>, Fail> {
     let names = Names::new(alloc)?;
     answer(alloc, status_level, &retried(names.instance()))
+}
+
+// What a replay of a setup script does that left handles open, which counts so.
+fn answer_of_script(
+    alloc: Global,
+    counts_as: LeakTimeoutResult,
+) -> Result<Option<LoadOutput>, Fail> {
+    let event = script(alloc, counts_as)?;
+    answer(alloc, StatusLevel::Pass, &event)
 }
 
 // One attempt that ended so.
@@ -215,8 +224,7 @@ fn a_setup_script_is_loaded_unless_it_succeeded(rt: HostRuntime) -> Result<(), F
         (LeakTimeoutResult::Pass, LoadOutput::Skip),
         (LeakTimeoutResult::Fail, LoadOutput::Load),
     ] {
-        let event = script(rt.alloc(), counts_as)?;
-        assert_eq!(rt; answer(rt.alloc(), StatusLevel::Pass, &event)?, Some(want));
+        assert_eq!(rt; answer_of_script(rt.alloc(), counts_as)?, Some(want));
     }
     Ok(())
 }

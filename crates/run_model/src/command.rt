@@ -5,15 +5,16 @@ ghost use Rattle.std.specs.Prelude.{◌≡◌, IfOk, map, string_bytes};
 use crate::memory::OutOfMemory;
 use std::alloc::Global;
 use std::marker::Model;
+use std::sync::Arc;
 
-/// The words of a command, or the arguments of one. Contracts see them as a list of texts.
+/// The words of a command, or the arguments of one, which its copies share. Contracts see them as a list of texts.
 ///
 /// ```
-/// CommandLine::new(words) // of a program and its arguments
+/// CommandLine::new(alloc, words)? // of a program and its arguments
 /// ```
 #[derive(Debug, Drop)]
 pub struct CommandLine {
-    words: Vec<String>,
+    words: Arc<Vec<String>>,
 }
 
 impl Model for CommandLine {
@@ -21,15 +22,17 @@ impl Model for CommandLine {
 
     ghost Value = { List (List ℕ) };
 
-    ghost view = { λ command. map string_bytes command.words.items };
+    ghost view = { λ command. map string_bytes command.words.value.items };
 }
 
 impl CommandLine {
-    /// A command of these words.
-    pub fn new(words: Vec<String>) -> Self
-        ensures { result ≡ map string_bytes words.items }
+    /// Takes memory for a command of these words.
+    pub fn new(alloc: Global, words: Vec<String>) -> Result<Self, OutOfMemory>
+        ensures { IfOk result (λ command. command ≡ map string_bytes words.items) }
     {
-        CommandLine { words }
+        Ok(CommandLine {
+            words: Arc::new(alloc, words)?,
+        })
     }
 
     /// Its words.
@@ -39,15 +42,12 @@ impl CommandLine {
         self.words.as_slice()
     }
 
-    /// Takes memory for another one.
-    pub fn copy(&self, alloc: Global) -> Result<Self, OutOfMemory>
+    /// Another one of the same words, which both share.
+    pub fn copy(&self) -> Result<Self, OutOfMemory>
         ensures { IfOk result (λ command. command ≡ self.now) }
     {
-        let words = self.words.as_slice();
-        let mut copies = Vec::with_capacity(alloc, words.len())?;
-        for word in words {
-            copies.push(String::from_str(alloc, word.as_str())?)?;
-        }
-        Ok(CommandLine { words: copies })
+        Ok(CommandLine {
+            words: Arc::try_clone(&self.words)?,
+        })
     }
 }

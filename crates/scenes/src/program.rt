@@ -51,7 +51,8 @@ pub fn judge<'a, R: Read + Drop>(
 /// Reads a scene to its end and writes its report to a device, which it gives back: the whole way from a file's bytes to
 /// those of its report. A scene that has a fault leaves the device as it was.
 ///
-/// The scene's memory is not given back, as a program ends with its report and its memory with the process.
+/// The memory of the scene and of its calls is not given back, as a program ends with its report and its memory with the
+/// process.
 pub fn report_scene<'a, R: Read + Drop, W: Write>(
     alloc: Global,
     options: &Options<'a>,
@@ -102,7 +103,7 @@ fn report_read<W: Write>(
     ensures err { IfErr result.0 (λ fault. (IsSceneRefused options.now scene.now fault × (result.1 ≡ writer)) ⊎ PrintsBeginning options.now scene.now (W.contents writer) (W.contents result.1)) }
 {
     let calls = match scene.calls(alloc, options) {
-        Ok(calls) => calls,
+        Ok(calls) => ManuallyDrop::new(calls),
         Err(fault) => return (Err(fault), writer),
     };
     match judge_calls(alloc, options, scene, calls.as_slice()) {

@@ -24,7 +24,7 @@ fn command(alloc: Global) -> Result<CommandLine, Fail> {
     for word in ["cargo", "", "t1"] {
         words.push(String::from_str(alloc, word)?)?;
     }
-    Ok(CommandLine::new(words))
+    Ok(CommandLine::new(alloc, words)?)
 }
 
 // What is written of the test `a t1` that starts, after so many tests of so many.

@@ -181,7 +181,7 @@ fn script_answer(alloc: Global, should_colorize: bool) -> Result<String, Fail> {
         }),
         script_id: ScriptId::new(alloc, "s1")?,
         program: ProgramName::new(alloc, "cmd")?,
-        args: CommandLine::new(words),
+        args: CommandLine::new(alloc, words)?,
         state: Boxed::new(alloc, running())?,
         output: Boxed::new(alloc, output)?,
     });

@@ -39,7 +39,7 @@ impl Names {
         Ok(Names {
             script_id: ScriptId::new(alloc, "s1")?,
             program: ProgramName::new(alloc, "cmd")?,
-            args: CommandLine::new(words),
+            args: CommandLine::new(alloc, words)?,
         })
     }
 

@@ -26,7 +26,7 @@ pub fn read_command_line(alloc: Global, field: &str) -> Result<Option<CommandLin
 {
     let list = if field == "-" { None } else { Some(field) };
     match read_words(alloc, list)? {
-        Some(words) => Ok(Some(CommandLine::new(words))),
+        Some(words) => Ok(Some(CommandLine::new(alloc, words)?)),
         None => Ok(None),
     }
 }

@@ -71,7 +71,7 @@ impl SceneScript {
         Ok(SceneScript {
             script_id: ScriptId::new(alloc, self.script_id.as_str())?,
             program: ProgramName::new(alloc, self.program.as_str())?,
-            args: self.args.copy(alloc)?,
+            args: self.args.copy()?,
         })
     }
 }

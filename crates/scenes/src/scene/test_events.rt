@@ -123,14 +123,10 @@ impl SceneTest {
 
 impl TestStart {
     /// Adds the event as a reporter takes it.
-    pub fn push_call<'a>(
-        &'a self,
-        alloc: Global,
-        calls: &mut Vec<ReportCall<'a>>,
-    ) -> Result<(), OutOfMemory>
+    pub fn push_call<'a>(&'a self, calls: &mut Vec<ReportCall<'a>>) -> Result<(), OutOfMemory>
         ensures { OnOk result (AddsCallOf (SceneEvent.TestStarted self.now) calls.old.items calls.new.items) }
     {
-        let command_line = self.command_line.copy(alloc)?;
+        let command_line = self.command_line.copy()?;
         calls.push(call_of(TestEventKind::TestStarted {
             stress_index: self.test.stress_index,
             test_instance: self.test.instance(),
@@ -143,14 +139,10 @@ impl TestStart {
 
 impl TestRetryStart {
     /// Adds the event as a reporter takes it.
-    pub fn push_call<'a>(
-        &'a self,
-        alloc: Global,
-        calls: &mut Vec<ReportCall<'a>>,
-    ) -> Result<(), OutOfMemory>
+    pub fn push_call<'a>(&'a self, calls: &mut Vec<ReportCall<'a>>) -> Result<(), OutOfMemory>
         ensures { OnOk result (AddsCallOf (SceneEvent.TestRetryStarted self.now) calls.old.items calls.new.items) }
     {
-        let command_line = self.command_line.copy(alloc)?;
+        let command_line = self.command_line.copy()?;
         calls.push(call_of(TestEventKind::TestRetryStarted {
             stress_index: self.test.stress_index,
             test_instance: self.test.instance(),
