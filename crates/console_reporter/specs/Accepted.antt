@@ -1,5 +1,5 @@
 -- Which calls a reporter refuses: judged by the call and the configuration alone, whatever stood before.
-use Rattle.std.specs.Prelude.{◌≡◌, ℕ, List, Bool, true, false, if◌then◌else◌, Option, None, Some, slice_get}
+use Rattle.std.specs.Prelude.{◌≡◌, ℕ, List, Bool, false, if◌then◌else◌, Option, None, Some, slice_get}
 use Rattle.std.specs.List.{AllByRecursion, position}
 use Rattle.std.specs.Option.{is_some, option_and_then}
 use Rattle.run_model.specs.Statuses.{is_success}

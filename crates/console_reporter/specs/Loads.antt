@@ -1,5 +1,5 @@
 -- Which captured outputs a report shows, judged by results, display settings and levels: no output is looked at.
-use Rattle.std.specs.Prelude.{Bool, true, false, not, ◌&&◌, nat_le, Option, None, Some, unwrap_or, if◌then◌else◌}
+use Rattle.std.specs.Prelude.{Bool, false, not, ◌&&◌, nat_le, Option, None, Some, unwrap_or, if◌then◌else◌}
 use Rattle.std.specs.Option.{option_map_or}
 use Rattle.run_model.specs.Displays.{is_immediate}
 use Rattle.run_model.specs.Infos.{has_valid_output}

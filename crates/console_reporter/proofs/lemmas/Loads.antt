@@ -5,7 +5,7 @@ use Rattle.std.proofs.lemmas.Bool.{cases_Bool, false≢true}
 use Rattle.run_model.specs.Attempts.{Attempts}
 use Rattle.run_model.specs.Infos.{has_valid_output}
 use Rattle.run_model.specs.Outputs.{has_loaded_output}
-use Rattle.run_model.specs.Statuses.{is_success, summary_of}
+use Rattle.run_model.specs.Statuses.{summary_of}
 use Rattle.run_model.specs.declared.config.TestOutputDisplay.{TestOutputDisplay}
 use Rattle.run_model.specs.declared.event.TestEventKind.TheVariants.{SetupScriptFinished, TestAttemptFailedWillRetry, TestFinished, InfoResponse}
 use Rattle.run_model.specs.declared.info.InfoResponse.{InfoResponse as Response}

@@ -1,4 +1,3 @@
-use Rattle.std.proofs.Common.{rules}
 use Rattle.console_reporter.proofs.lemmas.Calls.{stops_error}
 use Rattle.console_reporter.proofs.lemmas.Whole.{of_lines-text}
 use Rattle.console_reporter.specs.Entries.{cancel, kept, prefix}
