@@ -10,7 +10,8 @@ use Rattle.report_text.specs.Escapes.{HasNoEscape}
 use Rattle.report_text.specs.PlainTexts.{IsPlainInstance, IsPlainResult}
 use Rattle.report_text.specs.Texts.{Text}
 use Rattle.unit_report.specs.PlainOutputs.{IsPlainWritten}
-use Rattle.run_text.specs.PlainRuns.{IsPlainHeader, IsPlainNotSeen, IsPlainPrefix, IsPlainScript, IsPlainScriptStatus}
+use Rattle.event_text.specs.Scripts.{IsPlainScript}
+use Rattle.run_text.specs.PlainRuns.{IsPlainHeader, IsPlainNotSeen, IsPlainPrefix, IsPlainScriptStatus}
 use Rattle.info_text.specs.PlainResponses.{IsPlainResponse}
 use Rattle.console_reporter.specs.Configuration.{Configuration}
 use Rattle.console_reporter.specs.Report.{script_by}

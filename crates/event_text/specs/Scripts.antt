@@ -1,6 +1,8 @@
 -- Setup scripts as their lines name them.
 use Rattle.std.specs.Prelude.{List, ◌∷◌, Option}
+use Rattle.std.specs.List.{AllByRecursion}
 use Rattle.run_model.specs.declared.stress.StressIndex.{StressIndex}
+use Rattle.report_text.specs.Escapes.{HasNoEscape}
 use Rattle.report_text.specs.Texts.{Text}
 use Rattle.report_text.specs.Instances.{script_text}
 use Rattle.report_text.specs.Quoting.{shell_words}
@@ -21,3 +23,7 @@ script_of x = record { stress_index = x.stress_index; script_id = x.script_id.no
 -- the script as a report shows it
 abbrev pub shown_script : Styles → Script → Text
 shown_script s x = script_text s.script_id s.count x.stress_index x.script_id (shell_words (x.program ∷ x.args))
+
+-- its id, its program and the program's arguments hold no escape character
+abbrev pub IsPlainScript : Script → Type 0
+IsPlainScript x = HasNoEscape x.script_id × HasNoEscape x.program × AllByRecursion HasNoEscape x.args

@@ -1,11 +1,16 @@
--- The counts of a run in words.
+-- The counts of a run in words, and the style that they give it.
 use Rattle.std.specs.Prelude.{ℕ, Bool, true, false, [], ◌++◌, ◌&&◌, ◌==◌, codes, if◌then◌else◌}
 use Rattle.std.specs.Fmt.{decimal}
+use Rattle.run_model.specs.Stats.{has_failures}
 use Rattle.run_model.specs.declared.stats.RunStats.{RunStats}
 use Rattle.report_text.specs.Texts.{Text}
 use Rattle.report_text.specs.Styles.{plain, styled}
 use Rattle.report_text.specs.declared.style.Style.{Style}
 use Rattle.report_text.specs.declared.style.Styles.{Styles}
+
+-- the style of a run by whether something has failed in it
+abbrev pub failure_style : Styles → RunStats → Style
+failure_style s x = if has_failures x then s.fail else s.pass
 
 -- how many there are, and of what
 unfoldable pub counted_text : Styles → Style → ℕ → Text → Text

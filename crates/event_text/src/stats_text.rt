@@ -1,12 +1,23 @@
-//! The counts of a run in words.
+//! The counts of a run in words, and the style that they give it.
 
 ghost use Rattle.std.specs.Prelude.{◌≡◌};
 ghost use Rattle.report_text.specs.Writer.{Puts};
-ghost use Rattle.event_text.specs.StatsTexts.{progress_message, summary_text, counted_text, passed_note, passed_notes, notes_end, leaky_failed_note, due_to_being, failed_count, failed_counts, exec_failed_count, timed_out_count, other_failed_count};
+ghost use Rattle.event_text.specs.StatsTexts.{failure_style, progress_message, summary_text, counted_text, passed_note, passed_notes, notes_end, leaky_failed_note, due_to_being, failed_count, failed_counts, exec_failed_count, timed_out_count, other_failed_count};
 
 use report_text::style::{Style, Styles, write_plain};
 use report_text::write_str::{WriteFault, WriteStr};
 use run_model::stats::RunStats;
+
+/// The style of a run by whether something has failed in it.
+pub fn failure_style(styles: &Styles, stats: &RunStats) -> Style
+    ensures { result ≡ failure_style styles.now stats.now }
+{
+    if stats.has_failures() {
+        styles.fail
+    } else {
+        styles.pass
+    }
+}
 
 /// Writes all counts: passed and skipped always, the others where they are not 0.
 #[tactic(auto, unfolding(crate::specs::StatsTexts::summary_text))]

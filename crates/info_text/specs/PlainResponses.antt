@@ -7,7 +7,7 @@ use Rattle.run_model.specs.declared.info.UnitState.TheVariants.{Running, Exiting
 use Rattle.report_text.specs.Escapes.{HasNoEscape}
 use Rattle.report_text.specs.PlainTexts.{HoldsIf, IsPlainInstance, IsPlainResult}
 use Rattle.unit_report.specs.PlainOutputs.{IsPlainWritten}
-use Rattle.run_text.specs.PlainRuns.{IsPlainScript}
+use Rattle.event_text.specs.Scripts.{IsPlainScript}
 use Rattle.info_text.specs.Responses.{answering_script}
 use Rattle.info_text.specs.States.{signal_of}
 

@@ -6,9 +6,8 @@ use Rattle.report_text.specs.Styles.{plain, styled}
 use Rattle.report_text.specs.Texts.{Text}
 use Rattle.report_text.specs.declared.style.Styles.{Styles}
 use Rattle.event_text.specs.Bars.{bar_line}
-use Rattle.event_text.specs.StatsTexts.{progress_message}
+use Rattle.event_text.specs.StatsTexts.{failure_style, progress_message}
 use Rattle.event_text.specs.declared.settings.Settings.{Settings}
-use Rattle.run_text.specs.Inputs.{failure_style}
 use Rattle.info_text.specs.Seconds.{seconds_between}
 
 -- so many units are asked; they stand for those that run. The line tells the counts of the run and how long it has taken

@@ -6,12 +6,11 @@ ghost use Rattle.info_text.specs.Starts.{info_finished_text, info_started_text, 
 use crate::seconds::write_seconds;
 use event_text::bar::write_bar_line;
 use event_text::settings::Settings;
-use event_text::stats_text::write_progress_message;
+use event_text::stats_text::{failure_style, write_progress_message};
 use report_text::style::{Styles, write_plain};
 use report_text::write_str::{WriteFault, WriteStr};
 use run_model::stats::RunStats;
 use run_model::time::Nanos;
-use run_text::input::failure_style;
 
 /// Writes that so many units are asked, which stand for those that run, with the counts of the run.
 #[tactic(auto, unfolding(crate::specs::Starts::info_started_text))]

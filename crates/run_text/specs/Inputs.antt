@@ -1,18 +1,12 @@
 -- How a run stands, when it is asked for by a key.
-use Rattle.std.specs.Prelude.{ℕ, ◌++◌, codes, if◌then◌else◌}
+use Rattle.std.specs.Prelude.{ℕ, ◌++◌, codes}
 use Rattle.std.specs.Fmt.{decimal}
-use Rattle.run_model.specs.Stats.{has_failures}
 use Rattle.run_model.specs.declared.stats.RunStats.{RunStats}
 use Rattle.report_text.specs.Texts.{Text, right_in}
 use Rattle.report_text.specs.Styles.{plain, styled}
-use Rattle.report_text.specs.declared.style.Style.{Style}
 use Rattle.report_text.specs.declared.style.Styles.{Styles}
 use Rattle.unit_report.specs.Durations.{bracketed_clock}
-use Rattle.event_text.specs.StatsTexts.{progress_message}
-
--- the style of a run by whether something has failed in it
-abbrev pub failure_style : Styles → RunStats → Style
-failure_style s x = if has_failures x then s.fail else s.pass
+use Rattle.event_text.specs.StatsTexts.{failure_style, progress_message}
 
 -- how many of how many tests have finished
 unfoldable pub finished_of_initial : Styles → RunStats → Text

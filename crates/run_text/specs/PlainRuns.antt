@@ -11,7 +11,6 @@ use Rattle.run_model.specs.declared.status.SetupScriptExecuteStatus.{SetupScript
 use Rattle.report_text.specs.Escapes.{HasNoEscape}
 use Rattle.report_text.specs.PlainTexts.{HoldsIf, IsPlainResult}
 use Rattle.unit_report.specs.PlainOutputs.{IsPlainWritten}
-use Rattle.event_text.specs.Scripts.{Script}
 
 -- a run's id in two parts holds no escape character
 abbrev pub IsPlainPrefix : UniquePrefix → Type 0
@@ -21,11 +20,7 @@ IsPlainPrefix p = HasNoEscape p.prefix × HasNoEscape p.rest
 abbrev pub IsPlainHeader : ReplayHeader → Type 0
 IsPlainHeader h = HoldsIf IsPlainPrefix h.unique_prefix × HasNoEscape h.status
 
--- a setup script's id, its program and the program's arguments hold none
-abbrev pub IsPlainScript : Script → Type 0
-IsPlainScript x = HasNoEscape x.script_id × HasNoEscape x.program × AllByRecursion HasNoEscape x.args
-
--- nor does what the script came to. What it wrote is plain by the flag, which says that texts are in colour
+-- nor does what a setup script came to. What it wrote is plain by the flag, which says that texts are in colour
 abbrev pub IsPlainScriptStatus : Bool → SetupScriptExecuteStatus LiveSpec ChildOutputDescription → Type 0
 IsPlainScriptStatus k x = IsPlainResult x.result × IsPlainWritten k x.output
 

@@ -1,11 +1,10 @@
 //! How a run stands, when it is asked for by a key.
 
-ghost use Rattle.std.specs.Prelude.{◌≡◌};
 ghost use Rattle.report_text.specs.Writer.{Puts};
-ghost use Rattle.run_text.specs.Inputs.{failure_style, finished_of_initial, input_enter_text};
+ghost use Rattle.run_text.specs.Inputs.{finished_of_initial, input_enter_text};
 
-use event_text::stats_text::write_progress_message;
-use report_text::style::{Style, Styles, write_plain};
+use event_text::stats_text::{failure_style, write_progress_message};
+use report_text::style::{Styles, write_plain};
 use report_text::write_str::{WriteFault, WriteStr};
 use run_model::stats::RunStats;
 use run_model::time::Nanos;
@@ -28,17 +27,6 @@ pub fn write_input_enter<W: WriteStr>(
     write_finished_of_initial(w, styles, stats)?;
     write_progress_message(w, styles, stats, running)?;
     write_plain(w, "\n")
-}
-
-/// The style of a run by whether something has failed in it.
-pub fn failure_style(styles: &Styles, stats: &RunStats) -> Style
-    ensures { result ≡ failure_style styles.now stats.now }
-{
-    if stats.has_failures() {
-        styles.fail
-    } else {
-        styles.pass
-    }
 }
 
 // Writes how many of how many tests have finished.

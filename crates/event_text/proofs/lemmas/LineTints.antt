@@ -1,5 +1,5 @@
--- Bars and the tests that lines speak of, in colour and plain (for all lines of tests).
-use Rattle.std.proofs.Common.{◌≢◌, ℕ, Bool, true, false, arith, Option, None, Some}
+-- Bars, and the tests and setup scripts that lines speak of, in colour and plain (for all lines of units).
+use Rattle.std.proofs.Common.{◌≢◌, ◌∷◌, ℕ, Bool, true, false, arith, Option, None, Some}
 use Rattle.run_model.specs.declared.name.TestInstanceId.{TestInstanceId}
 use Rattle.run_model.specs.declared.stats.RunStats.{RunStats}
 use Rattle.run_model.specs.declared.stress.StressIndex.{StressIndex}
@@ -8,10 +8,12 @@ use Rattle.report_text.specs.PlainTexts.{IsPlainInstance}
 use Rattle.report_text.specs.Styles.{styles_of}
 use Rattle.report_text.specs.Theme.{hbar_character}
 use Rattle.report_text.specs.declared.helpers.theme.ThemeCharacters.{ThemeCharacters}
-use Rattle.report_text.proofs.lemmas.InstanceTints.{tinted-instance_text}
+use Rattle.report_text.proofs.lemmas.FreeWords.{free-shell_words}
+use Rattle.report_text.proofs.lemmas.InstanceTints.{tinted-instance_text, tinted-script_text}
 use Rattle.report_text.proofs.lemmas.Tints.{IsTinted, tinted-append, tinted-free, tints}
 use Rattle.event_text.specs.Bars.{bar_line}
 use Rattle.event_text.specs.Instances.{padded_instance, instance_end, untimed_end}
+use Rattle.event_text.specs.Scripts.{IsPlainScript, Script, shown_script}
 use Rattle.event_text.specs.Settings.{counter_where, finished_counter, next_where, started_counter, padded_where, padded_counter}
 use Rattle.event_text.specs.declared.instance.CountedInstance.{CountedInstance}
 use Rattle.event_text.specs.declared.settings.Settings.{Settings}
@@ -65,3 +67,7 @@ tinted-instance_end k test h = let name = tinted-instance_text k test.stress_ind
 pub tinted-untimed_end : (k : Bool) (test : CountedInstance) → IsPlainTest test → IsTinted k (untimed_end (styles_of true) test) (untimed_end (styles_of false) test)
 unfolding untimed_end
 tinted-untimed_end k test h = let end = tinted-instance_end k test h in search tints depth 12
+
+-- a script as its lines name it
+pub tinted-shown_script : (k : Bool) (x : Script) → IsPlainScript x → IsTinted k (shown_script (styles_of true) x) (shown_script (styles_of false) x)
+tinted-shown_script k x h = tinted-script_text k _ _ x.stress_index x.script_id _ h.0 (free-shell_words (x.program ∷ x.args) (h.1, h.2))

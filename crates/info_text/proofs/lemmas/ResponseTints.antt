@@ -17,9 +17,8 @@ use Rattle.unit_report.proofs.lemmas.UnitTints.{IsTintedLayout, tinted-label, ti
 use Rattle.event_text.specs.AttemptOutputs.{Written}
 use Rattle.event_text.specs.Instances.{instance_end}
 use Rattle.event_text.specs.declared.settings.Settings.{Settings}
-use Rattle.event_text.proofs.lemmas.LineTints.{painted, tinted-bar_line}
+use Rattle.event_text.proofs.lemmas.LineTints.{painted, tinted-bar_line, tinted-shown_script}
 use Rattle.event_text.proofs.lemmas.StatsTints.{tinted-progress_message}
-use Rattle.run_text.proofs.lemmas.ScriptTints.{tinted-shown_script}
 use Rattle.info_text.specs.PlainResponses.{IsPlainResponse, IsPlainState}
 use Rattle.info_text.specs.Responses.{separator, response_number, info_layout, valid_output, unit_answer, answering_script, script_unit, script_answer, test_unit, test_answer, answer, info_response_text}
 use Rattle.info_text.specs.Starts.{info_started_text, missing_line, missing_note, info_finished_text}

@@ -1,5 +1,5 @@
 -- Setup scripts that have started, run for long or have finished, in colour and plain.
-use Rattle.std.proofs.Common.{ℕ, Bool, true, false, ◌∷◌}
+use Rattle.std.proofs.Common.{ℕ, Bool, true, false}
 use Rattle.run_model.specs.declared.output.ChildOutputDescription.{ChildOutputDescription}
 use Rattle.run_model.specs.declared.output.LiveSpec.{LiveSpec}
 use Rattle.run_model.specs.declared.status.ExecutionResultDescription.{ExecutionResultDescription}
@@ -11,22 +11,17 @@ use Rattle.report_text.specs.Escapes.{HasNoEscape}
 use Rattle.report_text.specs.PlainTexts.{IsPlainResult}
 use Rattle.report_text.specs.Styles.{styled, styles_of}
 use Rattle.report_text.specs.Texts.{Text}
-use Rattle.report_text.proofs.lemmas.FreeWords.{frees, free-shell_words}
-use Rattle.report_text.proofs.lemmas.InstanceTints.{tinted-script_text}
+use Rattle.report_text.proofs.lemmas.FreeWords.{frees}
 use Rattle.report_text.proofs.lemmas.Tints.{IsTinted, tinted-append, tinted-free, tints}
 use Rattle.unit_report.proofs.lemmas.DurationTints.{tinted-bracketed_duration, tinted-slow_duration}
-use Rattle.event_text.specs.Scripts.{Script, shown_script}
+use Rattle.event_text.specs.Scripts.{IsPlainScript, Script, shown_script}
 use Rattle.event_text.specs.Settings.{is_level_shown}
 use Rattle.event_text.specs.declared.settings.Settings.{Settings}
-use Rattle.event_text.proofs.lemmas.LineTints.{painted}
+use Rattle.event_text.proofs.lemmas.LineTints.{painted, tinted-shown_script}
 use Rattle.event_text.proofs.lemmas.OutputTints.{tinted-unit_output}
 use Rattle.event_text.proofs.lemmas.ResultTints.{free-short_word}
-use Rattle.run_text.specs.PlainRuns.{IsPlainScript, IsPlainScriptStatus}
+use Rattle.run_text.specs.PlainRuns.{IsPlainScriptStatus}
 use Rattle.run_text.specs.SetupScripts.{script_counter, setup_script_started_text, slow_script_words, shown_slow_script, setup_script_slow_text, script_status_style, setup_script_line, failed_script_output, setup_script_finished_text}
-
--- a script as its lines name it
-pub tinted-shown_script : (k : Bool) (x : Script) → IsPlainScript x → IsTinted k (shown_script (styles_of true) x) (shown_script (styles_of false) x)
-tinted-shown_script k x h = tinted-script_text k _ _ x.stress_index x.script_id _ h.0 (free-shell_words (x.program ∷ x.args) (h.1, h.2))
 
 tinted-script_counter : (k : Bool) (index total : ℕ) → IsTinted k (script_counter index total) (script_counter index total)
 unfolding script_counter
