@@ -7,8 +7,8 @@ use Rattle.run_model.specs.declared.event.TestEventKind.{TestEventKind}
 use Rattle.run_model.specs.declared.event.TestEventKind.TheVariants.{TestAttemptFailedWillRetry}
 use Rattle.console_reporter.specs.Configuration.{Configuration, settings_of}
 use Rattle.console_reporter.specs.Loads.{lacks_output}
-use Rattle.console_reporter.specs.declared.imp.calls.ReportCall.{ReportCall}
-use Rattle.console_reporter.specs.declared.imp.calls.ReportCall.TheVariants.{Event, Header, Prefix}
+use Rattle.run_model.specs.declared.call.ReportCall.{ReportCall}
+use Rattle.run_model.specs.declared.call.ReportCall.TheVariants.{Event, Header, Prefix}
 use Rattle.console_reporter.specs.declared.imp.decider.OutputLoadDecider.{OutputLoadDecider}
 use Rattle.console_reporter.specs.declared.imp.faults.WriteEventError.{WriteEventError}
 use Rattle.console_reporter.specs.declared.imp.faults.WriteEventError.TheVariants.{RetriedSuccess, OutputNotLoaded}

@@ -7,8 +7,8 @@ use Rattle.run_model.specs.declared.event.TestEventKind.{TestEventKind}
 use Rattle.run_model.specs.declared.event.TestEventKind.TheVariants.{RunFinished}
 use Rattle.run_model.specs.declared.level.CancelReason.TheVariants as cause
 use Rattle.console_reporter.specs.Effects.{effect_of}
-use Rattle.console_reporter.specs.declared.imp.calls.ReportCall.{ReportCall}
-use Rattle.console_reporter.specs.declared.imp.calls.ReportCall.TheVariants.{Event, Header, Prefix}
+use Rattle.run_model.specs.declared.call.ReportCall.{ReportCall}
+use Rattle.run_model.specs.declared.call.ReportCall.TheVariants.{Event, Header, Prefix}
 
 -- the rank of the reason that a call carries, 0 where it carries none
 abbrev pub carried_reason : ReportCall → ℕ

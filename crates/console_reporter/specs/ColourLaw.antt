@@ -5,7 +5,7 @@ use Rattle.report_text.specs.Escapes.{visible}
 use Rattle.console_reporter.specs.Configuration.{Configuration}
 use Rattle.console_reporter.specs.PlainCalls.{ArePlain, IsPlainConfiguration}
 use Rattle.console_reporter.specs.Report.{report, text_at}
-use Rattle.console_reporter.specs.declared.imp.calls.ReportCall.{ReportCall}
+use Rattle.run_model.specs.declared.call.ReportCall.{ReportCall}
 
 -- the same configuration, in colour or plain
 abbrev pub in_colour : Bool → Configuration → Configuration

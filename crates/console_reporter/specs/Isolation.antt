@@ -3,7 +3,7 @@ use Rattle.std.specs.Prelude.{◌≡◌, List, reverse}
 use Rattle.console_reporter.specs.Accepted.{AreAcceptedBy, decider_of, first_refused}
 use Rattle.console_reporter.specs.Configuration.{Configuration}
 use Rattle.console_reporter.specs.Report.{report, texts}
-use Rattle.console_reporter.specs.declared.imp.calls.ReportCall.{ReportCall}
+use Rattle.run_model.specs.declared.call.ReportCall.{ReportCall}
 use Rattle.console_reporter.specs.declared.imp.decider.OutputLoadDecider.{OutputLoadDecider}
 
 -- For every configuration that has this decider, each position of the calls with its skipped outputs left unread has the text of

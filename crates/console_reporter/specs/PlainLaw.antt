@@ -4,7 +4,7 @@ use Rattle.report_text.specs.Escapes.{HasNoEscape}
 use Rattle.console_reporter.specs.Configuration.{Configuration}
 use Rattle.console_reporter.specs.PlainCalls.{ArePlain, IsPlainConfiguration}
 use Rattle.console_reporter.specs.Report.{report, text_at}
-use Rattle.console_reporter.specs.declared.imp.calls.ReportCall.{ReportCall}
+use Rattle.run_model.specs.declared.call.ReportCall.{ReportCall}
 
 -- no escape character is in the text of any call, nor in the whole report
 pub record IsPlainReport (config : Configuration) (calls : List ReportCall) : Type 0 where

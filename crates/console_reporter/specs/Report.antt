@@ -32,8 +32,8 @@ use Rattle.console_reporter.specs.Configuration.{Configuration, settings_of}
 use Rattle.console_reporter.specs.Effects.{TestEnd}
 use Rattle.console_reporter.specs.Effects.TestEnd.{Finished, Skipped}
 use Rattle.console_reporter.specs.Entries.{cancel, entries_text, final_order, hiding_rank, kept, prefix}
-use Rattle.console_reporter.specs.declared.imp.calls.ReportCall.{ReportCall}
-use Rattle.console_reporter.specs.declared.imp.calls.ReportCall.TheVariants.{Event, Header, Prefix}
+use Rattle.run_model.specs.declared.call.ReportCall.{ReportCall}
+use Rattle.run_model.specs.declared.call.ReportCall.TheVariants.{Event, Header, Prefix}
 use Rattle.console_reporter.specs.declared.imp.final_output.FinalOutputEntry.{FinalOutputEntry}
 
 -- the text of the test that an event finishes

@@ -8,8 +8,8 @@ use Rattle.console_reporter.specs.Effects.{may_grow_for}
 use Rattle.console_reporter.specs.Entries.{cancel, final_order, kept, prefix}
 use Rattle.console_reporter.specs.Report.{Known, past_at}
 use Rattle.event_text.specs.declared.settings.Settings.{Settings}
-use Rattle.console_reporter.specs.declared.imp.calls.ReportCall.{ReportCall}
-use Rattle.console_reporter.specs.declared.imp.calls.ReportCall.TheVariants.{Event, Header, Prefix}
+use Rattle.run_model.specs.declared.call.ReportCall.{ReportCall}
+use Rattle.run_model.specs.declared.call.ReportCall.TheVariants.{Event, Header, Prefix}
 use Rattle.console_reporter.specs.declared.imp.reporter.DisplayReporter.{DisplayReporter}
 use Rattle.console_reporter.specs.declared.imp.reporter.ReporterState.{ReporterState}
 

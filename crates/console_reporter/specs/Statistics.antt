@@ -6,8 +6,8 @@ use Rattle.run_model.specs.declared.event.TestEventKind.TheVariants.{TestFinishe
 use Rattle.run_model.specs.declared.stats.RunStats.{RunStats}
 use Rattle.console_reporter.specs.Configuration.{Configuration, settings_of}
 use Rattle.console_reporter.specs.Report.{texts}
-use Rattle.console_reporter.specs.declared.imp.calls.ReportCall.{ReportCall}
-use Rattle.console_reporter.specs.declared.imp.calls.ReportCall.TheVariants.{Event}
+use Rattle.run_model.specs.declared.call.ReportCall.{ReportCall}
+use Rattle.run_model.specs.declared.call.ReportCall.TheVariants.{Event}
 
 -- the event with these statistics, if a test has finished
 abbrev pub with_stats : RunStats → TestEventKind → TestEventKind

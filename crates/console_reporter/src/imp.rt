@@ -1,12 +1,11 @@
 //! The reporter: what it is built from, its calls, and the run of a list of calls.
 //!
-//! One module a concern: `builder` says what a reporter is built from, `calls` and `faults` what it is asked and how it fails,
+//! One module a concern: `builder` says what a reporter is built from, `faults` how it fails (what it is asked is `run_model::call`),
 //! `decider` what it decides of an event by its metadata, `effect` what an event does beside its text, `final_output` what is kept
 //! of a test for the summary, `entry_key` what that is ordered by, `kept` how it is held and listed, `reporter` the calls, and
 //! `topics` what text an event has. The texts themselves stand in the crates `event_text` and `run_text`.
 
 mod builder;
-mod calls;
 mod decider;
 mod effect;
 mod entry_key;
@@ -18,10 +17,10 @@ mod reporter;
 mod topics;
 
 pub use builder::DisplayReporterBuilder;
-pub use calls::ReportCall;
 pub use decider::{OutputLoadDecider, first_refused, unload_skipped};
 pub use event_text::finish::reasons_only_hide;
 pub use faults::{RunFault, WriteEventError};
 pub use kept::one_final_order;
 pub use reporter::{DisplayReporter, run_report, texts_make_the_report};
+pub use run_model::call::ReportCall;
 pub use unit_report::unit_output::DisplayerKind;

@@ -6,6 +6,7 @@
 
 pub mod abort;
 pub mod boxed;
+pub mod call;
 pub mod command;
 pub mod config;
 pub mod event;

@@ -15,7 +15,7 @@ use Rattle.console_reporter.specs.Configuration.{Configuration, configured}
 use Rattle.console_reporter.specs.Outcomes.{HasFront, Stops}
 use Rattle.console_reporter.specs.Report.{report}
 use Rattle.console_reporter.specs.declared.imp.builder.DisplayReporterBuilder.{DisplayReporterBuilder}
-use Rattle.console_reporter.specs.declared.imp.calls.ReportCall.{ReportCall}
+use Rattle.run_model.specs.declared.call.ReportCall.{ReportCall}
 use Rattle.console_reporter.specs.declared.imp.faults.WriteEventError.{WriteEventError}
 use Rattle.console_reporter.specs.declared.imp.faults.WriteEventError.TheVariants.{RetriedSuccess, OutputNotLoaded, Io, Memory, Failed}
 use Rattle.scenes.specs.Scenes.{IsCallOf}

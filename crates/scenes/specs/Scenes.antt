@@ -7,8 +7,8 @@ use Rattle.run_model.specs.declared.info.InfoResponse.TheVariants as response
 use Rattle.run_model.specs.declared.info.UnitState.{UnitState}
 use Rattle.run_model.specs.declared.name.TestInstanceId.{TestInstanceId}
 use Rattle.run_model.specs.declared.replay.ReplayHeader.{ReplayHeader}
-use Rattle.console_reporter.specs.declared.imp.calls.ReportCall.{ReportCall}
-use Rattle.console_reporter.specs.declared.imp.calls.ReportCall.TheVariants as call
+use Rattle.run_model.specs.declared.call.ReportCall.{ReportCall}
+use Rattle.run_model.specs.declared.call.ReportCall.TheVariants as call
 use Rattle.scenes.specs.Counts.{nothing_counted}
 use Rattle.scenes.specs.Moments.{moment_of}
 use Rattle.scenes.specs.SceneAttempts.{Written, script_status}

@@ -11,7 +11,7 @@ use Rattle.console_reporter.specs.declared.imp.faults.RunFault.{RunFault}
 use Rattle.console_reporter.specs.Accepted.{AreAccepted, IsAccepted, refusal, refusal_at}
 use Rattle.console_reporter.specs.Report.{text, text_at, past_at, report}
 use Rattle.console_reporter.specs.Configuration.{Configuration}
-use Rattle.console_reporter.specs.declared.imp.calls.ReportCall.{ReportCall}
+use Rattle.run_model.specs.declared.call.ReportCall.{ReportCall}
 use Rattle.report_text.specs.declared.write_str.WriteFault.TheVariants.{Device, Memory as RefusedMemory}
 use Rattle.console_reporter.specs.Outcomes.{Stops, StopsAfter, error_for}
 use Rattle.console_reporter.specs.Standing.{StandsAfter, MayGrowAt}

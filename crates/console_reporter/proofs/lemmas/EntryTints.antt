@@ -22,8 +22,8 @@ use Rattle.console_reporter.specs.Effects.{final_output, finished_entry, is_kept
 use Rattle.console_reporter.specs.Entries.{cancel, prefix, kept, final_order, is_before, final_text, entries_text}
 use Rattle.console_reporter.specs.Order.{put_in, ordered_by}
 use Rattle.console_reporter.specs.PlainCalls.{IsPlainKind, IsPlainCall}
-use Rattle.console_reporter.specs.declared.imp.calls.ReportCall.{ReportCall}
-use Rattle.console_reporter.specs.declared.imp.calls.ReportCall.TheVariants.{Event, Header, Prefix}
+use Rattle.run_model.specs.declared.call.ReportCall.{ReportCall}
+use Rattle.run_model.specs.declared.call.ReportCall.TheVariants.{Event, Header, Prefix}
 use Rattle.console_reporter.specs.declared.imp.final_output.FinalOutput.{FinalOutput}
 use Rattle.console_reporter.specs.declared.imp.final_output.FinalOutput.TheVariants.{Executed, ExecutedWithOutput, Skipped}
 use Rattle.console_reporter.specs.declared.imp.final_output.FinalOutputEntry.{FinalOutputEntry}

@@ -52,8 +52,8 @@ use Rattle.console_reporter.specs.Exactness.{IsExact, IsObserved, combined, with
 use Rattle.console_reporter.specs.Loads.{decision, load_if, loads_attempt, loads_script}
 use Rattle.console_reporter.specs.Report.{event_text, listed_text, script_by, text, texts}
 use Rattle.console_reporter.specs.Unread.{is_skip}
-use Rattle.console_reporter.specs.declared.imp.calls.ReportCall.{ReportCall}
-use Rattle.console_reporter.specs.declared.imp.calls.ReportCall.TheVariants.{Event}
+use Rattle.run_model.specs.declared.call.ReportCall.{ReportCall}
+use Rattle.run_model.specs.declared.call.ReportCall.TheVariants.{Event}
 use Rattle.console_reporter.specs.declared.imp.decider.OutputLoadDecider.{OutputLoadDecider}
 use Rattle.console_reporter.specs.declared.imp.final_output.FinalOutputEntry.{FinalOutputEntry}
 use Rattle.console_reporter.proofs.lemmas.CalmRuns.{calm_back, calm_both, calm_end, calm_entries, calm_front, calm_past, listing}

@@ -17,8 +17,8 @@ use Rattle.console_reporter.specs.Entries.{cancel, entry_cmp, entry_key, final_o
 use Rattle.console_reporter.specs.Exchanges.{AreOfOneKey, IsOrderIndependent, entry_after}
 use Rattle.console_reporter.specs.Report.{event_text, texts}
 use Rattle.console_reporter.specs.Statistics.{IsStatsIndependent, with_stats}
-use Rattle.console_reporter.specs.declared.imp.calls.ReportCall.{ReportCall}
-use Rattle.console_reporter.specs.declared.imp.calls.ReportCall.TheVariants.{Event, Header, Prefix}
+use Rattle.run_model.specs.declared.call.ReportCall.{ReportCall}
+use Rattle.run_model.specs.declared.call.ReportCall.TheVariants.{Event, Header, Prefix}
 use Rattle.console_reporter.specs.declared.imp.final_output.FinalOutputEntry.{FinalOutputEntry}
 use Rattle.console_reporter.proofs.lemmas.CalmRuns.{calm_back, calm_both, calm_end, calm_entries, calm_entry, calm_front, calm_more, calm_past, listing}
 use Rattle.console_reporter.proofs.lemmas.Keys.{is_before-ranks}

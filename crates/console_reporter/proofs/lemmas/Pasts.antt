@@ -9,8 +9,8 @@ use Rattle.console_reporter.specs.Effects.{TestEnd, effect_of, entry_of, kept_en
 use Rattle.console_reporter.specs.Entries.{cancel, kept, entry_cmp, is_before, final_order, IsFinalOrder}
 use Rattle.console_reporter.specs.Report.{event_text, text}
 use Rattle.console_reporter.specs.Standing.{StandsAfter, known_by}
-use Rattle.console_reporter.specs.declared.imp.calls.ReportCall.{ReportCall}
-use Rattle.console_reporter.specs.declared.imp.calls.ReportCall.TheVariants.{Event}
+use Rattle.run_model.specs.declared.call.ReportCall.{ReportCall}
+use Rattle.run_model.specs.declared.call.ReportCall.TheVariants.{Event}
 use Rattle.console_reporter.specs.declared.imp.final_output.FinalOutputEntry.{FinalOutputEntry}
 use Rattle.console_reporter.specs.declared.imp.reporter.DisplayReporter.{DisplayReporter}
 use Rattle.event_text.specs.declared.settings.Settings.{Settings}

@@ -28,8 +28,8 @@ use Rattle.console_reporter.specs.Entries.{cancel, prefix, kept, final_order}
 use Rattle.console_reporter.specs.PlainCalls.{IsPlainConfiguration, IsPlainKind, IsPlainCall, ArePlain}
 use Rattle.console_reporter.specs.PlainLaw.{IsPlainReport, PlainLaw}
 use Rattle.console_reporter.specs.Report.{Known, script_by, listed_text, event_text, text, report, past_at, text_at}
-use Rattle.console_reporter.specs.declared.imp.calls.ReportCall.{ReportCall}
-use Rattle.console_reporter.specs.declared.imp.calls.ReportCall.TheVariants.{Event, Header, Prefix}
+use Rattle.run_model.specs.declared.call.ReportCall.{ReportCall}
+use Rattle.run_model.specs.declared.call.ReportCall.TheVariants.{Event, Header, Prefix}
 use Rattle.console_reporter.proofs.lemmas.EntryTints.{IsPlainEntry, All-append, All-final_order, plain-test_finish, plain-kept, plain-prefix, same-kept, tinted-entries_text}
 
 -- what is known of a plain past

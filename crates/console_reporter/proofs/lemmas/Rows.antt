@@ -49,7 +49,7 @@ use Rattle.run_text.specs.RunIds.{id_text, run_id_text}
 use Rattle.run_text.specs.Starts.{profile_text, run_id_line, test_counts_text, starting_line, run_started_text}
 use Rattle.run_text.specs.Summaries.{initial_count_text, run_counts_text, summary_line, run_finished_text}
 use Rattle.event_text.specs.StatusLines.{status_prefix, flaky_failure_line, status_line}
-use Rattle.console_reporter.specs.declared.imp.calls.ReportCall.TheVariants.{Event}
+use Rattle.run_model.specs.declared.call.ReportCall.TheVariants.{Event}
 use Rattle.event_text.specs.declared.finish.FinishRow.TheVariants as row
 use Rattle.event_text.specs.declared.settings.Settings.{Settings}
 use Rattle.event_text.specs.declared.status_line.StatusLineKind.{StatusLineKind}

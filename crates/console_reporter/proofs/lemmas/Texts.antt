@@ -9,7 +9,7 @@ use Rattle.std.proofs.lemmas.Option.{slice_get-get_or}
 use Rattle.report_text.specs.Texts.{Text}
 use Rattle.console_reporter.specs.Configuration.{Configuration}
 use Rattle.console_reporter.specs.Report.{report, text, texts}
-use Rattle.console_reporter.specs.declared.imp.calls.ReportCall.{ReportCall}
+use Rattle.run_model.specs.declared.call.ReportCall.{ReportCall}
 
 pub report-joined : (config : Configuration) (past : List ReportCall) → report config past ≡ flat_map (λ t. t) (texts config past)
 unfolding texts

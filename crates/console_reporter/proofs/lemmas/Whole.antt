@@ -80,8 +80,8 @@ use Rattle.run_text.specs.Starts.{starting_line, run_started_text}
 use Rattle.run_text.specs.StressRuns.{stress_sub_run_finished_text, stress_sub_run_line, stress_sub_run_started_text}
 use Rattle.run_text.specs.Summaries.{run_counts_text, run_finished_text, stress_counts_text, summary_counts, summary_line}
 use Rattle.event_text.specs.StatusLines.{is_flaky_failure, flaky_note, flaky_failure_line, status_line}
-use Rattle.console_reporter.specs.declared.imp.calls.ReportCall.{ReportCall}
-use Rattle.console_reporter.specs.declared.imp.calls.ReportCall.TheVariants.{Event, Header, Prefix}
+use Rattle.run_model.specs.declared.call.ReportCall.{ReportCall}
+use Rattle.run_model.specs.declared.call.ReportCall.TheVariants.{Event, Header, Prefix}
 use Rattle.console_reporter.specs.declared.imp.final_output.FinalOutput.{FinalOutput}
 use Rattle.console_reporter.specs.declared.imp.final_output.FinalOutput.TheVariants.{Executed, ExecutedWithOutput, Skipped}
 use Rattle.console_reporter.specs.declared.imp.final_output.FinalOutputEntry.{FinalOutputEntry}

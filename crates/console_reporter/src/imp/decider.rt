@@ -11,9 +11,9 @@ ghost use Rattle.console_reporter.specs.Loads.{decision, lacks_output, load_if, 
 ghost use Rattle.console_reporter.specs.Outcomes.{refusal_in};
 ghost use Rattle.console_reporter.specs.Unread.{unread, unread_call};
 
-use super::calls::ReportCall;
 use super::faults::WriteEventError;
 use event_text::settings::Settings;
+use run_model::call::ReportCall;
 use run_model::config::TestOutputDisplay;
 use run_model::event::{TestEvent, TestEventKind};
 use run_model::info::InfoResponse;

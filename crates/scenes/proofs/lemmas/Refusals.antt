@@ -11,8 +11,8 @@ use Rattle.run_model.specs.declared.event.TestEventKind.TheVariants.{RunStarted,
 use Rattle.console_reporter.specs.Accepted.{first_refused, is_retried_success, refusal_at_by, refusal_by}
 use Rattle.console_reporter.specs.Loads.{lacks_output}
 use Rattle.console_reporter.specs.Unread.{is_skipped, unread_call}
-use Rattle.console_reporter.specs.declared.imp.calls.ReportCall.{ReportCall}
-use Rattle.console_reporter.specs.declared.imp.calls.ReportCall.TheVariants.{Event, Header, Prefix}
+use Rattle.run_model.specs.declared.call.ReportCall.{ReportCall}
+use Rattle.run_model.specs.declared.call.ReportCall.TheVariants.{Event, Header, Prefix}
 use Rattle.console_reporter.specs.declared.imp.decider.OutputLoadDecider.{OutputLoadDecider}
 use Rattle.scenes.specs.Judged.{IsSceneAccepted, IsSceneRefused, fault_if_refused, line_fault_for}
 use Rattle.scenes.specs.Unloads.{AreReadyCallsOf, decider_for, unloaded_for}

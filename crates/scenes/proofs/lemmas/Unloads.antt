@@ -2,7 +2,7 @@
 use Rattle.std.proofs.Common.{◌≡◌, List, true, false, refl, ◌∙◌}
 use Rattle.console_reporter.specs.Isolation.{IsIsolated}
 use Rattle.console_reporter.specs.Unread.{unread}
-use Rattle.console_reporter.specs.declared.imp.calls.ReportCall.{ReportCall}
+use Rattle.run_model.specs.declared.call.ReportCall.{ReportCall}
 use Rattle.scenes.specs.Reports.{AreCallsOf, configuration_for, report_of}
 use Rattle.scenes.specs.Unloads.{AreReadyCallsOf, decider_for}
 use Rattle.scenes.specs.declared.scene.Scene.{Scene}

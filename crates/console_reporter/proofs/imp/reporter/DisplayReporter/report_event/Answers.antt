@@ -5,7 +5,7 @@ use Rattle.console_reporter.proofs.lemmas.Calls.{stops_error}
 use Rattle.console_reporter.proofs.lemmas.Pasts.{kept-more, text-held}
 use Rattle.console_reporter.specs.Entries.{cancel, prefix}
 use Rattle.console_reporter.specs.Report.{text}
-use Rattle.console_reporter.specs.declared.imp.calls.ReportCall.TheVariants.{Event}
+use Rattle.run_model.specs.declared.call.ReportCall.TheVariants.{Event}
 use Rattle.console_reporter.proofs.imp.reporter.DisplayReporter.report_event.Goals as goal
 
 pub returns-in-Err-clause-err : goal.returns-in-Err-clause-err

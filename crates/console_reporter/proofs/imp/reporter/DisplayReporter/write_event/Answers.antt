@@ -2,7 +2,7 @@ use Rattle.std.proofs.Common.{◌≡◌, false, ap, subst, sym, ◌∙◌}
 use Rattle.console_reporter.specs.Accepted.{decider_by, event_refusal}
 use Rattle.console_reporter.specs.Loads.{lacks_output}
 use Rattle.console_reporter.specs.Report.{text}
-use Rattle.console_reporter.specs.declared.imp.calls.ReportCall.TheVariants.{Event}
+use Rattle.run_model.specs.declared.call.ReportCall.TheVariants.{Event}
 use Rattle.console_reporter.proofs.lemmas.Refusals.{none_where_not_some, not_refused, refused_not_io, refused_not_memory, stops_refused, told_is_some}
 use Rattle.console_reporter.proofs.lemmas.Whole.{of_lines-text}
 use Rattle.console_reporter.proofs.imp.reporter.DisplayReporter.write_event.Goals as goal

@@ -2,7 +2,7 @@ use Rattle.console_reporter.proofs.lemmas.Calls.{stops_error}
 use Rattle.console_reporter.proofs.lemmas.Whole.{of_lines-text}
 use Rattle.console_reporter.specs.Entries.{cancel, kept, prefix}
 use Rattle.console_reporter.specs.Report.{text}
-use Rattle.console_reporter.specs.declared.imp.calls.ReportCall.TheVariants.{Header}
+use Rattle.run_model.specs.declared.call.ReportCall.TheVariants.{Header}
 use Rattle.console_reporter.proofs.imp.reporter.DisplayReporter.write_replay_header.Goals as goal
 
 pub returns-then-self-clause-lines : goal.returns-then-self-clause-lines

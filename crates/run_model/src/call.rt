@@ -1,8 +1,8 @@
 //! What a reporter is asked.
 
-use run_model::event::TestEvent;
-use run_model::replay::ReplayHeader;
-use run_model::run_id::ShortestRunIdPrefix;
+use crate::event::TestEvent;
+use crate::replay::ReplayHeader;
+use crate::run_id::ShortestRunIdPrefix;
 
 /// A call of a reporter.
 #[derive(Debug, Drop)]
