@@ -7,13 +7,14 @@ use Rattle.run_model.specs.declared.call.ReportCall.TheVariants.{Event, Header, 
 use Rattle.console_reporter.specs.declared.imp.faults.WriteEventError.{WriteEventError}
 use Rattle.console_reporter.specs.declared.imp.faults.WriteEventError.TheVariants.{RetriedSuccess, OutputNotLoaded, Io, Memory, Failed}
 use Rattle.scenes.specs.Reports.{AreCallsOf}
-use Rattle.scenes.specs.SceneTexts.{IsRead, IsReadFault, event_lines, nothing_told, text_told, told}
-use Rattle.scenes.specs.Split.{parted}
+use Rattle.scene_text.specs.SceneTexts.{IsReadFault, event_lines, nothing_told, text_told}
+use Rattle.scene_text.specs.Split.{parted}
+use Rattle.scenes.specs.ToldScenes.{IsSceneRead, scene_told}
 use Rattle.scenes.specs.Unloads.{decider_for}
-use Rattle.scenes.specs.declared.fault.Fault.{Fault}
-use Rattle.scenes.specs.declared.fault.Fault.TheVariants as fault
-use Rattle.scenes.specs.declared.fault.LineFault.{LineFault}
-use Rattle.scenes.specs.declared.fault.LineFault.TheVariants as line
+use Rattle.scene_text.specs.declared.fault.Fault.{Fault}
+use Rattle.scene_text.specs.declared.fault.Fault.TheVariants as fault
+use Rattle.scene_text.specs.declared.fault.LineFault.{LineFault}
+use Rattle.scene_text.specs.declared.fault.LineFault.TheVariants as line
 use Rattle.scenes.specs.declared.scene.Scene.{Scene}
 use Rattle.scenes.specs.declared.words.Options.{Options}
 
@@ -61,14 +62,14 @@ pub record IsSceneRefused (options : Options) (scene : Scene) (fault : Fault) : 
 -- the text spells a scene that has a refused call, and the fault is that call's
 pub record IsRefusedText (options : Options) (text : List ℕ) (fault : Fault) : Type 0 where
   pub scene : Scene
-  pub spelled : text_told text ≡ Ok (told scene)
+  pub spelled : text_told text ≡ Ok (scene_told scene)
   pub lines : scene.lines.items ≡ event_lines 1 nothing_told (parted 10 text)
   pub refused : IsSceneRefused options scene fault
 
 -- what was returned is what the text tells; or the file cannot be read, a call is refused, or memory was
 abbrev pub IsJudged : Options → Result Scene Fault → List ℕ → Type 0
-IsJudged options (Ok scene) text = IsRead (Ok scene) (text_told text)
-IsJudged options (Err fault) text = IsRead (Err fault) (text_told text) ⊎ IsRefusedText options text fault
+IsJudged options (Ok scene) text = IsSceneRead (Ok scene) (text_told text)
+IsJudged options (Err fault) text = IsSceneRead (Err fault) (text_told text) ⊎ IsRefusedText options text fault
 
 -- the fault is the first one of the text, or that of a refused call; or the file cannot be read, or memory was refused
 abbrev pub IsJudgedFault : Options → List ℕ → Fault → Type 0

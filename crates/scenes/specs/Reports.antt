@@ -18,9 +18,9 @@ use Rattle.console_reporter.specs.declared.imp.builder.DisplayReporterBuilder.{D
 use Rattle.run_model.specs.declared.call.ReportCall.{ReportCall}
 use Rattle.console_reporter.specs.declared.imp.faults.WriteEventError.{WriteEventError}
 use Rattle.console_reporter.specs.declared.imp.faults.WriteEventError.TheVariants.{RetriedSuccess, OutputNotLoaded, Io, Memory, Failed}
-use Rattle.scenes.specs.Scenes.{IsCallOf}
-use Rattle.scenes.specs.declared.fault.Fault.{Fault}
-use Rattle.scenes.specs.declared.fault.Fault.TheVariants.{WriteFailed, OutOfMemory}
+use Rattle.scene_text.specs.Scenes.{IsCallOf}
+use Rattle.scene_text.specs.declared.fault.Fault.{Fault}
+use Rattle.scene_text.specs.declared.fault.Fault.TheVariants.{WriteFailed, OutOfMemory}
 use Rattle.scenes.specs.declared.scene.Scene.{Scene}
 use Rattle.scenes.specs.declared.words.Options.{Options}
 

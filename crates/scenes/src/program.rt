@@ -1,23 +1,24 @@
 //! What the program does with a scene, over any reader and any writer.
 
 ghost use Rattle.std.specs.Prelude.{◌≡◌, ◌⊎◌, ℕ, List, None, Some, IfOk, IfErr, OnErr, OnOk};
-ghost use Rattle.scenes.specs.Split.{parted};
-ghost use Rattle.scenes.specs.Faults.{IsJudgeFault, status_of};
+ghost use Rattle.scene_text.specs.Split.{parted};
+ghost use Rattle.scene_text.specs.Faults.{IsJudgeFault, status_of};
 ghost use Rattle.console_reporter.specs.Accepted.{is_retried_success};
 ghost use Rattle.scenes.specs.Judged.{IsJudged, IsJudgedFault, IsSceneAccepted, IsSceneRefused, fault_if_refused};
 ghost use Rattle.scenes.specs.Reports.{AcceptsReport, PrintsBeginning, PrintsReport, IsRefused, StopsReport, fault_for};
-ghost use Rattle.scenes.specs.SceneTexts.{AllTell, IsRead, IsReadFault, event_lines, nothing_told, text_told, told};
+ghost use Rattle.scene_text.specs.SceneTexts.{AllTell, IsReadFault, event_lines, nothing_told, text_told};
 ghost use Rattle.scenes.specs.SpelledRuns.{BeginsRun, IsRejected, PrintsRun};
+ghost use Rattle.scenes.specs.ToldScenes.{IsSceneRead, scene_told};
 ghost use Rattle.scenes.specs.Unloads.{AreReadyCallsOf};
 
 use crate::fault::{Fault, LineFault};
-use crate::reader::read_scene;
 use crate::reporter::{builder_of, decider_of};
 use crate::scene::Scene;
 use crate::words::Options;
 use console_reporter::imp::{ReportCall, WriteEventError, first_refused, run_report};
 use console_reporter::write_str::{TextBuffer, WriteStr};
 use run_model::event::TestEventKind;
+use scene_text::reader::read_scene;
 use std::alloc::{AllocError, Global};
 use std::io::{ErrorKind, Read, Write};
 use std::mem::ManuallyDrop;
@@ -32,7 +33,7 @@ pub fn judge<'a, R: Read + Drop>(
 ) -> Result<Scene, Fault<'a>>
     ensures fault { IfErr result (IsJudgeFault options.now.file.now) }
     // Where the reader's bytes are known, the same as of reading them, or the file cannot be read.
-    ensures scene { (bytes : List ℕ) → R.remaining reader ≡ Some bytes → IfOk result (λ scene. AllTell nothing_told (parted 10 bytes) (told scene)) }
+    ensures scene { (bytes : List ℕ) → R.remaining reader ≡ Some bytes → IfOk result (λ scene. AllTell nothing_told (parted 10 bytes) (scene_told scene)) }
     ensures first_fault { (bytes : List ℕ) → R.remaining reader ≡ Some bytes → IfErr result (IsJudgedFault options.now bytes) }
     ensures answer { (bytes : List ℕ) → R.remaining reader ≡ Some bytes → IsJudged options.now result bytes }
     // No event of the scene is refused.
@@ -76,10 +77,10 @@ fn read_whole<'a, R: Read + Drop>(
     reader: R,
 ) -> Result<Scene, Fault<'a>>
     ensures fault { IfErr result (IsJudgeFault options.now.file.now) }
-    ensures scene { (bytes : List ℕ) → R.remaining reader ≡ Some bytes → IfOk result (λ scene. AllTell nothing_told (parted 10 bytes) (told scene)) }
+    ensures scene { (bytes : List ℕ) → R.remaining reader ≡ Some bytes → IfOk result (λ scene. AllTell nothing_told (parted 10 bytes) (scene_told scene)) }
     ensures lines { (bytes : List ℕ) → R.remaining reader ≡ Some bytes → IfOk result (λ scene. scene.lines.items ≡ event_lines 1 nothing_told (parted 10 bytes)) }
     ensures first_fault { (bytes : List ℕ) → R.remaining reader ≡ Some bytes → IfErr result (IsReadFault bytes) }
-    ensures answer { (bytes : List ℕ) → R.remaining reader ≡ Some bytes → IsRead result (text_told bytes) }
+    ensures answer { (bytes : List ℕ) → R.remaining reader ≡ Some bytes → IsSceneRead result (text_told bytes) }
 {
     let mut reader = reader;
     let mut text = Vec::new(alloc);
@@ -89,7 +90,14 @@ fn read_whole<'a, R: Read + Drop>(
             _ => Fault::CannotRead { file: options.file },
         });
     }
-    read_scene(alloc, text.as_slice())
+    match read_scene(alloc, text.as_slice()) {
+        Ok(run) => Ok(Scene {
+            config: run.config,
+            events: run.events,
+            lines: run.lines,
+        }),
+        Err(fault) => Err(fault),
+    }
 }
 
 // Judges the calls of a scene that was read, and writes its report where none is refused.

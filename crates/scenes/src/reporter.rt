@@ -3,7 +3,7 @@
 ghost use Rattle.std.specs.Prelude.{◌≡◌, IfOk, IfErr};
 ghost use Rattle.scenes.specs.Reports.{builder_for, kind_for, progress_for};
 ghost use Rattle.scenes.specs.Unloads.{decider_for};
-ghost use Rattle.scenes.specs.declared.fault.Fault.{Fault};
+ghost use Rattle.scene_text.specs.declared.fault.Fault.{Fault};
 
 use crate::fault::Fault;
 use crate::scene::Scene;

@@ -9,7 +9,7 @@ use Rattle.console_reporter.specs.Outcomes.{HasFront}
 use Rattle.console_reporter.specs.declared.imp.faults.WriteEventError.{WriteEventError}
 use Rattle.console_reporter.specs.declared.imp.faults.WriteEventError.TheVariants.{RetriedSuccess, OutputNotLoaded, Io, Memory, Failed}
 use Rattle.scenes.specs.Reports.{BeginsReport, Ends, IsRefused, PrintsBeginning, StopsReport}
-use Rattle.scenes.specs.declared.fault.Fault.{Fault}
+use Rattle.scene_text.specs.declared.fault.Fault.{Fault}
 use Rattle.scenes.specs.declared.scene.Scene.{Scene}
 use Rattle.scenes.specs.declared.words.Options.{Options}
 

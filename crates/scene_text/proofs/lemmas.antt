@@ -1,0 +1,15 @@
+pub mod Attempts
+pub mod Cuts
+pub mod Days
+pub mod Displays
+pub mod FirstFaults
+pub mod NonZero
+pub mod Numbers
+pub mod Pairs
+pub mod Silence
+pub mod Tabs
+pub mod Tellings
+pub mod Unescaped
+pub mod Utf8
+pub mod WordLists
+pub mod Zips

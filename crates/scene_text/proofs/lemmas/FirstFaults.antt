@@ -1,0 +1,83 @@
+-- The first fault is the one that is told (for `read_scene`).
+use Rattle.std.proofs.Common.{◌≡◌, ℕ, ◌+◌, List, [], ◌∷◌, ◌++◌, Result, Ok, Err, IfOk, IfErr, length, refl, sym, ap, ◌∙◌, arith, inl, inr, ◌⊎◌}
+use Rattle.scene_text.specs.Split.{parted}
+use Rattle.scene_text.specs.SceneTexts.{Told, told, nothing_told, line_told, lines_told, text_told, AllTell, IsFaultOf, IsAnswer}
+use Rattle.scene_text.specs.declared.fault.Fault.{Fault}
+use Rattle.scene_text.specs.declared.fault.Fault.TheVariants as fault
+use Rattle.scene_text.specs.declared.fault.LineFault.{LineFault}
+use Rattle.scene_text.specs.declared.scene.ToldRun.{ToldRun}
+
+-- either a line tells, or it is wrong
+line_cases : (r : Result Told LineFault) → ((mid : Told) × (r ≡ Ok mid)) ⊎ ((f : LineFault) × (r ≡ Err f))
+line_cases (Ok mid) = inl (mid, refl)
+line_cases (Err f) = inr (f, refl)
+
+abbrev Answer : Type 0
+Answer = Result Told (ℕ × LineFault)
+
+abbrev tells : Told → Answer
+tells a = Ok a
+
+abbrev answer_wrong : ℕ × LineFault → Answer
+answer_wrong x = Err x
+
+abbrev is_wrong : ℕ → LineFault → Answer
+is_wrong n f = Err (n, f)
+
+differs : (a : Told) (n : ℕ) (f : LineFault) → tells a ≡ is_wrong n f → ⊥
+differs a n f p = absurd (cc)
+
+same_told : (a b : Told) → tells a ≡ tells b → a ≡ b
+same_told a b p = cc
+
+same_wrong : (x y : ℕ × LineFault) → answer_wrong x ≡ answer_wrong y → x ≡ y
+same_wrong x y p = cc
+
+same_fault : (m n : ℕ) (g f : LineFault) → is_wrong m g ≡ is_wrong n f → (m ≡ n) × (g ≡ f)
+same_fault m n g f p = let e : (m, g) ≡ (n, f) = same_wrong (m, g) (n, f) p in (ap (λ x. x.0) e, ap (λ x. x.1) e)
+
+-- lines that tell, tell one after the other
+all_tell : (n : ℕ) (before : Told) (ts : List (List ℕ)) (after : Told) → lines_told n before ts ≡ Ok after → AllTell before ts after
+unfolding lines_told
+all_tell n before [] after h = same_told before after h
+all_tell n before (t ∷ ts) after h = elim (line_cases (line_told before t)) [
+  | inl x ↦ (x.0, x.1, all_tell (n + 1) x.0 ts after (rw x.1 at h))
+  | inr x ↦ absurd (differs after n x.0 (sym (rw x.1 at h)))
+]
+
+-- the first fault of lines of which the first has some number
+record IsFaultFrom (before : Told) (lines : List (List ℕ)) (first number : ℕ) (f : LineFault) : Type 0 where
+  pub front : List (List ℕ)
+  pub line : List ℕ
+  pub rest : List (List ℕ)
+  pub whole : lines ≡ front ++ line ∷ rest
+  pub place : number ≡ length front + first
+  pub last : Told
+  pub told_so_far : AllTell before front last
+  pub wrong : line_told last line ≡ Err f
+
+first_fault : (first : ℕ) (before : Told) (ts : List (List ℕ)) (n : ℕ) (f : LineFault) → lines_told first before ts ≡ Err (n, f) → IsFaultFrom before ts first n f
+unfolding lines_told
+first_fault first before [] n f h = absurd (differs before n f h)
+first_fault first before (t ∷ ts) n f h = elim (line_cases (line_told before t)) [
+  | inl x ↦
+      let r = first_fault (first + 1) x.0 ts n f (rw x.1 at h) in
+      record { front = t ∷ r.front; line = r.line; rest = r.rest; whole = ap (λ us. t ∷ us) r.whole; place = omega (arith, r.place); last = r.last; told_so_far = (x.0, x.1, r.told_so_far); wrong = r.wrong }
+  | inr x ↦
+      let s = same_fault first n x.0 f (rw x.1 at h) in
+      record { front = []; line = t; rest = ts; whole = refl; place = omega (arith, s.0); last = before; told_so_far = refl; wrong = x.1 ∙ ap (λ g. Err g) s.1 }
+]
+
+pub tells_scene : (r : Result ToldRun Fault) (text : List ℕ) → IsAnswer r (text_told text) → IfOk r (λ scene. AllTell nothing_told (parted 10 text) (told scene))
+tells_scene (Ok scene) text h = all_tell 1 nothing_told (parted 10 text) (told scene) h
+tells_scene (Err e) text h = tt
+
+pub tells_fault : (r : Result ToldRun Fault) (text : List ℕ) → IsAnswer r (text_told text) → IfErr r (IsFaultOf text)
+tells_fault (Ok scene) text h = tt
+tells_fault (Err fault.Usage) text h = absurd h
+tells_fault (Err (fault.CannotRead file)) text h = absurd h
+tells_fault (Err fault.WriteFailed) text h = absurd h
+tells_fault (Err fault.OutOfMemory) text h = tt
+tells_fault (Err (fault.Line n f)) text h =
+    let r = first_fault 1 nothing_told (parted 10 text) n f h in
+    record { front = r.front; line = r.line; rest = r.rest; whole = r.whole; place = r.place; before = r.last; told_so_far = r.told_so_far; wrong = r.wrong }

@@ -1,0 +1,29 @@
+-- The fields of an output that holds nothing (for `take_silence`).
+use Rattle.std.proofs.Common.{◌≡◌, ℕ, ◌+◌, List, ◌++◌, true, drop, Ok, Some, refl, ap, sym, ◌∙◌, arith}
+use Rattle.run_model.specs.declared.status.ExecutionResultDescription.{ExecutionResultDescription}
+use Rattle.scene_text.specs.Split.{cut}
+use Rattle.scene_text.specs.Fields.{Place}
+use Rattle.scene_text.specs.Outputs.{after_streams, output_fields, silent_fields, TakesSilence}
+use Rattle.scene_text.specs.SceneAttempts.{silence}
+use Rattle.scene_text.specs.Texts.{unescaped_after}
+
+-- five fields on
+abbrev five_on : ℕ → List (List ℕ) → Place
+five_on n rest = record { number = n + 1 + 1 + 1 + 1 + 1; left = rest }
+
+abbrev place : Place → Place
+place p = p
+
+says_nothing : (n : ℕ) (rest : List (List ℕ)) (result : ExecutionResultDescription) → output_fields (Some result) (record { number = n; left = silent_fields ++ rest }) ≡ Ok (silence result, five_on n rest)
+unfolding output_fields after_streams unescaped_after cut
+says_nothing n rest result = refl
+
+place_by : (p : Place) (n : ℕ) (left : List (List ℕ)) → n ≡ p.number → left ≡ p.left → record { number = n; left = left } ≡ place p
+place_by p n left e f = rw (e, f) refl
+
+pub silence_by : (old new : Place) → old.left ≡ silent_fields ++ drop 5 old.left → new.number ≡ old.number + 5 → new.left ≡ drop 5 old.left → TakesSilence true old new
+silence_by old new whole number left = λ result.
+    let at : place old ≡ record { number = old.number; left = silent_fields ++ drop 5 old.left } = ap (λ (l : List (List ℕ)). place (record { number = old.number; left = l })) whole in
+    let n : old.number + 1 + 1 + 1 + 1 + 1 ≡ new.number = omega (arith, number) in
+    let to : five_on old.number (drop 5 old.left) ≡ new = place_by new _ _ n (sym left) in
+    ap (output_fields (Some result)) at ∙ says_nothing old.number (drop 5 old.left) result ∙ ap (λ (p : Place). Ok (silence result, p)) to

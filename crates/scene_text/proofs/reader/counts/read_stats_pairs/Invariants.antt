@@ -1,0 +1,11 @@
+use Rattle.std.proofs.Common.{◌≡◌}
+use Rattle.scene_text.specs.Counts.{in_turn, no_stats, stats_pair}
+use Rattle.scene_text.specs.Split.{parted, pieces_left, size_left}
+use Rattle.scene_text.proofs.reader.counts.read_stats_pairs.Given as goal
+
+-- the pairs that are left say, after those so far, what all say
+abbrev pub invariant-loop-rest : goal.invariant-loop-rest
+invariant-loop-rest l = in_turn stats_pair l.read (pieces_left 32 l.rest) ≡ in_turn stats_pair no_stats (parted 32 l.pairs)
+
+abbrev pub decreases-loop-rest : goal.decreases-loop-rest
+decreases-loop-rest l = size_left l.rest

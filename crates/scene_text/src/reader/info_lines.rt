@@ -1,0 +1,95 @@
+//! The lines that tell what the units of a run are doing.
+
+ghost use Rattle.std.specs.Prelude.{◌≡◌};
+ghost use Rattle.scene_text.specs.Fields.{Gives, answered};
+ghost use Rattle.scene_text.specs.InfoLines.{answer_fields, answer_script_line, answer_test_line, info_end_line, info_line};
+
+use super::counts::read_stats;
+use super::fields::Fields;
+use super::numbers::{read_count, read_nanos};
+use super::outputs::read_output;
+use super::script_lines::read_script;
+use super::states::{read_state, read_state_parts};
+use super::test_lines::{read_retry_data, read_test};
+use super::values::read_stress_index;
+use crate::fault::{LineError, LineFault};
+use crate::scene::event::SceneEvent;
+use crate::scene::info_events::{InfoFinish, InfoStart, ScriptAnswer, TestAnswer, UnitAnswer};
+use run_model::boxed::Boxed;
+use std::alloc::Global;
+
+/// Reads an `info` line: how long the run has taken, how many units were asked, and its statistics.
+#[tactic(auto, unfolding(crate::specs::InfoLines::info_line))]
+pub fn read_info(fields: &mut Fields<'_>) -> Result<SceneEvent, LineFault>
+    ensures { info_line fields.old ≡ answered result fields.new }
+{
+    let elapsed = fields.read(read_nanos)?;
+    let total = fields.read(read_count)?;
+    let run_stats = fields.read(read_stats)?;
+    Ok(SceneEvent::InfoStarted(InfoStart {
+        elapsed,
+        total,
+        run_stats,
+    }))
+}
+
+/// Reads an `infoend` line: how many units have not answered.
+#[tactic(auto, unfolding(crate::specs::InfoLines::info_end_line))]
+pub fn read_info_end(fields: &mut Fields<'_>) -> Result<SceneEvent, LineFault>
+    ensures { info_end_line fields.old ≡ answered result fields.new }
+{
+    let missing = fields.read(read_count)?;
+    Ok(SceneEvent::InfoFinished(InfoFinish { missing }))
+}
+
+/// Reads an `answer-script` line: which answer it is of how many, the iteration, the script, and its answer.
+#[tactic(auto, unfolding(crate::specs::InfoLines::answer_script_line))]
+pub fn read_answer_script(alloc: Global, fields: &mut Fields<'_>) -> Result<SceneEvent, LineError>
+    ensures { Gives (λ e. e) fields.old result fields.new answer_script_line }
+{
+    let index = fields.read(read_count)?;
+    let total = fields.read(read_count)?;
+    let stress_index = fields.read(read_stress_index)?;
+    let script = read_script(alloc, fields)?;
+    let answer = read_answer(alloc, fields)?;
+    Ok(SceneEvent::ScriptAnswered(ScriptAnswer {
+        index,
+        total,
+        stress_index,
+        script,
+        answer,
+    }))
+}
+
+/// Reads an `answer-test` line: which answer it is of how many, the test, the attempt, and its answer.
+#[tactic(auto, unfolding(crate::specs::InfoLines::answer_test_line))]
+pub fn read_answer_test(alloc: Global, fields: &mut Fields<'_>) -> Result<SceneEvent, LineError>
+    ensures { Gives (λ e. e) fields.old result fields.new answer_test_line }
+{
+    let index = fields.read(read_count)?;
+    let total = fields.read(read_count)?;
+    let test = read_test(alloc, fields)?;
+    let retry_data = read_retry_data(fields)?;
+    let answer = read_answer(alloc, fields)?;
+    Ok(SceneEvent::TestAnswered(TestAnswer {
+        index,
+        total,
+        test,
+        retry_data,
+        answer,
+    }))
+}
+
+// Reads what a unit is doing, how the attempt ended, and what it has written so far.
+#[tactic(auto, unfolding(crate::specs::InfoLines::answer_fields))]
+fn read_answer(alloc: Global, fields: &mut Fields<'_>) -> Result<UnitAnswer, LineError>
+    ensures { Gives (λ a. a) fields.old result fields.new answer_fields }
+{
+    let told = fields.try_read(|field| read_state_parts(alloc, field))?;
+    let state = fields.try_read(|field| read_state(alloc, told, field))?;
+    let output = read_output(alloc, fields, state.outcome())?;
+    Ok(UnitAnswer {
+        state: Boxed::new(alloc, state)?,
+        output: Boxed::new(alloc, output)?,
+    })
+}

@@ -1,0 +1,97 @@
+//! Numbers as a scene writes them.
+//!
+//! They are decimal, and zeros may stand in front. A plus never does, and a minus only where a number may be negative.
+
+ghost use Rattle.std.specs.Prelude.{◌≡◌, ◌<◌, ◌^◌};
+ghost use Rattle.std.specs.Option.{SomeIff};
+ghost use Rattle.std.specs.Str.Parse.{IsNumeral, digits_value, signed_digits_value};
+ghost use Rattle.scene_text.specs.Numbers.{IsSigned, code_in, nanos_in, number_in};
+
+use run_model::time::Nanos;
+
+/// A count, which is anything that a `usize` holds.
+///
+/// ```
+/// read_count("007") // Some(7)
+/// read_count("+7") // None
+/// ```
+pub fn read_count(text: &str) -> Option<usize>
+    ensures { result ≡ number_in 64 text.now }
+{
+    parse_count(text)
+}
+
+// The number that digits without a plus write.
+fn parse_count(text: &str) -> Option<usize>
+    ensures { SomeIff result (IsNumeral 10 text.now × (digits_value 10 text.now < 2 ^ 64)) (digits_value 10 text.now) }
+{
+    if text.starts_with('+') {
+        return None;
+    }
+    text.parse().ok()
+}
+
+/// A number of attempts or the like, which is anything that a `u32` holds.
+pub fn read_small_count(text: &str) -> Option<u32>
+    ensures { result ≡ number_in 32 text.now }
+{
+    parse_small_count(text)
+}
+
+// The same of 32 bits.
+fn parse_small_count(text: &str) -> Option<u32>
+    ensures { SomeIff result (IsNumeral 10 text.now × (digits_value 10 text.now < 2 ^ 32)) (digits_value 10 text.now) }
+{
+    if text.starts_with('+') {
+        return None;
+    }
+    text.parse().ok()
+}
+
+/// A duration in nanoseconds.
+pub fn read_nanos(text: &str) -> Option<Nanos>
+    ensures { result ≡ nanos_in text.now }
+{
+    Some(Nanos(read_wide_count(text)?))
+}
+
+// A number of 128 bits.
+fn read_wide_count(text: &str) -> Option<u128>
+    ensures { result ≡ number_in 128 text.now }
+{
+    parse_wide_count(text)
+}
+
+// The number of 128 bits that digits without a plus write. Most fit 64 bits, whose parsing takes half the time.
+fn parse_wide_count(text: &str) -> Option<u128>
+    ensures { SomeIff result (IsNumeral 10 text.now × (digits_value 10 text.now < 2 ^ 128)) (digits_value 10 text.now) }
+{
+    if text.starts_with('+') {
+        return None;
+    }
+    if let Ok(number) = text.parse::<u64>() {
+        return Some(u128::from(number));
+    }
+    text.parse().ok()
+}
+
+/// An exit code or the like, which may have a minus in front.
+///
+/// ```
+/// read_code("-0") // Some(0)
+/// ```
+pub fn read_code(text: &str) -> Option<i32>
+    ensures { result ≡ code_in text.now }
+{
+    parse_code(text)
+}
+
+// The number that digits write, perhaps after a minus.
+fn parse_code(text: &str) -> Option<i32>
+    ensures { SomeIff result (IsSigned text.now) (signed_digits_value 10 text.now) }
+{
+    if text.starts_with('+') {
+        return None;
+    }
+    text.parse().ok()
+}

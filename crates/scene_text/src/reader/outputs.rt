@@ -1,0 +1,211 @@
+//! What an attempt wrote, as a scene writes it: five fields.
+//!
+//! They are a form, what the form takes first and second, errors, and a highlight. Where something must be absent, anything
+//! but `-` is a bad field.
+
+ghost use Rattle.std.specs.Prelude.{◌≡◌, ◌++◌, drop, IsTrue, IfOk};
+ghost use Rattle.std.specs.Option.{option_copied};
+ghost use Rattle.scene_text.specs.Split.{texts};
+ghost use Rattle.scene_text.specs.Fields.{Gives};
+ghost use Rattle.scene_text.specs.Lists.{errors_in};
+ghost use Rattle.scene_text.specs.Outputs.{after_streams, highlight_in, highlight_stream_in, output_fields, output_form_in, silent_fields, stream_in, TakesSilence};
+ghost use Rattle.scene_text.specs.Texts.{bytes_in};
+
+use super::fields::Fields;
+use super::lists::read_chain;
+use super::numbers::read_count;
+use super::split::split_at_byte;
+use super::texts::read_bytes;
+use super::values::read_absent;
+use crate::fault::LineError;
+use bytes::Bytes;
+use run_model::boxed::Boxed;
+use run_model::memory::OutOfMemory;
+use run_model::output::{
+    ChildExecutionOutputDescription, ChildOutputDescription, ChildSingleOutput, ErrorChain,
+    Highlight, HighlightStream, LiveSpec,
+};
+use run_model::status::ExecutionResultDescription;
+use std::alloc::Global;
+
+/// In which form an output is written.
+#[derive(Clone, Copy, Debug, PartialEq, Eq)]
+pub enum OutputForm {
+    /// Standard output and standard error, each by itself.
+    Split,
+    /// Both streams together.
+    Combined,
+    /// What was captured was left unread.
+    Unloaded,
+    /// The process could not be started.
+    StartError,
+}
+
+/// The form of an output.
+pub fn read_output_form(field: &str) -> Option<OutputForm>
+    ensures { result ≡ output_form_in field.now }
+{
+    match field {
+        "split" => Some(OutputForm::Split),
+        "comb" => Some(OutputForm::Combined),
+        "unloaded" => Some(OutputForm::Unloaded),
+        "start" => Some(OutputForm::StartError),
+        _ => None,
+    }
+}
+
+/// Reads what an attempt wrote that ended so, where it has.
+#[tactic(auto, unfolding(crate::specs::Outputs::output_fields))]
+pub fn read_output(
+    alloc: Global,
+    fields: &mut Fields<'_>,
+    outcome: Option<&ExecutionResultDescription>,
+) -> Result<ChildExecutionOutputDescription<LiveSpec>, LineError>
+    ensures { Gives (λ o. o) fields.old result fields.new (output_fields (option_copied outcome.entry)) }
+{
+    match fields.read(read_output_form)? {
+        OutputForm::Split => {
+            let stdout = fields.try_read(|field| read_stream(alloc, field))?;
+            let stderr = fields.try_read(|field| read_stream(alloc, field))?;
+            let output = ChildOutputDescription::Split { stdout, stderr };
+            read_after_streams(alloc, fields, outcome, output)
+        }
+        OutputForm::Combined => {
+            let output = fields.try_read(|field| read_single(alloc, field))?;
+            fields.read(read_absent)?;
+            let output = ChildOutputDescription::Combined { output };
+            read_after_streams(alloc, fields, outcome, output)
+        }
+        OutputForm::Unloaded => {
+            fields.read(read_absent)?;
+            fields.read(read_absent)?;
+            read_after_streams(alloc, fields, outcome, ChildOutputDescription::NotLoaded)
+        }
+        OutputForm::StartError => {
+            let error = fields.try_read(|field| read_chain(alloc, field))?;
+            fields.read(read_absent)?;
+            fields.read(read_absent)?;
+            fields.read(read_absent)?;
+            Ok(ChildExecutionOutputDescription::StartError(error))
+        }
+    }
+}
+
+/// Takes the fields of an output, if they come next, that say that both streams were captured and hold nothing.
+pub fn take_silence(fields: &mut Fields<'_>) -> bool
+    ensures { TakesSilence result fields.old fields.new }
+{
+    if !is_silence(fields.left()) {
+        return false;
+    }
+    fields.pass(5);
+    true
+}
+
+// Whether an output that holds nothing comes first.
+fn is_silence(fields: &[&str]) -> bool
+    ensures { IsTrue result → texts fields.now ≡ silent_fields ++ drop 5 (texts fields.now) }
+{
+    match fields {
+        [form, stdout, stderr, errors, highlight, ..] => matches!(
+            (*form, *stdout, *stderr, *errors, *highlight),
+            ("split", "", "", "-", "-")
+        ),
+        _ => false,
+    }
+}
+
+// Reads the errors and the highlight that follow the streams of an attempt that ended so, where it has.
+#[tactic(auto, unfolding(crate::specs::Outputs::after_streams))]
+fn read_after_streams(
+    alloc: Global,
+    fields: &mut Fields<'_>,
+    outcome: Option<&ExecutionResultDescription>,
+    output: ChildOutputDescription,
+) -> Result<ChildExecutionOutputDescription<LiveSpec>, LineError>
+    ensures { Gives (λ o. o) fields.old result fields.new (after_streams (option_copied outcome.entry) output) }
+{
+    let errors = fields.try_read(|field| read_errors(alloc, field))?;
+    let highlight = fields.try_read(|field| read_highlight(alloc, field))?;
+    let result = match outcome {
+        Some(outcome) => Some(outcome.copy(alloc)?),
+        None => None,
+    };
+    Ok(ChildExecutionOutputDescription::Output {
+        result,
+        output,
+        errors,
+        highlight,
+    })
+}
+
+// A stream's bytes, or `-` where it was not captured.
+#[tactic(auto, unfolding(crate::specs::Texts::unescaped_after))]
+fn read_stream(alloc: Global, field: &str) -> Result<Option<Option<ChildSingleOutput>>, OutOfMemory>
+    ensures { IfOk result (λ stream. stream ≡ stream_in field.now) }
+{
+    match field {
+        "-" => Ok(Some(None)),
+        "" => Ok(Some(Some(ChildSingleOutput::empty()))),
+        _ => Ok(read_single(alloc, field)?.map(Some)),
+    }
+}
+
+// The bytes of one stream, or of both together.
+fn read_single(alloc: Global, field: &str) -> Result<Option<ChildSingleOutput>, OutOfMemory>
+    ensures { IfOk result (λ output. output ≡ bytes_in field.now) }
+{
+    match read_bytes(alloc, field)? {
+        Some(bytes) => Ok(Some(ChildSingleOutput::new(alloc, Bytes::from_vec(bytes)?)?)),
+        None => Ok(None),
+    }
+}
+
+// What went wrong while an attempt was run, or `-`.
+fn read_errors(alloc: Global, field: &str) -> Result<Option<Option<ErrorChain>>, OutOfMemory>
+    ensures { IfOk result (λ errors. errors ≡ errors_in field.now) }
+{
+    match field {
+        "-" => Ok(Some(None)),
+        _ => Ok(read_chain(alloc, field)?.map(Some)),
+    }
+}
+
+// The part of the output to point out: its stream, the place of its first byte, and its bytes; or `-`.
+fn read_highlight(
+    alloc: Global,
+    field: &str,
+) -> Result<Option<Option<Boxed<Highlight>>>, OutOfMemory>
+    ensures { IfOk result (λ highlight. highlight ≡ highlight_in field.now) }
+{
+    let Some((stream, rest)) = split_at_byte(field, b':') else {
+        return Ok(read_absent(field).map(|()| None));
+    };
+    let Some((start, slice)) = split_at_byte(rest, b':') else {
+        return Ok(None);
+    };
+    let (Some(stream), Some(start)) = (read_highlight_stream(stream), read_count(start)) else {
+        return Ok(None);
+    };
+    let Some(slice) = read_bytes(alloc, slice)? else {
+        return Ok(None);
+    };
+    let highlight = Highlight {
+        stream,
+        start,
+        slice: Bytes::from_vec(slice)?,
+    };
+    Ok(Some(Some(Boxed::new(alloc, highlight)?)))
+}
+
+// The stream that a highlight stands in.
+fn read_highlight_stream(field: &str) -> Option<HighlightStream>
+    ensures { result ≡ highlight_stream_in field.now }
+{
+    match field {
+        "out" => Some(HighlightStream::Stdout),
+        "err" => Some(HighlightStream::Stderr),
+        "comb" => Some(HighlightStream::Combined),
+        _ => None,
+    }
+}

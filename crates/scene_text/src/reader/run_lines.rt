@@ -1,0 +1,114 @@
+//! The lines of a run.
+
+ghost use Rattle.std.specs.Prelude.{◌≡◌};
+ghost use Rattle.scene_text.specs.Fields.{Gives, answered};
+ghost use Rattle.scene_text.specs.RunLines.{cancel_line, end_line, input_line, not_seen_fields, pause_line, run_line};
+
+use super::counts::{read_skips, read_stats};
+use super::fields::Fields;
+use super::lists::read_instances;
+use super::names::read_profile_name;
+use super::numbers::{read_count, read_nanos};
+use super::values::{read_reason_or_none, read_run_id};
+use crate::fault::{LineError, LineFault};
+use crate::scene::event::SceneEvent;
+use crate::scene::run_events::{RunCancel, RunFinish, RunPause, RunStart, StateRequest};
+use run_model::event::TestCounts;
+use run_model::not_seen::NotSeen;
+use run_model::stats::RunFinishedStats;
+use std::alloc::Global;
+
+/// Reads a `run` line: run id, profile, how many tests and binaries, and what is skipped.
+#[tactic(auto, unfolding(crate::specs::RunLines::run_line))]
+pub fn read_run(alloc: Global, fields: &mut Fields<'_>) -> Result<SceneEvent, LineError>
+    ensures { Gives (λ e. e) fields.old result fields.new run_line }
+{
+    let run_id = fields.read(read_run_id)?;
+    let profile_name = fields.try_read(|field| read_profile_name(alloc, field))?;
+    let run_count = fields.read(read_count)?;
+    let listed_binary_count = fields.read(read_count)?;
+    let skip_counts = fields.read(read_skips)?;
+    Ok(SceneEvent::RunStarted(RunStart {
+        run_id,
+        profile_name,
+        test_list: TestCounts {
+            run_count,
+            listed_binary_count,
+            skip_counts,
+        },
+    }))
+}
+
+/// Reads a `cancel` or `kill` line: how many setup scripts and tests run, and the reason.
+#[tactic(auto, unfolding(crate::specs::RunLines::cancel_line))]
+pub fn read_cancel(fields: &mut Fields<'_>) -> Result<RunCancel, LineFault>
+    ensures { cancel_line fields.old ≡ answered result fields.new }
+{
+    let setup_scripts_running = fields.read(read_count)?;
+    let running = fields.read(read_count)?;
+    let reason = fields.read(read_reason_or_none)?;
+    Ok(RunCancel {
+        setup_scripts_running,
+        running,
+        reason,
+    })
+}
+
+/// Reads a `pause` or `continue` line: how many setup scripts and tests run.
+#[tactic(auto, unfolding(crate::specs::RunLines::pause_line))]
+pub fn read_pause(fields: &mut Fields<'_>) -> Result<RunPause, LineFault>
+    ensures { pause_line fields.old ≡ answered result fields.new }
+{
+    let setup_scripts_running = fields.read(read_count)?;
+    let running = fields.read(read_count)?;
+    Ok(RunPause {
+        setup_scripts_running,
+        running,
+    })
+}
+
+/// Reads an `input` line: how long the run has taken, its statistics, and how many units run.
+#[tactic(auto, unfolding(crate::specs::RunLines::input_line))]
+pub fn read_input(fields: &mut Fields<'_>) -> Result<SceneEvent, LineFault>
+    ensures { input_line fields.old ≡ answered result fields.new }
+{
+    let elapsed = fields.read(read_nanos)?;
+    let current_stats = fields.read(read_stats)?;
+    let running = fields.read(read_count)?;
+    Ok(SceneEvent::InputEnter(StateRequest {
+        elapsed,
+        current_stats,
+        running,
+    }))
+}
+
+/// Reads an `end` line: how long the run took, its statistics, and the tests that were not seen.
+#[tactic(auto, unfolding(crate::specs::RunLines::end_line))]
+pub fn read_end(alloc: Global, fields: &mut Fields<'_>) -> Result<SceneEvent, LineError>
+    ensures { Gives (λ e. e) fields.old result fields.new end_line }
+{
+    let elapsed = fields.read(read_nanos)?;
+    let run_stats = fields.read(read_stats)?;
+    let outstanding_not_seen = read_not_seen(alloc, fields)?;
+    Ok(SceneEvent::RunFinished(RunFinish {
+        elapsed,
+        run_stats: RunFinishedStats::Single(run_stats),
+        outstanding_not_seen,
+    }))
+}
+
+/// Reads how many tests were not seen, and those of them that are listed.
+#[tactic(auto, unfolding(crate::specs::RunLines::not_seen_fields))]
+pub fn read_not_seen(alloc: Global, fields: &mut Fields<'_>) -> Result<Option<NotSeen>, LineError>
+    ensures { Gives (λ o. o) fields.old result fields.new not_seen_fields }
+{
+    let total_not_seen = fields.read(read_count)?;
+    let not_seen = fields.try_read(|field| read_instances(alloc, field))?;
+    if total_not_seen == 0 && not_seen.as_slice().is_empty() {
+        return Ok(None);
+    }
+    Ok(Some(NotSeen {
+        not_seen,
+        total_not_seen,
+    }))
+}

@@ -1,0 +1,62 @@
+//! A text cut at a byte.
+//!
+//! It does what `str::split_once` does, and finds the byte by memchr, since a scene is cut at tabs and searched for
+//! backslashes from one end to the other.
+
+ghost use Rattle.std.specs.Prelude.{◌≡◌, ◌<◌, ◌≤◌, ◌+◌, [], ◌∷◌, ◌++◌, length, IfSome, MatchOption};
+ghost use Rattle.scene_text.specs.Split.{Lacks, cut, cut_texts, parted, pieces_left, size_left};
+
+use memchr::memchr;
+
+/// What stands before the first of these bytes in a text, and what follows it. The byte is an ASCII one.
+///
+/// ```
+/// split_at_byte("a=b=c", b'=') // Some(("a", "b=c"))
+/// ```
+pub fn split_at_byte(text: &str, byte: u8) -> Option<(&str, &str)>
+    requires { byte < 128 }
+    ensures parts { MatchOption result (Lacks byte text.now) (λ x. Lacks byte x.0.now × (text.now ≡ x.0.now ++ (byte ∷ x.1.now))) }
+    ensures cut { cut_texts result ≡ cut byte text.now }
+    ensures parted { MatchOption result (parted byte text.now ≡ text.now ∷ []) (λ x. parted byte text.now ≡ x.0.now ∷ parted byte x.1.now) }
+    ensures shorter { IfSome result (λ x. length x.1.now + 1 ≤ length text.now) }
+{
+    let Some(at) = memchr(byte, text.as_bytes()) else {
+        return None;
+    };
+    Some((&text[..at], &text[at + 1..]))
+}
+
+/// What stands before the first of these bytes, and what follows it.
+#[inline(always)]
+pub fn split_bytes_at(bytes: &[u8], byte: u8) -> Option<(&[u8], &[u8])>
+    ensures parts { MatchOption result (Lacks byte bytes.now) (λ x. Lacks byte x.0.now × (bytes.now ≡ x.0.now ++ (byte ∷ x.1.now))) }
+    ensures shorter { IfSome result (λ x. length x.1.now + 1 ≤ length bytes.now) }
+{
+    let Some(at) = memchr(byte, bytes) else {
+        return None;
+    };
+    Some((&bytes[..at], &bytes[at + 1..]))
+}
+
+/// What stands before the first of these bytes in a text, and what follows it, if it has one. The byte is an ASCII one.
+pub fn first_piece(text: &str, byte: u8) -> (&str, Option<&str>)
+    requires { byte < 128 }
+    ensures pieces { parted byte text.now ≡ result.0.now ∷ pieces_left byte result.1 }
+    ensures shorter { size_left result.1 ≤ length text.now }
+{
+    match split_at_byte(text, byte) {
+        Some((piece, after)) => (piece, Some(after)),
+        None => (text, None),
+    }
+}
+
+/// The first line of a text, and the lines that follow it, where some do.
+pub fn first_line(text: &[u8]) -> (&[u8], Option<&[u8]>)
+    ensures lines { parted 10 text.now ≡ result.0.now ∷ pieces_left 10 result.1 }
+    ensures shorter { size_left result.1 ≤ length text.now }
+{
+    match memchr(b'\n', text) {
+        Some(at) => (&text[..at], Some(&text[at + 1..])),
+        None => (text, None),
+    }
+}

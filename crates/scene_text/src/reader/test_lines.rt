@@ -1,0 +1,197 @@
+//! The lines of tests.
+
+ghost use Rattle.std.specs.Prelude.{◌≡◌};
+ghost use Rattle.scene_text.specs.Fields.{Gives, answered};
+ghost use Rattle.scene_text.specs.TestLines.{all_attempts, attempt_fields, done_line, retry_fields, retry_line, retry_start_line, skip_line, slow_line, start_line, test_fields};
+
+use super::counts::read_stats;
+use super::fields::Fields;
+use super::lists::read_command_line;
+use super::names::{read_binary_id, read_test_name};
+use super::numbers::{read_nanos, read_small_count};
+use super::outputs::{read_output, take_silence};
+use super::results::read_result;
+use super::values::{read_display, read_flag, read_flaky_result, read_stress_index};
+use crate::fault::{LineError, LineFault};
+use crate::scene::attempts::{SceneAttempt, SceneAttempts};
+use crate::scene::event::SceneEvent;
+use crate::scene::test_events::{
+    FailedAttempt, SceneTest, SlowTest, TestFinish, TestRetryStart, TestStart,
+};
+use run_model::status::{FlakyResult, RetryData};
+use std::alloc::Global;
+use std::mem;
+
+/// Reads a `start` line: the test, the statistics, and the command.
+#[tactic(auto, unfolding(crate::specs::TestLines::start_line))]
+pub fn read_start(alloc: Global, fields: &mut Fields<'_>) -> Result<SceneEvent, LineError>
+    ensures { Gives (λ e. e) fields.old result fields.new start_line }
+{
+    let test = read_test(alloc, fields)?;
+    let current_stats = fields.read(read_stats)?;
+    let command_line = fields.try_read(|field| read_command_line(alloc, field))?;
+    Ok(SceneEvent::TestStarted(TestStart {
+        test,
+        current_stats,
+        command_line,
+    }))
+}
+
+/// Reads a `retrystart` line: the test, the attempt, and the command.
+#[tactic(auto, unfolding(crate::specs::TestLines::retry_start_line))]
+pub fn read_retry_start(alloc: Global, fields: &mut Fields<'_>) -> Result<SceneEvent, LineError>
+    ensures { Gives (λ e. e) fields.old result fields.new retry_start_line }
+{
+    let test = read_test(alloc, fields)?;
+    let retry_data = read_retry_data(fields)?;
+    let command_line = fields.try_read(|field| read_command_line(alloc, field))?;
+    Ok(SceneEvent::TestRetryStarted(TestRetryStart {
+        test,
+        retry_data,
+        command_line,
+    }))
+}
+
+/// Reads a `slow` line: the test, the attempt, how long it has taken, and whether it is ended.
+#[tactic(auto, unfolding(crate::specs::TestLines::slow_line))]
+pub fn read_slow(alloc: Global, fields: &mut Fields<'_>) -> Result<SceneEvent, LineError>
+    ensures { Gives (λ e. e) fields.old result fields.new slow_line }
+{
+    let test = read_test(alloc, fields)?;
+    let retry_data = read_retry_data(fields)?;
+    let elapsed = fields.read(read_nanos)?;
+    let will_terminate = fields.read(read_flag)?;
+    Ok(SceneEvent::TestSlow(SlowTest {
+        test,
+        retry_data,
+        elapsed,
+        will_terminate,
+    }))
+}
+
+/// Reads a `retry` line: the test, which attempt failed, how long the next one waits, when the output is shown, and the
+/// attempt.
+#[tactic(auto, unfolding(crate::specs::TestLines::retry_line))]
+pub fn read_retry(alloc: Global, fields: &mut Fields<'_>) -> Result<SceneEvent, LineError>
+    ensures { Gives (λ e. e) fields.old result fields.new retry_line }
+{
+    let test = read_test(alloc, fields)?;
+    let retry_data = read_retry_data(fields)?;
+    let delay_before_next_attempt = fields.read(read_nanos)?;
+    let failure_output = fields.read(read_display)?;
+    let attempt = read_attempt(alloc, fields, retry_data)?;
+    Ok(SceneEvent::TestAttemptFailedWillRetry(FailedAttempt {
+        test,
+        attempt,
+        delay_before_next_attempt,
+        failure_output,
+    }))
+}
+
+/// Reads a `done` line: the test, when the output of a success and of a failure is shown, what a
+/// flaky test counts as, the statistics, how many attempts there can be, and the attempts.
+#[tactic(auto, unfolding(crate::specs::TestLines::done_line))]
+pub fn read_done(alloc: Global, fields: &mut Fields<'_>) -> Result<SceneEvent, LineError>
+    ensures { Gives (λ e. e) fields.old result fields.new done_line }
+{
+    let test = read_test(alloc, fields)?;
+    let success_output = fields.read(read_display)?;
+    let failure_output = fields.read(read_display)?;
+    let flaky_result = fields.read(read_flaky_result)?;
+    let current_stats = fields.read(read_stats)?;
+    let total_attempts = fields.read(read_small_count)?;
+    let attempts = read_attempts(alloc, fields, flaky_result, total_attempts)?;
+    Ok(SceneEvent::TestFinished(TestFinish {
+        test,
+        success_output,
+        failure_output,
+        attempts,
+        current_stats,
+    }))
+}
+
+/// Reads a `skip` line: the test.
+#[tactic(auto, unfolding(crate::specs::TestLines::skip_line))]
+pub fn read_skip(alloc: Global, fields: &mut Fields<'_>) -> Result<SceneEvent, LineError>
+    ensures { Gives (λ e. e) fields.old result fields.new skip_line }
+{
+    let test = read_test(alloc, fields)?;
+    Ok(SceneEvent::TestSkipped(test))
+}
+
+/// Reads which test it is: stress index, binary id and name.
+#[inline(always)]
+#[tactic(auto, unfolding(crate::specs::TestLines::test_fields))]
+pub fn read_test(alloc: Global, fields: &mut Fields<'_>) -> Result<SceneTest, LineError>
+    ensures { Gives (λ t. t) fields.old result fields.new test_fields }
+{
+    let stress_index = fields.read(read_stress_index)?;
+    let binary_id = fields.try_read(|field| read_binary_id(alloc, field))?;
+    let test_name = fields.try_read(|field| read_test_name(alloc, field))?;
+    Ok(SceneTest {
+        stress_index,
+        binary_id,
+        test_name,
+    })
+}
+
+/// Reads which attempt it is, and how many there can be.
+#[tactic(auto, unfolding(crate::specs::TestLines::retry_fields))]
+pub fn read_retry_data(fields: &mut Fields<'_>) -> Result<RetryData, LineFault>
+    ensures { retry_fields fields.old ≡ answered result fields.new }
+{
+    let attempt = fields.read(read_small_count)?;
+    let total_attempts = fields.read(read_small_count)?;
+    Ok(RetryData {
+        attempt,
+        total_attempts,
+    })
+}
+
+// Reads attempts up to the end of the line, which has at least one.
+fn read_attempts(
+    alloc: Global,
+    fields: &mut Fields<'_>,
+    flaky_result: FlakyResult,
+    total_attempts: u32,
+) -> Result<SceneAttempts, LineError>
+    ensures { Gives (λ s. s) fields.old result fields.new (all_attempts flaky_result total_attempts) }
+{
+    let first = RetryData {
+        attempt: 1,
+        total_attempts,
+    };
+    let mut last = read_attempt(alloc, fields, first)?;
+    let mut earlier = Vec::new(alloc);
+    for number in 2..fields.len() / 8 + 2 {
+        let Ok(attempt) = u32::try_from(number) else {
+            return Err(LineError::Fault(LineFault::WrongNumberOfFields));
+        };
+        let retry_data = RetryData {
+            attempt,
+            total_attempts,
+        };
+        let next = read_attempt(alloc, fields, retry_data)?;
+        earlier.push(mem::replace(&mut last, next))?;
+    }
+    Ok(SceneAttempts::with_last(earlier, last, flaky_result))
+}
+
+/// Reads an attempt: result, duration, whether it was slow, and its output. Most wrote nothing, which takes no memory.
+#[tactic(auto, unfolding(crate::specs::TestLines::attempt_fields))]
+pub fn read_attempt(
+    alloc: Global,
+    fields: &mut Fields<'_>,
+    retry_data: RetryData,
+) -> Result<SceneAttempt, LineError>
+    ensures { Gives (λ s. s) fields.old result fields.new (attempt_fields retry_data) }
+{
+    let outcome = fields.try_read(|field| read_result(alloc, field))?;
+    let time_taken = fields.read(read_nanos)?;
+    let is_slow = fields.read(read_flag)?;
+    if take_silence(fields) {
+        return Ok(SceneAttempt::silent(outcome, time_taken, retry_data, is_slow));
+    }
+    let output = read_output(alloc, fields, Some(&outcome))?;
+    Ok(SceneAttempt::with_output(alloc, outcome, time_taken, retry_data, is_slow, output)?)
+}

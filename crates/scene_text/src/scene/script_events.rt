@@ -1,0 +1,143 @@
+//! The events of setup scripts.
+
+ghost use Rattle.std.specs.Prelude.{◌≡◌, IfOk, OnOk};
+ghost use Rattle.scene_text.specs.Scenes.{AddsCallOf};
+ghost use Rattle.scene_text.specs.declared.scene.event.SceneEvent.{SceneEvent};
+
+use super::attempts::SceneAttempt;
+use super::event::call_of;
+use run_model::call::ReportCall;
+use run_model::command::CommandLine;
+use run_model::event::TestEventKind;
+use run_model::memory::OutOfMemory;
+use run_model::name::{ProgramName, ScriptId};
+use run_model::stress::StressIndex;
+use run_model::time::Nanos;
+use std::alloc::Global;
+
+/// A setup script.
+#[derive(Debug, Drop)]
+pub struct SceneScript {
+    /// Its id.
+    pub script_id: ScriptId,
+    /// The program that it runs.
+    pub program: ProgramName,
+    /// The program's arguments.
+    pub args: CommandLine,
+}
+
+/// A setup script that starts.
+#[derive(Debug, Drop)]
+pub struct SetupStart {
+    /// Which iteration of a stress run it belongs to.
+    pub stress_index: Option<StressIndex>,
+    /// Its place among the setup scripts, from 0.
+    pub index: usize,
+    /// How many setup scripts there are.
+    pub total: usize,
+    /// The script.
+    pub script: SceneScript,
+}
+
+/// A setup script that runs longer than it should.
+#[derive(Debug, Drop)]
+pub struct SlowSetup {
+    /// How long it has taken.
+    pub elapsed: Nanos,
+    /// Which iteration of a stress run it belongs to.
+    pub stress_index: Option<StressIndex>,
+    /// The script.
+    pub script: SceneScript,
+    /// Whether it is ended for it.
+    pub will_terminate: bool,
+}
+
+/// A setup script that has finished.
+#[derive(Debug, Drop)]
+pub struct SetupFinish {
+    /// Its only attempt.
+    pub attempt: SceneAttempt,
+    /// Which iteration of a stress run it belongs to.
+    pub stress_index: Option<StressIndex>,
+    /// The script.
+    pub script: SceneScript,
+}
+
+impl SceneScript {
+    /// Takes memory for the names of another one.
+    pub fn copy(&self, alloc: Global) -> Result<SceneScript, OutOfMemory>
+        ensures { IfOk result (λ copy. copy ≡ self.now) }
+    {
+        Ok(SceneScript {
+            script_id: ScriptId::new(alloc, self.script_id.as_str())?,
+            program: ProgramName::new(alloc, self.program.as_str())?,
+            args: self.args.copy()?,
+        })
+    }
+}
+
+impl SetupStart {
+    /// Adds the event as a reporter takes it.
+    pub fn push_call<'a>(
+        &self,
+        alloc: Global,
+        calls: &mut Vec<ReportCall<'a>>,
+    ) -> Result<(), OutOfMemory>
+        ensures { OnOk result (AddsCallOf (SceneEvent.SetupScriptStarted self.now) calls.old.items calls.new.items) }
+    {
+        let script = self.script.copy(alloc)?;
+        calls.push(call_of(TestEventKind::SetupScriptStarted {
+            stress_index: self.stress_index,
+            index: self.index,
+            total: self.total,
+            script_id: script.script_id,
+            program: script.program,
+            args: script.args,
+        }))?;
+        Ok(())
+    }
+}
+
+impl SlowSetup {
+    /// Adds the event as a reporter takes it.
+    pub fn push_call<'a>(
+        &self,
+        alloc: Global,
+        calls: &mut Vec<ReportCall<'a>>,
+    ) -> Result<(), OutOfMemory>
+        ensures { OnOk result (AddsCallOf (SceneEvent.SetupScriptSlow self.now) calls.old.items calls.new.items) }
+    {
+        let script = self.script.copy(alloc)?;
+        calls.push(call_of(TestEventKind::SetupScriptSlow {
+            stress_index: self.stress_index,
+            script_id: script.script_id,
+            program: script.program,
+            args: script.args,
+            elapsed: self.elapsed,
+            will_terminate: self.will_terminate,
+        }))?;
+        Ok(())
+    }
+}
+
+impl SetupFinish {
+    /// Adds the event as a reporter takes it.
+    pub fn push_call<'a>(
+        &self,
+        alloc: Global,
+        calls: &mut Vec<ReportCall<'a>>,
+    ) -> Result<(), OutOfMemory>
+        ensures { OnOk result (AddsCallOf (SceneEvent.SetupScriptFinished self.now) calls.old.items calls.new.items) }
+    {
+        let script = self.script.copy(alloc)?;
+        let run_status = self.attempt.script_status(alloc)?;
+        calls.push(call_of(TestEventKind::SetupScriptFinished {
+            stress_index: self.stress_index,
+            script_id: script.script_id,
+            program: script.program,
+            args: script.args,
+            run_status,
+        }))?;
+        Ok(())
+    }
+}

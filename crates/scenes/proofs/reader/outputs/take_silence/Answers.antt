@@ -1,5 +1,0 @@
-use Rattle.scenes.proofs.lemmas.Silence.{silence_by}
-use Rattle.scenes.proofs.reader.outputs.take_silence.Goals as goal
-
-pub returns : goal.returns
-returns c = silence_by _ _ (rw c.left.ensures at (c.is_silence.ensures c.if-not-is_silence.false)) c.pass.ensures.number c.pass.ensures.left
