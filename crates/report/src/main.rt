@@ -4,9 +4,6 @@
 //! scene was accepted.
 #![tactic(auto)]
 
-#[cfg(test)]
-mod tests;
-
 use scenes::fault::Fault;
 use scenes::program::report_scene;
 use scenes::words::words;
