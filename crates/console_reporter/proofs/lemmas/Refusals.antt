@@ -3,9 +3,9 @@ use Rattle.std.proofs.Common.{◌≡◌, ℕ, List, true, Option, None, Some, Er
 use Rattle.std.specs.Option.{is_some}
 use Rattle.std.specs.Result.{IsErrOf}
 use Rattle.report_text.specs.Writer.{Meaning}
-use Rattle.console_reporter.specs.Outcomes.{Stops, refusal_in}
+use Rattle.console_reporter.specs.Outcomes.{Stops, StopsRecord, refusal_in}
 use Rattle.console_reporter.specs.declared.imp.faults.WriteEventError.{WriteEventError}
-use Rattle.console_reporter.specs.declared.imp.faults.WriteEventError.TheVariants.{RetriedSuccess, OutputNotLoaded, Io, Memory, Failed}
+use Rattle.console_reporter.specs.declared.imp.faults.WriteEventError.TheVariants.{RetriedSuccess, OutputNotLoaded, Io, Memory, Failed, StoreIo}
 
 -- what is not there
 pub none_where_not_some : {X : Type 0} (o : Option X) → ((x : X) → o ≡ Some x → ⊥) → o ≡ None
@@ -23,10 +23,23 @@ stops_refused m w t OutputNotLoaded told = refl
 stops_refused m w t Io told = cc
 stops_refused m w t Memory told = cc
 stops_refused m w t Failed told = cc
+stops_refused m w t StoreIo told = cc
+
+-- and the store
+pub record_refused : {S : Type 0} (m : Meaning S) (w : S) (t : List ℕ) (e : WriteEventError) → refusal_in e ≡ Some e → StopsRecord m w t e w
+record_refused m w t RetriedSuccess told = refl
+record_refused m w t OutputNotLoaded told = refl
+record_refused m w t Io told = cc
+record_refused m w t Memory told = cc
+record_refused m w t Failed told = cc
+record_refused m w t StoreIo told = cc
 
 -- and is no fault of the device or of memory
 pub refused_not_io : (e : WriteEventError) → refusal_in e ≡ Some e → IsErrOf {T = Unit {0}} (Err e) Io → ⊥
 refused_not_io e told is = cc
+
+pub refused_not_store_io : (e : WriteEventError) → refusal_in e ≡ Some e → IsErrOf {T = Unit {0}} (Err e) StoreIo → ⊥
+refused_not_store_io e told is = cc
 
 pub refused_not_memory : (e : WriteEventError) → refusal_in e ≡ Some e → IsErrOf {T = Unit {0}} (Err e) Memory → ⊥
 refused_not_memory e told is = cc
