@@ -15,6 +15,7 @@ pub mod Records
 pub mod Refusals
 pub mod ReportTints
 pub mod Rows
+pub mod Runs
 pub mod Same
 pub mod Stores
 pub mod Texts

@@ -18,5 +18,6 @@ pub mod Slots
 pub mod Standing
 pub mod Statistics
 pub mod Stored
+pub mod Telling
 pub mod Topics
 pub mod Unread

@@ -15,7 +15,7 @@ use Rattle.console_reporter.specs.Configuration.{Configuration, settings_of}
 use Rattle.console_reporter.specs.Entries.{cancel}
 use Rattle.console_reporter.specs.declared.imp.calls.ReportCall.{ReportCall}
 use Rattle.report_text.specs.declared.write_str.WriteFault.TheVariants.{Device, Memory as RefusedMemory}
-use Rattle.console_reporter.specs.Outcomes.{HasFront, IsOfConsole, Stops, StopsAfter, StopsRecord, error_for, store_error_for}
+use Rattle.console_reporter.specs.Outcomes.{IsOfConsole, Stops, StopsAfter, StopsRecord, error_for, store_error_for}
 use Rattle.console_reporter.specs.Slots.{store_may_refuse}
 use Rattle.console_reporter.specs.Standing.{StandsAfter, MayGrowAt, MayGrowIn, may_grow_in}
 use Rattle.console_reporter.specs.declared.imp.reporter.DisplayReporter.{DisplayReporter}

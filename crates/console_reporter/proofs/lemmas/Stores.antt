@@ -14,6 +14,9 @@ use Rattle.run_model.specs.Levels.{reason_rank}
 use Rattle.console_reporter.specs.declared.imp.faults.WriteEventError.{WriteEventError}
 use Rattle.console_reporter.specs.declared.imp.faults.WriteEventError.TheVariants.{RetriedSuccess, OutputNotLoaded, Io, Memory, Failed, StoreIo}
 use Rattle.report_text.specs.declared.write_str.WriteFault.{WriteFault}
+use Rattle.console_reporter.specs.Report.{past_at}
+use Rattle.console_reporter.specs.Stored.{stored, stored_at}
+use Rattle.console_reporter.specs.Telling.{BreaksRun, TellsRun}
 use Rattle.console_reporter.specs.Slots.{IsSameStore, config_of, store_accepts, store_adds, store_failures, store_known, store_may_refuse, store_meaning, store_stops}
 use Rattle.console_reporter.specs.declared.imp.store.Store.{Store}
 
@@ -125,21 +128,18 @@ module _ {S : Type 0} (m : Meaning S) where
   stopped_mid a b None t u e before stopped = absurd before
   stopped_mid a b (Some x) t u e before stopped = record { mid = x.writer.now; accepted = before; stopped = stops_there x b u e stopped }
 
-  module _ {W : Type 0} (config : Configuration) (reporter : DisplayReporter W S) (a b : Store S) (new : Option (Store S)) (stands : StandsAfter config [] reporter) (old_is : reporter.store ≡ Some a) (new_is : new ≡ Some b) where
-    pub ok_there : (t : Configuration → List ℕ) (r : Result (Unit {0}) RunFault) →
-        OnOk r ((c : Configuration) → StandsAfter c [] reporter → store_accepts m reporter.store (t c) new) → OnOk r (m.accepts a.writer.now (t config) b.writer.now)
-    ok_there t (Ok done) h = let k = h config stands in rw (old_is, new_is) at k
-    ok_there t (Err stop) h = tt
+  module _ {W : Type 0} (k : Meaning W) (config : Configuration) (old new : DisplayReporter W S) (a b : Store S) (stands : StandsAfter config [] old) (old_is : old.store ≡ Some a) (new_is : new.store ≡ Some b) where
+    pub ok_there : (past : List ReportCall) (r : Result (Unit {0}) RunFault) → OnOk r (TellsRun k m old past new) → OnOk r (m.accepts a.writer.now (stored config.store past) b.writer.now)
+    ok_there past (Ok done) h = let s = h.stored config stands in rw (old_is, new_is) at s
+    ok_there past (Err stop) h = tt
 
-    pub err_there : (t u : Configuration → RunFault → List ℕ) (r : Result (Unit {0}) RunFault) →
-        IfErr r (λ stop. (c : Configuration) → StandsAfter c [] reporter → StopsRecordAfter (store_meaning m) reporter.store (t c stop) (u c stop) stop.fault new) →
-        IfErr r (λ stop. StopsRecordAfter m a.writer.now (t config stop) (u config stop) stop.fault b.writer.now)
-    err_there t u (Ok done) h = tt
-    err_there t u (Err stop) h =
-        let k = h config stands in
-        let s = subst (λ x. StopsRecordAfter (store_meaning m) x (t config stop) (u config stop) stop.fault new) old_is k in
-        let z = subst (λ x. StopsRecordAfter (store_meaning m) (Some a) (t config stop) (u config stop) stop.fault x) new_is s in
-        stopped_mid a b z.mid (t config stop) (u config stop) stop.fault z.accepted z.stopped
+    pub err_there : (calls : List ReportCall) (r : Result (Unit {0}) RunFault) → IfErr r (λ stop. BreaksRun k m old calls stop.position stop.fault new) →
+        IfErr r (λ stop. StopsRecordAfter m a.writer.now (stored config.store (past_at calls stop.position)) (stored_at config.store calls stop.position) stop.fault b.writer.now)
+    err_there calls (Ok done) h = tt
+    err_there calls (Err stop) h =
+        let s = subst (λ x. StopsRecordAfter (store_meaning m) x (stored config.store (past_at calls stop.position)) (stored_at config.store calls stop.position) stop.fault new.store) old_is (h.store_stopped config stands) in
+        let z = subst (λ x. StopsRecordAfter (store_meaning m) (Some a) (stored config.store (past_at calls stop.position)) (stored_at config.store calls stop.position) stop.fault x) new_is s in
+        stopped_mid a b z.mid _ _ stop.fault z.accepted z.stopped
 
   -- where there is no store, none fails
   absent_mid : (mid : Option (Store S)) (t u : List ℕ) (new : Option (Store S)) → store_accepts m None t mid → StopsRecord (store_meaning m) mid u StoreIo new → ⊥
@@ -149,9 +149,8 @@ module _ {S : Type 0} (m : Meaning S) where
   absent_stop : (t u : List ℕ) (e : WriteEventError) (new : Option (Store S)) → StopsRecordAfter (store_meaning m) None t u e new → e ≡ StoreIo → ⊥
   absent_stop t u e new h is = absent_mid h.mid t u new h.accepted (subst (λ x. StopsRecord (store_meaning m) h.mid u x new) is h.stopped)
 
-  pub absent_here : {W : Type 0} (config : Configuration) (reporter : DisplayReporter W S) (new : Option (Store S)) → StandsAfter config [] reporter → reporter.store ≡ None → (t u : Configuration → RunFault → List ℕ) (r : Result (Unit {0}) RunFault) →
-      IfErr r (λ stop. (c : Configuration) → StandsAfter c [] reporter → StopsRecordAfter (store_meaning m) reporter.store (t c stop) (u c stop) stop.fault new) →
-      IfErr r (λ stop. stop.fault ≡ StoreIo → ⊥)
-  absent_here config reporter new stands none t u (Ok done) h = tt
-  absent_here config reporter new stands none t u (Err stop) h =
-      absent_stop _ _ stop.fault new (subst (λ x. StopsRecordAfter (store_meaning m) x (t config stop) (u config stop) stop.fault new) none (h config stands))
+  pub absent_here : {W : Type 0} (k : Meaning W) (config : Configuration) (old new : DisplayReporter W S) → StandsAfter config [] old → old.store ≡ None → (calls : List ReportCall) (r : Result (Unit {0}) RunFault) →
+      IfErr r (λ stop. BreaksRun k m old calls stop.position stop.fault new) → IfErr r (λ stop. stop.fault ≡ StoreIo → ⊥)
+  absent_here k config old new stands none calls (Ok done) h = tt
+  absent_here k config old new stands none calls (Err stop) h =
+      absent_stop _ _ stop.fault new.store (subst (λ x. StopsRecordAfter (store_meaning m) x (stored config.store (past_at calls stop.position)) (stored_at config.store calls stop.position) stop.fault new.store) none (h.store_stopped config stands))

@@ -19,13 +19,14 @@ ghost use Rattle.console_reporter.specs.Loads.{lacks_output};
 ghost use Rattle.console_reporter.specs.Entries.{final_order, hiding_rank};
 ghost use Rattle.console_reporter.specs.Exactness.{IsExact};
 ghost use Rattle.console_reporter.specs.Exchanges.{IsOrderIndependent};
-ghost use Rattle.console_reporter.specs.Outcomes.{IsOfConsole, Stops, StopsAfter, StopsRecord, StopsRecordAfter, IsOfLines, answered_refusal, error_for, refusal_in, store_error_for};
+ghost use Rattle.console_reporter.specs.Outcomes.{IsOfConsole, Stops, StopsAfter, StopsRecordAfter, IsOfLines, answered_refusal, error_for, refusal_in, store_error_for};
 ghost use Rattle.console_reporter.specs.Report.{end_of_run_text, event_text, finished_text, listed_text, text, texts, report, past_at, text_at};
-ghost use Rattle.console_reporter.specs.Slots.{IsSameStore, config_of, store_accepts, store_delivered, store_failures, store_may_refuse, store_meaning};
-ghost use Rattle.console_reporter.specs.Stored.{record_of, stored, stored_at, stored_text};
+ghost use Rattle.console_reporter.specs.Slots.{config_of, store_delivered, store_may_refuse, store_meaning};
+ghost use Rattle.console_reporter.specs.Stored.{record_of, stored, stored_at};
 ghost use Rattle.console_reporter.specs.Statistics.{IsStatsIndependent};
+ghost use Rattle.console_reporter.specs.Telling.{AreDelivered, AreSameWriters, Breaks, BreaksRun, Tells, TellsRun};
 ghost use Rattle.console_reporter.specs.Topics.{is_of_run};
-ghost use Rattle.console_reporter.specs.Standing.{StandsAfter, HasFailed, IsSameWriter, MayGrow, MayGrowAt, MayGrowIn, known_by};
+ghost use Rattle.console_reporter.specs.Standing.{StandsAfter, HasFailed, IsSameWriter, MayGrow, MayGrowAt, known_by};
 
 use super::builder::DisplayReporterBuilder;
 use super::calls::ReportCall;
@@ -155,27 +156,11 @@ impl<'a, W: WriteStr, S: WriteStr> DisplayReporter<'a, W, S> {
     /// reporter.finish()?;
     /// ```
     pub fn write_event(&mut self, event: &TestEvent<'a>) -> Result<(), WriteEventError>
-        ensures same_writer { IsSameWriter self.old self.new }
-        ensures same_store { IsSameStore self.old.store self.new.store }
-        ensures accepted { OnOk result ((config : Configuration) (past : List ReportCall) → StandsAfter config past self.old →
-            W.meaning.accepts self.old.writer.now (text config past (ReportCall.Event event.now)) self.new.writer.now) }
+        ensures same { AreSameWriters self.old self.new }
+        ensures ok { OnOk result (Tells W.meaning S.meaning self.old (Some (ReportCall.Event event.now)) self.new) }
+        ensures delivered { OnOk result (AreDelivered W.meaning S.meaning self.new) }
+        ensures err { IfErr result (λ e. Breaks W.meaning S.meaning self.old (Some (ReportCall.Event event.now)) e self.new) }
         ensures lines { (config : Configuration) (past : List ReportCall) → IsOfLines (text config past (ReportCall.Event event.now)) }
-        ensures stands { OnOk result ((config : Configuration) (past : List ReportCall) → StandsAfter config past self.old →
-            StandsAfter config (ReportCall.Event event.now ∷ past) self.new) }
-        ensures delivered { OnOk result (W.meaning.is_delivered self.new.writer.now) }
-        ensures err { IfErr result (λ e. (config : Configuration) (past : List ReportCall) → StandsAfter config past self.old →
-            Stops W.meaning self.old.writer.now (text config past (ReportCall.Event event.now)) e self.new.writer.now) }
-        ensures stored { OnOk result ((config : Configuration) (past : List ReportCall) → StandsAfter config past self.old →
-            store_accepts S.meaning self.old.store (stored_text config.store (ReportCall.Event event.now)) self.new.store) }
-        ensures store_delivered { OnOk result (store_delivered S.meaning self.new.store) }
-        ensures store_err { IfErr result (λ e. (config : Configuration) (past : List ReportCall) → StandsAfter config past self.old →
-            StopsRecord (store_meaning S.meaning) self.old.store (stored_text config.store (ReportCall.Event event.now)) e self.new.store) }
-        ensures order { IfErr result (λ e. (config : Configuration) (past : List ReportCall) → StandsAfter config past self.old →
-            (self.new.store ≡ self.old.store) ⊎ W.meaning.accepts self.old.writer.now (text config past (ReportCall.Event event.now)) self.new.writer.now) }
-        ensures io { IsErrOf result WriteEventError.Io → W.meaning.failures self.new.writer.now ≡ one_further (W.meaning.failures self.old.writer.now) }
-        ensures store_io { IsErrOf result WriteEventError.StoreIo → store_failures S.meaning self.new.store ≡ one_further (store_failures S.meaning self.old.store) }
-        ensures memory { IsErrOf result WriteEventError.Memory →
-            W.meaning.may_refuse self.old.writer.now ⊎ MayGrow self.old event.now ⊎ store_may_refuse S.meaning self.old.store }
         ensures refused { (config : Configuration) (past : List ReportCall) → StandsAfter config past self.old →
             answered_refusal result ≡ refusal config (ReportCall.Event event.now) }
         ensures untouched { is_some (answered_refusal result) ≡ true → self.new ≡ self.old }
@@ -202,26 +187,10 @@ impl<'a, W: WriteStr, S: WriteStr> DisplayReporter<'a, W, S> {
     // Reports an event, and then writes its record and delivers that.
     fn report_and_store(&mut self, event: &TestEvent<'a>) -> Result<(), WriteEventError>
         requires { lacks_output (decider_by self.old.state.settings None) event.now.kind ≡ false }
-        ensures same_writer { IsSameWriter self.old self.new }
-        ensures same_store { IsSameStore self.old.store self.new.store }
-        ensures accepted { OnOk result ((config : Configuration) (past : List ReportCall) → StandsAfter config past self.old →
-            W.meaning.accepts self.old.writer.now (text config past (ReportCall.Event event.now)) self.new.writer.now) }
-        ensures stands { OnOk result ((config : Configuration) (past : List ReportCall) → StandsAfter config past self.old →
-            StandsAfter config (ReportCall.Event event.now ∷ past) self.new) }
-        ensures delivered { OnOk result (W.meaning.is_delivered self.new.writer.now) }
-        ensures err { IfErr result (λ e. (config : Configuration) (past : List ReportCall) → StandsAfter config past self.old →
-            Stops W.meaning self.old.writer.now (text config past (ReportCall.Event event.now)) e self.new.writer.now) }
-        ensures stored { OnOk result ((config : Configuration) (past : List ReportCall) → StandsAfter config past self.old →
-            store_accepts S.meaning self.old.store (stored_text config.store (ReportCall.Event event.now)) self.new.store) }
-        ensures store_delivered { OnOk result (store_delivered S.meaning self.new.store) }
-        ensures store_err { IfErr result (λ e. (config : Configuration) (past : List ReportCall) → StandsAfter config past self.old →
-            StopsRecord (store_meaning S.meaning) self.old.store (stored_text config.store (ReportCall.Event event.now)) e self.new.store) }
-        ensures order { IfErr result (λ e. (config : Configuration) (past : List ReportCall) → StandsAfter config past self.old →
-            (self.new.store ≡ self.old.store) ⊎ W.meaning.accepts self.old.writer.now (text config past (ReportCall.Event event.now)) self.new.writer.now) }
-        ensures io { IsErrOf result WriteEventError.Io → W.meaning.failures self.new.writer.now ≡ one_further (W.meaning.failures self.old.writer.now) }
-        ensures store_io { IsErrOf result WriteEventError.StoreIo → store_failures S.meaning self.new.store ≡ one_further (store_failures S.meaning self.old.store) }
-        ensures memory { IsErrOf result WriteEventError.Memory →
-            W.meaning.may_refuse self.old.writer.now ⊎ MayGrow self.old event.now ⊎ store_may_refuse S.meaning self.old.store }
+        ensures same { AreSameWriters self.old self.new }
+        ensures ok { OnOk result (Tells W.meaning S.meaning self.old (Some (ReportCall.Event event.now)) self.new) }
+        ensures delivered { OnOk result (AreDelivered W.meaning S.meaning self.new) }
+        ensures err { IfErr result (λ e. Breaks W.meaning S.meaning self.old (Some (ReportCall.Event event.now)) e self.new) }
         ensures unrefused { IfErr result (λ e. refusal_in e ≡ None) }
     {
         if let Err(error) = self.report_event(event) {
@@ -262,8 +231,7 @@ impl<'a, W: WriteStr, S: WriteStr> DisplayReporter<'a, W, S> {
 
     // Writes the record of an event to the store, if there is one, and delivers it.
     fn deliver_record(&mut self, event: &TestEvent<'_>) -> Result<(), WriteFault>
-        ensures same_writer { IsSameWriter self.old self.new }
-        ensures same_store { IsSameStore self.old.store self.new.store }
+        ensures same { AreSameWriters self.old self.new }
         ensures writer { self.new.writer.now ≡ self.old.writer.now }
         ensures state { self.new.state ≡ self.old.state }
         ensures text { Puts (store_meaning S.meaning) self.old.store (record_of (config_of self.old.store) event.now.kind) result self.new.store }
@@ -277,8 +245,7 @@ impl<'a, W: WriteStr, S: WriteStr> DisplayReporter<'a, W, S> {
 
     // Delivers what the store holds, if there is one.
     fn flush_store(&mut self) -> Result<(), WriteFault>
-        ensures same_writer { IsSameWriter self.old self.new }
-        ensures same_store { IsSameStore self.old.store self.new.store }
+        ensures same { AreSameWriters self.old self.new }
         ensures writer { self.new.writer.now ≡ self.old.writer.now }
         ensures state { self.new.state ≡ self.old.state }
         ensures text { Puts (store_meaning S.meaning) self.old.store [] result self.new.store }
@@ -293,26 +260,11 @@ impl<'a, W: WriteStr, S: WriteStr> DisplayReporter<'a, W, S> {
     /// Writes what a replay says before it: which recorded run it shows, when that started and how it ended; and delivers it.
     /// The run's id is shown by the header's own prefix.
     pub fn write_replay_header(&mut self, header: &ReplayHeader) -> Result<(), WriteEventError>
-        ensures same_writer { IsSameWriter self.old self.new }
-        ensures same_store { IsSameStore self.old.store self.new.store }
-        ensures accepted { OnOk result ((config : Configuration) (past : List ReportCall) → StandsAfter config past self.old →
-            W.meaning.accepts self.old.writer.now (text config past (ReportCall.Header header.now)) self.new.writer.now) }
+        ensures same { AreSameWriters self.old self.new }
+        ensures ok { OnOk result (Tells W.meaning S.meaning self.old (Some (ReportCall.Header header.now)) self.new) }
+        ensures delivered { OnOk result (AreDelivered W.meaning S.meaning self.new) }
+        ensures err { IfErr result (λ e. Breaks W.meaning S.meaning self.old (Some (ReportCall.Header header.now)) e self.new) }
         ensures lines { (config : Configuration) (past : List ReportCall) → IsOfLines (text config past (ReportCall.Header header.now)) }
-        ensures stands { OnOk result ((config : Configuration) (past : List ReportCall) → StandsAfter config past self.old →
-            StandsAfter config (ReportCall.Header header.now ∷ past) self.new) }
-        ensures delivered { OnOk result (W.meaning.is_delivered self.new.writer.now) }
-        ensures err { IfErr result (λ e. (config : Configuration) (past : List ReportCall) → StandsAfter config past self.old →
-            Stops W.meaning self.old.writer.now (text config past (ReportCall.Header header.now)) e self.new.writer.now) }
-        ensures stored { OnOk result ((config : Configuration) (past : List ReportCall) → StandsAfter config past self.old →
-            store_accepts S.meaning self.old.store (stored_text config.store (ReportCall.Header header.now)) self.new.store) }
-        ensures store_delivered { OnOk result (store_delivered S.meaning self.new.store) }
-        ensures store_err { IfErr result (λ e. (config : Configuration) (past : List ReportCall) → StandsAfter config past self.old →
-            StopsRecord (store_meaning S.meaning) self.old.store (stored_text config.store (ReportCall.Header header.now)) e self.new.store) }
-        ensures order { IfErr result (λ e. (config : Configuration) (past : List ReportCall) → StandsAfter config past self.old →
-            (self.new.store ≡ self.old.store) ⊎ W.meaning.accepts self.old.writer.now (text config past (ReportCall.Header header.now)) self.new.writer.now) }
-        ensures io { IsErrOf result WriteEventError.Io → W.meaning.failures self.new.writer.now ≡ one_further (W.meaning.failures self.old.writer.now) }
-        ensures store_io { IsErrOf result WriteEventError.StoreIo → store_failures S.meaning self.new.store ≡ one_further (store_failures S.meaning self.old.store) }
-        ensures memory { IsErrOf result WriteEventError.Memory → W.meaning.may_refuse self.old.writer.now ⊎ store_may_refuse S.meaning self.old.store }
         ensures unrefused { IfErr result (λ e. refusal_in e ≡ None) }
         ensures fails { OnErr result (HasFailed self.new) }
         ensures failed { HasFailed self.old → (result ≡ Err WriteEventError.Failed) × (self.new ≡ self.old) }
@@ -335,12 +287,9 @@ impl<'a, W: WriteStr, S: WriteStr> DisplayReporter<'a, W, S> {
 
     /// Takes the unique prefix of the run's id, which later starts of a run show. It takes no memory and writes nothing.
     pub fn set_run_id_unique_prefix(&mut self, prefix: ShortestRunIdPrefix)
-        ensures same_writer { IsSameWriter self.old self.new }
-        ensures same_store { IsSameStore self.old.store self.new.store }
-        ensures store { self.new.store ≡ self.old.store }
-        ensures untouched { self.new.writer.now ≡ self.old.writer.now }
-        ensures stands { (config : Configuration) (past : List ReportCall) → StandsAfter config past self.old →
-            StandsAfter config (ReportCall.Prefix prefix ∷ past) self.new }
+        ensures same { AreSameWriters self.old self.new }
+        ensures ok { Tells W.meaning S.meaning self.old (Some (ReportCall.Prefix prefix)) self.new }
+        ensures untouched { (self.new.writer.now ≡ self.old.writer.now) × (self.new.store ≡ self.old.store) }
         ensures failed { self.new.state.has_failed ≡ self.old.state.has_failed }
     {
         self.state.unique_prefix = Some(prefix);
@@ -348,20 +297,10 @@ impl<'a, W: WriteStr, S: WriteStr> DisplayReporter<'a, W, S> {
 
     /// Ends the report: all that was written is delivered, and no text is added.
     pub fn finish(&mut self) -> Result<(), WriteEventError>
-        ensures same_writer { IsSameWriter self.old self.new }
-        ensures same_store { IsSameStore self.old.store self.new.store }
-        ensures ok { OnOk result (W.meaning.accepts self.old.writer.now [] self.new.writer.now) }
-        ensures store_ok { OnOk result (store_accepts S.meaning self.old.store [] self.new.store) }
-        ensures stands { OnOk result ((config : Configuration) (past : List ReportCall) → StandsAfter config past self.old → StandsAfter config past self.new) }
-        ensures delivered { OnOk result (W.meaning.is_delivered self.new.writer.now) }
-        ensures err { IfErr result (λ e. (config : Configuration) (past : List ReportCall) → StandsAfter config past self.old →
-            Stops W.meaning self.old.writer.now [] e self.new.writer.now) }
-        ensures store_delivered { OnOk result (store_delivered S.meaning self.new.store) }
-        ensures store_err { IfErr result (λ e. (config : Configuration) (past : List ReportCall) → StandsAfter config past self.old →
-            StopsRecord (store_meaning S.meaning) self.old.store [] e self.new.store) }
-        ensures io { IsErrOf result WriteEventError.Io → W.meaning.failures self.new.writer.now ≡ one_further (W.meaning.failures self.old.writer.now) }
-        ensures store_io { IsErrOf result WriteEventError.StoreIo → store_failures S.meaning self.new.store ≡ one_further (store_failures S.meaning self.old.store) }
-        ensures memory { IsErrOf result WriteEventError.Memory → W.meaning.may_refuse self.old.writer.now ⊎ store_may_refuse S.meaning self.old.store }
+        ensures same { AreSameWriters self.old self.new }
+        ensures ok { OnOk result (Tells W.meaning S.meaning self.old None self.new) }
+        ensures delivered { OnOk result (AreDelivered W.meaning S.meaning self.new) }
+        ensures err { IfErr result (λ e. Breaks W.meaning S.meaning self.old None e self.new) }
         ensures unrefused { IfErr result (λ e. refusal_in e ≡ None) }
         ensures fails { OnErr result (HasFailed self.new) }
         ensures failed { HasFailed self.old → (result ≡ Err WriteEventError.Failed) × (self.new ≡ self.old) }
@@ -384,22 +323,13 @@ impl<'a, W: WriteStr, S: WriteStr> DisplayReporter<'a, W, S> {
 
     // Makes the calls, and stops at the first fault.
     fn make_calls(&mut self, alloc: Global, calls: &[ReportCall<'a>]) -> Result<(), RunFault>
-        ensures same_writer { IsSameWriter self.old self.new }
-        ensures same_store { IsSameStore self.old.store self.new.store }
-        ensures ok { OnOk result ((config : Configuration) → StandsAfter config [] self.old →
-            W.meaning.accepts self.old.writer.now (report config (reverse calls.now)) self.new.writer.now) }
-        ensures stored { OnOk result ((config : Configuration) → StandsAfter config [] self.old →
-            store_accepts S.meaning self.old.store (stored config.store (reverse calls.now)) self.new.store) }
-        ensures delivered { OnOk result (W.meaning.is_delivered self.new.writer.now) }
-        ensures store_delivered { OnOk result (store_delivered S.meaning self.new.store) }
+        ensures same { AreSameWriters self.old self.new }
+        ensures ok { OnOk result (TellsRun W.meaning S.meaning self.old (reverse calls.now) self.new) }
+        ensures delivered { OnOk result (AreDelivered W.meaning S.meaning self.new) }
+        ensures err { IfErr result (λ stop. BreaksRun W.meaning S.meaning self.old calls.now stop.position stop.fault self.new) }
         ensures accepted { OnOk result ((config : Configuration) → StandsAfter config [] self.old → AreAccepted config calls.now) }
-        ensures position { IfErr result (λ stop. stop.position ≤ length calls.now) }
         ensures accepted_before { IfErr result (λ stop. (config : Configuration) → StandsAfter config [] self.old → AreAccepted config (take stop.position calls.now)) }
         ensures refused { IfErr result (λ stop. (config : Configuration) → StandsAfter config [] self.old → refusal_at config calls.now stop.position ≡ refusal_in stop.fault) }
-        ensures err { IfErr result (λ stop. (config : Configuration) → StandsAfter config [] self.old →
-            StopsAfter W.meaning self.old.writer.now (report config (past_at calls.now stop.position)) (text_at config calls.now stop.position) stop.fault self.new.writer.now) }
-        ensures store_err { IfErr result (λ stop. (config : Configuration) → StandsAfter config [] self.old →
-            StopsRecordAfter (store_meaning S.meaning) self.old.store (stored config.store (past_at calls.now stop.position)) (stored_at config.store calls.now stop.position) stop.fault self.new.store) }
         ensures memory { IfErr result (λ stop. (config : Configuration) → StandsAfter config [] self.old → stop.fault ≡ WriteEventError.Memory →
             W.meaning.may_refuse self.old.writer.now ⊎ MayGrowAt config calls.now stop.position ⊎ store_may_refuse S.meaning self.old.store) }
     {
@@ -420,21 +350,10 @@ impl<'a, W: WriteStr, S: WriteStr> DisplayReporter<'a, W, S> {
 
     // Makes one call. A prefix is copied.
     fn make_call(&mut self, alloc: Global, call: &ReportCall<'a>) -> Result<(), WriteEventError>
-        ensures same_writer { IsSameWriter self.old self.new }
-        ensures same_store { IsSameStore self.old.store self.new.store }
-        ensures accepted { OnOk result ((config : Configuration) (past : List ReportCall) → StandsAfter config past self.old →
-            W.meaning.accepts self.old.writer.now (text config past call.now) self.new.writer.now) }
-        ensures stands { OnOk result ((config : Configuration) (past : List ReportCall) → StandsAfter config past self.old →
-            StandsAfter config (call.now ∷ past) self.new) }
-        ensures err { IfErr result (λ e. (config : Configuration) (past : List ReportCall) → StandsAfter config past self.old →
-            Stops W.meaning self.old.writer.now (text config past call.now) e self.new.writer.now) }
-        ensures stored { OnOk result ((config : Configuration) (past : List ReportCall) → StandsAfter config past self.old →
-            store_accepts S.meaning self.old.store (stored_text config.store call.now) self.new.store) }
-        ensures store_err { IfErr result (λ e. (config : Configuration) (past : List ReportCall) → StandsAfter config past self.old →
-            StopsRecord (store_meaning S.meaning) self.old.store (stored_text config.store call.now) e self.new.store) }
+        ensures same { AreSameWriters self.old self.new }
+        ensures ok { OnOk result (Tells W.meaning S.meaning self.old (Some call.now) self.new) }
+        ensures err { IfErr result (λ e. Breaks W.meaning S.meaning self.old (Some call.now) e self.new) }
         ensures refused { (config : Configuration) (past : List ReportCall) → StandsAfter config past self.old → answered_refusal result ≡ refusal config call.now }
-        ensures memory { IsErrOf result WriteEventError.Memory →
-            W.meaning.may_refuse self.old.writer.now ⊎ MayGrowIn self.old call.now ⊎ store_may_refuse S.meaning self.old.store }
     {
         match call {
             ReportCall::Event(event) => self.write_event(event),

@@ -7,8 +7,6 @@ use Rattle.console_reporter.specs.Outcomes.{refusal_in}
 use Rattle.console_reporter.proofs.lemmas.Calls.{err_here, ok_here, refused_from, stopped_io, stopped_known}
 use Rattle.console_reporter.proofs.lemmas.ReportTints.{colour_holds, plain_holds}
 use Rattle.console_reporter.proofs.lemmas.Exchanges.{order_independent, stats_independent}
-use Rattle.console_reporter.specs.Report.{past_at}
-use Rattle.console_reporter.specs.Stored.{stored, stored_at}
 use Rattle.console_reporter.proofs.lemmas.Stores.{absent_here}
 use Rattle.console_reporter.proofs.imp.reporter.run_report.Goals as goal
 
@@ -58,5 +56,4 @@ returns-clause-statistics g c = stats_independent (configured c.args.builder c.a
 
 pub returns-clause-no_store : goal.returns-clause-no_store
 returns-clause-no_store g c =
-    absent_here string_meaning _ c.build-reporter.result _ c.build-reporter.ensures.stands c.build-reporter.ensures.no_store
-    (λ config stop. stored config.store (past_at c.args.calls.now stop.position)) (λ config stop. stored_at config.store c.args.calls.now stop.position) _ c.make_calls-outcome.ensures.store_err
+    absent_here string_meaning g.W.WriteStr.meaning _ c.build-reporter.result _ c.build-reporter.ensures.stands c.build-reporter.ensures.no_store _ _ c.make_calls-outcome.ensures.err

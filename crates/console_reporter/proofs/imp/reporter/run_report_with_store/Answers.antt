@@ -1,9 +1,7 @@
-use Rattle.std.proofs.Common.{take, ◌≡◌, reverse, rules}
+use Rattle.std.proofs.Common.{take, ◌≡◌, rules}
 use Rattle.console_reporter.specs.Accepted.{AreAccepted, refusal_at}
 use Rattle.console_reporter.specs.Configuration.{configured_with_store}
 use Rattle.console_reporter.specs.Outcomes.{refusal_in}
-use Rattle.console_reporter.specs.Report.{past_at}
-use Rattle.console_reporter.specs.Stored.{stored, stored_at}
 use Rattle.std.proofs.lemmas.Result.{on_ok_weaker, IfErr-weaker}
 use Rattle.console_reporter.proofs.lemmas.Calls.{err_here, ok_here, stopped_io, stopped_known}
 use Rattle.console_reporter.proofs.lemmas.Exchanges.{order_independent, stats_independent}
@@ -28,16 +26,14 @@ pub returns-in-Some-clause-stored : goal.returns-in-Some-clause-stored
 returns-in-Some-clause-stored g c =
     let built = c.build_with_store-reporter in
     let config = configured_with_store c.args.store c.args.builder c.args.use_unicode c.args.is_terminal c.args.is_ci c.args.display_empty_outputs in
-    let h = ok_there g.S.WriteStr.meaning config built.result _ _ _ built.ensures.stands built.ensures.store c.in-Some.is
-    (λ config. stored config.store (reverse c.args.calls.now)) _ c.make_calls-outcome.ensures.stored in
+    let h = ok_there g.S.WriteStr.meaning g.W.WriteStr.meaning config built.result _ _ _ built.ensures.stands built.ensures.store c.in-Some.is _ _ c.make_calls-outcome.ensures.ok in
     search rules
 
 pub returns-in-Some-clause-store_err : goal.returns-in-Some-clause-store_err
 returns-in-Some-clause-store_err g c =
     let built = c.build_with_store-reporter in
     let config = configured_with_store c.args.store c.args.builder c.args.use_unicode c.args.is_terminal c.args.is_ci c.args.display_empty_outputs in
-    let h = err_there g.S.WriteStr.meaning config built.result _ _ _ built.ensures.stands built.ensures.store c.in-Some.is
-    (λ config stop. stored config.store (past_at c.args.calls.now stop.position)) (λ config stop. stored_at config.store c.args.calls.now stop.position) _ c.make_calls-outcome.ensures.store_err in
+    let h = err_there g.S.WriteStr.meaning g.W.WriteStr.meaning config built.result _ _ _ built.ensures.stands built.ensures.store c.in-Some.is _ _ c.make_calls-outcome.ensures.err in
     search rules
 
 pub returns-in-Some-clause-ok : goal.returns-in-Some-clause-ok

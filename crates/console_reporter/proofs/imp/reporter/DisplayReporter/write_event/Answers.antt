@@ -1,12 +1,9 @@
-use Rattle.std.proofs.Common.{◌≡◌, false, ap, ap₂, inl, refl, subst, sym, ◌∙◌}
+use Rattle.std.proofs.Common.{◌≡◌, false, ap, ap₂, Some, subst, sym, ◌∙◌}
 use Rattle.console_reporter.specs.Accepted.{decider_by, event_refusal}
 use Rattle.console_reporter.specs.Loads.{lacks_output}
-use Rattle.console_reporter.specs.Slots.{store_meaning}
-use Rattle.console_reporter.specs.Stored.{stored_text}
-use Rattle.console_reporter.specs.Report.{text}
 use Rattle.console_reporter.specs.declared.imp.calls.ReportCall.TheVariants.{Event}
 use Rattle.console_reporter.proofs.lemmas.Loads.{lacks_less}
-use Rattle.console_reporter.proofs.lemmas.Refusals.{none_where_not_some, not_refused, record_refused, refused_not_io, refused_not_memory, refused_not_store_io, stops_refused, told_is_some}
+use Rattle.console_reporter.proofs.lemmas.Refusals.{breaks_refused, none_where_not_some, not_refused, told_is_some}
 use Rattle.console_reporter.proofs.lemmas.Whole.{of_lines-text}
 use Rattle.console_reporter.proofs.imp.reporter.DisplayReporter.write_event.Goals as goal
 
@@ -23,24 +20,7 @@ pub returns-in-Err-clause-lines : goal.returns-in-Err-clause-lines
 returns-in-Err-clause-lines g c = λ config past. of_lines-text config past (Event c.args.event.now)
 
 pub returns-in-Some-clause-err : goal.returns-in-Some-clause-err
-returns-in-Some-clause-err g c = λ config past stands.
-    stops_refused g.W.WriteStr.meaning c.args.self.now.writer.now (text config past (Event c.args.event.now)) c.in-Some.refusal c.in-Some.ensures.told
-
-pub returns-in-Some-clause-store_err : goal.returns-in-Some-clause-store_err
-returns-in-Some-clause-store_err g c = λ config past stands.
-    record_refused (store_meaning g.S.WriteStr.meaning) c.args.self.now.store (stored_text config.store (Event c.args.event.now)) c.in-Some.refusal c.in-Some.ensures.told
-
-pub returns-in-Some-clause-order : goal.returns-in-Some-clause-order
-returns-in-Some-clause-order g c = λ config past stands. inl refl
-
-pub returns-in-Some-clause-store_io : goal.returns-in-Some-clause-store_io
-returns-in-Some-clause-store_io g c = λ is. absurd (refused_not_store_io c.in-Some.refusal c.in-Some.ensures.told is)
-
-pub returns-in-Some-clause-io : goal.returns-in-Some-clause-io
-returns-in-Some-clause-io g c = λ is. absurd (refused_not_io c.in-Some.refusal c.in-Some.ensures.told is)
-
-pub returns-in-Some-clause-memory : goal.returns-in-Some-clause-memory
-returns-in-Some-clause-memory g c = λ is. absurd (refused_not_memory c.in-Some.refusal c.in-Some.ensures.told is)
+returns-in-Some-clause-err g c = breaks_refused g.W.WriteStr.meaning g.S.WriteStr.meaning c.args.self.now (Some (Event c.args.event.now)) c.in-Some.refusal c.in-Some.ensures.told
 
 pub returns-in-Some-clause-refused : goal.returns-in-Some-clause-refused
 returns-in-Some-clause-refused g c = λ config past stands.
