@@ -11,9 +11,12 @@ pub mod Orders
 pub mod OtherOutputs
 pub mod Pasts
 pub mod Places
+pub mod Records
 pub mod Refusals
 pub mod ReportTints
 pub mod Rows
+pub mod Runs
 pub mod Same
+pub mod Stores
 pub mod Texts
 pub mod Whole

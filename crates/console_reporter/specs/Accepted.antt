@@ -5,6 +5,7 @@ use Rattle.std.specs.Option.{is_some, option_and_then}
 use Rattle.run_model.specs.Statuses.{is_success}
 use Rattle.run_model.specs.declared.event.TestEventKind.{TestEventKind}
 use Rattle.run_model.specs.declared.event.TestEventKind.TheVariants.{TestAttemptFailedWillRetry}
+use Rattle.store_text.specs.declared.config.StoreConfig.{StoreConfig}
 use Rattle.console_reporter.specs.Configuration.{Configuration, settings_of}
 use Rattle.console_reporter.specs.Loads.{lacks_output}
 use Rattle.run_model.specs.declared.call.ReportCall.{ReportCall}
@@ -14,12 +15,12 @@ use Rattle.console_reporter.specs.declared.imp.faults.WriteEventError.{WriteEven
 use Rattle.console_reporter.specs.declared.imp.faults.WriteEventError.TheVariants.{RetriedSuccess, OutputNotLoaded}
 use Rattle.event_text.specs.declared.settings.Settings.{Settings}
 
--- what decides by settings
-abbrev pub decider_by : Settings → OutputLoadDecider
-decider_by s = record { status_level = s.status_levels.status_level; overrides = s.unit_output.overrides }
+-- what decides by settings, and by what a store is asked to keep
+abbrev pub decider_by : Settings → Option StoreConfig → OutputLoadDecider
+decider_by s store = record { status_level = s.status_levels.status_level; overrides = s.unit_output.overrides; store = store }
 
 abbrev pub decider_of : Configuration → OutputLoadDecider
-decider_of config = decider_by (settings_of config)
+decider_of config = decider_by (settings_of config) config.store
 
 -- another attempt is said to follow one that succeeded
 abbrev pub is_retried_success : TestEventKind → Bool

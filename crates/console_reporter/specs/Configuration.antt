@@ -1,20 +1,23 @@
 -- A configuration of a reporter, and what it comes to.
-use Rattle.std.specs.Prelude.{Bool}
+use Rattle.std.specs.Prelude.{Bool, Option, None, Some}
 use Rattle.report_text.specs.Styles.{styles_of}
 use Rattle.unit_report.specs.Levels.{resolved_display}
 use Rattle.unit_report.specs.declared.config.ResolvedDisplay.{ResolvedDisplay}
 use Rattle.unit_report.specs.declared.unit_output.overrides.OutputDisplayOverrides.{OutputDisplayOverrides}
 use Rattle.event_text.specs.Settings.{counter_width_of, overrides_by, theme_of}
 use Rattle.event_text.specs.declared.settings.Settings.{Settings}
+use Rattle.store_text.specs.declared.config.StoreConfig.{StoreConfig}
 use Rattle.console_reporter.specs.declared.imp.builder.DisplayReporterBuilder.{DisplayReporterBuilder}
 
--- the builder's fields, and what the caller knows of the terminal and of the environment
+-- the builder's fields, what the caller knows of the terminal and of the environment, and what a store is asked to keep, if there
+-- is one
 pub record Configuration : Type 0 where
   pub builder : DisplayReporterBuilder
   pub use_unicode : Bool
   pub is_terminal : Bool
   pub is_ci : Bool
   pub display_empty_outputs : Bool
+  pub store : Option StoreConfig
 
 abbrev pub configured : DisplayReporterBuilder → Bool → Bool → Bool → Bool → Configuration
 configured builder use_unicode is_terminal is_ci display_empty_outputs = record {
@@ -23,7 +26,13 @@ configured builder use_unicode is_terminal is_ci display_empty_outputs = record 
   is_terminal = is_terminal;
   is_ci = is_ci;
   display_empty_outputs = display_empty_outputs;
+  store = None;
 }
+
+-- the same with a store
+abbrev pub configured_with_store : StoreConfig → DisplayReporterBuilder → Bool → Bool → Bool → Bool → Configuration
+configured_with_store store builder use_unicode is_terminal is_ci display_empty_outputs =
+    record (configured builder use_unicode is_terminal is_ci display_empty_outputs) { store = Some store }
 
 abbrev pub resolved_of : Configuration → ResolvedDisplay
 resolved_of c = resolved_display c.builder.display_config c.is_terminal c.is_ci

@@ -1,5 +1,5 @@
--- Exactness: the load decider loads what a report shows, and nothing else.
-use Rattle.std.specs.Prelude.{◌≡◌, ◌≢◌, ◌↔◌, List, ◌∷◌, ◌++◌, reverse, None, Some, codes}
+-- Exactness: the load decider loads what a report shows or a store keeps, and nothing else.
+use Rattle.std.specs.Prelude.{◌≡◌, ◌≢◌, ◌↔◌, ◌⊎◌, List, ◌∷◌, ◌++◌, reverse, None, Some, codes}
 use Rattle.run_model.specs.declared.event.TestEvent.{TestEvent}
 use Rattle.run_model.specs.declared.event.TestEventKind.{TestEventKind}
 use Rattle.run_model.specs.declared.event.TestEventKind.TheVariants.{SetupScriptFinished, TestAttemptFailedWillRetry, TestFinished}
@@ -12,6 +12,7 @@ use Rattle.console_reporter.specs.Calm.{AreCalm, EndsRun}
 use Rattle.console_reporter.specs.Configuration.{Configuration}
 use Rattle.console_reporter.specs.Loads.{decision}
 use Rattle.console_reporter.specs.Report.{texts}
+use Rattle.console_reporter.specs.Stored.{records}
 use Rattle.run_model.specs.declared.call.ReportCall.{ReportCall}
 use Rattle.run_model.specs.declared.call.ReportCall.TheVariants.{Event}
 use Rattle.console_reporter.specs.declared.imp.decider.OutputLoadDecider.{OutputLoadDecider}
@@ -33,9 +34,18 @@ abbrev pub writing : Text → TestEvent → ReportCall
 writing t e = Event (record e { kind = with_output (combined t) e.kind })
 
 -- between these calls, the text of some position is another one where the event's output is "a" than where it is "b"
-abbrev pub IsObserved : Configuration → List ReportCall → TestEvent → List ReportCall → Type 0
-IsObserved config before event after =
+abbrev pub IsSeen : Configuration → List ReportCall → TestEvent → List ReportCall → Type 0
+IsSeen config before event after =
     texts config (reverse (before ++ writing (codes "a") event ∷ after)) ≢ texts config (reverse (before ++ writing (codes "b") event ∷ after))
+
+-- the same of the record of some position
+abbrev pub IsStoredThere : Configuration → List ReportCall → TestEvent → List ReportCall → Type 0
+IsStoredThere config before event after =
+    records config.store (before ++ writing (codes "a") event ∷ after) ≢ records config.store (before ++ writing (codes "b") event ∷ after)
+
+-- either of the two is another one
+abbrev pub IsObserved : Configuration → List ReportCall → TestEvent → List ReportCall → Type 0
+IsObserved config before event after = IsSeen config before event after ⊎ IsStoredThere config before event after
 
 -- the decider answers Load: none but decided events have an answer
 abbrev pub IsLoaded : OutputLoadDecider → TestEvent → Type 0

@@ -3,15 +3,18 @@ use Rattle.std.specs.Prelude.{◌≡◌, List, reverse}
 use Rattle.console_reporter.specs.Accepted.{AreAcceptedBy, decider_of, first_refused}
 use Rattle.console_reporter.specs.Configuration.{Configuration}
 use Rattle.console_reporter.specs.Report.{report, texts}
+use Rattle.console_reporter.specs.Stored.{records, stored}
 use Rattle.run_model.specs.declared.call.ReportCall.{ReportCall}
 use Rattle.console_reporter.specs.declared.imp.decider.OutputLoadDecider.{OutputLoadDecider}
 
--- For every configuration that has this decider, each position of the calls with its skipped outputs left unread has the text of
--- that position of the calls, so the report is the same; where the calls are accepted they still are; and the first call that is
+-- For every configuration that has this decider, each position of the calls with its skipped outputs left unread has the text and
+-- the record of that position of the calls, so the report and what is stored are the same; where the calls are accepted they still are; and the first call that is
 -- refused is the same one.
 abbrev pub IsIsolated : OutputLoadDecider → List ReportCall → List ReportCall → Type 0
 IsIsolated decider calls left =
     ((config : Configuration) → decider_of config ≡ decider → texts config (reverse left) ≡ texts config (reverse calls))
     × ((config : Configuration) → decider_of config ≡ decider → report config (reverse left) ≡ report config (reverse calls))
+    × ((config : Configuration) → decider_of config ≡ decider → records config.store left ≡ records config.store calls)
+    × ((config : Configuration) → decider_of config ≡ decider → stored config.store (reverse left) ≡ stored config.store (reverse calls))
     × (AreAcceptedBy decider calls → AreAcceptedBy decider left)
     × (first_refused decider left ≡ first_refused decider calls)

@@ -14,7 +14,10 @@ pub mod Outcomes
 pub mod PlainCalls
 pub mod PlainLaw
 pub mod Report
+pub mod Slots
 pub mod Standing
 pub mod Statistics
+pub mod Stored
+pub mod Telling
 pub mod Topics
 pub mod Unread

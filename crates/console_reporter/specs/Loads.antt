@@ -1,11 +1,11 @@
--- Which captured outputs a report shows, judged by results, display settings and levels: no output is looked at.
-use Rattle.std.specs.Prelude.{Bool, false, not, ◌&&◌, nat_le, Option, None, Some, unwrap_or, if◌then◌else◌}
+-- Which captured outputs a report shows or a store keeps, judged by results, display settings and levels: no output is looked at.
+use Rattle.std.specs.Prelude.{Bool, false, not, ◌&&◌, ◌||◌, nat_le, Option, None, Some, unwrap_or, if◌then◌else◌}
 use Rattle.std.specs.Option.{option_map_or}
 use Rattle.run_model.specs.Displays.{is_immediate}
 use Rattle.run_model.specs.Infos.{has_valid_output}
 use Rattle.run_model.specs.Levels.{status_rank}
 use Rattle.run_model.specs.Outputs.{has_loaded_output}
-use Rattle.run_model.specs.Statuses.{is_success, summary_of}
+use Rattle.run_model.specs.Statuses.{is_success, is_success_case, summary_of}
 use Rattle.run_model.specs.declared.config.TestOutputDisplay.{TestOutputDisplay}
 use Rattle.run_model.specs.declared.event.TestEventKind.{TestEventKind}
 use Rattle.run_model.specs.declared.event.TestEventKind.TheVariants.{SetupScriptFinished, TestAttemptFailedWillRetry, TestFinished, InfoResponse}
@@ -18,10 +18,13 @@ use Rattle.run_model.specs.declared.output_event.LoadOutput.TheVariants.{Load, S
 use Rattle.run_model.specs.declared.output_event.OutputEventKind.{OutputEventKind}
 use Rattle.run_model.specs.declared.output_event.OutputEventKind.TheVariants as decided
 use Rattle.run_model.specs.declared.status.ExecutionResultDescription.{ExecutionResultDescription}
+use Rattle.run_model.specs.declared.status.StatusCase.{StatusCase}
 use Rattle.run_model.specs.declared.status.StatusSummary.{StatusSummary}
 use Rattle.unit_report.specs.Overrides.{display_for}
 use Rattle.event_text.specs.AttemptOutputs.{Written}
 use Rattle.event_text.specs.Finishes.{is_ever_shown}
+use Rattle.store_text.specs.StoredOutputs.{is_switched_on}
+use Rattle.store_text.specs.declared.config.StoreConfig.{StoreConfig}
 use Rattle.console_reporter.specs.declared.imp.decider.OutputLoadDecider.{OutputLoadDecider}
 
 -- of a setup script: unless it succeeded
@@ -34,9 +37,16 @@ abbrev pub loads_attempt : OutputLoadDecider → TestOutputDisplay → Bool
 loads_attempt d failure =
     nat_le (status_rank level.Retry) (status_rank d.status_level) && is_immediate (unwrap_or d.overrides.force_failure_output failure)
 
--- of a finished test: where its setting shows output, at once or at the end of the run
+-- of a finished test: where its setting shows output, at once or at the end of the run, or a store is asked to keep it
+abbrev pub is_asked_of : Option StoreConfig → Bool → Bool
+is_asked_of None is_success = false
+is_asked_of (Some store) is_success = is_switched_on store is_success
+
+abbrev pub is_kept_by : Option StoreConfig → StatusCase → Bool
+is_kept_by store case = is_asked_of store (is_success_case case)
+
 abbrev pub loads_finish : OutputLoadDecider → TestOutputDisplay → TestOutputDisplay → StatusSummary → Bool
-loads_finish d success failure x = is_ever_shown (display_for d.overrides success failure x)
+loads_finish d success failure x = is_ever_shown (display_for d.overrides success failure x) || is_kept_by d.store x.case
 
 -- of a decided event, wherever its output is held
 abbrev pub loads : {S O : Type 0} → OutputLoadDecider → OutputEventKind S O → Bool

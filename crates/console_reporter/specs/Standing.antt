@@ -7,25 +7,28 @@ use Rattle.console_reporter.specs.Configuration.{Configuration, settings_of}
 use Rattle.console_reporter.specs.Effects.{may_grow_for}
 use Rattle.console_reporter.specs.Entries.{cancel, final_order, kept, prefix}
 use Rattle.console_reporter.specs.Report.{Known, past_at}
+use Rattle.console_reporter.specs.Slots.{config_of}
 use Rattle.event_text.specs.declared.settings.Settings.{Settings}
 use Rattle.run_model.specs.declared.call.ReportCall.{ReportCall}
 use Rattle.run_model.specs.declared.call.ReportCall.TheVariants.{Event, Header, Prefix}
 use Rattle.console_reporter.specs.declared.imp.reporter.DisplayReporter.{DisplayReporter}
 use Rattle.console_reporter.specs.declared.imp.reporter.ReporterState.{ReporterState}
 
--- the reporter works, and holds what the texts after this past need: its entries stand in their final order
-pub record StandsAfter {W : Type 0} (config : Configuration) (past : List ReportCall) (reporter : DisplayReporter W) : Type 0 where
+-- the reporter works, and holds what the texts after this past need: its entries stand in their final order; and its store, if it
+-- has one, is asked to keep what the configuration says
+pub record StandsAfter {W S : Type 0} (config : Configuration) (past : List ReportCall) (reporter : DisplayReporter W S) : Type 0 where
   pub settings : reporter.state.settings ≡ settings_of config
   pub prefix : reporter.state.unique_prefix ≡ prefix past
   pub reason : reason_rank reporter.state.cancel_status ≡ cancel past
   pub kept : reporter.state.kept ≡ final_order (kept (settings_of config) past)
+  pub store : config_of reporter.store ≡ config.store
   pub works : reporter.state.has_failed ≡ false
 
-abbrev pub HasFailed : {W : Type 0} → DisplayReporter W → Type 0
+abbrev pub HasFailed : {W S : Type 0} → DisplayReporter W S → Type 0
 HasFailed reporter = reporter.state.has_failed ≡ true
 
 -- both have the same writer
-abbrev pub IsSameWriter : {W : Type 0} → DisplayReporter W → DisplayReporter W → Type 0
+abbrev pub IsSameWriter : {W S : Type 0} → DisplayReporter W S → DisplayReporter W S → Type 0
 IsSameWriter old new = new.writer.ghost_name ≡ old.writer.ghost_name
 
 -- what a reporter knows of the calls before
@@ -37,7 +40,7 @@ known_by state = record {
 }
 
 -- the reporter may take memory of its own for the event
-abbrev pub MayGrow : {W : Type 0} → DisplayReporter W → TestEvent → Type 0
+abbrev pub MayGrow : {W S : Type 0} → DisplayReporter W S → TestEvent → Type 0
 MayGrow reporter event = IsTrue (may_grow_for reporter.state.settings (reason_rank reporter.state.cancel_status) event.kind)
 
 -- the same of a call under a reason: a prefix is copied
@@ -46,7 +49,7 @@ may_grow_in s reason (Event e) = may_grow_for s reason e.kind
 may_grow_in s reason (Header h) = false
 may_grow_in s reason (Prefix p) = true
 
-abbrev pub MayGrowIn : {W : Type 0} → DisplayReporter W → ReportCall → Type 0
+abbrev pub MayGrowIn : {W S : Type 0} → DisplayReporter W S → ReportCall → Type 0
 MayGrowIn reporter call = IsTrue (may_grow_in reporter.state.settings (reason_rank reporter.state.cancel_status) call)
 
 -- the same of the call at a place; past the end there is none

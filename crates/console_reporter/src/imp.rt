@@ -2,7 +2,7 @@
 //!
 //! One module a concern: `builder` says what a reporter is built from, `faults` how it fails (what it is asked is `run_model::call`),
 //! `decider` what it decides of an event by its metadata, `effect` what an event does beside its text, `final_output` what is kept
-//! of a test for the summary, `entry_key` what that is ordered by, `kept` how it is held and listed, `reporter` the calls, and
+//! of a test for the summary, `entry_key` what that is ordered by, `kept` how it is held and listed, `reporter` the calls, `store` where records go, and
 //! `topics` what text an event has. The texts themselves stand in the crates `event_text` and `run_text`.
 
 mod builder;
@@ -14,6 +14,7 @@ mod final_output;
 mod kept;
 mod loaded_output;
 mod reporter;
+mod store;
 mod topics;
 
 pub use builder::DisplayReporterBuilder;
@@ -21,6 +22,7 @@ pub use decider::{OutputLoadDecider, first_refused, unload_skipped};
 pub use event_text::finish::reasons_only_hide;
 pub use faults::{RunFault, WriteEventError};
 pub use kept::one_final_order;
-pub use reporter::{DisplayReporter, run_report, texts_make_the_report};
+pub use reporter::{DisplayReporter, run_report, run_report_with_store, texts_make_the_report};
+pub use store_text::config::StoreConfig;
 pub use run_model::call::ReportCall;
 pub use unit_report::unit_output::DisplayerKind;

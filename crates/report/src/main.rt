@@ -5,9 +5,10 @@
 #![tactic(auto)]
 
 use scenes::fault::Fault;
-use scenes::program::report_scene;
+use scenes::program::{judge_scene, read_whole, report_judged};
 use scenes::words::words;
 use std::fs::File;
+use std::mem::ManuallyDrop;
 use std::process::ExitCode;
 use std::{env, io};
 
@@ -48,6 +49,18 @@ fn run<'a>(rt: &HostRuntime, args: &'a [String]) -> Result<(), Fault<'a>> {
     let Ok(file) = File::open(rt, options.file) else {
         return Err(Fault::CannotRead { file: options.file });
     };
-    let (outcome, _output) = report_scene(rt.alloc(), &options, file, io::writer(rt));
-    outcome
+    let alloc = rt.alloc();
+    // The memory of the scene and of its calls goes with the process.
+    let scene = ManuallyDrop::new(read_whole(alloc, &options, file)?);
+    let judged = match judge_scene(alloc, &options, &scene) {
+        Ok(judged) => ManuallyDrop::new(judged),
+        Err(fault) => return Err(fault),
+    };
+    let Some(store) = options.store else {
+        return report_judged(alloc, &judged, io::writer(rt), io::sink()).0;
+    };
+    let Ok(records) = File::create(rt, store.file) else {
+        return Err(Fault::CannotWrite { file: store.file });
+    };
+    report_judged(alloc, &judged, io::writer(rt), records).0
 }

@@ -3,7 +3,7 @@
 //! What a test writes is bytes, which need not be UTF-8. It is shown as the text that they are decoded to, where each
 //! maximal piece that is no character is U+FFFD.
 
-ghost use Rattle.std.specs.Prelude.{◌≡◌, ◌↔◌, ◌<◌, ◌++◌, ℕ, List, [], length, take, drop, IfSome, IfNone, IsTrue, MatchOption};
+ghost use Rattle.std.specs.Prelude.{◌≡◌, ◌↔◌, ◌<◌, ◌≤◌, ◌+◌, ◌*◌, ◌^◌, ◌++◌, ℕ, List, [], length, take, drop, IfSome, IfNone, IsTrue, MatchOption};
 ghost use Rattle.std.specs.Str.{IsCharBoundary, IsUtf8};
 ghost use Rattle.std.specs.Str.Lossy.{utf8_lossy};
 ghost use Rattle.report_text.specs.Lossy.{decoded_text, front_text};
@@ -84,6 +84,34 @@ impl<'a> LossyText<'a> {
         }
         let (piece, rest) = first_piece(self.rest)?;
         Some((piece, LossyText::undecoded(rest)))
+    }
+
+    /// Writes the text.
+    pub fn write<W: WriteStr>(&self, w: &mut W) -> Result<(), WriteFault>
+        ensures { Puts W.meaning w.old self.now result w.new }
+    {
+        w.write_str(self.piece)?;
+        let mut rest = self.rest;
+        while let Some((piece, after)) = first_piece(rest) {
+            w.write_str(piece)?;
+            rest = after;
+        }
+        Ok(())
+    }
+
+    /// How many bytes the text has. It takes no memory: what is not UTF-8 is decoded for the count, and once more where it is
+    /// written.
+    pub fn byte_count(&self) -> u128
+        ensures count { result ≡ length self.now }
+        ensures small { result < 2 ^ 67 }
+    {
+        let mut count = self.piece.len() as u128;
+        let mut rest = self.rest;
+        while let Some((piece, after)) = first_piece(rest) {
+            count += piece.len() as u128;
+            rest = after;
+        }
+        count
     }
 
     /// The text after its first `count` bytes. `None` says that these end no character of it.
@@ -188,6 +216,7 @@ fn first_piece(bytes: &[u8]) -> Option<(&str, &[u8])>
     ensures text { MatchOption result (decoded_text bytes.now ≡ []) (λ x. (decoded_text bytes.now ≡ x.0.now ++ decoded_text x.1.now) × (0 < length x.0.now)) }
     ensures utf8 { IfSome result (λ x. IsUtf8 x.0.now) }
     ensures shorter { IfSome result (λ x. length x.1.now < length bytes.now) }
+    ensures small { IfSome result (λ x. length x.0.now + 3 * length x.1.now ≤ 3 * length bytes.now) }
 {
     let chunk = bytes.utf8_chunks().next()?;
     let valid = chunk.valid();

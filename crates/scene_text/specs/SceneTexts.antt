@@ -138,6 +138,8 @@ IsAnswer (Err fault.Usage) read = ⊥
 IsAnswer (Err (fault.CannotRead file)) read = ⊥
 IsAnswer (Err (fault.Line n f)) read = read ≡ Err (n, f)
 IsAnswer (Err fault.WriteFailed) read = ⊥
+IsAnswer (Err fault.StoreFailed) read = ⊥
+IsAnswer (Err (fault.CannotWrite file)) read = ⊥
 IsAnswer (Err fault.OutOfMemory) read = ⊤
 
 -- the same, or the file cannot be read
@@ -147,6 +149,8 @@ IsRead (Ok scene) read = read ≡ Ok (told scene)
 IsRead (Err fault.Usage) read = ⊥
 IsRead (Err (fault.Line n f)) read = read ≡ Err (n, f)
 IsRead (Err fault.WriteFailed) read = ⊥
+IsRead (Err fault.StoreFailed) read = ⊥
+IsRead (Err (fault.CannotWrite file)) read = ⊥
 IsRead (Err fault.OutOfMemory) read = ⊤
 
 abbrev pub IsLineAnswer : Result (Unit {0}) LineError → Told → Result Told LineFault → Type 0
@@ -163,6 +167,8 @@ IsFaultHere n told fault.Usage = ⊥
 IsFaultHere n told (fault.CannotRead file) = ⊥
 IsFaultHere n told (fault.Line m f) = (m ≡ n) × (told ≡ Err f)
 IsFaultHere n told fault.WriteFailed = ⊥
+IsFaultHere n told fault.StoreFailed = ⊥
+IsFaultHere n told (fault.CannotWrite file) = ⊥
 IsFaultHere n told fault.OutOfMemory = ⊤
 
 -- each line tells, one after the other
@@ -187,6 +193,8 @@ IsFaultOf text fault.Usage = ⊥
 IsFaultOf text (fault.CannotRead file) = ⊥
 IsFaultOf text (fault.Line n f) = IsFirstFault (parted 10 text) n f
 IsFaultOf text fault.WriteFailed = ⊥
+IsFaultOf text fault.StoreFailed = ⊥
+IsFaultOf text (fault.CannotWrite file) = ⊥
 IsFaultOf text fault.OutOfMemory = ⊤
 
 -- the same, or the file cannot be read
@@ -195,4 +203,6 @@ IsReadFault text fault.Usage = ⊥
 IsReadFault text (fault.CannotRead file) = ⊤
 IsReadFault text (fault.Line n f) = IsFirstFault (parted 10 text) n f
 IsReadFault text fault.WriteFailed = ⊥
+IsReadFault text fault.StoreFailed = ⊥
+IsReadFault text (fault.CannotWrite file) = ⊥
 IsReadFault text fault.OutOfMemory = ⊤

@@ -61,6 +61,11 @@ pub enum Fault<'a> {
         /// The file, as the command line names it.
         file: &'a str,
     },
+    /// The file of the records cannot be made or emptied.
+    CannotWrite {
+        /// The file, as the command line names it.
+        file: &'a str,
+    },
     /// A line of the scene is wrong.
     Line {
         /// Which one, from 1.
@@ -70,6 +75,8 @@ pub enum Fault<'a> {
     },
     /// Standard output took only a beginning of the report.
     WriteFailed,
+    /// The file of the records took only a beginning of them.
+    StoreFailed,
     /// A growth of memory was refused.
     OutOfMemory,
 }
@@ -80,8 +87,11 @@ impl Fault<'_> {
         ensures { result ≡ status_of self.now }
     {
         match self {
-            Fault::Usage | Fault::CannotRead { .. } | Fault::Line { .. } => 2,
-            Fault::WriteFailed | Fault::OutOfMemory => 3,
+            Fault::Usage
+            | Fault::CannotRead { .. }
+            | Fault::CannotWrite { .. }
+            | Fault::Line { .. } => 2,
+            Fault::WriteFailed | Fault::StoreFailed | Fault::OutOfMemory => 3,
         }
     }
 }
@@ -92,11 +102,13 @@ impl fmt::Display for Fault<'_> {
     fn fmt<W: fmt::Write>(&self, f: &mut Formatter<W>) -> fmt::Result {
         match self {
             Fault::Usage => f.write_str(
-                "report: usage: report [--color] [--counter] [--replay] [--unload] [--level L] FILE",
+                "report: usage: report [--color] [--counter] [--replay] [--unload] [--level L] [--store PATH] [--store-success] [--store-failure] FILE",
             ),
             Fault::CannotRead { file } => write!(f, "report: cannot read {file}"),
+            Fault::CannotWrite { file } => write!(f, "report: cannot write {file}"),
             Fault::Line { line, fault } => write!(f, "report: line {line}: {fault}"),
             Fault::WriteFailed => f.write_str("report: write failed"),
+            Fault::StoreFailed => f.write_str("report: store write failed"),
             Fault::OutOfMemory => f.write_str("report: out of memory"),
         }
     }

@@ -5,16 +5,16 @@ use Rattle.console_reporter.specs.Accepted.{first_refused, is_retried_success, r
 use Rattle.run_model.specs.declared.call.ReportCall.{ReportCall}
 use Rattle.run_model.specs.declared.call.ReportCall.TheVariants.{Event, Header, Prefix}
 use Rattle.console_reporter.specs.declared.imp.faults.WriteEventError.{WriteEventError}
-use Rattle.console_reporter.specs.declared.imp.faults.WriteEventError.TheVariants.{RetriedSuccess, OutputNotLoaded, Io, Memory, Failed}
+use Rattle.console_reporter.specs.declared.imp.faults.WriteEventError.TheVariants.{RetriedSuccess, OutputNotLoaded, Io, Memory, Failed, StoreIo}
 use Rattle.scenes.specs.Reports.{AreCallsOf}
 use Rattle.scene_text.specs.SceneTexts.{IsReadFault, event_lines, nothing_told, text_told}
 use Rattle.scene_text.specs.Split.{parted}
-use Rattle.scenes.specs.ToldScenes.{IsSceneRead, scene_told}
-use Rattle.scenes.specs.Unloads.{decider_for}
+use Rattle.scenes.specs.Unloads.{AreReadyCallsOf, decider_for}
 use Rattle.scene_text.specs.declared.fault.Fault.{Fault}
 use Rattle.scene_text.specs.declared.fault.Fault.TheVariants as fault
 use Rattle.scene_text.specs.declared.fault.LineFault.{LineFault}
 use Rattle.scene_text.specs.declared.fault.LineFault.TheVariants as line
+use Rattle.scenes.specs.ToldScenes.{IsSceneRead, scene_told}
 use Rattle.scenes.specs.declared.scene.Scene.{Scene}
 use Rattle.scenes.specs.declared.words.Options.{Options}
 
@@ -24,6 +24,17 @@ pub record IsSceneAccepted (options : Options) (scene : Scene) : Type 0 where
   pub of_scene : AreCallsOf scene calls
   pub accepted : first_refused (decider_for options scene) calls ≡ None
 
+-- a scene that was judged: by what options, and the calls that its reporter gets
+pub record Judged : Type 0 where
+  pub options : Options
+  pub scene : Scene
+  pub calls : List ReportCall
+
+-- the calls are the scene's, and none is refused
+pub record IsJudgedScene (judged : Judged) : Type 0 where
+  pub ready : AreReadyCallsOf judged.options judged.scene judged.calls
+  pub accepted : first_refused (decider_for judged.options judged.scene) judged.calls ≡ None
+
 -- what the line of a call says that is refused so
 abbrev pub line_fault_for : WriteEventError → Option LineFault
 line_fault_for RetriedSuccess = Some line.RetriedSuccess
@@ -31,6 +42,7 @@ line_fault_for OutputNotLoaded = Some line.OutputNotLoaded
 line_fault_for Io = None
 line_fault_for Memory = None
 line_fault_for Failed = None
+line_fault_for StoreIo = None
 
 -- the same by the call alone
 abbrev pub fault_if_refused : ReportCall → LineFault
@@ -45,19 +57,21 @@ pub record IsRefusedLine (options : Options) (scene : Scene) (calls : List Repor
   pub number : n ≡ get_or scene.lines.items place 0
   pub says : option_and_then line_fault_for (refusal_at_by (decider_for options scene) calls place) ≡ Some f
 
--- the fault is that the first refused call has, unless memory was refused
-abbrev pub IsRefusedCall : Options → Scene → List ReportCall → Fault → Type 0
-IsRefusedCall options scene calls fault.Usage = ⊥
-IsRefusedCall options scene calls (fault.CannotRead file) = ⊥
-IsRefusedCall options scene calls (fault.Line n f) = IsRefusedLine options scene calls n f
-IsRefusedCall options scene calls fault.WriteFailed = ⊥
-IsRefusedCall options scene calls fault.OutOfMemory = ⊤
-
 -- the same of the scene's calls
-pub record IsSceneRefused (options : Options) (scene : Scene) (fault : Fault) : Type 0 where
+pub record IsRefusedThere (options : Options) (scene : Scene) (n : ℕ) (f : LineFault) : Type 0 where
   pub calls : List ReportCall
   pub of_scene : AreCallsOf scene calls
-  pub refused : IsRefusedCall options scene calls fault
+  pub refused : IsRefusedLine options scene calls n f
+
+-- the fault is that the first refused call of the scene has, unless memory was refused
+abbrev pub IsSceneRefused : Options → Scene → Fault → Type 0
+IsSceneRefused options scene fault.Usage = ⊥
+IsSceneRefused options scene (fault.CannotRead file) = ⊥
+IsSceneRefused options scene (fault.CannotWrite file) = ⊥
+IsSceneRefused options scene (fault.Line n f) = IsRefusedThere options scene n f
+IsSceneRefused options scene fault.WriteFailed = ⊥
+IsSceneRefused options scene fault.StoreFailed = ⊥
+IsSceneRefused options scene fault.OutOfMemory = ⊤
 
 -- the text spells a scene that has a refused call, and the fault is that call's
 pub record IsRefusedText (options : Options) (text : List ℕ) (fault : Fault) : Type 0 where

@@ -1,6 +1,6 @@
 -- What the program writes of a scene.
-use Rattle.std.specs.Prelude.{◌≡◌, ◌⊎◌, ℕ, List, reverse, false, if◌then◌else◌, Option, Some, codes}
-use Rattle.std.specs.Io.KnownBytes.{Appends}
+use Rattle.std.specs.Prelude.{◌≡◌, ◌⊎◌, ℕ, List, reverse, true, false, if◌then◌else◌, Option, Some, codes, ⊤}
+use Rattle.std.specs.Option.{is_some, option_map}
 use Rattle.std.specs.List.{AllZip}
 use Rattle.run_model.specs.declared.config.CompiledDefaultFilterSection.TheVariants.{Profile}
 use Rattle.unit_report.specs.Levels.{overridden}
@@ -11,16 +11,18 @@ use Rattle.unit_report.specs.declared.unit_output.DisplayerKind.TheVariants as d
 use Rattle.report_text.specs.Texts.{Text}
 use Rattle.report_text.specs.Buffer.{GrowsWithin}
 use Rattle.report_text.specs.Writer.{Meaning}
+use Rattle.store_text.specs.declared.config.StoreConfig.{StoreConfig}
 use Rattle.console_reporter.specs.Configuration.{Configuration, configured}
-use Rattle.console_reporter.specs.Outcomes.{HasFront, Stops}
+use Rattle.console_reporter.specs.Outcomes.{HasFront, Stops, StopsRecord}
 use Rattle.console_reporter.specs.Report.{report}
+use Rattle.console_reporter.specs.Stored.{stored}
 use Rattle.console_reporter.specs.declared.imp.builder.DisplayReporterBuilder.{DisplayReporterBuilder}
 use Rattle.run_model.specs.declared.call.ReportCall.{ReportCall}
 use Rattle.console_reporter.specs.declared.imp.faults.WriteEventError.{WriteEventError}
-use Rattle.console_reporter.specs.declared.imp.faults.WriteEventError.TheVariants.{RetriedSuccess, OutputNotLoaded, Io, Memory, Failed}
+use Rattle.console_reporter.specs.declared.imp.faults.WriteEventError.TheVariants.{RetriedSuccess, OutputNotLoaded, Io, Memory, Failed, StoreIo}
 use Rattle.scene_text.specs.Scenes.{IsCallOf}
 use Rattle.scene_text.specs.declared.fault.Fault.{Fault}
-use Rattle.scene_text.specs.declared.fault.Fault.TheVariants.{WriteFailed, OutOfMemory}
+use Rattle.scene_text.specs.declared.fault.Fault.TheVariants.{Usage, CannotRead, CannotWrite, Line, WriteFailed, StoreFailed, OutOfMemory}
 use Rattle.scenes.specs.declared.scene.Scene.{Scene}
 use Rattle.scenes.specs.declared.words.Options.{Options}
 
@@ -51,13 +53,21 @@ builder_for options scene = record {
   displayer_kind = kind_for options;
 }
 
--- the same with what the scene says of Unicode and of empty outputs, and without terminal and CI
+-- what the second writer is asked to keep, if there is one
+abbrev pub store_for : Options → Option StoreConfig
+store_for options = option_map (λ s. s.config) options.store
+
+-- the same with what the scene says of Unicode and of empty outputs, without terminal and CI, and with the store
 abbrev pub configuration_for : Options → Scene → Configuration
-configuration_for options scene = configured (builder_for options scene) scene.config.use_unicode false false scene.config.display_empty_outputs
+configuration_for options scene = record (configured (builder_for options scene) scene.config.use_unicode false false scene.config.display_empty_outputs) { store = store_for options }
 
 -- the report of a scene whose calls are these
 abbrev pub report_of : Options → Scene → List ReportCall → Text
 report_of options scene calls = report (configuration_for options scene) (reverse calls)
+
+-- what is stored of them: nothing where there is no store
+abbrev pub stored_of : Options → List ReportCall → Text
+stored_of options calls = stored (store_for options) (reverse calls)
 
 -- what the program tells where its report stopped
 abbrev pub fault_for : WriteEventError → Fault
@@ -66,48 +76,58 @@ fault_for OutputNotLoaded = WriteFailed
 fault_for Io = WriteFailed
 fault_for Memory = OutOfMemory
 fault_for Failed = WriteFailed
+fault_for StoreIo = StoreFailed
 
--- from old, the report of the scene was accepted, and left new
-pub record AcceptsReport {S : Type 0} (m : Meaning S) (options : Options) (scene : Scene) (old new : S) : Type 0 where
-  pub calls : List ReportCall
-  pub of_scene : AreCallsOf scene calls
-  pub accepted : m.accepts old (report_of options scene calls) new
-
--- bytes that are known grew by the report of the scene
-pub record PrintsReport (options : Options) (scene : Scene) (old new : Option (List ℕ)) : Type 0 where
-  pub calls : List ReportCall
-  pub of_scene : AreCallsOf scene calls
-  pub printed : Appends old new (report_of options scene calls)
-
--- the bytes grew by a beginning of the report of the scene
-pub record BeginsReport (options : Options) (scene : Scene) (old new : List ℕ) : Type 0 where
-  pub calls : List ReportCall
-  pub of_scene : AreCallsOf scene calls
-  pub begun : GrowsWithin old new (report_of options scene calls)
-
--- what a device that tells its bytes holds after a fault: what it held, and a beginning of the report, unless memory was
--- refused before it
-abbrev pub PrintsBeginning : Options → Scene → Option (List ℕ) → Option (List ℕ) → Type 0
-PrintsBeginning options scene before after =
-    (old new : List ℕ) → before ≡ Some old → after ≡ Some new → (new ≡ old) ⊎ BeginsReport options scene old new
-
--- from old, the error ended the report of calls, of which a beginning was accepted, and left new
+-- From old, the error ended the report of calls, of which a beginning was accepted, and left new. A fault of the store lets a whole
+-- beginning stand.
 abbrev pub Ends : {S : Type 0} → Meaning S → S → Text → WriteEventError → S → Type 0
 Ends m old text RetriedSuccess new = HasFront m old text new
 Ends m old text OutputNotLoaded new = HasFront m old text new
 Ends m old text Io new = Stops m old text Io new
 Ends m old text Memory new = Stops m old text Memory new
 Ends m old text Failed new = Stops m old text Failed new
+Ends m old text StoreIo new = HasFront m old text new
 
--- from old, the fault stopped the report of the scene, of which a beginning was accepted, and left new
-pub record StopsReport {S : Type 0} (m : Meaning S) (options : Options) (scene : Scene) (old : S) (fault : Fault) (new : S) : Type 0 where
-  pub calls : List ReportCall
-  pub of_scene : AreCallsOf scene calls
-  pub error : WriteEventError
-  pub told : fault ≡ fault_for error
-  pub stopped : Ends m old (report_of options scene calls) error new
+-- the same of what is stored of them: a fault of the first writer lets a whole beginning stand
+abbrev pub EndsStore : {S : Type 0} → Meaning S → S → Text → WriteEventError → S → Type 0
+EndsStore m old text RetriedSuccess new = HasFront m old text new
+EndsStore m old text OutputNotLoaded new = HasFront m old text new
+EndsStore m old text Io new = HasFront m old text new
+EndsStore m old text Memory new = StopsRecord m old text Memory new
+EndsStore m old text Failed new = StopsRecord m old text Failed new
+EndsStore m old text StoreIo new = StopsRecord m old text StoreIo new
 
--- memory was refused before anything was written
-pub record IsRefused {S : Type 0} (old : S) (fault : Fault) (new : S) : Type 0 where
-  pub told : fault ≡ OutOfMemory
-  pub untouched : new ≡ old
+-- From old, this fault of the program stopped the report, of which a beginning was accepted, and left new: its writer's, its
+-- store's, or memory was refused. No other fault stops one.
+abbrev pub StopsText : {S : Type 0} → Meaning S → S → Text → Fault → S → Type 0
+StopsText m old text Usage new = ⊥
+StopsText m old text (CannotRead file) new = ⊥
+StopsText m old text (CannotWrite file) new = ⊥
+StopsText m old text (Line n f) new = ⊥
+StopsText m old text WriteFailed new = Stops m old text Io new
+StopsText m old text StoreFailed new = HasFront m old text new
+StopsText m old text OutOfMemory new = Stops m old text Memory new
+
+-- the same of the second writer
+abbrev pub StopsStore : {S : Type 0} → Meaning S → S → Text → Fault → S → Type 0
+StopsStore m old text Usage new = ⊥
+StopsStore m old text (CannotRead file) new = ⊥
+StopsStore m old text (CannotWrite file) new = ⊥
+StopsStore m old text (Line n f) new = ⊥
+StopsStore m old text WriteFailed new = HasFront m old text new
+StopsStore m old text StoreFailed new = StopsRecord m old text StoreIo new
+StopsStore m old text OutOfMemory new = StopsRecord m old text Memory new
+
+-- a report stops by a fault of its device, of the store's where there is one, or for want of memory
+abbrev pub IsStop : Options → Fault → Type 0
+IsStop options Usage = ⊥
+IsStop options (CannotRead file) = ⊥
+IsStop options (CannotWrite file) = ⊥
+IsStop options (Line n f) = ⊥
+IsStop options WriteFailed = ⊤
+IsStop options StoreFailed = is_some (store_for options) ≡ true
+IsStop options OutOfMemory = ⊤
+
+-- what a device holds, where it tells its bytes: what it held, and a beginning of the text
+abbrev pub Begins : Option (List ℕ) → Option (List ℕ) → Text → Type 0
+Begins before after text = (old new : List ℕ) → before ≡ Some old → after ≡ Some new → GrowsWithin old new text

@@ -1,26 +1,51 @@
--- From the text of a scene to the bytes of its report.
-use Rattle.std.specs.Prelude.{◌≡◌, ℕ, List, Option, Ok, Err}
-use Rattle.scenes.specs.Reports.{PrintsBeginning, PrintsReport}
+-- From a scene that was judged, and from its text, to the bytes of its report and to those that are stored.
+use Rattle.std.specs.Prelude.{◌≡◌, ℕ, List, Option, None, Ok, Err}
+use Rattle.std.specs.Io.KnownBytes.{Appends}
+use Rattle.console_reporter.specs.Accepted.{first_refused}
+use Rattle.run_model.specs.declared.call.ReportCall.{ReportCall}
+use Rattle.scene_text.specs.Faults.{IsJudgeFault}
 use Rattle.scenes.specs.Judged.{IsJudged}
+use Rattle.scenes.specs.Reports.{AreCallsOf, Begins, IsStop, report_of, stored_of}
 use Rattle.scenes.specs.ToldScenes.{scene_told}
-use Rattle.scene_text.specs.SceneTexts.{text_told}
+use Rattle.scene_text.specs.SceneTexts.{text_told, told}
+use Rattle.scenes.specs.Unloads.{decider_for}
 use Rattle.scene_text.specs.declared.fault.Fault.{Fault}
 use Rattle.scenes.specs.declared.scene.Scene.{Scene}
 use Rattle.scenes.specs.declared.words.Options.{Options}
 
--- the bytes grew by the report of the run that the text spells
-pub record PrintsRun (options : Options) (text : List ℕ) (old new : Option (List ℕ)) : Type 0 where
-  pub scene : Scene
-  pub spelled : text_told text ≡ Ok (scene_told scene)
-  pub printed : PrintsReport options scene old new
+-- The scene's calls are all accepted; the first device's bytes grew by their report, and the second's by what is stored of them,
+-- which is nothing without a store.
+pub record PrintsReport (options : Options) (scene : Scene) (old new store_old store_new : Option (List ℕ)) : Type 0 where
+  pub calls : List ReportCall
+  pub of_scene : AreCallsOf scene calls
+  pub accepted : first_refused (decider_for options scene) calls ≡ None
+  pub printed : Appends old new (report_of options scene calls)
+  pub kept : Appends store_old store_new (stored_of options calls)
 
--- the report of the run that the text spells stopped, and the device holds a beginning of it
-pub record BeginsRun (options : Options) (text : List ℕ) (old new : Option (List ℕ)) : Type 0 where
+-- The scene's calls are all accepted; this fault stopped their report, and each device holds a beginning of its text.
+pub record BeginsReport (options : Options) (scene : Scene) (fault : Fault) (old new store_old store_new : Option (List ℕ)) : Type 0 where
+  pub calls : List ReportCall
+  pub of_scene : AreCallsOf scene calls
+  pub accepted : first_refused (decider_for options scene) calls ≡ None
+  pub stopped : IsStop options fault
+  pub begun : Begins old new (report_of options scene calls)
+  pub kept : Begins store_old store_new (stored_of options calls)
+
+-- the bytes grew by the report of the run that the text spells, and by what is stored of it
+pub record PrintsRun (options : Options) (text : List ℕ) (old new store_old store_new : Option (List ℕ)) : Type 0 where
   pub scene : Scene
   pub spelled : text_told text ≡ Ok (scene_told scene)
-  pub begun : PrintsBeginning options scene old new
+  pub printed : PrintsReport options scene old new store_old store_new
+
+-- the report of the run that the text spells stopped by this fault, and each device holds a beginning
+pub record BeginsRun (options : Options) (text : List ℕ) (fault : Fault) (old new store_old store_new : Option (List ℕ)) : Type 0 where
+  pub scene : Scene
+  pub spelled : text_told text ≡ Ok (scene_told scene)
+  pub begun : BeginsReport options scene fault old new store_old store_new
 
 -- the fault is the text's own, or that it was not read whole, and nothing was written
-pub record IsRejected {W : Type 0} (options : Options) (text : List ℕ) (fault : Fault) (old new : W) : Type 0 where
+pub record IsRejected {W S : Type 0} (options : Options) (text : List ℕ) (fault : Fault) (old new : W) (store_old store_new : S) : Type 0 where
   pub judged : IsJudged options (Err fault) text
+  pub of_judge : IsJudgeFault options.file.now fault
   pub untouched : new ≡ old
+  pub store_untouched : store_new ≡ store_old

@@ -6,6 +6,7 @@ ghost use Rattle.std.specs.Prelude.{◌≡◌};
 ghost use Rattle.scenes.specs.Words.{options_of, asked, asked_for, asked_of, texts, with_flag, with_level, level_of};
 
 use run_model::level::StatusLevel;
+use store_text::config::StoreConfig;
 
 /// What the words of a command line ask for. It borrows the words.
 #[derive(Clone, Copy, Debug, PartialEq, Eq)]
@@ -20,8 +21,19 @@ pub struct Options<'a> {
     pub unload_skipped: bool,
     /// From which status level on the lines of tests are shown.
     pub status_level: StatusLevel,
+    /// Where records of finished tests go, if they are asked for.
+    pub store: Option<StoreOptions<'a>>,
     /// The file that holds the scene.
     pub file: &'a str,
+}
+
+/// Where records go, and what they hold.
+#[derive(Clone, Copy, Debug, PartialEq, Eq)]
+pub struct StoreOptions<'a> {
+    /// The file, which is made or emptied.
+    pub file: &'a str,
+    /// Which outputs are kept.
+    pub config: StoreConfig,
 }
 
 /// Reads the words that follow the program's name, and answers None where they are used wrongly: without a file, with an
@@ -113,6 +125,7 @@ impl Given {
             is_replay: self.replay,
             unload_skipped: self.unload,
             status_level: self.level.unwrap_or(StatusLevel::Pass),
+            store: None,
             file,
         }
     }

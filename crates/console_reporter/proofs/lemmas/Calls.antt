@@ -1,20 +1,23 @@
 -- Calls in turn (for `DisplayReporter::make_calls`, `DisplayReporter::report_event`, `run_report`, `write_delivered`).
-use Rattle.std.proofs.Common.{◌≡◌, ◌⊎◌, ℕ, ◌+◌, ◌<◌, ◌≤◌, List, [], ◌∷◌, ◌++◌, length, reverse, take, get_or, sym, ap, ◌∙◌, subst, append-nil, arith, Result, Ok, Err, IfErr, OnOk, None, Some, inl}
+use Rattle.std.proofs.Common.{◌≡◌, ◌⊎◌, ℕ, ◌+◌, ◌<◌, ◌≤◌, List, [], ◌∷◌, ◌++◌, length, reverse, take, get_or, sym, ap, ◌∙◌, subst, append-nil, arith, Result, Ok, Err, IfErr, OnOk, None, Some, inl, inr, refl, false, IsTrue}
 use Rattle.std.specs.Option.{option_and_then, option_map_or}
+use Rattle.std.specs.Result.{IsErrOf}
 use Rattle.std.proofs.lemmas.List.{take_more, take_all, reverse-append}
 use Rattle.std.proofs.lemmas.Option.{slice_get-get_or, slice_get_past}
 use Rattle.report_text.specs.Writer.{Meaning, WriterLaws, Puts, one_further}
 use Rattle.report_text.specs.declared.write_str.WriteFault.{WriteFault}
 use Rattle.console_reporter.specs.declared.imp.faults.WriteEventError.{WriteEventError}
-use Rattle.console_reporter.specs.declared.imp.faults.WriteEventError.TheVariants.{Io, Memory, Failed}
+use Rattle.console_reporter.specs.declared.imp.faults.WriteEventError.TheVariants.{RetriedSuccess, OutputNotLoaded, Io, Memory, Failed, StoreIo}
 use Rattle.console_reporter.specs.declared.imp.faults.RunFault.{RunFault}
 use Rattle.console_reporter.specs.Accepted.{AreAccepted, IsAccepted, refusal, refusal_at}
 use Rattle.console_reporter.specs.Report.{text, text_at, past_at, report}
-use Rattle.console_reporter.specs.Configuration.{Configuration}
+use Rattle.console_reporter.specs.Configuration.{Configuration, settings_of}
+use Rattle.console_reporter.specs.Entries.{cancel}
 use Rattle.run_model.specs.declared.call.ReportCall.{ReportCall}
 use Rattle.report_text.specs.declared.write_str.WriteFault.TheVariants.{Device, Memory as RefusedMemory}
-use Rattle.console_reporter.specs.Outcomes.{Stops, StopsAfter, error_for}
-use Rattle.console_reporter.specs.Standing.{StandsAfter, MayGrowAt}
+use Rattle.console_reporter.specs.Outcomes.{IsOfConsole, Stops, StopsAfter, StopsRecord, error_for, store_error_for}
+use Rattle.console_reporter.specs.Slots.{store_may_refuse}
+use Rattle.console_reporter.specs.Standing.{StandsAfter, MayGrowAt, MayGrowIn, may_grow_in}
 use Rattle.console_reporter.specs.declared.imp.reporter.DisplayReporter.{DisplayReporter}
 
 -- one call more is accepted
@@ -111,14 +114,45 @@ pub stops_error : {S : Type 0} (m : Meaning S) (a b : S) (t : List ℕ) (fault :
 stops_error m a b t Device e is h = subst (λ x. Stops m a t x b) (sym is) h
 stops_error m a b t RefusedMemory e is h = subst (λ x. Stops m a t x b) (sym is) (inl h)
 
--- why memory was refused in a run, by the writer that the reporter began with
-pub refused_from : {W : Type 0} (m : Meaning W) (config : Configuration) (calls : List ReportCall) (reporter : DisplayReporter W) {writer : W} → reporter.writer.now ≡ writer → StandsAfter config [] reporter → (stop : RunFault) →
-    ((c : Configuration) → StandsAfter c [] reporter → stop.fault ≡ Memory → m.may_refuse reporter.writer.now ⊎ MayGrowAt c calls stop.position) →
+-- and what stands of the store then
+pub record_untouched : {S : Type 0} {m : Meaning S} (laws : WriterLaws m) (a b : S) (t : List ℕ) (e : WriteEventError) → IsOfConsole e → b ≡ a → StopsRecord m a t e b
+record_untouched laws a b t RetriedSuccess is same = absurd is
+record_untouched laws a b t OutputNotLoaded is same = absurd is
+record_untouched laws a b t Io is same = same
+record_untouched {S} {m} laws a b t Memory is same = inr (record { front = []; rest = t; whole = refl; accepted = subst (λ x. m.accepts a [] x) (sym same) (laws.nothing a) })
+record_untouched laws a b t Failed is same = absurd is
+record_untouched laws a b t StoreIo is same = absurd is
+
+pub console_not_store : (e : WriteEventError) → IsOfConsole e → IsErrOf {T = Unit {0}} (Err e) StoreIo → ⊥
+console_not_store RetriedSuccess is h = is
+console_not_store OutputNotLoaded is h = is
+console_not_store Io is h = cc
+console_not_store Memory is h = cc
+console_not_store Failed is h = is
+console_not_store StoreIo is h = is
+
+-- a fault of the store comes after the whole text
+pub stops_late : {S : Type 0} (m : Meaning S) (a b : S) (t : List ℕ) (fault : WriteFault) (e : WriteEventError) → e ≡ store_error_for fault → m.accepts a t b → Stops m a t e b
+stops_late m a b t Device e is h = subst (λ x. Stops m a t x b) (sym is) h
+stops_late m a b t RefusedMemory e is h = subst (λ x. Stops m a t x b) (sym is) (inr (record { front = t; rest = []; whole = sym (append-nil t); accepted = h }))
+
+pub record_stopped : {S : Type 0} (m : Meaning S) (a b : S) (t : List ℕ) (fault : WriteFault) (e : WriteEventError) → e ≡ store_error_for fault → m.stops a t fault b → StopsRecord m a t e b
+record_stopped m a b t Device e is h = subst (λ x. StopsRecord m a t x b) (sym is) h
+record_stopped m a b t RefusedMemory e is h = subst (λ x. StopsRecord m a t x b) (sym is) (inl h)
+
+-- why memory was refused in a run without a store, by the writer that the reporter began with
+pub refused_from : {W S : Type 0} (m : Meaning W) (n : Meaning S) (config : Configuration) (calls : List ReportCall) (reporter : DisplayReporter W S) {writer : W} →
+    reporter.writer.now ≡ writer → reporter.store ≡ None → StandsAfter config [] reporter → (stop : RunFault) →
+    ((c : Configuration) → StandsAfter c [] reporter → stop.fault ≡ Memory → m.may_refuse reporter.writer.now ⊎ MayGrowAt c calls stop.position ⊎ store_may_refuse n reporter.store) →
     stop.fault ≡ Memory → m.may_refuse writer ⊎ MayGrowAt config calls stop.position
-refused_from m config calls reporter same stands stop h is = subst (λ w. m.may_refuse w ⊎ MayGrowAt config calls stop.position) same (h config stands is)
+refused_from m n config calls reporter same none stands stop h is = elim (h config stands is) [
+  | inl w ↦ inl (subst m.may_refuse same w)
+  | inr (inl g) ↦ inr g
+  | inr (inr k) ↦ absurd (subst (store_may_refuse n) none k)
+]
 
 -- what holds after a run for each configuration after which its reporter stood holds for this one
-module _ {W : Type 0} (config : Configuration) (reporter : DisplayReporter W) (stands : StandsAfter config [] reporter) where
+module _ {W S : Type 0} (config : Configuration) (reporter : DisplayReporter W S) (stands : StandsAfter config [] reporter) where
   pub ok_here : (P : Configuration → Type 0) (r : Result (Unit {0}) RunFault) → OnOk r ((c : Configuration) → StandsAfter c [] reporter → P c) → OnOk r (P config)
   ok_here P (Ok done) h = h config stands
   ok_here P (Err stop) h = tt
@@ -126,3 +160,11 @@ module _ {W : Type 0} (config : Configuration) (reporter : DisplayReporter W) (s
   pub err_here : (P : Configuration → RunFault → Type 0) (r : Result (Unit {0}) RunFault) → IfErr r (λ stop. (c : Configuration) → StandsAfter c [] reporter → P c stop) → IfErr r (P config)
   err_here P (Ok done) h = tt
   err_here P (Err stop) h = h config stands
+
+-- what a call may take memory for, the call at its place may
+pub grow_at : {W S : Type 0} (config : Configuration) (calls : List ReportCall) (i : ℕ) (call : ReportCall) (reporter : DisplayReporter W S) → call ≡ get_or calls i call → i < length calls →
+    StandsAfter config (past_at calls i) reporter → MayGrowIn reporter call → MayGrowAt config calls i
+grow_at config calls i call reporter is within stands grows =
+    subst (λ o. IsTrue (option_map_or (may_grow_in (settings_of config) (cancel (past_at calls i))) o false)) (sym (slice_get-get_or calls i call within ∙ ap Some (sym is)))
+    (subst (λ s. IsTrue (may_grow_in s (cancel (past_at calls i)) call)) stands.settings
+    (subst (λ n. IsTrue (may_grow_in reporter.state.settings n call)) stands.reason grows))

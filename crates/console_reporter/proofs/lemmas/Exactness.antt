@@ -1,13 +1,15 @@
 -- What is observed is loaded, and in a calm run what is loaded is observed (for `DisplayReporter::output_load_decider`).
-use Rattle.std.proofs.Common.{◌≢◌, ◌≡◌, ℕ, Bool, true, false, List, [], ◌∷◌, ◌++◌, Option, None, Some, refl, sym, ap, ◌∙◌, reverse, append_assoc, inl, inr, codes, arith, lit<, subst}
+use Rattle.std.proofs.Common.{◌≢◌, ◌≡◌, ℕ, Bool, true, false, List, [], ◌∷◌, ◌++◌, Option, None, Some, refl, sym, ap, ◌∙◌, reverse, append_assoc, inl, inr, codes, arith, lit<, subst, ◌<◌, ◌||◌, get_or}
 use Rattle.std.specs.List.{flat_map}
 use Rattle.std.specs.Option.{option_to_list}
+use Rattle.std.specs.Fmt.{digits}
+use Rattle.std.proofs.lemmas.Str.{IsUtf8-from_ascii}
 use Rattle.std.proofs.lemmas.Bool.{false≢true, and_parts, not-true, or_cases}
 use Rattle.std.proofs.lemmas.Grind.{flat_map-append}
 use Rattle.std.proofs.lemmas.List.{append_cancel_left, append_cancel_right, reverse-append, same_from_push}
 use Rattle.run_model.specs.Attempts.{Attempts}
 use Rattle.run_model.specs.Displays.{is_final, is_immediate}
-use Rattle.run_model.specs.Statuses.{is_success, summary_of}
+use Rattle.run_model.specs.Statuses.{case_of, is_success, summary_of}
 use Rattle.run_model.specs.Unloaded.{unloaded_event, unloaded_kind}
 use Rattle.run_model.specs.declared.config.TestOutputDisplay.{TestOutputDisplay}
 use Rattle.run_model.specs.declared.event.TestEvent.{TestEvent}
@@ -26,7 +28,13 @@ use Rattle.run_model.specs.declared.stress.StressIndex.{StressIndex}
 use Rattle.run_model.specs.declared.time.Nanos.{Nanos}
 use Rattle.run_model.specs.declared.unit.UnitKind.TheVariants as unit
 use Rattle.report_text.specs.Texts.{Text}
+use Rattle.report_text.proofs.lemmas.Decoded.{decoded-same}
+use Rattle.store_text.specs.Netstrings.{netstring, netstring_head}
+use Rattle.store_text.specs.Records.{record_text}
+use Rattle.store_text.specs.StoredOutputs.{is_stored, stored_output}
+use Rattle.store_text.specs.declared.config.StoreConfig.{StoreConfig}
 use Rattle.event_text.specs.AttemptOutputs.{Written}
+use Rattle.event_text.specs.ResultWords.{short_word}
 use Rattle.event_text.specs.FinishedTests.{line_at_once, output_at_once, test_finished_text}
 use Rattle.event_text.specs.Finishes.{display_of, is_final_wanted, row_at_end, row_at_once, row_listed}
 use Rattle.event_text.specs.Instances.{padded_instance}
@@ -48,17 +56,18 @@ use Rattle.console_reporter.specs.Calm.{AreCalm, is_end_of_run}
 use Rattle.console_reporter.specs.Configuration.{Configuration, settings_of}
 use Rattle.console_reporter.specs.Effects.{entry_of, final_output}
 use Rattle.console_reporter.specs.Entries.{cancel, final_order, final_text}
-use Rattle.console_reporter.specs.Exactness.{IsExact, IsObserved, combined, with_output, writing}
-use Rattle.console_reporter.specs.Loads.{decision, load_if, loads_attempt, loads_script}
+use Rattle.console_reporter.specs.Exactness.{IsExact, IsObserved, IsSeen, IsStoredThere, combined, with_output, writing}
+use Rattle.console_reporter.specs.Loads.{decision, is_kept_by, load_if, loads_attempt, loads_script}
 use Rattle.console_reporter.specs.Report.{event_text, listed_text, script_by, text, texts}
+use Rattle.console_reporter.specs.Stored.{record_of, records, stored_text}
 use Rattle.console_reporter.specs.Unread.{is_skip}
 use Rattle.run_model.specs.declared.call.ReportCall.{ReportCall}
 use Rattle.run_model.specs.declared.call.ReportCall.TheVariants.{Event}
 use Rattle.console_reporter.specs.declared.imp.decider.OutputLoadDecider.{OutputLoadDecider}
 use Rattle.console_reporter.specs.declared.imp.final_output.FinalOutputEntry.{FinalOutputEntry}
 use Rattle.console_reporter.proofs.lemmas.CalmRuns.{calm_back, calm_both, calm_end, calm_entries, calm_front, calm_past, listing}
-use Rattle.console_reporter.proofs.lemmas.Isolation.{same-unloaded}
-use Rattle.console_reporter.proofs.lemmas.OtherOutputs.{outputs_differ}
+use Rattle.console_reporter.proofs.lemmas.Isolation.{same-record, same-unloaded}
+use Rattle.console_reporter.proofs.lemmas.OtherOutputs.{ascii, outputs_differ}
 use Rattle.console_reporter.proofs.lemmas.Places.{entry_with, text-place}
 use Rattle.console_reporter.proofs.lemmas.Same.{reverse-middle, same-but-one}
 
@@ -89,21 +98,44 @@ undecided d t (TestAttemptFailedWillRetry stress test status delay failure) is =
 undecided d t (TestFinished stress test success failure statuses stats) is = cc
 undecided d t other is = refl
 
+-- one record where one call stands
+one_record : (store : Option StoreConfig) (before after : List ReportCall) (x y : ReportCall) → stored_text store x ≡ stored_text store y → records store (before ++ x ∷ after) ≡ records store (before ++ y ∷ after)
+one_record store [] after x y is = ap (λ t. t ∷ records store after) is
+one_record store (call ∷ before) after x y is = ap (λ ts. stored_text store call ∷ ts) (one_record store before after x y is)
+
+record_of_one : (store : Option StoreConfig) (before after : List ReportCall) (x y : ReportCall) → records store (before ++ x ∷ after) ≡ records store (before ++ y ∷ after) → stored_text store x ≡ stored_text store y
+record_of_one store [] after x y is = cc
+record_of_one store (call ∷ before) after x y is =
+    let rest : records store (before ++ x ∷ after) ≡ records store (before ++ y ∷ after) = cc in record_of_one store before after x y rest
+
 module _ (config : Configuration) (before after : List ReportCall) (event : TestEvent) where
   -- what the decider skips can be left unread
   unread-texts : (t : Text) → decision (decider_of config) event.kind ≡ Some Skip →
       texts config (reverse (before ++ Event (unloaded_event (record event { kind = with_output (combined t) event.kind })) ∷ after)) ≡ texts config (reverse (before ++ writing t event ∷ after))
   unread-texts t skips =
       same-but-one config before after (record event { kind = with_output (combined t) event.kind }) _
-      (same-unloaded (settings_of config) event.elapsed (with_output (combined t) event.kind) (ap is_skip (same-decision (decider_of config) (combined t) event.kind ∙ skips)))
+      (same-unloaded (settings_of config) config.store event.elapsed (with_output (combined t) event.kind) (ap is_skip (same-decision (decider_of config) (combined t) event.kind ∙ skips)))
+
+  -- nor is its record another one
+  unread-records : (t : Text) → decision (decider_of config) event.kind ≡ Some Skip →
+      records config.store (before ++ Event (unloaded_event (record event { kind = with_output (combined t) event.kind })) ∷ after) ≡ records config.store (before ++ writing t event ∷ after)
+  unread-records t skips =
+      one_record config.store before after _ _
+      (same-record (settings_of config) config.store (with_output (combined t) event.kind) (ap is_skip (same-decision (decider_of config) (combined t) event.kind ∙ skips)))
 
   observed_is_loaded : (answer : Option LoadOutput) → decision (decider_of config) event.kind ≡ answer → IsObserved config before event after → answer ≡ Some Load
   observed_is_loaded (Some Load) is observed = refl
-  observed_is_loaded (Some Skip) is observed = absurd (observed
+  observed_is_loaded (Some Skip) is (inl seen) = absurd (seen
       (sym (unread-texts (codes "a") is)
       ∙ ap (λ kind. texts config (reverse (before ++ Event (record event { kind = kind }) ∷ after))) (same-unread (codes "a") (codes "b") event.kind)
       ∙ unread-texts (codes "b") is))
-  observed_is_loaded None is observed = absurd (observed (ap (λ kind. texts config (reverse (before ++ Event (record event { kind = kind }) ∷ after)))
+  observed_is_loaded (Some Skip) is (inr kept) = absurd (kept
+      (sym (unread-records (codes "a") is)
+      ∙ ap (λ kind. records config.store (before ++ Event (record event { kind = kind }) ∷ after)) (same-unread (codes "a") (codes "b") event.kind)
+      ∙ unread-records (codes "b") is))
+  observed_is_loaded None is (inl seen) = absurd (seen (ap (λ kind. texts config (reverse (before ++ Event (record event { kind = kind }) ∷ after)))
+      (undecided (decider_of config) (codes "a") event.kind is ∙ sym (undecided (decider_of config) (codes "b") event.kind is))))
+  observed_is_loaded None is (inr kept) = absurd (kept (ap (λ kind. records config.store (before ++ Event (record event { kind = kind }) ∷ after))
       (undecided (decider_of config) (codes "a") event.kind is ∙ sym (undecided (decider_of config) (codes "b") event.kind is))))
 
 -- one text where one call stands
@@ -114,7 +146,7 @@ text_of_one config (call ∷ later) past x y is = text_of_one config later past 
 
 -- so it is enough that the event's own text is another one
 observed_at_once : (config : Configuration) (before after : List ReportCall) (event : TestEvent) →
-    text config (reverse before) (writing (codes "a") event) ≢ text config (reverse before) (writing (codes "b") event) → IsObserved config before event after
+    text config (reverse before) (writing (codes "a") event) ≢ text config (reverse before) (writing (codes "b") event) → IsSeen config before event after
 observed_at_once config before after event differ same =
     differ (text_of_one config (reverse after) (reverse before) (writing (codes "a") event) (writing (codes "b") event)
     (rw (reverse-middle before (writing (codes "a") event) after, reverse-middle before (writing (codes "b") event) after) at same))
@@ -122,7 +154,7 @@ observed_at_once config before after event differ same =
 -- or the text of the end
 observed_at_end : (config : Configuration) (before after : List ReportCall) (event end : TestEvent) →
     text config (reverse (before ++ writing (codes "a") event ∷ after)) (Event end) ≢ text config (reverse (before ++ writing (codes "b") event ∷ after)) (Event end) →
-    IsObserved config before event (after ++ Event end ∷ [])
+    IsSeen config before event (after ++ Event end ∷ [])
 unfolding texts
 observed_at_end config before after event end differ same =
     let last : (x : ReportCall) → reverse (before ++ x ∷ (after ++ Event end ∷ [])) ≡ Event end ∷ reverse (before ++ x ∷ after) =
@@ -140,7 +172,7 @@ script_differs s script x is e =
     outputs_differ s unit.Script false x.is_slow x.result (append_cancel_left (setup_script_line s.styles script x.result x.time_taken.0) _ _ (rw failed at e))
 
 -- an attempt that failed, whose output is shown
-attempt_differs : (s : Settings) (stress : Option StressIndex) (test : TestInstanceId) (x : Attempt) (delay : ℕ) (failure : TestOutputDisplay) → loads_attempt (decider_by s) failure ≡ true →
+attempt_differs : (s : Settings) (stress : Option StressIndex) (test : TestInstanceId) (x : Attempt) (delay : ℕ) (failure : TestOutputDisplay) → loads_attempt (decider_by s None) failure ≡ true →
     attempt_failed_text s stress test (record x { output = wrote_a }) delay failure ≢ attempt_failed_text s stress test (record x { output = wrote_b }) delay failure
 unfolding attempt_failed_text attempt_failed_line failed_output is_level_shown is_failed_output_shown
 attempt_differs s stress test x delay failure is e =
@@ -176,7 +208,7 @@ module _ (config : Configuration) (before after : List ReportCall) (elapsed : Na
   abbrev display : TestOutputDisplay
   display = display_of s success failure (summary_of statuses)
 
-  finish_at_once : (rest : List ReportCall) → is_immediate display ≡ true → IsObserved config before finished rest
+  finish_at_once : (rest : List ReportCall) → is_immediate display ≡ true → IsSeen config before finished rest
   unfolding event_text test_finished_text line_at_once output_at_once row_at_once
   finish_at_once rest now = observed_at_once config before rest finished (λ e.
       let row = row_below (cancel (reverse before)) statuses.last.result (calm_past before calm) in
@@ -187,7 +219,7 @@ module _ (config : Configuration) (before after : List ReportCall) (elapsed : Na
   unfolding final_output row_at_end row_listed is_final_wanted
   kept_with output final = rw (row_below 0 statuses.last.result (omega arith), final) refl
 
-  finish_at_end : (end : TestEvent) → is_end_of_run end.kind ≡ true → AreCalm after → is_final display ≡ true → IsObserved config before finished (after ++ Event end ∷ [])
+  finish_at_end : (end : TestEvent) → is_end_of_run end.kind ≡ true → AreCalm after → is_final display ≡ true → IsSeen config before finished (after ++ Event end ∷ [])
   finish_at_end end ends calm_after final =
       let f = calm_entries s in
       let shown = λ (t : Text). entry_with (record { stress_index = stress; counter = finished_counter s stats; instance = test }) (summary_of statuses) (combined t) in
@@ -199,6 +231,31 @@ module _ (config : Configuration) (before after : List ReportCall) (elapsed : Na
       observed_at_end config before after finished end (λ e.
       listed_differ s _ _ (flat_map f before) (flat_map f after) end.elapsed.0 end.kind ends (sym (said (codes "a")) ∙ e ∙ said (codes "b")))
 
+-- a finished test whose output is kept
+letters_differ : netstring (codes "a") ++ codes "\n" ≢ netstring (codes "b") ++ codes "\n"
+unfolding netstring netstring_head digits
+letters_differ e = let h : ◌≡◌ {A = ℕ} 97 98 = ap (λ l. get_or l 2 0) e in absurd (omega arith)
+
+kept_output : (store : StoreConfig) (statuses : Attempts LiveSpec ChildOutputDescription) (b : ℕ) → b < 128 → is_stored store (case_of statuses) ≡ true →
+    stored_output store (record statuses { last = record statuses.last { output = combined (b ∷ []) } }) ≡ b ∷ []
+unfolding stored_output
+kept_output store statuses b within kept = rw kept (decoded-same (b ∷ []) (IsUtf8-from_ascii (b ∷ []) (ascii b within)))
+
+kept_differ : (store : Option StoreConfig) (stress : Option StressIndex) (test : TestInstanceId) (success failure : TestOutputDisplay) (statuses : Attempts LiveSpec ChildOutputDescription) (stats : RunStats) →
+    is_kept_by store (case_of statuses) ≡ true →
+    record_of store (with_output wrote_a (TestFinished stress test success failure statuses stats)) ≢ record_of store (with_output wrote_b (TestFinished stress test success failure statuses stats))
+unfolding record_text
+kept_differ None stress test success failure statuses stats kept e = absurd (false≢true kept)
+kept_differ (Some store) stress test success failure statuses stats kept e =
+    let same = append_cancel_left (netstring (short_word statuses.last.result)) _ _ (append_cancel_left (netstring test.test_name.now) _ _ (append_cancel_left (netstring test.binary_id.now) _ _ e)) in
+    letters_differ (ap (λ o. netstring o ++ codes "\n") (sym (kept_output store statuses 97 (lit< tt) kept)) ∙ same ∙ ap (λ o. netstring o ++ codes "\n") (kept_output store statuses 98 (lit< tt) kept))
+
+finish_kept : (config : Configuration) (before rest : List ReportCall) (elapsed : Nanos) (stress : Option StressIndex) (test : TestInstanceId) (success failure : TestOutputDisplay)
+    (statuses : Attempts LiveSpec ChildOutputDescription) (stats : RunStats) → is_kept_by config.store (summary_of statuses).case ≡ true →
+    IsStoredThere config before (record { elapsed = elapsed; kind = TestFinished stress test success failure statuses stats }) rest
+finish_kept config before rest elapsed stress test success failure statuses stats kept same =
+    kept_differ config.store stress test success failure statuses stats kept (record_of_one config.store before rest _ _ same)
+
 is_loaded : (b : Bool) → Some (load_if b) ≡ Some Load → b ≡ true
 is_loaded true h = refl
 is_loaded false h = cc
@@ -207,16 +264,19 @@ loaded_is_observed : (config : Configuration) (before after : List ReportCall) (
     AreCalm before → AreCalm after → decision (decider_of config) kind ≡ Some Load → IsObserved config before (record { elapsed = elapsed; kind = kind }) (after ++ Event end ∷ [])
 unfolding event_text display_of
 loaded_is_observed config before after elapsed (SetupScriptFinished stress id program args status) end ends front back loads =
-    observed_at_once config before (after ++ Event end ∷ []) (record { elapsed = elapsed; kind = SetupScriptFinished stress id program args status })
-    (script_differs (settings_of config) (script_by stress id program args) status (is_loaded _ loads))
+    inl (observed_at_once config before (after ++ Event end ∷ []) (record { elapsed = elapsed; kind = SetupScriptFinished stress id program args status })
+    (script_differs (settings_of config) (script_by stress id program args) status (is_loaded _ loads)))
 loaded_is_observed config before after elapsed (TestAttemptFailedWillRetry stress test status delay failure) end ends front back loads =
-    observed_at_once config before (after ++ Event end ∷ []) (record { elapsed = elapsed; kind = TestAttemptFailedWillRetry stress test status delay failure })
-    (attempt_differs (settings_of config) stress test status delay.0 failure (is_loaded _ loads))
+    inl (observed_at_once config before (after ++ Event end ∷ []) (record { elapsed = elapsed; kind = TestAttemptFailedWillRetry stress test status delay failure })
+    (attempt_differs (settings_of config) stress test status delay.0 failure (is_loaded _ loads)))
 loaded_is_observed config before after elapsed (TestFinished stress test success failure statuses stats) end ends front back loads =
     let display = display_of (settings_of config) success failure (summary_of statuses) in
-    elim (or_cases (is_immediate display) (is_final display) (is_loaded _ loads)) [
-      | inl now ↦ finish_at_once config before after elapsed stress test success failure statuses stats front (after ++ Event end ∷ []) now
-      | inr final ↦ finish_at_end config before after elapsed stress test success failure statuses stats front end ends back final
+    elim (or_cases (is_immediate display || is_final display) (is_kept_by config.store (summary_of statuses).case) (is_loaded _ loads)) [
+      | inl shown ↦ inl (elim (or_cases (is_immediate display) (is_final display) shown) [
+        | inl now ↦ finish_at_once config before after elapsed stress test success failure statuses stats front (after ++ Event end ∷ []) now
+        | inr final ↦ finish_at_end config before after elapsed stress test success failure statuses stats front end ends back final
+      ])
+      | inr kept ↦ inr (finish_kept config before (after ++ Event end ∷ []) elapsed stress test success failure statuses stats kept)
     ]
 loaded_is_observed config before after elapsed other end ends front back loads = cc
 

@@ -1,5 +1,5 @@
 -- What the decider skips is not shown (for `unload_skipped`, `DisplayReporter::output_load_decider`).
-use Rattle.std.proofs.Common.{◌≡◌, ℕ, Bool, true, false, not, Option, None, Some, List, [], ◌∷◌, ◌++◌, map, reverse, if◌then◌else◌, refl, sym, ap, subst, ◌∙◌, inl, inr}
+use Rattle.std.proofs.Common.{◌≡◌, ℕ, Bool, true, false, not, Option, None, Some, List, [], ◌∷◌, ◌++◌, map, reverse, if◌then◌else◌, refl, sym, ap, ap₂, subst, ◌∙◌, inl, inr, codes, ◌||◌}
 use Rattle.std.specs.List.{position_or_len}
 use Rattle.std.specs.Option.{is_some, option_map_or}
 use Rattle.std.proofs.lemmas.Bool.{cases_Bool, false≢true}
@@ -7,7 +7,7 @@ use Rattle.std.proofs.lemmas.List.{length-map, map-append, reverse-append}
 use Rattle.run_model.specs.Attempts.{Attempts}
 use Rattle.run_model.specs.Displays.{is_immediate, is_final}
 use Rattle.run_model.specs.Outputs.{has_loaded_output}
-use Rattle.run_model.specs.Statuses.{is_success, summary_of}
+use Rattle.run_model.specs.Statuses.{case_of, is_success, summary_of}
 use Rattle.run_model.specs.Unloaded.{unloaded_attempt, unloaded_attempts, unloaded_event, unloaded_kind, unloaded_script}
 use Rattle.run_model.specs.declared.config.TestOutputDisplay.{TestOutputDisplay}
 use Rattle.run_model.specs.declared.event.TestEventKind.{TestEventKind}
@@ -20,7 +20,13 @@ use Rattle.run_model.specs.declared.stats.RunStats.{RunStats}
 use Rattle.run_model.specs.declared.status.SetupScriptExecuteStatus.{SetupScriptExecuteStatus}
 use Rattle.run_model.specs.declared.stress.StressIndex.{StressIndex}
 use Rattle.run_model.specs.declared.time.Nanos.{Nanos}
+use Rattle.unit_report.specs.Overrides.{display_for}
 use Rattle.event_text.specs.AttemptOutputs.{Written}
+use Rattle.event_text.specs.ResultWords.{short_word}
+use Rattle.store_text.specs.Netstrings.{netstring}
+use Rattle.store_text.specs.Records.{record_text}
+use Rattle.store_text.specs.StoredOutputs.{is_stored, stored_output}
+use Rattle.store_text.specs.declared.config.StoreConfig.{StoreConfig}
 use Rattle.event_text.specs.FinishedTests.{TestFinish, line_at_once, output_at_once, test_finish, test_finished_text}
 use Rattle.event_text.specs.Finishes.{display_of, is_ever_shown, row_at_end, row_at_once}
 use Rattle.event_text.specs.RetriedTests.{Attempt, attempt_failed_text, attempt_failed_line, failed_output, is_failed_output_shown}
@@ -39,6 +45,7 @@ use Rattle.run_model.specs.declared.status.StatusSummary.{StatusSummary}
 use Rattle.console_reporter.specs.Isolation.{IsIsolated}
 use Rattle.console_reporter.specs.Loads.{load_if, loads_attempt, loads_finish, loads_script}
 use Rattle.console_reporter.specs.Report.{event_text, script_by}
+use Rattle.console_reporter.specs.Stored.{record_of, records, stored, stored_text}
 use Rattle.console_reporter.specs.Unread.{is_skip, is_skipped, unread, unread_call}
 use Rattle.run_model.specs.declared.call.ReportCall.{ReportCall}
 use Rattle.run_model.specs.declared.call.ReportCall.TheVariants.{Event, Header, Prefix}
@@ -86,7 +93,7 @@ unloaded-summary a = rw (length-map a.earlier unloaded_attempt) refl
 
 -- the same of its event
 module _ (s : Settings) (stress : Option StressIndex) (test : TestInstanceId) (success failure : TestOutputDisplay) (statuses : Attempts LiveSpec ChildOutputDescription) (stats : RunStats)
-    (never : loads_finish (decider_by s) success failure (summary_of statuses) ≡ false) where
+    (never : is_ever_shown (display_for s.unit_output.overrides success failure (summary_of statuses)) ≡ false) where
   abbrev finish : ℕ → TestFinish
   finish reason = test_finish s reason stress test success failure statuses stats
 
@@ -109,7 +116,7 @@ module _ (s : Settings) (stress : Option StressIndex) (test : TestInstanceId) (s
   }
 
 -- an attempt that failed whose output is not shown
-never-attempt : (s : Settings) (stress : Option StressIndex) (test : TestInstanceId) (x : Attempt) (delay : ℕ) (failure : TestOutputDisplay) → loads_attempt (decider_by s) failure ≡ false →
+never-attempt : (s : Settings) (stress : Option StressIndex) (test : TestInstanceId) (x : Attempt) (delay : ℕ) (failure : TestOutputDisplay) → loads_attempt (decider_by s None) failure ≡ false →
     attempt_failed_text s stress test (unloaded_attempt x) delay failure ≡ attempt_failed_text s stress test x delay failure
 unfolding attempt_failed_text attempt_failed_line failed_output is_level_shown is_failed_output_shown
 never-attempt s stress test x delay failure never =
@@ -128,23 +135,28 @@ unfolding setup_script_finished_text failed_script_output
 never-script s script x never =
     elim (cases_Bool (is_success x.result)) [ inl y ↦ rw y refl | inr n ↦ absurd (false≢true (sym (rw n at never))) ]
 
+-- what is neither shown nor kept
+neither : (a b : Bool) → (a || b) ≡ false → (a ≡ false) × (b ≡ false)
+neither false b h = (refl, h)
+neither true b h = absurd (false≢true (sym h))
+
 -- an event whose output the decider skips is the same without it
-pub same-unloaded : (s : Settings) (elapsed : Nanos) (e : TestEventKind) → is_skipped (decider_by s) e ≡ true →
+pub same-unloaded : (s : Settings) (store : Option StoreConfig) (elapsed : Nanos) (e : TestEventKind) → is_skipped (decider_by s store) e ≡ true →
     IsSameEvent s (record { elapsed = elapsed; kind = e }) (record { elapsed = elapsed; kind = unloaded_kind e })
 unfolding event_text
-same-unloaded s elapsed (SetupScriptFinished stress id program args status) h = record {
+same-unloaded s store elapsed (SetupScriptFinished stress id program args status) h = record {
   reason = refl;
   entry = λ before. refl;
   text = λ known. never-script s (script_by stress id program args) status (not_loaded (loads_script status.result) h);
 }
-same-unloaded s elapsed (TestAttemptFailedWillRetry stress test status delay failure) h = record {
+same-unloaded s store elapsed (TestAttemptFailedWillRetry stress test status delay failure) h = record {
   reason = refl;
   entry = λ before. refl;
-  text = λ known. never-attempt s stress test status delay.0 failure (not_loaded (loads_attempt (decider_by s) failure) h);
+  text = λ known. never-attempt s stress test status delay.0 failure (not_loaded (loads_attempt (decider_by s store) failure) h);
 }
-same-unloaded s elapsed (TestFinished stress test success failure statuses stats) h =
-    same-finish s stress test success failure statuses stats (not_loaded (loads_finish (decider_by s) success failure (summary_of statuses)) h) elapsed
-same-unloaded s elapsed other h = absurd (false≢true h)
+same-unloaded s store elapsed (TestFinished stress test success failure statuses stats) h =
+    same-finish s stress test success failure statuses stats (neither _ _ (not_loaded (loads_finish (decider_by s store) success failure (summary_of statuses)) h)).0 elapsed
+same-unloaded s store elapsed other h = absurd (false≢true h)
 
 -- calls are the same without the outputs that the decider skips
 same-calls : (config : Configuration) (calls : List ReportCall) → AreSame config calls (unread (decider_of config) calls)
@@ -153,7 +165,7 @@ same-calls config (Event e ∷ calls) =
     let d = decider_of config in
     let all = same-calls config calls in
     elim (cases_Bool (is_skipped d e.kind)) [
-      | inl y ↦ rw y (same-event config calls (unread d calls) all e (unloaded_event e) (same-unloaded (settings_of config) e.elapsed e.kind y))
+      | inl y ↦ rw y (same-event config calls (unread d calls) all e (unloaded_event e) (same-unloaded (settings_of config) config.store e.elapsed e.kind y))
       | inr n ↦ rw n (same-call config calls (unread d calls) all (Event e))
     ]
 same-calls config (Header h ∷ calls) = same-call config calls (unread (decider_of config) calls) (same-calls config calls) (Header h)
@@ -211,10 +223,44 @@ same-past config d calls is =
     subst (AreSame config (reverse calls)) (map_reverse (unread_call d) calls)
     (subst (λ x. AreSame config (reverse calls) (unread x (reverse calls))) is (same-calls config (reverse calls)))
 
+-- the record of a test whose output is not kept
+stored_none : (store : StoreConfig) (a : Attempts LiveSpec ChildOutputDescription) → is_stored store (case_of a) ≡ false → stored_output store a ≡ []
+unfolding stored_output
+stored_none store a h = rw h refl
+
+pub same-record : (s : Settings) (store : Option StoreConfig) (e : TestEventKind) → is_skipped (decider_by s store) e ≡ true → record_of store (unloaded_kind e) ≡ record_of store e
+unfolding record_text
+same-record s None e h = refl
+same-record s (Some store) (TestFinished stress test success failure statuses stats) h =
+    let never = (neither _ _ (not_loaded (loads_finish (decider_by s (Some store)) success failure (summary_of statuses)) h)).1 in
+    let also = ap (λ (x : StatusSummary). is_stored store x.case) (unloaded-summary statuses) ∙ never in
+    ap (λ o. netstring test.binary_id.now ++ (netstring test.test_name.now ++ (netstring (short_word statuses.last.result) ++ (netstring o ++ codes "\n"))))
+    (stored_none store (unloaded_attempts statuses) also ∙ sym (stored_none store statuses never))
+same-record s (Some store) (SetupScriptFinished stress id program args status) h = refl
+same-record s (Some store) (TestAttemptFailedWillRetry stress test status delay failure) h = refl
+same-record s (Some store) other h = absurd (false≢true h)
+
+same-stored-text : (config : Configuration) (call : ReportCall) → stored_text config.store (unread_call (decider_of config) call) ≡ stored_text config.store call
+same-stored-text config (Event e) =
+    elim (cases_Bool (is_skipped (decider_of config) e.kind)) [ inl y ↦ rw y (same-record (settings_of config) config.store e.kind y) | inr n ↦ rw n refl ]
+same-stored-text config (Header h) = refl
+same-stored-text config (Prefix p) = refl
+
+same-records : (config : Configuration) (calls : List ReportCall) → records config.store (unread (decider_of config) calls) ≡ records config.store calls
+same-records config [] = refl
+same-records config (call ∷ calls) = ap₂ (λ t ts. t ∷ ts) (same-stored-text config call) (same-records config calls)
+
+same-stored : (config : Configuration) (past : List ReportCall) → stored config.store (unread (decider_of config) past) ≡ stored config.store past
+same-stored config [] = refl
+same-stored config (call ∷ past) = ap₂ (λ t u. t ++ u) (same-stored config past) (same-stored-text config call)
+
 pub isolated : (d : OutputLoadDecider) (calls : List ReportCall) → IsIsolated d calls (unread d calls)
 isolated d calls = (
   λ config is. (same-past config d calls is).texts,
   λ config is. same-report config (reverse calls) (reverse (unread d calls)) (same-past config d calls is),
+  λ config is. subst (λ x. records config.store (unread x calls) ≡ records config.store calls) is (same-records config calls),
+  λ config is. subst (λ x. stored config.store (reverse (unread x calls)) ≡ stored config.store (reverse calls)) is
+      (ap (stored config.store) (sym (map_reverse (unread_call (decider_of config)) calls)) ∙ same-stored config (reverse calls)),
   all-accepted d calls,
   same-first d calls,
 )

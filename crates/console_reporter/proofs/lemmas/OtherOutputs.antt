@@ -30,7 +30,7 @@ shown_differ true s false is e = let f = rw is at e in let h : ◌≡◌ {A = �
 shown_differ false s true is e = let f = rw is at e in let h : ◌≡◌ {A = ℕ} 97 98 = ap (λ l. get_or l 4 0) f in absurd (omega arith)
 shown_differ false s false is e = let f = rw is at e in let h : ◌≡◌ {A = ℕ} 97 98 = ap (λ l. get_or l 4 0) f in absurd (omega arith)
 
-ascii : (b : ℕ) → b < 128 → IsAscii (b ∷ [])
+pub ascii : (b : ℕ) → b < 128 → IsAscii (b ∷ [])
 ascii b h zero = h
 ascii b h (suc i) = lit< tt
 

@@ -25,7 +25,7 @@ pub final_order-holds : (es : List FinalOutputEntry) → IsFinalOrder es (final_
 final_order-holds es = is_ordered is_before is_before-ranks es
 
 -- what is written of an event by what the reporter holds is its text after the past
-pub text-held : {W : Type 0} (config : Configuration) (past : List ReportCall) (reporter : DisplayReporter W) (e : TestEvent) → StandsAfter config past reporter →
+pub text-held : {W S : Type 0} (config : Configuration) (past : List ReportCall) (reporter : DisplayReporter W S) (e : TestEvent) → StandsAfter config past reporter →
     event_text reporter.state.settings (known_by reporter.state) e.elapsed.0 e.kind ≡ text config past (Event e)
 text-held config past reporter e stands = rw (stands.settings, stands.prefix, stands.reason, stands.kept) refl
 
@@ -35,7 +35,7 @@ entry-held : (config : Configuration) (past : List ReportCall) (e : TestEvent) (
 entry-held config past e s reason ended same is_reason is = rw (is, same, is_reason) refl
 
 -- what the reporter holds after the call, by what it held before
-pub kept-more : {W : Type 0} (config : Configuration) (past : List ReportCall) (reporter : DisplayReporter W) (e : TestEvent) (ended : Option TestEnd) (new : List FinalOutputEntry) → StandsAfter config past reporter →
+pub kept-more : {W S : Type 0} (config : Configuration) (past : List ReportCall) (reporter : DisplayReporter W S) (e : TestEvent) (ended : Option TestEnd) (new : List FinalOutputEntry) → StandsAfter config past reporter →
     ended ≡ (effect_of e.kind).ended reporter.state.settings (reason_rank reporter.state.cancel_status) →
     ((before : List FinalOutputEntry) → reporter.state.kept ≡ final_order before → new ≡ final_order (before ++ option_to_list (option_and_then (kept_entry reporter.state.settings) ended))) →
     new ≡ final_order (kept (settings_of config) (Event e ∷ past))

@@ -1,11 +1,14 @@
 -- Refusals (for `DisplayReporter::write_event`).
-use Rattle.std.proofs.Common.{◌≡◌, ℕ, List, true, Option, None, Some, Err, false, refl}
+use Rattle.std.proofs.Common.{◌≡◌, ℕ, List, true, Option, None, Some, false, inl, refl}
 use Rattle.std.specs.Option.{is_some}
-use Rattle.std.specs.Result.{IsErrOf}
 use Rattle.report_text.specs.Writer.{Meaning}
-use Rattle.console_reporter.specs.Outcomes.{Stops, refusal_in}
+use Rattle.console_reporter.specs.Slots.{store_meaning}
+use Rattle.console_reporter.specs.Telling.{Breaks}
+use Rattle.run_model.specs.declared.call.ReportCall.{ReportCall}
+use Rattle.console_reporter.specs.declared.imp.reporter.DisplayReporter.{DisplayReporter}
+use Rattle.console_reporter.specs.Outcomes.{Stops, StopsRecord, refusal_in}
 use Rattle.console_reporter.specs.declared.imp.faults.WriteEventError.{WriteEventError}
-use Rattle.console_reporter.specs.declared.imp.faults.WriteEventError.TheVariants.{RetriedSuccess, OutputNotLoaded, Io, Memory, Failed}
+use Rattle.console_reporter.specs.declared.imp.faults.WriteEventError.TheVariants.{RetriedSuccess, OutputNotLoaded, Io, Memory, Failed, StoreIo}
 
 -- what is not there
 pub none_where_not_some : {X : Type 0} (o : Option X) → ((x : X) → o ≡ Some x → ⊥) → o ≡ None
@@ -17,19 +20,42 @@ pub not_refused : (e : WriteEventError) → refusal_in e ≡ None → is_some (r
 not_refused e none some = cc
 
 -- a refusal leaves the writer as it was
-pub stops_refused : {S : Type 0} (m : Meaning S) (w : S) (t : List ℕ) (e : WriteEventError) → refusal_in e ≡ Some e → Stops m w t e w
+stops_refused : {S : Type 0} (m : Meaning S) (w : S) (t : List ℕ) (e : WriteEventError) → refusal_in e ≡ Some e → Stops m w t e w
 stops_refused m w t RetriedSuccess told = refl
 stops_refused m w t OutputNotLoaded told = refl
 stops_refused m w t Io told = cc
 stops_refused m w t Memory told = cc
 stops_refused m w t Failed told = cc
+stops_refused m w t StoreIo told = cc
+
+-- and the store
+record_refused : {S : Type 0} (m : Meaning S) (w : S) (t : List ℕ) (e : WriteEventError) → refusal_in e ≡ Some e → StopsRecord m w t e w
+record_refused m w t RetriedSuccess told = refl
+record_refused m w t OutputNotLoaded told = refl
+record_refused m w t Io told = cc
+record_refused m w t Memory told = cc
+record_refused m w t Failed told = cc
+record_refused m w t StoreIo told = cc
 
 -- and is no fault of the device or of memory
-pub refused_not_io : (e : WriteEventError) → refusal_in e ≡ Some e → IsErrOf {T = Unit {0}} (Err e) Io → ⊥
+refused_not_io : (e : WriteEventError) → refusal_in e ≡ Some e → e ≡ Io → ⊥
 refused_not_io e told is = cc
 
-pub refused_not_memory : (e : WriteEventError) → refusal_in e ≡ Some e → IsErrOf {T = Unit {0}} (Err e) Memory → ⊥
+refused_not_store_io : (e : WriteEventError) → refusal_in e ≡ Some e → e ≡ StoreIo → ⊥
+refused_not_store_io e told is = cc
+
+refused_not_memory : (e : WriteEventError) → refusal_in e ≡ Some e → e ≡ Memory → ⊥
 refused_not_memory e told is = cc
 
 pub told_is_some : (e : WriteEventError) → refusal_in e ≡ Some e → is_some (refusal_in e) ≡ false → ⊥
 told_is_some e told none = cc
+
+pub breaks_refused : {W S : Type 0} (m : Meaning W) (n : Meaning S) (reporter : DisplayReporter W S) (call : Option ReportCall) (e : WriteEventError) → refusal_in e ≡ Some e → Breaks m n reporter call e reporter
+breaks_refused m n reporter call e told = record {
+  stopped = λ config past stands. stops_refused m _ _ e told;
+  store_stopped = λ config past stands. record_refused (store_meaning n) _ _ e told;
+  order = λ config past stands. inl refl;
+  io = λ is. absurd (refused_not_io e told is);
+  store_io = λ is. absurd (refused_not_store_io e told is);
+  memory = λ is. absurd (refused_not_memory e told is);
+}

@@ -1,7 +1,7 @@
 //! How a reporter is configured.
 
-ghost use Rattle.std.specs.Prelude.{◌≡◌, []};
-ghost use Rattle.console_reporter.specs.Configuration.{configured, settings_of};
+ghost use Rattle.std.specs.Prelude.{◌≡◌, [], None, Some};
+ghost use Rattle.console_reporter.specs.Configuration.{configured, configured_with_store, settings_of};
 ghost use Rattle.console_reporter.specs.Standing.{StandsAfter};
 
 use super::reporter::DisplayReporter;
@@ -9,6 +9,7 @@ use event_text::settings::{Settings, counter_width_for, overrides_for, styles_fo
 use report_text::write_str::WriteStr;
 use run_model::config::{CompiledDefaultFilter, NextestRunMode, TestOutputDisplay};
 use std::alloc::Global;
+use store_text::config::StoreConfig;
 use unit_report::config::DisplayConfig;
 use unit_report::unit_output::{DisplayerKind, UnitOutputReporter};
 
@@ -47,13 +48,36 @@ impl DisplayReporterBuilder {
         is_terminal: bool,
         is_ci: bool,
         display_empty_outputs: bool,
-    ) -> DisplayReporter<'a, W>
+    ) -> DisplayReporter<'a, W, String>
         ensures same_reference { result.writer.ghost_name ≡ writer.entry.ghost_name }
         ensures untouched { result.writer.now ≡ writer.old }
+        ensures no_store { result.store ≡ None }
         ensures stands { StandsAfter (configured self use_unicode is_terminal is_ci display_empty_outputs) [] result }
     {
         let settings = self.settings(use_unicode, is_terminal, is_ci, display_empty_outputs);
         DisplayReporter::new(alloc, writer, settings)
+    }
+
+    /// A reporter to a writer that also writes a record of each finished test to a second one. To neither is written yet. It
+    /// takes no memory.
+    pub fn build_with_store<'a, W: WriteStr, S: WriteStr>(
+        self,
+        alloc: Global,
+        writer: &'a mut W,
+        store_writer: &'a mut S,
+        store: StoreConfig,
+        use_unicode: bool,
+        is_terminal: bool,
+        is_ci: bool,
+        display_empty_outputs: bool,
+    ) -> DisplayReporter<'a, W, S>
+        ensures same_reference { result.writer.ghost_name ≡ writer.entry.ghost_name }
+        ensures untouched { result.writer.now ≡ writer.old }
+        ensures store { result.store ≡ Some (record { writer = store_writer.entry; config = store }) }
+        ensures stands { StandsAfter (configured_with_store store self use_unicode is_terminal is_ci display_empty_outputs) [] result }
+    {
+        let settings = self.settings(use_unicode, is_terminal, is_ci, display_empty_outputs);
+        DisplayReporter::with_store(alloc, writer, store_writer, store, settings)
     }
 
     // What a reporter goes by that is built so.

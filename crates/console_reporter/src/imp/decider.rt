@@ -7,7 +7,7 @@ ghost use Rattle.run_model.specs.Statuses.{described_summary, summary_of};
 ghost use Rattle.run_model.specs.declared.event.TestEventKind.{TestEventKind};
 ghost use Rattle.console_reporter.specs.Accepted.{decider_by, event_refusal, first_refused, is_retried_success, refusal_by};
 ghost use Rattle.console_reporter.specs.Isolation.{IsIsolated};
-ghost use Rattle.console_reporter.specs.Loads.{decision, lacks_output, load_if, loads, loads_attempt, loads_finish, loads_script, needed_answer, needed_output};
+ghost use Rattle.console_reporter.specs.Loads.{decision, is_asked_of, lacks_output, load_if, loads, loads_attempt, loads_finish, loads_script, needed_answer, needed_output};
 ghost use Rattle.console_reporter.specs.Outcomes.{refusal_in};
 ghost use Rattle.console_reporter.specs.Unread.{unread, unread_call};
 
@@ -21,6 +21,7 @@ use run_model::level::StatusLevel;
 use run_model::output::{ChildExecutionOutputDescription, LiveSpec, OutputSpec, RecordingSpec};
 use run_model::output_event::{LoadOutput, OutputEventKind};
 use run_model::status::{ExecutionResultDescription, ExecutionStatuses};
+use store_text::config::StoreConfig;
 use unit_report::unit_output::OutputDisplayOverrides;
 
 /// Decides by an event's metadata what a reporter of one configuration does with it: no call before it matters.
@@ -32,21 +33,23 @@ use unit_report::unit_output::OutputDisplayOverrides;
 pub struct OutputLoadDecider {
     status_level: StatusLevel,
     overrides: OutputDisplayOverrides,
+    store: Option<StoreConfig>,
 }
 
 impl OutputLoadDecider {
-    // What decides by these settings.
-    pub(super) fn of_settings(settings: &Settings) -> OutputLoadDecider
-        ensures { result ≡ decider_by settings.now }
+    // What decides by these settings, and by what a store is asked to keep.
+    pub(super) fn of_settings(settings: &Settings, store: Option<StoreConfig>) -> OutputLoadDecider
+        ensures { result ≡ decider_by settings.now store }
     {
         OutputLoadDecider {
             status_level: settings.status_levels.status_level,
             overrides: settings.unit_output.overrides(),
+            store,
         }
     }
 
     /// Whether a replay has to load the captured output of a recorded event: where a report shows it, at once or at the end of
-    /// the run, unless a reason for cancelling hides it. It takes no memory.
+    /// the run, unless a reason for cancelling hides it, or where a store is asked to keep it. It takes no memory.
     ///
     /// An event of a run that is going on has the answer of its recorded form.
     ///
@@ -102,7 +105,7 @@ impl OutputLoadDecider {
             && self.overrides.failure_output(failure_output).is_immediate()
     }
 
-    // Whether the output of a finished test is shown, at once or at the end of the run.
+    // Whether the output of a finished test is shown, at once or at the end of the run, or is kept.
     fn loads_finish<S: OutputSpec>(
         &self,
         success_output: TestOutputDisplay,
@@ -115,7 +118,19 @@ impl OutputLoadDecider {
         let display = self
             .overrides
             .resolve_for_describe(success_output, failure_output, &describe);
-        display.is_immediate() || display.is_final()
+        display.is_immediate()
+            || display.is_final()
+            || self.is_kept(describe.is_success_for_output())
+    }
+
+    // Whether a store is asked to keep the output of such a test.
+    fn is_kept(&self, is_success: bool) -> bool
+        ensures { result ≡ is_asked_of self.now.store is_success }
+    {
+        match self.store {
+            Some(store) => store.stores_output(is_success),
+            None => false,
+        }
     }
 
     // The output that the event needs.

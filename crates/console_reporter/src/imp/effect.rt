@@ -1,6 +1,6 @@
 //! What an event does beside its text.
 
-ghost use Rattle.std.specs.Prelude.{◌≡◌, false, max};
+ghost use Rattle.std.specs.Prelude.{◌≡◌, None, false, max};
 ghost use Rattle.std.specs.Option.{option_map};
 ghost use Rattle.run_model.specs.Levels.{reason_rank};
 ghost use Rattle.console_reporter.specs.Accepted.{decider_by};
@@ -40,7 +40,7 @@ impl<'e, 'a> EventEffect<'e, 'a> {
     ) -> EventEffect<'e, 'a>
         ensures reason { reason_rank result.reason ≡ (effect_of event.now.kind).reason }
         ensures ended { option_map end_of result.ended ≡ (effect_of event.now.kind).ended settings.now (reason_rank reason) }
-        ensures loaded { lacks_output (decider_by settings.now) event.now.kind ≡ false → HasEndOutputIn (option_map end_of result.ended) }
+        ensures loaded { lacks_output (decider_by settings.now None) event.now.kind ≡ false → HasEndOutputIn (option_map end_of result.ended) }
     {
         let mut effect = EventEffect {
             reason: None,

@@ -20,6 +20,9 @@ pub enum WriteEventError {
     /// Memory was refused in this call. A beginning of the call's text was accepted.
     #[error("out of memory")]
     Memory,
+    /// The store's device failed in this call. The call's whole text was accepted, and a beginning of its record.
+    #[error("the store could not be written")]
+    StoreIo,
     /// An earlier call failed by its device or for want of memory. Nothing was written.
     #[error("the report has failed before")]
     Failed,

@@ -12,18 +12,21 @@ ghost use Rattle.console_reporter.specs.declared.imp.faults.WriteEventError.{Wri
 ghost use Rattle.console_reporter.specs.declared.imp.final_output.FinalOutputEntry.{FinalOutputEntry};
 ghost use Rattle.console_reporter.specs.ColourLaw.{ColourLaw};
 ghost use Rattle.console_reporter.specs.PlainLaw.{PlainLaw};
-ghost use Rattle.console_reporter.specs.Configuration.{Configuration, configured, settings_of};
+ghost use Rattle.console_reporter.specs.Configuration.{Configuration, configured, configured_with_store, settings_of};
 ghost use Rattle.console_reporter.specs.Accepted.{AreAccepted, IsAccepted, decider_by, decider_of, refusal, refusal_at};
 ghost use Rattle.console_reporter.specs.Effects.{HasEndOutput, HasEndOutputIn, TestEnd, effect_of, end_of, kept_entry};
 ghost use Rattle.console_reporter.specs.Loads.{lacks_output};
 ghost use Rattle.console_reporter.specs.Entries.{final_order, hiding_rank};
 ghost use Rattle.console_reporter.specs.Exactness.{IsExact};
 ghost use Rattle.console_reporter.specs.Exchanges.{IsOrderIndependent};
-ghost use Rattle.console_reporter.specs.Outcomes.{Stops, StopsAfter, IsOfLines, answered_refusal, error_for, refusal_in};
+ghost use Rattle.console_reporter.specs.Outcomes.{IsOfConsole, Stops, StopsAfter, StopsRecordAfter, IsOfLines, answered_refusal, error_for, refusal_in, store_error_for};
 ghost use Rattle.console_reporter.specs.Report.{end_of_run_text, event_text, finished_text, listed_text, text, texts, report, past_at, text_at};
+ghost use Rattle.console_reporter.specs.Slots.{config_of, store_delivered, store_may_refuse, store_meaning};
+ghost use Rattle.console_reporter.specs.Stored.{record_of, stored, stored_at};
 ghost use Rattle.console_reporter.specs.Statistics.{IsStatsIndependent};
+ghost use Rattle.console_reporter.specs.Telling.{AreDelivered, AreSameWriters, Breaks, BreaksRun, Tells, TellsRun};
 ghost use Rattle.console_reporter.specs.Topics.{is_of_run};
-ghost use Rattle.console_reporter.specs.Standing.{StandsAfter, HasFailed, IsSameWriter, MayGrow, MayGrowAt, MayGrowIn, known_by};
+ghost use Rattle.console_reporter.specs.Standing.{StandsAfter, HasFailed, IsSameWriter, MayGrow, MayGrowAt, known_by};
 
 use super::builder::DisplayReporterBuilder;
 use super::decider::OutputLoadDecider;
@@ -31,6 +34,7 @@ use super::effect::{EndedTest, EventEffect, greater_reason};
 use super::faults::{RunFault, WriteEventError};
 use super::final_output::FinalOutputEntry;
 use super::kept::KeptEntries;
+use super::store::Store;
 use super::topics::{write_attempt, write_info, write_setup_script, write_start, write_stop};
 use event_text::instance::CountedInstance;
 use event_text::settings::Settings;
@@ -53,15 +57,19 @@ use run_text::start::write_run_started;
 use run_text::stress::{write_stress_sub_run_finished, write_stress_sub_run_started};
 use run_text::summary::write_run_finished;
 use std::alloc::Global;
+use store_text::config::StoreConfig;
 use unit_report::formatters::write_final_warnings;
 
-/// Reports events to a writer.
+/// Reports events to a writer, and writes a record of each finished test to a store, if it has one.
 ///
-/// After a call that answered `Io` or `Memory` the reporter has failed: every later call answers `Failed` and writes
+/// In each call the text is written and delivered, then the record, and then the store delivers what it holds.
+///
+/// After a call that answered `Io`, `StoreIo` or `Memory` the reporter has failed: every later call answers `Failed` and writes
 /// nothing.
 #[derive(Drop)]
-pub struct DisplayReporter<'a, W> {
+pub struct DisplayReporter<'a, W, S> {
     writer: &'a mut W,
+    store: Option<Store<'a, S>>,
     state: ReporterState<'a>,
 }
 
@@ -76,27 +84,45 @@ struct ReporterState<'a> {
     has_failed: bool,
 }
 
-impl<'a, W: WriteStr> DisplayReporter<'a, W> {
-    // A reporter that goes by these settings, and has made no call yet. It takes no memory.
+impl<'a, W: WriteStr, S: WriteStr> DisplayReporter<'a, W, S> {
+    // A reporter without a store that goes by these settings, and has made no call yet. It takes no memory.
     pub(super) fn new(
         alloc: Global,
         writer: &'a mut W,
         settings: Settings,
-    ) -> DisplayReporter<'a, W>
+    ) -> DisplayReporter<'a, W, S>
         ensures same_reference { result.writer.ghost_name ≡ writer.entry.ghost_name }
         ensures untouched { result.writer.now ≡ writer.old }
-        ensures stands { (config : Configuration) → settings ≡ settings_of config → StandsAfter config [] result }
+        ensures no_store { result.store ≡ None }
+        ensures stands { (config : Configuration) → settings ≡ settings_of config → config.store ≡ None → StandsAfter config [] result }
     {
         DisplayReporter {
             writer,
-            state: ReporterState {
-                alloc,
-                kept: KeptEntries::new(alloc),
-                unique_prefix: None,
-                cancel_status: None,
-                settings,
-                has_failed: false,
-            },
+            store: None,
+            state: ReporterState::new(alloc, settings),
+        }
+    }
+
+    // The same with a store.
+    pub(super) fn with_store(
+        alloc: Global,
+        writer: &'a mut W,
+        store_writer: &'a mut S,
+        store: StoreConfig,
+        settings: Settings,
+    ) -> DisplayReporter<'a, W, S>
+        ensures same_reference { result.writer.ghost_name ≡ writer.entry.ghost_name }
+        ensures untouched { result.writer.now ≡ writer.old }
+        ensures store { result.store ≡ Some (record { writer = store_writer.entry; config = store }) }
+        ensures stands { (config : Configuration) → settings ≡ settings_of config → config.store ≡ Some store → StandsAfter config [] result }
+    {
+        DisplayReporter {
+            writer,
+            store: Some(Store {
+                writer: store_writer,
+                config: store,
+            }),
+            state: ReporterState::new(alloc, settings),
         }
     }
 
@@ -108,7 +134,18 @@ impl<'a, W: WriteStr> DisplayReporter<'a, W> {
         ensures decider { (config : Configuration) (past : List ReportCall) → StandsAfter config past self.now → result ≡ decider_of config }
         ensures exactness { (config : Configuration) (past : List ReportCall) → StandsAfter config past self.now → IsExact config result }
     {
-        OutputLoadDecider::of_settings(&self.state.settings)
+        let store = self.store_config();
+        OutputLoadDecider::of_settings(&self.state.settings, store)
+    }
+
+    // What its store is asked to keep, if it has one.
+    fn store_config(&self) -> Option<StoreConfig>
+        ensures { result ≡ config_of self.now.store }
+    {
+        match &self.store {
+            Some(store) => Some(store.config),
+            None => None,
+        }
     }
 
     /// Writes the text of an event, and delivers it. An event that is refused changes nothing.
@@ -119,17 +156,11 @@ impl<'a, W: WriteStr> DisplayReporter<'a, W> {
     /// reporter.finish()?;
     /// ```
     pub fn write_event(&mut self, event: &TestEvent<'a>) -> Result<(), WriteEventError>
-        ensures same_writer { IsSameWriter self.old self.new }
-        ensures accepted { OnOk result ((config : Configuration) (past : List ReportCall) → StandsAfter config past self.old →
-            W.meaning.accepts self.old.writer.now (text config past (ReportCall.Event event.now)) self.new.writer.now) }
+        ensures same { AreSameWriters self.old self.new }
+        ensures ok { OnOk result (Tells W.meaning S.meaning self.old (Some (ReportCall.Event event.now)) self.new) }
+        ensures delivered { OnOk result (AreDelivered W.meaning S.meaning self.new) }
+        ensures err { IfErr result (λ e. Breaks W.meaning S.meaning self.old (Some (ReportCall.Event event.now)) e self.new) }
         ensures lines { (config : Configuration) (past : List ReportCall) → IsOfLines (text config past (ReportCall.Event event.now)) }
-        ensures stands { OnOk result ((config : Configuration) (past : List ReportCall) → StandsAfter config past self.old →
-            StandsAfter config (ReportCall.Event event.now ∷ past) self.new) }
-        ensures delivered { OnOk result (W.meaning.is_delivered self.new.writer.now) }
-        ensures err { IfErr result (λ e. (config : Configuration) (past : List ReportCall) → StandsAfter config past self.old →
-            Stops W.meaning self.old.writer.now (text config past (ReportCall.Event event.now)) e self.new.writer.now) }
-        ensures io { IsErrOf result WriteEventError.Io → W.meaning.failures self.new.writer.now ≡ one_further (W.meaning.failures self.old.writer.now) }
-        ensures memory { IsErrOf result WriteEventError.Memory → W.meaning.may_refuse self.old.writer.now ⊎ MayGrow self.old event.now }
         ensures refused { (config : Configuration) (past : List ReportCall) → StandsAfter config past self.old →
             answered_refusal result ≡ refusal config (ReportCall.Event event.now) }
         ensures untouched { is_some (answered_refusal result) ≡ true → self.new ≡ self.old }
@@ -139,11 +170,12 @@ impl<'a, W: WriteStr> DisplayReporter<'a, W> {
         if self.state.has_failed {
             return Err(WriteEventError::Failed);
         }
-        let decider = OutputLoadDecider::of_settings(&self.state.settings);
+        let store = self.store_config();
+        let decider = OutputLoadDecider::of_settings(&self.state.settings, store);
         if let Some(refusal) = decider.refusal_of(event) {
             return Err(refusal);
         }
-        match self.report_event(event) {
+        match self.report_and_store(event) {
             Ok(()) => Ok(()),
             Err(error) => {
                 self.state.has_failed = true;
@@ -152,10 +184,29 @@ impl<'a, W: WriteStr> DisplayReporter<'a, W> {
         }
     }
 
+    // Reports an event, and then writes its record and delivers that.
+    fn report_and_store(&mut self, event: &TestEvent<'a>) -> Result<(), WriteEventError>
+        requires { lacks_output (decider_by self.old.state.settings None) event.now.kind ≡ false }
+        ensures same { AreSameWriters self.old self.new }
+        ensures ok { OnOk result (Tells W.meaning S.meaning self.old (Some (ReportCall.Event event.now)) self.new) }
+        ensures delivered { OnOk result (AreDelivered W.meaning S.meaning self.new) }
+        ensures err { IfErr result (λ e. Breaks W.meaning S.meaning self.old (Some (ReportCall.Event event.now)) e self.new) }
+        ensures unrefused { IfErr result (λ e. refusal_in e ≡ None) }
+    {
+        if let Err(error) = self.report_event(event) {
+            return Err(error);
+        }
+        match self.deliver_record(event) {
+            Ok(()) => Ok(()),
+            Err(fault) => Err(store_error_of(fault)),
+        }
+    }
+
     // Writes and delivers the text of an event, and does what it does.
     fn report_event(&mut self, event: &TestEvent<'a>) -> Result<(), WriteEventError>
-        requires { lacks_output (decider_by self.old.state.settings) event.now.kind ≡ false }
+        requires { lacks_output (decider_by self.old.state.settings None) event.now.kind ≡ false }
         ensures same_writer { IsSameWriter self.old self.new }
+        ensures store { self.new.store ≡ self.old.store }
         ensures accepted { OnOk result ((config : Configuration) (past : List ReportCall) → StandsAfter config past self.old →
             W.meaning.accepts self.old.writer.now (text config past (ReportCall.Event event.now)) self.new.writer.now) }
         ensures stands { OnOk result ((config : Configuration) (past : List ReportCall) → StandsAfter config past self.old →
@@ -165,6 +216,7 @@ impl<'a, W: WriteStr> DisplayReporter<'a, W> {
             Stops W.meaning self.old.writer.now (text config past (ReportCall.Event event.now)) e self.new.writer.now) }
         ensures io { IsErrOf result WriteEventError.Io → W.meaning.failures self.new.writer.now ≡ one_further (W.meaning.failures self.old.writer.now) }
         ensures memory { IsErrOf result WriteEventError.Memory → W.meaning.may_refuse self.old.writer.now ⊎ MayGrow self.old event.now }
+        ensures of_console { IfErr result IsOfConsole }
         ensures unrefused { IfErr result (λ e. refusal_in e ≡ None) }
     {
         let effect = EventEffect::of_event(&self.state.settings, self.state.cancel_status, event);
@@ -177,20 +229,42 @@ impl<'a, W: WriteStr> DisplayReporter<'a, W> {
         }
     }
 
+    // Writes the record of an event to the store, if there is one, and delivers it.
+    fn deliver_record(&mut self, event: &TestEvent<'_>) -> Result<(), WriteFault>
+        ensures same { AreSameWriters self.old self.new }
+        ensures writer { self.new.writer.now ≡ self.old.writer.now }
+        ensures state { self.new.state ≡ self.old.state }
+        ensures text { Puts (store_meaning S.meaning) self.old.store (record_of (config_of self.old.store) event.now.kind) result self.new.store }
+        ensures delivered { OnOk result (store_delivered S.meaning self.new.store) }
+    {
+        match &mut self.store {
+            Some(store) => store.deliver_record(event),
+            None => Ok(()),
+        }
+    }
+
+    // Delivers what the store holds, if there is one.
+    fn flush_store(&mut self) -> Result<(), WriteFault>
+        ensures same { AreSameWriters self.old self.new }
+        ensures writer { self.new.writer.now ≡ self.old.writer.now }
+        ensures state { self.new.state ≡ self.old.state }
+        ensures text { Puts (store_meaning S.meaning) self.old.store [] result self.new.store }
+        ensures delivered { OnOk result (store_delivered S.meaning self.new.store) }
+    {
+        match &mut self.store {
+            Some(store) => store.writer.write_str_flush(),
+            None => Ok(()),
+        }
+    }
+
     /// Writes what a replay says before it: which recorded run it shows, when that started and how it ended; and delivers it.
     /// The run's id is shown by the header's own prefix.
     pub fn write_replay_header(&mut self, header: &ReplayHeader) -> Result<(), WriteEventError>
-        ensures same_writer { IsSameWriter self.old self.new }
-        ensures accepted { OnOk result ((config : Configuration) (past : List ReportCall) → StandsAfter config past self.old →
-            W.meaning.accepts self.old.writer.now (text config past (ReportCall.Header header.now)) self.new.writer.now) }
+        ensures same { AreSameWriters self.old self.new }
+        ensures ok { OnOk result (Tells W.meaning S.meaning self.old (Some (ReportCall.Header header.now)) self.new) }
+        ensures delivered { OnOk result (AreDelivered W.meaning S.meaning self.new) }
+        ensures err { IfErr result (λ e. Breaks W.meaning S.meaning self.old (Some (ReportCall.Header header.now)) e self.new) }
         ensures lines { (config : Configuration) (past : List ReportCall) → IsOfLines (text config past (ReportCall.Header header.now)) }
-        ensures stands { OnOk result ((config : Configuration) (past : List ReportCall) → StandsAfter config past self.old →
-            StandsAfter config (ReportCall.Header header.now ∷ past) self.new) }
-        ensures delivered { OnOk result (W.meaning.is_delivered self.new.writer.now) }
-        ensures err { IfErr result (λ e. (config : Configuration) (past : List ReportCall) → StandsAfter config past self.old →
-            Stops W.meaning self.old.writer.now (text config past (ReportCall.Header header.now)) e self.new.writer.now) }
-        ensures io { IsErrOf result WriteEventError.Io → W.meaning.failures self.new.writer.now ≡ one_further (W.meaning.failures self.old.writer.now) }
-        ensures memory { IsErrOf result WriteEventError.Memory → W.meaning.may_refuse self.old.writer.now }
         ensures unrefused { IfErr result (λ e. refusal_in e ≡ None) }
         ensures fails { OnErr result (HasFailed self.new) }
         ensures failed { HasFailed self.old → (result ≡ Err WriteEventError.Failed) × (self.new ≡ self.old) }
@@ -198,21 +272,24 @@ impl<'a, W: WriteStr> DisplayReporter<'a, W> {
         if self.state.has_failed {
             return Err(WriteEventError::Failed);
         }
-        match deliver_header(self.writer, &self.state.settings, header) {
+        if let Err(fault) = deliver_header(self.writer, &self.state.settings, header) {
+            self.state.has_failed = true;
+            return Err(error_of(fault));
+        }
+        match self.flush_store() {
             Ok(()) => Ok(()),
             Err(fault) => {
                 self.state.has_failed = true;
-                Err(error_of(fault))
+                Err(store_error_of(fault))
             }
         }
     }
 
     /// Takes the unique prefix of the run's id, which later starts of a run show. It takes no memory and writes nothing.
     pub fn set_run_id_unique_prefix(&mut self, prefix: ShortestRunIdPrefix)
-        ensures same_writer { IsSameWriter self.old self.new }
-        ensures untouched { self.new.writer.now ≡ self.old.writer.now }
-        ensures stands { (config : Configuration) (past : List ReportCall) → StandsAfter config past self.old →
-            StandsAfter config (ReportCall.Prefix prefix ∷ past) self.new }
+        ensures same { AreSameWriters self.old self.new }
+        ensures ok { Tells W.meaning S.meaning self.old (Some (ReportCall.Prefix prefix)) self.new }
+        ensures untouched { (self.new.writer.now ≡ self.old.writer.now) × (self.new.store ≡ self.old.store) }
         ensures failed { self.new.state.has_failed ≡ self.old.state.has_failed }
     {
         self.state.unique_prefix = Some(prefix);
@@ -220,14 +297,10 @@ impl<'a, W: WriteStr> DisplayReporter<'a, W> {
 
     /// Ends the report: all that was written is delivered, and no text is added.
     pub fn finish(&mut self) -> Result<(), WriteEventError>
-        ensures same_writer { IsSameWriter self.old self.new }
-        ensures ok { OnOk result (W.meaning.accepts self.old.writer.now [] self.new.writer.now) }
-        ensures stands { OnOk result ((config : Configuration) (past : List ReportCall) → StandsAfter config past self.old → StandsAfter config past self.new) }
-        ensures delivered { OnOk result (W.meaning.is_delivered self.new.writer.now) }
-        ensures err { IfErr result (λ e. (config : Configuration) (past : List ReportCall) → StandsAfter config past self.old →
-            Stops W.meaning self.old.writer.now [] e self.new.writer.now) }
-        ensures io { IsErrOf result WriteEventError.Io → W.meaning.failures self.new.writer.now ≡ one_further (W.meaning.failures self.old.writer.now) }
-        ensures memory { IsErrOf result WriteEventError.Memory → W.meaning.may_refuse self.old.writer.now }
+        ensures same { AreSameWriters self.old self.new }
+        ensures ok { OnOk result (Tells W.meaning S.meaning self.old None self.new) }
+        ensures delivered { OnOk result (AreDelivered W.meaning S.meaning self.new) }
+        ensures err { IfErr result (λ e. Breaks W.meaning S.meaning self.old None e self.new) }
         ensures unrefused { IfErr result (λ e. refusal_in e ≡ None) }
         ensures fails { OnErr result (HasFailed self.new) }
         ensures failed { HasFailed self.old → (result ≡ Err WriteEventError.Failed) × (self.new ≡ self.old) }
@@ -235,29 +308,30 @@ impl<'a, W: WriteStr> DisplayReporter<'a, W> {
         if self.state.has_failed {
             return Err(WriteEventError::Failed);
         }
-        match self.writer.write_str_flush() {
+        if let Err(fault) = self.writer.write_str_flush() {
+            self.state.has_failed = true;
+            return Err(error_of(fault));
+        }
+        match self.flush_store() {
             Ok(()) => Ok(()),
             Err(fault) => {
                 self.state.has_failed = true;
-                Err(error_of(fault))
+                Err(store_error_of(fault))
             }
         }
     }
 
     // Makes the calls, and stops at the first fault.
     fn make_calls(&mut self, alloc: Global, calls: &[ReportCall<'a>]) -> Result<(), RunFault>
-        ensures same_writer { IsSameWriter self.old self.new }
-        ensures ok { OnOk result ((config : Configuration) → StandsAfter config [] self.old →
-            W.meaning.accepts self.old.writer.now (report config (reverse calls.now)) self.new.writer.now) }
-        ensures delivered { OnOk result (W.meaning.is_delivered self.new.writer.now) }
+        ensures same { AreSameWriters self.old self.new }
+        ensures ok { OnOk result (TellsRun W.meaning S.meaning self.old (reverse calls.now) self.new) }
+        ensures delivered { OnOk result (AreDelivered W.meaning S.meaning self.new) }
+        ensures err { IfErr result (λ stop. BreaksRun W.meaning S.meaning self.old calls.now stop.position stop.fault self.new) }
         ensures accepted { OnOk result ((config : Configuration) → StandsAfter config [] self.old → AreAccepted config calls.now) }
-        ensures position { IfErr result (λ stop. stop.position ≤ length calls.now) }
         ensures accepted_before { IfErr result (λ stop. (config : Configuration) → StandsAfter config [] self.old → AreAccepted config (take stop.position calls.now)) }
         ensures refused { IfErr result (λ stop. (config : Configuration) → StandsAfter config [] self.old → refusal_at config calls.now stop.position ≡ refusal_in stop.fault) }
-        ensures err { IfErr result (λ stop. (config : Configuration) → StandsAfter config [] self.old →
-            StopsAfter W.meaning self.old.writer.now (report config (past_at calls.now stop.position)) (text_at config calls.now stop.position) stop.fault self.new.writer.now) }
         ensures memory { IfErr result (λ stop. (config : Configuration) → StandsAfter config [] self.old → stop.fault ≡ WriteEventError.Memory →
-            W.meaning.may_refuse self.old.writer.now ⊎ MayGrowAt config calls.now stop.position) }
+            W.meaning.may_refuse self.old.writer.now ⊎ MayGrowAt config calls.now stop.position ⊎ store_may_refuse S.meaning self.old.store) }
     {
         for position in 0..calls.len() {
             match self.make_call(alloc, &calls[position]) {
@@ -276,15 +350,10 @@ impl<'a, W: WriteStr> DisplayReporter<'a, W> {
 
     // Makes one call. A prefix is copied.
     fn make_call(&mut self, alloc: Global, call: &ReportCall<'a>) -> Result<(), WriteEventError>
-        ensures same_writer { IsSameWriter self.old self.new }
-        ensures accepted { OnOk result ((config : Configuration) (past : List ReportCall) → StandsAfter config past self.old →
-            W.meaning.accepts self.old.writer.now (text config past call.now) self.new.writer.now) }
-        ensures stands { OnOk result ((config : Configuration) (past : List ReportCall) → StandsAfter config past self.old →
-            StandsAfter config (call.now ∷ past) self.new) }
-        ensures err { IfErr result (λ e. (config : Configuration) (past : List ReportCall) → StandsAfter config past self.old →
-            Stops W.meaning self.old.writer.now (text config past call.now) e self.new.writer.now) }
+        ensures same { AreSameWriters self.old self.new }
+        ensures ok { OnOk result (Tells W.meaning S.meaning self.old (Some call.now) self.new) }
+        ensures err { IfErr result (λ e. Breaks W.meaning S.meaning self.old (Some call.now) e self.new) }
         ensures refused { (config : Configuration) (past : List ReportCall) → StandsAfter config past self.old → answered_refusal result ≡ refusal config call.now }
-        ensures memory { IsErrOf result WriteEventError.Memory → W.meaning.may_refuse self.old.writer.now ⊎ MayGrowIn self.old call.now }
     {
         match call {
             ReportCall::Event(event) => self.write_event(event),
@@ -301,6 +370,24 @@ impl<'a, W: WriteStr> DisplayReporter<'a, W> {
 }
 
 impl<'a> ReporterState<'a> {
+    // What a reporter that goes by these settings knows before its first call.
+    fn new(alloc: Global, settings: Settings) -> ReporterState<'a>
+        ensures settings { result.settings ≡ settings }
+        ensures prefix { result.unique_prefix ≡ None }
+        ensures reason { result.cancel_status ≡ None }
+        ensures kept { result.kept ≡ final_order [] }
+        ensures works { result.has_failed ≡ false }
+    {
+        ReporterState {
+            alloc,
+            kept: KeptEntries::new(alloc),
+            unique_prefix: None,
+            cancel_status: None,
+            settings,
+            has_failed: false,
+        }
+    }
+
     // Does what an event does: it may cancel the run, and finish a test.
     fn apply(&mut self, effect: &EventEffect<'_, 'a>) -> Result<(), OutOfMemory>
         requires { HasEndOutputIn (option_map end_of effect.now.ended) }
@@ -380,10 +467,22 @@ impl<'a> ReporterState<'a> {
 // What a fault of the writer is to the caller of a reporter.
 fn error_of(fault: WriteFault) -> WriteEventError
     ensures error { result ≡ error_for fault }
+    ensures of_console { IsOfConsole result }
     ensures unrefused { refusal_in result ≡ None }
 {
     match fault {
         WriteFault::Device => WriteEventError::Io,
+        WriteFault::Memory => WriteEventError::Memory,
+    }
+}
+
+// What a fault of the store is to the caller of a reporter.
+fn store_error_of(fault: WriteFault) -> WriteEventError
+    ensures error { result ≡ store_error_for fault }
+    ensures unrefused { refusal_in result ≡ None }
+{
+    match fault {
+        WriteFault::Device => WriteEventError::StoreIo,
         WriteFault::Memory => WriteEventError::Memory,
     }
 }
@@ -410,7 +509,7 @@ fn write_delivered<W: WriteStr>(
 ) -> Result<(), WriteFault>
     requires ended { option_map end_of effect.now.ended ≡ (effect_of event.now.kind).ended state.now.settings (reason_rank state.now.cancel_status) }
     requires loaded { HasEndOutputIn (option_map end_of effect.now.ended) }
-    requires accepted { lacks_output (decider_by state.now.settings) event.now.kind ≡ false }
+    requires accepted { lacks_output (decider_by state.now.settings None) event.now.kind ≡ false }
     ensures text { Puts W.meaning w.old (event_text state.now.settings (known_by state.now) event.now.elapsed.0 event.now.kind) result w.new }
     ensures delivered { OnOk result (W.meaning.is_delivered w.new) }
 {
@@ -428,7 +527,7 @@ fn write_event_text<W: WriteStr>(
 ) -> Result<(), WriteFault>
     requires ended { option_map end_of effect.now.ended ≡ (effect_of event.now.kind).ended state.now.settings (reason_rank state.now.cancel_status) }
     requires loaded { HasEndOutputIn (option_map end_of effect.now.ended) }
-    requires accepted { lacks_output (decider_by state.now.settings) event.now.kind ≡ false }
+    requires accepted { lacks_output (decider_by state.now.settings None) event.now.kind ≡ false }
     ensures { Puts W.meaning w.old (event_text state.now.settings (known_by state.now) event.now.elapsed.0 event.now.kind) result w.new }
 {
     let (settings, kind) = (&state.settings, &event.kind);
@@ -595,6 +694,7 @@ pub fn run_report<'a, W: WriteStr>(
     ensures memory { let config = configured builder use_unicode is_terminal is_ci display_empty_outputs in
         IfErr result (λ stop. stop.fault ≡ WriteEventError.Memory → W.meaning.may_refuse writer.old ⊎ MayGrowAt config calls.now stop.position) }
     ensures known { IfErr result (λ stop. stop.fault ≡ WriteEventError.Failed → ⊥) }
+    ensures no_store { IfErr result (λ stop. stop.fault ≡ WriteEventError.StoreIo → ⊥) }
     ensures colour { ColourLaw (configured builder use_unicode is_terminal is_ci display_empty_outputs) calls.now }
     ensures plain { PlainLaw (configured builder use_unicode is_terminal is_ci display_empty_outputs) calls.now }
     ensures order { let config = configured builder use_unicode is_terminal is_ci display_empty_outputs in
@@ -611,8 +711,95 @@ pub fn run_report<'a, W: WriteStr>(
         display_empty_outputs,
     );
     let outcome = reporter.make_calls(alloc, &*calls);
-    let DisplayReporter { writer, state } = reporter;
+    let DisplayReporter {
+        writer,
+        store,
+        state,
+    } = reporter;
     drop(state);
+    drop(store);
     let _writer = writer;
     outcome
+}
+
+/// Makes the calls in order on a reporter of its own with a store, ends the report, and stops at the first fault.
+///
+/// Of the report it says what [`run_report`] does. On `Ok` the second writer has accepted the records of the calls and delivered
+/// them; on a fault at a place those of the calls before that place, and a beginning of the record of the call there.
+pub fn run_report_with_store<'a, W: WriteStr, S: WriteStr>(
+    alloc: Global,
+    builder: DisplayReporterBuilder,
+    writer: &mut W,
+    store_writer: &mut S,
+    store: StoreConfig,
+    use_unicode: bool,
+    is_terminal: bool,
+    is_ci: bool,
+    display_empty_outputs: bool,
+    calls: &'a [ReportCall<'a>],
+) -> Result<(), RunFault>
+    ensures ok { let config = configured_with_store store builder use_unicode is_terminal is_ci display_empty_outputs in
+        OnOk result (W.meaning.accepts writer.old (report config (reverse calls.now)) writer.new) }
+    ensures stored { OnOk result (S.meaning.accepts store_writer.old (stored (Some store) (reverse calls.now)) store_writer.new) }
+    ensures delivered { OnOk result (W.meaning.is_delivered writer.new) }
+    ensures store_delivered { OnOk result (S.meaning.is_delivered store_writer.new) }
+    ensures accepted { let config = configured_with_store store builder use_unicode is_terminal is_ci display_empty_outputs in
+        OnOk result (AreAccepted config calls.now) }
+    ensures position { IfErr result (λ stop. stop.position ≤ length calls.now) }
+    ensures accepted_before { let config = configured_with_store store builder use_unicode is_terminal is_ci display_empty_outputs in
+        IfErr result (λ stop. AreAccepted config (take stop.position calls.now)) }
+    ensures refused { let config = configured_with_store store builder use_unicode is_terminal is_ci display_empty_outputs in
+        IfErr result (λ stop. refusal_at config calls.now stop.position ≡ refusal_in stop.fault) }
+    ensures err { let config = configured_with_store store builder use_unicode is_terminal is_ci display_empty_outputs in
+        IfErr result (λ stop. StopsAfter W.meaning writer.old (report config (past_at calls.now stop.position)) (text_at config calls.now stop.position) stop.fault writer.new) }
+    ensures store_err { IfErr result (λ stop. StopsRecordAfter S.meaning store_writer.old (stored (Some store) (past_at calls.now stop.position)) (stored_at (Some store) calls.now stop.position) stop.fault store_writer.new) }
+    ensures no_failure { OnOk result (W.meaning.failures writer.new ≡ W.meaning.failures writer.old) }
+    ensures io { IfErr result (λ stop. stop.fault ≡ WriteEventError.Io → W.meaning.failures writer.new ≡ one_further (W.meaning.failures writer.old)) }
+    ensures store_io { IfErr result (λ stop. stop.fault ≡ WriteEventError.StoreIo → S.meaning.failures store_writer.new ≡ one_further (S.meaning.failures store_writer.old)) }
+    ensures known { IfErr result (λ stop. stop.fault ≡ WriteEventError.Failed → ⊥) }
+    ensures colour { ColourLaw (configured_with_store store builder use_unicode is_terminal is_ci display_empty_outputs) calls.now }
+    ensures plain { PlainLaw (configured_with_store store builder use_unicode is_terminal is_ci display_empty_outputs) calls.now }
+    ensures order { let config = configured_with_store store builder use_unicode is_terminal is_ci display_empty_outputs in
+        IsOrderIndependent config calls.now }
+    ensures statistics { let config = configured_with_store store builder use_unicode is_terminal is_ci display_empty_outputs in
+        IsStatsIndependent config calls.now }
+{
+    let mut reporter = builder.build_with_store(
+        alloc,
+        writer,
+        store_writer,
+        store,
+        use_unicode,
+        is_terminal,
+        is_ci,
+        display_empty_outputs,
+    );
+    let outcome = reporter.make_calls(alloc, &*calls);
+    let DisplayReporter {
+        writer,
+        store,
+        state,
+    } = reporter;
+    drop(state);
+    match store {
+        Some(store) => {
+            let Store {
+                writer: store_writer,
+                config,
+            } = store;
+            let _config = config;
+            give_back(writer, store_writer);
+            outcome
+        }
+        None => outcome,
+    }
+}
+
+// Both writers end as they are.
+fn give_back<W, S>(writer: &mut W, store_writer: &mut S)
+    ensures writer { writer.new ≡ writer.old }
+    ensures store_writer { store_writer.new ≡ store_writer.old }
+{
+    let _store_writer = store_writer;
+    let _writer = writer;
 }

@@ -1,6 +1,6 @@
 //! The texts of events by their topics. An event's own text stands in the crates `event_text`, `run_text` and `info_text`.
 
-ghost use Rattle.std.specs.Prelude.{◌≡◌, ℕ, false, true};
+ghost use Rattle.std.specs.Prelude.{◌≡◌, ℕ, None, false, true};
 ghost use Rattle.report_text.specs.Writer.{Puts};
 ghost use Rattle.event_text.specs.Scripts.{script_of};
 ghost use Rattle.console_reporter.specs.Accepted.{decider_by};
@@ -76,7 +76,7 @@ pub fn write_attempt<W: WriteStr>(
     kind: &TestEventKind<'_>,
 ) -> Result<(), WriteFault>
     requires topic { is_of_attempt kind.now ≡ true }
-    requires accepted { lacks_output (decider_by settings.now) kind.now ≡ false }
+    requires accepted { lacks_output (decider_by settings.now None) kind.now ≡ false }
     ensures { (known : Known) (elapsed : ℕ) → Puts W.meaning w.old (event_text settings.now known elapsed kind.now) result w.new }
 {
     match kind {
@@ -149,7 +149,7 @@ pub fn write_info<W: WriteStr>(
     kind: &TestEventKind<'_>,
 ) -> Result<(), WriteFault>
     requires topic { is_of_info kind.now ≡ true }
-    requires accepted { lacks_output (decider_by settings.now) kind.now ≡ false }
+    requires accepted { lacks_output (decider_by settings.now None) kind.now ≡ false }
     ensures { (known : Known) → Puts W.meaning w.old (event_text settings.now known elapsed.0 kind.now) result w.new }
 {
     match kind {
@@ -174,7 +174,7 @@ pub fn write_setup_script<W: WriteStr>(
     kind: &TestEventKind<'_>,
 ) -> Result<(), WriteFault>
     requires topic { is_of_setup_script kind.now ≡ true }
-    requires accepted { lacks_output (decider_by settings.now) kind.now ≡ false }
+    requires accepted { lacks_output (decider_by settings.now None) kind.now ≡ false }
     ensures { (known : Known) (elapsed : ℕ) → Puts W.meaning w.old (event_text settings.now known elapsed kind.now) result w.new }
 {
     match kind {

@@ -19,6 +19,8 @@ module _ (n : ℕ) (before : Told) (lines : List (List ℕ)) (all : Result Told 
   ends (fault.CannotRead file) h = h
   ends (fault.Line m f) h = sym (rw (cut, h.1) at so_far) ∙ ap (λ k. Err (k, f)) (sym h.0)
   ends fault.WriteFailed h = h
+  ends fault.StoreFailed h = h
+  ends (fault.CannotWrite file) h = h
   ends fault.OutOfMemory h = tt
 
 -- the lines of events that were noted and those of the lines that are left

@@ -1,47 +1,100 @@
--- What a device holds of a report that stopped (for `write_and_return`).
-use Rattle.std.proofs.Common.{◌≡◌, ℕ, List, [], Option, Some, ◌⊎◌, sym, ap, ◌∙◌, inl, inr}
-use Rattle.std.specs.Prelude.{Result, Ok, Err, IfErr, OnErr}
+-- What a device holds of a report that stopped (for `report_alone`, `report_both`, `report_judged`).
+use Rattle.std.proofs.Common.{◌≡◌, ℕ, List, [], ◌∷◌, ◌++◌, Option, None, Some, ◌⊎◌, Result, Ok, Err, IfErr, refl, sym, ap, subst, ◌∙◌, append-nil, inl, inr}
+use Rattle.std.specs.Prelude.{⊤}
 use Rattle.std.specs.Option.{option_map_or}
 use Rattle.report_text.specs.Buffer.{buffer_meaning, GrowsWithin}
+use Rattle.report_text.specs.Writer.{Meaning}
 use Rattle.report_text.specs.declared.write_str.text_buffer.TextBuffer.{TextBuffer}
 use Rattle.report_text.proofs.lemmas.Deliveries.{accepted_delivers, begins_of, stopped_begins}
 use Rattle.console_reporter.specs.Outcomes.{HasFront}
-use Rattle.console_reporter.specs.declared.imp.faults.WriteEventError.{WriteEventError}
-use Rattle.console_reporter.specs.declared.imp.faults.WriteEventError.TheVariants.{RetriedSuccess, OutputNotLoaded, Io, Memory, Failed}
-use Rattle.scenes.specs.Reports.{BeginsReport, Ends, IsRefused, PrintsBeginning, StopsReport}
+use Rattle.console_reporter.specs.Stored.{stored}
+use Rattle.run_model.specs.declared.call.ReportCall.{ReportCall}
+use Rattle.run_model.specs.declared.call.ReportCall.TheVariants.{Event, Header, Prefix}
+use Rattle.store_text.specs.declared.config.StoreConfig.{StoreConfig}
+use Rattle.scenes.specs.Reports.{Begins, IsStop, StopsStore, StopsText, store_for}
 use Rattle.scene_text.specs.declared.fault.Fault.{Fault}
-use Rattle.scenes.specs.declared.scene.Scene.{Scene}
+use Rattle.scene_text.specs.declared.fault.Fault.TheVariants.{Usage, CannotRead, CannotWrite, Line, WriteFailed, StoreFailed, OutOfMemory}
 use Rattle.scenes.specs.declared.words.Options.{Options}
 
-module _ {W : Type 0} (contents : W → Option (List ℕ)) (a b : TextBuffer W) (old new : List ℕ) (before : contents a.writer ≡ Some old) (after : contents b.writer ≡ Some new) (none : a.pending.items ≡ []) where
+module _ {W : Type 0} (contents : W → Option (List ℕ)) (a b : TextBuffer W) (none : a.pending.items ≡ []) (text : List ℕ) where
   -- a beginning of the text was accepted, and of that the device took a beginning
-  front_begins : (text : List ℕ) → HasFront (buffer_meaning contents) a text b → GrowsWithin old new text
-  front_begins text h =
+  front_begins : HasFront (buffer_meaning contents) a text b → Begins (contents a.writer) (contents b.writer) text
+  front_begins h = λ old new before after.
       begins_of old a.pending.items new b.pending.items text none
       (record { front = h.front; rest = h.rest; whole = h.whole; delivers = accepted_delivers contents a b old new h.front before after h.accepted })
 
-  stopped_grows : (text : List ℕ) (error : WriteEventError) → Ends (buffer_meaning contents) a text error b → GrowsWithin old new text
-  stopped_grows text RetriedSuccess h = front_begins text h
-  stopped_grows text OutputNotLoaded h = front_begins text h
-  stopped_grows text Io h = stopped_begins contents a b old new text before after _ none h
-  stopped_grows text Memory (inl h) = stopped_begins contents a b old new text before after _ none h
-  stopped_grows text Memory (inr h) = front_begins text h
-  stopped_grows text Failed h = absurd h
+  -- a fault that stopped the text left a beginning of it
+  pub text_begins : (fault : Fault) → StopsText (buffer_meaning contents) a text fault b → Begins (contents a.writer) (contents b.writer) text
+  text_begins Usage h = absurd h
+  text_begins (CannotRead file) h = absurd h
+  text_begins (CannotWrite file) h = absurd h
+  text_begins (Line n f) h = absurd h
+  text_begins WriteFailed h = λ old new before after. stopped_begins contents a b old new text before after _ none h
+  text_begins StoreFailed h = front_begins h
+  text_begins OutOfMemory (inl h) = λ old new before after. stopped_begins contents a b old new text before after _ none h
+  text_begins OutOfMemory (inr h) = front_begins h
 
-  stopped_report_begins : (options : Options) (scene : Scene) (fault : Fault) → StopsReport (buffer_meaning contents) options scene a fault b → BeginsReport options scene old new
-  stopped_report_begins options scene fault h = record {
-    calls = h.calls;
-    of_scene = h.of_scene;
-    begun = stopped_grows _ h.error h.stopped;
-  }
+  pub store_begins : (fault : Fault) → StopsStore (buffer_meaning contents) a text fault b → Begins (contents a.writer) (contents b.writer) text
+  store_begins Usage h = absurd h
+  store_begins (CannotRead file) h = absurd h
+  store_begins (CannotWrite file) h = absurd h
+  store_begins (Line n f) h = absurd h
+  store_begins WriteFailed h = front_begins h
+  store_begins StoreFailed h = λ old new before after. stopped_begins contents a b old new text before after _ none h
+  store_begins OutOfMemory (inl h) = λ old new before after. stopped_begins contents a b old new text before after _ none h
+  store_begins OutOfMemory (inr h) = front_begins h
 
--- what a fault leaves on the device, where nothing was pending before
-pub after_a_fault : {W : Type 0} (contents : W → Option (List ℕ)) (options : Options) (scene : Scene) (outcome : Result (Unit {0}) Fault) (a b : TextBuffer W) → a.pending.items ≡ []
-    → IfErr outcome (λ fault. IsRefused a fault b ⊎ StopsReport (buffer_meaning contents) options scene a fault b)
-    → OnErr outcome (PrintsBeginning options scene (contents a.writer) (contents b.writer))
-after_a_fault contents options scene (Ok done) a b none h = tt
-after_a_fault {W = W} contents options scene (Err fault) a b none (inl refused) = λ old new before after.
-    let same : Some new ≡ Some old = sym after ∙ ap (λ (x : TextBuffer W). contents x.writer) refused.untouched ∙ before in
-    inl (ap (λ (o : Option (List ℕ)). option_map_or (λ t. t) o []) same)
-after_a_fault contents options scene (Err fault) a b none (inr h) = λ old new before after.
-    inr (stopped_report_begins contents a b old new before after none options scene fault h)
+-- a device that stayed as it was holds the empty beginning
+pub untouched_begins : (before after : Option (List ℕ)) (text : List ℕ) → after ≡ before → Begins before after text
+untouched_begins before after text same = λ old new is_old is_new.
+    let so : Some new ≡ Some old = sym is_new ∙ same ∙ is_old in
+    record {
+      front = [];
+      rest = text;
+      whole = refl;
+      grown = ap (λ (o : Option (List ℕ)). option_map_or (λ t. t) o []) so ∙ sym (append-nil old);
+    }
+
+-- a report without a store stops by its writer or for want of memory, and with one by the store too
+pub stop_alone : {S : Type 0} (m : Meaning S) (options : Options) (a b : S) (text : List ℕ) (fault : Fault) → StopsText m a text fault b → (fault ≡ StoreFailed → ⊥) → IsStop options fault
+stop_alone m options a b text Usage h known = absurd h
+stop_alone m options a b text (CannotRead file) h known = absurd h
+stop_alone m options a b text (CannotWrite file) h known = absurd h
+stop_alone m options a b text (Line n f) h known = absurd h
+stop_alone m options a b text WriteFailed h known = tt
+stop_alone m options a b text StoreFailed h known = absurd (known refl)
+stop_alone m options a b text OutOfMemory h known = tt
+
+pub stop_both : {S : Type 0} (m : Meaning S) (options : Options) (store : StoreConfig) → store_for options ≡ Some store → (a b : S) (text : List ℕ) (fault : Fault) → StopsText m a text fault b → IsStop options fault
+stop_both m options store has a b text Usage h = absurd h
+stop_both m options store has a b text (CannotRead file) h = absurd h
+stop_both m options store has a b text (CannotWrite file) h = absurd h
+stop_both m options store has a b text (Line n f) h = absurd h
+stop_both m options store has a b text WriteFailed h = tt
+stop_both m options store has a b text StoreFailed h = rw has refl
+stop_both m options store has a b text OutOfMemory h = tt
+
+-- nothing is stored without a store
+no_record : (past : List ReportCall) → stored None past ≡ []
+no_record [] = refl
+no_record (Event e ∷ past) = append-nil _ ∙ no_record past
+no_record (Header h ∷ past) = append-nil _ ∙ no_record past
+no_record (Prefix p ∷ past) = append-nil _ ∙ no_record past
+
+pub nothing_stored : (store : Option StoreConfig) (past : List ReportCall) → store ≡ None → stored store past ≡ []
+nothing_stored store past none = rw none (no_record past)
+
+-- what a fault leaves on the devices, where nothing was pending before
+pub alone_left : {W : Type 0} (contents : W → Option (List ℕ)) (options : Options) (outcome : Result (Unit {0}) Fault) (a b : TextBuffer W) (text : List ℕ) → a.pending.items ≡ []
+    → IfErr outcome (λ fault. StopsText (buffer_meaning contents) a text fault b) → IfErr outcome (λ fault. fault ≡ StoreFailed → ⊥)
+    → IfErr outcome (λ fault. IsStop options fault × Begins (contents a.writer) (contents b.writer) text)
+alone_left contents options (Ok done) a b text none h known = tt
+alone_left contents options (Err fault) a b text none h known = (stop_alone (buffer_meaning contents) options a b text fault h known, text_begins contents a b none text fault h)
+
+pub both_left : {W S : Type 0} (contents : W → Option (List ℕ)) (store_contents : S → Option (List ℕ)) (options : Options) (store : StoreConfig) → store_for options ≡ Some store → (outcome : Result (Unit {0}) Fault)
+    (a b : TextBuffer W) (text : List ℕ) (c d : TextBuffer S) (records : List ℕ) → a.pending.items ≡ [] → c.pending.items ≡ []
+    → IfErr outcome (λ fault. StopsText (buffer_meaning contents) a text fault b) → IfErr outcome (λ fault. StopsStore (buffer_meaning store_contents) c records fault d)
+    → IfErr outcome (λ fault. IsStop options fault × Begins (contents a.writer) (contents b.writer) text × Begins (store_contents c.writer) (store_contents d.writer) records)
+both_left contents store_contents options store has (Ok done) a b text c d records none also h k = tt
+both_left contents store_contents options store has (Err fault) a b text c d records none also h k =
+    (stop_both (buffer_meaning contents) options store has a b text fault h, text_begins contents a b none text fault h, store_begins store_contents c d also records fault k)

@@ -1,14 +1,18 @@
 -- What the line of the first refused call says (for `judge_calls`).
-use Rattle.std.proofs.Common.{◌≡◌, ℕ, ◌<◌, List, true, length, get_or, refl, sym, ap, ◌∙◌, None, Some, inl, inr}
+use Rattle.std.proofs.Common.{◌≡◌, ℕ, ◌<◌, ◌≤◌, List, [], ◌∷◌, Bool, Option, true, false, length, arith, get_or, refl, sym, ap, ◌∙◌, None, Some, inl, inr}
 use Rattle.std.specs.Option.{is_some, option_and_then}
-use Rattle.std.proofs.lemmas.Bool.{cases_Bool, false≢true}
+use Rattle.std.specs.List.{position, position_or_len}
+use Rattle.std.proofs.lemmas.Bool.{cases_Bool, cases_lt, false≢true}
+use Rattle.std.proofs.lemmas.Grind.{common_steps}
+use Rattle.std.proofs.lemmas.List.Sums.{fails_before_first}
 use Rattle.std.proofs.lemmas.List.{get_or-map}
 use Rattle.std.proofs.lemmas.List.Quantifiers.{position-Some}
-use Rattle.std.proofs.lemmas.Option.{slice_get-get_or}
+use Rattle.std.proofs.lemmas.Option.{slice_get-get_or, slice_get_past}
 use Rattle.run_model.specs.Unloaded.{unloaded_kind}
 use Rattle.run_model.specs.declared.event.TestEventKind.{TestEventKind}
 use Rattle.run_model.specs.declared.event.TestEventKind.TheVariants.{RunStarted, StressSubRunStarted, SetupScriptStarted, SetupScriptSlow, SetupScriptFinished, TestStarted, TestSlow, TestAttemptFailedWillRetry, TestRetryStarted, TestFinished, TestSkipped, RunBeginCancel, RunBeginKill, RunPaused, RunContinued, InfoStarted, InfoResponse, InfoFinished, InputEnter, StressSubRunFinished, RunFinished}
 use Rattle.console_reporter.specs.Accepted.{first_refused, is_retried_success, refusal_at_by, refusal_by}
+use Rattle.console_reporter.specs.declared.imp.faults.WriteEventError.{WriteEventError}
 use Rattle.console_reporter.specs.Loads.{lacks_output}
 use Rattle.console_reporter.specs.Unread.{is_skipped, unread_call}
 use Rattle.run_model.specs.declared.call.ReportCall.{ReportCall}
@@ -20,6 +24,12 @@ use Rattle.scene_text.specs.declared.fault.Fault.TheVariants as fault
 use Rattle.scene_text.specs.declared.fault.LineFault.{LineFault}
 use Rattle.scenes.specs.declared.scene.Scene.{Scene}
 use Rattle.scenes.specs.declared.words.Options.{Options}
+
+-- where no item passes, each fails
+position-None : {X : Type 0} (p : X → Bool) (xs : List X) (i : ℕ) (d : X) → position p xs ≡ None → i < length xs → p (get_or xs i d) ≡ false
+position-None p xs i d e within =
+    let all : length xs ≤ position_or_len p xs = grind (arith, common_steps) in
+    fails_before_first p xs i d (omega (arith, within, all))
 
 -- a call that is refused says why
 says-why : (d : OutputLoadDecider) (call : ReportCall) → is_some (refusal_by d call) ≡ true → option_and_then line_fault_for (refusal_by d call) ≡ Some (fault_if_refused call)
@@ -79,11 +89,11 @@ same-there options scene made i x within = elim (cases_Bool options.unload_skipp
 -- the scene's reporter accepts the calls that it gets, or refuses one
 module _ (options : Options) (scene : Scene) (calls : List ReportCall) (r : AreReadyCallsOf options scene calls) where
   pub ready_accepted : first_refused (decider_for options scene) calls ≡ None → IsSceneAccepted options scene
-  ready_accepted none = record { calls = r.made; of_scene = r.of_scene; accepted = sym r.isolated.3 ∙ none }
+  ready_accepted none = record { calls = r.made; of_scene = r.of_scene; accepted = sym r.isolated.5 ∙ none }
 
   pub ready_refused : (i n : ℕ) (x : ReportCall) (f : LineFault) → first_refused (decider_for options scene) calls ≡ Some i → n ≡ get_or scene.lines.items i 0 → x ≡ get_or calls i x → f ≡ fault_if_refused x → IsSceneRefused options scene (fault.Line n f)
   ready_refused i n x f first number there says =
-      let also : first_refused (decider_for options scene) r.made ≡ Some i = sym r.isolated.3 ∙ first in
+      let also : first_refused (decider_for options scene) r.made ≡ Some i = sym r.isolated.5 ∙ first in
       let within = refused_within (decider_for options scene) r.made i x also in
       let same : f ≡ fault_if_refused (get_or r.made i x) = says ∙ ap fault_if_refused there ∙ ap (λ (cs : List ReportCall). fault_if_refused (get_or cs i x)) r.ready ∙ same-there options scene r.made i x within in
       record {
@@ -96,3 +106,18 @@ module _ (options : Options) (scene : Scene) (calls : List ReportCall) (r : AreR
           says = refused-says (decider_for options scene) r.made i x also ∙ ap (λ (g : LineFault). Some g) (sym same);
         };
       }
+
+-- of an error or of none
+is_none_where : (o : Option WriteEventError) → is_some o ≡ false → o ≡ None
+is_none_where None h = refl
+is_none_where (Some e) h = absurd (false≢true (sym h))
+
+-- where no call is refused, none is at any place
+pub none_refused_at : (d : OutputLoadDecider) (calls : List ReportCall) (i : ℕ) → first_refused d calls ≡ None → refusal_at_by d calls i ≡ None
+none_refused_at d [] i none = refl
+none_refused_at d (call ∷ calls) i none = elim (cases_lt i (length (call ∷ calls))) [
+  | inl within ↦
+      ap (λ o. option_and_then (refusal_by d) o) (slice_get-get_or (call ∷ calls) i call within)
+      ∙ is_none_where _ (position-None (λ c. is_some (refusal_by d c)) (call ∷ calls) i call none within)
+  | inr past ↦ ap (λ o. option_and_then (refusal_by d) o) (slice_get_past (call ∷ calls) i past)
+]

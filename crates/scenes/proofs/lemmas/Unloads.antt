@@ -1,9 +1,10 @@
 -- Calls of which output is left unread make the same report (for `Scene::calls`, `report_to`).
 use Rattle.std.proofs.Common.{◌≡◌, List, true, false, refl, ◌∙◌}
+use Rattle.console_reporter.specs.Accepted.{first_refused}
 use Rattle.console_reporter.specs.Isolation.{IsIsolated}
 use Rattle.console_reporter.specs.Unread.{unread}
 use Rattle.run_model.specs.declared.call.ReportCall.{ReportCall}
-use Rattle.scenes.specs.Reports.{AreCallsOf, configuration_for, report_of}
+use Rattle.scenes.specs.Reports.{AreCallsOf, configuration_for, report_of, stored_of}
 use Rattle.scenes.specs.Unloads.{AreReadyCallsOf, decider_for}
 use Rattle.scenes.specs.declared.scene.Scene.{Scene}
 use Rattle.scenes.specs.declared.words.Options.{Options}
@@ -15,7 +16,7 @@ module _ (options : Options) (scene : Scene) where
     made = calls;
     of_scene = of_scene;
     ready = rw off refl;
-    isolated = (λ config is. refl, λ config is. refl, λ accepted. accepted, refl);
+    isolated = (λ config is. refl, λ config is. refl, λ config is. refl, λ config is. refl, λ accepted. accepted, refl);
   }
 
   -- what is skipped is left unread
@@ -26,3 +27,11 @@ module _ (options : Options) (scene : Scene) where
   -- the report is that of the scene's calls
   pub ready_report : (calls : List ReportCall) (r : AreReadyCallsOf options scene calls) → report_of options scene calls ≡ report_of options scene r.made
   ready_report calls r = r.isolated.1 (configuration_for options scene) refl
+
+  -- and what is stored is the same
+  pub ready_stored : (calls : List ReportCall) (r : AreReadyCallsOf options scene calls) → stored_of options calls ≡ stored_of options r.made
+  ready_stored calls r = r.isolated.3 (configuration_for options scene) refl
+
+  -- none is refused of the scene's calls
+  pub ready_first : (calls : List ReportCall) (r : AreReadyCallsOf options scene calls) → first_refused (decider_for options scene) calls ≡ first_refused (decider_for options scene) r.made
+  ready_first calls r = r.isolated.5

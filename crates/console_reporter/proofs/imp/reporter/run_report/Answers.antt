@@ -2,10 +2,12 @@ use Rattle.std.proofs.Common.{rules, take, ◌≡◌}
 use Rattle.std.proofs.lemmas.Result.{on_ok_weaker, IfErr-weaker}
 use Rattle.console_reporter.specs.Configuration.{configured}
 use Rattle.console_reporter.specs.Accepted.{AreAccepted, refusal_at}
+use Rattle.report_text.specs.Accept.{string_meaning}
 use Rattle.console_reporter.specs.Outcomes.{refusal_in}
 use Rattle.console_reporter.proofs.lemmas.Calls.{err_here, ok_here, refused_from, stopped_io, stopped_known}
 use Rattle.console_reporter.proofs.lemmas.ReportTints.{colour_holds, plain_holds}
 use Rattle.console_reporter.proofs.lemmas.Exchanges.{order_independent, stats_independent}
+use Rattle.console_reporter.proofs.lemmas.Stores.{absent_here}
 use Rattle.console_reporter.proofs.imp.reporter.run_report.Goals as goal
 
 pub returns-clause-ok : goal.returns-clause-ok
@@ -35,7 +37,7 @@ returns-clause-io g c = IfErr-weaker _ _ _ (λ stop h. stopped_io g.met.W.WriteS
 pub returns-clause-memory : goal.returns-clause-memory
 returns-clause-memory g c =
     let config = configured c.args.builder c.args.use_unicode c.args.is_terminal c.args.is_ci c.args.display_empty_outputs in
-    IfErr-weaker _ _ _ (refused_from g.W.WriteStr.meaning config c.args.calls.now c.build-reporter.result c.build-reporter.ensures.untouched c.build-reporter.ensures.stands) c.make_calls-outcome.ensures.memory
+    IfErr-weaker _ _ _ (refused_from g.W.WriteStr.meaning string_meaning config c.args.calls.now c.build-reporter.result c.build-reporter.ensures.untouched c.build-reporter.ensures.no_store c.build-reporter.ensures.stands) c.make_calls-outcome.ensures.memory
 
 pub returns-clause-known : goal.returns-clause-known
 returns-clause-known g c = IfErr-weaker _ _ _ (λ stop h. stopped_known g.met.W.WriteStr.laws _ _ _ _ _ h) (returns-clause-err g c)
@@ -51,3 +53,7 @@ returns-clause-order g c = order_independent (configured c.args.builder c.args.u
 
 pub returns-clause-statistics : goal.returns-clause-statistics
 returns-clause-statistics g c = stats_independent (configured c.args.builder c.args.use_unicode c.args.is_terminal c.args.is_ci c.args.display_empty_outputs) c.args.calls.now
+
+pub returns-clause-no_store : goal.returns-clause-no_store
+returns-clause-no_store g c =
+    absent_here string_meaning g.W.WriteStr.meaning _ c.build-reporter.result _ c.build-reporter.ensures.stands c.build-reporter.ensures.no_store _ _ c.make_calls-outcome.ensures.err

@@ -1,7 +1,15 @@
-use Rattle.std.proofs.Common.{rules, refl}
+use Rattle.std.proofs.Common.{ap, sym, ◌∙◌}
+use Rattle.run_model.specs.Levels.{reason_rank}
 use Rattle.console_reporter.specs.Entries.{cancel, kept, prefix}
 use Rattle.console_reporter.proofs.imp.reporter.DisplayReporter.new.Goals as goal
 
 pub returns-clause-stands : goal.returns-clause-stands
 unfolding cancel kept prefix
-returns-clause-stands g c = λ config same. record { settings = same; prefix = refl; reason = refl; kept = c.new.ensures; works = search rules }
+returns-clause-stands g c = λ config same none. record {
+  settings = c.new.ensures.settings ∙ same;
+  prefix = c.new.ensures.prefix;
+  reason = ap reason_rank c.new.ensures.reason;
+  kept = c.new.ensures.kept;
+  store = sym none;
+  works = c.new.ensures.works;
+}

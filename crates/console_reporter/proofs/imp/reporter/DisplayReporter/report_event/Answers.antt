@@ -25,6 +25,7 @@ returns-in-Ok-clause-stands g c = λ config past stands. record {
   prefix = c.apply.ensures.prefix ∙ stands.prefix;
   reason = c.in-Ok.ensures.reason ∙ ap₂ max c.of_event-effect.ensures.reason stands.reason;
   kept = kept-more config past c.args.self.now c.args.event.now (option_map end_of c.of_event-effect.result.ended) _ stands c.of_event-effect.ensures.ended c.in-Ok.ensures.kept;
+  store = stands.store;
   works = search rules;
 }
 

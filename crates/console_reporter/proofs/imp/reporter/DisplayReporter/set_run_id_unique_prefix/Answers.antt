@@ -1,7 +1,12 @@
 use Rattle.std.proofs.Common.{refl}
 use Rattle.console_reporter.specs.Entries.{cancel, kept, prefix}
+use Rattle.console_reporter.proofs.lemmas.Stores.{store-nothing}
 use Rattle.console_reporter.proofs.imp.reporter.DisplayReporter.set_run_id_unique_prefix.Goals as goal
 
-pub returns-clause-stands : goal.returns-clause-stands
+pub returns-clause-ok : goal.returns-clause-ok
 unfolding cancel kept prefix
-returns-clause-stands g c = λ config past stands. record { settings = stands.settings; prefix = refl; reason = stands.reason; kept = stands.kept; works = stands.works }
+returns-clause-ok g c = record {
+  accepted = λ config past stands. g.met.W.WriteStr.laws.nothing _;
+  stored = λ config past stands. store-nothing g.met.S.WriteStr.laws _;
+  stands = λ config past stands. record { settings = stands.settings; prefix = refl; reason = stands.reason; kept = stands.kept; store = stands.store; works = stands.works };
+}

@@ -1,9 +1,9 @@
-use Rattle.std.proofs.Common.{◌≡◌, false, ap, subst, sym, ◌∙◌}
+use Rattle.std.proofs.Common.{◌≡◌, false, ap, ap₂, Some, subst, sym, ◌∙◌}
 use Rattle.console_reporter.specs.Accepted.{decider_by, event_refusal}
 use Rattle.console_reporter.specs.Loads.{lacks_output}
-use Rattle.console_reporter.specs.Report.{text}
 use Rattle.run_model.specs.declared.call.ReportCall.TheVariants.{Event}
-use Rattle.console_reporter.proofs.lemmas.Refusals.{none_where_not_some, not_refused, refused_not_io, refused_not_memory, stops_refused, told_is_some}
+use Rattle.console_reporter.proofs.lemmas.Loads.{lacks_less}
+use Rattle.console_reporter.proofs.lemmas.Refusals.{breaks_refused, none_where_not_some, not_refused, told_is_some}
 use Rattle.console_reporter.proofs.lemmas.Whole.{of_lines-text}
 use Rattle.console_reporter.proofs.imp.reporter.DisplayReporter.write_event.Goals as goal
 
@@ -20,36 +20,30 @@ pub returns-in-Err-clause-lines : goal.returns-in-Err-clause-lines
 returns-in-Err-clause-lines g c = λ config past. of_lines-text config past (Event c.args.event.now)
 
 pub returns-in-Some-clause-err : goal.returns-in-Some-clause-err
-returns-in-Some-clause-err g c = λ config past stands.
-    stops_refused g.W.WriteStr.meaning c.args.self.now.writer.now (text config past (Event c.args.event.now)) c.in-Some.refusal c.in-Some.ensures.told
-
-pub returns-in-Some-clause-io : goal.returns-in-Some-clause-io
-returns-in-Some-clause-io g c = λ is. absurd (refused_not_io c.in-Some.refusal c.in-Some.ensures.told is)
-
-pub returns-in-Some-clause-memory : goal.returns-in-Some-clause-memory
-returns-in-Some-clause-memory g c = λ is. absurd (refused_not_memory c.in-Some.refusal c.in-Some.ensures.told is)
+returns-in-Some-clause-err g c = breaks_refused g.W.WriteStr.meaning g.S.WriteStr.meaning c.args.self.now (Some (Event c.args.event.now)) c.in-Some.refusal c.in-Some.ensures.told
 
 pub returns-in-Some-clause-refused : goal.returns-in-Some-clause-refused
 returns-in-Some-clause-refused g c = λ config past stands.
     c.in-Some.ensures.told
     ∙ sym c.in-Some.is
     ∙ c.refusal_of.ensures.refusal
-    ∙ ap (λ d. event_refusal d c.args.event.now.kind) (c.of_settings-decider.ensures ∙ ap decider_by stands.settings)
+    ∙ ap (λ d. event_refusal d c.args.event.now.kind) (c.of_settings-decider.ensures ∙ ap₂ decider_by stands.settings (c.store_config-store.ensures ∙ stands.store))
 
 pub returns-in-Some-clause-fails : goal.returns-in-Some-clause-fails
 returns-in-Some-clause-fails g c = λ none. absurd (told_is_some c.in-Some.refusal c.in-Some.ensures.told none)
 
-pub report_event-requires : goal.report_event-requires
-report_event-requires g c =
-    subst (λ d. lacks_output d c.args.event.now.kind ≡ false) c.of_settings-decider.ensures
-    (c.refusal_of.ensures.accepted (none_where_not_some c.refusal_of.result c.in_default.not-Some))
+pub report_and_store-requires : goal.report_and_store-requires
+report_and_store-requires g c =
+    lacks_less c.args.self.now.state.settings c.store_config-store.result c.args.event.now.kind
+    (subst (λ d. lacks_output d c.args.event.now.kind ≡ false) c.of_settings-decider.ensures
+    (c.refusal_of.ensures.accepted (none_where_not_some c.refusal_of.result c.in_default.not-Some)))
 
 pub returns-in-Err-clause-refused : goal.returns-in-Err-clause-refused
 returns-in-Err-clause-refused g c = λ config past stands.
     c.in-Err.ensures.unrefused
     ∙ sym (none_where_not_some c.refusal_of.result c.in_default.not-Some)
     ∙ c.refusal_of.ensures.refusal
-    ∙ ap (λ d. event_refusal d c.args.event.now.kind) (c.of_settings-decider.ensures ∙ ap decider_by stands.settings)
+    ∙ ap (λ d. event_refusal d c.args.event.now.kind) (c.of_settings-decider.ensures ∙ ap₂ decider_by stands.settings (c.store_config-store.ensures ∙ stands.store))
 
 pub returns-in-Err-clause-untouched : goal.returns-in-Err-clause-untouched
 returns-in-Err-clause-untouched g c = λ refused. absurd (not_refused c.in-Err.error c.in-Err.ensures.unrefused refused)

@@ -1,0 +1,15 @@
+use Rattle.std.proofs.Common.{ap, sym, ◌∙◌}
+use Rattle.run_model.specs.Levels.{reason_rank}
+use Rattle.console_reporter.specs.Entries.{cancel, kept, prefix}
+use Rattle.console_reporter.proofs.imp.reporter.DisplayReporter.with_store.Goals as goal
+
+pub returns-clause-stands : goal.returns-clause-stands
+unfolding cancel kept prefix
+returns-clause-stands g c = λ config same some. record {
+  settings = c.new.ensures.settings ∙ same;
+  prefix = c.new.ensures.prefix;
+  reason = ap reason_rank c.new.ensures.reason;
+  kept = c.new.ensures.kept;
+  store = sym some;
+  works = c.new.ensures.works;
+}

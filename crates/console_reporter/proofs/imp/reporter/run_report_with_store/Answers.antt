@@ -1,0 +1,79 @@
+use Rattle.std.proofs.Common.{take, ◌≡◌, rules}
+use Rattle.console_reporter.specs.Accepted.{AreAccepted, refusal_at}
+use Rattle.console_reporter.specs.Configuration.{configured_with_store}
+use Rattle.console_reporter.specs.Outcomes.{refusal_in}
+use Rattle.std.proofs.lemmas.Result.{on_ok_weaker, IfErr-weaker}
+use Rattle.console_reporter.proofs.lemmas.Calls.{err_here, ok_here, stopped_io, stopped_known}
+use Rattle.console_reporter.proofs.lemmas.Exchanges.{order_independent, stats_independent}
+use Rattle.console_reporter.proofs.lemmas.Records.{stopped_store_io}
+use Rattle.console_reporter.proofs.lemmas.ReportTints.{colour_holds, plain_holds}
+use Rattle.console_reporter.proofs.lemmas.Stores.{ok_there, err_there}
+use Rattle.console_reporter.proofs.imp.reporter.run_report_with_store.Goals as goal
+
+pub returns-in-Some-clause-accepted : goal.returns-in-Some-clause-accepted
+returns-in-Some-clause-accepted g c =
+    ok_here _ c.build_with_store-reporter.result c.build_with_store-reporter.ensures.stands (λ config. AreAccepted config c.args.calls.now) c.make_calls-outcome.result c.make_calls-outcome.ensures.accepted
+
+pub returns-in-Some-clause-accepted_before : goal.returns-in-Some-clause-accepted_before
+returns-in-Some-clause-accepted_before g c =
+    err_here _ c.build_with_store-reporter.result c.build_with_store-reporter.ensures.stands (λ config stop. AreAccepted config (take stop.position c.args.calls.now)) c.make_calls-outcome.result c.make_calls-outcome.ensures.accepted_before
+
+pub returns-in-Some-clause-refused : goal.returns-in-Some-clause-refused
+returns-in-Some-clause-refused g c =
+    err_here _ c.build_with_store-reporter.result c.build_with_store-reporter.ensures.stands (λ config stop. refusal_at config c.args.calls.now stop.position ≡ refusal_in stop.fault) c.make_calls-outcome.result c.make_calls-outcome.ensures.refused
+
+pub returns-in-Some-clause-stored : goal.returns-in-Some-clause-stored
+returns-in-Some-clause-stored g c =
+    let built = c.build_with_store-reporter in
+    let config = configured_with_store c.args.store c.args.builder c.args.use_unicode c.args.is_terminal c.args.is_ci c.args.display_empty_outputs in
+    let h = ok_there g.S.WriteStr.meaning g.W.WriteStr.meaning config built.result _ _ _ built.ensures.stands built.ensures.store c.in-Some.is _ _ c.make_calls-outcome.ensures.ok in
+    search rules
+
+pub returns-in-Some-clause-store_err : goal.returns-in-Some-clause-store_err
+returns-in-Some-clause-store_err g c =
+    let built = c.build_with_store-reporter in
+    let config = configured_with_store c.args.store c.args.builder c.args.use_unicode c.args.is_terminal c.args.is_ci c.args.display_empty_outputs in
+    let h = err_there g.S.WriteStr.meaning g.W.WriteStr.meaning config built.result _ _ _ built.ensures.stands built.ensures.store c.in-Some.is _ _ c.make_calls-outcome.ensures.err in
+    search rules
+
+pub returns-in-Some-clause-ok : goal.returns-in-Some-clause-ok
+returns-in-Some-clause-ok g c = search rules
+
+pub returns-in-Some-clause-err : goal.returns-in-Some-clause-err
+returns-in-Some-clause-err g c = search rules
+
+pub returns-in-Some-clause-no_failure : goal.returns-in-Some-clause-no_failure
+returns-in-Some-clause-no_failure g c = on_ok_weaker _ (λ h. (g.met.W.WriteStr.laws.kept _ _ _ h).0) (returns-in-Some-clause-ok g c)
+
+pub returns-in-Some-clause-io : goal.returns-in-Some-clause-io
+returns-in-Some-clause-io g c = IfErr-weaker _ _ _ (λ stop h. stopped_io g.met.W.WriteStr.laws _ _ _ _ _ h) (returns-in-Some-clause-err g c)
+
+pub returns-in-Some-clause-store_io : goal.returns-in-Some-clause-store_io
+returns-in-Some-clause-store_io g c = IfErr-weaker _ _ _ (λ stop h. stopped_store_io g.met.S.WriteStr.laws _ _ _ _ _ h) (returns-in-Some-clause-store_err g c)
+
+pub returns-in-Some-clause-known : goal.returns-in-Some-clause-known
+returns-in-Some-clause-known g c = IfErr-weaker _ _ _ (λ stop h. stopped_known g.met.W.WriteStr.laws _ _ _ _ _ h) (returns-in-Some-clause-err g c)
+
+pub returns-in-Some-clause-colour : goal.returns-in-Some-clause-colour
+returns-in-Some-clause-colour g c = colour_holds (configured_with_store c.args.store c.args.builder c.args.use_unicode c.args.is_terminal c.args.is_ci c.args.display_empty_outputs) c.args.calls.now
+
+pub returns-in-Some-clause-plain : goal.returns-in-Some-clause-plain
+returns-in-Some-clause-plain g c = plain_holds (configured_with_store c.args.store c.args.builder c.args.use_unicode c.args.is_terminal c.args.is_ci c.args.display_empty_outputs) c.args.calls.now
+
+pub returns-in-Some-clause-order : goal.returns-in-Some-clause-order
+returns-in-Some-clause-order g c = order_independent (configured_with_store c.args.store c.args.builder c.args.use_unicode c.args.is_terminal c.args.is_ci c.args.display_empty_outputs) c.args.calls.now
+
+pub returns-in-Some-clause-statistics : goal.returns-in-Some-clause-statistics
+returns-in-Some-clause-statistics g c = stats_independent (configured_with_store c.args.store c.args.builder c.args.use_unicode c.args.is_terminal c.args.is_ci c.args.display_empty_outputs) c.args.calls.now
+
+pub returns-in-None-clause-colour : goal.returns-in-None-clause-colour
+returns-in-None-clause-colour g c = colour_holds (configured_with_store c.args.store c.args.builder c.args.use_unicode c.args.is_terminal c.args.is_ci c.args.display_empty_outputs) c.args.calls.now
+
+pub returns-in-None-clause-plain : goal.returns-in-None-clause-plain
+returns-in-None-clause-plain g c = plain_holds (configured_with_store c.args.store c.args.builder c.args.use_unicode c.args.is_terminal c.args.is_ci c.args.display_empty_outputs) c.args.calls.now
+
+pub returns-in-None-clause-order : goal.returns-in-None-clause-order
+returns-in-None-clause-order g c = order_independent (configured_with_store c.args.store c.args.builder c.args.use_unicode c.args.is_terminal c.args.is_ci c.args.display_empty_outputs) c.args.calls.now
+
+pub returns-in-None-clause-statistics : goal.returns-in-None-clause-statistics
+returns-in-None-clause-statistics g c = stats_independent (configured_with_store c.args.store c.args.builder c.args.use_unicode c.args.is_terminal c.args.is_ci c.args.display_empty_outputs) c.args.calls.now

@@ -1,0 +1,70 @@
+-- What one call does to the two writers of a reporter, and what calls in turn do.
+use Rattle.std.specs.Prelude.{◌≡◌, ◌≤◌, ◌⊎◌, ℕ, List, [], ◌∷◌, Option, None, Some, length}
+use Rattle.report_text.specs.Texts.{Text}
+use Rattle.report_text.specs.Writer.{Meaning, one_further}
+use Rattle.console_reporter.specs.Configuration.{Configuration}
+use Rattle.console_reporter.specs.Outcomes.{Stops, StopsAfter, StopsRecord, StopsRecordAfter}
+use Rattle.console_reporter.specs.Report.{past_at, report, text, text_at}
+use Rattle.console_reporter.specs.Slots.{IsSameStore, store_meaning}
+use Rattle.console_reporter.specs.Standing.{MayGrowIn, StandsAfter}
+use Rattle.console_reporter.specs.Stored.{stored, stored_at, stored_text}
+use Rattle.run_model.specs.declared.call.ReportCall.{ReportCall}
+use Rattle.console_reporter.specs.declared.imp.faults.WriteEventError.{WriteEventError}
+use Rattle.console_reporter.specs.declared.imp.faults.WriteEventError.TheVariants.{Io, Memory, StoreIo}
+use Rattle.console_reporter.specs.declared.imp.reporter.DisplayReporter.{DisplayReporter}
+
+-- A call, or the end of a report, which is None: the past after it, what it adds to the report and to the store, and whether the
+-- reporter may take memory of its own for it.
+abbrev pub past_with : Option ReportCall → List ReportCall → List ReportCall
+past_with None past = past
+past_with (Some call) past = call ∷ past
+
+abbrev pub told_text : Configuration → List ReportCall → Option ReportCall → Text
+told_text config past None = []
+told_text config past (Some call) = text config past call
+
+abbrev pub kept_text : Configuration → Option ReportCall → Text
+kept_text config None = []
+kept_text config (Some call) = stored_text config.store call
+
+abbrev pub MayGrowFor : {W S : Type 0} → DisplayReporter W S → Option ReportCall → Type 0
+MayGrowFor reporter None = ⊥
+MayGrowFor reporter (Some call) = MayGrowIn reporter call
+
+-- both have the same writers
+pub record AreSameWriters {W S : Type 0} (old new : DisplayReporter W S) : Type 0 where
+  pub writer : new.writer.ghost_name ≡ old.writer.ghost_name
+  pub store : IsSameStore old.store new.store
+
+module _ {W S : Type 0} (m : Meaning W) (n : Meaning S) where
+  -- both writers have delivered all that they accepted
+  pub record AreDelivered (reporter : DisplayReporter W S) : Type 0 where
+    pub writer : m.is_delivered reporter.writer.now
+    pub store : (store_meaning n).is_delivered reporter.store
+
+  -- the call was made: its text and its record were accepted, and the reporter stands after it
+  pub record Tells (old : DisplayReporter W S) (call : Option ReportCall) (new : DisplayReporter W S) : Type 0 where
+    pub accepted : (config : Configuration) (past : List ReportCall) → StandsAfter config past old → m.accepts old.writer.now (told_text config past call) new.writer.now
+    pub stored : (config : Configuration) (past : List ReportCall) → StandsAfter config past old → (store_meaning n).accepts old.store (kept_text config call) new.store
+    pub stands : (config : Configuration) (past : List ReportCall) → StandsAfter config past old → StandsAfter config (past_with call past) new
+
+  -- the error stopped the call, and no byte of its record was accepted before its whole text
+  pub record Breaks (old : DisplayReporter W S) (call : Option ReportCall) (e : WriteEventError) (new : DisplayReporter W S) : Type 0 where
+    pub stopped : (config : Configuration) (past : List ReportCall) → StandsAfter config past old → Stops m old.writer.now (told_text config past call) e new.writer.now
+    pub store_stopped : (config : Configuration) (past : List ReportCall) → StandsAfter config past old → StopsRecord (store_meaning n) old.store (kept_text config call) e new.store
+    pub order : (config : Configuration) (past : List ReportCall) → StandsAfter config past old → (new.store ≡ old.store) ⊎ m.accepts old.writer.now (told_text config past call) new.writer.now
+    pub io : e ≡ Io → m.failures new.writer.now ≡ one_further (m.failures old.writer.now)
+    pub store_io : e ≡ StoreIo → (store_meaning n).failures new.store ≡ one_further ((store_meaning n).failures old.store)
+    pub memory : e ≡ Memory → m.may_refuse old.writer.now ⊎ MayGrowFor old call ⊎ (store_meaning n).may_refuse old.store
+
+  -- the calls of a past were made, by a reporter that had made none
+  pub record TellsRun (old : DisplayReporter W S) (past : List ReportCall) (new : DisplayReporter W S) : Type 0 where
+    pub accepted : (config : Configuration) → StandsAfter config [] old → m.accepts old.writer.now (report config past) new.writer.now
+    pub stored : (config : Configuration) → StandsAfter config [] old → (store_meaning n).accepts old.store (stored config.store past) new.store
+    pub stands : (config : Configuration) → StandsAfter config [] old → StandsAfter config past new
+
+  -- the error stopped the call at this place, or past the last the end of the report
+  pub record BreaksRun (old : DisplayReporter W S) (calls : List ReportCall) (position : ℕ) (e : WriteEventError) (new : DisplayReporter W S) : Type 0 where
+    pub within : position ≤ length calls
+    pub stopped : (config : Configuration) → StandsAfter config [] old → StopsAfter m old.writer.now (report config (past_at calls position)) (text_at config calls position) e new.writer.now
+    pub store_stopped : (config : Configuration) → StandsAfter config [] old → StopsRecordAfter (store_meaning n) old.store (stored config.store (past_at calls position)) (stored_at config.store calls position) e new.store

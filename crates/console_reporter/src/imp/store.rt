@@ -1,0 +1,50 @@
+//! A store: the second writer of a reporter, which takes a record of each finished test.
+
+ghost use Rattle.std.specs.Prelude.{◌≡◌, [], None, OnOk, Some};
+ghost use Rattle.report_text.specs.Writer.{Puts};
+ghost use Rattle.console_reporter.specs.Stored.{record_of};
+
+use report_text::write_str::{WriteFault, WriteStr};
+use run_model::event::{TestEvent, TestEventKind};
+use store_text::config::StoreConfig;
+use store_text::record::write_record;
+
+/// The second writer of a reporter, and what it is asked to keep.
+#[derive(Drop)]
+pub struct Store<'a, S> {
+    /// Where the records go.
+    pub writer: &'a mut S,
+    /// Which outputs they hold.
+    pub config: StoreConfig,
+}
+
+impl<'a, S: WriteStr> Store<'a, S> {
+    /// Writes the record of an event, if it has one, and delivers it.
+    pub fn deliver_record(&mut self, event: &TestEvent<'_>) -> Result<(), WriteFault>
+        ensures same { self.new.writer.ghost_name ≡ self.old.writer.ghost_name }
+        ensures config { self.new.config ≡ self.old.config }
+        ensures text { Puts S.meaning self.old.writer.now (record_of (Some self.old.config) event.now.kind) result self.new.writer.now }
+        ensures delivered { OnOk result (S.meaning.is_delivered self.new.writer.now) }
+    {
+        write_record_of(self.writer, self.config, event)?;
+        self.writer.write_str_flush()
+    }
+}
+
+// Writes the record of an event: of a finished test.
+fn write_record_of<S: WriteStr>(
+    w: &mut S,
+    config: StoreConfig,
+    event: &TestEvent<'_>,
+) -> Result<(), WriteFault>
+    ensures { Puts S.meaning w.old (record_of (Some config) event.now.kind) result w.new }
+{
+    match &event.kind {
+        TestEventKind::TestFinished {
+            test_instance,
+            run_statuses,
+            ..
+        } => write_record(w, config, *test_instance, run_statuses),
+        _ => Ok(()),
+    }
+}

@@ -1,0 +1,2 @@
+pub mod Netstrings
+pub mod Rows

@@ -1,0 +1,3 @@
+pub mod Netstrings
+pub mod Records
+pub mod StoredOutputs

@@ -1,0 +1,43 @@
+//! Netstrings: a text after the number of its bytes.
+
+ghost use Rattle.std.specs.Prelude.{◌≡◌, ◌++◌};
+ghost use Rattle.report_text.specs.Writer.{Puts};
+ghost use Rattle.store_text.specs.Netstrings.{joined_netstring, netstring, netstring_head};
+
+use itoa::Buffer;
+use report_text::write_str::{WriteFault, WriteStr, write_strs};
+
+/// Writes a text as a netstring.
+///
+/// ```
+/// write_netstring(w, "t1")?; // "2:t1,"
+/// ```
+#[tactic(auto, unfolding(crate::specs::Netstrings::netstring, crate::specs::Netstrings::netstring_head))]
+pub fn write_netstring<W: WriteStr>(w: &mut W, text: &str) -> Result<(), WriteFault>
+    ensures { Puts W.meaning w.old (netstring text.now) result w.new }
+{
+    let mut length = Buffer::new();
+    write_strs(w, &[length.format(text.len()), ":", text, ","])
+}
+
+/// Writes a text in two parts as one netstring.
+#[tactic(auto, unfolding(crate::specs::Netstrings::joined_netstring))]
+pub fn write_joined_netstring<W: WriteStr>(
+    w: &mut W,
+    front: &str,
+    back: &str,
+) -> Result<(), WriteFault>
+    ensures { Puts W.meaning w.old (joined_netstring front.now back.now) result w.new }
+{
+    write_netstring_head(w, front.len() as u128 + back.len() as u128)?;
+    write_strs(w, &[front, back, ","])
+}
+
+/// Writes what stands before a text of so many bytes in a netstring.
+#[tactic(auto, unfolding(crate::specs::Netstrings::netstring_head))]
+pub(super) fn write_netstring_head<W: WriteStr>(w: &mut W, length: u128) -> Result<(), WriteFault>
+    ensures { Puts W.meaning w.old (netstring_head length) result w.new }
+{
+    let mut number = Buffer::new();
+    write_strs(w, &[number.format(length), ":"])
+}

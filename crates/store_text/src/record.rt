@@ -1,0 +1,51 @@
+//! The record of a finished test.
+
+ghost use Rattle.std.specs.Prelude.{◌≡◌, ◌++◌};
+ghost use Rattle.event_text.specs.ResultWords.{short_word};
+ghost use Rattle.report_text.specs.Writer.{Puts};
+ghost use Rattle.store_text.specs.Netstrings.{netstring};
+ghost use Rattle.store_text.specs.Records.{record_text};
+
+use crate::config::StoreConfig;
+use crate::netstring::{write_joined_netstring, write_netstring};
+use crate::stored_output::write_stored_output;
+use crate::word::short_status_str;
+use itoa::Buffer;
+use report_text::write_str::{WriteFault, WriteStr};
+use run_model::name::TestInstanceId;
+use run_model::output::LiveSpec;
+use run_model::status::{ExecutionResultDescription, ExecutionStatuses};
+
+/// Writes the record of a finished test: its binary's id, its name, how its last attempt ended, and its output as far as it is
+/// asked for. It takes no memory.
+///
+/// ```
+/// write_record(w, store, instance, &statuses)?; // "5:alpha,2:t1,4:PASS,0:,\n"
+/// ```
+#[tactic(auto, unfolding(crate::specs::Records::record_text))]
+pub fn write_record<W: WriteStr>(
+    w: &mut W,
+    store: StoreConfig,
+    test: TestInstanceId<'_>,
+    statuses: &ExecutionStatuses<LiveSpec>,
+) -> Result<(), WriteFault>
+    ensures { Puts W.meaning w.old (record_text store test.entry statuses.now) result w.new }
+{
+    write_netstring(w, test.binary_id.as_str())?;
+    write_netstring(w, test.test_name.as_str())?;
+    write_outcome(w, &statuses.last_status().result)?;
+    write_stored_output(w, store, statuses)?;
+    w.write_str("\n")
+}
+
+// Writes how an attempt ended, as a netstring.
+fn write_outcome<W: WriteStr>(
+    w: &mut W,
+    outcome: &ExecutionResultDescription,
+) -> Result<(), WriteFault>
+    ensures { Puts W.meaning w.old (netstring (short_word outcome.now)) result w.new }
+{
+    let mut number = Buffer::new();
+    let word = short_status_str(outcome, &mut number);
+    write_joined_netstring(w, word.front, word.back)
+}
