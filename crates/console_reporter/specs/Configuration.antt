@@ -1,6 +1,6 @@
 -- A configuration of a reporter, and what it comes to.
 use Rattle.std.specs.Prelude.{Bool, Option, None, Some}
-use Rattle.report_text.specs.Styles.{styles_of}
+use Rattle.plain_text.specs.Styles.{styles_of}
 use Rattle.unit_report.specs.Levels.{resolved_display}
 use Rattle.unit_report.specs.declared.config.ResolvedDisplay.{ResolvedDisplay}
 use Rattle.unit_report.specs.declared.unit_output.overrides.OutputDisplayOverrides.{OutputDisplayOverrides}

@@ -13,7 +13,7 @@ use Rattle.run_model.specs.declared.level.CancelReason.TheVariants as cause
 use Rattle.run_model.specs.declared.level.FinalStatusLevel.{FinalStatusLevel}
 use Rattle.run_model.specs.declared.level.FinalStatusLevel.TheVariants as final
 use Rattle.run_model.specs.declared.stress.StressIndex.{StressIndex}
-use Rattle.report_text.specs.Texts.{Text}
+use Rattle.plain_text.specs.Texts.{Text}
 use Rattle.report_text.specs.declared.helpers.instance.DisplayCounterIndex.{DisplayCounterIndex}
 use Rattle.report_text.specs.declared.helpers.instance.DisplayCounterIndex.TheVariants.{Counter, Padded}
 use Rattle.event_text.specs.AttemptOutputs.{attempt_output}

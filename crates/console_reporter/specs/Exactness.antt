@@ -6,7 +6,7 @@ use Rattle.run_model.specs.declared.event.TestEventKind.TheVariants.{SetupScript
 use Rattle.run_model.specs.declared.output.ChildExecutionOutputDescription.TheVariants.{Output}
 use Rattle.run_model.specs.declared.output.ChildOutputDescription.TheVariants.{Combined}
 use Rattle.run_model.specs.declared.output_event.LoadOutput.TheVariants.{Load}
-use Rattle.report_text.specs.Texts.{Text}
+use Rattle.plain_text.specs.Texts.{Text}
 use Rattle.event_text.specs.AttemptOutputs.{Written}
 use Rattle.console_reporter.specs.Calm.{AreCalm, EndsRun}
 use Rattle.console_reporter.specs.Configuration.{Configuration}

@@ -1,9 +1,9 @@
 -- How a call of a reporter ends.
 use Rattle.std.specs.Prelude.{◌≡◌, [], ◌∷◌, ◌++◌, ◌⊎◌, Option, None, Some, Result, Ok, Err}
-use Rattle.report_text.specs.Texts.{Text}
-use Rattle.report_text.specs.Writer.{Meaning}
-use Rattle.report_text.specs.declared.write_str.WriteFault.{WriteFault}
-use Rattle.report_text.specs.declared.write_str.WriteFault.TheVariants.{Device, Memory as RefusedMemory}
+use Rattle.plain_text.specs.Texts.{Text}
+use Rattle.plain_text.specs.Writer.{Meaning}
+use Rattle.plain_text.specs.declared.write_str.WriteFault.{WriteFault}
+use Rattle.plain_text.specs.declared.write_str.WriteFault.TheVariants.{Device, Memory as RefusedMemory}
 use Rattle.console_reporter.specs.declared.imp.faults.WriteEventError.{WriteEventError}
 use Rattle.console_reporter.specs.declared.imp.faults.WriteEventError.TheVariants.{RetriedSuccess, OutputNotLoaded, Io, Memory, Failed, StoreIo}
 

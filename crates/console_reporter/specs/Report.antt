@@ -8,7 +8,7 @@ use Rattle.run_model.specs.declared.event.TestEventKind.TheVariants.{RunStarted,
 use Rattle.run_model.specs.declared.not_seen.NotSeen.{NotSeen}
 use Rattle.run_model.specs.declared.stats.RunFinishedStats.{RunFinishedStats}
 use Rattle.run_model.specs.declared.stress.StressIndex.{StressIndex}
-use Rattle.report_text.specs.Texts.{Text}
+use Rattle.plain_text.specs.Texts.{Text}
 use Rattle.unit_report.specs.Warnings.{final_warnings}
 use Rattle.event_text.specs.FinishedTests.{test_finish, test_finished_text}
 use Rattle.event_text.specs.RetriedTests.{attempt_failed_text}

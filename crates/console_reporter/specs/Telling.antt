@@ -1,7 +1,7 @@
 -- What one call does to the two writers of a reporter, and what calls in turn do.
 use Rattle.std.specs.Prelude.{◌≡◌, ◌≤◌, ◌⊎◌, ℕ, List, [], ◌∷◌, Option, None, Some, length}
-use Rattle.report_text.specs.Texts.{Text}
-use Rattle.report_text.specs.Writer.{Meaning, one_further}
+use Rattle.plain_text.specs.Texts.{Text}
+use Rattle.plain_text.specs.Writer.{Meaning, one_further}
 use Rattle.console_reporter.specs.Configuration.{Configuration}
 use Rattle.console_reporter.specs.Outcomes.{Stops, StopsAfter, StopsRecord, StopsRecordAfter}
 use Rattle.console_reporter.specs.Report.{past_at, report, text, text_at}

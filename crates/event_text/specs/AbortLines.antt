@@ -7,10 +7,10 @@ use Rattle.run_model.specs.declared.status.ExecutionResultDescription.TheVariant
 use Rattle.run_model.specs.declared.status.FailureDescription.{FailureDescription}
 use Rattle.run_model.specs.declared.status.FailureDescription.TheVariants.{ExitCode, Abort}
 use Rattle.report_text.specs.Failures.{nt_status_text}
-use Rattle.report_text.specs.Indent.{indent}
-use Rattle.report_text.specs.Texts.{Text}
-use Rattle.report_text.specs.Styles.{plain, styled}
-use Rattle.report_text.specs.declared.style.Styles.{Styles}
+use Rattle.plain_text.specs.Indent.{indent}
+use Rattle.plain_text.specs.Texts.{Text}
+use Rattle.plain_text.specs.Styles.{plain, styled}
+use Rattle.plain_text.specs.declared.style.Styles.{Styles}
 
 -- what the system says of a status, if it is known: its later lines begin so too, where they are not empty
 unfoldable pub indented_message : Text → Text

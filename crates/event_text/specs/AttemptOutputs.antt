@@ -12,11 +12,11 @@ use Rattle.run_model.specs.declared.status.LeakTimeoutResult.TheVariants as leak
 use Rattle.run_model.specs.declared.status.SlowTimeoutResult.TheVariants as slow
 use Rattle.run_model.specs.declared.unit.UnitKind.{UnitKind}
 use Rattle.run_model.specs.declared.unit.UnitKind.TheVariants as unit
-use Rattle.report_text.specs.Texts.{Text}
-use Rattle.report_text.specs.Styles.{plain}
+use Rattle.plain_text.specs.Texts.{Text}
+use Rattle.plain_text.specs.Styles.{plain}
 use Rattle.report_text.specs.declared.helpers.theme.ThemeCharacters.{ThemeCharacters}
-use Rattle.report_text.specs.declared.style.Style.{Style}
-use Rattle.report_text.specs.declared.style.Styles.{Styles}
+use Rattle.plain_text.specs.declared.style.Style.{Style}
+use Rattle.plain_text.specs.declared.style.Styles.{Styles}
 use Rattle.unit_report.specs.UnitOutputs.{OutputLayout, execution_output}
 use Rattle.unit_report.specs.declared.unit_output.header.OutputHeader.{OutputHeader}
 use Rattle.unit_report.specs.declared.unit_output.header.OutputHeader.TheVariants.{Bars}

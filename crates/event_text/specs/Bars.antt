@@ -1,7 +1,7 @@
 -- The bar that parts a report.
 use Rattle.std.specs.Prelude.{◌++◌, codes}
-use Rattle.report_text.specs.Texts.{Text}
-use Rattle.report_text.specs.Styles.{plain}
+use Rattle.plain_text.specs.Texts.{Text}
+use Rattle.plain_text.specs.Styles.{plain}
 use Rattle.report_text.specs.Theme.{hbar_text}
 use Rattle.report_text.specs.declared.helpers.theme.ThemeCharacters.{ThemeCharacters}
 

@@ -11,7 +11,7 @@ use Rattle.run_model.specs.declared.stats.RunStats.{RunStats}
 use Rattle.run_model.specs.declared.status.ExecuteStatus.{ExecuteStatus}
 use Rattle.run_model.specs.declared.status.StatusSummary.{StatusSummary}
 use Rattle.run_model.specs.declared.stress.StressIndex.{StressIndex}
-use Rattle.report_text.specs.Texts.{Text}
+use Rattle.plain_text.specs.Texts.{Text}
 use Rattle.event_text.specs.AttemptOutputs.{attempt_output}
 use Rattle.event_text.specs.Finishes.{display_of, finish_row, is_ever_shown, is_line_shown, row_at_once}
 use Rattle.event_text.specs.Settings.{finished_counter}

@@ -11,10 +11,10 @@ use Rattle.run_model.specs.declared.status.LeakTimeoutResult.{LeakTimeoutResult}
 use Rattle.run_model.specs.declared.status.LeakTimeoutResult.TheVariants as leak
 use Rattle.run_model.specs.declared.status.SlowTimeoutResult.{SlowTimeoutResult}
 use Rattle.run_model.specs.declared.status.SlowTimeoutResult.TheVariants as slow
-use Rattle.report_text.specs.Texts.{Text}
-use Rattle.report_text.specs.Styles.{plain, styled}
-use Rattle.report_text.specs.declared.style.Style.{Style}
-use Rattle.report_text.specs.declared.style.Styles.{Styles}
+use Rattle.plain_text.specs.Texts.{Text}
+use Rattle.plain_text.specs.Styles.{plain, styled}
+use Rattle.plain_text.specs.declared.style.Style.{Style}
+use Rattle.plain_text.specs.declared.style.Styles.{Styles}
 
 -- that a process left handles open, where it did
 unfoldable pub leaked_note : Bool → Text

@@ -3,9 +3,9 @@ use Rattle.std.specs.Prelude.{Option, ◌++◌, codes}
 use Rattle.run_model.specs.declared.name.TestInstanceId.{TestInstanceId}
 use Rattle.run_model.specs.declared.stress.StressIndex.{StressIndex}
 use Rattle.report_text.specs.Instances.{instance_text}
-use Rattle.report_text.specs.Styles.{plain}
-use Rattle.report_text.specs.Texts.{Text}
-use Rattle.report_text.specs.declared.style.Styles.{Styles}
+use Rattle.plain_text.specs.Styles.{plain}
+use Rattle.plain_text.specs.Texts.{Text}
+use Rattle.plain_text.specs.declared.style.Styles.{Styles}
 use Rattle.event_text.specs.Settings.{padded_counter}
 use Rattle.event_text.specs.declared.instance.CountedInstance.{CountedInstance}
 use Rattle.event_text.specs.declared.settings.Settings.{Settings}

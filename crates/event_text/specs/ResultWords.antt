@@ -9,7 +9,7 @@ use Rattle.run_model.specs.declared.status.FailureDescription.{FailureDescriptio
 use Rattle.run_model.specs.declared.status.FailureDescription.TheVariants.{ExitCode, Abort}
 use Rattle.run_model.specs.declared.status.LeakTimeoutResult.TheVariants as leak
 use Rattle.run_model.specs.declared.status.SlowTimeoutResult.TheVariants as slow
-use Rattle.report_text.specs.Texts.{Text}
+use Rattle.plain_text.specs.Texts.{Text}
 
 -- a process that was ended from outside: the long word and the short one
 abbrev pub long_abort_word : AbortDescription → Text

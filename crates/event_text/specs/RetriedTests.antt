@@ -11,9 +11,9 @@ use Rattle.run_model.specs.declared.output.LiveSpec.{LiveSpec}
 use Rattle.run_model.specs.declared.status.ExecuteStatus.{ExecuteStatus}
 use Rattle.run_model.specs.declared.status.RetryData.{RetryData}
 use Rattle.run_model.specs.declared.stress.StressIndex.{StressIndex}
-use Rattle.report_text.specs.Styles.{plain, styled}
-use Rattle.report_text.specs.Texts.{Text, right_in}
-use Rattle.report_text.specs.declared.style.Styles.{Styles}
+use Rattle.plain_text.specs.Styles.{plain, styled}
+use Rattle.plain_text.specs.Texts.{Text, right_in}
+use Rattle.plain_text.specs.declared.style.Styles.{Styles}
 use Rattle.unit_report.specs.Durations.{bracketed_duration, duration_by}
 use Rattle.event_text.specs.AttemptOutputs.{attempt_output}
 use Rattle.event_text.specs.Instances.{instance_end, padded_instance}

@@ -2,11 +2,11 @@
 use Rattle.std.specs.Prelude.{List, ◌∷◌, Option}
 use Rattle.std.specs.List.{AllByRecursion}
 use Rattle.run_model.specs.declared.stress.StressIndex.{StressIndex}
-use Rattle.report_text.specs.Escapes.{HasNoEscape}
-use Rattle.report_text.specs.Texts.{Text}
+use Rattle.plain_text.specs.Escapes.{HasNoEscape}
+use Rattle.plain_text.specs.Texts.{Text}
 use Rattle.report_text.specs.Instances.{script_text}
 use Rattle.report_text.specs.Quoting.{shell_words}
-use Rattle.report_text.specs.declared.style.Styles.{Styles}
+use Rattle.plain_text.specs.declared.style.Styles.{Styles}
 use Rattle.event_text.specs.declared.script.ScriptInstance.{ScriptInstance}
 
 -- a setup script: its iteration of a stress run, its id, its program and the program's arguments

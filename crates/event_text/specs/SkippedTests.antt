@@ -3,8 +3,8 @@ use Rattle.std.specs.Prelude.{Option, [], ◌++◌, codes, if◌then◌else◌}
 use Rattle.run_model.specs.declared.level.StatusLevel.TheVariants as status
 use Rattle.run_model.specs.declared.name.TestInstanceId.{TestInstanceId}
 use Rattle.run_model.specs.declared.stress.StressIndex.{StressIndex}
-use Rattle.report_text.specs.Styles.{styled}
-use Rattle.report_text.specs.Texts.{Text, right_in}
+use Rattle.plain_text.specs.Styles.{styled}
+use Rattle.plain_text.specs.Texts.{Text, right_in}
 use Rattle.event_text.specs.Instances.{padded_instance, untimed_end}
 use Rattle.event_text.specs.Settings.{is_level_shown}
 use Rattle.event_text.specs.declared.instance.CountedInstance.{CountedInstance}

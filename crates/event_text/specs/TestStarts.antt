@@ -5,8 +5,8 @@ use Rattle.run_model.specs.declared.stats.RunStats.{RunStats}
 use Rattle.run_model.specs.declared.status.RetryData.{RetryData}
 use Rattle.run_model.specs.declared.stress.StressIndex.{StressIndex}
 use Rattle.report_text.specs.Quoting.{shell_words}
-use Rattle.report_text.specs.Styles.{plain, styled}
-use Rattle.report_text.specs.Texts.{Text, right_in}
+use Rattle.plain_text.specs.Styles.{plain, styled}
+use Rattle.plain_text.specs.Texts.{Text, right_in}
 use Rattle.event_text.specs.Instances.{padded_instance, untimed_end}
 use Rattle.event_text.specs.Settings.{shows_starts, started_counter}
 use Rattle.event_text.specs.StatusLines.{attempt_words}

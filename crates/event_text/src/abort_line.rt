@@ -2,14 +2,14 @@
 
 ghost use Rattle.std.specs.Prelude.{◌≡◌};
 ghost use Rattle.report_text.specs.Failures.{nt_status_text};
-ghost use Rattle.report_text.specs.Styles.{styled};
-ghost use Rattle.report_text.specs.Writer.{Puts};
+ghost use Rattle.plain_text.specs.Styles.{styled};
+ghost use Rattle.plain_text.specs.Writer.{Puts};
 ghost use Rattle.event_text.specs.AbortLines.{indented_message, nt_message, nt_line, job_object_line, line_of_abort, line_of_failure, abort_line};
 
 use report_text::helpers::write_nt_status;
-use report_text::indenter::indented;
-use report_text::style::{Style, Styles, write_plain};
-use report_text::write_str::{WriteFault, WriteStr};
+use plain_text::indenter::indented;
+use plain_text::style::{Style, Styles, write_plain};
+use plain_text::write_str::{WriteFault, WriteStr};
 use run_model::abort::{AbortDescription, DescriptionText};
 use run_model::status::{ExecutionResultDescription, FailureDescription};
 
@@ -83,7 +83,7 @@ fn write_nt_line<W: WriteStr>(
 }
 
 // Writes a status of Windows in a style.
-#[tactic(auto, unfolding(report_text::specs::Styles::styled))]
+#[tactic(auto, unfolding(plain_text::specs::Styles::styled))]
 fn write_styled_nt_status<W: WriteStr>(w: &mut W, style: Style, code: i32) -> Result<(), WriteFault>
     ensures { Puts W.meaning w.old (styled style (nt_status_text code)) result w.new }
 {

@@ -1,11 +1,11 @@
 //! The bar that parts a report.
 
-ghost use Rattle.report_text.specs.Writer.{Puts};
+ghost use Rattle.plain_text.specs.Writer.{Puts};
 ghost use Rattle.event_text.specs.Bars.{bar_line};
 
 use report_text::helpers::ThemeCharacters;
-use report_text::style::write_plain;
-use report_text::write_str::{WriteFault, WriteStr};
+use plain_text::style::write_plain;
+use plain_text::write_str::{WriteFault, WriteStr};
 
 /// Writes the line of a bar of twelve characters.
 #[tactic(auto, unfolding(crate::specs::Bars::bar_line))]

@@ -2,13 +2,13 @@
 
 ghost use Rattle.std.specs.Prelude.{◌≡◌};
 ghost use Rattle.report_text.specs.Instances.{instance_text};
-ghost use Rattle.report_text.specs.Writer.{Puts};
+ghost use Rattle.plain_text.specs.Writer.{Puts};
 ghost use Rattle.event_text.specs.Instances.{instance_end, padded_instance, untimed_end};
 
 use crate::settings::Settings;
 use report_text::helpers::{DisplayCounterIndex, DisplayTestInstance};
-use report_text::style::{Styles, write_plain};
-use report_text::write_str::{WriteFault, WriteStr};
+use plain_text::style::{Styles, write_plain};
+use plain_text::write_str::{WriteFault, WriteStr};
 use run_model::name::TestInstanceId;
 use run_model::stress::StressIndex;
 

@@ -1,12 +1,12 @@
 //! Which setup script a line speaks of.
 
 ghost use Rattle.std.specs.Prelude.{◌≡◌};
-ghost use Rattle.report_text.specs.Writer.{Puts};
+ghost use Rattle.plain_text.specs.Writer.{Puts};
 ghost use Rattle.event_text.specs.Scripts.{script_of, shown_script};
 
 use report_text::helpers::write_script_instance;
-use report_text::style::Styles;
-use report_text::write_str::{WriteFault, WriteStr};
+use plain_text::style::Styles;
+use plain_text::write_str::{WriteFault, WriteStr};
 use run_model::command::CommandLine;
 use run_model::name::{ProgramName, ScriptId};
 use run_model::stress::StressIndex;

@@ -1,11 +1,11 @@
 //! The counts of a run in words, and the style that they give it.
 
 ghost use Rattle.std.specs.Prelude.{◌≡◌};
-ghost use Rattle.report_text.specs.Writer.{Puts};
+ghost use Rattle.plain_text.specs.Writer.{Puts};
 ghost use Rattle.event_text.specs.StatsTexts.{failure_style, progress_message, summary_text, counted_text, passed_note, passed_notes, notes_end, leaky_failed_note, due_to_being, failed_count, failed_counts, exec_failed_count, timed_out_count, other_failed_count};
 
-use report_text::style::{Style, Styles, write_plain};
-use report_text::write_str::{WriteFault, WriteStr};
+use plain_text::style::{Style, Styles, write_plain};
+use plain_text::write_str::{WriteFault, WriteStr};
 use run_model::stats::RunStats;
 
 /// The style of a run by whether something has failed in it.

@@ -2,17 +2,17 @@
 
 ghost use Rattle.std.specs.Prelude.{◌≡◌, IfOk, IsOk, false};
 ghost use Rattle.run_model.specs.Statuses.{described_summary, is_aborted};
-ghost use Rattle.report_text.specs.Writer.{Puts};
-ghost use Rattle.report_text.specs.Styles.{styled};
-ghost use Rattle.report_text.specs.Texts.{right_in};
+ghost use Rattle.plain_text.specs.Writer.{Puts};
+ghost use Rattle.plain_text.specs.Styles.{styled};
+ghost use Rattle.plain_text.specs.Texts.{right_in};
 ghost use Rattle.event_text.specs.StatusLines.{is_final, shown_summary, flaky_style, flaky_words, failure_words, success_text, is_flaky_failure, status_prefix, flaky_note, flaky_failure_line, status_line};
 
 use crate::abort_line::write_abort_line;
 use crate::instance::{CountedInstance, write_instance};
 use crate::result_words::{is_plain_success, spaced_short_status_str, status_str, success_str};
 use itoa::Buffer;
-use report_text::style::{Styles, write_plain};
-use report_text::write_str::{WriteFault, WriteStr};
+use plain_text::style::{Styles, write_plain};
+use plain_text::write_str::{WriteFault, WriteStr};
 use run_model::memory::OutOfMemory;
 use run_model::output::OutputSpec;
 use run_model::status::{

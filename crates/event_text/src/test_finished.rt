@@ -2,7 +2,7 @@
 
 ghost use Rattle.std.specs.Prelude.{◌≡◌};
 ghost use Rattle.run_model.specs.Levels.{reason_rank};
-ghost use Rattle.report_text.specs.Writer.{Puts};
+ghost use Rattle.plain_text.specs.Writer.{Puts};
 ghost use Rattle.event_text.specs.FinishedTests.{HasShownOutput, finish_of, line_at_once, output_at_once, test_finish, test_finished_text};
 
 use crate::attempt_output::write_test_execute_status;
@@ -10,7 +10,7 @@ use crate::finish::FinishRow;
 use crate::instance::CountedInstance;
 use crate::settings::Settings;
 use crate::status_line::{StatusLine, StatusLineKind, write_status_line};
-use report_text::write_str::{WriteFault, WriteStr};
+use plain_text::write_str::{WriteFault, WriteStr};
 use run_model::config::TestOutputDisplay;
 use run_model::level::CancelReason;
 use run_model::name::TestInstanceId;

@@ -1,9 +1,9 @@
 //! An attempt that failed where another one follows.
 
 ghost use Rattle.std.specs.Prelude.{◌≡◌, true};
-ghost use Rattle.report_text.specs.Styles.{styled};
-ghost use Rattle.report_text.specs.Texts.{right_in};
-ghost use Rattle.report_text.specs.Writer.{Puts};
+ghost use Rattle.plain_text.specs.Styles.{styled};
+ghost use Rattle.plain_text.specs.Texts.{right_in};
+ghost use Rattle.plain_text.specs.Writer.{Puts};
 ghost use Rattle.event_text.specs.RetriedTests.{HasFailedOutput, attempt_failed_line, attempt_failed_text, delay_line, delay_words, failed_output, is_failed_output_shown};
 ghost use Rattle.event_text.specs.Settings.{is_level_shown};
 ghost use Rattle.event_text.specs.StatusLines.{attempt_words};
@@ -15,8 +15,8 @@ use crate::instance::{CountedInstance, write_instance_end};
 use crate::result_words::spaced_short_status_str;
 use crate::settings::Settings;
 use itoa::Buffer;
-use report_text::style::{Style, Styles, write_plain};
-use report_text::write_str::{WriteFault, WriteStr};
+use plain_text::style::{Style, Styles, write_plain};
+use plain_text::write_str::{WriteFault, WriteStr};
 use run_model::config::TestOutputDisplay;
 use run_model::level::StatusLevel;
 use run_model::name::TestInstanceId;

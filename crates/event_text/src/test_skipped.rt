@@ -1,11 +1,11 @@
 //! A test that is not run.
 
-ghost use Rattle.report_text.specs.Writer.{Puts};
+ghost use Rattle.plain_text.specs.Writer.{Puts};
 ghost use Rattle.event_text.specs.SkippedTests.{skip_line, test_skipped_text};
 
 use crate::instance::{CountedInstance, write_untimed_end};
 use crate::settings::Settings;
-use report_text::write_str::{WriteFault, WriteStr};
+use plain_text::write_str::{WriteFault, WriteStr};
 use run_model::level::StatusLevel;
 use run_model::name::TestInstanceId;
 use run_model::stress::StressIndex;

@@ -1,16 +1,16 @@
 //! A test that runs longer than it should.
 
 ghost use Rattle.std.specs.Prelude.{◌≡◌};
-ghost use Rattle.report_text.specs.Styles.{styled};
-ghost use Rattle.report_text.specs.Texts.{right_in};
-ghost use Rattle.report_text.specs.Writer.{Puts};
+ghost use Rattle.plain_text.specs.Styles.{styled};
+ghost use Rattle.plain_text.specs.Texts.{right_in};
+ghost use Rattle.plain_text.specs.Writer.{Puts};
 ghost use Rattle.event_text.specs.SlowTests.{has_number, is_last_attempt, is_level_exceeded, slow_end, slow_text, slow_word, terminating_level, terminating_style, terminating_text, terminating_word, test_slow_text};
 
 use crate::instance::{CountedInstance, write_instance_end};
 use crate::settings::Settings;
 use itoa::Buffer;
-use report_text::style::{Style, Styles, write_plain};
-use report_text::write_str::{WriteFault, WriteStr};
+use plain_text::style::{Style, Styles, write_plain};
+use plain_text::write_str::{WriteFault, WriteStr};
 use run_model::level::StatusLevel;
 use run_model::name::TestInstanceId;
 use run_model::status::RetryData;

@@ -1,7 +1,7 @@
 //! A test that starts, and another attempt of one: shown where output is not captured, or with commands.
 
 ghost use Rattle.std.specs.Prelude.{◌≡◌};
-ghost use Rattle.report_text.specs.Writer.{Puts};
+ghost use Rattle.plain_text.specs.Writer.{Puts};
 ghost use Rattle.event_text.specs.Instances.{padded_instance};
 ghost use Rattle.event_text.specs.TestStarts.{command_text, retry_start_line, start_line, started_instance, test_retry_started_text, test_started_text};
 
@@ -9,8 +9,8 @@ use crate::instance::{CountedInstance, write_untimed_end};
 use crate::settings::Settings;
 use itoa::Buffer;
 use report_text::helpers::quoting::write_shell_words;
-use report_text::style::write_plain;
-use report_text::write_str::{WriteFault, WriteStr};
+use plain_text::style::write_plain;
+use plain_text::write_str::{WriteFault, WriteStr};
 use run_model::command::CommandLine;
 use run_model::name::TestInstanceId;
 use run_model::stats::RunStats;

@@ -12,12 +12,12 @@ use Rattle.run_model.specs.declared.info.UnitState.TheVariants.{Running, Exiting
 use Rattle.run_model.specs.declared.status.RetryData.{RetryData}
 use Rattle.run_model.specs.declared.unit.UnitKind.{UnitKind}
 use Rattle.run_model.specs.declared.unit.UnitKind.TheVariants as unit
-use Rattle.report_text.specs.Indent.{indent}
-use Rattle.report_text.specs.Styles.{plain, styled}
-use Rattle.report_text.specs.Texts.{Text, spaces}
+use Rattle.plain_text.specs.Indent.{indent}
+use Rattle.plain_text.specs.Styles.{plain, styled}
+use Rattle.plain_text.specs.Texts.{Text, spaces}
 use Rattle.report_text.specs.Theme.{hbar_text}
 use Rattle.report_text.specs.declared.helpers.theme.ThemeCharacters.{ThemeCharacters}
-use Rattle.report_text.specs.declared.style.Styles.{Styles}
+use Rattle.plain_text.specs.declared.style.Styles.{Styles}
 use Rattle.unit_report.specs.UnitOutputs.{OutputLayout, execution_output}
 use Rattle.unit_report.specs.declared.unit_output.header.OutputHeader.TheVariants.{Label}
 use Rattle.unit_report.specs.declared.unit_output.header.OutputName.TheVariants as name

@@ -1,7 +1,7 @@
 -- Durations within lines.
 use Rattle.std.specs.Prelude.{ℕ, ◌++◌}
-use Rattle.report_text.specs.Numbers.{seconds}
-use Rattle.report_text.specs.Texts.{Text}
+use Rattle.plain_text.specs.Numbers.{seconds}
+use Rattle.plain_text.specs.Texts.{Text}
 
 -- a duration in seconds with three decimals, between two texts
 unfoldable pub seconds_between : Text → ℕ → Text → Text

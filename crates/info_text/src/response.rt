@@ -1,8 +1,8 @@
 //! The answer of a unit that is asked what it is doing.
 
 ghost use Rattle.std.specs.Prelude.{◌≡◌, ◌+◌, codes, false};
-ghost use Rattle.report_text.specs.Indent.{indent};
-ghost use Rattle.report_text.specs.Writer.{Puts};
+ghost use Rattle.plain_text.specs.Indent.{indent};
+ghost use Rattle.plain_text.specs.Writer.{Puts};
 ghost use Rattle.unit_report.specs.UnitOutputs.{layout_of};
 ghost use Rattle.event_text.specs.Scripts.{script_of};
 ghost use Rattle.info_text.specs.Responses.{HasAnswerOutput, HasValidOutput, answer, answering_script, answering_test, info_layout, info_response_text, is_delay, number_padding, response_number, script_answer, script_unit, separator, test_answer, test_unit, told_attempt, unit_answer, valid_output};
@@ -12,10 +12,10 @@ use event_text::instance::{CountedInstance, write_instance_end};
 use event_text::script::ScriptInstance;
 use event_text::settings::Settings;
 use report_text::helpers::{ThemeCharacters, decimal_char_width};
-use report_text::indenter::indented;
-use report_text::numbers::spaces_str;
-use report_text::style::{Styles, write_plain};
-use report_text::write_str::{WriteFault, WriteStr};
+use plain_text::indenter::indented;
+use plain_text::numbers::spaces_str;
+use plain_text::style::{Styles, write_plain};
+use plain_text::write_str::{WriteFault, WriteStr};
 use run_model::info::{InfoResponse, SetupScriptInfoResponse, TestInfoResponse, UnitState};
 use run_model::output::{ChildExecutionOutputDescription, LiveSpec};
 use run_model::status::RetryData;

@@ -1,10 +1,10 @@
 //! Durations within lines.
 
-ghost use Rattle.report_text.specs.Writer.{Puts};
+ghost use Rattle.plain_text.specs.Writer.{Puts};
 ghost use Rattle.info_text.specs.Seconds.{seconds_between};
 
-use report_text::numbers::write_seconds_between;
-use report_text::write_str::{WriteFault, WriteStr};
+use plain_text::numbers::write_seconds_between;
+use plain_text::write_str::{WriteFault, WriteStr};
 use run_model::time::Nanos;
 
 /// Writes a duration in seconds with three decimals between two texts.
@@ -12,7 +12,7 @@ use run_model::time::Nanos;
 /// ```
 /// write_seconds(w, " for ", Nanos(1_500_000_000), "s") // " for 1.500s"
 /// ```
-#[tactic(auto, unfolding(crate::specs::Seconds::seconds_between, report_text::specs::Texts::right_in))]
+#[tactic(auto, unfolding(crate::specs::Seconds::seconds_between, plain_text::specs::Texts::right_in))]
 pub fn write_seconds<W: WriteStr>(
     w: &mut W,
     before: &str,

@@ -1,14 +1,14 @@
 //! That all units are asked what they are doing, and that no further answers are waited for.
 
-ghost use Rattle.report_text.specs.Writer.{Puts};
+ghost use Rattle.plain_text.specs.Writer.{Puts};
 ghost use Rattle.info_text.specs.Starts.{info_finished_text, info_started_text, missing_line, missing_note};
 
 use crate::seconds::write_seconds;
 use event_text::bar::write_bar_line;
 use event_text::settings::Settings;
 use event_text::stats_text::{failure_style, write_progress_message};
-use report_text::style::{Styles, write_plain};
-use report_text::write_str::{WriteFault, WriteStr};
+use plain_text::style::{Styles, write_plain};
+use plain_text::write_str::{WriteFault, WriteStr};
 use run_model::stats::RunStats;
 use run_model::time::Nanos;
 

@@ -2,7 +2,7 @@
 
 ghost use Rattle.std.specs.Prelude.{◌≡◌};
 ghost use Rattle.std.specs.Option.{is_some};
-ghost use Rattle.report_text.specs.Writer.{Puts};
+ghost use Rattle.plain_text.specs.Writer.{Puts};
 ghost use Rattle.info_text.specs.States.{attempt_text, delay_line, delay_note, exited_text, exiting_line, exiting_note, leak_note, nanos_of, note_start, process_of, running_style, running_text, signal_of, slow_end, state_text, status_start, taken_end, tentative_info, terminating_line, terminating_note, unit_start, unknown_info};
 ghost use Rattle.unit_report.specs.UnitKinds.{unit_word};
 
@@ -10,8 +10,8 @@ use crate::seconds::write_seconds;
 use event_text::info_result::write_info_result;
 use event_text::settings::Settings;
 use itoa::Buffer;
-use report_text::style::{Style, Styles, write_plain};
-use report_text::write_str::{WriteFault, WriteStr};
+use plain_text::style::{Style, Styles, write_plain};
+use plain_text::write_str::{WriteFault, WriteStr};
 use run_model::info::{UnitState, UnitTerminateMethod, UnitTerminatingState};
 use run_model::status::{ExecutionResultDescription, RetryData};
 use run_model::time::Nanos;

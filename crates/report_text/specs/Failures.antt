@@ -4,8 +4,8 @@ use Rattle.std.specs.Fmt.{signed_decimal}
 use Rattle.std.specs.Int.{cast_unsigned, w32}
 use Rattle.run_model.specs.declared.abort.AbortDescription.{AbortDescription}
 use Rattle.run_model.specs.declared.abort.AbortDescription.TheVariants.{UnixSignal, WindowsNtStatus, WindowsJobObject}
-use Rattle.report_text.specs.Texts.{Text}
-use Rattle.report_text.specs.Styles.{Plain, paint, plain}
+use Rattle.plain_text.specs.Texts.{Text}
+use Rattle.plain_text.specs.Styles.{Plain, paint, plain}
 use Rattle.report_text.specs.declared.helpers.failure.ExitDescription.{ExitDescription}
 use Rattle.report_text.specs.declared.helpers.failure.ExitDescription.TheVariants as ended
 

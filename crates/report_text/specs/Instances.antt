@@ -7,13 +7,13 @@ use Rattle.run_model.specs.Names.{module_path_of, last_name_of}
 use Rattle.run_model.specs.declared.name.TestInstanceId.{TestInstanceId}
 use Rattle.run_model.specs.declared.stress.StressIndex.{StressIndex}
 use Rattle.std.specs.List.{repeat}
-use Rattle.report_text.specs.Texts.{Text, right_in}
-use Rattle.report_text.specs.Escapes.{HasNoEscape}
-use Rattle.report_text.specs.Fitting.{shrunk_parts}
-use Rattle.report_text.specs.Styles.{PartText, Plain, Styled, paint}
-use Rattle.report_text.specs.declared.style.Style.{Style}
-use Rattle.report_text.specs.declared.style.Style.TheVariants as style
-use Rattle.report_text.specs.declared.style.ListStyles.{ListStyles}
+use Rattle.plain_text.specs.Texts.{Text, right_in}
+use Rattle.plain_text.specs.Escapes.{HasNoEscape}
+use Rattle.plain_text.specs.Fitting.{shrunk_parts}
+use Rattle.plain_text.specs.Styles.{PartText, Plain, Styled, paint}
+use Rattle.plain_text.specs.declared.style.Style.{Style}
+use Rattle.plain_text.specs.declared.style.Style.TheVariants as style
+use Rattle.plain_text.specs.declared.style.ListStyles.{ListStyles}
 use Rattle.report_text.specs.declared.helpers.instance.DisplayCounterIndex.{DisplayCounterIndex}
 use Rattle.report_text.specs.declared.helpers.instance.DisplayCounterIndex.TheVariants.{Counter, Padded}
 

@@ -6,10 +6,10 @@ use Rattle.run_model.specs.declared.config.NextestRunMode.{NextestRunMode}
 use Rattle.run_model.specs.declared.name.OwnedTestInstanceId.{OwnedTestInstanceId}
 use Rattle.report_text.specs.Instances.{test_text}
 use Rattle.report_text.specs.Plural.{tests_word, tests_word_if}
-use Rattle.report_text.specs.Styles.{plain, styled}
-use Rattle.report_text.specs.Texts.{Text}
-use Rattle.report_text.specs.declared.style.Style.{Style}
-use Rattle.report_text.specs.declared.style.ListStyles.{ListStyles}
+use Rattle.plain_text.specs.Styles.{plain, styled}
+use Rattle.plain_text.specs.Texts.{Text}
+use Rattle.plain_text.specs.declared.style.Style.{Style}
+use Rattle.plain_text.specs.declared.style.ListStyles.{ListStyles}
 
 unfoldable pub requires_words : Text
 requires_words = codes " requires exactly one "

@@ -9,7 +9,7 @@ use Rattle.run_model.specs.declared.status.ExecutionResultDescription.{Execution
 use Rattle.run_model.specs.declared.status.ExecutionResultDescription.TheVariants as outcome
 use Rattle.run_model.specs.declared.status.FailureDescription.{FailureDescription}
 use Rattle.run_model.specs.declared.status.FailureDescription.TheVariants.{ExitCode, Abort}
-use Rattle.report_text.specs.Escapes.{HasNoEscape}
+use Rattle.plain_text.specs.Escapes.{HasNoEscape}
 
 -- what holds of a value, where there is one
 abbrev pub HoldsIf : {X : Type 0} → (X → Type 0) → Option X → Type 0

@@ -3,7 +3,6 @@
 //! Each type whose text is its own has `write_to`, which takes no memory and has one clause: the text that was written, or a beginning of
 //! it where a fault came. Its `Display` shows that very text.
 
-pub mod decimal;
 pub mod durations;
 pub mod failure;
 pub mod instance;
@@ -12,13 +11,12 @@ mod max_width;
 pub mod paths;
 pub mod plural;
 pub mod quoting;
-pub mod repeated;
 pub mod run_id;
 pub mod script;
 pub mod theme;
 
-pub use crate::style::RESET_COLOR;
-pub use decimal::{Unsigned, decimal_char_width};
+pub use plain_text::style::RESET_COLOR;
+pub use plain_text::decimal::{Unsigned, decimal_char_width};
 pub use durations::{
     DurationRounding, FormattedDuration, FormattedHhMmSs, FormattedRelativeDuration,
 };

@@ -2,7 +2,7 @@
 
 use crate::testing::{builder, run_finished};
 use console_reporter::imp::{ReportCall, RunFault, WriteEventError, run_report};
-use report_text::write_str::{TextBuffer, WriteStr};
+use plain_text::write_str::{TextBuffer, WriteStr};
 use std::alloc::Global;
 use std::io;
 use std::io::{ErrorKind, Write};

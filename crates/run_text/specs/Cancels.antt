@@ -3,9 +3,9 @@ use Rattle.std.specs.Prelude.{â„•, Bool, true, false, Option, None, Some, [], â—
 use Rattle.run_model.specs.Levels.{reason_words}
 use Rattle.run_model.specs.declared.level.CancelReason.{CancelReason}
 use Rattle.run_model.specs.declared.level.CancelReason.TheVariants as reason
-use Rattle.report_text.specs.Styles.{plain, styled}
-use Rattle.report_text.specs.Texts.{Text, right_in}
-use Rattle.report_text.specs.declared.style.Styles.{Styles}
+use Rattle.plain_text.specs.Styles.{plain, styled}
+use Rattle.plain_text.specs.Texts.{Text, right_in}
+use Rattle.plain_text.specs.declared.style.Styles.{Styles}
 use Rattle.event_text.specs.declared.settings.Settings.{Settings}
 use Rattle.run_text.specs.Running.{is_none_running, running_of, running_text}
 use Rattle.run_text.specs.declared.running.Running.{Running}

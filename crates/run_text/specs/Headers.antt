@@ -4,10 +4,10 @@ use Rattle.jiff_core.specs.declared.civil.date.Date.{Date}
 use Rattle.jiff_core.specs.declared.civil.datetime.DateTime.{DateTime}
 use Rattle.jiff_core.specs.declared.civil.time.Time.{Time}
 use Rattle.run_model.specs.declared.replay.ReplayHeader.{ReplayHeader}
-use Rattle.report_text.specs.Texts.{Text, right_in}
-use Rattle.report_text.specs.Numbers.{last_digits}
-use Rattle.report_text.specs.Styles.{plain, styled}
-use Rattle.report_text.specs.declared.style.Styles.{Styles}
+use Rattle.plain_text.specs.Texts.{Text, right_in}
+use Rattle.plain_text.specs.Numbers.{last_digits}
+use Rattle.plain_text.specs.Styles.{plain, styled}
+use Rattle.plain_text.specs.declared.style.Styles.{Styles}
 use Rattle.run_text.specs.RunIds.{id_text}
 
 -- a minus before the year, where that is before the year 0

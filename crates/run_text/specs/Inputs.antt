@@ -2,9 +2,9 @@
 use Rattle.std.specs.Prelude.{ℕ, ◌++◌, codes}
 use Rattle.std.specs.Fmt.{decimal}
 use Rattle.run_model.specs.declared.stats.RunStats.{RunStats}
-use Rattle.report_text.specs.Texts.{Text, right_in}
-use Rattle.report_text.specs.Styles.{plain, styled}
-use Rattle.report_text.specs.declared.style.Styles.{Styles}
+use Rattle.plain_text.specs.Texts.{Text, right_in}
+use Rattle.plain_text.specs.Styles.{plain, styled}
+use Rattle.plain_text.specs.declared.style.Styles.{Styles}
 use Rattle.unit_report.specs.Durations.{bracketed_clock}
 use Rattle.event_text.specs.StatsTexts.{failure_style, progress_message}
 

@@ -7,10 +7,10 @@ use Rattle.run_model.specs.declared.name.OwnedTestInstanceId.{OwnedTestInstanceI
 use Rattle.run_model.specs.declared.not_seen.NotSeen.{NotSeen}
 use Rattle.report_text.specs.Instances.{test_text}
 use Rattle.report_text.specs.Plural.{tests_word}
-use Rattle.report_text.specs.Styles.{plain, styled}
-use Rattle.report_text.specs.Texts.{Text, right_in}
-use Rattle.report_text.specs.declared.style.ListStyles.{ListStyles}
-use Rattle.report_text.specs.declared.style.Styles.{Styles}
+use Rattle.plain_text.specs.Styles.{plain, styled}
+use Rattle.plain_text.specs.Texts.{Text, right_in}
+use Rattle.plain_text.specs.declared.style.ListStyles.{ListStyles}
+use Rattle.plain_text.specs.declared.style.Styles.{Styles}
 use Rattle.event_text.specs.declared.settings.Settings.{Settings}
 
 unfoldable pub not_seen_end : Text

@@ -1,7 +1,7 @@
 -- A run that is stopped for a while, and goes on.
 use Rattle.std.specs.Prelude.{ℕ, [], ◌++◌, codes, if◌then◌else◌}
-use Rattle.report_text.specs.Styles.{plain, styled}
-use Rattle.report_text.specs.Texts.{Text, right_in}
+use Rattle.plain_text.specs.Styles.{plain, styled}
+use Rattle.plain_text.specs.Texts.{Text, right_in}
 use Rattle.event_text.specs.declared.settings.Settings.{Settings}
 use Rattle.run_text.specs.Running.{is_none_running, running_of, running_text}
 use Rattle.run_text.specs.declared.running.Running.{Running}

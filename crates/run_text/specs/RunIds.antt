@@ -2,9 +2,9 @@
 use Rattle.std.specs.Prelude.{ℕ, List, ◌++◌, Option, None, Some}
 use Rattle.uuid.specs.Text.{hyphenated_text, lower}
 use Rattle.run_model.specs.UniquePrefixes.{UniquePrefix}
-use Rattle.report_text.specs.Texts.{Text}
-use Rattle.report_text.specs.Styles.{styled}
-use Rattle.report_text.specs.declared.style.Styles.{Styles}
+use Rattle.plain_text.specs.Texts.{Text}
+use Rattle.plain_text.specs.Styles.{styled}
+use Rattle.plain_text.specs.declared.style.Styles.{Styles}
 
 -- a run's id, hyphenated in lower case
 unfoldable pub run_id_text : List ℕ → Text

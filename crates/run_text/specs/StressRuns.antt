@@ -10,10 +10,10 @@ use Rattle.run_model.specs.declared.stress.StressProgress.{StressProgress}
 use Rattle.run_model.specs.declared.stress.StressProgress.TheVariants.{Count, Time}
 use Rattle.report_text.specs.Durations.{clock_text, whole_seconds}
 use Rattle.report_text.specs.Plural.{iterations_word}
-use Rattle.report_text.specs.Texts.{Text, right_in}
-use Rattle.report_text.specs.Styles.{plain, styled}
+use Rattle.plain_text.specs.Texts.{Text, right_in}
+use Rattle.plain_text.specs.Styles.{plain, styled}
 use Rattle.report_text.specs.declared.helpers.durations.DurationRounding.TheVariants.{Floor, Ceiling}
-use Rattle.report_text.specs.declared.style.Styles.{Styles}
+use Rattle.plain_text.specs.declared.style.Styles.{Styles}
 use Rattle.unit_report.specs.Durations.{bracketed_duration}
 use Rattle.event_text.specs.Bars.{bar_line}
 use Rattle.event_text.specs.declared.settings.Settings.{Settings}

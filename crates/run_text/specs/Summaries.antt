@@ -16,11 +16,11 @@ use Rattle.run_model.specs.declared.stats.StressFinalRunStats.{StressFinalRunSta
 use Rattle.run_model.specs.declared.stats.StressFinalRunStats.TheVariants as stress
 use Rattle.run_model.specs.declared.stats.StressRunStats.{StressRunStats}
 use Rattle.run_model.specs.declared.stress.StressIndex.{StressIndex}
-use Rattle.report_text.specs.Texts.{Text, right_in}
+use Rattle.plain_text.specs.Texts.{Text, right_in}
 use Rattle.report_text.specs.Plural.{iterations_word, tests_word_if}
-use Rattle.report_text.specs.Styles.{plain, styled}
-use Rattle.report_text.specs.declared.style.Style.{Style}
-use Rattle.report_text.specs.declared.style.Styles.{Styles}
+use Rattle.plain_text.specs.Styles.{plain, styled}
+use Rattle.plain_text.specs.declared.style.Style.{Style}
+use Rattle.plain_text.specs.declared.style.Styles.{Styles}
 use Rattle.unit_report.specs.Durations.{bracketed_duration}
 use Rattle.event_text.specs.Bars.{bar_line}
 use Rattle.event_text.specs.StatsTexts.{counted_text, summary_text}

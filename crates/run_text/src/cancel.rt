@@ -1,13 +1,13 @@
 //! A run that is about to be cancelled or killed.
 
 ghost use Rattle.std.specs.Prelude.{◌≡◌};
-ghost use Rattle.report_text.specs.Writer.{Puts};
+ghost use Rattle.plain_text.specs.Writer.{Puts};
 ghost use Rattle.run_text.specs.Cancels.{begin_cancel_text, begin_kill_text, ends_at_once, reason_text, still_running, terminating_note, terminating_words};
 
 use crate::running::Running;
 use event_text::settings::Settings;
-use report_text::style::{Styles, write_plain};
-use report_text::write_str::{WriteFault, WriteStr};
+use plain_text::style::{Styles, write_plain};
+use plain_text::write_str::{WriteFault, WriteStr};
 use run_model::level::CancelReason;
 
 /// Writes that the run is about to be cancelled, why, and how many setup scripts or tests still run.

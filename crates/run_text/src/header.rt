@@ -1,14 +1,14 @@
 //! What a replay says before it: which recorded run it shows, when that started, and how it ended.
 
 ghost use Rattle.std.specs.Prelude.{◌≡◌};
-ghost use Rattle.report_text.specs.Writer.{Puts};
+ghost use Rattle.plain_text.specs.Writer.{Puts};
 ghost use Rattle.run_text.specs.Headers.{date_text, replay_header_text, replaying_line, started_line, started_text, time_text, year_sign};
 
 use crate::run_id::write_run_id;
 use jiff::civil::{Date, DateTime, Time};
-use report_text::numbers::digit_str;
-use report_text::style::{Styles, write_plain};
-use report_text::write_str::{WriteFault, WriteStr, write_strs};
+use plain_text::numbers::digit_str;
+use plain_text::style::{Styles, write_plain};
+use plain_text::write_str::{WriteFault, WriteStr, write_strs};
 use run_model::replay::ReplayHeader;
 
 /// Writes what a replay says before it.

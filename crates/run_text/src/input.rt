@@ -1,11 +1,11 @@
 //! How a run stands, when it is asked for by a key.
 
-ghost use Rattle.report_text.specs.Writer.{Puts};
+ghost use Rattle.plain_text.specs.Writer.{Puts};
 ghost use Rattle.run_text.specs.Inputs.{finished_of_initial, input_enter_text};
 
 use event_text::stats_text::{failure_style, write_progress_message};
-use report_text::style::{Styles, write_plain};
-use report_text::write_str::{WriteFault, WriteStr};
+use plain_text::style::{Styles, write_plain};
+use plain_text::write_str::{WriteFault, WriteStr};
 use run_model::stats::RunStats;
 use run_model::time::Nanos;
 use unit_report::formatters::DisplayBracketedHhMmSs;

@@ -1,12 +1,12 @@
 //! A run that is stopped for a while, and goes on.
 
-ghost use Rattle.report_text.specs.Writer.{Puts};
+ghost use Rattle.plain_text.specs.Writer.{Puts};
 ghost use Rattle.run_text.specs.Pauses.{now_running, pause_text, run_continued_text, run_paused_text};
 
 use crate::running::Running;
 use event_text::settings::Settings;
-use report_text::style::write_plain;
-use report_text::write_str::{WriteFault, WriteStr};
+use plain_text::style::write_plain;
+use plain_text::write_str::{WriteFault, WriteStr};
 
 /// Writes that the run was stopped for a while, and how many setup scripts or tests run.
 ///

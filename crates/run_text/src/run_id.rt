@@ -1,11 +1,11 @@
 //! The id of a run.
 
 ghost use Rattle.std.specs.Prelude.{◌≡◌, ◌≤◌, length};
-ghost use Rattle.report_text.specs.Writer.{Puts};
+ghost use Rattle.plain_text.specs.Writer.{Puts};
 ghost use Rattle.run_text.specs.RunIds.{run_id_text, id_text};
 
-use report_text::style::Styles;
-use report_text::write_str::{WriteFault, WriteStr};
+use plain_text::style::Styles;
+use plain_text::write_str::{WriteFault, WriteStr};
 use run_model::run_id::ShortestRunIdPrefix;
 use uuid::Uuid;
 

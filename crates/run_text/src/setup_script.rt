@@ -1,9 +1,9 @@
 //! Setup scripts: that one has started, runs for long or has finished.
 
 ghost use Rattle.std.specs.Prelude.{◌≡◌, ◌++◌};
-ghost use Rattle.report_text.specs.Styles.{styled};
-ghost use Rattle.report_text.specs.Texts.{right_in};
-ghost use Rattle.report_text.specs.Writer.{Puts};
+ghost use Rattle.plain_text.specs.Styles.{styled};
+ghost use Rattle.plain_text.specs.Texts.{right_in};
+ghost use Rattle.plain_text.specs.Writer.{Puts};
 ghost use Rattle.event_text.specs.Scripts.{script_of};
 ghost use Rattle.run_text.specs.SetupScripts.{HasFailedOutput, failed_script_output, script_counter, script_status_style, script_status_words, setup_script_finished_text, setup_script_line, setup_script_slow_text, setup_script_started_text, shown_slow_script, slow_script_level, slow_script_words};
 
@@ -12,9 +12,9 @@ use event_text::result_words::spaced_short_status_str;
 use event_text::script::ScriptInstance;
 use event_text::settings::Settings;
 use itoa::Buffer;
-use report_text::numbers::write_right_joined;
-use report_text::style::{Style, Styles, write_plain};
-use report_text::write_str::{WriteFault, WriteStr};
+use plain_text::numbers::write_right_joined;
+use plain_text::style::{Style, Styles, write_plain};
+use plain_text::write_str::{WriteFault, WriteStr};
 use run_model::level::StatusLevel;
 use run_model::output::LiveSpec;
 use run_model::status::{ExecutionResultDescription, LeakTimeoutResult, SetupScriptExecuteStatus};

@@ -1,14 +1,14 @@
 //! The start of a run: its id and profile, and what it is to run.
 
-ghost use Rattle.report_text.specs.Writer.{Puts};
+ghost use Rattle.plain_text.specs.Writer.{Puts};
 ghost use Rattle.run_text.specs.Starts.{profile_text, run_id_line, test_counts_text, starting_line, run_started_text};
 
 use crate::run_id::write_run_id;
 use event_text::bar::write_bar_line;
 use event_text::settings::Settings;
 use report_text::helpers::plural::{binaries_str, tests_str};
-use report_text::style::{Styles, write_plain};
-use report_text::write_str::{WriteFault, WriteStr};
+use plain_text::style::{Styles, write_plain};
+use plain_text::write_str::{WriteFault, WriteStr};
 use run_model::config::NextestRunMode;
 use run_model::event::TestCounts;
 use run_model::name::ProfileName;

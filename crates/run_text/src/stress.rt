@@ -5,8 +5,8 @@ ghost use Rattle.std.specs.Option.{option_map};
 ghost use Rattle.std.specs.Int.NonZero.{non_zero_u32_get};
 ghost use Rattle.run_model.specs.Stress.{remaining_value};
 ghost use Rattle.report_text.specs.Durations.{clock_text, whole_seconds};
-ghost use Rattle.report_text.specs.Styles.{styled};
-ghost use Rattle.report_text.specs.Writer.{Puts};
+ghost use Rattle.plain_text.specs.Styles.{styled};
+ghost use Rattle.plain_text.specs.Writer.{Puts};
 ghost use Rattle.run_text.specs.StressRuns.{count_left_text, elapsed_text, elapsed_words, iteration_text, of_iterations, of_time, remaining_text, stress_sub_run_finished_text, stress_sub_run_line, stress_sub_run_started_text, time_left_text};
 
 use crate::summary::{outcome_style, write_run_counts};
@@ -14,8 +14,8 @@ use event_text::bar::write_bar_line;
 use event_text::settings::Settings;
 use report_text::helpers::plural::iterations_str;
 use report_text::helpers::{DurationRounding, FormattedHhMmSs};
-use report_text::style::{Styles, write_plain};
-use report_text::write_str::{WriteFault, WriteStr};
+use plain_text::style::{Styles, write_plain};
+use plain_text::write_str::{WriteFault, WriteStr};
 use run_model::stats::RunStats;
 use run_model::stress::{StressCount, StressProgress, StressRemaining};
 use run_model::time::Nanos;
@@ -131,7 +131,7 @@ fn write_of_time<W: WriteStr>(
 }
 
 // Writes hours, minutes and seconds as a number.
-#[tactic(auto, unfolding(report_text::specs::Styles::styled))]
+#[tactic(auto, unfolding(plain_text::specs::Styles::styled))]
 fn write_hh_mm_ss<W: WriteStr>(
     w: &mut W,
     styles: &Styles,

@@ -1,15 +1,15 @@
 //! The end of a run before its entries: how long it took, and its counts.
 
 ghost use Rattle.std.specs.Prelude.{◌≡◌};
-ghost use Rattle.report_text.specs.Writer.{Puts};
+ghost use Rattle.plain_text.specs.Writer.{Puts};
 ghost use Rattle.run_text.specs.Summaries.{cancel_reason_text, cancelled_due_to, cancelled_words, failed_iterations, initial_count_text, iterations_run_text, last_number, of_total, outcome_style, run_counts_text, run_finished_text, stress_counts_text, stress_outcome_style, stress_run_words, summary_counts, summary_line, summary_style};
 
 use event_text::bar::write_bar_line;
 use event_text::settings::Settings;
 use event_text::stats_text::{write_counted, write_summary_text};
 use report_text::helpers::plural::{iterations_str, tests_plural_if};
-use report_text::style::{Style, Styles, write_plain};
-use report_text::write_str::{WriteFault, WriteStr};
+use plain_text::style::{Style, Styles, write_plain};
+use plain_text::write_str::{WriteFault, WriteStr};
 use run_model::config::NextestRunMode;
 use run_model::level::CancelReason;
 use run_model::stats::{

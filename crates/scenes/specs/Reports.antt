@@ -8,9 +8,9 @@ use Rattle.unit_report.specs.declared.config.ShowProgress.{ShowProgress}
 use Rattle.unit_report.specs.declared.config.ShowProgress.TheVariants as progress
 use Rattle.unit_report.specs.declared.unit_output.DisplayerKind.{DisplayerKind}
 use Rattle.unit_report.specs.declared.unit_output.DisplayerKind.TheVariants as displayer
-use Rattle.report_text.specs.Texts.{Text}
-use Rattle.report_text.specs.Buffer.{GrowsWithin}
-use Rattle.report_text.specs.Writer.{Meaning}
+use Rattle.plain_text.specs.Texts.{Text}
+use Rattle.plain_text.specs.Buffer.{GrowsWithin}
+use Rattle.plain_text.specs.Writer.{Meaning}
 use Rattle.store_text.specs.declared.config.StoreConfig.{StoreConfig}
 use Rattle.console_reporter.specs.Configuration.{Configuration, configured}
 use Rattle.console_reporter.specs.Outcomes.{HasFront, Stops, StopsRecord}

@@ -1,7 +1,7 @@
 -- Netstrings: a text after the number of its bytes, so that it may hold any.
 use Rattle.std.specs.Prelude.{ℕ, ◌+◌, ◌++◌, length, codes}
 use Rattle.std.specs.Fmt.{decimal}
-use Rattle.report_text.specs.Texts.{Text}
+use Rattle.plain_text.specs.Texts.{Text}
 
 -- what stands before a text of so many bytes
 unfoldable pub netstring_head : ℕ → Text

@@ -4,7 +4,7 @@ use Rattle.run_model.specs.Attempts.{Attempts}
 use Rattle.run_model.specs.declared.name.TestInstanceId.{TestInstanceId}
 use Rattle.run_model.specs.declared.output.ChildOutputDescription.{ChildOutputDescription}
 use Rattle.run_model.specs.declared.output.LiveSpec.{LiveSpec}
-use Rattle.report_text.specs.Texts.{Text}
+use Rattle.plain_text.specs.Texts.{Text}
 use Rattle.event_text.specs.ResultWords.{short_word}
 use Rattle.store_text.specs.Netstrings.{netstring}
 use Rattle.store_text.specs.StoredOutputs.{stored_output}

@@ -1,11 +1,11 @@
 //! Netstrings: a text after the number of its bytes.
 
 ghost use Rattle.std.specs.Prelude.{◌≡◌, ◌++◌};
-ghost use Rattle.report_text.specs.Writer.{Puts};
+ghost use Rattle.plain_text.specs.Writer.{Puts};
 ghost use Rattle.store_text.specs.Netstrings.{joined_netstring, netstring, netstring_head};
 
 use itoa::Buffer;
-use report_text::write_str::{WriteFault, WriteStr, write_strs};
+use plain_text::write_str::{WriteFault, WriteStr, write_strs};
 
 /// Writes a text as a netstring.
 ///

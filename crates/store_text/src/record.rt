@@ -2,7 +2,7 @@
 
 ghost use Rattle.std.specs.Prelude.{◌≡◌, ◌++◌};
 ghost use Rattle.event_text.specs.ResultWords.{short_word};
-ghost use Rattle.report_text.specs.Writer.{Puts};
+ghost use Rattle.plain_text.specs.Writer.{Puts};
 ghost use Rattle.store_text.specs.Netstrings.{netstring};
 ghost use Rattle.store_text.specs.Records.{record_text};
 
@@ -11,7 +11,7 @@ use crate::netstring::{write_joined_netstring, write_netstring};
 use crate::stored_output::write_stored_output;
 use crate::word::short_status_str;
 use itoa::Buffer;
-use report_text::write_str::{WriteFault, WriteStr};
+use plain_text::write_str::{WriteFault, WriteStr};
 use run_model::name::TestInstanceId;
 use run_model::output::LiveSpec;
 use run_model::status::{ExecutionResultDescription, ExecutionStatuses};

@@ -1,14 +1,14 @@
 //! What is kept of captured output: its text, with the escape sequences that it has.
 
 ghost use Rattle.std.specs.Prelude.{◌≡◌, ◌++◌, []};
-ghost use Rattle.report_text.specs.Writer.{Puts};
+ghost use Rattle.plain_text.specs.Writer.{Puts};
 ghost use Rattle.store_text.specs.Netstrings.{joined_netstring, netstring};
 ghost use Rattle.store_text.specs.StoredOutputs.{captured_text, stored_output, stream_text, written_text};
 
 use crate::config::StoreConfig;
 use crate::netstring::write_netstring_head;
-use report_text::lossy::LossyText;
-use report_text::write_str::{WriteFault, WriteStr};
+use plain_text::lossy::LossyText;
+use plain_text::write_str::{WriteFault, WriteStr};
 use run_model::output::{
     ChildExecutionOutputDescription, ChildOutputDescription, ChildSingleOutput, LiveSpec,
 };

@@ -3,9 +3,9 @@
 ghost use Rattle.std.specs.Prelude.{◌≡◌, IfOk, OnOk, string_bytes};
 ghost use Rattle.std.specs.Io.KnownBytes.{Appends};
 ghost use Rattle.std.specs.Option.{IfSome};
-ghost use Rattle.report_text.specs.Escapes.{visible};
+ghost use Rattle.plain_text.specs.Escapes.{visible};
 
-use report_text::escapes::{strip, write_stripped};
+use plain_text::escapes::{strip, write_stripped};
 use run_model::memory::OutOfMemory;
 use std::alloc::Global;
 use std::io;

@@ -2,14 +2,14 @@
 use Rattle.std.specs.Prelude.{ℕ, ◌+◌, Bool, true, false, ◌&&◌, ◌==◌, List, [], ◌∷◌, ◌++◌, Option, None, Some, take, drop, if◌then◌else◌}
 use Rattle.run_model.specs.Outputs.{Part}
 use Rattle.run_model.specs.declared.output.ByteSubslice.{ByteSubslice}
-use Rattle.report_text.specs.EndLine.{without_end_line}
-use Rattle.report_text.specs.Escapes.{visible}
-use Rattle.report_text.specs.Highlights.{highlight_end}
-use Rattle.report_text.specs.Lossy.{ends_character}
-use Rattle.report_text.specs.Styles.{plain, reset_color}
-use Rattle.report_text.specs.Texts.{Text}
-use Rattle.report_text.specs.declared.style.Style.{Style}
-use Rattle.report_text.specs.declared.style.Styles.{Styles}
+use Rattle.plain_text.specs.EndLine.{without_end_line}
+use Rattle.plain_text.specs.Escapes.{visible}
+use Rattle.plain_text.specs.Highlights.{highlight_end}
+use Rattle.plain_text.specs.Lossy.{ends_character}
+use Rattle.plain_text.specs.Styles.{plain, reset_color}
+use Rattle.plain_text.specs.Texts.{Text}
+use Rattle.plain_text.specs.declared.style.Style.{Style}
+use Rattle.plain_text.specs.declared.style.Styles.{Styles}
 use Rattle.unit_report.specs.HighlightedLines.{highlighted_lines}
 
 -- without colour: no escape sequences, and one line feed at the end

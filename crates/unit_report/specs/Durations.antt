@@ -1,8 +1,8 @@
 -- Durations in the lines of a report.
 use Rattle.std.specs.Prelude.{ℕ, ◌/◌, ◌++◌, codes}
 use Rattle.report_text.specs.Durations.{clock_text}
-use Rattle.report_text.specs.Texts.{Text, right_in}
-use Rattle.report_text.specs.Numbers.{seconds}
+use Rattle.plain_text.specs.Texts.{Text, right_in}
+use Rattle.plain_text.specs.Numbers.{seconds}
 
 -- nanoseconds as seconds, right in eight columns between brackets
 unfoldable pub bracketed_duration : ℕ → Text

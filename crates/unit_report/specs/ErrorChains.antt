@@ -2,9 +2,9 @@
 use Rattle.std.specs.Prelude.{false, List, [], ◌∷◌, ◌++◌, codes}
 use Rattle.std.specs.List.{flat_map}
 use Rattle.run_model.specs.ErrorChains.{MessageAndCauses}
-use Rattle.report_text.specs.Indent.{indent}
-use Rattle.report_text.specs.Styles.{plain}
-use Rattle.report_text.specs.Texts.{Text}
+use Rattle.plain_text.specs.Indent.{indent}
+use Rattle.plain_text.specs.Styles.{plain}
+use Rattle.plain_text.specs.Texts.{Text}
 
 -- a cause on a line of its own; its later lines stand under its first
 unfoldable pub cause_text : Text → Text

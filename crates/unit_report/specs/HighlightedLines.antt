@@ -1,11 +1,11 @@
 -- Lines in the style of a highlight.
 use Rattle.std.specs.Prelude.{ℕ, suc, Bool, true, ◌&&◌, ◌||◌, ◌==◌, [], ◌∷◌, ◌++◌, take, drop, if◌then◌else◌}
 use Rattle.std.specs.List.{flat_map}
-use Rattle.report_text.specs.Escapes.{visible}
-use Rattle.report_text.specs.Lines.{whole_lines}
-use Rattle.report_text.specs.Styles.{style_prefix, style_suffix}
-use Rattle.report_text.specs.Texts.{Text}
-use Rattle.report_text.specs.declared.style.Style.{Style}
+use Rattle.plain_text.specs.Escapes.{visible}
+use Rattle.plain_text.specs.Lines.{whole_lines}
+use Rattle.plain_text.specs.Styles.{style_prefix, style_suffix}
+use Rattle.plain_text.specs.Texts.{Text}
+use Rattle.plain_text.specs.declared.style.Style.{Style}
 
 -- a line feed or a carriage return
 abbrev pub closes_line : ℕ → Bool

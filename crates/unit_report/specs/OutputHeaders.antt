@@ -1,8 +1,8 @@
 -- The line before a stream.
 use Rattle.std.specs.Prelude.{ℕ, ◌++◌, Option, None, Some, codes}
-use Rattle.report_text.specs.Styles.{plain, styled}
+use Rattle.plain_text.specs.Styles.{plain, styled}
 use Rattle.report_text.specs.Theme.{hbar_text}
-use Rattle.report_text.specs.Texts.{Text}
+use Rattle.plain_text.specs.Texts.{Text}
 use Rattle.report_text.specs.declared.helpers.theme.ThemeCharacters.{ThemeCharacters}
 use Rattle.unit_report.specs.declared.unit_output.header.OutputHeader.{OutputHeader}
 use Rattle.unit_report.specs.declared.unit_output.header.OutputHeader.TheVariants.{Bars, Label}

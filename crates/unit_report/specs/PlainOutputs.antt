@@ -8,11 +8,11 @@ use Rattle.run_model.specs.declared.output.ChildOutputDescription.{ChildOutputDe
 use Rattle.run_model.specs.declared.output.ChildOutputDescription.TheVariants.{Split, Combined, NotLoaded}
 use Rattle.run_model.specs.declared.output.Highlight.{Highlight}
 use Rattle.run_model.specs.declared.output.LiveSpec.{LiveSpec}
-use Rattle.report_text.specs.EndLine.{ends_in_line_feed}
-use Rattle.report_text.specs.Escapes.{HasNoEscape}
-use Rattle.report_text.specs.Lossy.{decoded_text}
+use Rattle.plain_text.specs.EndLine.{ends_in_line_feed}
+use Rattle.plain_text.specs.Escapes.{HasNoEscape}
+use Rattle.plain_text.specs.Lossy.{decoded_text}
 use Rattle.report_text.specs.PlainTexts.{HoldsIf, IsPlainChain}
-use Rattle.report_text.specs.Texts.{Text}
+use Rattle.plain_text.specs.Texts.{Text}
 use Rattle.unit_report.specs.Captured.{is_valid, highlight_stop}
 
 -- a valid highlight of a text that closes with a line feed ends before the text does

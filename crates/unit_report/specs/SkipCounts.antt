@@ -8,9 +8,9 @@ use Rattle.run_model.specs.declared.config.CompiledDefaultFilterSection.{Compile
 use Rattle.run_model.specs.declared.config.CompiledDefaultFilterSection.TheVariants.{Profile, Override}
 use Rattle.run_model.specs.declared.event.SkipCounts.{SkipCounts}
 use Rattle.report_text.specs.Plural.{tests_word, binaries_word}
-use Rattle.report_text.specs.Styles.{plain, styled}
-use Rattle.report_text.specs.Texts.{Text}
-use Rattle.report_text.specs.declared.style.Styles.{Styles}
+use Rattle.plain_text.specs.Styles.{plain, styled}
+use Rattle.plain_text.specs.Texts.{Text}
+use Rattle.plain_text.specs.declared.style.Styles.{Styles}
 
 -- the tests that are skipped, in benchmark mode without those that are no benchmarks
 abbrev pub skipped_tests_in : NextestRunMode → SkipCounts → ℕ

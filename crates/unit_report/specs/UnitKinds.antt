@@ -4,7 +4,7 @@ use Rattle.run_model.specs.declared.config.NextestRunMode.{NextestRunMode}
 use Rattle.run_model.specs.declared.config.NextestRunMode.TheVariants as mode
 use Rattle.run_model.specs.declared.unit.UnitKind.{UnitKind}
 use Rattle.run_model.specs.declared.unit.UnitKind.TheVariants as kind
-use Rattle.report_text.specs.Texts.{Text}
+use Rattle.plain_text.specs.Texts.{Text}
 
 unfoldable pub unit_word : NextestRunMode → UnitKind → Text
 unit_word mode.Test kind.Test = codes "test"

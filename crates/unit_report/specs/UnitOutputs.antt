@@ -10,11 +10,11 @@ use Rattle.run_model.specs.declared.output.ChildOutputDescription.TheVariants.{S
 use Rattle.run_model.specs.declared.output.Highlight.{Highlight}
 use Rattle.run_model.specs.declared.output.LiveSpec.{LiveSpec}
 use Rattle.run_model.specs.declared.unit.UnitKind.{UnitKind}
-use Rattle.report_text.specs.Indent.{indent}
-use Rattle.report_text.specs.Lossy.{decoded_text}
-use Rattle.report_text.specs.Styles.{Plain, Styled, paint, plain}
-use Rattle.report_text.specs.Texts.{Text}
-use Rattle.report_text.specs.declared.style.Styles.{Styles}
+use Rattle.plain_text.specs.Indent.{indent}
+use Rattle.plain_text.specs.Lossy.{decoded_text}
+use Rattle.plain_text.specs.Styles.{Plain, Styled, paint, plain}
+use Rattle.plain_text.specs.Texts.{Text}
+use Rattle.plain_text.specs.declared.style.Styles.{Styles}
 use Rattle.unit_report.specs.Captured.{captured}
 use Rattle.unit_report.specs.ErrorChains.{error_chain_text}
 use Rattle.unit_report.specs.OutputHeaders.{header_text, name_text}

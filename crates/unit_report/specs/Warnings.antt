@@ -10,9 +10,9 @@ use Rattle.run_model.specs.declared.stats.FinalRunStats.TheVariants.{Success, No
 use Rattle.run_model.specs.declared.stats.RunStatsFailureKind.{RunStatsFailureKind}
 use Rattle.run_model.specs.declared.stats.RunStatsFailureKind.TheVariants.{SetupScript, Test}
 use Rattle.report_text.specs.Plural.{tests_word_if, were_word}
-use Rattle.report_text.specs.Styles.{plain, styled}
-use Rattle.report_text.specs.Texts.{Text}
-use Rattle.report_text.specs.declared.style.Styles.{Styles}
+use Rattle.plain_text.specs.Styles.{plain, styled}
+use Rattle.plain_text.specs.Texts.{Text}
+use Rattle.plain_text.specs.declared.style.Styles.{Styles}
 
 -- the reason, where it is known
 unfoldable pub due_to : Styles → Option CancelReason → Text

@@ -27,8 +27,8 @@ use Rattle.run_model.specs.declared.status.StatusSummary.{StatusSummary}
 use Rattle.run_model.specs.declared.stress.StressIndex.{StressIndex}
 use Rattle.run_model.specs.declared.time.Nanos.{Nanos}
 use Rattle.run_model.specs.declared.unit.UnitKind.TheVariants as unit
-use Rattle.report_text.specs.Texts.{Text}
-use Rattle.report_text.proofs.lemmas.Decoded.{decoded-same}
+use Rattle.plain_text.specs.Texts.{Text}
+use Rattle.plain_text.proofs.lemmas.Decoded.{decoded-same}
 use Rattle.store_text.specs.Netstrings.{netstring, netstring_head}
 use Rattle.store_text.specs.Records.{record_text}
 use Rattle.store_text.specs.StoredOutputs.{is_stored, stored_output}

@@ -6,13 +6,13 @@ use Rattle.std.proofs.lemmas.List.{append_cancel_left, append_cancel_right}
 use Rattle.std.proofs.lemmas.Str.{IsUtf8-from_ascii}
 use Rattle.run_model.specs.declared.status.ExecutionResultDescription.{ExecutionResultDescription}
 use Rattle.run_model.specs.declared.unit.UnitKind.{UnitKind}
-use Rattle.report_text.specs.EndLine.{without_end_line}
-use Rattle.report_text.specs.Escapes.{visible_after}
-use Rattle.report_text.specs.Indent.{indent}
-use Rattle.report_text.specs.Styles.{plain}
-use Rattle.report_text.specs.Texts.{Text}
-use Rattle.report_text.specs.declared.style.Styles.{Styles}
-use Rattle.report_text.proofs.lemmas.Decoded.{decoded-same}
+use Rattle.plain_text.specs.EndLine.{without_end_line}
+use Rattle.plain_text.specs.Escapes.{visible_after}
+use Rattle.plain_text.specs.Indent.{indent}
+use Rattle.plain_text.specs.Styles.{plain}
+use Rattle.plain_text.specs.Texts.{Text}
+use Rattle.plain_text.specs.declared.style.Styles.{Styles}
+use Rattle.plain_text.proofs.lemmas.Decoded.{decoded-same}
 use Rattle.unit_report.specs.Captured.{captured, coloured_output, plain_output, reset_output}
 use Rattle.unit_report.specs.OutputHeaders.{header_text}
 use Rattle.unit_report.specs.UnitOutputs.{child_output, errors_text, execution_output, present_stream, shown_stream}

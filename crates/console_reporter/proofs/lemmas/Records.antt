@@ -2,7 +2,7 @@
 use Rattle.std.proofs.Common.{◌≡◌, ℕ, ◌+◌, ◌<◌, ◌≤◌, List, [], length, reverse, get_or, sym, ap, ◌∙◌, subst, append-nil, arith, Option}
 use Rattle.std.specs.Option.{option_map_or}
 use Rattle.std.proofs.lemmas.Option.{slice_get-get_or, slice_get_past}
-use Rattle.report_text.specs.Writer.{Meaning, WriterLaws, one_further}
+use Rattle.plain_text.specs.Writer.{Meaning, WriterLaws, one_further}
 use Rattle.console_reporter.specs.Outcomes.{StopsRecord, StopsRecordAfter}
 use Rattle.console_reporter.specs.Report.{past_at}
 use Rattle.console_reporter.specs.Stored.{stored, stored_at, stored_text}

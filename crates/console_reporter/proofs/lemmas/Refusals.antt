@@ -1,7 +1,7 @@
 -- Refusals (for `DisplayReporter::write_event`).
 use Rattle.std.proofs.Common.{◌≡◌, ℕ, List, true, Option, None, Some, false, inl, refl}
 use Rattle.std.specs.Option.{is_some}
-use Rattle.report_text.specs.Writer.{Meaning}
+use Rattle.plain_text.specs.Writer.{Meaning}
 use Rattle.console_reporter.specs.Slots.{store_meaning}
 use Rattle.console_reporter.specs.Telling.{Breaks}
 use Rattle.run_model.specs.declared.call.ReportCall.{ReportCall}

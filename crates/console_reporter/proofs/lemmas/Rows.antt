@@ -32,8 +32,8 @@ use Rattle.run_model.specs.Names.{last_colons}
 use Rattle.run_model.specs.Attempts.{Attempts}
 use Rattle.run_model.specs.Statuses.{summary_of}
 use Rattle.report_text.specs.Plural.{tests_word_if, binaries_word}
-use Rattle.report_text.specs.Styles.{plain, styled, styles_of}
-use Rattle.report_text.specs.Texts.{Text, right_in}
+use Rattle.plain_text.specs.Styles.{plain, styled, styles_of}
+use Rattle.plain_text.specs.Texts.{Text, right_in}
 use Rattle.report_text.specs.Theme.{hbar_text}
 use Rattle.event_text.specs.AbortLines.{abort_line}
 use Rattle.event_text.specs.AttemptOutputs.{Written}
@@ -55,7 +55,7 @@ use Rattle.event_text.specs.declared.settings.Settings.{Settings}
 use Rattle.event_text.specs.declared.status_line.StatusLineKind.{StatusLineKind}
 use Rattle.event_text.specs.declared.status_line.StatusLineKind.TheVariants.{Intermediate, Final}
 use Rattle.event_text.specs.StatsTexts.{summary_text, counted_text, passed_notes, passed_note, notes_end, failed_counts, failed_count, leaky_failed_note, due_to_being, exec_failed_count, timed_out_count, other_failed_count}
-use Rattle.report_text.specs.Numbers.{seconds, with_point}
+use Rattle.plain_text.specs.Numbers.{seconds, with_point}
 use Rattle.report_text.specs.Instances.{test_text, stress_prefix, counter_prefix, name_text}
 use Rattle.unit_report.specs.Durations.{bracketed_duration}
 

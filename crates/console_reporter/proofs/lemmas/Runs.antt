@@ -1,6 +1,6 @@
 -- Calls in turn, of a reporter with both its writers (for `DisplayReporter::make_calls`).
 use Rattle.std.proofs.Common.{◌≡◌, ℕ, ◌+◌, ◌<◌, List, [], Some, None, length, reverse, get_or, subst, sym, ◌∙◌, arith}
-use Rattle.report_text.specs.Writer.{Meaning, WriterLaws}
+use Rattle.plain_text.specs.Writer.{Meaning, WriterLaws}
 use Rattle.console_reporter.specs.Report.{past_at}
 use Rattle.console_reporter.specs.Standing.{StandsAfter}
 use Rattle.console_reporter.specs.Telling.{AreSameWriters, Breaks, BreaksRun, Tells, TellsRun}

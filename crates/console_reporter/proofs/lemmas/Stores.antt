@@ -1,8 +1,8 @@
 -- A store that may be absent obeys the laws of writers (for `DisplayReporter::make_calls`, `run_report_with_store`).
 use Rattle.std.proofs.Common.{◌≡◌, ℕ, List, [], ◌++◌, Option, None, Some, refl, ap, subst, ◌∙◌, Result, Ok, Err, OnOk, IfErr, inl, inr}
 use Rattle.std.specs.Io.KnownBytes.{Appends}
-use Rattle.report_text.specs.Writer.{AppendsFront, Meaning, WriterLaws, one_further}
-use Rattle.report_text.specs.declared.write_str.WriteFault.TheVariants.{Device, Memory as RefusedMemory}
+use Rattle.plain_text.specs.Writer.{AppendsFront, Meaning, WriterLaws, one_further}
+use Rattle.plain_text.specs.declared.write_str.WriteFault.TheVariants.{Device, Memory as RefusedMemory}
 use Rattle.console_reporter.specs.Outcomes.{StopsRecord, StopsRecordAfter}
 use Rattle.console_reporter.specs.Standing.{StandsAfter}
 use Rattle.console_reporter.specs.Configuration.{Configuration}
@@ -13,7 +13,7 @@ use Rattle.console_reporter.specs.declared.imp.faults.RunFault.{RunFault}
 use Rattle.run_model.specs.Levels.{reason_rank}
 use Rattle.console_reporter.specs.declared.imp.faults.WriteEventError.{WriteEventError}
 use Rattle.console_reporter.specs.declared.imp.faults.WriteEventError.TheVariants.{RetriedSuccess, OutputNotLoaded, Io, Memory, Failed, StoreIo}
-use Rattle.report_text.specs.declared.write_str.WriteFault.{WriteFault}
+use Rattle.plain_text.specs.declared.write_str.WriteFault.{WriteFault}
 use Rattle.console_reporter.specs.Report.{past_at}
 use Rattle.console_reporter.specs.Stored.{stored, stored_at}
 use Rattle.console_reporter.specs.Telling.{BreaksRun, TellsRun}

@@ -32,12 +32,12 @@ use Rattle.run_model.specs.declared.stats.RunStatsFailureKind.TheVariants.{Setup
 use Rattle.unit_report.specs.UnitOutputs.{OutputLayout, execution_output}
 use Rattle.unit_report.specs.declared.unit_output.reporter.UnitOutputReporter.{UnitOutputReporter}
 use Rattle.unit_report.specs.Warnings.{not_run_warning, final_warnings}
-use Rattle.report_text.specs.Numbers.{seconds}
-use Rattle.report_text.specs.Texts.{Text}
+use Rattle.plain_text.specs.Numbers.{seconds}
+use Rattle.plain_text.specs.Texts.{Text}
 use Rattle.run_model.specs.declared.replay.ReplayHeader.{ReplayHeader}
 use Rattle.run_text.specs.Headers.{replay_header_text, started_line}
-use Rattle.report_text.specs.Styles.{plain}
-use Rattle.report_text.specs.declared.style.Styles.{Styles}
+use Rattle.plain_text.specs.Styles.{plain}
+use Rattle.plain_text.specs.declared.style.Styles.{Styles}
 use Rattle.event_text.specs.AbortLines.{nt_line, job_object_line, line_of_abort, abort_line}
 use Rattle.event_text.specs.AttemptOutputs.{Written, attempt_output, has_info_line, info_line, shown_info_line, unit_output}
 use Rattle.event_text.specs.Scripts.{Script}
@@ -51,7 +51,7 @@ use Rattle.run_model.specs.declared.status.SetupScriptExecuteStatus.{SetupScript
 use Rattle.run_model.specs.declared.stress.StressProgress.{StressProgress}
 use Rattle.run_model.specs.declared.unit.UnitKind.{UnitKind}
 use Rattle.run_model.specs.declared.unit.UnitKind.TheVariants as unit
-use Rattle.report_text.specs.declared.style.ListStyles.{ListStyles}
+use Rattle.plain_text.specs.declared.style.ListStyles.{ListStyles}
 use Rattle.report_text.specs.declared.helpers.theme.ThemeCharacters.{ThemeCharacters}
 use Rattle.run_model.specs.declared.info.InfoResponse.{InfoResponse as Response}
 use Rattle.event_text.specs.Bars.{bar_line}

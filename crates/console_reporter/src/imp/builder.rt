@@ -6,7 +6,7 @@ ghost use Rattle.console_reporter.specs.Standing.{StandsAfter};
 
 use super::reporter::DisplayReporter;
 use event_text::settings::{Settings, counter_width_for, overrides_for, styles_for, theme_for};
-use report_text::write_str::WriteStr;
+use plain_text::write_str::WriteStr;
 use run_model::config::{CompiledDefaultFilter, NextestRunMode, TestOutputDisplay};
 use std::alloc::Global;
 use store_text::config::StoreConfig;

@@ -1,7 +1,7 @@
 //! What is kept for the summary, and how it is listed.
 
 ghost use Rattle.std.specs.Prelude.{◌≡◌, List, [], ◌∷◌, ◌++◌, OnOk, OnErr};
-ghost use Rattle.report_text.specs.Writer.{Puts};
+ghost use Rattle.plain_text.specs.Writer.{Puts};
 ghost use Rattle.event_text.specs.StatusLines.{status_line};
 ghost use Rattle.event_text.specs.declared.status_line.StatusLineKind.{StatusLineKind};
 ghost use Rattle.console_reporter.specs.Entries.{final_text, entries_text, final_order, IsFinalOrder};
@@ -14,7 +14,7 @@ use event_text::instance::CountedInstance;
 use event_text::settings::Settings;
 use event_text::status_line::{StatusLine, StatusLineKind, write_status_line};
 use event_text::test_skipped::write_skip_line;
-use report_text::write_str::{WriteFault, WriteStr};
+use plain_text::write_str::{WriteFault, WriteStr};
 use run_model::status::StatusSummary;
 use std::alloc::{AllocError, Global};
 use std::collections::BTreeMap;

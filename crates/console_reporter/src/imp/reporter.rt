@@ -4,7 +4,7 @@ ghost use Rattle.std.specs.Prelude.{◌≡◌, ◌≤◌, ◌⊎◌, ◌+◌, Li
 ghost use Rattle.std.specs.List.{flat_map};
 ghost use Rattle.std.specs.Option.{is_some, option_and_then, option_map, option_to_list};
 ghost use Rattle.run_model.specs.Levels.{reason_rank};
-ghost use Rattle.report_text.specs.Writer.{Puts, one_further};
+ghost use Rattle.plain_text.specs.Writer.{Puts, one_further};
 ghost use Rattle.event_text.specs.FinishedTests.{HasShownOutput, finish_of};
 ghost use Rattle.run_text.specs.Headers.{replay_header_text};
 ghost use Rattle.run_model.specs.declared.call.ReportCall.{ReportCall};
@@ -40,7 +40,7 @@ use event_text::instance::CountedInstance;
 use event_text::settings::Settings;
 use event_text::test_finished::{FinishedTest, write_test_finished};
 use event_text::test_skipped::write_test_skipped;
-use report_text::write_str::{WriteFault, WriteStr};
+use plain_text::write_str::{WriteFault, WriteStr};
 use run_model::call::ReportCall;
 use run_model::event::{TestEvent, TestEventKind};
 use run_model::level::{CancelReason, FinalStatusLevel};

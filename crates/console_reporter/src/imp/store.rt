@@ -1,10 +1,10 @@
 //! A store: the second writer of a reporter, which takes a record of each finished test.
 
 ghost use Rattle.std.specs.Prelude.{◌≡◌, [], None, OnOk, Some};
-ghost use Rattle.report_text.specs.Writer.{Puts};
+ghost use Rattle.plain_text.specs.Writer.{Puts};
 ghost use Rattle.console_reporter.specs.Stored.{record_of};
 
-use report_text::write_str::{WriteFault, WriteStr};
+use plain_text::write_str::{WriteFault, WriteStr};
 use run_model::event::{TestEvent, TestEventKind};
 use store_text::config::StoreConfig;
 use store_text::record::write_record;

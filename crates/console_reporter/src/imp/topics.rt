@@ -1,7 +1,7 @@
 //! The texts of events by their topics. An event's own text stands in the crates `event_text`, `run_text` and `info_text`.
 
 ghost use Rattle.std.specs.Prelude.{◌≡◌, ℕ, None, false, true};
-ghost use Rattle.report_text.specs.Writer.{Puts};
+ghost use Rattle.plain_text.specs.Writer.{Puts};
 ghost use Rattle.event_text.specs.Scripts.{script_of};
 ghost use Rattle.console_reporter.specs.Accepted.{decider_by};
 ghost use Rattle.console_reporter.specs.Loads.{lacks_output};
@@ -15,7 +15,7 @@ use event_text::test_slow::write_test_slow;
 use event_text::test_started::{write_test_retry_started, write_test_started};
 use info_text::response::write_info_response;
 use info_text::start::{write_info_finished, write_info_started};
-use report_text::write_str::{WriteFault, WriteStr};
+use plain_text::write_str::{WriteFault, WriteStr};
 use run_model::command::CommandLine;
 use run_model::event::TestEventKind;
 use run_model::name::{ProgramName, ScriptId};

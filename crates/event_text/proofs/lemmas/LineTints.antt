@@ -5,7 +5,7 @@ use Rattle.run_model.specs.declared.stats.RunStats.{RunStats}
 use Rattle.run_model.specs.declared.stress.StressIndex.{StressIndex}
 use Rattle.report_text.specs.Instances.{HasPlainCounter}
 use Rattle.report_text.specs.PlainTexts.{IsPlainInstance}
-use Rattle.report_text.specs.Styles.{styles_of}
+use Rattle.plain_text.specs.Styles.{styles_of}
 use Rattle.report_text.specs.Theme.{hbar_character}
 use Rattle.report_text.specs.declared.helpers.theme.ThemeCharacters.{ThemeCharacters}
 use Rattle.report_text.proofs.lemmas.FreeWords.{free-shell_words}

@@ -6,13 +6,13 @@ use Rattle.run_model.specs.declared.status.LeakTimeoutResult.TheVariants as leak
 use Rattle.run_model.specs.declared.status.SlowTimeoutResult.TheVariants as slow
 use Rattle.run_model.specs.declared.unit.UnitKind.{UnitKind}
 use Rattle.run_model.specs.declared.unit.UnitKind.TheVariants as unit
-use Rattle.report_text.specs.Alike.{without_end_spaces}
-use Rattle.report_text.specs.Escapes.{HasNoEscape}
+use Rattle.plain_text.specs.Alike.{without_end_spaces}
+use Rattle.plain_text.specs.Escapes.{HasNoEscape}
 use Rattle.report_text.specs.PlainTexts.{IsPlainResult}
-use Rattle.report_text.specs.Styles.{styles_of}
+use Rattle.plain_text.specs.Styles.{styles_of}
 use Rattle.report_text.specs.declared.helpers.theme.ThemeCharacters.{ThemeCharacters}
-use Rattle.report_text.specs.declared.style.Style.{Style}
-use Rattle.report_text.specs.declared.style.Style.TheVariants as style
+use Rattle.plain_text.specs.declared.style.Style.{Style}
+use Rattle.plain_text.specs.declared.style.Style.TheVariants as style
 use Rattle.report_text.proofs.lemmas.Tints.{IsTinted, tints}
 use Rattle.unit_report.specs.PlainOutputs.{IsPlainWritten}
 use Rattle.unit_report.proofs.lemmas.UnitTints.{IsTintedLayout, tinted-bars, tinted-execution_output}

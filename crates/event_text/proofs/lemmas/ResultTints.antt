@@ -6,9 +6,9 @@ use Rattle.run_model.specs.declared.status.ExecutionResultDescription.TheVariant
 use Rattle.run_model.specs.declared.status.FailureDescription.TheVariants.{ExitCode, Abort}
 use Rattle.run_model.specs.declared.status.LeakTimeoutResult.TheVariants as leak
 use Rattle.run_model.specs.declared.status.SlowTimeoutResult.TheVariants as slow
-use Rattle.report_text.specs.Texts.{Text}
-use Rattle.report_text.specs.Escapes.{HasNoEscape}
-use Rattle.report_text.specs.Styles.{styles_of}
+use Rattle.plain_text.specs.Texts.{Text}
+use Rattle.plain_text.specs.Escapes.{HasNoEscape}
+use Rattle.plain_text.specs.Styles.{styles_of}
 use Rattle.report_text.proofs.lemmas.FreeWords.{free-signed}
 use Rattle.report_text.proofs.lemmas.Tints.{IsTinted, tinted-none, tinted-free, tints}
 use Rattle.event_text.specs.AbortLines.{indented_message, nt_message, nt_line, job_object_line, abort_line}

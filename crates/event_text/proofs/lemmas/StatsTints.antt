@@ -1,11 +1,11 @@
 -- The counts of a run, in colour and plain (for the lines that show them).
 use Rattle.std.proofs.Common.{ℕ, Bool, true, false, refl}
 use Rattle.run_model.specs.declared.stats.RunStats.{RunStats}
-use Rattle.report_text.specs.Texts.{Text}
-use Rattle.report_text.specs.Escapes.{HasNoEscape}
-use Rattle.report_text.specs.Styles.{styles_of}
-use Rattle.report_text.specs.declared.style.Style.{Style}
-use Rattle.report_text.specs.declared.style.Style.TheVariants as style
+use Rattle.plain_text.specs.Texts.{Text}
+use Rattle.plain_text.specs.Escapes.{HasNoEscape}
+use Rattle.plain_text.specs.Styles.{styles_of}
+use Rattle.plain_text.specs.declared.style.Style.{Style}
+use Rattle.plain_text.specs.declared.style.Style.TheVariants as style
 use Rattle.report_text.proofs.lemmas.Tints.{IsTinted, tinted-none, tints}
 use Rattle.event_text.specs.StatsTexts.{note_separator, counted_text, passed_note, notes_end, passed_notes, due_to_being, leaky_failed_note, failed_count, other_failed_count, exec_failed_count, timed_out_count, failed_counts, summary_text, progress_message}
 

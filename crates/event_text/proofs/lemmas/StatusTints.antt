@@ -6,9 +6,9 @@ use Rattle.run_model.specs.declared.status.RetryData.{RetryData}
 use Rattle.run_model.specs.declared.status.StatusCase.{StatusCase}
 use Rattle.run_model.specs.declared.status.StatusCase.TheVariants.{Success, Flaky, Failure}
 use Rattle.run_model.specs.declared.status.StatusSummary.{StatusSummary}
-use Rattle.report_text.specs.Escapes.{HasNoEscape}
+use Rattle.plain_text.specs.Escapes.{HasNoEscape}
 use Rattle.report_text.specs.PlainTexts.{IsPlainResult}
-use Rattle.report_text.specs.Styles.{styles_of}
+use Rattle.plain_text.specs.Styles.{styles_of}
 use Rattle.report_text.proofs.lemmas.FreeWords.{frees}
 use Rattle.report_text.proofs.lemmas.InstanceTints.{tinted-instance_text}
 use Rattle.report_text.proofs.lemmas.Tints.{IsTinted, tinted-none, tinted-if, tinted-append, tints}

@@ -7,10 +7,10 @@ use Rattle.run_model.specs.declared.stats.RunStats.{RunStats}
 use Rattle.run_model.specs.declared.status.RetryData.{RetryData}
 use Rattle.run_model.specs.declared.stress.StressIndex.{StressIndex}
 use Rattle.run_model.specs.declared.unit.UnitKind.TheVariants as unit
-use Rattle.report_text.specs.Escapes.{HasNoEscape}
+use Rattle.plain_text.specs.Escapes.{HasNoEscape}
 use Rattle.report_text.specs.PlainTexts.{IsPlainInstance, IsPlainResult}
-use Rattle.report_text.specs.Styles.{styles_of}
-use Rattle.report_text.specs.Texts.{Text}
+use Rattle.plain_text.specs.Styles.{styles_of}
+use Rattle.plain_text.specs.Texts.{Text}
 use Rattle.report_text.proofs.lemmas.FreeWords.{free-shell_words}
 use Rattle.report_text.proofs.lemmas.Tints.{IsTinted, tinted-none, tinted-if, tinted-append, tinted-free, tints}
 use Rattle.unit_report.proofs.lemmas.DurationTints.{duration_tints}

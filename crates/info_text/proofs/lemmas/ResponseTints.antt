@@ -5,10 +5,10 @@ use Rattle.run_model.specs.declared.info.InfoResponse.TheVariants.{SetupScript, 
 use Rattle.run_model.specs.declared.info.UnitState.{UnitState}
 use Rattle.run_model.specs.declared.stats.RunStats.{RunStats}
 use Rattle.run_model.specs.declared.unit.UnitKind.{UnitKind}
-use Rattle.report_text.specs.Alike.{without_end_spaces}
-use Rattle.report_text.specs.Styles.{plain, styles_of}
-use Rattle.report_text.specs.Escapes.{HasNoEscape}
-use Rattle.report_text.specs.Texts.{spaces}
+use Rattle.plain_text.specs.Alike.{without_end_spaces}
+use Rattle.plain_text.specs.Styles.{plain, styles_of}
+use Rattle.plain_text.specs.Escapes.{HasNoEscape}
+use Rattle.plain_text.specs.Texts.{spaces}
 use Rattle.report_text.specs.declared.helpers.theme.ThemeCharacters.{ThemeCharacters}
 use Rattle.report_text.proofs.lemmas.InstanceTints.{tinted-instance_text}
 use Rattle.report_text.proofs.lemmas.Tints.{IsTinted, tinted-append, tinted-free, tinted-indented_line, tinted-whole, tints}

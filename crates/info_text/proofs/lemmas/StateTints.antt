@@ -10,10 +10,10 @@ use Rattle.run_model.specs.declared.info.UnitTerminatingState.{UnitTerminatingSt
 use Rattle.run_model.specs.declared.status.ExecutionResultDescription.{ExecutionResultDescription}
 use Rattle.run_model.specs.declared.status.RetryData.{RetryData}
 use Rattle.run_model.specs.declared.time.Nanos.{Nanos}
-use Rattle.report_text.specs.Escapes.{HasNoEscape}
+use Rattle.plain_text.specs.Escapes.{HasNoEscape}
 use Rattle.report_text.specs.PlainTexts.{HoldsIf, IsPlainResult}
-use Rattle.report_text.specs.Styles.{styled, styles_of}
-use Rattle.report_text.specs.Texts.{Text}
+use Rattle.plain_text.specs.Styles.{styled, styles_of}
+use Rattle.plain_text.specs.Texts.{Text}
 use Rattle.report_text.proofs.lemmas.FreeWords.{frees}
 use Rattle.report_text.proofs.lemmas.Tints.{IsTinted, tinted-append, tinted-free, tinted-none, tinted-styled, tints}
 use Rattle.unit_report.proofs.lemmas.DurationTints.{free-unit_word}

@@ -1,7 +1,7 @@
 //! The lines after the line of a test that was ended from outside.
 
 use event_text::abort_line::write_abort_line;
-use report_text::style::Styles;
+use plain_text::style::Styles;
 use run_model::abort::{AbortDescription, DescriptionText};
 use run_model::boxed::Boxed;
 use run_model::status::{ExecutionResultDescription, FailureDescription};

@@ -3,7 +3,7 @@
 use event_text::instance::CountedInstance;
 use event_text::status_line::{StatusLine, StatusLineKind, write_status_line};
 use report_text::helpers::DisplayCounterIndex;
-use report_text::style::Styles;
+use plain_text::style::Styles;
 use run_model::abort::AbortDescription;
 use run_model::boxed::Boxed;
 use run_model::name::{RustBinaryId, TestCaseName, TestInstanceId};

@@ -1,7 +1,7 @@
 //! Headers of replays, by dates and by what is known of the run's id.
 
 use jiff::civil::DateTime;
-use report_text::style::Styles;
+use plain_text::style::Styles;
 use run_model::abort::DescriptionText;
 use run_model::replay::ReplayHeader;
 use run_model::run_id::ShortestRunIdPrefix;

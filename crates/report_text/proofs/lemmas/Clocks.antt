@@ -4,9 +4,9 @@ use Rattle.std.specs.Fmt.{decimal}
 use Rattle.std.specs.Str.{IsAscii, chars}
 use Rattle.std.proofs.lemmas.Str.{chars-IsAscii, IsAscii-append}
 use Rattle.std.proofs.lemmas.Fmt.{IsAscii-decimal_wide}
-use Rattle.report_text.proofs.lemmas.Decimals.{IsAscii-cons, IsAscii-none}
+use Rattle.plain_text.proofs.lemmas.Decimals.{IsAscii-cons, IsAscii-none}
 use Rattle.report_text.specs.Durations.{clock_text, leading_zero}
-use Rattle.report_text.specs.Texts.{Text}
+use Rattle.plain_text.specs.Texts.{Text}
 
 -- a colon and the last two digits of a number
 abbrev colon_digits : ℕ → Text → Text

@@ -7,20 +7,20 @@ use Rattle.std.specs.List.{AllByRecursion, flat_map}
 use Rattle.uuid.specs.Text.{by_index, hyphenated_text, lower, is_hyphen_place, hex_digit as id_digit, nibble, digit_place}
 use Rattle.run_model.specs.declared.config.NextestRunMode.{NextestRunMode}
 use Rattle.run_model.specs.declared.config.NextestRunMode.TheVariants.{Test, Benchmark}
-use Rattle.report_text.specs.Texts.{Text}
-use Rattle.report_text.specs.Escapes.{visible, HasNoEscape}
-use Rattle.report_text.specs.Indent.{indent}
+use Rattle.plain_text.specs.Texts.{Text}
+use Rattle.plain_text.specs.Escapes.{visible, HasNoEscape}
+use Rattle.plain_text.specs.Indent.{indent}
 use Rattle.report_text.specs.Failures.{hex_digit, last_hex_digits, hex_text}
-use Rattle.report_text.specs.Indented.{indent_onward, indent-onward}
-use Rattle.report_text.specs.Numbers.{last_digits, with_point, seconds}
+use Rattle.plain_text.specs.Indented.{indent_onward, indent-onward}
+use Rattle.plain_text.specs.Numbers.{last_digits, with_point, seconds}
 use Rattle.report_text.specs.Durations.{clock_text}
 use Rattle.report_text.specs.Plural.{were_word, tests_word_if, setup_scripts_word, binaries_word, iterations_word}
 use Rattle.report_text.specs.Quoting.{is_unquoted, quoted_byte, quoted_text, shell_word, shell_words}
-use Rattle.report_text.specs.Styles.{plain}
+use Rattle.plain_text.specs.Styles.{plain}
 use Rattle.report_text.specs.Theme.{hbar_text}
-use Rattle.report_text.proofs.lemmas.Closed.{decimal_free, right_free, repeat_free, char_free}
-use Rattle.report_text.proofs.lemmas.Pieces.{free_parts, visible_after-free}
-use Rattle.report_text.proofs.lemmas.Widths.{free_both}
+use Rattle.plain_text.proofs.lemmas.Closed.{decimal_free, right_free, repeat_free, char_free}
+use Rattle.plain_text.proofs.lemmas.Pieces.{free_parts, visible_after-free}
+use Rattle.plain_text.proofs.lemmas.Widths.{free_both}
 
 pub free-take : (n : ℕ) (t : Text) → HasNoEscape t → HasNoEscape (take n t)
 free-take zero t h = refl

@@ -3,16 +3,16 @@ use Rattle.std.proofs.Common.{◌≡◌, ℕ, ◌+◌, Bool, true, false, Option
 use Rattle.run_model.specs.Names.{last_colons}
 use Rattle.run_model.specs.declared.name.TestInstanceId.{TestInstanceId}
 use Rattle.run_model.specs.declared.stress.StressIndex.{StressIndex}
-use Rattle.report_text.specs.Texts.{Text}
-use Rattle.report_text.specs.Escapes.{HasNoEscape}
+use Rattle.plain_text.specs.Texts.{Text}
+use Rattle.plain_text.specs.Escapes.{HasNoEscape}
 use Rattle.report_text.specs.Instances.{HasPlainCounter, name_text, stress_parts, stress_text, stress_prefix, counter_text, counter_prefix, test_text, script_text, instance_text}
 use Rattle.report_text.specs.PlainTexts.{IsPlainInstance}
-use Rattle.report_text.specs.Styles.{paint, list_styles_of}
+use Rattle.plain_text.specs.Styles.{paint, list_styles_of}
 use Rattle.report_text.specs.declared.helpers.instance.DisplayCounterIndex.{DisplayCounterIndex}
 use Rattle.report_text.specs.declared.helpers.instance.DisplayCounterIndex.TheVariants.{Counter, Padded}
-use Rattle.report_text.specs.declared.style.Style.{Style}
-use Rattle.report_text.specs.declared.style.Style.TheVariants as style
-use Rattle.report_text.proofs.lemmas.Closed.{char_free, repeat_free}
+use Rattle.plain_text.specs.declared.style.Style.{Style}
+use Rattle.plain_text.specs.declared.style.Style.TheVariants as style
+use Rattle.plain_text.proofs.lemmas.Closed.{char_free, repeat_free}
 use Rattle.report_text.proofs.lemmas.Tints.{IsTinted, tinted-none, tinted-free, tints}
 
 tinted-name_at : (k : Bool) (name : Text) (place : Option ℕ) → HasNoEscape name → place ≡ last_colons name → IsTinted k (name_text (list_styles_of true) name) (name_text (list_styles_of false) name)

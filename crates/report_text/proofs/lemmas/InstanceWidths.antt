@@ -8,20 +8,20 @@ use Rattle.std.specs.Int.NonZero.{non_zero_u32_get}
 use Rattle.std.specs.declared.num.NonZeroU32.{NonZeroU32}
 use Rattle.run_model.specs.Names.{last_colons}
 use Rattle.run_model.specs.declared.stress.StressIndex.{StressIndex}
-use Rattle.report_text.specs.Texts.{Text, right_in}
-use Rattle.report_text.specs.Escapes.{HasNoEscape}
-use Rattle.report_text.specs.Counted.{saturated}
-use Rattle.report_text.specs.Fitting.{FitsWidth, IsPainted, ArePainted, columns, shrunk, shrunk_parts}
-use Rattle.report_text.specs.Writer.{Meaning, WriterLaws, Puts}
-use Rattle.report_text.specs.declared.write_str.WriteFault.{WriteFault}
-use Rattle.report_text.proofs.lemmas.Steps.{puts_then}
-use Rattle.report_text.specs.Styles.{Plain, Styled, paint}
+use Rattle.plain_text.specs.Texts.{Text, right_in}
+use Rattle.plain_text.specs.Escapes.{HasNoEscape}
+use Rattle.plain_text.specs.Counted.{saturated}
+use Rattle.plain_text.specs.Fitting.{FitsWidth, IsPainted, ArePainted, columns, shrunk, shrunk_parts}
+use Rattle.plain_text.specs.Writer.{Meaning, WriterLaws, Puts}
+use Rattle.plain_text.specs.declared.write_str.WriteFault.{WriteFault}
+use Rattle.plain_text.proofs.lemmas.Steps.{puts_then}
+use Rattle.plain_text.specs.Styles.{Plain, Styled, paint}
 use Rattle.report_text.specs.Instances.{stress_parts, stress_text, stress_prefix, counter_text, counter_prefix, id_prefix, name_parts, name_text, HasPlainCounter, HasPlainWords}
-use Rattle.report_text.proofs.lemmas.Closed.{IsClosedText, closed-append, closed-free, closed-none, paint_closed, decimal_free, right_free, char_free, repeat_free}
-use Rattle.report_text.proofs.lemmas.Widths.{free_front, free_back, parts-columns, parts-sequences}
-use Rattle.report_text.specs.declared.style.Style.{Style}
-use Rattle.report_text.specs.declared.style.Style.TheVariants as style
-use Rattle.report_text.specs.declared.style.ListStyles.{ListStyles}
+use Rattle.plain_text.proofs.lemmas.Closed.{IsClosedText, closed-append, closed-free, closed-none, paint_closed, decimal_free, right_free, char_free, repeat_free}
+use Rattle.plain_text.proofs.lemmas.Widths.{free_front, free_back, parts-columns, parts-sequences}
+use Rattle.plain_text.specs.declared.style.Style.{Style}
+use Rattle.plain_text.specs.declared.style.Style.TheVariants as style
+use Rattle.plain_text.specs.declared.style.ListStyles.{ListStyles}
 use Rattle.report_text.specs.declared.helpers.instance.DisplayCounterIndex.{DisplayCounterIndex}
 use Rattle.report_text.specs.declared.helpers.instance.DisplayCounterIndex.TheVariants.{Counter, Padded}
 

@@ -4,15 +4,15 @@ use Rattle.std.proofs.lemmas.Bool.{cases_Bool}
 use Rattle.std.specs.Str.{chars, chars_after, continuation_len, lead_bits}
 use Rattle.std.specs.Option.{option_map, option_map_or}
 use Rattle.run_model.specs.Names.{last_colons}
-use Rattle.report_text.specs.Texts.{Text}
-use Rattle.report_text.specs.Escapes.{visible, visible_after, sequence_len}
-use Rattle.report_text.specs.Fitting.{columns}
-use Rattle.report_text.specs.Styles.{part_text, styled, style_prefix, style_suffix, Styled, paint}
+use Rattle.plain_text.specs.Texts.{Text}
+use Rattle.plain_text.specs.Escapes.{visible, visible_after, sequence_len}
+use Rattle.plain_text.specs.Fitting.{columns}
+use Rattle.plain_text.specs.Styles.{part_text, styled, style_prefix, style_suffix, Styled, paint}
 use Rattle.report_text.specs.Instances.{name_parts, name_text}
-use Rattle.report_text.specs.declared.style.Style.{Style}
-use Rattle.report_text.specs.declared.style.Style.TheVariants as style
-use Rattle.report_text.specs.declared.style.ListStyles.{ListStyles}
-use Rattle.report_text.proofs.lemmas.Fits.{columns_of-le}
+use Rattle.plain_text.specs.declared.style.Style.{Style}
+use Rattle.plain_text.specs.declared.style.Style.TheVariants as style
+use Rattle.plain_text.specs.declared.style.ListStyles.{ListStyles}
+use Rattle.plain_text.proofs.lemmas.Fits.{columns_of-le}
 
 visible_after-le : (n : ℕ) (t : Text) → length (visible_after n t) ≤ length t
 unfolding visible_after

@@ -5,7 +5,7 @@ use Rattle.std.specs.List.{flat_map}
 use Rattle.std.proofs.lemmas.Bool.Decides.{eqb_tells}
 use Rattle.std.proofs.lemmas.Str.Pattern.{split_parts, IsSplitOnceResult}
 use Rattle.report_text.specs.Quoting.{quoted_byte, quoted_text}
-use Rattle.report_text.specs.Texts.{Text}
+use Rattle.plain_text.specs.Texts.{Text}
 
 -- no byte is a quote
 abbrev HasNoQuote : Text → Type 0

@@ -1,17 +1,17 @@
 -- A text in colour against a plain one (for the lemmas `tinted-..` of the texts above).
 use Rattle.std.proofs.Common.{◌≡◌, Bool, true, false, cond, List, [], ◌∷◌, ◌++◌, refl, sym, ◌∙◌, ap, append_assoc, append-nil}
 use Rattle.std.specs.List.{flat_map}
-use Rattle.report_text.specs.Texts.{Text}
-use Rattle.report_text.specs.Alike.{IsAlike}
-use Rattle.report_text.specs.Escapes.{visible_after, sequence_len, visible, HasNoEscape}
-use Rattle.report_text.specs.Indent.{indent}
-use Rattle.report_text.specs.Styles.{plain, styled, reset_color, style_prefix, style_suffix}
-use Rattle.report_text.specs.declared.style.Style.{Style}
-use Rattle.report_text.specs.declared.style.Style.TheVariants as style
-use Rattle.report_text.proofs.lemmas.AlikeIndents.{IsBlank, alike-front, alike-line, indent-visible, indent-alike, indent-feed}
+use Rattle.plain_text.specs.Texts.{Text}
+use Rattle.plain_text.specs.Alike.{IsAlike}
+use Rattle.plain_text.specs.Escapes.{visible_after, sequence_len, visible, HasNoEscape}
+use Rattle.plain_text.specs.Indent.{indent}
+use Rattle.plain_text.specs.Styles.{plain, styled, reset_color, style_prefix, style_suffix}
+use Rattle.plain_text.specs.declared.style.Style.{Style}
+use Rattle.plain_text.specs.declared.style.Style.TheVariants as style
+use Rattle.plain_text.proofs.lemmas.AlikeIndents.{IsBlank, alike-front, alike-line, indent-visible, indent-alike, indent-feed}
 use Rattle.report_text.proofs.lemmas.FreeWords.{frees, free-plain, free-indent}
-use Rattle.report_text.proofs.lemmas.LineSequences.{visible-line}
-use Rattle.report_text.proofs.lemmas.Widths.{free_both, visible-free_append}
+use Rattle.plain_text.proofs.lemmas.LineSequences.{visible-line}
+use Rattle.plain_text.proofs.lemmas.Widths.{free_both, visible-free_append}
 
 -- the first text in colour is the second, whatever comes after the two
 pub record IsInColour (c u : Text) : Type 0 where

@@ -2,13 +2,13 @@
 
 ghost use Rattle.std.specs.Prelude.{◌≡◌, ◌≤◌, ◌++◌, Some, chars, length};
 ghost use Rattle.report_text.specs.Durations.{clock_text, duration_text, leading_zero, relative_text, time_units, unit_name, unit_nanos, unit_within, whole_seconds};
-ghost use Rattle.report_text.specs.Numbers.{seconds};
-ghost use Rattle.report_text.specs.Texts.{right_in};
-ghost use Rattle.report_text.specs.Writer.{Puts};
+ghost use Rattle.plain_text.specs.Numbers.{seconds};
+ghost use Rattle.plain_text.specs.Texts.{right_in};
+ghost use Rattle.plain_text.specs.Writer.{Puts};
 
-use crate::numbers::{digit_str, round_to, spaces_str};
-use crate::show_written;
-use crate::write_str::{WriteFault, WriteStr, write_strs};
+use plain_text::numbers::{digit_str, round_to, spaces_str};
+use plain_text::show_written;
+use plain_text::write_str::{WriteFault, WriteStr, write_strs};
 use itoa::Buffer;
 use run_model::time::Nanos;
 use std::fmt;
@@ -62,7 +62,7 @@ impl fmt::Display for FormattedDuration {
 }
 
 // Writes nanoseconds as seconds with two decimals.
-#[tactic(auto, unfolding(crate::specs::Numbers::seconds, crate::specs::Numbers::with_point))]
+#[tactic(auto, unfolding(plain_text::specs::Numbers::seconds, plain_text::specs::Numbers::with_point))]
 fn write_seconds<W: WriteStr>(w: &mut W, nanos: u128) -> Result<(), WriteFault>
     ensures { Puts W.meaning w.old (seconds 2 nanos) result w.new }
 {
@@ -178,7 +178,7 @@ pub fn write_clock_between<W: WriteStr>(
 }
 
 // Writes seconds as hours, minutes and seconds, right in so many columns.
-#[tactic(auto, unfolding(crate::specs::Texts::right_in))]
+#[tactic(auto, unfolding(plain_text::specs::Texts::right_in))]
 fn write_clock_right<W: WriteStr>(
     w: &mut W,
     columns: usize,

@@ -2,15 +2,15 @@
 
 ghost use Rattle.std.specs.Prelude.{◌≡◌, ℕ, None, Some};
 ghost use Rattle.std.specs.Fmt.{DisplaysOnOk, DisplaysStyledOnOk};
-ghost use Rattle.report_text.specs.Fitting.{FitsWidth};
+ghost use Rattle.plain_text.specs.Fitting.{FitsWidth};
 ghost use Rattle.report_text.specs.Instances.{HasPlainWords, counter_prefix, counter_text, front_parts, id_prefix, instance_text, name_text, shown_instance, stress_prefix, stress_text};
-ghost use Rattle.report_text.specs.Writer.{Puts};
+ghost use Rattle.plain_text.specs.Writer.{Puts};
 
 use crate::helpers::max_width::{CounterPart, IdPart, StressPart, write_within};
-use crate::helpers::repeated::write_repeated;
-use crate::show_written;
-use crate::style::{ListStyles, Style, plain, write_parts, write_plain};
-use crate::write_str::{WriteFault, WriteStr};
+use plain_text::repeated::write_repeated;
+use plain_text::show_written;
+use plain_text::style::{ListStyles, Style, plain, write_parts, write_plain};
+use plain_text::write_str::{WriteFault, WriteStr};
 use itoa::Buffer;
 use run_model::name::{TestCaseName, TestInstanceId};
 use run_model::stress::StressIndex;

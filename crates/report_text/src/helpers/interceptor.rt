@@ -3,12 +3,12 @@
 ghost use Rattle.std.specs.Prelude.{◌≡◌, IfOk, string_bytes};
 ghost use Rattle.std.specs.List.{flat_map};
 ghost use Rattle.report_text.specs.Interceptors.{and_words, listed_text, option_text, requires_words, rest_text, selected_text, selected_words, too_many_tests_text, unlisted_text};
-ghost use Rattle.report_text.specs.Writer.{Puts};
+ghost use Rattle.plain_text.specs.Writer.{Puts};
 
 use crate::helpers::instance::DisplayTestInstance;
 use crate::helpers::plural::{tests_plural_if, tests_str};
-use crate::style::{ListStyles, Style, write_plain};
-use crate::write_str::{WriteFault, WriteStr};
+use plain_text::style::{ListStyles, Style, write_plain};
+use plain_text::write_str::{WriteFault, WriteStr};
 use run_model::config::NextestRunMode;
 use run_model::memory::OutOfMemory;
 use run_model::name::OwnedTestInstanceId;

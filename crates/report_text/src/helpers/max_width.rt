@@ -4,17 +4,17 @@
 //! its end, and the name, cut at its beginning. So nothing is left after a part that is cut.
 
 ghost use Rattle.std.specs.Prelude.{◌≡◌, ◌<◌, ◌^◌, ◌∷◌, [], List};
-ghost use Rattle.report_text.specs.Fitting.{FitsWidth, columns, shrunk_parts};
+ghost use Rattle.plain_text.specs.Fitting.{FitsWidth, columns, shrunk_parts};
 ghost use Rattle.report_text.specs.Instances.{HasPlainWords, counter_prefix, id_prefix, name_text, stress_prefix};
-ghost use Rattle.report_text.specs.Writer.{Puts};
+ghost use Rattle.plain_text.specs.Writer.{Puts};
 
-use crate::fitting::{WriteText, count_columns, write_back, write_front};
+use plain_text::fitting::{WriteText, count_columns, write_back, write_front};
 use crate::helpers::instance::{
     DisplayCounterIndex, DisplayTestName, write_counter_prefix, write_id_prefix,
     write_stress_prefix,
 };
-use crate::style::Style;
-use crate::write_str::{WriteFault, WriteStr};
+use plain_text::style::Style;
+use plain_text::write_str::{WriteFault, WriteStr};
 use run_model::stress::StressIndex;
 
 /// The iteration of a stress run, between brackets and a space.

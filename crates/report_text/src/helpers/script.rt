@@ -3,13 +3,13 @@
 ghost use Rattle.std.specs.Prelude.{◌≡◌, ◌∷◌, IfOk, Some, map, string_bytes};
 ghost use Rattle.report_text.specs.Instances.{script_text};
 ghost use Rattle.report_text.specs.Quoting.{shell_words};
-ghost use Rattle.report_text.specs.Writer.{Puts};
+ghost use Rattle.plain_text.specs.Writer.{Puts};
 
 use crate::helpers::instance::write_stress_prefix;
 use crate::helpers::quoting::{CommandWord, write_shell_command};
-use crate::show_written;
-use crate::style::{Style, plain, write_parts};
-use crate::write_str::{WriteFault, WriteStr};
+use plain_text::show_written;
+use plain_text::style::{Style, plain, write_parts};
+use plain_text::write_str::{WriteFault, WriteStr};
 use run_model::memory::OutOfMemory;
 use run_model::name::ScriptId;
 use run_model::stress::StressIndex;

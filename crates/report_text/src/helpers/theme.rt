@@ -2,10 +2,10 @@
 
 ghost use Rattle.std.specs.Prelude.{◌≡◌, IfOk, codes, string_bytes, true};
 ghost use Rattle.report_text.specs.Theme.{hbar_character, hbar_text, progress_text, tree_branch_text, tree_continuation_text, tree_last_text};
-ghost use Rattle.report_text.specs.Writer.{Puts};
+ghost use Rattle.plain_text.specs.Writer.{Puts};
 
-use crate::helpers::repeated::write_repeated;
-use crate::write_str::{WriteFault, WriteStr};
+use plain_text::repeated::write_repeated;
+use plain_text::write_str::{WriteFault, WriteStr};
 use run_model::memory::OutOfMemory;
 use std::alloc::Global;
 

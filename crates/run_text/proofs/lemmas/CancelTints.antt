@@ -3,9 +3,9 @@ use Rattle.std.proofs.Common.{ℕ, Bool, true, false, refl, Option, None, Some}
 use Rattle.run_model.specs.declared.config.NextestRunMode.{NextestRunMode}
 use Rattle.run_model.specs.declared.level.CancelReason.{CancelReason}
 use Rattle.run_model.specs.declared.stats.RunStats.{RunStats}
-use Rattle.report_text.specs.Escapes.{HasNoEscape}
-use Rattle.report_text.specs.Styles.{styles_of}
-use Rattle.report_text.specs.Texts.{Text}
+use Rattle.plain_text.specs.Escapes.{HasNoEscape}
+use Rattle.plain_text.specs.Styles.{styles_of}
+use Rattle.plain_text.specs.Texts.{Text}
 use Rattle.report_text.proofs.lemmas.Tints.{IsTinted, tinted-none, tints}
 use Rattle.unit_report.proofs.lemmas.SkipTints.{free-reason_words}
 use Rattle.unit_report.proofs.lemmas.DurationTints.{tinted-bracketed_clock}

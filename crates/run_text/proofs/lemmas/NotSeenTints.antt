@@ -4,7 +4,7 @@ use Rattle.std.specs.List.{AllByRecursion, flat_map}
 use Rattle.run_model.specs.declared.config.NextestRunMode.{NextestRunMode}
 use Rattle.run_model.specs.declared.name.OwnedTestInstanceId.{OwnedTestInstanceId}
 use Rattle.run_model.specs.declared.not_seen.NotSeen.{NotSeen}
-use Rattle.report_text.specs.Styles.{list_styles_of, styles_of}
+use Rattle.plain_text.specs.Styles.{list_styles_of, styles_of}
 use Rattle.report_text.proofs.lemmas.InstanceTints.{tinted-test_text}
 use Rattle.report_text.proofs.lemmas.Tints.{IsTinted, tinted-append, tinted-none, tints}
 use Rattle.event_text.specs.declared.settings.Settings.{Settings}

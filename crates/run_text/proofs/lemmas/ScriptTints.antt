@@ -7,10 +7,10 @@ use Rattle.run_model.specs.declared.status.ExecutionResultDescription.TheVariant
 use Rattle.run_model.specs.declared.status.LeakTimeoutResult.TheVariants as leak
 use Rattle.run_model.specs.declared.status.SetupScriptExecuteStatus.{SetupScriptExecuteStatus}
 use Rattle.run_model.specs.declared.unit.UnitKind.TheVariants as unit
-use Rattle.report_text.specs.Escapes.{HasNoEscape}
+use Rattle.plain_text.specs.Escapes.{HasNoEscape}
 use Rattle.report_text.specs.PlainTexts.{IsPlainResult}
-use Rattle.report_text.specs.Styles.{styled, styles_of}
-use Rattle.report_text.specs.Texts.{Text}
+use Rattle.plain_text.specs.Styles.{styled, styles_of}
+use Rattle.plain_text.specs.Texts.{Text}
 use Rattle.report_text.proofs.lemmas.FreeWords.{frees}
 use Rattle.report_text.proofs.lemmas.Tints.{IsTinted, tinted-append, tinted-free, tints}
 use Rattle.unit_report.proofs.lemmas.DurationTints.{tinted-bracketed_duration, tinted-slow_duration}

@@ -5,10 +5,10 @@ use Rattle.run_model.specs.UniquePrefixes.{UniquePrefix}
 use Rattle.run_model.specs.declared.config.NextestRunMode.{NextestRunMode}
 use Rattle.run_model.specs.declared.event.TestCounts.{TestCounts}
 use Rattle.run_model.specs.declared.replay.ReplayHeader.{ReplayHeader}
-use Rattle.report_text.specs.Escapes.{HasNoEscape}
+use Rattle.plain_text.specs.Escapes.{HasNoEscape}
 use Rattle.report_text.specs.PlainTexts.{HoldsIf}
-use Rattle.report_text.specs.Styles.{styles_of}
-use Rattle.report_text.specs.Texts.{Text}
+use Rattle.plain_text.specs.Styles.{styles_of}
+use Rattle.plain_text.specs.Texts.{Text}
 use Rattle.report_text.proofs.lemmas.FreeWords.{frees, free-last_digits}
 use Rattle.report_text.proofs.lemmas.Tints.{IsTinted, tinted-free, tints}
 use Rattle.unit_report.proofs.lemmas.SkipTints.{tinted-skip_note}

@@ -16,9 +16,9 @@ use Rattle.run_model.specs.declared.stress.StressCount.TheVariants as total
 use Rattle.run_model.specs.declared.stress.StressIndex.{StressIndex}
 use Rattle.run_model.specs.declared.stress.StressProgress.{StressProgress}
 use Rattle.run_model.specs.declared.stress.StressProgress.TheVariants.{Count, Time}
-use Rattle.report_text.specs.Escapes.{HasNoEscape}
-use Rattle.report_text.specs.Styles.{styled, styles_of}
-use Rattle.report_text.specs.Texts.{Text, right_in}
+use Rattle.plain_text.specs.Escapes.{HasNoEscape}
+use Rattle.plain_text.specs.Styles.{styled, styles_of}
+use Rattle.plain_text.specs.Texts.{Text, right_in}
 use Rattle.report_text.proofs.lemmas.FreeWords.{frees}
 use Rattle.report_text.proofs.lemmas.Tints.{IsTinted, tinted-append, tinted-none, tints}
 use Rattle.unit_report.proofs.lemmas.SkipTints.{free-reason_words}

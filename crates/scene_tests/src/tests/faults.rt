@@ -3,7 +3,7 @@
 
 use super::{OPTIONS, TWO_TESTS};
 use console_reporter::imp::{ReportCall, RunFault, WriteEventError, run_report};
-use report_text::write_str::{TextBuffer, WriteStr};
+use plain_text::write_str::{TextBuffer, WriteStr};
 use scenes::fault::Fault;
 use scenes::program::judge;
 use scenes::reporter::builder_of;

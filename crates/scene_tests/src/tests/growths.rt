@@ -6,7 +6,7 @@ use super::faults::{ASKED, CANCELLED, OF_ASKED, OF_CANCELLED, run_to};
 use super::script_lines::SETUP_DONE;
 use super::{OPTIONS, TWO_TESTS};
 use console_reporter::imp::{ReportCall, RunFault, WriteEventError};
-use report_text::write_str::TextBuffer;
+use plain_text::write_str::TextBuffer;
 use scenes::fault::Fault;
 use scenes::program::{judge, write_report};
 use std::io;

@@ -2,10 +2,10 @@
 use Rattle.std.proofs.Common.{◌≡◌, ℕ, List, [], ◌∷◌, ◌++◌, Option, None, Some, ◌⊎◌, Result, Ok, Err, IfErr, refl, sym, ap, subst, ◌∙◌, append-nil, inl, inr}
 use Rattle.std.specs.Prelude.{⊤}
 use Rattle.std.specs.Option.{option_map_or}
-use Rattle.report_text.specs.Buffer.{buffer_meaning, GrowsWithin}
-use Rattle.report_text.specs.Writer.{Meaning}
-use Rattle.report_text.specs.declared.write_str.text_buffer.TextBuffer.{TextBuffer}
-use Rattle.report_text.proofs.lemmas.Deliveries.{accepted_delivers, begins_of, stopped_begins}
+use Rattle.plain_text.specs.Buffer.{buffer_meaning, GrowsWithin}
+use Rattle.plain_text.specs.Writer.{Meaning}
+use Rattle.plain_text.specs.declared.write_str.text_buffer.TextBuffer.{TextBuffer}
+use Rattle.plain_text.proofs.lemmas.Deliveries.{accepted_delivers, begins_of, stopped_begins}
 use Rattle.console_reporter.specs.Outcomes.{HasFront}
 use Rattle.console_reporter.specs.Stored.{stored}
 use Rattle.run_model.specs.declared.call.ReportCall.{ReportCall}

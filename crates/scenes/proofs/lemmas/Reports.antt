@@ -5,8 +5,8 @@ use Rattle.std.proofs.lemmas.Bool.{cases_lt}
 use Rattle.std.proofs.lemmas.List.{take-append-drop, reverse-append}
 use Rattle.std.specs.Prelude.{slice_get}
 use Rattle.std.proofs.lemmas.Option.{slice_get-get_or, slice_get_past}
-use Rattle.report_text.specs.Texts.{Text}
-use Rattle.report_text.specs.Writer.{Meaning, WriterLaws}
+use Rattle.plain_text.specs.Texts.{Text}
+use Rattle.plain_text.specs.Writer.{Meaning, WriterLaws}
 use Rattle.console_reporter.specs.Configuration.{Configuration, configured, configured_with_store}
 use Rattle.console_reporter.specs.Outcomes.{HasFront, Stops, StopsAfter, StopsRecord, StopsRecordAfter, refusal_in}
 use Rattle.console_reporter.specs.Accepted.{decider_of, first_refused, refusal_at}

@@ -1,8 +1,8 @@
 -- Netstrings of texts in two parts (for `write_stored_output`, `write_outcome`, `OutputTexts`).
 use Rattle.std.proofs.Common.{◌≡◌, [], ◌++◌, ap₂, append_assoc, codes, length-append, sym, refl}
-use Rattle.report_text.specs.Lossy.{decoded_text}
-use Rattle.report_text.specs.Texts.{Text}
-use Rattle.report_text.proofs.lemmas.Decoded.{decoded-none}
+use Rattle.plain_text.specs.Lossy.{decoded_text}
+use Rattle.plain_text.specs.Texts.{Text}
+use Rattle.plain_text.proofs.lemmas.Decoded.{decoded-none}
 use Rattle.store_text.specs.Netstrings.{joined_netstring, netstring, netstring_head}
 
 pub joined-netstring : (front back : Text) → joined_netstring front back ≡ netstring (front ++ back)

@@ -13,9 +13,9 @@ use Rattle.run_model.specs.declared.status.ExecutionResultDescription.{Execution
 use Rattle.run_model.specs.declared.status.ExecutionResultDescription.TheVariants as outcome
 use Rattle.run_model.specs.declared.status.FailureDescription.TheVariants.{ExitCode}
 use Rattle.run_model.specs.declared.status.FlakyResult.TheVariants as flaky
-use Rattle.report_text.specs.Lossy.{decoded_text}
-use Rattle.report_text.specs.Texts.{Text}
-use Rattle.report_text.proofs.lemmas.Decoded.{decoded-same}
+use Rattle.plain_text.specs.Lossy.{decoded_text}
+use Rattle.plain_text.specs.Texts.{Text}
+use Rattle.plain_text.proofs.lemmas.Decoded.{decoded-same}
 use Rattle.event_text.specs.ResultWords.{short_word}
 use Rattle.store_text.specs.Netstrings.{netstring, netstring_head}
 use Rattle.store_text.specs.Records.{record_text}

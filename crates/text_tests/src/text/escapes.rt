@@ -1,6 +1,6 @@
 //! Each form of sequence: finished, unfinished, and with what ends it.
 
-use report_text::escapes::{Piece, pieces, strip};
+use plain_text::escapes::{Piece, pieces, strip};
 use std::test::Fail;
 
 #[test]

@@ -2,11 +2,11 @@
 
 ghost use Rattle.std.specs.Prelude.{◌≡◌};
 
-use report_text::fitting::{WriteText, count_columns, write_fitted};
+use plain_text::fitting::{WriteText, count_columns, write_fitted};
 use report_text::helpers::DisplayTestInstance;
 use report_text::helpers::instance::DisplayCounterIndex;
-use report_text::style::ListStyles;
-use report_text::write_str::{WriteFault, WriteStr};
+use plain_text::style::ListStyles;
+use plain_text::write_str::{WriteFault, WriteStr};
 use run_model::name::{RustBinaryId, TestCaseName, TestInstanceId};
 use std::alloc::Global;
 use std::test::Fail;

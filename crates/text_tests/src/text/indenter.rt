@@ -1,7 +1,7 @@
 //! Indented texts: whole, character by character, and in two levels.
 
-use report_text::indenter::{DisplayIndented, indented};
-use report_text::write_str::WriteStr;
+use plain_text::indenter::{DisplayIndented, indented};
+use plain_text::write_str::WriteStr;
 use std::test::Fail;
 
 #[test]

@@ -1,6 +1,6 @@
 //! Texts of bytes that are UTF-8, and of bytes that are not.
 
-use report_text::lossy::LossyText;
+use plain_text::lossy::LossyText;
 use std::test::Fail;
 
 #[test]

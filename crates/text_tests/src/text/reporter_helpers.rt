@@ -1,6 +1,6 @@
 //! Chunks and ends of highlights, by nextest's own vectors.
 
-use report_text::reporter_helpers::{highlight_end, print_lines_in_chunks};
+use plain_text::reporter_helpers::{highlight_end, print_lines_in_chunks};
 use std::test::Fail;
 
 #[test]

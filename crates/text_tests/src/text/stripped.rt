@@ -1,8 +1,8 @@
 //! Pieces that cut a sequence, and line feeds at the end of a piece.
 
-use report_text::end_line::EndLine;
-use report_text::stripped::{StrippedPieces, write_stripped_text};
-use report_text::write_str::{WriteFault, WriteStr};
+use plain_text::end_line::EndLine;
+use plain_text::stripped::{StrippedPieces, write_stripped_text};
+use plain_text::write_str::{WriteFault, WriteStr};
 use std::test::Fail;
 
 // Writes the pieces without their sequences and the line feed that closes what is left.

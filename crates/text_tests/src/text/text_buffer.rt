@@ -1,6 +1,6 @@
 //! A device that fails only where it is to hand its bytes on.
 
-use report_text::write_str::{TextBuffer, WriteFault, WriteStr};
+use plain_text::write_str::{TextBuffer, WriteFault, WriteStr};
 use std::io;
 use std::io::{ErrorKind, Write};
 use std::test::Fail;

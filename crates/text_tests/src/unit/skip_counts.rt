@@ -1,6 +1,6 @@
 //! What a run skips: each reason and each pair of reasons, in words and in colours.
 
-use report_text::style::Styles;
+use plain_text::style::Styles;
 use run_model::config::{CompiledDefaultFilter, CompiledDefaultFilterSection, NextestRunMode};
 use run_model::event::SkipCounts;
 use run_model::name::ProfileName;

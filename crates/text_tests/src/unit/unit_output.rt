@@ -1,8 +1,8 @@
 //! Captured output: highlights, escapes, bytes that are no text, and streams that are absent or empty.
 
 use bytes::Bytes;
-use report_text::escapes::strip;
-use report_text::style::{Style, Styles};
+use plain_text::escapes::strip;
+use plain_text::style::{Style, Styles};
 use run_model::abort::DescriptionText;
 use run_model::output::{
     ChildExecutionOutputDescription, ChildOutputDescription, ChildSingleOutput, ErrorChain,

@@ -1,6 +1,6 @@
 //! What a run left undone: each reason that has words of its own, in words and in colours, and where nothing is said.
 
-use report_text::style::Styles;
+use plain_text::style::Styles;
 use run_model::config::NextestRunMode;
 use run_model::level::CancelReason;
 use run_model::stats::{FinalRunStats, RunStatsFailureKind};

@@ -3,22 +3,22 @@ use Rattle.std.proofs.Common.{◌≡◌, ℕ, ◌<◌, Bool, true, false, List, 
 use Rattle.std.specs.List.{AllByRecursion, flat_map}
 use Rattle.std.proofs.lemmas.Bool.{cases_Bool, eqb-true}
 use Rattle.run_model.specs.Outputs.{Part}
-use Rattle.report_text.specs.EndLine.{without_end_line, ends_in_line_feed}
-use Rattle.report_text.specs.Escapes.{visible_after, visible, HasNoEscape}
-use Rattle.report_text.specs.Highlights.{highlight_end}
-use Rattle.report_text.specs.Indent.{indent}
-use Rattle.report_text.specs.Lossy.{decoded_text}
-use Rattle.report_text.specs.Styles.{plain, styles_of, reset_color, style_suffix}
-use Rattle.report_text.specs.Texts.{Text}
-use Rattle.report_text.specs.declared.style.Style.{Style}
+use Rattle.plain_text.specs.EndLine.{without_end_line, ends_in_line_feed}
+use Rattle.plain_text.specs.Escapes.{visible_after, visible, HasNoEscape}
+use Rattle.plain_text.specs.Highlights.{highlight_end}
+use Rattle.plain_text.specs.Indent.{indent}
+use Rattle.plain_text.specs.Lossy.{decoded_text}
+use Rattle.plain_text.specs.Styles.{plain, styles_of, reset_color, style_suffix}
+use Rattle.plain_text.specs.Texts.{Text}
+use Rattle.plain_text.specs.declared.style.Style.{Style}
 use Rattle.unit_report.specs.Captured.{plain_output, reset_output, highlighted_output, is_valid, highlight_stop, highlighted_by, coloured_output, captured}
-use Rattle.report_text.specs.Lines.{onto_first_line, whole_lines}
+use Rattle.plain_text.specs.Lines.{onto_first_line, whole_lines}
 use Rattle.unit_report.specs.HighlightedLines.{body_len, highlighted_line, highlighted_lines}
-use Rattle.report_text.specs.Alike.{without_end_spaces}
-use Rattle.report_text.proofs.lemmas.Pieces.{free_parts, visible-free}
-use Rattle.report_text.proofs.lemmas.Widths.{free_both, visible-free_append}
+use Rattle.plain_text.specs.Alike.{without_end_spaces}
+use Rattle.plain_text.proofs.lemmas.Pieces.{free_parts, visible-free}
+use Rattle.plain_text.proofs.lemmas.Widths.{free_both, visible-free_append}
 use Rattle.report_text.proofs.lemmas.FreeWords.{free-take, free-drop, free-indent, free-visible}
-use Rattle.report_text.proofs.lemmas.AlikeIndents.{IsBlank}
+use Rattle.plain_text.proofs.lemmas.AlikeIndents.{IsBlank}
 use Rattle.report_text.proofs.lemmas.Tints.{IsTinted, prefix-append, suffix-append, reset-append, tinted-indent}
 use Rattle.report_text.specs.PlainTexts.{HoldsIf}
 use Rattle.unit_report.specs.PlainOutputs.{IsInside, IsPlainStream}

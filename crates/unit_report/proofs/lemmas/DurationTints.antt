@@ -4,7 +4,7 @@ use Rattle.run_model.specs.declared.config.NextestRunMode.{NextestRunMode}
 use Rattle.run_model.specs.declared.config.NextestRunMode.TheVariants as mode
 use Rattle.run_model.specs.declared.unit.UnitKind.{UnitKind}
 use Rattle.run_model.specs.declared.unit.UnitKind.TheVariants as kind
-use Rattle.report_text.specs.Escapes.{HasNoEscape}
+use Rattle.plain_text.specs.Escapes.{HasNoEscape}
 use Rattle.report_text.proofs.lemmas.FreeWords.{frees}
 use Rattle.report_text.proofs.lemmas.Tints.{IsTinted, tinted-free}
 use Rattle.unit_report.specs.Durations.{bracketed_duration, bracketed_clock, duration_by, slow_duration}

@@ -6,11 +6,11 @@ use Rattle.std.proofs.lemmas.Str.{IsUtf8-take, IsCharBoundary-from_rest}
 use Rattle.std.specs.Bool.{IsTrue}
 use Rattle.std.specs.Str.{IsCharBoundary, IsUtf8}
 use Rattle.run_model.specs.Outputs.{Part}
-use Rattle.report_text.specs.Highlights.{highlight_end}
-use Rattle.report_text.specs.Lossy.{ends_character, front_text}
-use Rattle.report_text.specs.Texts.{Text}
-use Rattle.report_text.specs.declared.style.Style.{Style}
-use Rattle.report_text.proofs.lemmas.Decoded.{boundary-ends}
+use Rattle.plain_text.specs.Highlights.{highlight_end}
+use Rattle.plain_text.specs.Lossy.{ends_character, front_text}
+use Rattle.plain_text.specs.Texts.{Text}
+use Rattle.plain_text.specs.declared.style.Style.{Style}
+use Rattle.plain_text.proofs.lemmas.Decoded.{boundary-ends}
 use Rattle.unit_report.specs.Captured.{begins_with, coloured_output, highlighted_output, highlight_stop, is_valid}
 
 -- the test of a beginning

@@ -12,9 +12,9 @@ use Rattle.run_model.specs.declared.stats.FinalRunStats.{FinalRunStats}
 use Rattle.run_model.specs.declared.stats.FinalRunStats.TheVariants.{Success, NoTestsRun, Cancelled, Failed}
 use Rattle.run_model.specs.declared.stats.RunStatsFailureKind.{RunStatsFailureKind}
 use Rattle.run_model.specs.declared.stats.RunStatsFailureKind.TheVariants.{SetupScript, Test}
-use Rattle.report_text.specs.Texts.{Text}
-use Rattle.report_text.specs.Escapes.{HasNoEscape}
-use Rattle.report_text.specs.Styles.{styles_of}
+use Rattle.plain_text.specs.Texts.{Text}
+use Rattle.plain_text.specs.Escapes.{HasNoEscape}
+use Rattle.plain_text.specs.Styles.{styles_of}
 use Rattle.unit_report.specs.SkipCounts.{tests_text, binaries_text, between, tests_and_binaries, filter_name, via_filter, rerun_text, filtered_text, including, included_text, skip_reason, skip_note}
 use Rattle.unit_report.specs.Warnings.{due_to, options_hint, hint_after, not_run_count, not_run_warning, warning_of, final_warnings}
 use Rattle.report_text.proofs.lemmas.Tints.{IsTinted, tinted-none, tints}

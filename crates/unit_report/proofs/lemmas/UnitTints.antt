@@ -10,12 +10,12 @@ use Rattle.run_model.specs.declared.output.ChildOutputDescription.{ChildOutputDe
 use Rattle.run_model.specs.declared.output.ChildOutputDescription.TheVariants.{Split, Combined, NotLoaded}
 use Rattle.run_model.specs.declared.output.Highlight.{Highlight}
 use Rattle.run_model.specs.declared.output.LiveSpec.{LiveSpec}
-use Rattle.report_text.specs.Texts.{Text}
-use Rattle.report_text.specs.Escapes.{HasNoEscape}
-use Rattle.report_text.specs.Styles.{styles_of}
+use Rattle.plain_text.specs.Texts.{Text}
+use Rattle.plain_text.specs.Escapes.{HasNoEscape}
+use Rattle.plain_text.specs.Styles.{styles_of}
 use Rattle.report_text.specs.declared.helpers.theme.ThemeCharacters.{ThemeCharacters}
-use Rattle.report_text.specs.declared.style.Style.{Style}
-use Rattle.report_text.specs.declared.style.Style.TheVariants as style
+use Rattle.plain_text.specs.declared.style.Style.{Style}
+use Rattle.plain_text.specs.declared.style.Style.TheVariants as style
 use Rattle.unit_report.specs.ErrorChains.{cause_text, caused_by, causes_text, error_chain_text}
 use Rattle.unit_report.specs.OutputHeaders.{name_text, bar_text, header_text}
 use Rattle.unit_report.specs.UnitOutputs.{OutputLayout, not_captured_text, shown_stream, present_stream, stream_text, both_streams, split_text, child_output, errors_block, errors_text, execution_output}
@@ -25,7 +25,7 @@ use Rattle.unit_report.specs.declared.unit_output.header.OutputName.{OutputName}
 use Rattle.unit_report.specs.declared.unit_output.header.OutputName.TheVariants as name
 use Rattle.unit_report.specs.declared.unit_output.reporter.UnitOutputReporter.{UnitOutputReporter}
 use Rattle.report_text.proofs.lemmas.FreeWords.{frees}
-use Rattle.report_text.proofs.lemmas.AlikeIndents.{IsBlank}
+use Rattle.plain_text.proofs.lemmas.AlikeIndents.{IsBlank}
 use Rattle.report_text.proofs.lemmas.Tints.{IsTinted, tinted-none, tinted-append, tinted-free, tinted-if, tints}
 use Rattle.report_text.specs.PlainTexts.{HoldsIf, IsPlainChain}
 use Rattle.unit_report.specs.PlainOutputs.{IsPlainStream, IsPlainOutput, IsPlainWritten}

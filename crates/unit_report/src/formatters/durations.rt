@@ -1,15 +1,15 @@
 //! Durations as the lines of a report show them.
 
 ghost use Rattle.std.specs.Prelude.{◌≡◌, ◌++◌, Some, codes};
-ghost use Rattle.report_text.specs.Texts.{right_in};
-ghost use Rattle.report_text.specs.Numbers.{seconds};
-ghost use Rattle.report_text.specs.Writer.{Puts};
+ghost use Rattle.plain_text.specs.Texts.{right_in};
+ghost use Rattle.plain_text.specs.Numbers.{seconds};
+ghost use Rattle.plain_text.specs.Writer.{Puts};
 ghost use Rattle.unit_report.specs.Durations.{bracketed_clock, bracketed_duration, duration_by, slow_duration};
 
 use report_text::helpers::durations::write_clock_between;
-use report_text::numbers::write_seconds_between;
-use report_text::show_written;
-use report_text::write_str::{WriteFault, WriteStr};
+use plain_text::numbers::write_seconds_between;
+use plain_text::show_written;
+use plain_text::write_str::{WriteFault, WriteStr};
 use run_model::time::Nanos;
 use std::fmt;
 use std::fmt::Formatter;

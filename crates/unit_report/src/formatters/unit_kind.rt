@@ -1,11 +1,11 @@
 //! The word for a unit.
 
 ghost use Rattle.std.specs.Prelude.{◌≡◌, Some};
-ghost use Rattle.report_text.specs.Writer.{Puts};
+ghost use Rattle.plain_text.specs.Writer.{Puts};
 ghost use Rattle.unit_report.specs.UnitKinds.{unit_word};
 
-use report_text::show_written;
-use report_text::write_str::{WriteFault, WriteStr};
+use plain_text::show_written;
+use plain_text::write_str::{WriteFault, WriteStr};
 use run_model::config::NextestRunMode;
 use run_model::unit::UnitKind;
 use std::fmt;

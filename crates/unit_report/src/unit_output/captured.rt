@@ -5,20 +5,20 @@
 
 ghost use Rattle.std.specs.Prelude.{◌≡◌, true, false, take, drop, MatchOption};
 ghost use Rattle.run_model.specs.Outputs.{subslice_value};
-ghost use Rattle.report_text.specs.EndLine.{without_end_line};
-ghost use Rattle.report_text.specs.Escapes.{visible};
-ghost use Rattle.report_text.specs.Highlights.{highlight_end};
-ghost use Rattle.report_text.specs.Lossy.{decoded_text, front_text};
-ghost use Rattle.report_text.specs.Writer.{Puts};
+ghost use Rattle.plain_text.specs.EndLine.{without_end_line};
+ghost use Rattle.plain_text.specs.Escapes.{visible};
+ghost use Rattle.plain_text.specs.Highlights.{highlight_end};
+ghost use Rattle.plain_text.specs.Lossy.{decoded_text, front_text};
+ghost use Rattle.plain_text.specs.Writer.{Puts};
 ghost use Rattle.unit_report.specs.Captured.{captured, coloured_output, highlighted_output, highlight_stop, is_valid, part_value, plain_output, reset_output};
 
 use super::highlighted_lines::write_highlighted_lines;
-use report_text::end_line::EndLine;
-use report_text::lossy::LossyText;
-use report_text::reporter_helpers::highlight_end;
-use report_text::stripped::{StrippedPieces, write_stripped_text};
-use report_text::style::{RESET_COLOR, Style, Styles, write_plain};
-use report_text::write_str::{WriteFault, WriteStr};
+use plain_text::end_line::EndLine;
+use plain_text::lossy::LossyText;
+use plain_text::reporter_helpers::highlight_end;
+use plain_text::stripped::{StrippedPieces, write_stripped_text};
+use plain_text::style::{RESET_COLOR, Style, Styles, write_plain};
+use plain_text::write_str::{WriteFault, WriteStr};
 use run_model::output::ByteSubslice;
 use std::str;
 

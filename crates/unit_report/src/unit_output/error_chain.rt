@@ -2,13 +2,13 @@
 
 ghost use Rattle.std.specs.Prelude.{◌≡◌, false, codes};
 ghost use Rattle.std.specs.List.{flat_map};
-ghost use Rattle.report_text.specs.Indent.{indent};
-ghost use Rattle.report_text.specs.Writer.{Puts};
+ghost use Rattle.plain_text.specs.Indent.{indent};
+ghost use Rattle.plain_text.specs.Writer.{Puts};
 ghost use Rattle.unit_report.specs.ErrorChains.{cause_text, caused_by, causes_text, error_chain_text};
 
-use report_text::indenter::indented;
-use report_text::style::write_plain;
-use report_text::write_str::{WriteFault, WriteStr};
+use plain_text::indenter::indented;
+use plain_text::style::write_plain;
+use plain_text::write_str::{WriteFault, WriteStr};
 use run_model::abort::DescriptionText;
 use run_model::output::ErrorChain;
 

@@ -1,9 +1,9 @@
 //! What begins and what ends a style, for formatting.
 
 ghost use Rattle.std.specs.Prelude.{◌≡◌, Some};
-ghost use Rattle.report_text.specs.Styles.{style_prefix, style_suffix};
+ghost use Rattle.plain_text.specs.Styles.{style_prefix, style_suffix};
 
-use report_text::style::Style;
+use plain_text::style::Style;
 use std::fmt;
 use std::fmt::Formatter;
 

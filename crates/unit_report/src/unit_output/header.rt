@@ -1,13 +1,13 @@
 //! The line before a stream.
 
 ghost use Rattle.std.specs.Prelude.{◌≡◌, Some};
-ghost use Rattle.report_text.specs.Styles.{styled};
-ghost use Rattle.report_text.specs.Writer.{Puts};
+ghost use Rattle.plain_text.specs.Styles.{styled};
+ghost use Rattle.plain_text.specs.Writer.{Puts};
 ghost use Rattle.unit_report.specs.OutputHeaders.{bar_text, header_text, name_text};
 
 use report_text::helpers::ThemeCharacters;
-use report_text::style::{Style, write_plain};
-use report_text::write_str::{WriteFault, WriteStr};
+use plain_text::style::{Style, write_plain};
+use plain_text::write_str::{WriteFault, WriteStr};
 
 /// What a header calls what follows it.
 #[derive(Clone, Copy, Debug, PartialEq, Eq)]
@@ -108,7 +108,7 @@ fn write_bar<W: WriteStr>(
 }
 
 // Writes a bar of so many characters in this style.
-#[tactic(auto, unfolding(report_text::specs::Styles::styled))]
+#[tactic(auto, unfolding(plain_text::specs::Styles::styled))]
 fn write_hbar<W: WriteStr>(
     w: &mut W,
     style: Style,

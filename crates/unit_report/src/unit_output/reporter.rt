@@ -3,9 +3,9 @@
 ghost use Rattle.std.specs.Prelude.{◌≡◌, ◌∷◌, ◌++◌, [], true};
 ghost use Rattle.std.specs.Option.{option_map, option_and_then};
 ghost use Rattle.run_model.specs.Outputs.{combined_part, has_loaded_output, is_loaded, stderr_part, stdout_part, subslice_value};
-ghost use Rattle.report_text.specs.Indent.{indent};
-ghost use Rattle.report_text.specs.Lossy.{decoded_text};
-ghost use Rattle.report_text.specs.Writer.{Puts};
+ghost use Rattle.plain_text.specs.Indent.{indent};
+ghost use Rattle.plain_text.specs.Lossy.{decoded_text};
+ghost use Rattle.plain_text.specs.Writer.{Puts};
 ghost use Rattle.unit_report.specs.Captured.{captured};
 ghost use Rattle.unit_report.specs.ErrorChains.{error_chain_text};
 ghost use Rattle.unit_report.specs.UnitOutputs.{both_streams, child_output, errors_block, errors_text, execution_output, is_replay, layout_of, not_captured_text, present_stream, shown_stream, split_text, stream_text};
@@ -15,9 +15,9 @@ use super::captured::write_captured;
 use super::error_chain::write_error_chain;
 use super::header::{OutputHeader, OutputName};
 use super::overrides::OutputDisplayOverrides;
-use report_text::indenter::indented;
-use report_text::style::{Part, Styles, write_parts, write_plain};
-use report_text::write_str::{WriteFault, WriteStr};
+use plain_text::indenter::indented;
+use plain_text::style::{Part, Styles, write_parts, write_plain};
+use plain_text::write_str::{WriteFault, WriteStr};
 use run_model::boxed::Boxed;
 use run_model::output::{
     ByteSubslice, ChildExecutionOutputDescription, ChildOutputDescription, ChildSingleOutput,

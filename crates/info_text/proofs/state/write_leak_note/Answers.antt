@@ -1,4 +1,4 @@
-use Rattle.report_text.proofs.lemmas.Steps.{puts_then, at_exit}
+use Rattle.plain_text.proofs.lemmas.Steps.{puts_then, at_exit}
 use Rattle.info_text.specs.States.{leak_note}
 use Rattle.info_text.proofs.state.write_leak_note.Goals as goal
 

@@ -1,4 +1,4 @@
-use Rattle.report_text.proofs.lemmas.Steps.{puts_then, at_exit}
+use Rattle.plain_text.proofs.lemmas.Steps.{puts_then, at_exit}
 use Rattle.info_text.specs.States.{terminating_line}
 use Rattle.info_text.proofs.state.write_terminating_line.Goals as goal
 

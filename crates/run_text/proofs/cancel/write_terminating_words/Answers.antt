@@ -1,4 +1,4 @@
-use Rattle.report_text.proofs.lemmas.Steps.{puts_then, at_exit}
+use Rattle.plain_text.proofs.lemmas.Steps.{puts_then, at_exit}
 use Rattle.run_text.specs.Cancels.{terminating_words}
 use Rattle.run_text.proofs.cancel.write_terminating_words.Goals as goal
 

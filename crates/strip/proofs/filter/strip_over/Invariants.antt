@@ -1,5 +1,5 @@
 use Rattle.std.proofs.Common.{◌≡◌, string_bytes}
-use Rattle.report_text.specs.Escapes.{visible}
+use Rattle.plain_text.specs.Escapes.{visible}
 use Rattle.strip.proofs.filter.strip_over.Given as goal
 
 -- each turn leaves the visible text

@@ -1,7 +1,7 @@
 use Rattle.std.proofs.Common.{drop}
 use Rattle.std.specs.List.{flat_map}
 use Rattle.report_text.specs.Interceptors.{listed_text}
-use Rattle.report_text.specs.Writer.{Owes}
+use Rattle.plain_text.specs.Writer.{Owes}
 use Rattle.report_text.proofs.helpers.interceptor.write_listed.Given as goal
 
 -- the tests that are left are owed

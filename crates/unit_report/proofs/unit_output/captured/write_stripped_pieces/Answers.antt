@@ -1,5 +1,5 @@
 use Rattle.std.proofs.Common.{rules}
-use Rattle.report_text.proofs.lemmas.StrippedTexts.{stripped_begun, stripped_written, stripped_stopped, stripped_done}
+use Rattle.plain_text.proofs.lemmas.StrippedTexts.{stripped_begun, stripped_written, stripped_stopped, stripped_done}
 use Rattle.unit_report.proofs.unit_output.captured.write_stripped_pieces.Goals as goal
 
 pub loop-piece-init : goal.loop-piece-init

@@ -1,9 +1,9 @@
 use Rattle.std.proofs.Common.{◌++◌, chars, length}
 use Rattle.std.specs.Str.{IsUtf8}
-use Rattle.report_text.specs.EndLine.{without_end_line, held}
-use Rattle.report_text.specs.Escapes.{visible}
-use Rattle.report_text.specs.Stripped.{visible_from}
-use Rattle.report_text.specs.Writer.{Owes}
+use Rattle.plain_text.specs.EndLine.{without_end_line, held}
+use Rattle.plain_text.specs.Escapes.{visible}
+use Rattle.plain_text.specs.Stripped.{visible_from}
+use Rattle.plain_text.specs.Writer.{Owes}
 use Rattle.unit_report.proofs.unit_output.captured.write_stripped_pieces.Given as goal
 
 -- what is shown of the rest is owed

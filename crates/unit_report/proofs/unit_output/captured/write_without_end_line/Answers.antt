@@ -1,4 +1,4 @@
-use Rattle.report_text.proofs.lemmas.EndLines.{end_line_written, end_line_stopped, end_line_done}
+use Rattle.plain_text.proofs.lemmas.EndLines.{end_line_written, end_line_stopped, end_line_done}
 use Rattle.unit_report.proofs.unit_output.captured.write_without_end_line.Goals as goal
 
 pub returns-in_err-write : goal.returns-in_err-write

@@ -1,6 +1,6 @@
 use Rattle.std.proofs.Common.{◌++◌, length}
-use Rattle.report_text.specs.EndLine.{without_end_line, held}
-use Rattle.report_text.specs.Writer.{Owes}
+use Rattle.plain_text.specs.EndLine.{without_end_line, held}
+use Rattle.plain_text.specs.Writer.{Owes}
 use Rattle.unit_report.proofs.unit_output.captured.write_without_end_line.Given as goal
 
 -- what is left is owed, after the line feed that is held back

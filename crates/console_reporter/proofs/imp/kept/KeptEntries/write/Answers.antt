@@ -1,5 +1,5 @@
 use Rattle.std.proofs.Common.{ap}
-use Rattle.report_text.proofs.lemmas.Steps.{owes_accepted}
+use Rattle.plain_text.proofs.lemmas.Steps.{owes_accepted}
 use Rattle.console_reporter.specs.Entries.{entries_text}
 use Rattle.console_reporter.specs.Keys.{entries_at}
 use Rattle.console_reporter.proofs.imp.kept.KeptEntries.write.Goals as goal

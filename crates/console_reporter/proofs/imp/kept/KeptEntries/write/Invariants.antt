@@ -1,4 +1,4 @@
-use Rattle.report_text.specs.Writer.{Owes}
+use Rattle.plain_text.specs.Writer.{Owes}
 use Rattle.console_reporter.specs.Entries.{entries_text}
 use Rattle.console_reporter.specs.Keys.{entries_at}
 use Rattle.console_reporter.proofs.imp.kept.KeptEntries.write.Given as goal

@@ -1,0 +1,100 @@
+-- Where a sequence ends (for `sequence_len`, `stepwise_len`).
+use Rattle.std.proofs.Common.{◌≡◌, ℕ, zero, suc, ◌+◌, ◌<◌, ◌≤◌, Bool, true, ◌&&◌, ◌==◌, ◌⊎◌, inl, inr, [], ◌∷◌, refl, ap, arith, length, get_or, drop, lit<, length-drop, add-zero, add-suc, get_or-drop}
+use Rattle.std.proofs.lemmas.Bool.{cases_Bool, and_parts}
+use Rattle.std.proofs.lemmas.Bool.Decides.{nat_tests}
+use Rattle.plain_text.specs.Texts.{Text}
+use Rattle.plain_text.specs.Escapes.{is_within, is_parameter, is_intermediate, is_control, front_len, one_len, then_len, csi_len, osc_len, short_len, sequence_len}
+
+-- what f counts after an ASCII character is there, and ASCII to its end
+abbrev IsAsciiRun : (Text → ℕ) → Type 0
+IsAsciiRun f = (c : ℕ) (t : Text) → c < 128 → (f t ≤ length t) × (get_or (c ∷ t) (f t) 0 < 128)
+
+front_len-ascii : (p : ℕ → Bool) → ((c : ℕ) → p c ≡ true → c < 128) → IsAsciiRun (front_len p)
+front_len-ascii p h c [] l = (omega arith, l)
+front_len-ascii p h c (d ∷ t) l = elim (cases_Bool (p d)) [
+  | inl y ↦ (let more = front_len-ascii p h d t (h d y) in (rw y (omega arith), rw y more.1))
+  | inr n ↦ (rw n (omega arith), rw n l)
+]
+
+one_len-ascii : (p : ℕ → Bool) → ((c : ℕ) → p c ≡ true → c < 128) → IsAsciiRun (one_len p)
+one_len-ascii p h c [] l = (omega arith, l)
+one_len-ascii p h c (d ∷ t) l = elim (cases_Bool (p d)) [
+  | inl y ↦ (rw y (omega arith), rw y (h d y))
+  | inr n ↦ (rw n (omega arith), rw n l)
+]
+
+moved : (c : ℕ) (t : Text) (n m : ℕ) → n ≤ length t → get_or (get_or (c ∷ t) n 0 ∷ drop n t) m 0 ≡ get_or (c ∷ t) (n + m) 0
+moved c t n zero h = rw add-zero refl
+moved c t n (suc m) h = rw (add-suc, get_or-drop) refl
+
+then_len-ascii : (f g : Text → ℕ) → IsAsciiRun f → IsAsciiRun g → IsAsciiRun (then_len f g)
+then_len-ascii f g hf hg c t l =
+    let first = hf c t l in let second = hg (get_or (c ∷ t) (f t) 0) (drop (f t) t) first.1 in
+    (omega (arith, length-drop (f t) t), rw (← moved c t (f t) (g (drop (f t) t)) first.0) second.1)
+
+within-ascii : (low high c : ℕ) → high < 128 → is_within low high c ≡ true → c < 128
+within-ascii low high c l h = grind (arith, nat_tests)
+
+csi_len-ascii : IsAsciiRun csi_len
+csi_len-ascii = then_len-ascii _ _ (front_len-ascii is_parameter (λ c. within-ascii 0x30 0x3F c (lit< tt)))
+    (then_len-ascii _ _ (front_len-ascii is_intermediate (λ c. within-ascii 0x20 0x2F c (lit< tt))) (one_len-ascii (is_within 0x40 0x7E) (λ c. within-ascii 0x40 0x7E c (lit< tt))))
+
+-- a control sequence ends within the text
+pub csi_len-le : (t : Text) → csi_len t ≤ length t
+csi_len-le t = (csi_len-ascii 0 t (lit< tt)).0
+
+short_len-ascii : IsAsciiRun short_len
+short_len-ascii = then_len-ascii _ _ (front_len-ascii is_intermediate (λ c. within-ascii 0x20 0x2F c (lit< tt))) (one_len-ascii (is_within 0x30 0x7E) (λ c. within-ascii 0x30 0x7E c (lit< tt)))
+
+-- a place in t, after the character c, with an ASCII character before or after it or at the end
+abbrev pub IsCut : ℕ → Text → ℕ → Type 0
+IsCut c t n = (n ≤ length t) × ((get_or (c ∷ t) n 0 < 128) ⊎ ((n ≡ length t) ⊎ (get_or t n 0 < 128)))
+
+control-ascii : (c : ℕ) → is_control c ≡ true → c < 128
+control-ascii c h = grind (arith, nat_tests)
+
+osc_len-any : (c : ℕ) (t : Text) → IsCut c t (osc_len t)
+osc_len-any c [] = (omega arith, inr (inl refl))
+osc_len-any c (d ∷ []) = elim (cases_Bool (d == 7)) [
+  | inl y ↦ (rw y (omega arith), inr (inl (rw y refl)))
+  | inr n ↦ elim (cases_Bool (is_control d)) [
+    | inl y ↦ (rw (n, y) (omega arith), inr (inr (rw (n, y) (control-ascii d y))))
+    | inr m ↦ (rw (n, m) (omega arith), inr (inl (rw (n, m) refl)))
+  ]
+]
+osc_len-any c (d ∷ e ∷ t) = let more = osc_len-any d (e ∷ t) in elim (cases_Bool (d == 7)) [
+  | inl y ↦ (rw y (omega arith), inl (rw y (grind (arith, nat_tests))))
+  | inr n ↦ elim (cases_Bool ((d == 27) && (e == 92))) [
+    | inl y ↦ (rw (n, y) (omega arith), inl (rw (n, y) (let h = (and_parts (d == 27) (e == 92) y).1 in grind (arith, nat_tests))))
+    | inr m ↦ elim (cases_Bool (is_control d)) [
+      | inl y ↦ (rw (n, m, y) (omega arith), inr (inr (rw (n, m, y) (control-ascii d y))))
+      | inr k ↦ (
+        rw (n, m, k) (omega arith),
+        rw (n, m, k) (elim more.1 [
+          | inl a ↦ inl a
+          | inr b ↦ elim b [ inl q ↦ inr (inl (ap suc q)) | inr r ↦ inr (inr r) ]
+        ]),
+      )
+    ]
+  ]
+]
+
+pub sequence_len-cut : (c : ℕ) (t : Text) → c < 128 → IsCut c t (sequence_len t)
+unfolding sequence_len
+sequence_len-cut c [] l = (omega arith, inl l)
+sequence_len-cut c (d ∷ t) l = elim (cases_Bool (d == 0x5B)) [
+  | inl y ↦ (let h = csi_len-ascii d t (grind (arith, nat_tests)) in (rw y (omega arith), inl (rw y h.1)))
+  | inr n ↦ elim (cases_Bool (d == 0x5D)) [
+    | inl y ↦ (let h = osc_len-any d t in (
+      rw (n, y) (omega arith),
+      rw (n, y) (elim h.1 [
+        | inl a ↦ inl a
+        | inr b ↦ elim b [ inl q ↦ inr (inl (ap suc q)) | inr r ↦ inr (inr r) ]
+      ]),
+    ))
+    | inr m ↦ (let h = short_len-ascii c (d ∷ t) l in (rw (n, m) h.0, inl (rw (n, m) h.1)))
+  ]
+]
+
+pub sequence_len-le : (t : Text) → sequence_len t ≤ length t
+sequence_len-le t = (sequence_len-cut 0 t (lit< tt)).0

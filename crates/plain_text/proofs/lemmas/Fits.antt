@@ -1,0 +1,135 @@
+-- What is kept of a text that is cut (for `ColumnCounterWriteStr::write_str`, `FittedWriteStr::write_str`).
+use Rattle.std.proofs.Common.{◌≡◌, ℕ, zero, suc, ◌+◌, ◌*◌, ◌<◌, ◌≤◌, false, inl, inr, List, [], ◌∷◌, ◌++◌, refl, ap, ◌∙◌, arith, length, chars, encode_utf8_all, drop, encode_utf8, length-append, add-one, lit<}
+use Rattle.std.proofs.lemmas.Bool.Decides.{nat_tests, eqb_tells}
+use Rattle.std.proofs.lemmas.List.Sums.{sum_by-cons, sum_by-append}
+use Rattle.std.proofs.lemmas.Str.{chars-append, IsUtf8-take, IsUtf8-drop, IsUtf8-append, IsUtf8-nil, chars-nil, IsUtf8-past_char, chars_past_char, length-encode, len_utf8_bounds, length-le-encodes, encodes-chars}
+use Rattle.std.specs.Str.{IsUtf8}
+use Rattle.unicode_width.proofs.Rules.{width_or_zero-le}
+use Rattle.plain_text.proofs.lemmas.Cuts.{sequence_len-cut}
+use Rattle.plain_text.proofs.lemmas.Pieces.{boundary, stretch_len-cut, stretches-pieces, joined-pieces}
+use Rattle.plain_text.specs.Texts.{Text}
+use Rattle.plain_text.specs.Escapes.{PieceText, pieces, pieces_after, stretches, joined, sequence_len, front_len, is_visible}
+use Rattle.plain_text.specs.Escapes.PieceText.{SequenceText, StretchText}
+use Rattle.plain_text.specs.Fitting.{char_columns, columns_of, columns, kept_chars, kept_stretch, fit_pieces, stretch_columns}
+
+pub char_columns-le : (c : ℕ) → char_columns c ≤ 3
+unfolding char_columns
+char_columns-le c = width_or_zero-le false c
+
+pub columns_of-cons : (c : ℕ) (cs : List ℕ) → columns_of (c ∷ cs) ≡ char_columns c + columns_of cs
+columns_of-cons c cs = sum_by-cons char_columns c cs
+
+pub columns_of-append : (cs ds : List ℕ) → columns_of (cs ++ ds) ≡ columns_of cs + columns_of ds
+columns_of-append cs ds = sum_by-append char_columns cs ds
+
+pub chars-empty : (t : Text) → length t ≡ 0 → chars t ≡ []
+chars-empty [] h = chars-nil
+chars-empty (c ∷ t) h = absurd (omega arith)
+
+module _ (start end pos : ℕ) where
+  pub kept_within : (c : ℕ) (cs : List ℕ) → start ≤ pos → pos + char_columns c ≤ end → kept_chars start end pos (c ∷ cs) ≡ c ∷ kept_chars start end (pos + char_columns c) cs
+  kept_within c cs h k = grind (arith, nat_tests)
+
+  pub kept_before : (c : ℕ) (cs : List ℕ) → pos < start → kept_chars start end pos (c ∷ cs) ≡ kept_chars start end (pos + char_columns c) cs
+  kept_before c cs h = grind (arith, nat_tests)
+
+  kept_after : (c : ℕ) (cs : List ℕ) → end < pos + char_columns c → kept_chars start end pos (c ∷ cs) ≡ kept_chars start end (pos + char_columns c) cs
+  kept_after c cs h = grind (arith, nat_tests)
+
+pub kept_past : (start end pos : ℕ) (cs : List ℕ) → end < pos → kept_chars start end pos cs ≡ []
+kept_past start end pos [] h = refl
+kept_past start end pos (c ∷ cs) h = kept_after start end pos c cs (omega arith) ∙ kept_past start end (pos + char_columns c) cs (omega arith)
+
+-- nothing is kept from a character on that goes past the end
+pub kept_break : (start end pos c : ℕ) (cs : List ℕ) → end < pos + char_columns c → kept_chars start end pos (c ∷ cs) ≡ []
+kept_break start end pos c cs h = kept_after start end pos c cs h ∙ kept_past start end (pos + char_columns c) cs h
+
+-- a step over one character
+module _ (bs rest : Text) (c : ℕ) (u : IsUtf8 bs) (e : bs ≡ encode_utf8 c ++ rest) where
+  pub step_utf8 : IsUtf8 rest
+  step_utf8 = IsUtf8-past_char bs rest c u e
+
+  pub step_length : length rest + 1 ≤ length bs
+  step_length = rw (e, length-append, length-encode) (omega (arith, (len_utf8_bounds c).0))
+
+  pub step_columns : columns_of (chars bs) ≡ char_columns c + columns_of (chars rest)
+  step_columns = rw (chars_past_char bs rest c u e) (columns_of-cons c (chars rest))
+
+  pub step_within : (start end pos : ℕ) → start ≤ pos → pos + char_columns c ≤ end
+      → encode_utf8_all (kept_chars start end pos (chars bs)) ≡ encode_utf8 c ++ encode_utf8_all (kept_chars start end (pos + char_columns c) (chars rest))
+  step_within start end pos h k = rw (chars_past_char bs rest c u e) (ap encode_utf8_all (kept_within start end pos c (chars rest) h k))
+
+  pub step_before : (start end pos : ℕ) → pos < start → kept_chars start end pos (chars bs) ≡ kept_chars start end (pos + char_columns c) (chars rest)
+  step_before start end pos h = rw (chars_past_char bs rest c u e) (kept_before start end pos c (chars rest) h)
+
+  pub step_break : (start end pos : ℕ) → end < pos + char_columns c → kept_chars start end pos (chars bs) ≡ []
+  step_break start end pos h = rw (chars_past_char bs rest c u e) (kept_break start end pos c (chars rest) h)
+
+pub kept_stretch-before : (start end pos : ℕ) (s : Text) → pos < end → kept_stretch start end pos s ≡ encode_utf8_all (kept_chars start end pos (chars s))
+unfolding kept_stretch
+kept_stretch-before start end pos s h = grind (arith, nat_tests)
+
+pub kept_stretch-past : (start end pos : ℕ) (s : Text) → end ≤ pos → kept_stretch start end pos s ≡ []
+unfolding kept_stretch
+kept_stretch-past start end pos s h = grind (arith, nat_tests)
+
+-- from the end on all places are one
+pub fit_pieces-past : (start end pos place : ℕ) (ps : List PieceText) → end ≤ pos → end ≤ place → fit_pieces start end pos ps ≡ fit_pieces start end place ps
+fit_pieces-past start end pos place [] h k = refl
+fit_pieces-past start end pos place (SequenceText s ∷ ps) h k = ap (λ x. s ++ x) (fit_pieces-past start end pos place ps h k)
+fit_pieces-past start end pos place (StretchText s ∷ ps) h k =
+    rw (kept_stretch-past start end pos s h, kept_stretch-past start end place s k)
+    (fit_pieces-past start end (pos + columns_of (chars s)) (place + columns_of (chars s)) ps (omega arith) (omega arith))
+
+pub fit_pieces-skipped : (start end pos : ℕ) (s : Text) (ps : List PieceText) → end ≤ pos → fit_pieces start end pos (StretchText s ∷ ps) ≡ fit_pieces start end pos ps
+fit_pieces-skipped start end pos s ps h = rw (kept_stretch-past start end pos s h) (fit_pieces-past start end (pos + columns_of (chars s)) pos ps (omega arith) h)
+
+pub columns_of-le : (cs : List ℕ) → columns_of cs ≤ 3 * length cs
+columns_of-le [] = omega arith
+columns_of-le (c ∷ cs) = rw (columns_of-cons c cs) (omega (arith, char_columns-le c, columns_of-le cs))
+
+pub text_columns-le : (t : Text) → IsUtf8 t → columns_of (chars t) ≤ 3 * length t
+text_columns-le t u = omega (arith, columns_of-le (chars t), length-le-encodes (chars t), ap length (encodes-chars t u))
+
+-- the pieces of a text are texts
+abbrev pub AreTexts : List PieceText → Type 0
+AreTexts [] = Unit {0}
+AreTexts (SequenceText s ∷ ps) = IsUtf8 s × AreTexts ps
+AreTexts (StretchText s ∷ ps) = IsUtf8 s × AreTexts ps
+
+texts_after : (n : ℕ) (t : Text) → IsUtf8 (drop n t) → AreTexts (pieces_after n t)
+unfolding pieces_after
+texts_after zero [] u = tt
+texts_after (suc n) [] u = tt
+texts_after (suc n) (c ∷ t) u = texts_after n t u
+texts_after zero (c ∷ t) u = elim (eqb_tells c 27) [
+  | inl y ↦ (let b = rw add-one at (boundary c t (sequence_len t) u (rw y.1 (sequence_len-cut 27 t (lit< tt)))) in
+      rw y.0 (IsUtf8-take (c ∷ t) (suc (sequence_len t)) u b, texts_after (sequence_len t) t (IsUtf8-drop (c ∷ t) (suc (sequence_len t)) u b)))
+  | inr n ↦ (let b = rw add-one at (boundary c t (front_len is_visible t) u (stretch_len-cut c t)) in
+      rw n.0 (IsUtf8-take (c ∷ t) (suc (front_len is_visible t)) u b, texts_after (front_len is_visible t) t (IsUtf8-drop (c ∷ t) (suc (front_len is_visible t)) u b)))
+]
+
+pub texts : (t : Text) → IsUtf8 t → AreTexts (pieces t)
+texts t u = texts_after 0 t u
+
+pub stretches-utf8 : (ps : List PieceText) → AreTexts ps → IsUtf8 (stretches ps)
+stretches-utf8 [] u = IsUtf8-nil
+stretches-utf8 (SequenceText s ∷ ps) u = stretches-utf8 ps u.1
+stretches-utf8 (StretchText s ∷ ps) u = IsUtf8-append s (stretches ps) u.0 (stretches-utf8 ps u.1)
+
+stretch_columns-le : (ps : List PieceText) → AreTexts ps → stretch_columns ps ≤ 3 * length (joined ps)
+stretch_columns-le [] u = omega arith
+stretch_columns-le (SequenceText s ∷ ps) u = rw length-append (omega (arith, stretch_columns-le ps u.1))
+stretch_columns-le (StretchText s ∷ ps) u = rw length-append (omega (arith, text_columns-le s u.0, stretch_columns-le ps u.1))
+
+stretch_columns-is : (ps : List PieceText) → AreTexts ps → stretch_columns ps ≡ columns_of (chars (stretches ps))
+stretch_columns-is [] u = rw chars-nil refl
+stretch_columns-is (SequenceText s ∷ ps) u = stretch_columns-is ps u.1
+stretch_columns-is (StretchText s ∷ ps) u = rw (chars-append s (stretches ps) u.0, columns_of-append) (ap (λ n. columns_of (chars s) + n) (stretch_columns-is ps u.1))
+
+-- the columns of a text are those of its stretches
+pub stretch_columns-pieces : (t : Text) → IsUtf8 t → stretch_columns (pieces t) ≡ columns t
+stretch_columns-pieces t u = stretch_columns-is (pieces t) (texts t u) ∙ ap (λ x. columns_of (chars x)) (stretches-pieces t)
+
+pub columns-bound : (t : Text) → IsUtf8 t → stretch_columns (pieces t) ≤ 3 * length t
+columns-bound t u = omega (arith, stretch_columns-le (pieces t) (texts t u), ap length (joined-pieces t))

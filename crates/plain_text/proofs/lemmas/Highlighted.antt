@@ -1,0 +1,82 @@
+-- Where the first two lines of a text end (for `highlight_end`).
+use Rattle.std.proofs.Common.{◌≡◌, ℕ, suc, ◌+◌, ◌<◌, true, false, ◌==◌, inl, inr, [], ◌∷◌, ◌++◌, cond, refl, sym, ap, ◌∙◌, arith, length, get_or, take, drop, count_by, length-append, length-take-le, get_or-take, get_or-drop, add-one, take-append-drop}
+use lib.Seq.{take-add}
+use Rattle.std.proofs.Math.Seq.{drop-cons, take-suc}
+use Rattle.std.proofs.lemmas.Bool.Decides.{eqb_tells}
+use Rattle.std.proofs.lemmas.List.{get_or_default}
+use Rattle.std.proofs.lemmas.List.Sums.{sum_by-cons, sum_by-append}
+use Rattle.std.proofs.lemmas.List.Splits.{slice_split_none, slice_split_at}
+use Rattle.std.specs.List.{All}
+use Rattle.memchr.specs.Find.{Nowhere, NoneBefore, Passes, is_byte}
+use Rattle.plain_text.specs.Texts.{Text}
+use Rattle.plain_text.specs.Lines.{lines}
+use Rattle.plain_text.specs.Highlights.{highlight_end}
+use Rattle.plain_text.proofs.lemmas.Feeds.{same_byte}
+
+abbrev pub NoFeeds : Text → Type 0
+NoFeeds t = All (λ c. (c == 10) ≡ false) t
+
+not_ten : (c : ℕ) → ((c == 10) ≡ true → ⊥) → (c == 10) ≡ false
+not_ten c h = elim (eqb_tells c 10) [ inl y ↦ absurd (h y.0) | inr n ↦ n.0 ]
+
+pub none_found : (t : Text) → Nowhere (Passes (is_byte 10) t) 0 (length t) → NoFeeds t
+none_found t h k d l = not_ten (get_or t k d) (λ e. h k (omega arith) l (ap (λ c. c == 10) (get_or_default t k 0 d l) ∙ e))
+
+pub none_before : (t : Text) (i : ℕ) → NoneBefore (Passes (is_byte 10) t) 0 (length t) i → NoFeeds (take i t)
+none_before t i h k d l =
+    let below : k < i = rw (length-take-le i t (omega (arith, h.high))) at l in
+    not_ten (get_or (take i t) k d) (λ e. h.before k (omega arith) below (ap (λ c. c == 10) (get_or_default t k 0 d (omega (arith, h.high)) ∙ sym (get_or-take i t k d below)) ∙ e))
+
+-- a text round its first line feed
+pub parts_at : (t : Text) (i : ℕ) → NoneBefore (Passes (is_byte 10) t) 0 (length t) i → Passes (is_byte 10) t i → t ≡ take i t ++ 10 ∷ drop (i + 1) t
+parts_at t i h p = sym (take-append-drop i t) ∙ ap (λ x. take i t ++ x) (drop-cons t i 0 h.high ∙ rw (same_byte (get_or t i 0) 10 p, add-one) refl)
+
+lines-none : (t : Text) → NoFeeds t → lines t ≡ t ∷ []
+lines-none t h = slice_split_none (λ c. c == 10) t h
+
+lines-at : (a r : Text) → NoFeeds a → lines (a ++ 10 ∷ r) ≡ a ∷ lines r
+lines-at a r h = slice_split_at (λ c. c == 10) a 10 r h refl
+
+pub end-none : (t : Text) → NoFeeds t → length t ≡ highlight_end t
+unfolding highlight_end
+end-none t h = rw (lines-none t h) refl
+
+pub end-one : (t a r : Text) → t ≡ a ++ 10 ∷ r → NoFeeds a → NoFeeds r → length t ≡ highlight_end t
+unfolding highlight_end
+end-one t a r e h k = rw e (rw (lines-at a r h, lines-none r k) refl)
+
+pub end-two : (t a r b s : Text) → t ≡ a ++ 10 ∷ r → r ≡ b ++ 10 ∷ s → NoFeeds a → NoFeeds b → length a + 1 + length b ≡ highlight_end t
+unfolding highlight_end
+end-two t a r b s e f h k = rw e (rw f (rw (lines-at a (b ++ 10 ∷ s) h, lines-at b s k, length-append a (10 ∷ b)) (omega arith)))
+
+count-append : (xs ys : Text) → count_by (λ c. c == 10) (xs ++ ys) ≡ count_by (λ c. c == 10) xs + count_by (λ c. c == 10) ys
+count-append xs ys = sum_by-append (λ c. cond (c == 10) 1 0) xs ys
+
+count-none : (t : Text) → NoFeeds t → count_by (λ c. c == 10) t ≡ 0
+count-none [] h = refl
+count-none (c ∷ t) h =
+    let first : (c == 10) ≡ false = h 0 0 (omega arith) in
+    sum_by-cons (λ d. cond (d == 10) 1 0) c t ∙ rw first (omega (arith, count-none t (λ k d l. h (suc k) d (omega arith))))
+
+-- the first two line feeds
+module _ (t r : Text) (i j : ℕ) (first : NoneBefore (Passes (is_byte 10) t) 0 (length t) i × Passes (is_byte 10) t i) (after : r ≡ drop (i + 1) t) where
+  pub one_feed : NoFeeds r → length t ≡ highlight_end t
+  one_feed none = end-one t (take i t) r (parts_at t i first.0 first.1 ∙ ap (λ x. take i t ++ 10 ∷ x) (sym after)) (none_before t i first.0) none
+
+  module _ (second : NoneBefore (Passes (is_byte 10) r) 0 (length r) j × Passes (is_byte 10) r j) where
+    pub two_feeds : i + 1 + j ≡ highlight_end t
+    two_feeds = omega (
+      arith,
+      end-two t (take i t) r (take j r) (drop (j + 1) r) (parts_at t i first.0 first.1 ∙ ap (λ x. take i t ++ 10 ∷ x) (sym after)) (parts_at r j second.0 second.1) (none_before t i first.0) (none_before r j second.0),
+      length-take-le i t (omega (arith, first.0.high)),
+      length-take-le j r (omega (arith, second.0.high)),
+    )
+
+    pub second_feed : get_or t (i + 1 + j) 0 ≡ 10
+    second_feed = sym (get_or-drop (i + 1) t j 0) ∙ ap (λ x. get_or x j 0) (sym after) ∙ same_byte (get_or r j 0) 10 second.1
+
+    front_feeds : count_by (λ c. c == 10) (take (i + 1) t) ≡ 1
+    front_feeds = rw (add-one, take-suc t i 0 first.0.high, same_byte (get_or t i 0) 10 first.1, count-append (take i t) (10 ∷ []), count-none (take i t) (none_before t i first.0)) refl
+
+    pub one_before : count_by (λ c. c == 10) (take (i + 1 + j) t) ≡ 1
+    one_before = rw (take-add (i + 1) j t, ← after, count-append (take (i + 1) t) (take j r), front_feeds, count-none (take j r) (none_before r j second.0)) refl

@@ -1,0 +1,202 @@
+-- The pieces of a text (for `control_len`, `piece_laws`, `split_escape`, `split_piece` and others).
+use Rattle.std.proofs.Common.{◌≡◌, ◌≢◌, ℕ, zero, suc, ◌+◌, ◌<◌, ◌≤◌, Bool, true, false, not, ◌==◌, inl, inr, [], ◌∷◌, ◌++◌, refl, sym, ap, ◌∙◌, arith, length, get_or, take, drop, ◌⊎◌, lit<, add-one}
+use Rattle.std.proofs.lemmas.Bool.{cases_Bool, and_parts, not-true}
+use Rattle.std.proofs.lemmas.Bool.Decides.{eqb_tells}
+use Rattle.std.proofs.lemmas.List.{take-append-drop}
+use Rattle.std.proofs.lemmas.Str.{IsCharBoundary-after_ascii}
+use Rattle.std.specs.Str.{IsUtf8, IsCharBoundary}
+use Rattle.plain_text.specs.Texts.{Text}
+use Rattle.plain_text.specs.Escapes.{front_len, is_visible, sequence_len, pieces_after, pieces, joined, stretches, visible_after, visible, has_no_escape, HasNoEscape}
+use Rattle.plain_text.specs.Escapes.PieceText.{SequenceText, StretchText}
+use Rattle.memchr.specs.Find.{Nowhere, NoneBefore, Passes, is_byte}
+use Rattle.plain_text.proofs.lemmas.Cuts.{IsCut, sequence_len-cut}
+
+pub front_len-le : (p : ℕ → Bool) (t : Text) → front_len p t ≤ length t
+front_len-le p [] = omega arith
+front_len-le p (c ∷ t) = elim (cases_Bool (p c)) [ inl y ↦ (let more = front_len-le p t in rw y (omega arith)) | inr n ↦ rw n (omega arith) ]
+
+pub stretch_len-cut : (c : ℕ) (t : Text) → IsCut c t (front_len is_visible t)
+stretch_len-cut c [] = (omega arith, inr (inl refl))
+stretch_len-cut c (d ∷ t) = let more = stretch_len-cut d t in elim (eqb_tells d 27) [
+  | inl y ↦ (rw y.0 (omega arith), inr (inr (rw y.0 (omega arith))))
+  | inr n ↦ (rw n.0 (omega arith), rw n.0 (elim more.1 [ inl a ↦ inl a | inr b ↦ elim b [ inl q ↦ inr (inl (ap suc q)) | inr r ↦ inr (inr r) ] ]))
+]
+
+-- a text may be cut at such a place
+pub boundary : (c : ℕ) (t : Text) (n : ℕ) → IsUtf8 (c ∷ t) → IsCut c t n → IsCharBoundary (c ∷ t) (n + 1)
+boundary c t n u (h, e) = elim e [
+  | inl a ↦ (let l : n < length (c ∷ t) = omega arith in IsCharBoundary-after_ascii (c ∷ t) n u l a)
+  | inr b ↦ elim b [
+    | inl q ↦ (omega arith, λ x y. absurd (omega (arith, x)))
+    | inr r ↦ (omega arith, rw add-one (λ x y. absurd (omega (arith, y))))
+  ]
+]
+
+-- the rest has the pieces that are left
+pub pieces_after-drop : (n : ℕ) (t : Text) → pieces_after n t ≡ pieces (drop n t)
+unfolding pieces_after
+pieces_after-drop zero t = refl
+pieces_after-drop (suc n) [] = refl
+pieces_after-drop (suc n) (c ∷ t) = pieces_after-drop n t
+
+pub pieces-sequence : (t : Text) → pieces (27 ∷ t) ≡ SequenceText (27 ∷ take (sequence_len t) t) ∷ pieces (drop (sequence_len t) t)
+unfolding pieces_after
+pieces-sequence t = rw (← pieces_after-drop (sequence_len t) t) refl
+
+pub pieces-stretch : (c : ℕ) (t : Text) → (c == 27) ≡ false → pieces (c ∷ t) ≡ StretchText (c ∷ take (front_len is_visible t) t) ∷ pieces (drop (front_len is_visible t) t)
+unfolding pieces_after
+pieces-stretch c t h = rw (h, ← pieces_after-drop (front_len is_visible t) t) refl
+
+-- the pieces are the text
+joined-after : (n : ℕ) (t : Text) → joined (pieces_after n t) ≡ drop n t
+unfolding pieces_after
+joined-after zero [] = refl
+joined-after (suc n) [] = refl
+joined-after (suc n) (c ∷ t) = joined-after n t
+joined-after zero (c ∷ t) = elim (cases_Bool (c == 27)) [
+  | inl y ↦ rw (y, joined-after (sequence_len t) t) (ap (λ x. c ∷ x) (take-append-drop (sequence_len t) t))
+  | inr n ↦ rw (n, joined-after (front_len is_visible t) t) (ap (λ x. c ∷ x) (take-append-drop (front_len is_visible t) t))
+]
+
+pub joined-pieces : (t : Text) → joined (pieces t) ≡ t
+joined-pieces t = joined-after 0 t
+
+-- the stretches are what is visible
+stretch-visible : (t : Text) → take (front_len is_visible t) t ++ visible_after (front_len is_visible t) t ≡ visible_after 0 t
+unfolding visible_after
+stretch-visible [] = refl
+stretch-visible (c ∷ t) = elim (cases_Bool (c == 27)) [
+  | inl y ↦ rw y (rw y refl)
+  | inr n ↦ rw n (ap (λ x. c ∷ x) (stretch-visible t))
+]
+
+stretches-after : (n : ℕ) (t : Text) → stretches (pieces_after n t) ≡ visible_after n t
+unfolding pieces_after visible_after
+stretches-after zero [] = refl
+stretches-after (suc n) [] = refl
+stretches-after (suc n) (c ∷ t) = stretches-after n t
+stretches-after zero (c ∷ t) = elim (cases_Bool (c == 27)) [
+  | inl y ↦ rw (y, stretches-after (sequence_len t) t) refl
+  | inr n ↦ rw (n, stretches-after (front_len is_visible t) t) (ap (λ x. c ∷ x) (stretch-visible t))
+]
+
+pub stretches-pieces : (t : Text) → stretches (pieces t) ≡ visible t
+stretches-pieces t = stretches-after 0 t
+
+-- what is visible has no escape character
+pub visible_after-free : (n : ℕ) (t : Text) → HasNoEscape (visible_after n t)
+unfolding visible_after
+visible_after-free zero [] = refl
+visible_after-free (suc n) [] = refl
+visible_after-free (suc n) (c ∷ t) = visible_after-free n t
+visible_after-free zero (c ∷ t) = elim (cases_Bool (c == 27)) [
+  | inl y ↦ rw y (visible_after-free (sequence_len t) t)
+  | inr n ↦ rw n (rw n (visible_after-free zero t))
+]
+
+pub free_parts : (c : ℕ) (t : Text) → HasNoEscape (c ∷ t) → ((c == 27) ≡ false) × HasNoEscape t
+free_parts c t h = let both = and_parts (not (c == 27)) (has_no_escape t) h in (not-true (c == 27) both.0, both.1)
+
+-- a text without escapes is visible as it is
+pub visible-free : (t : Text) → HasNoEscape t → visible t ≡ t
+unfolding visible_after
+visible-free [] h = refl
+visible-free (c ∷ t) h = let both = free_parts c t h in rw both.0 (ap (λ l. c ∷ l) (visible-free t both.1))
+
+-- the text before the first escape character, and the text from there on
+visible_after-drop : (n : ℕ) (t : Text) → visible_after n t ≡ visible (drop n t)
+unfolding visible_after
+visible_after-drop zero t = refl
+visible_after-drop (suc n) [] = refl
+visible_after-drop (suc n) (c ∷ t) = visible_after-drop n t
+
+pub visible-stretch : (t front back : Text) → front ≡ take (front_len is_visible t) t → back ≡ drop (front_len is_visible t) t → visible t ≡ front ++ visible back
+visible-stretch t front back p q = rw (p, q, ← visible_after-drop (front_len is_visible t) t) (sym (stretch-visible t))
+
+-- an escape character comes first there
+pub front_stops : (t : Text) (c : ℕ) (r : Text) → drop (front_len is_visible t) t ≡ c ∷ r → c ≡ 27
+front_stops [] c r e = cc
+front_stops (x ∷ t) c r e = elim (eqb_tells x 27) [
+  | inl y ↦ (let f = rw y.0 at e in let g : x ≡ c = cc in sym g ∙ y.1)
+  | inr n ↦ front_stops t c r (rw n.0 at e)
+]
+
+-- it begins a sequence, and what follows that is visible
+pub visible-sequence : (t after : Text) (c : ℕ) → t ≡ c ∷ after → c ≡ 27 → visible t ≡ visible (drop (sequence_len after + 1) t)
+unfolding visible_after
+visible-sequence t after c e i = rw (e, i, add-one) (visible_after-drop (sequence_len after) after)
+
+-- also where no escape character is found
+pub visible-front : (t : Text) → length (drop (front_len is_visible t) t) ≡ 0 → visible t ≡ t
+unfolding visible_after
+visible-front [] h = refl
+visible-front (c ∷ t) h = elim (cases_Bool (c == 27)) [
+  | inl y ↦ absurd (let l = rw y at h in omega arith)
+  | inr n ↦ rw n (ap (λ l. c ∷ l) (visible-front t (rw n at h)))
+]
+
+pub visible-empty : (t : Text) → length t ≡ 0 → visible t ≡ []
+unfolding visible_after
+visible-empty [] h = refl
+visible-empty (c ∷ t) h = absurd (omega arith)
+
+pub visible-visible : (t : Text) → visible (visible t) ≡ visible t
+visible-visible t = visible-free (visible t) (visible_after-free 0 t)
+
+pub pieces-empty : (t : Text) → length t ≡ 0 → pieces t ≡ []
+unfolding pieces_after
+pieces-empty [] h = refl
+pieces-empty (c ∷ t) h = absurd (omega arith)
+
+-- the first piece, as the code cuts it
+module _ (bs after : Text) (first count : ℕ) (e : bs ≡ first ∷ after) where
+  cut_boundary : IsUtf8 bs → IsCut first after count → IsCharBoundary bs (count + 1)
+  cut_boundary u h = rw e (boundary first after count (rw e at u) h)
+
+  cut_fits : IsCut first after count → count + 1 ≤ length bs
+  cut_fits h = omega (arith, ap length e, h.0)
+
+  module _ (i : first ≡ 27) (h : count ≡ sequence_len after) where
+    sequence_cut : IsCut first after count
+    sequence_cut = rw (h, i) (sequence_len-cut 27 after (lit< tt))
+
+    pub sequence_fits : count + 1 ≤ length bs
+    sequence_fits = cut_fits sequence_cut
+
+    pub sequence_boundary : IsUtf8 bs → IsCharBoundary bs (count + 1)
+    sequence_boundary u = cut_boundary u sequence_cut
+
+    pub sequence_first : (front back : Text) → front ≡ take (count + 1) bs → back ≡ drop (count + 1) bs → pieces bs ≡ SequenceText front ∷ pieces back
+    sequence_first front back p q = rw (p, q, e, i, h, add-one) (pieces-sequence after)
+
+  module _ (i : first ≢ 27) (h : count ≡ front_len is_visible after) where
+    stretch_cut : IsCut first after count
+    stretch_cut = rw h (stretch_len-cut first after)
+
+    pub stretch_fits : count + 1 ≤ length bs
+    stretch_fits = cut_fits stretch_cut
+
+    pub stretch_boundary : IsUtf8 bs → IsCharBoundary bs (count + 1)
+    stretch_boundary u = cut_boundary u stretch_cut
+
+    pub stretch_first : (front back : Text) → front ≡ take (count + 1) bs → back ≡ drop (count + 1) bs → pieces bs ≡ StretchText front ∷ pieces back
+    stretch_first front back p q = rw (p, q, e, h, add-one) (pieces-stretch first after (elim (eqb_tells first 27) [ inl y ↦ absurd (i y.1) | inr n ↦ n.0 ]))
+
+pub ruleset piece_laws = (joined-pieces, stretches-pieces)
+
+-- the bytes before the first escape character
+front_at : (t : Text) (n : ℕ) → n ≤ length t → ((k : ℕ) → k < n → (get_or t k 0 == 27) ≡ false) → (n ≡ length t) ⊎ ((get_or t n 0 == 27) ≡ true) → n ≡ front_len is_visible t
+front_at [] n h before ends = omega arith
+front_at (c ∷ t) zero h before ends = elim ends [ inl e ↦ absurd (omega arith) | inr e ↦ rw e refl ]
+front_at (c ∷ t) (suc n) h before ends =
+    let first : (c == 27) ≡ false = before 0 (omega arith) in
+    rw first (ap suc (front_at t n (omega arith) (λ k l. before (suc k) (omega arith)) (elim ends [ inl e ↦ inl (omega arith) | inr e ↦ inr e ])))
+
+not_escape : (c : ℕ) → ((c == 27) ≡ true → ⊥) → (c == 27) ≡ false
+not_escape c h = elim (eqb_tells c 27) [ inl y ↦ absurd (h y.0) | inr n ↦ n.0 ]
+
+pub stretch_at : (t : Text) (i : ℕ) → NoneBefore (Passes (is_byte 27) t) 0 (length t) i × Passes (is_byte 27) t i → i ≡ front_len is_visible t
+stretch_at t i found = front_at t i (omega (arith, found.0.high)) (λ k l. not_escape (get_or t k 0) (found.0.before k (omega arith) l)) (inr found.1)
+
+pub stretch_whole : (t : Text) → Nowhere (Passes (is_byte 27) t) 0 (length t) → length t ≡ front_len is_visible t
+stretch_whole t none = front_at t (length t) (omega arith) (λ k l. not_escape (get_or t k 0) (none k (omega arith) l)) (inl refl)

@@ -1,0 +1,10 @@
+-- What a piece holds.
+use Rattle.plain_text.specs.Escapes.{PieceText}
+use Rattle.plain_text.specs.Escapes.PieceText.{SequenceText, StretchText}
+use Rattle.plain_text.specs.declared.escapes.Piece.{Piece}
+use Rattle.plain_text.specs.declared.escapes.Piece.TheVariants.{Sequence, Stretch}
+
+-- the piece without where it lies in memory
+abbrev pub piece_text : Piece → PieceText
+piece_text (Sequence s) = SequenceText s.now
+piece_text (Stretch s) = StretchText s.now

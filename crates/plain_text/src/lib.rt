@@ -1,0 +1,19 @@
+//! Writers, and the texts that know nothing of a run: styles, escape sequences, lines, indentation, columns, numbers.
+//!
+//! Each function that writes takes a [`write_str::WriteStr`] and has one clause: what was written, or a beginning of it
+//! where a fault came. No function here takes memory of its own while it writes.
+#![tactic(auto)]
+
+pub mod decimal;
+pub mod end_line;
+pub mod escapes;
+pub mod fitting;
+pub mod indenter;
+pub mod lines;
+pub mod lossy;
+pub mod numbers;
+pub mod repeated;
+pub mod reporter_helpers;
+pub mod stripped;
+pub mod style;
+pub mod write_str;

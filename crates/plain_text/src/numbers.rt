@@ -1,0 +1,198 @@
+//! Numbers and spaces as text.
+
+ghost use Rattle.std.specs.Prelude.{◌≡◌, ◌+◌, ◌/◌, ◌%◌, ◌<◌, ◌≤◌, ◌∷◌, [], ◌++◌, ◌-◌, length, chars, codes};
+ghost use Rattle.std.specs.Fmt.{decimal};
+ghost use Rattle.plain_text.specs.Texts.{spaces, right_in};
+ghost use Rattle.plain_text.specs.Numbers.{rounded, last_digits, seconds};
+ghost use Rattle.plain_text.specs.Writer.{Puts};
+
+use crate::write_str::{WriteFault, WriteStr};
+use itoa::Buffer;
+use std::str;
+
+/// The nearest whole number of units, ties up. No sum overflows, also at the greatest number.
+pub fn round_to(unit: u128, n: u128) -> u128
+    requires even { unit % 2 ≡ 0 }
+    requires above { 1 < unit }
+    ensures { result ≡ rounded unit n }
+{
+    let whole = n / unit;
+    if n % unit >= unit / 2 {
+        whole + 1
+    } else {
+        whole
+    }
+}
+
+/// The text of a digit.
+pub fn digit_str(digit: u128) -> &'static str
+    requires { digit < 10 }
+    ensures { result.now ≡ (48 + digit) ∷ [] }
+{
+    match digit {
+        0 => "0",
+        1 => "1",
+        2 => "2",
+        3 => "3",
+        4 => "4",
+        5 => "5",
+        6 => "6",
+        7 => "7",
+        8 => "8",
+        9 => "9",
+        _ => unreachable!(),
+    }
+}
+
+/// So many spaces, at most twelve.
+pub fn spaces_str(count: usize) -> &'static str
+    requires { count ≤ 12 }
+    ensures { result.now ≡ spaces count }
+{
+    match count {
+        0 => "",
+        1 => " ",
+        2 => "  ",
+        3 => "   ",
+        4 => "    ",
+        5 => "     ",
+        6 => "      ",
+        7 => "       ",
+        8 => "        ",
+        9 => "         ",
+        10 => "          ",
+        11 => "           ",
+        12 => "            ",
+        _ => unreachable!(),
+    }
+}
+
+/// Writes so many spaces.
+fn write_spaces<W: WriteStr>(w: &mut W, count: usize) -> Result<(), WriteFault>
+    ensures { Puts W.meaning w.old (spaces count) result w.new }
+{
+    let mut left = count;
+    while left > 12 {
+        w.write_str(spaces_str(12))?;
+        left -= 12;
+    }
+    w.write_str(spaces_str(left))
+}
+
+/// How many characters the text has.
+fn char_count(text: &str) -> usize
+    ensures { result ≡ length (chars text.now) }
+{
+    text.chars().count()
+}
+
+/// Writes a text right in so many columns, one for each character.
+#[tactic(auto, unfolding(crate::specs::Texts::right_in))]
+pub fn write_right<W: WriteStr>(w: &mut W, columns: usize, text: &str) -> Result<(), WriteFault>
+    ensures { Puts W.meaning w.old (right_in columns text.now) result w.new }
+{
+    write_spaces(w, columns.saturating_sub(char_count(text)))?;
+    w.write_str(text)
+}
+
+/// Writes nanoseconds as seconds with three decimals, right in so many columns, between two texts.
+///
+/// The nearest thousandth is written, of two that are as near the greater one.
+///
+/// ```
+/// write_seconds_between(w, "[", 8, 5_000_000, "s] ") // "[   0.005s] "
+/// ```
+pub fn write_seconds_between<W: WriteStr>(
+    w: &mut W,
+    before: &str,
+    columns: usize,
+    nanos: u128,
+    after: &str,
+) -> Result<(), WriteFault>
+    requires { columns ≤ 16 }
+    ensures { Puts W.meaning w.old (before.now ++ (right_in columns (seconds 3 nanos) ++ after.now)) result w.new }
+{
+    w.write_str(before)?;
+    write_seconds_right(w, columns, nanos)?;
+    w.write_str(after)
+}
+
+// Writes nanoseconds as seconds with three decimals, right in so many columns.
+fn write_seconds_right<W: WriteStr>(
+    w: &mut W,
+    columns: usize,
+    nanos: u128,
+) -> Result<(), WriteFault>
+    requires { columns ≤ 16 }
+    ensures { Puts W.meaning w.old (right_in columns (seconds 3 nanos)) result w.new }
+{
+    let (whole, thousandths) = round_to_thousandths(nanos);
+    let mut buffer = Buffer::new();
+    let whole = buffer.format(whole);
+    w.write_str(spaces_str(columns.saturating_sub(4).saturating_sub(whole.len())))?;
+    w.write_str(whole)?;
+    write_decimals(w, thousandths)
+}
+
+// Nanoseconds as seconds and thousandths of one, the nearest, of two that are as near the greater.
+fn round_to_thousandths(nanos: u128) -> (u128, u32)
+    ensures seconds { result.0 ≡ rounded 1000000 nanos / 1000 }
+    ensures thousandths { result.1 ≡ rounded 1000000 nanos % 1000 }
+{
+    // Almost every duration fits 64 bits, which are divided much faster.
+    if let Ok(nanos) = u64::try_from(nanos) {
+        let rounded = nanos / 1_000_000 + u64::from(nanos % 1_000_000 >= 500_000);
+        return ((rounded / 1000) as u128, (rounded % 1000) as u32);
+    }
+    let rounded = round_to(1_000_000, nanos);
+    (rounded / 1000, (rounded % 1000) as u32)
+}
+
+// Writes a point and three digits.
+fn write_decimals<W: WriteStr>(w: &mut W, thousandths: u32) -> Result<(), WriteFault>
+    requires { thousandths < 1000 }
+    ensures { Puts W.meaning w.old (codes "." ++ last_digits 3 thousandths) result w.new }
+{
+    let digits = [
+        b'.',
+        b'0' + (thousandths / 100) as u8,
+        b'0' + (thousandths / 10 % 10) as u8,
+        b'0' + (thousandths % 10) as u8,
+    ];
+    // These four are ASCII.
+    w.write_str(unsafe { str::from_utf8_unchecked(&digits) })
+}
+
+/// Writes four texts joined, right in so many columns, one for each character.
+///
+/// ```
+/// write_right_joined(w, 12, "TRY ", "2", " ", "FAIL") // "  TRY 2 FAIL"
+/// ```
+#[tactic(auto, unfolding(crate::specs::Texts::right_in))]
+pub fn write_right_joined<W: WriteStr>(
+    w: &mut W,
+    columns: usize,
+    first: &str,
+    second: &str,
+    third: &str,
+    fourth: &str,
+) -> Result<(), WriteFault>
+    ensures { Puts W.meaning w.old (right_in columns (first.now ++ (second.now ++ (third.now ++ fourth.now)))) result w.new }
+{
+    write_spaces(w, columns_left(columns, first, second, third, fourth))?;
+    w.write_str(first)?;
+    w.write_str(second)?;
+    w.write_str(third)?;
+    w.write_str(fourth)
+}
+
+// How many of the columns four texts leave.
+fn columns_left(columns: usize, first: &str, second: &str, third: &str, fourth: &str) -> usize
+    ensures { result ≡ columns - length (chars (first.now ++ (second.now ++ (third.now ++ fourth.now)))) }
+{
+    columns
+        .saturating_sub(char_count(first))
+        .saturating_sub(char_count(second))
+        .saturating_sub(char_count(third))
+        .saturating_sub(char_count(fourth))
+}

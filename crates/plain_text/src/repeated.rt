@@ -1,0 +1,23 @@
+//! A character again and again, as in a bar.
+
+ghost use Rattle.std.specs.Prelude.{encode_utf8};
+ghost use Rattle.std.specs.List.{repeat};
+ghost use Rattle.plain_text.specs.Writer.{Puts};
+
+use crate::write_str::{WriteFault, WriteStr};
+
+/// Writes the character so many times.
+pub fn write_repeated<W: WriteStr>(
+    w: &mut W,
+    count: usize,
+    character: char,
+) -> Result<(), WriteFault>
+    ensures { Puts W.meaning w.old (repeat count (encode_utf8 character)) result w.new }
+{
+    let mut left = count;
+    while left > 0 {
+        w.write_char(character)?;
+        left -= 1;
+    }
+    Ok(())
+}

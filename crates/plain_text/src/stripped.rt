@@ -1,0 +1,131 @@
+//! A text that comes in pieces, without its escape sequences.
+
+ghost use Rattle.std.specs.Prelude.{◌≡◌, ◌<◌, ◌++◌, false, length, take, drop, chars, MatchOption, OnOk};
+ghost use Rattle.plain_text.specs.EndLine.{without_end_line, ends_in_line_feed, held};
+ghost use Rattle.plain_text.specs.Escapes.{front_len, is_visible, visible};
+ghost use Rattle.plain_text.specs.Scanner.{modes_after};
+ghost use Rattle.plain_text.specs.Stripped.{visible_from, Takes};
+ghost use Rattle.plain_text.specs.Writer.{Puts};
+
+mod gathered_pieces;
+mod piece_buffer;
+
+use crate::end_line::EndLine;
+use crate::escapes::{ESCAPE, Mode, advance, sequence_len};
+use crate::write_str::{WriteFault, WriteStr};
+use gathered_pieces::GatheredPieces;
+use memchr::memchr;
+
+/// Writes a text that comes in pieces without its escape sequences, and without one line feed that closes what is left.
+///
+/// A sequence can run from one piece into the next. It takes no memory: stretches of the pieces go down as they are.
+///
+/// ```
+/// let mut stripped = StrippedPieces::new();
+/// stripped.write(w, "a\x1b[3")?; // "a"
+/// stripped.write(w, "1mb\n")?; // "b"
+/// ```
+#[derive(Clone, Copy)]
+pub struct StrippedPieces {
+    mode: Mode,
+    end_line: EndLine,
+}
+
+impl StrippedPieces {
+    /// Before the first piece.
+    pub fn new() -> StrippedPieces
+        ensures mode { result.mode ≡ Mode.Text }
+        ensures held { result.end_line.is_held ≡ false }
+    {
+        StrippedPieces {
+            mode: Mode::Text,
+            end_line: EndLine::new(),
+        }
+    }
+
+    /// Writes the next piece.
+    ///
+    /// # Errors
+    ///
+    /// What the writer answered. A beginning of what was to be written was accepted.
+    pub fn write<W: WriteStr>(&mut self, w: &mut W, piece: &str) -> Result<(), WriteFault>
+        ensures text { Puts W.meaning w.old (without_end_line (held self.old.end_line.is_held ++ visible_from self.old.mode (chars piece.now))) result w.new }
+        ensures held { OnOk result (self.new.end_line.is_held ≡ ends_in_line_feed (held self.old.end_line.is_held ++ visible_from self.old.mode (chars piece.now))) }
+        ensures mode { OnOk result (self.new.mode ≡ modes_after self.old.mode (chars piece.now)) }
+    {
+        let mut rest = piece;
+        while let Some((mode, stretch, after)) = next_stretch(self.mode, rest) {
+            self.mode = mode;
+            self.end_line.write(w, stretch)?;
+            rest = after;
+        }
+        Ok(())
+    }
+}
+
+/// Writes a text without its escape sequences, and without one line feed that closes what is left.
+///
+/// That is what [`StrippedPieces`] writes of a text in one piece, and it costs less: a sequence is scanned as a whole, and
+/// stretches between sequences are written together. It takes no memory.
+pub fn write_stripped_text<W: WriteStr>(w: &mut W, text: &str) -> Result<(), WriteFault>
+    ensures { Puts W.meaning w.old (without_end_line (visible text.now)) result w.new }
+{
+    let (_, from_escape) = split_escape(text);
+    if from_escape.is_empty() {
+        let mut end_line = EndLine::new();
+        return end_line.write(w, text);
+    }
+    write_gathered(w, text)
+}
+
+// The same, where the text has a sequence.
+fn write_gathered<W: WriteStr>(w: &mut W, text: &str) -> Result<(), WriteFault>
+    ensures { Puts W.meaning w.old (without_end_line (visible text.now)) result w.new }
+{
+    let mut gathered = GatheredPieces::new();
+    let mut rest = text;
+    while !rest.is_empty() {
+        let (stretch, after) = split_sequence(rest);
+        gathered.write(w, stretch)?;
+        rest = after;
+    }
+    gathered.flush(w)
+}
+
+// The text before its first sequence, and what follows that sequence.
+fn split_sequence(text: &str) -> (&str, &str)
+    ensures visible { visible text.now ≡ result.0.now ++ visible result.1.now }
+    ensures shorter { 0 < length text.now → length result.1.now < length text.now }
+{
+    let (stretch, from_escape) = split_escape(text);
+    let Some((_, after)) = from_escape.as_bytes().split_first() else {
+        return (stretch, "");
+    };
+    let (_, rest) = from_escape.split_at(sequence_len(after) + 1);
+    (stretch, rest)
+}
+
+// What the scan takes from the front of a text: a stretch that no sequence holds, or a character of a sequence, which
+// is not shown. With it where the scan then stands, and what follows.
+fn next_stretch(mode: Mode, text: &str) -> Option<(Mode, &str, &str)>
+    ensures { MatchOption result (length text.now ≡ 0) (λ x. Takes mode text.now x.0 x.1.now x.2.now) }
+{
+    let mut rest = text.chars();
+    let c = rest.next()?;
+    if let Some(next) = advance(mode, c) {
+        return Some((next, "", rest.as_str()));
+    }
+    let (stretch, after) = split_escape(text);
+    Some((Mode::Text, stretch, after))
+}
+
+// The text before its first escape character, and what follows.
+fn split_escape(text: &str) -> (&str, &str)
+    ensures front { result.0.now ≡ take (front_len is_visible text.now) text.now }
+    ensures back { result.1.now ≡ drop (front_len is_visible text.now) text.now }
+{
+    match memchr(ESCAPE, text.as_bytes()) {
+        Some(place) => text.split_at(place),
+        None => (text, ""),
+    }
+}

@@ -1,0 +1,63 @@
+//! Pieces of a text that are written together, without one line feed that closes the text.
+
+ghost use Rattle.std.specs.Prelude.{◌≡◌, [], false, OnOk};
+ghost use Rattle.plain_text.specs.Gathered.{unwritten, Carries};
+
+use super::piece_buffer::PieceBuffer;
+use crate::end_line::EndLine;
+use crate::write_str::{WriteFault, WriteStr};
+
+/// Gathers pieces of a text, so that a writer gets few and long ones.
+#[derive(Drop)]
+pub(super) struct GatheredPieces {
+    end_line: EndLine,
+    pending: PieceBuffer,
+}
+
+impl GatheredPieces {
+    /// Before the first piece.
+    pub(super) fn new() -> GatheredPieces
+        ensures held { result.end_line.is_held ≡ false }
+        ensures pending { result.pending ≡ [] }
+    {
+        GatheredPieces {
+            end_line: EndLine::new(),
+            pending: PieceBuffer::new(),
+        }
+    }
+
+    /// Gathers the next piece, and writes where there is no room.
+    #[inline]
+    pub(super) fn write<W: WriteStr>(&mut self, w: &mut W, piece: &str) -> Result<(), WriteFault>
+        ensures { Carries W.meaning w.old (unwritten self.old) piece.now result w.new (unwritten self.new) }
+    {
+        if self.pending.has_room(piece) {
+            self.pending.push(piece);
+            return Ok(());
+        }
+        self.flush(w)?;
+        self.begin(w, piece)
+    }
+
+    /// Writes what is gathered.
+    pub(super) fn flush<W: WriteStr>(&mut self, w: &mut W) -> Result<(), WriteFault>
+        ensures text { Carries W.meaning w.old (unwritten self.old) [] result w.new (unwritten self.new) }
+        ensures empty { OnOk result (self.new.pending ≡ []) }
+    {
+        self.end_line.write(w, self.pending.as_str())?;
+        self.pending.clear();
+        Ok(())
+    }
+
+    // Gathers a first piece, or writes one that is longer than the room.
+    fn begin<W: WriteStr>(&mut self, w: &mut W, piece: &str) -> Result<(), WriteFault>
+        requires { self.old.pending ≡ [] }
+        ensures { Carries W.meaning w.old (unwritten self.old) piece.now result w.new (unwritten self.new) }
+    {
+        if self.pending.has_room(piece) {
+            self.pending.push(piece);
+            return Ok(());
+        }
+        self.end_line.write(w, piece)
+    }
+}

@@ -1,0 +1,173 @@
+//! Text that is gathered for a device.
+//!
+//! Reports are made of short texts, so a call for each would cost more than the texts do. The memory is reserved once,
+//! and no later call takes any.
+
+ghost use Rattle.std.specs.Prelude.{◌≡◌, ℕ, ◌+◌, ◌-◌, ◌≤◌, ◌<◌, ◌++◌, [], List, length, take, drop, vec_len, vec_capacity};
+ghost use Rattle.std.specs.Bool.{OnTrue};
+ghost use Rattle.std.specs.Io.KnownBytes.{Appends, Keeps};
+
+use super::{WriteFault, WriteStr};
+use std::alloc::{AllocError, Global};
+use std::io::Write;
+
+/// How many bytes are gathered before they are delivered.
+pub const CAPACITY: usize = 8192;
+
+/// Gathers text and delivers it to a device, as a file or standard output.
+///
+/// Its accepted text is what was delivered followed by what is pending. A device fails where it answers an error of any
+/// kind, or takes none of the bytes that it was given; what was not delivered then stays pending.
+#[derive(Drop)]
+pub struct TextBuffer<W> {
+    writer: W,
+    pending: Vec<u8>,
+    failures: u64,
+    ghost short: { vec_len pending ≤ 8192 },
+    ghost roomy: { 8192 ≤ vec_capacity pending },
+}
+
+impl<W: Write> TextBuffer<W> {
+    ghost use Rattle.std.specs.Prelude.{◌≡◌, ◌≤◌, [], IfErr, IfOk, OnOk, length};
+    ghost use Rattle.plain_text.specs.Buffer.{buffer_meaning};
+    ghost use Rattle.plain_text.specs.Writer.{Puts};
+
+    /// Reserves the memory, 8,192 bytes, once. Where that is refused, the device is given back.
+    pub fn new(alloc: Global, writer: W) -> Result<TextBuffer<W>, (AllocError, W)>
+        ensures ok { IfOk result (λ b. (b.writer ≡ writer) × (b.pending.items ≡ []) × (b.failures ≡ 0)) }
+        ensures err { IfErr result (λ refused. refused.1 ≡ writer) }
+    {
+        match Vec::with_capacity(alloc, CAPACITY) {
+            Ok(pending) => Ok(TextBuffer {
+                writer,
+                pending,
+                failures: 0,
+            }),
+            Err(e) => Err((e, writer)),
+        }
+    }
+
+    /// The device, and the bytes that it has not taken.
+    pub fn into_inner(self) -> (W, Vec<u8>)
+        ensures writer { result.0 ≡ self.writer }
+        ensures pending { result.1.items ≡ self.pending.items }
+    {
+        (self.writer, self.pending)
+    }
+
+    // Delivers what is pending. What a failure leaves stays pending.
+    fn deliver(&mut self) -> Result<(), WriteFault>
+        ensures text { Puts (buffer_meaning W.contents) self.old [] result self.new }
+        ensures empty { OnOk result (self.new.pending.items ≡ []) }
+    {
+        let (sent, is_all) = send(self.pending.as_slice(), &mut self.writer);
+        remove_front(&mut self.pending, sent);
+        if !is_all {
+            self.failures = self.failures.wrapping_add(1);
+            return Err(WriteFault::Device);
+        }
+        Ok(())
+    }
+
+    // Gathers bytes.
+    #[inline]
+    fn write_bytes(&mut self, bytes: &[u8]) -> Result<(), WriteFault>
+        ensures { Puts (buffer_meaning W.contents) self.old bytes.now result self.new }
+    {
+        if bytes.len() <= CAPACITY - self.pending.len() {
+            append(&mut self.pending, bytes);
+            return Ok(());
+        }
+        self.write_long(bytes)
+    }
+
+    // Gathers bytes for which there is no room, a piece at a time.
+    #[cold]
+    #[inline(never)]
+    fn write_long(&mut self, bytes: &[u8]) -> Result<(), WriteFault>
+        ensures { Puts (buffer_meaning W.contents) self.old bytes.now result self.new }
+    {
+        let mut rest = bytes;
+        while !rest.is_empty() {
+            let n = rest.len().min(CAPACITY);
+            let (piece, more) = rest.split_at(n);
+            self.write_piece(piece)?;
+            rest = more;
+        }
+        Ok(())
+    }
+
+    // Gathers a piece, after a delivery where there is no room.
+    fn write_piece(&mut self, piece: &[u8]) -> Result<(), WriteFault>
+        requires { length piece.now ≤ 8192 }
+        ensures { Puts (buffer_meaning W.contents) self.old piece.now result self.new }
+    {
+        if piece.len() > CAPACITY - self.pending.len() {
+            self.deliver()?;
+        }
+        append(&mut self.pending, piece);
+        Ok(())
+    }
+}
+
+impl<W: Write> WriteStr for TextBuffer<W> {
+    ghost use Rattle.plain_text.specs.Buffer.{buffer_meaning, buffer_laws};
+
+    ghost meaning = { buffer_meaning W.contents };
+
+    ghost laws = { buffer_laws W.contents };
+
+    #[inline]
+    fn write_str(&mut self, s: &str) -> Result<(), WriteFault> {
+        self.write_bytes(s.as_bytes())
+    }
+
+    fn write_str_flush(&mut self) -> Result<(), WriteFault> {
+        self.deliver()?;
+        if self.writer.flush().is_err() {
+            self.failures = self.failures.wrapping_add(1);
+            return Err(WriteFault::Device);
+        }
+        Ok(())
+    }
+}
+
+// Writes until all is taken or a write fails, and says how many bytes were taken and whether all was.
+fn send<W: Write>(bytes: &[u8], to: &mut W) -> (usize, bool)
+    ensures bound { result.0 ≤ length bytes.now }
+    ensures all { OnTrue result.1 (result.0 ≡ length bytes.now) }
+    ensures bytes { Appends (W.contents to.old) (W.contents to.new) (take result.0 bytes.now) }
+{
+    let mut sent = 0;
+    while sent < bytes.len() {
+        match to.write(&bytes[sent..]) {
+            Ok(0) => return (sent, false),
+            Ok(n) => sent += n,
+            Err(_) => return (sent, false),
+        }
+    }
+    (sent, true)
+}
+
+fn remove_front(buf: &mut Vec<u8>, n: usize)
+    requires { n ≤ vec_len buf.old }
+    ensures items { buf.new.items ≡ drop n buf.old.items }
+    ensures len { vec_len buf.new ≡ vec_len buf.old - n }
+    ensures capacity { vec_capacity buf.new ≡ vec_capacity buf.old }
+{
+    let len = buf.len();
+    buf.as_mut_slice().copy_within(n..len, 0);
+    buf.truncate(len - n);
+}
+
+#[inline]
+fn append(buf: &mut Vec<u8>, bytes: &[u8])
+    requires { vec_len buf.old + length bytes.now ≤ vec_capacity buf.old }
+    ensures items { buf.new.items ≡ buf.old.items ++ bytes.now }
+    ensures len { vec_len buf.new ≡ vec_len buf.old + length bytes.now }
+    ensures capacity { vec_capacity buf.old ≤ vec_capacity buf.new }
+{
+    let Ok(()) = buf.extend_from_slice(bytes) else {
+        unreachable!()
+    };
+}
