@@ -19,8 +19,8 @@ use Rattle.report_text.specs.declared.helpers.instance.DisplayCounterIndex.TheVa
 use Rattle.event_text.specs.AttemptOutputs.{attempt_output}
 use Rattle.console_reporter.specs.Effects.{effect_of, entry_of}
 use Rattle.console_reporter.specs.Order.{key_cmp, ordered_by}
-use Rattle.event_text.specs.SkippedTests.{skip_line}
-use Rattle.event_text.specs.StatusLines.{status_line}
+use Rattle.test_text.specs.SkippedTests.{skip_line}
+use Rattle.test_text.specs.StatusLines.{status_line}
 use Rattle.run_model.specs.declared.call.ReportCall.{ReportCall}
 use Rattle.run_model.specs.declared.call.ReportCall.TheVariants.{Event, Header, Prefix}
 use Rattle.console_reporter.specs.declared.imp.final_output.FinalOutput.{FinalOutput}
@@ -28,7 +28,7 @@ use Rattle.console_reporter.specs.declared.imp.final_output.FinalOutput.TheVaria
 use Rattle.console_reporter.specs.declared.imp.final_output.FinalOutputEntry.{FinalOutputEntry}
 use Rattle.event_text.specs.declared.instance.CountedInstance.{CountedInstance}
 use Rattle.event_text.specs.declared.settings.Settings.{Settings}
-use Rattle.event_text.specs.declared.status_line.StatusLineKind.TheVariants.{Final}
+use Rattle.test_text.specs.declared.status_line.StatusLineKind.TheVariants.{Final}
 
 -- the greatest reason that a call of a past carries; the latest call of a past is its first
 unfoldable pub cancel : List ReportCall → ℕ

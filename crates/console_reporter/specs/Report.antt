@@ -10,11 +10,11 @@ use Rattle.run_model.specs.declared.stats.RunFinishedStats.{RunFinishedStats}
 use Rattle.run_model.specs.declared.stress.StressIndex.{StressIndex}
 use Rattle.plain_text.specs.Texts.{Text}
 use Rattle.unit_report.specs.Warnings.{final_warnings}
-use Rattle.event_text.specs.FinishedTests.{test_finish, test_finished_text}
-use Rattle.event_text.specs.RetriedTests.{attempt_failed_text}
-use Rattle.event_text.specs.SkippedTests.{test_skipped_text}
-use Rattle.event_text.specs.SlowTests.{test_slow_text}
-use Rattle.event_text.specs.TestStarts.{test_retry_started_text, test_started_text}
+use Rattle.test_text.specs.FinishedTests.{test_finish, test_finished_text}
+use Rattle.test_text.specs.RetriedTests.{attempt_failed_text}
+use Rattle.test_text.specs.SkippedTests.{test_skipped_text}
+use Rattle.test_text.specs.SlowTests.{test_slow_text}
+use Rattle.test_text.specs.TestStarts.{test_retry_started_text, test_started_text}
 use Rattle.run_text.specs.Cancels.{begin_cancel_text, begin_kill_text}
 use Rattle.run_text.specs.Headers.{replay_header_text}
 use Rattle.run_text.specs.Inputs.{input_enter_text}

@@ -1,7 +1,4 @@
-pub mod Finishes
 pub mod LineTints
 pub mod OutputTints
 pub mod ResultTints
 pub mod StatsTints
-pub mod StatusTints
-pub mod TestTints

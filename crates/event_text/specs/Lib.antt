@@ -1,16 +1,9 @@
 pub mod AbortLines
 pub mod AttemptOutputs
 pub mod Bars
-pub mod FinishedTests
-pub mod Finishes
 pub mod InfoResults
 pub mod Instances
 pub mod ResultWords
-pub mod RetriedTests
 pub mod Scripts
 pub mod Settings
-pub mod SkippedTests
-pub mod SlowTests
 pub mod StatsTexts
-pub mod StatusLines
-pub mod TestStarts

@@ -6,10 +6,10 @@ ghost use Rattle.plain_text.specs.Styles.{styled};
 ghost use Rattle.plain_text.specs.Writer.{Puts};
 ghost use Rattle.event_text.specs.AbortLines.{indented_message, nt_message, nt_line, job_object_line, line_of_abort, line_of_failure, abort_line};
 
-use report_text::helpers::write_nt_status;
 use plain_text::indenter::indented;
 use plain_text::style::{Style, Styles, write_plain};
 use plain_text::write_str::{WriteFault, WriteStr};
+use report_text::helpers::write_nt_status;
 use run_model::abort::{AbortDescription, DescriptionText};
 use run_model::status::{ExecutionResultDescription, FailureDescription};
 

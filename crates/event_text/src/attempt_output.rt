@@ -8,9 +8,9 @@ ghost use Rattle.event_text.specs.AttemptOutputs.{attempt_output, exec_fail_head
 
 use crate::info_result::write_info_result;
 use crate::settings::Settings;
-use report_text::helpers::ThemeCharacters;
 use plain_text::style::{Style, Styles, write_plain};
 use plain_text::write_str::{WriteFault, WriteStr};
+use report_text::helpers::ThemeCharacters;
 use run_model::output::{ChildExecutionOutputDescription, LiveSpec};
 use run_model::status::{
     ExecutionResultDescription, FailureDescription, LeakTimeoutResult, SlowTimeoutResult,

@@ -3,9 +3,9 @@
 ghost use Rattle.plain_text.specs.Writer.{Puts};
 ghost use Rattle.event_text.specs.Bars.{bar_line};
 
-use report_text::helpers::ThemeCharacters;
 use plain_text::style::write_plain;
 use plain_text::write_str::{WriteFault, WriteStr};
+use report_text::helpers::ThemeCharacters;
 
 /// Writes the line of a bar of twelve characters.
 #[tactic(auto, unfolding(crate::specs::Bars::bar_line))]

@@ -6,9 +6,9 @@ ghost use Rattle.plain_text.specs.Writer.{Puts};
 ghost use Rattle.event_text.specs.Instances.{instance_end, padded_instance, untimed_end};
 
 use crate::settings::Settings;
-use report_text::helpers::{DisplayCounterIndex, DisplayTestInstance};
 use plain_text::style::{Styles, write_plain};
 use plain_text::write_str::{WriteFault, WriteStr};
+use report_text::helpers::{DisplayCounterIndex, DisplayTestInstance};
 use run_model::name::TestInstanceId;
 use run_model::stress::StressIndex;
 

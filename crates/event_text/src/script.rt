@@ -4,9 +4,9 @@ ghost use Rattle.std.specs.Prelude.{◌≡◌};
 ghost use Rattle.plain_text.specs.Writer.{Puts};
 ghost use Rattle.event_text.specs.Scripts.{script_of, shown_script};
 
-use report_text::helpers::write_script_instance;
 use plain_text::style::Styles;
 use plain_text::write_str::{WriteFault, WriteStr};
+use report_text::helpers::write_script_instance;
 use run_model::command::CommandLine;
 use run_model::name::{ProgramName, ScriptId};
 use run_model::stress::StressIndex;

@@ -4,8 +4,8 @@ ghost use Rattle.std.specs.Prelude.{◌≡◌};
 ghost use Rattle.plain_text.specs.Styles.{styles_of};
 ghost use Rattle.event_text.specs.Settings.{counter_width_of, finished_counter, is_level_shown, overrides_by, padded_counter, shows_starts, started_counter, theme_of};
 
-use report_text::helpers::{DisplayCounterIndex, ThemeCharacters, decimal_char_width};
 use plain_text::style::Styles;
+use report_text::helpers::{DisplayCounterIndex, ThemeCharacters, decimal_char_width};
 use run_model::config::{CompiledDefaultFilter, NextestRunMode, TestOutputDisplay};
 use run_model::level::StatusLevel;
 use run_model::stats::RunStats;

@@ -15,8 +15,6 @@ pub mod run_id;
 pub mod script;
 pub mod theme;
 
-pub use plain_text::style::RESET_COLOR;
-pub use plain_text::decimal::{Unsigned, decimal_char_width};
 pub use durations::{
     DurationRounding, FormattedDuration, FormattedHhMmSs, FormattedRelativeDuration,
 };
@@ -29,6 +27,8 @@ pub use paths::{
     convert_rel_path_to_forward_slash, convert_rel_path_to_main_sep, dylib_path, dylib_path_envvar,
     rel_path_join,
 };
+pub use plain_text::decimal::{Unsigned, decimal_char_width};
+pub use plain_text::style::RESET_COLOR;
 pub use quoting::{CommandWord, QuotedDisplay, shell_join};
 pub use run_id::force_or_new_run_id;
 pub use script::{DisplayScriptInstance, write_script_instance};

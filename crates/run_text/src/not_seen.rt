@@ -6,10 +6,10 @@ ghost use Rattle.plain_text.specs.Writer.{Puts};
 ghost use Rattle.run_text.specs.NotSeens.{more_line, more_not_seen, not_seen_end, not_seen_line, not_seen_note, not_seen_start, not_seen_text};
 
 use event_text::settings::Settings;
-use report_text::helpers::DisplayTestInstance;
-use report_text::helpers::plural::tests_str;
 use plain_text::style::{ListStyles, Styles, write_plain};
 use plain_text::write_str::{WriteFault, WriteStr};
+use report_text::helpers::DisplayTestInstance;
+use report_text::helpers::plural::tests_str;
 use run_model::config::NextestRunMode;
 use run_model::name::OwnedTestInstanceId;
 use run_model::not_seen::NotSeen;

@@ -4,9 +4,9 @@ ghost use Rattle.std.specs.Prelude.{◌≡◌};
 ghost use Rattle.plain_text.specs.Writer.{Puts};
 ghost use Rattle.run_text.specs.Running.{counted_running, is_none_running, running_text};
 
-use report_text::helpers::plural::{setup_scripts_str, tests_str};
 use plain_text::style::{Styles, write_plain};
 use plain_text::write_str::{WriteFault, WriteStr};
+use report_text::helpers::plural::{setup_scripts_str, tests_str};
 use run_model::config::NextestRunMode;
 
 /// What runs. Setup scripts and tests never run at the same time; where both are counted, the scripts are told.

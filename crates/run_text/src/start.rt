@@ -6,9 +6,9 @@ ghost use Rattle.run_text.specs.Starts.{profile_text, run_id_line, test_counts_t
 use crate::run_id::write_run_id;
 use event_text::bar::write_bar_line;
 use event_text::settings::Settings;
-use report_text::helpers::plural::{binaries_str, tests_str};
 use plain_text::style::{Styles, write_plain};
 use plain_text::write_str::{WriteFault, WriteStr};
+use report_text::helpers::plural::{binaries_str, tests_str};
 use run_model::config::NextestRunMode;
 use run_model::event::TestCounts;
 use run_model::name::ProfileName;

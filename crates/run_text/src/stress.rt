@@ -12,10 +12,10 @@ ghost use Rattle.run_text.specs.StressRuns.{count_left_text, elapsed_text, elaps
 use crate::summary::{outcome_style, write_run_counts};
 use event_text::bar::write_bar_line;
 use event_text::settings::Settings;
-use report_text::helpers::plural::iterations_str;
-use report_text::helpers::{DurationRounding, FormattedHhMmSs};
 use plain_text::style::{Styles, write_plain};
 use plain_text::write_str::{WriteFault, WriteStr};
+use report_text::helpers::plural::iterations_str;
+use report_text::helpers::{DurationRounding, FormattedHhMmSs};
 use run_model::stats::RunStats;
 use run_model::stress::{StressCount, StressProgress, StressRemaining};
 use run_model::time::Nanos;

@@ -7,9 +7,9 @@ ghost use Rattle.run_text.specs.Summaries.{cancel_reason_text, cancelled_due_to,
 use event_text::bar::write_bar_line;
 use event_text::settings::Settings;
 use event_text::stats_text::{write_counted, write_summary_text};
-use report_text::helpers::plural::{iterations_str, tests_plural_if};
 use plain_text::style::{Style, Styles, write_plain};
 use plain_text::write_str::{WriteFault, WriteStr};
+use report_text::helpers::plural::{iterations_str, tests_plural_if};
 use run_model::config::NextestRunMode;
 use run_model::level::CancelReason;
 use run_model::stats::{

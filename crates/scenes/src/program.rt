@@ -190,7 +190,7 @@ pub fn report_scene<'a, R: Read + Drop, W: Write, S: Write>(
         OnOk result.0 (PrintsRun options.now text (W.contents writer) (W.contents result.1) (S.contents store_writer) (S.contents result.2)) }
     ensures err { (text : List ℕ) → R.remaining reader ≡ Some text →
         IfErr result.0 (λ fault. IsRejected options.now text fault writer result.1 store_writer result.2
-            ⊎ BeginsRun options.now text fault (W.contents writer) (W.contents result.1) (S.contents store_writer) (S.contents result.2)) }
+        ⊎ BeginsRun options.now text fault (W.contents writer) (W.contents result.1) (S.contents store_writer) (S.contents result.2)) }
     ensures no_store { options.now.store ≡ None → result.2 ≡ store_writer }
 {
     match read_whole(alloc, options, reader) {

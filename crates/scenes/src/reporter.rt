@@ -30,12 +30,7 @@ pub fn decider_of(
     let builder = builder_of(alloc, options, scene)?;
     match options.store {
         None => Ok(decider_alone(alloc, builder, &scene.config)),
-        Some(store) => Ok(decider_with_store(
-            alloc,
-            builder,
-            store.config,
-            &scene.config,
-        )),
+        Some(store) => Ok(decider_with_store(alloc, builder, store.config, &scene.config)),
     }
 }
 

@@ -8,15 +8,15 @@ use Rattle.run_model.specs.declared.unit.UnitKind.TheVariants as unit
 use Rattle.report_text.specs.PlainTexts.{HoldsIf, IsPlainResult}
 use Rattle.report_text.proofs.lemmas.Tints.{IsTinted, tinted-none, tinted-append}
 use Rattle.unit_report.specs.PlainOutputs.{IsPlainWritten}
-use Rattle.event_text.specs.FinishedTests.{TestFinish, test_finish}
-use Rattle.event_text.specs.Finishes.{display_of, is_final_wanted, row_at_end}
+use Rattle.test_text.specs.FinishedTests.{TestFinish, test_finish}
+use Rattle.test_text.specs.Finishes.{display_of, is_final_wanted, row_at_end}
 use Rattle.event_text.specs.declared.instance.CountedInstance.{CountedInstance}
 use Rattle.event_text.specs.declared.settings.Settings.{Settings}
-use Rattle.event_text.specs.declared.status_line.StatusLineKind.TheVariants.{Final}
+use Rattle.test_text.specs.declared.status_line.StatusLineKind.TheVariants.{Final}
 use Rattle.event_text.proofs.lemmas.LineTints.{painted, IsPlainTest, plain-finished_counter, plain-padded}
 use Rattle.event_text.proofs.lemmas.OutputTints.{tinted-unit_output}
-use Rattle.event_text.proofs.lemmas.StatusTints.{IsPlainFinish, tinted-status_line}
-use Rattle.event_text.proofs.lemmas.TestTints.{tinted-skip_line}
+use Rattle.test_text.proofs.lemmas.StatusTints.{IsPlainFinish, tinted-status_line}
+use Rattle.test_text.proofs.lemmas.TestTints.{tinted-skip_line}
 use Rattle.run_text.specs.PlainRuns.{IsPlainPrefix}
 use Rattle.console_reporter.specs.Effects.{final_output, finished_entry, is_kept, is_skip_kept, entry_of}
 use Rattle.console_reporter.specs.Entries.{cancel, prefix, kept, final_order, is_before, final_text, entries_text}

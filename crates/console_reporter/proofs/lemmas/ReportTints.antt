@@ -10,11 +10,11 @@ use Rattle.plain_text.specs.Escapes.{HasNoEscape}
 use Rattle.report_text.specs.PlainTexts.{HoldsIf}
 use Rattle.report_text.proofs.lemmas.Tints.{IsTinted, tinted-none, tinted-append, tinted-if, tinted-whole}
 use Rattle.unit_report.proofs.lemmas.SkipTints.{tinted-final_warnings}
-use Rattle.event_text.specs.Finishes.{display_of}
+use Rattle.test_text.specs.Finishes.{display_of}
 use Rattle.event_text.specs.declared.settings.Settings.{Settings}
 use Rattle.event_text.proofs.lemmas.LineTints.{painted}
-use Rattle.event_text.proofs.lemmas.StatusTints.{tinted-test_finished_text}
-use Rattle.event_text.proofs.lemmas.TestTints.{tinted-test_started_text, tinted-test_slow_text, tinted-attempt_failed_text, tinted-test_retry_started_text, tinted-test_skipped_text}
+use Rattle.test_text.proofs.lemmas.StatusTints.{tinted-test_finished_text}
+use Rattle.test_text.proofs.lemmas.TestTints.{tinted-test_started_text, tinted-test_slow_text, tinted-attempt_failed_text, tinted-test_retry_started_text, tinted-test_skipped_text}
 use Rattle.run_text.specs.PlainRuns.{IsPlainPrefix}
 use Rattle.run_text.proofs.lemmas.CancelTints.{tinted-begin_cancel_text, tinted-begin_kill_text, tinted-run_paused_text, tinted-run_continued_text, tinted-input_enter_text}
 use Rattle.run_text.proofs.lemmas.NotSeenTints.{tinted-not_seen_text}

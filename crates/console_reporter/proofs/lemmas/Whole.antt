@@ -59,17 +59,17 @@ use Rattle.info_text.specs.Responses.{info_response_text}
 use Rattle.info_text.specs.Seconds.{seconds_between}
 use Rattle.info_text.specs.Starts.{info_finished_text, info_started_text}
 use Rattle.console_reporter.specs.Configuration.{Configuration}
-use Rattle.event_text.specs.FinishedTests.{TestFinish, test_finish, line_at_once, output_at_once, test_finished_text}
+use Rattle.test_text.specs.FinishedTests.{TestFinish, test_finish, line_at_once, output_at_once, test_finished_text}
 use Rattle.console_reporter.specs.Entries.{hiding_rank, entry_text, final_text}
-use Rattle.event_text.specs.Finishes.{is_line_shown, row_at_once}
+use Rattle.test_text.specs.Finishes.{is_line_shown, row_at_once}
 use Rattle.console_reporter.specs.Outcomes.{IsOfLines}
 use Rattle.console_reporter.specs.Report.{Known, end_of_run_text, event_text, listed_text, script_by, text}
 use Rattle.event_text.specs.Instances.{instance_end, padded_instance, untimed_end}
-use Rattle.event_text.specs.RetriedTests.{Attempt, attempt_failed_line, attempt_failed_text, delay_line, failed_output, is_failed_output_shown}
+use Rattle.test_text.specs.RetriedTests.{Attempt, attempt_failed_line, attempt_failed_text, delay_line, failed_output, is_failed_output_shown}
 use Rattle.event_text.specs.Settings.{is_level_shown, shows_starts}
-use Rattle.event_text.specs.SkippedTests.{skip_line, test_skipped_text}
-use Rattle.event_text.specs.SlowTests.{slow_end, slow_text, terminating_level, terminating_text, test_slow_text}
-use Rattle.event_text.specs.TestStarts.{command_text, retry_start_line, start_line, test_retry_started_text, test_started_text}
+use Rattle.test_text.specs.SkippedTests.{skip_line, test_skipped_text}
+use Rattle.test_text.specs.SlowTests.{slow_end, slow_text, terminating_level, terminating_text, test_slow_text}
+use Rattle.test_text.specs.TestStarts.{command_text, retry_start_line, start_line, test_retry_started_text, test_started_text}
 use Rattle.run_model.specs.declared.level.StatusLevel.TheVariants as status
 use Rattle.run_text.specs.Cancels.{begin_cancel_text, begin_kill_text}
 use Rattle.run_text.specs.Pauses.{pause_text, run_continued_text, run_paused_text}
@@ -79,15 +79,15 @@ use Rattle.run_text.specs.SetupScripts.{failed_script_output, setup_script_finis
 use Rattle.run_text.specs.Starts.{starting_line, run_started_text}
 use Rattle.run_text.specs.StressRuns.{stress_sub_run_finished_text, stress_sub_run_line, stress_sub_run_started_text}
 use Rattle.run_text.specs.Summaries.{run_counts_text, run_finished_text, stress_counts_text, summary_counts, summary_line}
-use Rattle.event_text.specs.StatusLines.{is_flaky_failure, flaky_note, flaky_failure_line, status_line}
+use Rattle.test_text.specs.StatusLines.{is_flaky_failure, flaky_note, flaky_failure_line, status_line}
 use Rattle.run_model.specs.declared.call.ReportCall.{ReportCall}
 use Rattle.run_model.specs.declared.call.ReportCall.TheVariants.{Event, Header, Prefix}
 use Rattle.console_reporter.specs.declared.imp.final_output.FinalOutput.{FinalOutput}
 use Rattle.console_reporter.specs.declared.imp.final_output.FinalOutput.TheVariants.{Executed, ExecutedWithOutput, Skipped}
 use Rattle.console_reporter.specs.declared.imp.final_output.FinalOutputEntry.{FinalOutputEntry}
 use Rattle.event_text.specs.declared.instance.CountedInstance.{CountedInstance}
-use Rattle.event_text.specs.declared.status_line.StatusLineKind.{StatusLineKind}
-use Rattle.event_text.specs.declared.status_line.StatusLineKind.TheVariants.{Intermediate, Final}
+use Rattle.test_text.specs.declared.status_line.StatusLineKind.{StatusLineKind}
+use Rattle.test_text.specs.declared.status_line.StatusLineKind.TheVariants.{Intermediate, Final}
 use Rattle.event_text.specs.declared.settings.Settings.{Settings}
 
 -- the text ends in a line feed

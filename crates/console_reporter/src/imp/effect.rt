@@ -9,9 +9,9 @@ ghost use Rattle.console_reporter.specs.Loads.{lacks_output};
 
 use event_text::instance::CountedInstance;
 use event_text::settings::Settings;
-use event_text::test_finished::FinishedTest;
 use run_model::event::{TestEvent, TestEventKind};
 use run_model::level::CancelReason;
+use test_text::test_finished::FinishedTest;
 
 /// What an event does beside its text.
 #[derive(Clone, Copy, Debug)]

@@ -2,19 +2,19 @@
 
 ghost use Rattle.std.specs.Prelude.{◌≡◌, IfOk, IsOk, false};
 ghost use Rattle.run_model.specs.Statuses.{is_aborted};
-ghost use Rattle.event_text.specs.FinishedTests.{HasShownOutput, finish_of};
+ghost use Rattle.test_text.specs.FinishedTests.{HasShownOutput, finish_of};
 ghost use Rattle.console_reporter.specs.Effects.{final_output, finished_entry, skipped_entry};
 ghost use Rattle.console_reporter.specs.Entries.{final_level_in};
-ghost use Rattle.event_text.specs.Finishes.{row_at_end};
+ghost use Rattle.test_text.specs.Finishes.{row_at_end};
 
 use super::loaded_output::LoadedOutput;
 use event_text::instance::CountedInstance;
-use event_text::status_line::StatusLine;
-use event_text::test_finished::FinishedTest;
 use run_model::level::FinalStatusLevel;
 use run_model::memory::OutOfMemory;
 use run_model::status::StatusSummary;
 use std::alloc::Global;
+use test_text::status_line::StatusLine;
+use test_text::test_finished::FinishedTest;
 
 /// An entry of the summary.
 #[derive(Debug, Drop)]

@@ -2,8 +2,8 @@
 
 ghost use Rattle.std.specs.Prelude.{◌≡◌, List, [], ◌∷◌, ◌++◌, OnOk, OnErr};
 ghost use Rattle.plain_text.specs.Writer.{Puts};
-ghost use Rattle.event_text.specs.StatusLines.{status_line};
-ghost use Rattle.event_text.specs.declared.status_line.StatusLineKind.{StatusLineKind};
+ghost use Rattle.test_text.specs.StatusLines.{status_line};
+ghost use Rattle.test_text.specs.declared.status_line.StatusLineKind.{StatusLineKind};
 ghost use Rattle.console_reporter.specs.Entries.{final_text, entries_text, final_order, IsFinalOrder};
 ghost use Rattle.console_reporter.specs.declared.imp.final_output.FinalOutputEntry.{FinalOutputEntry};
 
@@ -12,13 +12,13 @@ use super::final_output::{FinalOutput, FinalOutputEntry};
 use event_text::attempt_output::write_test_execute_status;
 use event_text::instance::CountedInstance;
 use event_text::settings::Settings;
-use event_text::status_line::{StatusLine, StatusLineKind, write_status_line};
-use event_text::test_skipped::write_skip_line;
 use plain_text::write_str::{WriteFault, WriteStr};
 use run_model::status::StatusSummary;
 use std::alloc::{AllocError, Global};
 use std::collections::BTreeMap;
 use std::marker::Model;
+use test_text::status_line::{StatusLine, StatusLineKind, write_status_line};
+use test_text::test_skipped::write_skip_line;
 
 /// The entries that a summary lists. Contracts see them as the list in which it shows them.
 #[derive(Drop)]

@@ -5,7 +5,7 @@ ghost use Rattle.std.specs.List.{flat_map};
 ghost use Rattle.std.specs.Option.{is_some, option_and_then, option_map, option_to_list};
 ghost use Rattle.run_model.specs.Levels.{reason_rank};
 ghost use Rattle.plain_text.specs.Writer.{Puts, one_further};
-ghost use Rattle.event_text.specs.FinishedTests.{HasShownOutput, finish_of};
+ghost use Rattle.test_text.specs.FinishedTests.{HasShownOutput, finish_of};
 ghost use Rattle.run_text.specs.Headers.{replay_header_text};
 ghost use Rattle.run_model.specs.declared.call.ReportCall.{ReportCall};
 ghost use Rattle.console_reporter.specs.declared.imp.faults.WriteEventError.{WriteEventError};
@@ -38,8 +38,6 @@ use super::store::Store;
 use super::topics::{write_attempt, write_info, write_setup_script, write_start, write_stop};
 use event_text::instance::CountedInstance;
 use event_text::settings::Settings;
-use event_text::test_finished::{FinishedTest, write_test_finished};
-use event_text::test_skipped::write_test_skipped;
 use plain_text::write_str::{WriteFault, WriteStr};
 use run_model::call::ReportCall;
 use run_model::event::{TestEvent, TestEventKind};
@@ -58,6 +56,8 @@ use run_text::stress::{write_stress_sub_run_finished, write_stress_sub_run_start
 use run_text::summary::write_run_finished;
 use std::alloc::Global;
 use store_text::config::StoreConfig;
+use test_text::test_finished::{FinishedTest, write_test_finished};
+use test_text::test_skipped::write_test_skipped;
 use unit_report::formatters::write_final_warnings;
 
 /// Reports events to a writer, and writes a record of each finished test to a store, if it has one.

@@ -10,9 +10,6 @@ ghost use Rattle.console_reporter.specs.Topics.{is_of_attempt, is_of_info, is_of
 
 use event_text::script::ScriptInstance;
 use event_text::settings::Settings;
-use event_text::test_retry::write_attempt_failed;
-use event_text::test_slow::write_test_slow;
-use event_text::test_started::{write_test_retry_started, write_test_started};
 use info_text::response::write_info_response;
 use info_text::start::{write_info_finished, write_info_started};
 use plain_text::write_str::{WriteFault, WriteStr};
@@ -26,6 +23,9 @@ use run_text::pause::{write_run_continued, write_run_paused};
 use run_text::setup_script::{
     write_setup_script_finished, write_setup_script_slow, write_setup_script_started,
 };
+use test_text::test_retry::write_attempt_failed;
+use test_text::test_slow::write_test_slow;
+use test_text::test_started::{write_test_retry_started, write_test_started};
 
 /// Writes that an attempt of a test has started.
 #[tactic(auto, unfolding(crate::specs::Report::event_text))]

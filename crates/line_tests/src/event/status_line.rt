@@ -1,9 +1,8 @@
 //! The lines of tests by what their attempts came to.
 
 use event_text::instance::CountedInstance;
-use event_text::status_line::{StatusLine, StatusLineKind, write_status_line};
-use report_text::helpers::DisplayCounterIndex;
 use plain_text::style::Styles;
+use report_text::helpers::DisplayCounterIndex;
 use run_model::abort::AbortDescription;
 use run_model::boxed::Boxed;
 use run_model::name::{RustBinaryId, TestCaseName, TestInstanceId};
@@ -16,6 +15,7 @@ use run_model::time::Nanos;
 use std::alloc::Global;
 use std::num::NonZeroU32;
 use std::test::Fail;
+use test_text::status_line::{StatusLine, StatusLineKind, write_status_line};
 
 // The summary's line of a test `a t1` of a second.
 fn final_line(alloc: Global, styles: &Styles, summary: &StatusSummary) -> Result<String, Fail> {

@@ -6,7 +6,6 @@ ghost use Rattle.run_model.specs.Outputs.{has_loaded_output};
 use crate::testing::{Names, settings_at};
 use bytes::Bytes;
 use event_text::settings::{Settings, overrides_for};
-use event_text::test_retry::write_attempt_failed;
 use run_model::config::TestOutputDisplay;
 use run_model::level::StatusLevel;
 use run_model::output::{
@@ -16,6 +15,7 @@ use run_model::status::{ExecuteStatus, ExecutionResultDescription, FailureDescri
 use run_model::time::Nanos;
 use std::alloc::Global;
 use std::test::Fail;
+use test_text::test_retry::write_attempt_failed;
 use unit_report::unit_output::{DisplayerKind, UnitOutputReporter};
 
 // The first of three attempts, which ended so after half a second and wrote a line.

@@ -2,9 +2,9 @@
 
 use crate::testing::{Names, settings_at};
 use event_text::settings::theme_for;
-use event_text::test_skipped::write_test_skipped;
 use run_model::level::StatusLevel;
 use std::test::Fail;
+use test_text::test_skipped::write_test_skipped;
 
 #[test]
 fn a_skipped_test_is_told_from_its_level_on(rt: HostRuntime) -> Result<(), Fail> {

@@ -1,12 +1,12 @@
 //! Slow tests by the attempt and the status level.
 
 use crate::testing::{Names, settings_at};
-use event_text::test_slow::write_test_slow;
 use run_model::level::StatusLevel;
 use run_model::status::RetryData;
 use run_model::time::Nanos;
 use std::alloc::Global;
 use std::test::Fail;
+use test_text::test_slow::write_test_slow;
 
 // What is written of the test `a t1` after a minute.
 fn after_a_minute(

@@ -2,13 +2,13 @@
 
 use crate::testing::{Names, settings_at};
 use event_text::settings::Settings;
-use event_text::test_started::{write_test_retry_started, write_test_started};
 use run_model::command::CommandLine;
 use run_model::level::StatusLevel;
 use run_model::stats::RunStats;
 use run_model::status::RetryData;
 use std::alloc::Global;
 use std::test::Fail;
+use test_text::test_started::{write_test_retry_started, write_test_started};
 
 // A reporter that shows nothing but starts. It asks for capture and for commands.
 fn settings(alloc: Global, no_capture: bool, verbose: bool) -> Result<Settings, Fail> {

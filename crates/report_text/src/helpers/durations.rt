@@ -6,10 +6,10 @@ ghost use Rattle.plain_text.specs.Numbers.{seconds};
 ghost use Rattle.plain_text.specs.Texts.{right_in};
 ghost use Rattle.plain_text.specs.Writer.{Puts};
 
+use itoa::Buffer;
 use plain_text::numbers::{digit_str, round_to, spaces_str};
 use plain_text::show_written;
 use plain_text::write_str::{WriteFault, WriteStr, write_strs};
-use itoa::Buffer;
 use run_model::time::Nanos;
 use std::fmt;
 use std::fmt::Formatter;

@@ -5,9 +5,9 @@ ghost use Rattle.run_model.specs.Names.{option_text};
 ghost use Rattle.report_text.specs.Failures.{abort_details, abort_text, abort_words, exit_details, exit_text, exit_words, hex_digit, last_hex_digits, message_text, nt_status_text, signal_name_text};
 ghost use Rattle.plain_text.specs.Writer.{Puts};
 
+use itoa::Buffer;
 use plain_text::style::{plain, write_parts, write_plain};
 use plain_text::write_str::{WriteFault, WriteStr};
-use itoa::Buffer;
 use run_model::abort::{AbortDescription, DescriptionText};
 use run_model::memory::OutOfMemory;
 use std::alloc::Global;

@@ -7,11 +7,11 @@ ghost use Rattle.report_text.specs.Instances.{HasPlainWords, counter_prefix, cou
 ghost use Rattle.plain_text.specs.Writer.{Puts};
 
 use crate::helpers::max_width::{CounterPart, IdPart, StressPart, write_within};
+use itoa::Buffer;
 use plain_text::repeated::write_repeated;
 use plain_text::show_written;
 use plain_text::style::{ListStyles, Style, plain, write_parts, write_plain};
 use plain_text::write_str::{WriteFault, WriteStr};
-use itoa::Buffer;
 use run_model::name::{TestCaseName, TestInstanceId};
 use run_model::stress::StressIndex;
 use std::fmt;

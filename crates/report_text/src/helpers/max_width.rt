@@ -8,11 +8,11 @@ ghost use Rattle.plain_text.specs.Fitting.{FitsWidth, columns, shrunk_parts};
 ghost use Rattle.report_text.specs.Instances.{HasPlainWords, counter_prefix, id_prefix, name_text, stress_prefix};
 ghost use Rattle.plain_text.specs.Writer.{Puts};
 
-use plain_text::fitting::{WriteText, count_columns, write_back, write_front};
 use crate::helpers::instance::{
     DisplayCounterIndex, DisplayTestName, write_counter_prefix, write_id_prefix,
     write_stress_prefix,
 };
+use plain_text::fitting::{WriteText, count_columns, write_back, write_front};
 use plain_text::style::Style;
 use plain_text::write_str::{WriteFault, WriteStr};
 use run_model::stress::StressIndex;

@@ -3,10 +3,10 @@
 ghost use Rattle.std.specs.Prelude.{◌≡◌};
 
 use plain_text::fitting::{WriteText, count_columns, write_fitted};
-use report_text::helpers::DisplayTestInstance;
-use report_text::helpers::instance::DisplayCounterIndex;
 use plain_text::style::ListStyles;
 use plain_text::write_str::{WriteFault, WriteStr};
+use report_text::helpers::DisplayTestInstance;
+use report_text::helpers::instance::DisplayCounterIndex;
 use run_model::name::{RustBinaryId, TestCaseName, TestInstanceId};
 use std::alloc::Global;
 use std::test::Fail;

@@ -1,9 +1,9 @@
 //! Each form once with the text that nextest prints, and the greatest numbers.
 
+use plain_text::style::{ListStyles, Style, Styles, plain, write_parts};
 use report_text::helpers::paths::is_relative;
 use report_text::helpers::plural::*;
 use report_text::helpers::*;
-use plain_text::style::{ListStyles, Style, Styles, plain, write_parts};
 use run_model::abort::{AbortDescription, DescriptionText};
 use run_model::config::NextestRunMode;
 use run_model::name::{OwnedTestInstanceId, RustBinaryId, ScriptId, TestCaseName, TestInstanceId};

@@ -6,10 +6,10 @@ ghost use Rattle.plain_text.specs.Numbers.{seconds};
 ghost use Rattle.plain_text.specs.Writer.{Puts};
 ghost use Rattle.unit_report.specs.Durations.{bracketed_clock, bracketed_duration, duration_by, slow_duration};
 
-use report_text::helpers::durations::write_clock_between;
 use plain_text::numbers::write_seconds_between;
 use plain_text::show_written;
 use plain_text::write_str::{WriteFault, WriteStr};
+use report_text::helpers::durations::write_clock_between;
 use run_model::time::Nanos;
 use std::fmt;
 use std::fmt::Formatter;

@@ -4,9 +4,9 @@ ghost use Rattle.std.specs.Prelude.{◌≡◌};
 ghost use Rattle.plain_text.specs.Writer.{Puts};
 ghost use Rattle.unit_report.specs.SkipCounts.{between, binaries_text, filter_name, filtered_text, has_no_filtered, included_text, including, rerun_text, skip_counts_text, skip_note, skip_reason, skipped_tests_in, tests_and_binaries, tests_text, via_filter};
 
-use report_text::helpers::plural::{binaries_str, tests_str};
 use plain_text::style::{Styles, write_plain};
 use plain_text::write_str::{WriteFault, WriteStr};
+use report_text::helpers::plural::{binaries_str, tests_str};
 use run_model::config::{CompiledDefaultFilter, CompiledDefaultFilterSection, NextestRunMode};
 use run_model::event::SkipCounts;
 

@@ -4,9 +4,9 @@ ghost use Rattle.std.specs.Prelude.{◌≡◌};
 ghost use Rattle.plain_text.specs.Writer.{Puts};
 ghost use Rattle.unit_report.specs.Warnings.{due_to, final_warnings, hint_after, not_run_count, not_run_warning, options_hint, warning_of};
 
-use report_text::helpers::plural::{tests_plural_if, were_plural_if};
 use plain_text::style::{Styles, write_plain};
 use plain_text::write_str::{WriteFault, WriteStr};
+use report_text::helpers::plural::{tests_plural_if, were_plural_if};
 use run_model::config::NextestRunMode;
 use run_model::level::CancelReason;
 use run_model::stats::{FinalRunStats, RunStatsFailureKind};

@@ -5,9 +5,9 @@ ghost use Rattle.plain_text.specs.Styles.{styled};
 ghost use Rattle.plain_text.specs.Writer.{Puts};
 ghost use Rattle.unit_report.specs.OutputHeaders.{bar_text, header_text, name_text};
 
-use report_text::helpers::ThemeCharacters;
 use plain_text::style::{Style, write_plain};
 use plain_text::write_str::{WriteFault, WriteStr};
+use report_text::helpers::ThemeCharacters;
 
 /// What a header calls what follows it.
 #[derive(Clone, Copy, Debug, PartialEq, Eq)]

@@ -13,7 +13,7 @@ use Rattle.plain_text.specs.declared.style.Styles.{Styles}
 use Rattle.unit_report.specs.Durations.{slow_duration}
 use Rattle.event_text.specs.Instances.{instance_end, padded_instance}
 use Rattle.event_text.specs.Settings.{is_level_shown}
-use Rattle.event_text.specs.StatusLines.{attempt_words}
+use Rattle.test_text.specs.StatusLines.{attempt_words}
 use Rattle.event_text.specs.declared.instance.CountedInstance.{CountedInstance}
 use Rattle.event_text.specs.declared.settings.Settings.{Settings}
 

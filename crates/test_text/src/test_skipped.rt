@@ -1,10 +1,10 @@
 //! A test that is not run.
 
 ghost use Rattle.plain_text.specs.Writer.{Puts};
-ghost use Rattle.event_text.specs.SkippedTests.{skip_line, test_skipped_text};
+ghost use Rattle.test_text.specs.SkippedTests.{skip_line, test_skipped_text};
 
-use crate::instance::{CountedInstance, write_untimed_end};
-use crate::settings::Settings;
+use event_text::instance::{CountedInstance, write_untimed_end};
+use event_text::settings::Settings;
 use plain_text::write_str::{WriteFault, WriteStr};
 use run_model::level::StatusLevel;
 use run_model::name::TestInstanceId;

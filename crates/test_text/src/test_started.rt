@@ -3,14 +3,14 @@
 ghost use Rattle.std.specs.Prelude.{◌≡◌};
 ghost use Rattle.plain_text.specs.Writer.{Puts};
 ghost use Rattle.event_text.specs.Instances.{padded_instance};
-ghost use Rattle.event_text.specs.TestStarts.{command_text, retry_start_line, start_line, started_instance, test_retry_started_text, test_started_text};
+ghost use Rattle.test_text.specs.TestStarts.{command_text, retry_start_line, start_line, started_instance, test_retry_started_text, test_started_text};
 
-use crate::instance::{CountedInstance, write_untimed_end};
-use crate::settings::Settings;
+use event_text::instance::{CountedInstance, write_untimed_end};
+use event_text::settings::Settings;
 use itoa::Buffer;
-use report_text::helpers::quoting::write_shell_words;
 use plain_text::style::write_plain;
 use plain_text::write_str::{WriteFault, WriteStr};
+use report_text::helpers::quoting::write_shell_words;
 use run_model::command::CommandLine;
 use run_model::name::TestInstanceId;
 use run_model::stats::RunStats;

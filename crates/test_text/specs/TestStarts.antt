@@ -9,7 +9,7 @@ use Rattle.plain_text.specs.Styles.{plain, styled}
 use Rattle.plain_text.specs.Texts.{Text, right_in}
 use Rattle.event_text.specs.Instances.{padded_instance, untimed_end}
 use Rattle.event_text.specs.Settings.{shows_starts, started_counter}
-use Rattle.event_text.specs.StatusLines.{attempt_words}
+use Rattle.test_text.specs.StatusLines.{attempt_words}
 use Rattle.event_text.specs.declared.instance.CountedInstance.{CountedInstance}
 use Rattle.event_text.specs.declared.settings.Settings.{Settings}
 

@@ -17,9 +17,9 @@ use Rattle.unit_report.specs.Durations.{bracketed_duration}
 use Rattle.event_text.specs.AbortLines.{abort_line}
 use Rattle.event_text.specs.ResultWords.{long_word, short_word, success_word, is_plain_success}
 use Rattle.event_text.specs.declared.instance.CountedInstance.{CountedInstance}
-use Rattle.event_text.specs.declared.status_line.StatusLine.{StatusLine}
-use Rattle.event_text.specs.declared.status_line.StatusLineKind.{StatusLineKind}
-use Rattle.event_text.specs.declared.status_line.StatusLineKind.TheVariants.{Intermediate, Final}
+use Rattle.test_text.specs.declared.status_line.StatusLine.{StatusLine}
+use Rattle.test_text.specs.declared.status_line.StatusLineKind.{StatusLineKind}
+use Rattle.test_text.specs.declared.status_line.StatusLineKind.TheVariants.{Intermediate, Final}
 
 -- a word after the number of its attempt
 abbrev pub attempt_words : ℕ → Text → Text

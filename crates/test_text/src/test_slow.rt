@@ -4,10 +4,10 @@ ghost use Rattle.std.specs.Prelude.{◌≡◌};
 ghost use Rattle.plain_text.specs.Styles.{styled};
 ghost use Rattle.plain_text.specs.Texts.{right_in};
 ghost use Rattle.plain_text.specs.Writer.{Puts};
-ghost use Rattle.event_text.specs.SlowTests.{has_number, is_last_attempt, is_level_exceeded, slow_end, slow_text, slow_word, terminating_level, terminating_style, terminating_text, terminating_word, test_slow_text};
+ghost use Rattle.test_text.specs.SlowTests.{has_number, is_last_attempt, is_level_exceeded, slow_end, slow_text, slow_word, terminating_level, terminating_style, terminating_text, terminating_word, test_slow_text};
 
-use crate::instance::{CountedInstance, write_instance_end};
-use crate::settings::Settings;
+use event_text::instance::{CountedInstance, write_instance_end};
+use event_text::settings::Settings;
 use itoa::Buffer;
 use plain_text::style::{Style, Styles, write_plain};
 use plain_text::write_str::{WriteFault, WriteStr};

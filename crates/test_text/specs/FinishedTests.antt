@@ -13,14 +13,14 @@ use Rattle.run_model.specs.declared.status.StatusSummary.{StatusSummary}
 use Rattle.run_model.specs.declared.stress.StressIndex.{StressIndex}
 use Rattle.plain_text.specs.Texts.{Text}
 use Rattle.event_text.specs.AttemptOutputs.{attempt_output}
-use Rattle.event_text.specs.Finishes.{display_of, finish_row, is_ever_shown, is_line_shown, row_at_once}
+use Rattle.test_text.specs.Finishes.{display_of, finish_row, is_ever_shown, is_line_shown, row_at_once}
 use Rattle.event_text.specs.Settings.{finished_counter}
-use Rattle.event_text.specs.StatusLines.{status_line}
-use Rattle.event_text.specs.declared.finish.FinishRow.{FinishRow}
+use Rattle.test_text.specs.StatusLines.{status_line}
+use Rattle.test_text.specs.declared.finish.FinishRow.{FinishRow}
 use Rattle.event_text.specs.declared.instance.CountedInstance.{CountedInstance}
 use Rattle.event_text.specs.declared.settings.Settings.{Settings}
-use Rattle.event_text.specs.declared.status_line.StatusLineKind.TheVariants.{Intermediate}
-use Rattle.event_text.specs.declared.test_finished.FinishedTest.{FinishedTest}
+use Rattle.test_text.specs.declared.status_line.StatusLineKind.TheVariants.{Intermediate}
+use Rattle.test_text.specs.declared.test_finished.FinishedTest.{FinishedTest}
 
 -- a finished test under a reason: as its line names it, when its output is shown, what becomes of it, what its attempts came
 -- to, and the last of them

@@ -5,11 +5,13 @@ ghost use Rattle.run_model.specs.Statuses.{described_summary, is_aborted};
 ghost use Rattle.plain_text.specs.Writer.{Puts};
 ghost use Rattle.plain_text.specs.Styles.{styled};
 ghost use Rattle.plain_text.specs.Texts.{right_in};
-ghost use Rattle.event_text.specs.StatusLines.{is_final, shown_summary, flaky_style, flaky_words, failure_words, success_text, is_flaky_failure, status_prefix, flaky_note, flaky_failure_line, status_line};
+ghost use Rattle.test_text.specs.StatusLines.{is_final, shown_summary, flaky_style, flaky_words, failure_words, success_text, is_flaky_failure, status_prefix, flaky_note, flaky_failure_line, status_line};
 
-use crate::abort_line::write_abort_line;
-use crate::instance::{CountedInstance, write_instance};
-use crate::result_words::{is_plain_success, spaced_short_status_str, status_str, success_str};
+use event_text::abort_line::write_abort_line;
+use event_text::instance::{CountedInstance, write_instance};
+use event_text::result_words::{
+    is_plain_success, spaced_short_status_str, status_str, success_str,
+};
 use itoa::Buffer;
 use plain_text::style::{Styles, write_plain};
 use plain_text::write_str::{WriteFault, WriteStr};

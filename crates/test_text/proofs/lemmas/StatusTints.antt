@@ -14,13 +14,13 @@ use Rattle.report_text.proofs.lemmas.InstanceTints.{tinted-instance_text}
 use Rattle.report_text.proofs.lemmas.Tints.{IsTinted, tinted-none, tinted-if, tinted-append, tints}
 use Rattle.unit_report.proofs.lemmas.DurationTints.{tinted-bracketed_duration}
 use Rattle.unit_report.specs.PlainOutputs.{IsPlainWritten}
-use Rattle.event_text.specs.FinishedTests.{TestFinish, line_at_once, output_at_once, test_finished_text}
-use Rattle.event_text.specs.Finishes.{is_line_shown}
-use Rattle.event_text.specs.StatusLines.{flaky_words, status_words, status_prefix, flaky_note, flaky_failure_line, status_line}
+use Rattle.test_text.specs.FinishedTests.{TestFinish, line_at_once, output_at_once, test_finished_text}
+use Rattle.test_text.specs.Finishes.{is_line_shown}
+use Rattle.test_text.specs.StatusLines.{flaky_words, status_words, status_prefix, flaky_note, flaky_failure_line, status_line}
 use Rattle.event_text.specs.declared.instance.CountedInstance.{CountedInstance}
 use Rattle.event_text.specs.declared.settings.Settings.{Settings}
-use Rattle.event_text.specs.declared.status_line.StatusLineKind.{StatusLineKind}
-use Rattle.event_text.specs.declared.status_line.StatusLineKind.TheVariants.{Intermediate, Final}
+use Rattle.test_text.specs.declared.status_line.StatusLineKind.{StatusLineKind}
+use Rattle.test_text.specs.declared.status_line.StatusLineKind.TheVariants.{Intermediate, Final}
 use Rattle.run_model.specs.declared.unit.UnitKind.TheVariants as unit
 use Rattle.event_text.proofs.lemmas.LineTints.{painted, IsPlainTest}
 use Rattle.event_text.proofs.lemmas.OutputTints.{tinted-unit_output}

@@ -19,7 +19,7 @@ use Rattle.event_text.specs.AttemptOutputs.{attempt_output}
 use Rattle.event_text.specs.Instances.{instance_end, padded_instance}
 use Rattle.event_text.specs.ResultWords.{short_word}
 use Rattle.event_text.specs.Settings.{is_level_shown}
-use Rattle.event_text.specs.StatusLines.{attempt_words}
+use Rattle.test_text.specs.StatusLines.{attempt_words}
 use Rattle.event_text.specs.declared.instance.CountedInstance.{CountedInstance}
 use Rattle.event_text.specs.declared.settings.Settings.{Settings}
 

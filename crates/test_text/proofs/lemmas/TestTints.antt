@@ -16,11 +16,11 @@ use Rattle.report_text.proofs.lemmas.Tints.{IsTinted, tinted-none, tinted-if, ti
 use Rattle.unit_report.proofs.lemmas.DurationTints.{duration_tints}
 use Rattle.unit_report.specs.PlainOutputs.{IsPlainWritten}
 use Rattle.event_text.specs.Instances.{padded_instance}
-use Rattle.event_text.specs.RetriedTests.{Attempt, attempt_failed_line, is_failed_output_shown, failed_output, delay_line, attempt_failed_text}
+use Rattle.test_text.specs.RetriedTests.{Attempt, attempt_failed_line, is_failed_output_shown, failed_output, delay_line, attempt_failed_text}
 use Rattle.event_text.specs.Settings.{is_level_shown, shows_starts}
-use Rattle.event_text.specs.SkippedTests.{skip_line, test_skipped_text}
-use Rattle.event_text.specs.SlowTests.{slow_end, slow_word, slow_text, terminating_word, terminating_text, is_level_exceeded, has_number, test_slow_text}
-use Rattle.event_text.specs.TestStarts.{started_instance, start_line, retry_start_line, command_text, test_started_text, test_retry_started_text}
+use Rattle.test_text.specs.SkippedTests.{skip_line, test_skipped_text}
+use Rattle.test_text.specs.SlowTests.{slow_end, slow_word, slow_text, terminating_word, terminating_text, is_level_exceeded, has_number, test_slow_text}
+use Rattle.test_text.specs.TestStarts.{started_instance, start_line, retry_start_line, command_text, test_started_text, test_retry_started_text}
 use Rattle.event_text.specs.declared.instance.CountedInstance.{CountedInstance}
 use Rattle.event_text.specs.declared.settings.Settings.{Settings}
 use Rattle.event_text.proofs.lemmas.LineTints.{painted, IsPlainTest, plain-started_counter, plain-padded, tinted-instance_end, tinted-untimed_end}

@@ -1,0 +1,7 @@
+pub mod FinishedTests
+pub mod Finishes
+pub mod RetriedTests
+pub mod SkippedTests
+pub mod SlowTests
+pub mod StatusLines
+pub mod TestStarts
