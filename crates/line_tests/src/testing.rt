@@ -1,4 +1,4 @@
-//! What the tests share: what a reporter goes by, names, counts, results and outputs.
+//! What the tests share: what a reporter goes by, counts, results and outputs.
 
 ghost use Rattle.std.specs.Prelude.{◌≡◌, IfOk, true};
 ghost use Rattle.run_model.specs.Outputs.{has_loaded_output};
@@ -7,7 +7,7 @@ use bytes::Bytes;
 use event_text::settings::{Settings, overrides_for, styles_for, theme_for};
 use run_model::config::{CompiledDefaultFilter, CompiledDefaultFilterSection, NextestRunMode};
 use run_model::level::{FinalStatusLevel, StatusLevel};
-use run_model::name::{ProfileName, RustBinaryId, TestCaseName, TestInstanceId};
+use run_model::name::ProfileName;
 use run_model::output::{
     ChildExecutionOutputDescription, ChildOutputDescription, ChildSingleOutput, LiveSpec,
 };
@@ -48,11 +48,6 @@ pub fn settings(
     })
 }
 
-/// What a plain reporter goes by that shows at once what has this level.
-pub fn settings_at(alloc: Global, status_level: StatusLevel) -> Result<Settings, Fail> {
-    settings(alloc, status_level, false)
-}
-
 /// What a reporter goes by in a run of this mode.
 pub fn settings_in(
     alloc: Global,
@@ -62,31 +57,6 @@ pub fn settings_in(
     let mut settings = settings(alloc, StatusLevel::Pass, should_colorize)?;
     settings.mode = mode;
     Ok(settings)
-}
-
-/// The names of a test.
-#[derive(Debug, Drop)]
-pub struct Names {
-    binary_id: RustBinaryId,
-    test_name: TestCaseName,
-}
-
-impl Names {
-    /// The names of the test `a t1`.
-    pub fn of_a_t1(alloc: Global) -> Result<Names, Fail> {
-        Ok(Names {
-            binary_id: RustBinaryId::new(alloc, "a")?,
-            test_name: TestCaseName::new(alloc, "t1")?,
-        })
-    }
-
-    /// The test.
-    pub fn instance(&self) -> TestInstanceId<'_> {
-        TestInstanceId {
-            binary_id: &self.binary_id,
-            test_name: &self.test_name,
-        }
-    }
 }
 
 /// The counts of a run of so many tests, of which so many have finished and passed.

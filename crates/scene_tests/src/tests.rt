@@ -12,7 +12,6 @@ use std::io;
 use std::io::{ErrorKind, Read, Write};
 use std::test::Fail;
 
-mod attempts;
 mod event_lines;
 mod faults;
 mod growths;
@@ -22,9 +21,6 @@ mod script_lines;
 mod unload;
 
 const RUN: &str = "run\t00000000-0000-4000-8000-000000000001\tdefault\t2\t1\t-";
-
-const DONE: &str =
-    "done\t-\talpha\tt1\tnever\tnever\tpass\tinitial=2 finished=1 passed=1\t1\tpass\t5000000\t0\tsplit\t\t\t-\t-";
 
 const END: &str = "end\t1520000000\tinitial=2 finished=2 passed=1 failed=1\t0\t-";
 
@@ -215,18 +211,6 @@ fn event_of<'c, 'a>(call: &'c ReportCall<'a>) -> Result<&'c TestEvent<'a>, Fail>
     }
 }
 
-// A line with another text in the place of a field, which is counted from 1.
-fn with_field(alloc: Global, line: &str, field: usize, text: &str) -> Result<String, Fail> {
-    let mut changed = String::new(alloc);
-    for (index, part) in line.split('\t').enumerate() {
-        if index > 0 {
-            changed.push('\t')?;
-        }
-        changed.push_str(if index + 1 == field { text } else { part })?;
-    }
-    Ok(changed)
-}
-
 #[test]
 fn tells_the_fault_of_a_line(rt: HostRuntime) -> Result<(), Fail> {
     let scenes: [(&[u8], &str); 14] = [
@@ -259,237 +243,6 @@ fn tells_the_fault_of_a_line(rt: HostRuntime) -> Result<(), Fail> {
     ];
     for (scene, line) in scenes {
         assert_eq!(rt; line_of(rt.alloc(), scene)?.as_str(), line);
-    }
-    Ok(())
-}
-
-#[test]
-fn tells_the_first_bad_field(rt: HostRuntime) -> Result<(), Fail> {
-    let alloc = rt.alloc();
-    let fields: [(&str, usize, &[&str]); 20] = [
-        ("config\tfinal\tfail", 2, &["", "Final", "loud"]),
-        ("config\tfinal\tfail", 3, &["", "-", "Fail", "retry"]),
-        ("config\truns\t2", 3, &["", "-", "-1"]),
-        ("config\tbench\t1", 3, &["", "-", "2"]),
-        (RUN, 2, &["", "-", "00000000-0000-4000-8000-00000000000"]),
-        (RUN, 3, &["a\\", "\\q", "\\x80", "\\x4", "\\,"]),
-        (RUN, 4, &["", "-", "+1", "-0", "1 ", "18446744073709551616"]),
-        (
-            RUN,
-            6,
-            &[
-                "",
-                "foo=1",
-                "tests",
-                "tests=",
-                "tests=1  rerun=1",
-                "tests=1 tests=1",
-                "initial=1",
-            ],
-        ),
-        (DONE, 2, &["", "x", "0/0"]),
-        (DONE, 4, &["\\", "\\xe9"]),
-        (DONE, 5, &["", "-", "Never"]),
-        (DONE, 7, &["", "-", "flaky"]),
-        (
-            DONE,
-            8,
-            &[
-                "",
-                "passed=1  failed=1",
-                "passed=1 passed=1",
-                "passed",
-                "Passed=1",
-                "cancel=x",
-                "cancel=signal cancel=signal",
-            ],
-        ),
-        (DONE, 9, &["4294967296"]),
-        (
-            DONE,
-            10,
-            &[
-                "",
-                "-",
-                "fail",
-                "fail:",
-                "fail:+1",
-                "fail:2147483648",
-                "pass:0",
-            ],
-        ),
-        (DONE, 11, &["-1", "340282366920938463463374607431768211456"]),
-        (DONE, 12, &["", "2", "01"]),
-        (DONE, 13, &["", "-", "Split"]),
-        (DONE, 14, &["\\", "\\xg0", "\\,"]),
-        (END, 4, &["", "-", "-1"]),
-    ];
-    for (line, field, texts) in fields {
-        for text in texts {
-            let scene = with_field(alloc, line, field, text)?;
-            let fault = format!(in alloc; "report: line 1: bad field {field}")?;
-            assert_eq!(rt;
-                line_of(alloc, scene.as_bytes())?.as_str(),
-                fault.as_str(),
-                "{text}"
-            );
-        }
-    }
-    Ok(())
-}
-
-#[test]
-fn takes_every_form_of_a_value(rt: HostRuntime) -> Result<(), Fail> {
-    let alloc = rt.alloc();
-    let fields: [(&str, usize, &[&str]); 12] = [
-        (
-            "config\tfinal\tfail",
-            3,
-            &["none", "flaky", "slow", "skip", "leak", "pass", "all"],
-        ),
-        ("config\truns\t2", 3, &["18446744073709551615"]),
-        ("config\tbench\t1", 3, &["0"]),
-        (RUN, 2, &["00000000000040008000000000000001"]),
-        (RUN, 3, &["", "-", "\\n\\t\\r\\e\\\\\\x7f\\x4A"]),
-        (RUN, 4, &["007", "18446744073709551615"]),
-        (
-            RUN,
-            6,
-            &["rerun=1 nonbench=1 tests=1 filter=1 binaries=1 binfilter=1"],
-        ),
-        (
-            DONE,
-            8,
-            &[
-                "-",
-                "setupfailed=1 setupexec=1 setuptimedout=1 cancel=second-signal",
-            ],
-        ),
-        (DONE, 10, &["fail:-2147483648", "fail:-0", "fail:007"]),
-        (DONE, 11, &["340282366920938463463374607431768211455"]),
-        (DONE, 12, &["1"]),
-        (DONE, 15, &["-", "\\xff\\xFF", "-\\n"]),
-    ];
-    for (line, field, texts) in fields {
-        for text in texts {
-            let scene = with_field(alloc, line, field, text)?;
-            assert_eq!(rt; line_of(alloc, scene.as_bytes())?.as_str(), "", "{text}");
-        }
-    }
-    Ok(())
-}
-
-// The first of these texts that is not told to be a bad field there.
-fn taken<'a>(
-    alloc: Global,
-    line: &str,
-    field: usize,
-    texts: &[&'a str],
-) -> Result<Option<&'a str>, Fail> {
-    let fault = format!(in alloc; "report: line 1: bad field {field}")?;
-    for text in texts {
-        let scene = with_field(alloc, line, field, text)?;
-        if line_of(alloc, scene.as_bytes())?.as_str() != fault.as_str() {
-            return Ok(Some(text));
-        }
-    }
-    Ok(None)
-}
-
-// The first of these lines that is refused, or taken with a field more or less.
-fn miscounted<'a>(alloc: Global, lines: &[&'a str]) -> Result<Option<&'a str>, Fail> {
-    let fault = "report: line 1: wrong number of fields";
-    for line in lines {
-        let longer = format!(in alloc; "{line}\t-")?;
-        let Some((shorter, _)) = line.rsplit_once('\t') else {
-            return Ok(Some(line));
-        };
-        if !line_of(alloc, line.as_bytes())?.is_empty()
-            || line_of(alloc, longer.as_bytes())?.as_str() != fault
-            || line_of(alloc, shorter.as_bytes())?.as_str() != fault
-        {
-            return Ok(Some(line));
-        }
-    }
-    Ok(None)
-}
-
-// The lines of every kind but `config`.
-fn tables() -> [&'static [&'static str]; 5] {
-    [
-        &[RUN, DONE],
-        &event_lines::LINES,
-        &script_lines::LINES,
-        &info_lines::LINES,
-        &replay_lines::LINES,
-    ]
-}
-
-#[test]
-fn counts_the_fields_of_lines(rt: HostRuntime) -> Result<(), Fail> {
-    for lines in tables() {
-        assert_eq!(rt; miscounted(rt.alloc(), lines)?, None);
-    }
-    Ok(())
-}
-
-// The first of these lines that has a field which takes an escape that there is none of.
-fn lenient<'a>(alloc: Global, lines: &[&'a str]) -> Result<Option<&'a str>, Fail> {
-    for line in lines {
-        for field in 2..=line.split('\t').count() {
-            if taken(alloc, line, field, &["\\q"])?.is_some() {
-                return Ok(Some(line));
-            }
-        }
-    }
-    Ok(None)
-}
-
-#[test]
-fn names_every_bad_field_of_every_line(rt: HostRuntime) -> Result<(), Fail> {
-    for lines in tables() {
-        assert_eq!(rt; lenient(rt.alloc(), lines)?, None);
-    }
-    Ok(())
-}
-
-// The first of these texts that is refused there.
-fn refused<'a>(
-    alloc: Global,
-    line: &str,
-    field: usize,
-    texts: &[&'a str],
-) -> Result<Option<&'a str>, Fail> {
-    for text in texts {
-        let scene = with_field(alloc, line, field, text)?;
-        if !line_of(alloc, scene.as_bytes())?.is_empty() {
-            return Ok(Some(text));
-        }
-    }
-    Ok(None)
-}
-
-#[test]
-fn reads_the_configuration(rt: HostRuntime) -> Result<(), Fail> {
-    let alloc = rt.alloc();
-    for line in ["config\tsuccess\t", "config\tfailure\t"] {
-        let good = ["immediate", "immediate-final", "final", "never"];
-        assert_eq!(rt; refused(alloc, line, 3, &good)?, None);
-        assert_eq!(rt; taken(alloc, line, 3, &["", "-", "Final"])?, None);
-    }
-    let keys = ["nocapture", "verbose", "noindent", "unicode", "empty"];
-    assert_eq!(rt; refused(alloc, "config\t\t1", 2, &keys)?, None);
-    assert_eq!(rt;
-        taken(alloc, "config\t\t1", 2, &["Verbose", "NoCapture"])?,
-        None
-    );
-    for line in [
-        "config\tnocapture\t",
-        "config\tverbose\t",
-        "config\tnoindent\t",
-        "config\tempty\t",
-    ] {
-        assert_eq!(rt; taken(alloc, line, 3, &["", "-", "2", "yes"])?, None);
     }
     Ok(())
 }

@@ -1,6 +1,6 @@
 //! Output that was left unread, and the option that leaves unread what the report does not show.
 
-use super::{BEGINNING, OPTIONS, RUN, SUMMARY, TWO_TESTS, event_of, refused, report_of, taken};
+use super::{BEGINNING, OPTIONS, RUN, SUMMARY, TWO_TESTS, event_of, report_of};
 use run_model::event::TestEventKind;
 use run_model::level::StatusLevel;
 use run_model::output::{ChildExecutionOutputDescription, ChildOutputDescription};
@@ -227,29 +227,5 @@ fn makes_calls_without_skipped_output(rt: HostRuntime) -> Result<(), Fail> {
     assert!(rt; is_loaded(alloc, &OPTIONS, skipped.as_bytes())?);
     assert!(rt; !is_loaded(alloc, &UNLOADING, skipped.as_bytes())?);
     assert!(rt; is_loaded(alloc, &UNLOADING, needed.as_bytes())?);
-    Ok(())
-}
-
-#[test]
-fn reads_the_fields_of_unread_output(rt: HostRuntime) -> Result<(), Fail> {
-    let alloc = rt.alloc();
-    let line = "done\t-\ta\tt1\tnever\tnever\tpass\t-\t1\tpass\t5000000\t0\tunloaded\t-\t-\t-\t-";
-    let good: [(usize, &[&str]); 2] = [
-        (16, &["-", "", "an error\\,its cause"]),
-        (17, &["-", "out:0:hi", "comb:7:\\xff"]),
-    ];
-    for (field, texts) in good {
-        assert_eq!(rt; refused(alloc, line, field, texts)?, None);
-    }
-    let bad: [(usize, &[&str]); 5] = [
-        (13, &["", "-", "Unloaded", "not loaded"]),
-        (14, &["", "--", "x"]),
-        (15, &["", "--", "x"]),
-        (16, &["\\q"]),
-        (17, &["", "out:0"]),
-    ];
-    for (field, texts) in bad {
-        assert_eq!(rt; taken(alloc, line, field, texts)?, None);
-    }
     Ok(())
 }

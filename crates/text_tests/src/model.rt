@@ -1,6 +1,0 @@
-//! Results, outputs, statistics and stress runs.
-
-mod output;
-mod stats;
-mod status;
-mod stress;
