@@ -9,7 +9,7 @@ use Rattle.report_text.specs.PlainTexts.{HoldsIf, IsPlainResult}
 use Rattle.report_text.proofs.lemmas.Tints.{IsTinted, tinted-none, tinted-append}
 use Rattle.unit_report.specs.PlainOutputs.{IsPlainWritten}
 use Rattle.test_text.specs.FinishedTests.{TestFinish, test_finish}
-use Rattle.test_text.specs.Finishes.{display_of, is_final_wanted, row_at_end}
+use Rattle.event_text.specs.Finishes.{display_of, is_final_wanted, row_at_end}
 use Rattle.event_text.specs.declared.instance.CountedInstance.{CountedInstance}
 use Rattle.event_text.specs.declared.settings.Settings.{Settings}
 use Rattle.test_text.specs.declared.status_line.StatusLineKind.TheVariants.{Final}

@@ -36,13 +36,13 @@ use Rattle.store_text.specs.declared.config.StoreConfig.{StoreConfig}
 use Rattle.event_text.specs.AttemptOutputs.{Written}
 use Rattle.event_text.specs.ResultWords.{short_word}
 use Rattle.test_text.specs.FinishedTests.{line_at_once, output_at_once, test_finished_text}
-use Rattle.test_text.specs.Finishes.{display_of, is_final_wanted, row_at_end, row_at_once, row_listed}
+use Rattle.event_text.specs.Finishes.{display_of, is_final_wanted, row_at_end, row_at_once, row_listed}
 use Rattle.event_text.specs.Instances.{padded_instance}
 use Rattle.test_text.specs.RetriedTests.{Attempt, attempt_failed_line, attempt_failed_text, delay_line, failed_output, is_failed_output_shown}
 use Rattle.event_text.specs.Scripts.{Script}
 use Rattle.event_text.specs.Settings.{finished_counter, is_level_shown}
 use Rattle.test_text.specs.StatusLines.{status_line}
-use Rattle.test_text.proofs.lemmas.Finishes.{row_below}
+use Rattle.event_text.proofs.lemmas.Finishes.{row_below}
 use Rattle.event_text.specs.declared.instance.CountedInstance.{CountedInstance}
 use Rattle.event_text.specs.declared.settings.Settings.{Settings}
 use Rattle.test_text.specs.declared.status_line.StatusLineKind.TheVariants.{Final}

@@ -61,7 +61,7 @@ use Rattle.info_text.specs.Starts.{info_finished_text, info_started_text}
 use Rattle.console_reporter.specs.Configuration.{Configuration}
 use Rattle.test_text.specs.FinishedTests.{TestFinish, test_finish, line_at_once, output_at_once, test_finished_text}
 use Rattle.console_reporter.specs.Entries.{hiding_rank, entry_text, final_text}
-use Rattle.test_text.specs.Finishes.{is_line_shown, row_at_once}
+use Rattle.event_text.specs.Finishes.{is_line_shown, row_at_once}
 use Rattle.console_reporter.specs.Outcomes.{IsOfLines}
 use Rattle.console_reporter.specs.Report.{Known, end_of_run_text, event_text, listed_text, script_by, text}
 use Rattle.event_text.specs.Instances.{instance_end, padded_instance, untimed_end}

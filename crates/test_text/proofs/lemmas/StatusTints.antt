@@ -15,7 +15,7 @@ use Rattle.report_text.proofs.lemmas.Tints.{IsTinted, tinted-none, tinted-if, ti
 use Rattle.unit_report.proofs.lemmas.DurationTints.{tinted-bracketed_duration}
 use Rattle.unit_report.specs.PlainOutputs.{IsPlainWritten}
 use Rattle.test_text.specs.FinishedTests.{TestFinish, line_at_once, output_at_once, test_finished_text}
-use Rattle.test_text.specs.Finishes.{is_line_shown}
+use Rattle.event_text.specs.Finishes.{is_line_shown}
 use Rattle.test_text.specs.StatusLines.{flaky_words, status_words, status_prefix, flaky_note, flaky_failure_line, status_line}
 use Rattle.event_text.specs.declared.instance.CountedInstance.{CountedInstance}
 use Rattle.event_text.specs.declared.settings.Settings.{Settings}
