@@ -61,7 +61,7 @@ line_at_once s f = if is_line_shown s f.summary then status_line s.styles Interm
 -- the output of its last attempt, where that is shown at once, whatever the status level
 unfoldable pub output_at_once : Settings → TestFinish → Text
 output_at_once s f =
-    if row_at_once f.row f.display then attempt_output s false f.last.is_slow f.last.result f.last.output else []
+    if row_at_once f.row f.display then attempt_output s false f.last.result f.last.output else []
 
 -- a finished test: its line and its output
 unfoldable pub test_finished_text : Settings → TestFinish → Text

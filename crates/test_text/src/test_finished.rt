@@ -110,7 +110,7 @@ fn write_output_at_once<W: WriteStr>(
 {
     if finished.row.is_shown_at_once(finished.display) {
         let last = finished.describe.last_status();
-        write_test_execute_status(w, settings, false, last.is_slow, &last.result, &last.output)
+        write_test_execute_status(w, settings, false, &last.result, &last.output)
     } else {
         Ok(())
     }

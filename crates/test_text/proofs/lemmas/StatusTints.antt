@@ -64,4 +64,4 @@ pub tinted-test_finished_text : (k : Bool) (s : Settings) (f : TestFinish) → I
 unfolding test_finished_text line_at_once output_at_once is_line_shown
 tinted-test_finished_text k s f h = tinted-append k _ _ _ _
     (tinted-if k _ _ _ _ _ (tinted-status_line k Intermediate f.test f.summary h.test h.summary) (tinted-none k))
-    (tinted-if k _ _ _ _ _ (tinted-unit_output k s unit.Test false f.last.is_slow f.last.result f.last.output h.last h.output) (tinted-none k))
+    (tinted-if k _ _ _ _ _ (tinted-unit_output k s unit.Test false f.last.result f.last.output h.last h.output) (tinted-none k))
