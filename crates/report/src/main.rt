@@ -1,7 +1,7 @@
 //! The program `report`: it reads a scene, which is a run written as text, and prints nextest's console report of it.
 //!
-//! What goes wrong is one line on standard error and the status, and nothing stands on standard output unless the whole
-//! scene was accepted.
+//! With `--store PATH` it writes a record of each finished test to that file. What goes wrong is one line on standard error and the
+//! status, and nothing stands on standard output unless the whole scene was accepted and PATH was made or emptied.
 #![tactic(auto)]
 
 use scenes::fault::Fault;
@@ -41,13 +41,14 @@ fn tell(rt: &HostRuntime, fault: Fault<'_>) -> u8 {
     fault.status()
 }
 
-// Runs the program on its words.
+// Runs the program on its words. The file of the records is made or emptied once the scene is accepted, and before a byte is written.
 fn run<'a>(rt: &HostRuntime, args: &'a [String]) -> Result<(), Fault<'a>> {
     let Some(options) = words(args) else {
         return Err(Fault::Usage);
     };
-    let Ok(file) = File::open(rt, options.file) else {
-        return Err(Fault::CannotRead { file: options.file });
+    let file = match File::open(rt, options.file) {
+        Ok(file) => file,
+        Err(error) => return Err(Fault::CannotRead { file: options.file }.by_kind(error.kind())),
     };
     let alloc = rt.alloc();
     // The memory of the scene and of its calls goes with the process.
@@ -59,8 +60,9 @@ fn run<'a>(rt: &HostRuntime, args: &'a [String]) -> Result<(), Fault<'a>> {
     let Some(store) = options.store else {
         return report_judged(alloc, &judged, io::writer(rt), io::sink()).0;
     };
-    let Ok(records) = File::create(rt, store.file) else {
-        return Err(Fault::CannotWrite { file: store.file });
+    let records = match File::create(rt, store.file) {
+        Ok(records) => records,
+        Err(error) => return Err(Fault::CannotWrite { file: store.file }.by_kind(error.kind())),
     };
     report_judged(alloc, &judged, io::writer(rt), records).0
 }

@@ -4,13 +4,14 @@ use bstr::ByteSlice;
 use console_reporter::imp::ReportCall;
 use run_model::event::TestEvent;
 use run_model::level::StatusLevel;
-use scenes::fault::Fault;
-use scenes::program::{judge, write_report};
-use scenes::words::{Options, words};
+use scenes::fault::{Fault, LineFault, ReadFault};
+use scenes::program::{judge, report_scene, write_report};
+use scenes::words::{Options, StoreOptions, words};
 use std::alloc::Global;
 use std::io;
 use std::io::{ErrorKind, Read, Write};
 use std::test::Fail;
+use store_text::config::StoreConfig;
 
 mod event_lines;
 mod faults;
@@ -18,6 +19,7 @@ mod growths;
 mod info_lines;
 mod replay_lines;
 mod script_lines;
+mod stores;
 mod unload;
 
 const RUN: &str = "run\t00000000-0000-4000-8000-000000000001\tdefault\t2\t1\t-";
@@ -30,11 +32,24 @@ const OPTIONS: Options<'static> = Options {
     is_replay: false,
     unload_skipped: false,
     status_level: StatusLevel::Pass,
+    store: None,
     file: "FILE",
 };
 
 const IN_COLOUR: Options<'static> = Options {
     should_colorize: true,
+    ..OPTIONS
+};
+
+// Records without outputs.
+const STORING: Options<'static> = Options {
+    store: Some(StoreOptions {
+        file: "out",
+        config: StoreConfig {
+            store_success_output: false,
+            store_failure_output: false,
+        },
+    }),
     ..OPTIONS
 };
 
@@ -61,7 +76,7 @@ const SUMMARY: &str = "------------
 fn report_of(alloc: Global, options: &Options<'_>, scene: &[u8]) -> Result<Vec<u8>, Fail> {
     let mut printed = Vec::new(alloc);
     let scene = judge(alloc, options, scene)?;
-    write_report(alloc, options, &scene, &mut printed)?;
+    write_report(alloc, options, &scene, &mut printed, io::sink())?;
     Ok(printed)
 }
 
@@ -186,7 +201,7 @@ fn stops_where_the_device_fails(rt: HostRuntime) -> Result<(), Fail> {
         taken: Vec::new(alloc),
         room: 10,
     };
-    let Err(fault) = write_report(alloc, &OPTIONS, &scene, &mut device) else {
+    let Err(fault) = write_report(alloc, &OPTIONS, &scene, &mut device, io::sink()) else {
         return Err(Fail::from("the device failed"));
     };
     assert_eq!(rt; fault.to_string(alloc)?.as_str(), "report: write failed");
@@ -252,12 +267,13 @@ fn tells_the_fault_of_a_line(rt: HostRuntime) -> Result<(), Fail> {
 struct Failing<'a> {
     text: &'a [u8],
     reads_before: usize,
+    kind: ErrorKind,
 }
 
 impl Read for Failing<'_> {
     fn read(&mut self, buf: &mut [u8]) -> io::Result<usize> {
         if self.reads_before == 0 {
-            return Err(io::Error::from(ErrorKind::Other));
+            return Err(io::Error::from(self.kind));
         }
         self.reads_before -= 1;
         let n = buf.len().min(self.text.len()).min(7);
@@ -269,23 +285,47 @@ impl Read for Failing<'_> {
 }
 
 #[test]
-fn cannot_read_a_failing_file(rt: HostRuntime) -> Result<(), Fail> {
+fn tells_why_a_file_is_not_read(rt: HostRuntime) -> Result<(), Fail> {
+    let alloc = rt.alloc();
     let text = END.as_bytes();
-    for reads_before in 0..12 {
-        let reader = Failing { text, reads_before };
-        match judge(rt.alloc(), &OPTIONS, reader) {
-            Ok(_) => assert!(rt; reads_before > text.len().div_ceil(7)),
-            Err(fault) => {
-                assert_eq!(rt;
-                    fault.to_string(rt.alloc())?.as_str(),
-                    "report: cannot read FILE"
-                );
-                assert_eq!(rt; fault.status(), 2);
-                assert!(rt; reads_before <= text.len().div_ceil(7));
+    let kinds = [
+        (ErrorKind::Other, "report: cannot read FILE", 2),
+        (ErrorKind::OutOfMemory, "report: out of memory", 3),
+    ];
+    for (kind, line, status) in kinds {
+        for reads_before in 0..12 {
+            let reader = Failing {
+                text,
+                reads_before,
+                kind,
+            };
+            let (outcome, printed, stored) =
+                report_scene(alloc, &STORING, reader, Vec::new(alloc), Vec::new(alloc));
+            let is_read = reads_before > text.len().div_ceil(7);
+            assert_eq!(rt; outcome.is_ok(), is_read);
+            if let Err(fault) = outcome {
+                assert_eq!(rt; fault.to_string(alloc)?.as_str(), line);
+                assert_eq!(rt; fault.status(), status);
+                assert!(rt; printed.is_empty() && stored.is_empty());
             }
         }
     }
     Ok(())
+}
+
+// Records in a file, and which outputs they have.
+const fn keeping(
+    file: &'static str,
+    store_success_output: bool,
+    store_failure_output: bool,
+) -> Option<StoreOptions<'static>> {
+    Some(StoreOptions {
+        file,
+        config: StoreConfig {
+            store_success_output,
+            store_failure_output,
+        },
+    })
 }
 
 #[test]
@@ -297,7 +337,7 @@ fn takes_options_in_any_order(rt: HostRuntime) -> Result<(), Fail> {
         status_level: StatusLevel::Skip,
         ..IN_COLOUR
     };
-    let lines: [(&[&str], Options<'static>); 6] = [
+    let lines: [(&[&str], Options<'static>); 10] = [
         (&["FILE"], OPTIONS),
         (&["--color", "FILE"], IN_COLOUR),
         (
@@ -339,6 +379,29 @@ fn takes_options_in_any_order(rt: HostRuntime) -> Result<(), Fail> {
                 ..OPTIONS
             },
         ),
+        (&["--store", "out", "FILE"], STORING),
+        (
+            &["--store", "--color", "--store"],
+            Options {
+                store: keeping("--color", false, false),
+                file: "--store",
+                ..OPTIONS
+            },
+        ),
+        (
+            &["--store-success", "--color", "--store", "", "FILE"],
+            Options {
+                store: keeping("", true, false),
+                ..IN_COLOUR
+            },
+        ),
+        (
+            &["--store", "out", "--store-failure", "--store-success", "FILE"],
+            Options {
+                store: keeping("out", true, true),
+                ..OPTIONS
+            },
+        ),
     ];
     for (texts, options) in lines {
         let args = words_of(rt.alloc(), texts)?;
@@ -349,7 +412,7 @@ fn takes_options_in_any_order(rt: HostRuntime) -> Result<(), Fail> {
 
 #[test]
 fn refuses_other_words(rt: HostRuntime) -> Result<(), Fail> {
-    let lines: [&[&str]; 10] = [
+    let lines: [&[&str]; 19] = [
         &[],
         &["--bogus", "FILE"],
         &["FILE", "--color"],
@@ -360,14 +423,69 @@ fn refuses_other_words(rt: HostRuntime) -> Result<(), Fail> {
         &["--level=pass", "FILE"],
         &["--replay", "--replay", "FILE"],
         &["--unload", "--unload", "FILE"],
+        &["--store", "FILE"],
+        &["--store"],
+        &["--store-success", "FILE"],
+        &["--store-failure", "FILE"],
+        &["--store-failure", "--level", "pass", "--store-success", "FILE"],
+        &["--store", "out", "--store", "out", "FILE"],
+        &["--store", "out", "--store-success", "--store-success", "FILE"],
+        &["--store-failure", "--store", "out", "--store-failure", "FILE"],
+        &["--store=out", "FILE"],
     ];
     for texts in lines {
         let args = words_of(rt.alloc(), texts)?;
         assert!(rt; words(args.as_slice()).is_none());
     }
-    assert_eq!(rt;
-        Fault::Usage.to_string(rt.alloc())?.as_str(),
-        "report: usage: report [--color] [--counter] [--replay] [--unload] [--level L] FILE"
-    );
+    Ok(())
+}
+
+#[test]
+fn tells_each_fault(rt: HostRuntime) -> Result<(), Fail> {
+    let faults = [
+        (
+            Fault::Usage,
+            2,
+            "report: usage: report [--color] [--counter] [--replay] [--unload] [--level L] [--store PATH] [--store-success] [--store-failure] FILE",
+        ),
+        (Fault::CannotRead { file: "a b" }, 2, "report: cannot read a b"),
+        (Fault::CannotWrite { file: "" }, 2, "report: cannot write "),
+        (
+            Fault::Line {
+                line: 18446744073709551615,
+                fault: LineFault::BadField(12),
+            },
+            2,
+            "report: line 18446744073709551615: bad field 12",
+        ),
+        (Fault::WriteFailed, 3, "report: write failed"),
+        (Fault::StoreFailed, 3, "report: store write failed"),
+        (Fault::OutOfMemory, 3, "report: out of memory"),
+    ];
+    for (fault, status, line) in faults {
+        assert_eq!(rt; fault.to_string(rt.alloc())?.as_str(), line);
+        assert_eq!(rt; fault.status(), status);
+    }
+    Ok(())
+}
+
+#[test]
+fn tells_what_is_wrong_with_a_line(rt: HostRuntime) -> Result<(), Fail> {
+    let faults = [
+        (LineFault::NotUtf8, "line 3: not UTF-8"),
+        (LineFault::UnknownEvent, "line 3: unknown event"),
+        (LineFault::ConfigAfterEvent, "line 3: config after an event"),
+        (LineFault::WrongNumberOfFields, "line 3: wrong number of fields"),
+        (LineFault::RetriedSuccess, "line 3: a retried attempt succeeded"),
+        (LineFault::OutputNotLoaded, "line 3: output not loaded"),
+        (LineFault::BadField(0), "line 3: bad field 0"),
+    ];
+    for (fault, line) in faults {
+        let read = ReadFault::Line { line: 3, fault };
+        assert_eq!(rt; read.to_string(rt.alloc())?.as_str(), line);
+        let told = format!(in rt.alloc(); "report: {read}")?;
+        assert_eq!(rt; Fault::from(read).to_string(rt.alloc())?.as_str(), told.as_str());
+    }
+    assert_eq!(rt; ReadFault::OutOfMemory.to_string(rt.alloc())?.as_str(), "out of memory");
     Ok(())
 }

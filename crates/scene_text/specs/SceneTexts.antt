@@ -11,12 +11,12 @@ use Rattle.scene_text.specs.RunLines.{cancel_line, end_line, input_line, pause_l
 use Rattle.scene_text.specs.ScriptLines.{setup_done_line, setup_line, setup_slow_line}
 use Rattle.scene_text.specs.StressLines.{end_stress_line, sub_end_line, sub_start_line}
 use Rattle.scene_text.specs.TestLines.{done_line, retry_line, retry_start_line, skip_line, slow_line, start_line}
-use Rattle.scene_text.specs.declared.fault.Fault.{Fault}
-use Rattle.scene_text.specs.declared.fault.Fault.TheVariants as fault
 use Rattle.scene_text.specs.declared.fault.LineError.{LineError}
 use Rattle.scene_text.specs.declared.fault.LineError.TheVariants as error
 use Rattle.scene_text.specs.declared.fault.LineFault.{LineFault}
 use Rattle.scene_text.specs.declared.fault.LineFault.TheVariants.{NotUtf8, UnknownEvent, ConfigAfterEvent, WrongNumberOfFields}
+use Rattle.scene_text.specs.declared.fault.ReadFault.{ReadFault}
+use Rattle.scene_text.specs.declared.fault.ReadFault.TheVariants as fault
 use Rattle.scene_text.specs.declared.reader.lines.LineKind.{LineKind}
 use Rattle.scene_text.specs.declared.reader.lines.LineKind.TheVariants as line
 use Rattle.scene_text.specs.declared.scene.ToldRun.{ToldRun}
@@ -132,43 +132,22 @@ event_lines n before [] = []
 event_lines n before (t ∷ ts) = lines_from n before (λ after. event_lines (n + 1) after ts) (line_told before t)
 
 -- what was returned is what is told, unless memory was refused
-abbrev pub IsAnswer : Result ToldRun Fault → Result Told (ℕ × LineFault) → Type 0
+abbrev pub IsAnswer : Result ToldRun ReadFault → Result Told (ℕ × LineFault) → Type 0
 IsAnswer (Ok scene) read = read ≡ Ok (told scene)
-IsAnswer (Err fault.Usage) read = ⊥
-IsAnswer (Err (fault.CannotRead file)) read = ⊥
 IsAnswer (Err (fault.Line n f)) read = read ≡ Err (n, f)
-IsAnswer (Err fault.WriteFailed) read = ⊥
-IsAnswer (Err fault.StoreFailed) read = ⊥
-IsAnswer (Err (fault.CannotWrite file)) read = ⊥
 IsAnswer (Err fault.OutOfMemory) read = ⊤
-
--- the same, or the file cannot be read
-abbrev pub IsRead : Result ToldRun Fault → Result Told (ℕ × LineFault) → Type 0
-IsRead (Err (fault.CannotRead file)) read = ⊤
-IsRead (Ok scene) read = read ≡ Ok (told scene)
-IsRead (Err fault.Usage) read = ⊥
-IsRead (Err (fault.Line n f)) read = read ≡ Err (n, f)
-IsRead (Err fault.WriteFailed) read = ⊥
-IsRead (Err fault.StoreFailed) read = ⊥
-IsRead (Err (fault.CannotWrite file)) read = ⊥
-IsRead (Err fault.OutOfMemory) read = ⊤
 
 abbrev pub IsLineAnswer : Result (Unit {0}) LineError → Told → Result Told LineFault → Type 0
 IsLineAnswer (Ok done) after read = read ≡ Ok after
 IsLineAnswer (Err e) after read = Fails e read
 
-abbrev pub fault_at : ℕ → LineError → Fault
+abbrev pub fault_at : ℕ → LineError → ReadFault
 fault_at n error.OutOfMemory = fault.OutOfMemory
 fault_at n (error.Fault f) = fault.Line n f
 
 -- a line of this number has the fault, unless memory was refused
-abbrev pub IsFaultHere : ℕ → Result Told LineFault → Fault → Type 0
-IsFaultHere n told fault.Usage = ⊥
-IsFaultHere n told (fault.CannotRead file) = ⊥
+abbrev pub IsFaultHere : ℕ → Result Told LineFault → ReadFault → Type 0
 IsFaultHere n told (fault.Line m f) = (m ≡ n) × (told ≡ Err f)
-IsFaultHere n told fault.WriteFailed = ⊥
-IsFaultHere n told fault.StoreFailed = ⊥
-IsFaultHere n told (fault.CannotWrite file) = ⊥
 IsFaultHere n told fault.OutOfMemory = ⊤
 
 -- each line tells, one after the other
@@ -188,21 +167,6 @@ pub record IsFirstFault (lines : List (List ℕ)) (number : ℕ) (f : LineFault)
   pub wrong : line_told before line ≡ Err f
 
 -- the fault is the first one of the text, or memory was refused
-abbrev pub IsFaultOf : List ℕ → Fault → Type 0
-IsFaultOf text fault.Usage = ⊥
-IsFaultOf text (fault.CannotRead file) = ⊥
+abbrev pub IsFaultOf : List ℕ → ReadFault → Type 0
 IsFaultOf text (fault.Line n f) = IsFirstFault (parted 10 text) n f
-IsFaultOf text fault.WriteFailed = ⊥
-IsFaultOf text fault.StoreFailed = ⊥
-IsFaultOf text (fault.CannotWrite file) = ⊥
 IsFaultOf text fault.OutOfMemory = ⊤
-
--- the same, or the file cannot be read
-abbrev pub IsReadFault : List ℕ → Fault → Type 0
-IsReadFault text fault.Usage = ⊥
-IsReadFault text (fault.CannotRead file) = ⊤
-IsReadFault text (fault.Line n f) = IsFirstFault (parted 10 text) n f
-IsReadFault text fault.WriteFailed = ⊥
-IsReadFault text fault.StoreFailed = ⊥
-IsReadFault text (fault.CannotWrite file) = ⊥
-IsReadFault text fault.OutOfMemory = ⊤

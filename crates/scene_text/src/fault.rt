@@ -1,11 +1,11 @@
-//! What can go wrong, the line that says so, and the status that the program then ends with.
+//! What can be wrong with a line of a scene, and why a scene could not be read.
 
 ghost use Rattle.std.specs.Prelude.{◌≡◌, Some};
-ghost use Rattle.scene_text.specs.declared.fault.Fault.TheVariants.{OutOfMemory};
-ghost use Rattle.scene_text.specs.Faults.{fault_text, line_fault_text, status_of};
+ghost use Rattle.scene_text.specs.declared.fault.ReadFault.TheVariants.{OutOfMemory};
+ghost use Rattle.scene_text.specs.Faults.{line_fault_text, read_fault_text};
 
 use run_model::memory::OutOfMemory;
-use std::alloc::{AllocError, AllocFailed};
+use std::alloc::AllocFailed;
 use std::error::Error;
 use std::fmt;
 use std::fmt::Formatter;
@@ -47,25 +47,13 @@ impl fmt::Display for LineFault {
 
 impl Error for LineFault {}
 
-/// What can go wrong. It is shown as the line that the program prints on standard error.
+/// Why a scene could not be read.
 ///
 /// ```
-/// Fault::Line { line: 2, fault: LineFault::UnknownEvent } // report: line 2: unknown event
+/// ReadFault::Line { line: 2, fault: LineFault::UnknownEvent } // line 2: unknown event
 /// ```
-#[derive(Clone, Copy, Debug)]
-pub enum Fault<'a> {
-    /// The command line is not used rightly.
-    Usage,
-    /// The file cannot be read.
-    CannotRead {
-        /// The file, as the command line names it.
-        file: &'a str,
-    },
-    /// The file of the records cannot be made or emptied.
-    CannotWrite {
-        /// The file, as the command line names it.
-        file: &'a str,
-    },
+#[derive(Clone, Copy, Debug, PartialEq, Eq)]
+pub enum ReadFault {
     /// A line of the scene is wrong.
     Line {
         /// Which one, from 1.
@@ -73,70 +61,28 @@ pub enum Fault<'a> {
         /// What is wrong with it.
         fault: LineFault,
     },
-    /// Standard output took only a beginning of the report.
-    WriteFailed,
-    /// The file of the records took only a beginning of them.
-    StoreFailed,
     /// A growth of memory was refused.
     OutOfMemory,
 }
 
-impl Fault<'_> {
-    /// The status that the program ends with.
-    pub fn status(&self) -> u8
-        ensures { result ≡ status_of self.now }
-    {
-        match self {
-            Fault::Usage
-            | Fault::CannotRead { .. }
-            | Fault::CannotWrite { .. }
-            | Fault::Line { .. } => 2,
-            Fault::WriteFailed | Fault::StoreFailed | Fault::OutOfMemory => 3,
-        }
-    }
-}
-
-impl fmt::Display for Fault<'_> {
-    ghost output = { λ fault. Some (fault_text fault) };
+impl fmt::Display for ReadFault {
+    ghost output = { λ fault. Some (read_fault_text fault) };
 
     fn fmt<W: fmt::Write>(&self, f: &mut Formatter<W>) -> fmt::Result {
         match self {
-            Fault::Usage => f.write_str(
-                "report: usage: report [--color] [--counter] [--replay] [--unload] [--level L] [--store PATH] [--store-success] [--store-failure] FILE",
-            ),
-            Fault::CannotRead { file } => write!(f, "report: cannot read {file}"),
-            Fault::CannotWrite { file } => write!(f, "report: cannot write {file}"),
-            Fault::Line { line, fault } => write!(f, "report: line {line}: {fault}"),
-            Fault::WriteFailed => f.write_str("report: write failed"),
-            Fault::StoreFailed => f.write_str("report: store write failed"),
-            Fault::OutOfMemory => f.write_str("report: out of memory"),
+            ReadFault::Line { line, fault } => write!(f, "line {line}: {fault}"),
+            ReadFault::OutOfMemory => f.write_str("out of memory"),
         }
     }
 }
 
-impl Error for Fault<'_> {}
+impl Error for ReadFault {}
 
-impl From<OutOfMemory> for Fault<'_> {
+impl<T: Drop> From<AllocFailed<T>> for ReadFault {
     ghost from_gives = { λ _ fault. fault ≡ OutOfMemory };
 
-    fn from(_refused: OutOfMemory) -> Self {
-        Fault::OutOfMemory
-    }
-}
-
-impl From<AllocError> for Fault<'_> {
-    ghost from_gives = { λ _ fault. fault ≡ OutOfMemory };
-
-    fn from(_refused: AllocError) -> Self {
-        Fault::OutOfMemory
-    }
-}
-
-impl<T: Drop> From<AllocFailed<T>> for Fault<'_> {
-    ghost from_gives = { λ _ fault. fault ≡ OutOfMemory };
-
-    fn from(_refused: AllocFailed<T>) -> Self {
-        Fault::OutOfMemory
+    fn from(_refused: AllocFailed<T>) -> ReadFault {
+        ReadFault::OutOfMemory
     }
 }
 

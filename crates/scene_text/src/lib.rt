@@ -1,7 +1,7 @@
 //! What the text of a scene tells: a run written as text, one event a line.
 //!
 //! `reader` reads a scene's lines, `scene` holds what they tell, with the calls of a reporter that its events are, and `fault` is
-//! what can go wrong with a line or on the way to the report. No text of a report is known here.
+//! why they cannot be read. No text of a report is known here.
 #![tactic(auto)]
 
 pub mod fault;

@@ -32,7 +32,7 @@ mod test_lines;
 mod texts;
 mod values;
 
-use crate::fault::{Fault, LineError, LineFault};
+use crate::fault::{LineError, LineFault, ReadFault};
 use crate::scene::event::SceneEvent;
 use crate::scene::{SceneConfig, ToldRun};
 use fields::{Fields, split_fields};
@@ -52,7 +52,7 @@ use test_lines::{read_done, read_retry, read_retry_start, read_skip, read_slow, 
 /// ```
 /// read_scene(alloc, b"# a run of no test\nconfig\tfinal\tall\n")
 /// ```
-pub fn read_scene(alloc: Global, text: &[u8]) -> Result<ToldRun, Fault<'static>>
+pub fn read_scene(alloc: Global, text: &[u8]) -> Result<ToldRun, ReadFault>
     // Each line tells, one after the other, and all of them tell the scene.
     ensures scene { IfOk result (λ scene. AllTell nothing_told (parted 10 text.now) (told scene)) }
     // The lines before the fault's tell, and that line has the fault.
@@ -66,7 +66,7 @@ pub fn read_scene(alloc: Global, text: &[u8]) -> Result<ToldRun, Fault<'static>>
 }
 
 // Reads a scene line by line.
-fn read_lines(alloc: Global, text: &[u8]) -> Result<ToldRun, Fault<'static>>
+fn read_lines(alloc: Global, text: &[u8]) -> Result<ToldRun, ReadFault>
     ensures answer { IsAnswer result (text_told text.now) }
     ensures lines { IfOk result (λ scene. scene.lines.items ≡ event_lines 1 nothing_told (parted 10 text.now)) }
 {
@@ -101,7 +101,7 @@ fn read_numbered<'a>(
     fields: &mut Vec<&'a str>,
     scene: &mut ToldRun,
     lines: &mut Vec<u64>,
-) -> Result<(), Fault<'static>>
+) -> Result<(), ReadFault>
     ensures ok { OnOk result (line_told (told scene.old) line.now ≡ Ok (told scene.new)) }
     ensures lines { OnOk result (lines.new.items ≡ lines.old.items ++ line_here number (told scene.old) (told scene.new)) }
     ensures err { IfErr result (IsFaultHere number (line_told (told scene.old) line.now)) }
@@ -118,12 +118,12 @@ fn read_numbered<'a>(
 }
 
 // The fault of a scene whose line of this number cannot be read.
-fn fault_at(line: u64, error: LineError) -> Fault<'static>
+fn fault_at(line: u64, error: LineError) -> ReadFault
     ensures { result ≡ fault_at line error }
 {
     match error {
-        LineError::Fault(fault) => Fault::Line { line, fault },
-        LineError::OutOfMemory => Fault::OutOfMemory,
+        LineError::Fault(fault) => ReadFault::Line { line, fault },
+        LineError::OutOfMemory => ReadFault::OutOfMemory,
     }
 }
 

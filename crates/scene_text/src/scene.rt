@@ -1,6 +1,6 @@
 //! A run as the lines of a scene tell it, with names of its own, and the calls that its events are.
 
-ghost use Rattle.std.specs.Prelude.{◌≡◌, IfOk, IfErr};
+ghost use Rattle.std.specs.Prelude.{◌≡◌, IfOk};
 ghost use Rattle.std.specs.List.{AllZip};
 ghost use Rattle.scene_text.specs.Scenes.{IsCallOf};
 
@@ -14,11 +14,11 @@ pub mod states;
 pub mod stress_events;
 pub mod test_events;
 
-use crate::fault::Fault;
 use event::SceneEvent;
 use run_model::call::ReportCall;
 use run_model::config::{NextestRunMode, TestOutputDisplay};
 use run_model::level::FinalStatusLevel;
+use run_model::memory::OutOfMemory;
 use std::alloc::Global;
 
 /// What the lines of a scene tell: how the run is reported, and its events in order.
@@ -83,9 +83,8 @@ impl SceneConfig {
 pub fn whole_calls<'a>(
     alloc: Global,
     events: &'a [SceneEvent],
-) -> Result<Vec<ReportCall<'a>>, Fault<'static>>
+) -> Result<Vec<ReportCall<'a>>, OutOfMemory>
     ensures calls { IfOk result (λ calls. AllZip IsCallOf events.now calls.items) }
-    ensures err { IfErr result (λ fault. fault ≡ Fault.OutOfMemory) }
 {
     let mut calls = Vec::with_capacity(alloc, events.len())?;
     for event in events {

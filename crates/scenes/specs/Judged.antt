@@ -7,14 +7,14 @@ use Rattle.run_model.specs.declared.call.ReportCall.TheVariants.{Event, Header, 
 use Rattle.console_reporter.specs.declared.imp.faults.WriteEventError.{WriteEventError}
 use Rattle.console_reporter.specs.declared.imp.faults.WriteEventError.TheVariants.{RetriedSuccess, OutputNotLoaded, Io, Memory, Failed, StoreIo}
 use Rattle.scenes.specs.Reports.{AreCallsOf}
-use Rattle.scene_text.specs.SceneTexts.{IsReadFault, event_lines, nothing_told, text_told}
+use Rattle.scene_text.specs.SceneTexts.{event_lines, nothing_told, text_told}
 use Rattle.scene_text.specs.Split.{parted}
 use Rattle.scenes.specs.Unloads.{AreReadyCallsOf, decider_for}
-use Rattle.scene_text.specs.declared.fault.Fault.{Fault}
-use Rattle.scene_text.specs.declared.fault.Fault.TheVariants as fault
+use Rattle.scenes.specs.declared.fault.Fault.{Fault}
+use Rattle.scenes.specs.declared.fault.Fault.TheVariants as fault
 use Rattle.scene_text.specs.declared.fault.LineFault.{LineFault}
 use Rattle.scene_text.specs.declared.fault.LineFault.TheVariants as line
-use Rattle.scenes.specs.ToldScenes.{IsSceneRead, scene_told}
+use Rattle.scenes.specs.ToldScenes.{IsReadFault, IsSceneRead, scene_told}
 use Rattle.scenes.specs.declared.scene.Scene.{Scene}
 use Rattle.scenes.specs.declared.words.Options.{Options}
 

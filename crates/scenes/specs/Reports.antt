@@ -21,8 +21,8 @@ use Rattle.run_model.specs.declared.call.ReportCall.{ReportCall}
 use Rattle.console_reporter.specs.declared.imp.faults.WriteEventError.{WriteEventError}
 use Rattle.console_reporter.specs.declared.imp.faults.WriteEventError.TheVariants.{RetriedSuccess, OutputNotLoaded, Io, Memory, Failed, StoreIo}
 use Rattle.scene_text.specs.Scenes.{IsCallOf}
-use Rattle.scene_text.specs.declared.fault.Fault.{Fault}
-use Rattle.scene_text.specs.declared.fault.Fault.TheVariants.{Usage, CannotRead, CannotWrite, Line, WriteFailed, StoreFailed, OutOfMemory}
+use Rattle.scenes.specs.declared.fault.Fault.{Fault}
+use Rattle.scenes.specs.declared.fault.Fault.TheVariants.{Usage, CannotRead, CannotWrite, Line, WriteFailed, StoreFailed, OutOfMemory}
 use Rattle.scenes.specs.declared.scene.Scene.{Scene}
 use Rattle.scenes.specs.declared.words.Options.{Options}
 

@@ -3,13 +3,13 @@ use Rattle.std.specs.Prelude.{◌≡◌, ℕ, List, Option, None, Ok, Err}
 use Rattle.std.specs.Io.KnownBytes.{Appends}
 use Rattle.console_reporter.specs.Accepted.{first_refused}
 use Rattle.run_model.specs.declared.call.ReportCall.{ReportCall}
-use Rattle.scene_text.specs.Faults.{IsJudgeFault}
+use Rattle.scenes.specs.Faults.{IsJudgeFault}
 use Rattle.scenes.specs.Judged.{IsJudged}
 use Rattle.scenes.specs.Reports.{AreCallsOf, Begins, IsStop, report_of, stored_of}
 use Rattle.scenes.specs.ToldScenes.{scene_told}
 use Rattle.scene_text.specs.SceneTexts.{text_told, told}
 use Rattle.scenes.specs.Unloads.{decider_for}
-use Rattle.scene_text.specs.declared.fault.Fault.{Fault}
+use Rattle.scenes.specs.declared.fault.Fault.{Fault}
 use Rattle.scenes.specs.declared.scene.Scene.{Scene}
 use Rattle.scenes.specs.declared.words.Options.{Options}
 

@@ -6,9 +6,8 @@
 //! the line of a fault.
 #![tactic(auto)]
 
+pub mod fault;
 pub mod program;
 pub mod reporter;
 pub mod scene;
 pub mod words;
-
-pub use scene_text::fault;

@@ -5,16 +5,16 @@
 
 ghost use Rattle.std.specs.Prelude.{◌≡◌, ◌⊎◌, ℕ, List, None, Some, IfOk, IfErr, OnErr, OnOk};
 ghost use Rattle.std.specs.Io.KnownBytes.{Appends};
-ghost use Rattle.scene_text.specs.declared.fault.Fault.{Fault};
+ghost use Rattle.scenes.specs.declared.fault.Fault.{Fault};
 ghost use Rattle.scene_text.specs.Split.{parted};
-ghost use Rattle.scene_text.specs.Faults.{IsJudgeFault, status_of};
+ghost use Rattle.scenes.specs.Faults.{IsJudgeFault};
 ghost use Rattle.console_reporter.specs.Accepted.{first_refused, is_retried_success};
 ghost use Rattle.scenes.specs.Judged.{IsJudged, IsJudgedFault, IsSceneAccepted, IsSceneRefused, fault_if_refused};
 ghost use Rattle.scenes.specs.Reports.{Begins, IsStop, StopsStore, StopsText, fault_for, report_of, store_for, stored_of};
-ghost use Rattle.scene_text.specs.SceneTexts.{AllTell, IsReadFault, event_lines, nothing_told, text_told};
+ghost use Rattle.scene_text.specs.SceneTexts.{AllTell, event_lines, nothing_told, text_told};
 ghost use Rattle.scenes.specs.SpelledRuns.{BeginsReport, BeginsRun, IsRejected, PrintsReport, PrintsRun};
 ghost use Rattle.scenes.specs.Unloads.{AreReadyCallsOf, decider_for};
-ghost use Rattle.scenes.specs.ToldScenes.{IsSceneRead, scene_told};
+ghost use Rattle.scenes.specs.ToldScenes.{IsReadFault, IsSceneRead, scene_told};
 
 use crate::fault::{Fault, LineFault};
 use crate::reporter::{builder_of, decider_of};
@@ -27,7 +27,7 @@ use console_reporter::write_str::{TextBuffer, WriteStr};
 use run_model::event::TestEventKind;
 use scene_text::reader::read_scene;
 use std::alloc::{AllocError, Global};
-use std::io::{ErrorKind, Read, Write};
+use std::io::{Read, Write};
 use std::marker::Model;
 use std::mem::ManuallyDrop;
 use store_text::config::StoreConfig;
@@ -88,11 +88,8 @@ pub fn read_whole<'a, R: Read + Drop>(
 {
     let mut reader = reader;
     let mut text = Vec::new(alloc);
-    if let Err(e) = reader.read_to_end(&mut text) {
-        return Err(match e.kind() {
-            ErrorKind::OutOfMemory => Fault::OutOfMemory,
-            _ => Fault::CannotRead { file: options.file },
-        });
+    if let Err(error) = reader.read_to_end(&mut text) {
+        return Err(Fault::CannotRead { file: options.file }.by_kind(error.kind()));
     }
     match read_scene(alloc, text.as_slice()) {
         Ok(run) => Ok(Scene {
@@ -100,7 +97,7 @@ pub fn read_whole<'a, R: Read + Drop>(
             events: run.events,
             lines: run.lines,
         }),
-        Err(fault) => Err(fault),
+        Err(fault) => Err(Fault::from(fault)),
     }
 }
 

@@ -5,7 +5,7 @@ ghost use Rattle.console_reporter.specs.Accepted.{decider_of};
 ghost use Rattle.console_reporter.specs.Configuration.{configured, configured_with_store};
 ghost use Rattle.scenes.specs.Reports.{builder_for, kind_for, progress_for};
 ghost use Rattle.scenes.specs.Unloads.{decider_for};
-ghost use Rattle.scene_text.specs.declared.fault.Fault.{Fault};
+ghost use Rattle.scenes.specs.declared.fault.Fault.{Fault};
 
 use crate::fault::Fault;
 use crate::scene::{Scene, SceneConfig};

@@ -3,7 +3,8 @@
 //! Options stand before the file, which is the last word whatever it looks like.
 
 ghost use Rattle.std.specs.Prelude.{◌≡◌};
-ghost use Rattle.scenes.specs.Words.{options_of, asked, asked_for, asked_of, texts, with_flag, with_level, level_of};
+ghost use Rattle.std.specs.Option.{option_map};
+ghost use Rattle.scenes.specs.Words.{options_after, options_of, asked, asked_of, said, texts, with_flag, with_level, with_store, level_of};
 
 use run_model::level::StatusLevel;
 use store_text::config::StoreConfig;
@@ -37,48 +38,53 @@ pub struct StoreOptions<'a> {
 }
 
 /// Reads the words that follow the program's name, and answers None where they are used wrongly: without a file, with an
-/// option that the program does not know or that is there twice, or with no status level after `--level`, which is
-/// `pass` where that option is left out.
+/// option that the program does not know or that is there twice, with no status level after `--level`, which is
+/// `pass` where that option is left out, or with an output to keep and no `--store`.
 ///
 /// ```
-/// words(&["--level", "fail", "first.scene"]) // plain, no counter, status level Fail
-/// words(&["--level", "fail"]) // None, since `fail` is the file
+/// words(&["--level", "fail", "first.scene"]) // plain, no counter, status level Fail, no records
+/// words(&["--level", "fail"]) // None, since the file is missing
+/// words(&["--store", "out", "--store-failure", "first.scene"]) // records go to `out`, with what failed tests wrote
+/// words(&["--store-failure", "first.scene"]) // None, since there are no records
 /// ```
 pub fn words(words: &[String]) -> Option<Options<'_>>
     ensures { asked result ≡ options_of (texts words.now) }
 {
-    let mut given = Given::default();
-    let mut rest = words;
-    loop {
-        match rest {
-            [] => return None,
-            [file] => return Some(given.options(file.as_str())),
-            [option, level, after @ ..] if option.as_str() == "--level" => {
-                given = given.with_level(level.as_str())?;
-                rest = after;
-            }
-            [flag, after @ ..] => {
-                given = given.with_flag(flag.as_str())?;
-                rest = after;
-            }
-        }
-    }
+    Given::default().followed_by(words)
 }
 
 // The options that were read so far.
 #[derive(Clone, Copy, Debug, Default)]
-struct Given {
+struct Given<'a> {
     color: bool,
     counter: bool,
     replay: bool,
     unload: bool,
     level: Option<StatusLevel>,
+    store: Option<&'a str>,
+    store_success: bool,
+    store_failure: bool,
 }
 
-impl Given {
+impl<'a> Given<'a> {
+    // What they ask for with these words after them. No option stands twice, so few calls nest.
+    fn followed_by(self, words: &'a [String]) -> Option<Options<'a>>
+        ensures { asked result ≡ options_after (said self.entry) (texts words.now) }
+    {
+        match words {
+            [] => None,
+            [file] => self.options(file.as_str()),
+            [option, word, after @ ..] => match option.as_str() {
+                "--level" => self.with_level(word.as_str())?.followed_by(after),
+                "--store" => self.with_store(word.as_str())?.followed_by(after),
+                flag => self.with_flag(flag)?.followed_by(&words[1..]),
+            },
+        }
+    }
+
     // These options and a flag, which is an option of one word. It is None where the flag is unknown or was there before.
-    fn with_flag(self, flag: &str) -> Option<Given>
-        ensures { result ≡ with_flag self flag.now }
+    fn with_flag(self, flag: &str) -> Option<Given<'a>>
+        ensures { option_map said result ≡ with_flag (said self.entry) flag.now }
     {
         match flag {
             "--color" if !self.color => Some(Given {
@@ -97,13 +103,21 @@ impl Given {
                 unload: true,
                 ..self
             }),
+            "--store-success" if !self.store_success => Some(Given {
+                store_success: true,
+                ..self
+            }),
+            "--store-failure" if !self.store_failure => Some(Given {
+                store_failure: true,
+                ..self
+            }),
             _ => None,
         }
     }
 
     // These options and the word of a status level. It is None where that is none, or a level was there before.
-    fn with_level(self, word: &str) -> Option<Given>
-        ensures { result ≡ with_level self word.now }
+    fn with_level(self, word: &str) -> Option<Given<'a>>
+        ensures { option_map said result ≡ with_level (said self.entry) word.now }
     {
         if self.level.is_some() {
             return None;
@@ -115,19 +129,43 @@ impl Given {
         })
     }
 
-    // What they ask for of a file.
-    fn options(self, file: &str) -> Options<'_>
-        ensures { asked_for result ≡ asked_of self file.now }
+    // These options and where records go. It is None where that was said before.
+    fn with_store(self, path: &'a str) -> Option<Given<'a>>
+        ensures { option_map said result ≡ with_store (said self.entry) path.now }
     {
-        Options {
+        match self.store {
+            Some(_) => None,
+            None => Some(Given {
+                store: Some(path),
+                ..self
+            }),
+        }
+    }
+
+    // What they ask for of a file. It is None where outputs are to be kept, and no records.
+    fn options(self, file: &'a str) -> Option<Options<'a>>
+        ensures { asked result ≡ asked_of (said self.entry) file.now }
+    {
+        let store = match self.store {
+            Some(path) => Some(StoreOptions {
+                file: path,
+                config: StoreConfig {
+                    store_success_output: self.store_success,
+                    store_failure_output: self.store_failure,
+                },
+            }),
+            None if self.store_success || self.store_failure => return None,
+            None => None,
+        };
+        Some(Options {
             should_colorize: self.color,
             show_counter: self.counter,
             is_replay: self.replay,
             unload_skipped: self.unload,
             status_level: self.level.unwrap_or(StatusLevel::Pass),
-            store: None,
+            store,
             file,
-        }
+        })
     }
 }
 

@@ -2,6 +2,7 @@
 
 use super::{OPTIONS, line_of};
 use scenes::program::{judge, report_scene};
+use std::io;
 use std::test::Fail;
 
 const START: &str = "start\t-\ta\tt1\t-\tcargo\\,nextest";
@@ -34,7 +35,8 @@ fn refuses_a_retried_success(rt: HostRuntime) -> Result<(), Fail> {
         };
         assert_eq!(rt; judged.to_string(alloc)?.as_str(), told.as_str());
         assert_eq!(rt; judged.status(), 2);
-        let (outcome, printed) = report_scene(alloc, &OPTIONS, scene.as_bytes(), Vec::new(alloc));
+        let (outcome, printed, _) =
+            report_scene(alloc, &OPTIONS, scene.as_bytes(), Vec::new(alloc), io::sink());
         let Err(fault) = outcome else {
             return Err(Fail::from("the scene is refused"));
         };

@@ -44,7 +44,7 @@ pub const OF_ASKED: &str = "
 
 /// How a device fails.
 #[derive(Clone, Copy, PartialEq, Eq)]
-enum Failure {
+pub enum Failure {
     /// Its call answers an error.
     Error,
     /// A write takes no byte.
@@ -53,19 +53,25 @@ enum Failure {
 
 /// A device that takes at most seven bytes a call, and fails from a call of its on.
 #[derive(Drop)]
-struct FailingDevice {
+pub struct FailingDevice {
     taken: Vec<u8>,
     calls_left: usize,
     failure: Failure,
 }
 
 impl FailingDevice {
-    fn new(alloc: Global, calls: usize, failure: Failure) -> FailingDevice {
+    /// One that takes nothing before, and works for so many calls.
+    pub fn new(alloc: Global, calls: usize, failure: Failure) -> FailingDevice {
         FailingDevice {
             taken: Vec::new(alloc),
             calls_left: calls,
             failure,
         }
+    }
+
+    /// What it took.
+    pub fn taken(&self) -> &[u8] {
+        self.taken.as_slice()
     }
 
     // Whether the device still works at this call.
@@ -119,8 +125,8 @@ pub fn run_to<'a, W: WriteStr>(
     Ok(run_report(alloc, builder, writer, false, false, false, false, calls))
 }
 
-// Where the report of so many calls ends, for each number of them.
-fn ends_of<'a>(
+/// Where the report of so many calls ends, for each number of them.
+pub fn ends_of<'a>(
     alloc: Global,
     scene: &Scene,
     calls: &'a [ReportCall<'a>],
@@ -218,8 +224,8 @@ fn stands_at(ends: &[usize], position: usize, taken: usize) -> bool {
     }
 }
 
-// How often a device is written to that takes seven bytes at once, where each text is delivered by itself.
-fn count_writes(ends: &[usize]) -> usize {
+/// How often a device is written to that takes seven bytes at once, where each text is delivered by itself.
+pub fn count_writes(ends: &[usize]) -> usize {
     let mut writes = 0;
     for pair in ends.windows(2) {
         if let [start, end] = pair {

@@ -4,11 +4,11 @@
 use super::event_lines::RETRY;
 use super::faults::{ASKED, CANCELLED, OF_ASKED, OF_CANCELLED, run_to};
 use super::script_lines::SETUP_DONE;
-use super::{OPTIONS, TWO_TESTS};
+use super::{OPTIONS, STORING, TWO_TESTS};
 use console_reporter::imp::{ReportCall, RunFault, WriteEventError};
 use plain_text::write_str::TextBuffer;
 use scenes::fault::Fault;
-use scenes::program::{judge, write_report};
+use scenes::program::{judge, report_scene, write_report};
 use std::io;
 use std::io::{ErrorKind, Write};
 use std::test::Fail;
@@ -28,6 +28,13 @@ const REPORTS: [(&str, &str); 3] = [
     (TWO_TESTS, OF_TWO_TESTS),
     (CANCELLED, OF_CANCELLED),
     (ASKED, OF_ASKED),
+];
+
+// What is stored of them without outputs.
+const RECORDS: [&str; 3] = [
+    "5:alpha,2:t1,4:PASS,0:,\n5:alpha,7:mod::t2,4:FAIL,0:,\n",
+    "1:a,2:t1,4:FAIL,0:,\n",
+    "",
 ];
 
 /// A device that takes no memory: it holds what it took.
@@ -133,9 +140,36 @@ fn a_scene_from_its_text_to_its_report(rt: HostRuntime) -> Result<(), Fail> {
                 return Err(Fail::from("memory was refused"));
             }
         };
-        let outcome = write_report(alloc, &OPTIONS, &scene, FixedDevice::new());
+        let outcome = write_report(alloc, &OPTIONS, &scene, FixedDevice::new(), io::sink());
         if let Err(fault) = &outcome {
             assert!(rt; is_out_of_memory(fault));
+        }
+        outcome?;
+    }
+    Ok(())
+}
+
+#[test]
+fn a_scene_from_its_text_to_its_records(rt: HostRuntime) -> Result<(), Fail> {
+    let alloc = rt.alloc();
+    for ((text, whole), records) in REPORTS.into_iter().zip(RECORDS) {
+        let (outcome, device, store) = report_scene(
+            alloc,
+            &STORING,
+            text.as_bytes(),
+            FixedDevice::new(),
+            FixedDevice::new(),
+        );
+        match &outcome {
+            Ok(()) => {
+                assert_eq!(rt; device.taken(), whole.as_bytes());
+                assert_eq!(rt; store.taken(), records.as_bytes());
+            }
+            Err(fault) => {
+                assert!(rt; is_out_of_memory(fault));
+                assert!(rt; whole.as_bytes().starts_with(device.taken()));
+                assert!(rt; records.as_bytes().starts_with(store.taken()));
+            }
         }
         outcome?;
     }

@@ -7,6 +7,7 @@ use run_model::output::{ChildExecutionOutputDescription, ChildOutputDescription}
 use scenes::program::{judge, report_scene};
 use scenes::words::Options;
 use std::alloc::Global;
+use std::io;
 use std::test::Fail;
 
 const UNLOADING: Options<'static> = Options {
@@ -45,7 +46,8 @@ const AFTER_AN_INTERRUPT: &str = "cancel\t0\t0\tinterrupt\n";
 
 // The line that the program prints of a scene, and no byte of a report; both empty where the scene is accepted.
 fn fault_of(alloc: Global, options: &Options<'_>, scene: &[u8]) -> Result<String, Fail> {
-    let (outcome, printed) = report_scene(alloc, options, scene, Vec::new(alloc));
+    let (outcome, printed, _) =
+        report_scene(alloc, options, scene, Vec::new(alloc), io::sink());
     match outcome {
         Ok(()) => Ok(String::new(alloc)),
         Err(fault) if printed.is_empty() && fault.status() == 2 => Ok(fault.to_string(alloc)?),

@@ -2,9 +2,9 @@
 use Rattle.std.proofs.Common.{◌≡◌, ℕ, ◌+◌, List, [], ◌∷◌, ◌++◌, Result, Ok, Err, IfOk, IfErr, length, refl, sym, ap, ◌∙◌, arith, inl, inr, ◌⊎◌}
 use Rattle.scene_text.specs.Split.{parted}
 use Rattle.scene_text.specs.SceneTexts.{Told, told, nothing_told, line_told, lines_told, text_told, AllTell, IsFaultOf, IsAnswer}
-use Rattle.scene_text.specs.declared.fault.Fault.{Fault}
-use Rattle.scene_text.specs.declared.fault.Fault.TheVariants as fault
 use Rattle.scene_text.specs.declared.fault.LineFault.{LineFault}
+use Rattle.scene_text.specs.declared.fault.ReadFault.{ReadFault}
+use Rattle.scene_text.specs.declared.fault.ReadFault.TheVariants as fault
 use Rattle.scene_text.specs.declared.scene.ToldRun.{ToldRun}
 
 -- either a line tells, or it is wrong
@@ -68,17 +68,12 @@ first_fault first before (t ∷ ts) n f h = elim (line_cases (line_told before t
       record { front = []; line = t; rest = ts; whole = refl; place = omega (arith, s.0); last = before; told_so_far = refl; wrong = x.1 ∙ ap (λ g. Err g) s.1 }
 ]
 
-pub tells_scene : (r : Result ToldRun Fault) (text : List ℕ) → IsAnswer r (text_told text) → IfOk r (λ scene. AllTell nothing_told (parted 10 text) (told scene))
+pub tells_scene : (r : Result ToldRun ReadFault) (text : List ℕ) → IsAnswer r (text_told text) → IfOk r (λ scene. AllTell nothing_told (parted 10 text) (told scene))
 tells_scene (Ok scene) text h = all_tell 1 nothing_told (parted 10 text) (told scene) h
 tells_scene (Err e) text h = tt
 
-pub tells_fault : (r : Result ToldRun Fault) (text : List ℕ) → IsAnswer r (text_told text) → IfErr r (IsFaultOf text)
+pub tells_fault : (r : Result ToldRun ReadFault) (text : List ℕ) → IsAnswer r (text_told text) → IfErr r (IsFaultOf text)
 tells_fault (Ok scene) text h = tt
-tells_fault (Err fault.Usage) text h = absurd h
-tells_fault (Err (fault.CannotRead file)) text h = absurd h
-tells_fault (Err fault.WriteFailed) text h = absurd h
-tells_fault (Err fault.StoreFailed) text h = absurd h
-tells_fault (Err (fault.CannotWrite file)) text h = absurd h
 tells_fault (Err fault.OutOfMemory) text h = tt
 tells_fault (Err (fault.Line n f)) text h =
     let r = first_fault 1 nothing_told (parted 10 text) n f h in

@@ -1,9 +1,9 @@
 -- Telling line by line, as a loop does (for `read_lines`).
 use Rattle.std.proofs.Common.{◌≡◌, ℕ, ◌+◌, List, [], ◌∷◌, ◌++◌, Result, Ok, Err, sym, ap, ◌∙◌, append_assoc, append-nil}
 use Rattle.scene_text.specs.SceneTexts.{Told, event_lines, line_here, line_told, lines_told, IsAnswer, IsFaultHere}
-use Rattle.scene_text.specs.declared.fault.Fault.{Fault}
-use Rattle.scene_text.specs.declared.fault.Fault.TheVariants as fault
 use Rattle.scene_text.specs.declared.fault.LineFault.{LineFault}
+use Rattle.scene_text.specs.declared.fault.ReadFault.{ReadFault}
+use Rattle.scene_text.specs.declared.fault.ReadFault.TheVariants as fault
 
 -- what lines tell, and a line after them
 module _ (n : ℕ) (before : Told) (lines : List (List ℕ)) (all : Result Told (ℕ × LineFault)) (so_far : lines_told n before lines ≡ all) (line : List ℕ) (rest : List (List ℕ)) (cut : lines ≡ line ∷ rest) where
@@ -13,14 +13,9 @@ module _ (n : ℕ) (before : Told) (lines : List (List ℕ)) (all : Result Told 
   goes_on after told = rw (cut, told) at so_far
 
   -- the line is wrong
-  pub ends : (fault : Fault) → IsFaultHere n (line_told before line) fault → IsAnswer (Err fault) all
+  pub ends : (fault : ReadFault) → IsFaultHere n (line_told before line) fault → IsAnswer (Err fault) all
   unfolding lines_told
-  ends fault.Usage h = h
-  ends (fault.CannotRead file) h = h
   ends (fault.Line m f) h = sym (rw (cut, h.1) at so_far) ∙ ap (λ k. Err (k, f)) (sym h.0)
-  ends fault.WriteFailed h = h
-  ends fault.StoreFailed h = h
-  ends (fault.CannotWrite file) h = h
   ends fault.OutOfMemory h = tt
 
 -- the lines of events that were noted and those of the lines that are left

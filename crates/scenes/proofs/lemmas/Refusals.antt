@@ -20,7 +20,7 @@ use Rattle.run_model.specs.declared.call.ReportCall.TheVariants.{Event, Header, 
 use Rattle.console_reporter.specs.declared.imp.decider.OutputLoadDecider.{OutputLoadDecider}
 use Rattle.scenes.specs.Judged.{IsSceneAccepted, IsSceneRefused, fault_if_refused, line_fault_for}
 use Rattle.scenes.specs.Unloads.{AreReadyCallsOf, decider_for, unloaded_for}
-use Rattle.scene_text.specs.declared.fault.Fault.TheVariants as fault
+use Rattle.scenes.specs.declared.fault.Fault.TheVariants as fault
 use Rattle.scene_text.specs.declared.fault.LineFault.{LineFault}
 use Rattle.scenes.specs.declared.scene.Scene.{Scene}
 use Rattle.scenes.specs.declared.words.Options.{Options}

@@ -14,14 +14,14 @@ use Rattle.console_reporter.specs.Stored.{stored, stored_at, stored_text}
 use Rattle.console_reporter.proofs.lemmas.Refusals.{not_refused}
 use Rattle.store_text.specs.declared.config.StoreConfig.{StoreConfig}
 use Rattle.scenes.proofs.lemmas.Refusals.{none_refused_at}
-use Rattle.scene_text.specs.declared.fault.Fault.TheVariants.{OutOfMemory, StoreFailed}
+use Rattle.scenes.specs.declared.fault.Fault.TheVariants.{OutOfMemory, StoreFailed}
 use Rattle.console_reporter.specs.Report.{text, text_at, past_at, report}
 use Rattle.run_model.specs.declared.call.ReportCall.{ReportCall}
 use Rattle.console_reporter.specs.declared.imp.faults.WriteEventError.{WriteEventError}
 use Rattle.console_reporter.specs.declared.imp.faults.WriteEventError.TheVariants.{RetriedSuccess, OutputNotLoaded, Io, Memory, Failed, StoreIo}
 use Rattle.scenes.specs.Reports.{Ends, EndsStore, StopsStore, StopsText, builder_for, configuration_for, fault_for, report_of, store_for, stored_of}
 use Rattle.scenes.specs.Judged.{IsJudgedScene, Judged}
-use Rattle.scene_text.specs.declared.fault.Fault.{Fault}
+use Rattle.scenes.specs.declared.fault.Fault.{Fault}
 use Rattle.console_reporter.specs.declared.imp.builder.DisplayReporterBuilder.{DisplayReporterBuilder}
 use Rattle.console_reporter.proofs.lemmas.Calls.{past_more, past_all}
 

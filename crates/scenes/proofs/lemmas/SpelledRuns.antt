@@ -4,15 +4,15 @@ use Rattle.std.specs.Prelude.{Result, Ok, Err, IfErr, OnOk, ⊤}
 use Rattle.std.specs.Io.KnownBytes.{Appends}
 use Rattle.std.proofs.KnownBytes.{Appends-nil}
 use Rattle.console_reporter.specs.Accepted.{first_refused}
-use Rattle.scene_text.specs.Faults.{IsJudgeFault}
+use Rattle.scenes.specs.Faults.{IsJudgeFault}
 use Rattle.scenes.specs.Judged.{IsJudgedScene, IsRefusedText, IsSceneRefused, Judged}
 use Rattle.scenes.specs.Reports.{Begins, IsStop, report_of, store_for, stored_of}
 use Rattle.scenes.specs.ToldScenes.{scene_told}
 use Rattle.scene_text.specs.SceneTexts.{event_lines, nothing_told, text_told}
 use Rattle.scene_text.specs.Split.{parted}
 use Rattle.scenes.specs.SpelledRuns.{BeginsReport, BeginsRun, IsRejected, PrintsReport, PrintsRun}
-use Rattle.scene_text.specs.declared.fault.Fault.{Fault}
-use Rattle.scene_text.specs.declared.fault.Fault.TheVariants as fault
+use Rattle.scenes.specs.declared.fault.Fault.{Fault}
+use Rattle.scenes.specs.declared.fault.Fault.TheVariants as fault
 use Rattle.scenes.specs.declared.scene.Scene.{Scene}
 use Rattle.scenes.specs.declared.words.Options.{Options}
 use Rattle.scenes.proofs.lemmas.Devices.{nothing_stored, untouched_begins}
