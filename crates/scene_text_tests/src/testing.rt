@@ -2,7 +2,7 @@
 
 use run_model::call::ReportCall;
 use run_model::event::TestEvent;
-use scene_text::fault::{Fault, LineFault};
+use scene_text::fault::{LineFault, ReadFault};
 use scene_text::reader::read_scene;
 use std::alloc::Global;
 use std::test::Fail;
@@ -18,8 +18,8 @@ pub const DONE: &str =
 pub fn fault_of(alloc: Global, scene: &[u8]) -> Result<Option<(u64, LineFault)>, Fail> {
     match read_scene(alloc, scene) {
         Ok(_) => Ok(None),
-        Err(Fault::Line { line, fault }) => Ok(Some((line, fault))),
-        Err(_) => Err(Fail::from("memory was refused")),
+        Err(ReadFault::Line { line, fault }) => Ok(Some((line, fault))),
+        Err(ReadFault::OutOfMemory) => Err(Fail::from("memory was refused")),
     }
 }
 
