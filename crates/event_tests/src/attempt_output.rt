@@ -94,13 +94,7 @@ fn after_failure(
     let settings = settings(alloc, no_output_indent)?;
     let mut text = String::new(alloc);
     let outcome = ExecutionResultDescription::Fail { failure, leaked };
-    write_test_execute_status(
-        &mut text,
-        &settings,
-        false,
-        &outcome,
-        &written(alloc)?,
-    )?;
+    write_test_execute_status(&mut text, &settings, false, &outcome, &written(alloc)?)?;
     Ok(text)
 }
 
