@@ -1,6 +1,6 @@
-/* Loaded before the C library, it makes one call of a program fail: the growth of memory, or the write to standard output, or the
-   read, whose number FAULT_AT says, of the kind that FAULT_KIND names. A short write takes one byte. It creates the file FAULT_TOLD
-   where the call came. `scripts/faults` builds and uses it. */
+/* Loaded before the C library, it makes one call of a program fail: the growth of memory, or the write to standard output or to a file
+   that was opened, or the read, whose number FAULT_AT says, of the kind that FAULT_KIND names. A short write takes one byte. It creates
+   the file FAULT_TOLD where the call came. `scripts/faults` builds and uses it. */
 #define _GNU_SOURCE
 #include <dlfcn.h>
 #include <errno.h>
@@ -60,8 +60,9 @@ ssize_t write(int file, const void *bytes, size_t count)
     static ssize_t (*real)(int, const void *, size_t);
     if (!real)
         real = next("write");
-    if (file == 1 && fails("write", "short-write")) {
-        if (!strcmp(kind, "short-write"))
+    const char *fault = file == 1 ? "write" : "store-write", *taking_one = file == 1 ? "short-write" : "short-store-write";
+    if (file != 2 && fails(fault, taking_one)) {
+        if (!strcmp(kind, taking_one))
             return real(file, bytes, count ? 1 : 0);
         errno = ENOSPC;
         return -1;

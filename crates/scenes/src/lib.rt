@@ -1,9 +1,9 @@
 //! Scenes: runs written as text, one event a line. They are read, judged and reported.
 //!
 //! One module a concern: `words` are the words of a command line, `scene` is a run that was read and makes the calls of a reporter,
-//! `reporter` is what that is built from, and `program` the whole way from a file's bytes to those of its report. How a text
-//! tells a run, and what can go wrong on the way, stands in the crate `scene_text`. The program `report` does the rest: files and
-//! the line of a fault.
+//! `reporter` is what that is built from, `program` the whole way from a file's bytes to those of its report and its records, and `fault`
+//! what can go wrong on it. How a text tells a run stands in the crate `scene_text`. The program `report` does the rest: files and the
+//! line of a fault.
 #![tactic(auto)]
 
 pub mod fault;

@@ -35,8 +35,13 @@ fn refuses_a_retried_success(rt: HostRuntime) -> Result<(), Fail> {
         };
         assert_eq!(rt; judged.to_string(alloc)?.as_str(), told.as_str());
         assert_eq!(rt; judged.status(), 2);
-        let (outcome, printed, _) =
-            report_scene(alloc, &OPTIONS, scene.as_bytes(), Vec::new(alloc), io::sink());
+        let (outcome, printed, _) = report_scene(
+            alloc,
+            &OPTIONS,
+            scene.as_bytes(),
+            Vec::new(alloc),
+            io::sink(),
+        );
         let Err(fault) = outcome else {
             return Err(Fail::from("the scene is refused"));
         };

@@ -11,9 +11,18 @@ use std::test::Fail;
 const RECORDS: &str = "5:alpha,2:t1,4:PASS,0:,\n5:alpha,7:mod::t2,4:FAIL,0:,\n";
 
 // What a scene prints and what is stored of it.
-fn texts_of(alloc: Global, options: &Options<'_>, scene: &[u8]) -> Result<(Vec<u8>, Vec<u8>), Fail> {
-    let (outcome, printed, stored) =
-        report_scene(alloc, options, scene, Vec::new(alloc), Vec::new(alloc));
+fn texts_of(
+    alloc: Global,
+    options: &Options<'_>,
+    scene: &[u8],
+) -> Result<(Vec<u8>, Vec<u8>), Fail> {
+    let (outcome, printed, stored) = report_scene(
+        alloc,
+        options,
+        scene,
+        Vec::new(alloc),
+        Vec::new(alloc),
+    );
     outcome?;
     Ok((printed, stored))
 }
@@ -56,7 +65,10 @@ fn judges_before_it_writes_to_either_device(rt: HostRuntime) -> Result<(), Fail>
     let Err(fault) = outcome else {
         return Err(Fail::from("its last line is no event"));
     };
-    assert_eq!(rt; fault.to_string(alloc)?.as_str(), "report: line 6: unknown event");
+    assert_eq!(rt;
+        fault.to_string(alloc)?.as_str(),
+        "report: line 6: unknown event"
+    );
     assert!(rt; printed.is_empty() && stored.is_empty());
     Ok(())
 }
@@ -94,7 +106,9 @@ fn needs_the_output_that_it_keeps(rt: HostRuntime) -> Result<(), Fail> {
     let unread = "unloaded\t-\t-\t-\t-";
     let test = "done\t-\ta\tt1\tnever\tnever\tfail\t-";
     let pass = format!(in alloc; "{test}\t1\tpass\t1\t0\t{unread}")?;
-    let flaky = format!(in alloc; "{test}\t2\tfail:1\t1\t0\tsplit\t-\t-\t-\t-\tpass\t1\t0\t{unread}")?;
+    let flaky = format!(in alloc;
+        "{test}\t2\tfail:1\t1\t0\tsplit\t-\t-\t-\t-\tpass\t1\t0\t{unread}"
+    )?;
     let code = format!(in alloc; "{test}\t1\tfail:1\t1\t0\t{unread}")?;
     let exec = format!(in alloc; "{test}\t1\texec\t1\t0\t{unread}")?;
     let rows: [(&String, bool, bool, bool); 9] = [
@@ -118,7 +132,10 @@ fn needs_the_output_that_it_keeps(rt: HostRuntime) -> Result<(), Fail> {
             Ok(_) => assert!(rt; is_accepted, "{scene}"),
             Err(fault) => {
                 assert!(rt; !is_accepted, "{scene}");
-                assert_eq!(rt; fault.to_string(alloc)?.as_str(), "report: line 1: output not loaded");
+                assert_eq!(rt;
+                    fault.to_string(alloc)?.as_str(),
+                    "report: line 1: output not loaded"
+                );
             }
         }
     }
@@ -126,6 +143,7 @@ fn needs_the_output_that_it_keeps(rt: HostRuntime) -> Result<(), Fail> {
 }
 
 // A scene with the texts of both devices where none fails.
+#[derive(Clone, Copy)]
 struct Faults<'a> {
     alloc: Global,
     text: &'a str,
@@ -139,7 +157,11 @@ impl Faults<'_> {
     fn count(&self, is_store: bool, failure: Failure) -> Result<usize, Fail> {
         const NEVER: usize = 100_000;
         for number in 0..1000 {
-            let (calls, store_calls) = if is_store { (NEVER, number) } else { (number, NEVER) };
+            let (calls, store_calls) = if is_store {
+                (NEVER, number)
+            } else {
+                (number, NEVER)
+            };
             let (outcome, device, store) = report_scene(
                 self.alloc,
                 &STORING,
@@ -167,7 +189,11 @@ impl Faults<'_> {
 fn each_write_of_either_device_fails_once(rt: HostRuntime) -> Result<(), Fail> {
     let alloc = rt.alloc();
     // The bytes of each record, and how many calls a scene makes.
-    let rows: [(&str, &[usize], usize); 3] = [(TWO_TESTS, &[24, 29], 4), (CANCELLED, &[20], 4), (DONE, &[24], 1)];
+    let rows: [(&str, &[usize], usize); 3] = [
+        (TWO_TESTS, &[24, 29], 4),
+        (CANCELLED, &[20], 4),
+        (DONE, &[24], 1),
+    ];
     for (text, lengths, calls) in rows {
         let (whole, records) = texts_of(alloc, &STORING, text.as_bytes())?;
         assert_eq!(rt; records.len(), lengths.iter().sum());
@@ -177,17 +203,32 @@ fn each_write_of_either_device_fails_once(rt: HostRuntime) -> Result<(), Fail> {
             whole: whole.as_slice(),
             records: records.as_slice(),
         };
-        let writes = lengths.iter().map(|length| length.div_ceil(7)).sum::<usize>();
-        assert_eq!(rt; faults.count(true, Failure::NothingTaken)?, writes, "{text}");
+        let writes = lengths
+            .iter()
+            .map(|length| length.div_ceil(7))
+            .sum::<usize>();
+        assert_eq!(rt;
+            faults.count(true, Failure::NothingTaken)?,
+            writes,
+            "{text}"
+        );
         // Each call and the end of the report flush either device once.
         let with_flushes = writes.saturating_add(calls).saturating_add(1);
         assert_eq!(rt; faults.count(true, Failure::Error)?, with_flushes, "{text}");
         let scene = judge(alloc, &OPTIONS, text.as_bytes())?;
         let made = scene.calls(alloc, &OPTIONS)?;
         let writes = count_writes(ends_of(alloc, &scene, made.as_slice())?.as_slice());
-        assert_eq!(rt; faults.count(false, Failure::NothingTaken)?, writes, "{text}");
+        assert_eq!(rt;
+            faults.count(false, Failure::NothingTaken)?,
+            writes,
+            "{text}"
+        );
         let with_flushes = writes.saturating_add(calls).saturating_add(1);
-        assert_eq!(rt; faults.count(false, Failure::Error)?, with_flushes, "{text}");
+        assert_eq!(rt;
+            faults.count(false, Failure::Error)?,
+            with_flushes,
+            "{text}"
+        );
     }
     Ok(())
 }

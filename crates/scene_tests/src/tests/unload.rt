@@ -46,8 +46,7 @@ const AFTER_AN_INTERRUPT: &str = "cancel\t0\t0\tinterrupt\n";
 
 // The line that the program prints of a scene, and no byte of a report; both empty where the scene is accepted.
 fn fault_of(alloc: Global, options: &Options<'_>, scene: &[u8]) -> Result<String, Fail> {
-    let (outcome, printed, _) =
-        report_scene(alloc, options, scene, Vec::new(alloc), io::sink());
+    let (outcome, printed, _) = report_scene(alloc, options, scene, Vec::new(alloc), io::sink());
     match outcome {
         Ok(()) => Ok(String::new(alloc)),
         Err(fault) if printed.is_empty() && fault.status() == 2 => Ok(fault.to_string(alloc)?),
