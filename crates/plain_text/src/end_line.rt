@@ -21,7 +21,7 @@ pub struct EndLine {
 }
 
 impl EndLine {
-    /// Before the first piece.
+    /// Creates one that holds no line feed back.
     pub fn new() -> EndLine
         ensures { result.is_held ≡ false }
     {

@@ -32,7 +32,7 @@ pub struct StrippedPieces {
 }
 
 impl StrippedPieces {
-    /// Before the first piece.
+    /// Creates one that stands outside escape sequences.
     pub fn new() -> StrippedPieces
         ensures mode { result.mode ≡ Mode.Text }
         ensures held { result.end_line.is_held ≡ false }

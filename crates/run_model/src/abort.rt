@@ -32,7 +32,7 @@ pub enum AbortDescription {
 }
 
 impl AbortDescription {
-    /// Takes memory for another one, where it holds a text.
+    /// Copies it; allocates only if it holds text.
     pub fn copy(&self, alloc: Global) -> Result<Self, OutOfMemory>
         ensures same { IfOk result (λ a. a ≡ self.now) }
         ensures free { abort_has_text self.now ≡ false → IsOk result }
@@ -97,7 +97,7 @@ impl DescriptionText {
         self.text.as_str()
     }
 
-    /// Takes memory for another one.
+    /// Copies it; the copy allocates.
     pub fn copy(&self, alloc: Global) -> Result<Self, OutOfMemory>
         ensures { IfOk result (λ description. description ≡ self.now) }
     {

@@ -19,7 +19,7 @@ impl<T> Model for Boxed<T> {
 }
 
 impl<T: Drop> Boxed<T> {
-    /// Takes memory for a value.
+    /// Puts a value on the heap.
     pub fn new(alloc: Global, value: T) -> Result<Self, OutOfMemory>
         ensures { IfOk result (λ b. b ≡ value) }
     {

@@ -26,7 +26,7 @@ impl Model for CommandLine {
 }
 
 impl CommandLine {
-    /// Takes memory for a command of these words.
+    /// A command of these words. It allocates.
     pub fn new(alloc: Global, words: Vec<String>) -> Result<Self, OutOfMemory>
         ensures { IfOk result (λ command. command ≡ map string_bytes words.items) }
     {
@@ -42,7 +42,7 @@ impl CommandLine {
         self.words.as_slice()
     }
 
-    /// Another one of the same words, which both share.
+    /// A copy that shares the same words. It allocates nothing; it fails only where no further sharer can be counted.
     pub fn copy(&self) -> Result<Self, OutOfMemory>
         ensures { IfOk result (λ command. command ≡ self.now) }
     {

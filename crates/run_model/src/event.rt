@@ -41,7 +41,7 @@ impl<'a> TestEvent<'a> {
         }
     }
 
-    /// Takes memory for a decided event as a record has it, with the same metadata. Of others there is none.
+    /// The event in the form of a recorded run, with the same metadata; `None` for kinds without captured output. It copies its texts.
     ///
     /// The names of the archive's members are empty.
     pub fn recorded(

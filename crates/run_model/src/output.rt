@@ -105,7 +105,7 @@ impl ChildSingleOutput {
         Ok(self.as_bytes().to_str_lossy(alloc)?)
     }
 
-    /// Another one of the same bytes, which both share.
+    /// A copy that shares the same bytes.
     pub fn copy(&self) -> Result<Self, OutOfMemory>
         ensures { IfOk result (λ output. output ≡ self.now) }
     {
@@ -144,7 +144,7 @@ impl ChildOutputDescription {
         !matches!(self, ChildOutputDescription::NotLoaded)
     }
 
-    /// Another one of the same bytes, which both share.
+    /// A copy that shares the same bytes.
     pub fn copy(&self) -> Result<Self, OutOfMemory>
         ensures { IfOk result (λ output. output ≡ self.now) }
     {
@@ -256,7 +256,7 @@ impl<S: OutputSpec> ChildExecutionOutputDescription<S> {
 }
 
 impl ChildExecutionOutputDescription<LiveSpec> {
-    /// Takes memory for the texts of another one. The bytes of the output are shared.
+    /// Copies its texts, which allocates. The copy shares the bytes of the output.
     pub fn copy(&self, alloc: Global) -> Result<Self, OutOfMemory>
         ensures { IfOk result (λ output. output ≡ self.now) }
     {
@@ -299,7 +299,7 @@ impl ChildExecutionOutputDescription<LiveSpec> {
         }
     }
 
-    /// Takes memory for the same as a record has it: with the names of its members, which are empty, for its output.
+    /// The same in the form of a recorded run: its output is the names of its members, which are empty. It copies its texts.
     pub fn recorded(
         &self,
         alloc: Global,
@@ -385,7 +385,7 @@ impl Model for ErrorChain {
 }
 
 impl ErrorChain {
-    /// Takes memory for the error with this message and these causes.
+    /// The error with this message and these causes. It allocates.
     pub fn new(
         alloc: Global,
         message: DescriptionText,
@@ -413,7 +413,7 @@ impl ErrorChain {
         self.parts.causes.as_slice()
     }
 
-    /// Takes memory for another one.
+    /// Copies it; the copy allocates.
     pub fn copy(&self, alloc: Global) -> Result<Self, OutOfMemory>
         ensures { IfOk result (λ chain. chain ≡ self.now) }
     {
@@ -501,7 +501,7 @@ impl Highlight {
         }
     }
 
-    /// Another one of the same bytes, which both share.
+    /// A copy that shares the same bytes.
     pub fn copy(&self) -> Result<Self, OutOfMemory>
         ensures { IfOk result (λ h. h ≡ self.now) }
     {

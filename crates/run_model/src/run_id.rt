@@ -49,7 +49,7 @@ impl ShortestRunIdPrefix {
         self.rest.as_str()
     }
 
-    /// Takes memory for another one.
+    /// Copies it; the copy allocates.
     pub fn copy(&self, alloc: Global) -> Result<Self, OutOfMemory>
         ensures { IfOk result (λ p. p ≡ self.now) }
     {

@@ -89,7 +89,7 @@ impl ExecutionResultDescription {
         )
     }
 
-    /// Takes memory for another one, where it holds a text.
+    /// Copies it; allocates only if it holds text.
     pub fn copy(&self, alloc: Global) -> Result<Self, OutOfMemory>
         ensures same { IfOk result (λ r. r ≡ self.now) }
         ensures free { is_aborted self.now ≡ false → IsOk result }
@@ -146,7 +146,7 @@ pub enum FailureDescription {
 }
 
 impl FailureDescription {
-    /// Takes memory for another one, where it holds a text.
+    /// Copies it; allocates only if it holds text.
     pub fn copy(&self, alloc: Global) -> Result<Self, OutOfMemory>
         ensures same { IfOk result (λ f. f ≡ self.now) }
         ensures free { is_abort self.now ≡ false → IsOk result }
@@ -176,7 +176,7 @@ pub struct ExecuteStatus<S: OutputSpec> {
 }
 
 impl ExecuteStatus<LiveSpec> {
-    /// Takes memory for the texts of another one. The bytes of the output are shared.
+    /// Copies its texts, which allocates. The copy shares the bytes of the output.
     pub fn copy(&self, alloc: Global) -> Result<Self, OutOfMemory>
         ensures { IfOk result (λ status. status ≡ self.now) }
     {
@@ -196,7 +196,7 @@ impl ExecuteStatus<LiveSpec> {
         self.output.unload();
     }
 
-    /// Takes memory for the same as a record has it.
+    /// The same in the form of a recorded run. It copies its texts.
     pub fn recorded(&self, alloc: Global) -> Result<ExecuteStatus<RecordingSpec>, OutOfMemory>
         ensures { IfOk result (λ status. status ≡ recorded_attempt self.now) }
     {
@@ -231,7 +231,7 @@ impl SetupScriptExecuteStatus<LiveSpec> {
         self.output.unload();
     }
 
-    /// Takes memory for the same as a record has it.
+    /// The same in the form of a recorded run. It copies its texts.
     pub fn recorded(
         &self,
         alloc: Global,
@@ -446,7 +446,7 @@ impl<S: OutputSpec> Model for ExecutionStatuses<S> {
 }
 
 impl ExecutionStatuses<LiveSpec> {
-    /// Takes memory for the texts of the same attempts. The bytes of their outputs are shared.
+    /// Copies the attempts and their texts, which allocates. The copies share the bytes of their outputs.
     pub fn copy(&self, alloc: Global) -> Result<Self, OutOfMemory>
         ensures { IfOk result (λ statuses. statuses ≡ self.now) }
     {
@@ -465,7 +465,7 @@ impl ExecutionStatuses<LiveSpec> {
         self.last.unload();
     }
 
-    /// Takes memory for the same attempts as a record has them.
+    /// The attempts in the form of a recorded run. It copies their texts.
     pub fn recorded(&self, alloc: Global) -> Result<ExecutionStatuses<RecordingSpec>, OutOfMemory>
         ensures { IfOk result (λ statuses. statuses ≡ recorded_attempts self.now) }
     {

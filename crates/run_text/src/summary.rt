@@ -246,7 +246,7 @@ pub fn write_run_counts<W: WriteStr>(
     write_plain(w, "\n")
 }
 
-// Writes of how many tests so many ran, where that is another number.
+// Writes `/N`, the planned number of tests, where it differs from how many ran.
 #[tactic(auto, unfolding(crate::specs::Summaries::initial_count_text))]
 fn write_initial_count<W: WriteStr>(
     w: &mut W,

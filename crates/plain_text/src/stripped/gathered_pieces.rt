@@ -15,7 +15,7 @@ pub(super) struct GatheredPieces {
 }
 
 impl GatheredPieces {
-    /// Before the first piece.
+    /// Creates one that has gathered nothing.
     pub(super) fn new() -> GatheredPieces
         ensures held { result.end_line.is_held ≡ false }
         ensures pending { result.pending ≡ [] }

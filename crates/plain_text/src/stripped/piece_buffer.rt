@@ -29,7 +29,7 @@ impl Model for PieceBuffer {
 }
 
 impl PieceBuffer {
-    /// Before the first piece.
+    /// Creates an empty buffer.
     pub(super) fn new() -> PieceBuffer
         ensures { result ≡ [] }
     {

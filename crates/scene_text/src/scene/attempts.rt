@@ -51,7 +51,7 @@ impl SceneAttempts {
         }
     }
 
-    /// Takes memory for the attempts as a reporter takes them. The bytes of their outputs are shared.
+    /// The attempts as an event has them. Copies their texts and shares the bytes of their outputs.
     pub fn statuses(&self, alloc: Global) -> Result<ExecutionStatuses<LiveSpec>, OutOfMemory>
         ensures { IfOk result (λ statuses. statuses ≡ self.now) }
     {
@@ -128,7 +128,7 @@ impl SceneAttempt {
         }
     }
 
-    /// Takes memory for what an attempt wrote.
+    /// An attempt with what it wrote, for which it allocates.
     pub fn with_output(
         alloc: Global,
         outcome: ExecutionResultDescription,
@@ -154,7 +154,7 @@ impl SceneAttempt {
         })
     }
 
-    /// Takes memory for the attempt as a reporter takes it.
+    /// The attempt as an event has it. Copies its texts and shares the bytes of its output.
     pub fn status(&self, alloc: Global) -> Result<ExecuteStatus<LiveSpec>, OutOfMemory>
         ensures { IfOk result (λ status. status ≡ self.now) }
     {
@@ -167,7 +167,7 @@ impl SceneAttempt {
         })
     }
 
-    /// Takes memory for the attempt of a setup script as a reporter takes it.
+    /// The attempt of a setup script as an event has it. Copies its texts and shares the bytes of its output.
     pub fn script_status(
         &self,
         alloc: Global,

@@ -1,6 +1,6 @@
 //! The events of a scene.
 
-ghost use Rattle.std.specs.Prelude.{◌≡◌, OnOk};
+ghost use Rattle.std.specs.Prelude.{◌≡◌, OnOk, OnErr};
 
 use super::info_events::{InfoFinish, InfoStart, ScriptAnswer, TestAnswer};
 use super::replay_calls::{SceneHeader, push_prefix_call};
@@ -82,7 +82,8 @@ impl SceneEvent {
         alloc: Global,
         calls: &mut Vec<ReportCall<'a>>,
     ) -> Result<(), OutOfMemory>
-        ensures { OnOk result (AddsCallOf self.now calls.old.items calls.new.items) }
+        ensures call { OnOk result (AddsCallOf self.now calls.old.items calls.new.items) }
+        ensures unchanged { OnErr result (calls.new.items ≡ calls.old.items) }
     {
         match self {
             SceneEvent::Prefix(prefix) => push_prefix_call(alloc, prefix, calls),

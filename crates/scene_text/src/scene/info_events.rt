@@ -1,6 +1,6 @@
 //! The events that tell what the units of a run are doing.
 
-ghost use Rattle.std.specs.Prelude.{◌≡◌, IfOk, OnOk};
+ghost use Rattle.std.specs.Prelude.{◌≡◌, IfOk, OnOk, OnErr};
 ghost use Rattle.scene_text.specs.Scenes.{AddsCallOf};
 ghost use Rattle.scene_text.specs.declared.scene.event.SceneEvent.{SceneEvent};
 
@@ -78,9 +78,10 @@ pub struct InfoFinish {
 }
 
 impl InfoStart {
-    /// Adds the event as a reporter takes it.
+    /// Pushes this event as a `ReportCall`.
     pub fn push_call<'a>(&self, calls: &mut Vec<ReportCall<'a>>) -> Result<(), OutOfMemory>
-        ensures { OnOk result (AddsCallOf (SceneEvent.InfoStarted self.now) calls.old.items calls.new.items) }
+        ensures call { OnOk result (AddsCallOf (SceneEvent.InfoStarted self.now) calls.old.items calls.new.items) }
+        ensures unchanged { OnErr result (calls.new.items ≡ calls.old.items) }
     {
         let kind = TestEventKind::InfoStarted {
             total: self.total,
@@ -92,13 +93,14 @@ impl InfoStart {
 }
 
 impl ScriptAnswer {
-    /// Adds the event as a reporter takes it.
+    /// Pushes this event as a `ReportCall`.
     pub fn push_call<'a>(
         &self,
         alloc: Global,
         calls: &mut Vec<ReportCall<'a>>,
     ) -> Result<(), OutOfMemory>
-        ensures { OnOk result (AddsCallOf (SceneEvent.ScriptAnswered self.now) calls.old.items calls.new.items) }
+        ensures call { OnOk result (AddsCallOf (SceneEvent.ScriptAnswered self.now) calls.old.items calls.new.items) }
+        ensures unchanged { OnErr result (calls.new.items ≡ calls.old.items) }
     {
         let script = self.script.copy(alloc)?;
         let state = self.answer.state.get().state(alloc)?;
@@ -120,13 +122,14 @@ impl ScriptAnswer {
 }
 
 impl TestAnswer {
-    /// Adds the event as a reporter takes it.
+    /// Pushes this event as a `ReportCall`.
     pub fn push_call<'a>(
         &'a self,
         alloc: Global,
         calls: &mut Vec<ReportCall<'a>>,
     ) -> Result<(), OutOfMemory>
-        ensures { OnOk result (AddsCallOf (SceneEvent.TestAnswered self.now) calls.old.items calls.new.items) }
+        ensures call { OnOk result (AddsCallOf (SceneEvent.TestAnswered self.now) calls.old.items calls.new.items) }
+        ensures unchanged { OnErr result (calls.new.items ≡ calls.old.items) }
     {
         let state = self.answer.state.get().state(alloc)?;
         let output = self.answer.output.get().copy(alloc)?;
@@ -146,9 +149,10 @@ impl TestAnswer {
 }
 
 impl InfoFinish {
-    /// Adds the event as a reporter takes it.
+    /// Pushes this event as a `ReportCall`.
     pub fn push_call<'a>(&self, calls: &mut Vec<ReportCall<'a>>) -> Result<(), OutOfMemory>
-        ensures { OnOk result (AddsCallOf (SceneEvent.InfoFinished self.now) calls.old.items calls.new.items) }
+        ensures call { OnOk result (AddsCallOf (SceneEvent.InfoFinished self.now) calls.old.items calls.new.items) }
+        ensures unchanged { OnErr result (calls.new.items ≡ calls.old.items) }
     {
         calls.push(call_of(TestEventKind::InfoFinished {
             missing: self.missing,

@@ -1,6 +1,6 @@
 //! What a replay asks of a reporter that is no event.
 
-ghost use Rattle.std.specs.Prelude.{◌≡◌, OnOk};
+ghost use Rattle.std.specs.Prelude.{◌≡◌, OnOk, OnErr};
 ghost use Rattle.scene_text.specs.Scenes.{AddsCallOf};
 ghost use Rattle.scene_text.specs.declared.scene.event.SceneEvent.{SceneEvent};
 
@@ -62,7 +62,8 @@ impl SceneHeader {
         alloc: Global,
         calls: &mut Vec<ReportCall<'a>>,
     ) -> Result<(), OutOfMemory>
-        ensures { OnOk result (AddsCallOf (SceneEvent.Header self.now) calls.old.items calls.new.items) }
+        ensures call { OnOk result (AddsCallOf (SceneEvent.Header self.now) calls.old.items calls.new.items) }
+        ensures unchanged { OnErr result (calls.new.items ≡ calls.old.items) }
     {
         let unique_prefix = match &self.unique_prefix {
             Some(prefix) => Some(prefix.copy(alloc)?),
@@ -84,7 +85,8 @@ pub fn push_prefix_call<'a>(
     prefix: &ShortestRunIdPrefix,
     calls: &mut Vec<ReportCall<'a>>,
 ) -> Result<(), OutOfMemory>
-    ensures { OnOk result (AddsCallOf (SceneEvent.Prefix prefix.now) calls.old.items calls.new.items) }
+    ensures call { OnOk result (AddsCallOf (SceneEvent.Prefix prefix.now) calls.old.items calls.new.items) }
+    ensures unchanged { OnErr result (calls.new.items ≡ calls.old.items) }
 {
     calls.push(ReportCall::Prefix(prefix.copy(alloc)?))?;
     Ok(())

@@ -1,6 +1,6 @@
 //! The events of a run.
 
-ghost use Rattle.std.specs.Prelude.{◌≡◌, IfOk, OnOk};
+ghost use Rattle.std.specs.Prelude.{◌≡◌, IfOk, OnOk, OnErr};
 ghost use Rattle.scene_text.specs.Counts.{nothing_counted};
 ghost use Rattle.scene_text.specs.Scenes.{AddsCallOf};
 ghost use Rattle.scene_text.specs.declared.scene.event.SceneEvent.{SceneEvent};
@@ -71,13 +71,14 @@ pub struct RunFinish {
 }
 
 impl RunStart {
-    /// Adds the event as a reporter takes it.
+    /// Pushes this event as a `ReportCall`.
     pub fn push_call<'a>(
         &'a self,
         alloc: Global,
         calls: &mut Vec<ReportCall<'a>>,
     ) -> Result<(), OutOfMemory>
-        ensures { OnOk result (AddsCallOf (SceneEvent.RunStarted self.now) calls.old.items calls.new.items) }
+        ensures call { OnOk result (AddsCallOf (SceneEvent.RunStarted self.now) calls.old.items calls.new.items) }
+        ensures unchanged { OnErr result (calls.new.items ≡ calls.old.items) }
     {
         calls.push(call_of(TestEventKind::RunStarted {
             test_list: self.test_list,
@@ -89,9 +90,10 @@ impl RunStart {
 }
 
 impl RunCancel {
-    /// Adds that the run is about to be cancelled, as a reporter takes it. A scene tells of no counts there.
+    /// Pushes the begin of a cancel as a `ReportCall`. A scene tells no counts there.
     pub fn push_cancel_call<'a>(&self, calls: &mut Vec<ReportCall<'a>>) -> Result<(), OutOfMemory>
-        ensures { OnOk result (AddsCallOf (SceneEvent.RunBeginCancel self.now) calls.old.items calls.new.items) }
+        ensures call { OnOk result (AddsCallOf (SceneEvent.RunBeginCancel self.now) calls.old.items calls.new.items) }
+        ensures unchanged { OnErr result (calls.new.items ≡ calls.old.items) }
     {
         calls.push(call_of(TestEventKind::RunBeginCancel {
             setup_scripts_running: self.setup_scripts_running,
@@ -101,9 +103,10 @@ impl RunCancel {
         Ok(())
     }
 
-    /// Adds that the run is about to be killed, in the same way.
+    /// Pushes the begin of a kill in the same way.
     pub fn push_kill_call<'a>(&self, calls: &mut Vec<ReportCall<'a>>) -> Result<(), OutOfMemory>
-        ensures { OnOk result (AddsCallOf (SceneEvent.RunBeginKill self.now) calls.old.items calls.new.items) }
+        ensures call { OnOk result (AddsCallOf (SceneEvent.RunBeginKill self.now) calls.old.items calls.new.items) }
+        ensures unchanged { OnErr result (calls.new.items ≡ calls.old.items) }
     {
         calls.push(call_of(TestEventKind::RunBeginKill {
             setup_scripts_running: self.setup_scripts_running,
@@ -115,9 +118,10 @@ impl RunCancel {
 }
 
 impl RunPause {
-    /// Adds that the run is stopped, as a reporter takes it.
+    /// Pushes that the run is paused as a `ReportCall`.
     pub fn push_paused_call<'a>(&self, calls: &mut Vec<ReportCall<'a>>) -> Result<(), OutOfMemory>
-        ensures { OnOk result (AddsCallOf (SceneEvent.RunPaused self.now) calls.old.items calls.new.items) }
+        ensures call { OnOk result (AddsCallOf (SceneEvent.RunPaused self.now) calls.old.items calls.new.items) }
+        ensures unchanged { OnErr result (calls.new.items ≡ calls.old.items) }
     {
         calls.push(call_of(TestEventKind::RunPaused {
             setup_scripts_running: self.setup_scripts_running,
@@ -126,12 +130,13 @@ impl RunPause {
         Ok(())
     }
 
-    /// Adds that the run goes on, as a reporter takes it.
+    /// Pushes that the run continues as a `ReportCall`.
     pub fn push_continued_call<'a>(
         &self,
         calls: &mut Vec<ReportCall<'a>>,
     ) -> Result<(), OutOfMemory>
-        ensures { OnOk result (AddsCallOf (SceneEvent.RunContinued self.now) calls.old.items calls.new.items) }
+        ensures call { OnOk result (AddsCallOf (SceneEvent.RunContinued self.now) calls.old.items calls.new.items) }
+        ensures unchanged { OnErr result (calls.new.items ≡ calls.old.items) }
     {
         calls.push(call_of(TestEventKind::RunContinued {
             setup_scripts_running: self.setup_scripts_running,
@@ -142,9 +147,10 @@ impl RunPause {
 }
 
 impl StateRequest {
-    /// Adds the event as a reporter takes it.
+    /// Pushes this event as a `ReportCall`.
     pub fn push_call<'a>(&self, calls: &mut Vec<ReportCall<'a>>) -> Result<(), OutOfMemory>
-        ensures { OnOk result (AddsCallOf (SceneEvent.InputEnter self.now) calls.old.items calls.new.items) }
+        ensures call { OnOk result (AddsCallOf (SceneEvent.InputEnter self.now) calls.old.items calls.new.items) }
+        ensures unchanged { OnErr result (calls.new.items ≡ calls.old.items) }
     {
         let kind = TestEventKind::InputEnter {
             current_stats: self.current_stats,
@@ -156,13 +162,14 @@ impl StateRequest {
 }
 
 impl RunFinish {
-    /// Adds the event as a reporter takes it.
+    /// Pushes this event as a `ReportCall`.
     pub fn push_call<'a>(
         &self,
         alloc: Global,
         calls: &mut Vec<ReportCall<'a>>,
     ) -> Result<(), OutOfMemory>
-        ensures { OnOk result (AddsCallOf (SceneEvent.RunFinished self.now) calls.old.items calls.new.items) }
+        ensures call { OnOk result (AddsCallOf (SceneEvent.RunFinished self.now) calls.old.items calls.new.items) }
+        ensures unchanged { OnErr result (calls.new.items ≡ calls.old.items) }
     {
         let outstanding_not_seen = match &self.outstanding_not_seen {
             Some(outstanding) => Some(copy_not_seen(alloc, outstanding)?),

@@ -1,6 +1,6 @@
 //! The events of setup scripts.
 
-ghost use Rattle.std.specs.Prelude.{◌≡◌, IfOk, OnOk};
+ghost use Rattle.std.specs.Prelude.{◌≡◌, IfOk, OnOk, OnErr};
 ghost use Rattle.scene_text.specs.Scenes.{AddsCallOf};
 ghost use Rattle.scene_text.specs.declared.scene.event.SceneEvent.{SceneEvent};
 
@@ -64,7 +64,7 @@ pub struct SetupFinish {
 }
 
 impl SceneScript {
-    /// Takes memory for the names of another one.
+    /// Copies the names, which allocates.
     pub fn copy(&self, alloc: Global) -> Result<SceneScript, OutOfMemory>
         ensures { IfOk result (λ copy. copy ≡ self.now) }
     {
@@ -77,13 +77,14 @@ impl SceneScript {
 }
 
 impl SetupStart {
-    /// Adds the event as a reporter takes it.
+    /// Pushes this event as a `ReportCall`.
     pub fn push_call<'a>(
         &self,
         alloc: Global,
         calls: &mut Vec<ReportCall<'a>>,
     ) -> Result<(), OutOfMemory>
-        ensures { OnOk result (AddsCallOf (SceneEvent.SetupScriptStarted self.now) calls.old.items calls.new.items) }
+        ensures call { OnOk result (AddsCallOf (SceneEvent.SetupScriptStarted self.now) calls.old.items calls.new.items) }
+        ensures unchanged { OnErr result (calls.new.items ≡ calls.old.items) }
     {
         let script = self.script.copy(alloc)?;
         calls.push(call_of(TestEventKind::SetupScriptStarted {
@@ -99,13 +100,14 @@ impl SetupStart {
 }
 
 impl SlowSetup {
-    /// Adds the event as a reporter takes it.
+    /// Pushes this event as a `ReportCall`.
     pub fn push_call<'a>(
         &self,
         alloc: Global,
         calls: &mut Vec<ReportCall<'a>>,
     ) -> Result<(), OutOfMemory>
-        ensures { OnOk result (AddsCallOf (SceneEvent.SetupScriptSlow self.now) calls.old.items calls.new.items) }
+        ensures call { OnOk result (AddsCallOf (SceneEvent.SetupScriptSlow self.now) calls.old.items calls.new.items) }
+        ensures unchanged { OnErr result (calls.new.items ≡ calls.old.items) }
     {
         let script = self.script.copy(alloc)?;
         calls.push(call_of(TestEventKind::SetupScriptSlow {
@@ -121,13 +123,14 @@ impl SlowSetup {
 }
 
 impl SetupFinish {
-    /// Adds the event as a reporter takes it.
+    /// Pushes this event as a `ReportCall`.
     pub fn push_call<'a>(
         &self,
         alloc: Global,
         calls: &mut Vec<ReportCall<'a>>,
     ) -> Result<(), OutOfMemory>
-        ensures { OnOk result (AddsCallOf (SceneEvent.SetupScriptFinished self.now) calls.old.items calls.new.items) }
+        ensures call { OnOk result (AddsCallOf (SceneEvent.SetupScriptFinished self.now) calls.old.items calls.new.items) }
+        ensures unchanged { OnErr result (calls.new.items ≡ calls.old.items) }
     {
         let script = self.script.copy(alloc)?;
         let run_status = self.attempt.script_status(alloc)?;

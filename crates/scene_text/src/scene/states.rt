@@ -95,7 +95,7 @@ impl SceneState {
         }
     }
 
-    /// Takes memory for the state as a reporter takes it.
+    /// The state as an event has it. Copies its texts.
     pub fn state(&self, alloc: Global) -> Result<UnitState, OutOfMemory>
         ensures { IfOk result (λ state. state ≡ unit_state self.now) }
     {

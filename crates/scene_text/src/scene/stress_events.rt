@@ -1,6 +1,6 @@
 //! The events of the iterations of a stress run.
 
-ghost use Rattle.std.specs.Prelude.{OnOk};
+ghost use Rattle.std.specs.Prelude.{OnOk, OnErr, ◌≡◌};
 ghost use Rattle.scene_text.specs.Scenes.{AddsCallOf};
 ghost use Rattle.scene_text.specs.declared.scene.event.SceneEvent.{SceneEvent};
 
@@ -31,9 +31,10 @@ pub struct SubRunFinish {
 }
 
 impl SubRunStart {
-    /// Adds the event as a reporter takes it.
+    /// Pushes this event as a `ReportCall`.
     pub fn push_call<'a>(&self, calls: &mut Vec<ReportCall<'a>>) -> Result<(), OutOfMemory>
-        ensures { OnOk result (AddsCallOf (SceneEvent.StressSubRunStarted self.now) calls.old.items calls.new.items) }
+        ensures call { OnOk result (AddsCallOf (SceneEvent.StressSubRunStarted self.now) calls.old.items calls.new.items) }
+        ensures unchanged { OnErr result (calls.new.items ≡ calls.old.items) }
     {
         calls.push(call_of(TestEventKind::StressSubRunStarted {
             progress: self.progress,
@@ -43,9 +44,10 @@ impl SubRunStart {
 }
 
 impl SubRunFinish {
-    /// Adds the event as a reporter takes it.
+    /// Pushes this event as a `ReportCall`.
     pub fn push_call<'a>(&self, calls: &mut Vec<ReportCall<'a>>) -> Result<(), OutOfMemory>
-        ensures { OnOk result (AddsCallOf (SceneEvent.StressSubRunFinished self.now) calls.old.items calls.new.items) }
+        ensures call { OnOk result (AddsCallOf (SceneEvent.StressSubRunFinished self.now) calls.old.items calls.new.items) }
+        ensures unchanged { OnErr result (calls.new.items ≡ calls.old.items) }
     {
         calls.push(call_of(TestEventKind::StressSubRunFinished {
             progress: self.progress,

@@ -1,6 +1,6 @@
 //! The events of tests.
 
-ghost use Rattle.std.specs.Prelude.{◌≡◌, IfOk, OnOk};
+ghost use Rattle.std.specs.Prelude.{◌≡◌, IfOk, OnOk, OnErr};
 ghost use Rattle.scene_text.specs.Scenes.{AddsCallOf};
 ghost use Rattle.scene_text.specs.declared.scene.event.SceneEvent.{SceneEvent};
 
@@ -100,7 +100,8 @@ impl SceneTest {
         &'a self,
         calls: &mut Vec<ReportCall<'a>>,
     ) -> Result<(), OutOfMemory>
-        ensures { OnOk result (AddsCallOf (SceneEvent.TestSkipped self.now) calls.old.items calls.new.items) }
+        ensures call { OnOk result (AddsCallOf (SceneEvent.TestSkipped self.now) calls.old.items calls.new.items) }
+        ensures unchanged { OnErr result (calls.new.items ≡ calls.old.items) }
     {
         calls.push(call_of(TestEventKind::TestSkipped {
             stress_index: self.stress_index,
@@ -122,9 +123,10 @@ impl SceneTest {
 }
 
 impl TestStart {
-    /// Adds the event as a reporter takes it.
+    /// Pushes this event as a `ReportCall`.
     pub fn push_call<'a>(&'a self, calls: &mut Vec<ReportCall<'a>>) -> Result<(), OutOfMemory>
-        ensures { OnOk result (AddsCallOf (SceneEvent.TestStarted self.now) calls.old.items calls.new.items) }
+        ensures call { OnOk result (AddsCallOf (SceneEvent.TestStarted self.now) calls.old.items calls.new.items) }
+        ensures unchanged { OnErr result (calls.new.items ≡ calls.old.items) }
     {
         let command_line = self.command_line.copy()?;
         calls.push(call_of(TestEventKind::TestStarted {
@@ -138,9 +140,10 @@ impl TestStart {
 }
 
 impl TestRetryStart {
-    /// Adds the event as a reporter takes it.
+    /// Pushes this event as a `ReportCall`.
     pub fn push_call<'a>(&'a self, calls: &mut Vec<ReportCall<'a>>) -> Result<(), OutOfMemory>
-        ensures { OnOk result (AddsCallOf (SceneEvent.TestRetryStarted self.now) calls.old.items calls.new.items) }
+        ensures call { OnOk result (AddsCallOf (SceneEvent.TestRetryStarted self.now) calls.old.items calls.new.items) }
+        ensures unchanged { OnErr result (calls.new.items ≡ calls.old.items) }
     {
         let command_line = self.command_line.copy()?;
         calls.push(call_of(TestEventKind::TestRetryStarted {
@@ -154,9 +157,10 @@ impl TestRetryStart {
 }
 
 impl SlowTest {
-    /// Adds the event as a reporter takes it.
+    /// Pushes this event as a `ReportCall`.
     pub fn push_call<'a>(&'a self, calls: &mut Vec<ReportCall<'a>>) -> Result<(), OutOfMemory>
-        ensures { OnOk result (AddsCallOf (SceneEvent.TestSlow self.now) calls.old.items calls.new.items) }
+        ensures call { OnOk result (AddsCallOf (SceneEvent.TestSlow self.now) calls.old.items calls.new.items) }
+        ensures unchanged { OnErr result (calls.new.items ≡ calls.old.items) }
     {
         calls.push(call_of(TestEventKind::TestSlow {
             stress_index: self.test.stress_index,
@@ -170,13 +174,14 @@ impl SlowTest {
 }
 
 impl FailedAttempt {
-    /// Adds the event as a reporter takes it.
+    /// Pushes this event as a `ReportCall`.
     pub fn push_call<'a>(
         &'a self,
         alloc: Global,
         calls: &mut Vec<ReportCall<'a>>,
     ) -> Result<(), OutOfMemory>
-        ensures { OnOk result (AddsCallOf (SceneEvent.TestAttemptFailedWillRetry self.now) calls.old.items calls.new.items) }
+        ensures call { OnOk result (AddsCallOf (SceneEvent.TestAttemptFailedWillRetry self.now) calls.old.items calls.new.items) }
+        ensures unchanged { OnErr result (calls.new.items ≡ calls.old.items) }
     {
         let run_status = self.attempt.status(alloc)?;
         calls.push(call_of(TestEventKind::TestAttemptFailedWillRetry {
@@ -191,13 +196,14 @@ impl FailedAttempt {
 }
 
 impl TestFinish {
-    /// Adds the event as a reporter takes it.
+    /// Pushes this event as a `ReportCall`.
     pub fn push_call<'a>(
         &'a self,
         alloc: Global,
         calls: &mut Vec<ReportCall<'a>>,
     ) -> Result<(), OutOfMemory>
-        ensures { OnOk result (AddsCallOf (SceneEvent.TestFinished self.now) calls.old.items calls.new.items) }
+        ensures call { OnOk result (AddsCallOf (SceneEvent.TestFinished self.now) calls.old.items calls.new.items) }
+        ensures unchanged { OnErr result (calls.new.items ≡ calls.old.items) }
     {
         let run_statuses = self.attempts.statuses(alloc)?;
         calls.push(call_of(TestEventKind::TestFinished {

@@ -1,0 +1,118 @@
+"""Lines of scenes: what the scripts that make scenes share. No other script knows the format (docs/SCENES.md).
+
+`text` spells a text, `words` a list of them, `attempt` an attempt of a test, and `Run` writes the lines of a run, each with the
+statistics after it. The statistics follow nextest's `RunStats`; each rule stands where it is used.
+"""
+
+from decimal import ROUND_HALF_UP, Decimal, InvalidOperation
+
+NAMED = {"\n": "\\n", "\t": "\\t", "\r": "\\r", "\x1b": "\\e", "\\": "\\\\"}
+# Reports show the id; what is made of another tool's output has none of its own.
+RUN_ID = "00000000-0000-4000-8000-000000000001"
+# A failure whose code is not known: nextest says nothing more of this code, with which a panic ends.
+UNKNOWN_FAILURE = "fail:101"
+
+
+def spelled(character, may_be_byte):
+    """A character of a text. Bytes that are not UTF-8 can stand in outputs alone."""
+    if character in NAMED:
+        return NAMED[character]
+    code = ord(character)
+    if 0xDC80 <= code <= 0xDCFF and may_be_byte:
+        return f"\\x{code - 0xDC00:02x}"
+    if 0xD800 <= code <= 0xDFFF:
+        return "\ufffd"
+    return f"\\x{code:02x}" if code < 0x20 or code == 0x7F else character
+
+
+def text(value, may_be_byte=False):
+    """A text, or `-` for None. A text that is `-` itself is spelled by its code."""
+    if value is None:
+        return "-"
+    return "\\x2d" if value == "-" else "".join(spelled(it, may_be_byte) for it in value)
+
+
+def stream(output):
+    """What was captured of a stream, as text or as bytes; None where it was not captured."""
+    if isinstance(output, bytes):
+        output = output.decode("utf-8", "surrogateescape")
+    return text(output, may_be_byte=True)
+
+
+def words(values):
+    return "\\,".join(text(it) for it in values) if values else "-"
+
+
+def nanos(seconds):
+    """Decimal seconds as whole nanoseconds, ties up. What is no number, or below 0, is 0."""
+    try:
+        exact = Decimal(str(seconds or 0)) * 1_000_000_000
+        return str(max(0, int(exact.to_integral_value(ROUND_HALF_UP))))
+    except (InvalidOperation, ValueError, OverflowError):
+        return "0"
+
+
+class Attempt:
+    """An attempt of a test: how it ended (a result as docs/SCENES.md has it), how long it took, and what it wrote."""
+
+    def __init__(self, result, seconds, stdout=None, stderr=None, combined=None, is_slow=False, start_error=None):
+        self.result, self.is_slow = result, is_slow
+        output = ["split", stream(stdout), stream(stderr)]
+        if combined is not None:
+            output = ["comb", stream(combined), "-"]
+        if start_error is not None:
+            output = ["start", words(start_error), "-"]
+        self.fields = [result, nanos(seconds), str(int(is_slow)), *output, "-", "-"]
+
+
+class Run:
+    """Writes the lines of one run, and counts."""
+
+    def __init__(self, write, total, binaries, skipped=0, profile="default"):
+        self.write, self.counts = write, {"initial": total}
+        self.line("run", RUN_ID, profile, str(total), str(binaries), f"tests={skipped}" if skipped else "-")
+
+    def line(self, *fields):
+        self.write("\t".join(fields) + "\n")
+
+    def stats(self):
+        return " ".join(f"{key}={value}" for key, value in self.counts.items() if value) or "-"
+
+    def count(self, *keys):
+        for key in keys:
+            self.counts[key] = self.counts.get(key, 0) + 1
+
+    def slow(self, binary, name, attempt, total, seconds, will_terminate=False):
+        self.line("slow", "-", text(binary), text(name), str(attempt), str(total), nanos(seconds), str(int(will_terminate)))
+
+    def skip(self, binary, name):
+        # `RunStats::skipped` counts each test that is skipped.
+        self.count("skipped")
+        self.line("skip", "-", text(binary), text(name))
+
+    def count_finished(self, attempts):
+        """`RunStats::on_test_finished`: the last attempt decides; a test that passed after others is flaky, too."""
+        last, is_flaky = attempts[-1], len(attempts) > 1
+        self.count("finished")
+        if last.result == "pass":
+            self.count("passed", *["slow"] * last.is_slow, *["flaky"] * is_flaky)
+        elif last.result == "leak":
+            self.count("passed", "leaky", *["slow"] * last.is_slow, *["flaky"] * is_flaky)
+        elif last.result == "tmpass":
+            self.count("passed", *["flaky"] * is_flaky)
+        elif last.result == "leakfail":
+            self.count("failed", "leakyfailed")
+        elif last.result == "exec":
+            self.count("exec")
+        elif last.result == "tmout":
+            self.count("timedout")
+        else:
+            self.count("failed")
+
+    def done(self, binary, name, attempts, success="never", failure="immediate"):
+        self.count_finished(attempts)
+        fields = [field for attempt in attempts for field in attempt.fields]
+        self.line("done", "-", text(binary), text(name), success, failure, "pass", self.stats(), str(len(attempts)), *fields)
+
+    def end(self, seconds):
+        self.line("end", nanos(seconds), self.stats(), "0", "-")
