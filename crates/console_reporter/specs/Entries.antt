@@ -100,7 +100,7 @@ final_order entries = ordered_by is_before entries
 unfoldable pub final_text : Settings → CountedInstance → FinalOutput → Text
 final_text s test (Executed summary) = status_line s.styles Final test summary
 final_text s test (ExecutedWithOutput summary output) =
-    status_line s.styles Final test summary ++ attempt_output s false summary.is_slow summary.result output
+    status_line s.styles Final test summary ++ attempt_output s false summary.result output
 final_text s test Skipped = skip_line s test
 
 -- how it shows an entry

@@ -22,7 +22,7 @@ use Rattle.run_model.specs.declared.status.StatusCase.{StatusCase}
 use Rattle.run_model.specs.declared.status.StatusSummary.{StatusSummary}
 use Rattle.unit_report.specs.Overrides.{display_for}
 use Rattle.event_text.specs.AttemptOutputs.{Written}
-use Rattle.test_text.specs.Finishes.{is_ever_shown}
+use Rattle.event_text.specs.Finishes.{is_ever_shown}
 use Rattle.store_text.specs.StoredOutputs.{is_switched_on}
 use Rattle.store_text.specs.declared.config.StoreConfig.{StoreConfig}
 use Rattle.console_reporter.specs.declared.imp.decider.OutputLoadDecider.{OutputLoadDecider}

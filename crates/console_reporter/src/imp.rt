@@ -19,10 +19,10 @@ mod topics;
 
 pub use builder::DisplayReporterBuilder;
 pub use decider::{OutputLoadDecider, first_refused, unload_skipped};
+pub use event_text::finish::reasons_only_hide;
 pub use faults::{RunFault, WriteEventError};
 pub use kept::one_final_order;
 pub use reporter::{DisplayReporter, run_report, run_report_with_store, texts_make_the_report};
 pub use run_model::call::ReportCall;
 pub use store_text::config::StoreConfig;
-pub use test_text::finish::reasons_only_hide;
 pub use unit_report::unit_output::DisplayerKind;

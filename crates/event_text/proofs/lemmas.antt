@@ -1,3 +1,4 @@
+pub mod Finishes
 pub mod LineTints
 pub mod OutputTints
 pub mod ResultTints

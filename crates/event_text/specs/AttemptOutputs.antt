@@ -88,20 +88,20 @@ info_line_start unit.Test = codes "    (test "
 info_line_start unit.Script = codes "    (script "
 
 -- that line, aligned with the output, and an empty line
-unfoldable pub shown_info_line : Styles → UnitKind → Bool → ExecutionResultDescription → Text
-shown_info_line s kind is_slow result = plain (info_line_start kind) ++ (info_text s is_slow result ++ plain (codes ")\n\n"))
+unfoldable pub shown_info_line : Styles → UnitKind → ExecutionResultDescription → Text
+shown_info_line s kind result = plain (info_line_start kind) ++ (info_text s false result ++ plain (codes ")\n\n"))
 
-unfoldable pub info_line : Styles → UnitKind → Bool → ExecutionResultDescription → Text
-info_line s kind is_slow result = if has_info_line result then shown_info_line s kind is_slow result else []
+unfoldable pub info_line : Styles → UnitKind → ExecutionResultDescription → Text
+info_line s kind result = if has_info_line result then shown_info_line s kind result else []
 
--- what a unit wrote, which ended so, and how it ended; one flag says that another attempt follows, one that it was slow
-unfoldable pub unit_output : Settings → UnitKind → Bool → Bool → ExecutionResultDescription → Written → Text
-unit_output s kind is_retry is_slow result output =
-    execution_output s.unit_output s.styles (finished_layout s kind result is_retry) output ++ info_line s.styles kind is_slow result
+-- what a unit wrote, which ended so, and how it ended; the flag says that another attempt follows
+unfoldable pub unit_output : Settings → UnitKind → Bool → ExecutionResultDescription → Written → Text
+unit_output s kind is_retry result output =
+    execution_output s.unit_output s.styles (finished_layout s kind result is_retry) output ++ info_line s.styles kind result
 
 -- the same of an attempt of a test, and of a setup script, which is never tried again
-abbrev pub attempt_output : Settings → Bool → Bool → ExecutionResultDescription → Written → Text
-attempt_output s is_retry is_slow result output = unit_output s unit.Test is_retry is_slow result output
+abbrev pub attempt_output : Settings → Bool → ExecutionResultDescription → Written → Text
+attempt_output s is_retry result output = unit_output s unit.Test is_retry result output
 
-abbrev pub script_output : Settings → Bool → ExecutionResultDescription → Written → Text
-script_output s is_slow result output = unit_output s unit.Script false is_slow result output
+abbrev pub script_output : Settings → ExecutionResultDescription → Written → Text
+script_output s result output = unit_output s unit.Script false result output

@@ -1,6 +1,7 @@
 pub mod AbortLines
 pub mod AttemptOutputs
 pub mod Bars
+pub mod Finishes
 pub mod InfoResults
 pub mod Instances
 pub mod ResultWords

@@ -20,21 +20,19 @@ use unit_report::unit_output::{ChildOutputSpec, OutputHeader, OutputName};
 
 /// Writes what an attempt of a test wrote, which ended so, and how it ended where that is worth a line of its own.
 ///
-/// `is_retry` says that another attempt follows, `is_slow` that this one was slow. The output must not have been left
-/// unread.
+/// `is_retry` says that another attempt follows. The output must not have been left unread.
 pub fn write_test_execute_status<W: WriteStr>(
     w: &mut W,
     settings: &Settings,
     is_retry: bool,
-    is_slow: bool,
     outcome: &ExecutionResultDescription,
     output: &ChildExecutionOutputDescription<LiveSpec>,
 ) -> Result<(), WriteFault>
     requires { has_loaded_output output.now ≡ true }
-    ensures { Puts W.meaning w.old (attempt_output settings.now is_retry is_slow outcome.now output.now) result w.new }
+    ensures { Puts W.meaning w.old (attempt_output settings.now is_retry outcome.now output.now) result w.new }
 {
     let kind = UnitKind::Test;
-    write_unit_execute_status(w, settings, kind, is_retry, is_slow, outcome, output)
+    write_unit_execute_status(w, settings, kind, is_retry, outcome, output)
 }
 
 /// Writes what a setup script wrote, which ended so, and how it ended where that is worth a line of its own. The output
@@ -42,15 +40,14 @@ pub fn write_test_execute_status<W: WriteStr>(
 pub fn write_setup_script_execute_status<W: WriteStr>(
     w: &mut W,
     settings: &Settings,
-    is_slow: bool,
     outcome: &ExecutionResultDescription,
     output: &ChildExecutionOutputDescription<LiveSpec>,
 ) -> Result<(), WriteFault>
     requires { has_loaded_output output.now ≡ true }
-    ensures { Puts W.meaning w.old (script_output settings.now is_slow outcome.now output.now) result w.new }
+    ensures { Puts W.meaning w.old (script_output settings.now outcome.now output.now) result w.new }
 {
     let kind = UnitKind::Script;
-    write_unit_execute_status(w, settings, kind, false, is_slow, outcome, output)
+    write_unit_execute_status(w, settings, kind, false, outcome, output)
 }
 
 // Writes the same of either.
@@ -60,18 +57,17 @@ fn write_unit_execute_status<W: WriteStr>(
     settings: &Settings,
     kind: UnitKind,
     is_retry: bool,
-    is_slow: bool,
     outcome: &ExecutionResultDescription,
     output: &ChildExecutionOutputDescription<LiveSpec>,
 ) -> Result<(), WriteFault>
     requires { has_loaded_output output.now ≡ true }
-    ensures { Puts W.meaning w.old (unit_output settings.now kind is_retry is_slow outcome.now output.now) result w.new }
+    ensures { Puts W.meaning w.old (unit_output settings.now kind is_retry outcome.now output.now) result w.new }
 {
     let spec = output_spec_for_finished(settings, kind, outcome, is_retry);
     settings
         .unit_output
         .write_child_execution_output(&settings.styles, &spec, output, w)?;
-    write_info_line(w, &settings.styles, kind, is_slow, outcome)
+    write_info_line(w, &settings.styles, kind, outcome)
 }
 
 // Writes how the unit ended, unless that is plain.
@@ -80,13 +76,12 @@ fn write_info_line<W: WriteStr>(
     w: &mut W,
     styles: &Styles,
     kind: UnitKind,
-    is_slow: bool,
     outcome: &ExecutionResultDescription,
 ) -> Result<(), WriteFault>
-    ensures { Puts W.meaning w.old (info_line styles.now kind is_slow outcome.now) result w.new }
+    ensures { Puts W.meaning w.old (info_line styles.now kind outcome.now) result w.new }
 {
     if show_finished_status_info_line(outcome) {
-        write_shown_info_line(w, styles, kind, is_slow, outcome)
+        write_shown_info_line(w, styles, kind, outcome)
     } else {
         Ok(())
     }
@@ -98,13 +93,13 @@ fn write_shown_info_line<W: WriteStr>(
     w: &mut W,
     styles: &Styles,
     kind: UnitKind,
-    is_slow: bool,
     outcome: &ExecutionResultDescription,
 ) -> Result<(), WriteFault>
-    ensures { Puts W.meaning w.old (shown_info_line styles.now kind is_slow outcome.now) result w.new }
+    ensures { Puts W.meaning w.old (shown_info_line styles.now kind outcome.now) result w.new }
 {
     write_plain(w, info_line_start(kind))?;
-    write_info_result(w, styles, is_slow, outcome)?;
+    // A pass has no such line, so none was slow.
+    write_info_result(w, styles, false, outcome)?;
     write_plain(w, ")\n\n")
 }
 

@@ -3,7 +3,7 @@
 ghost use Rattle.std.specs.Prelude.{◌≡◌, ◌+◌, ◌/◌, ◌%◌, ◌<◌, ◌≤◌, ◌∷◌, [], ◌++◌, ◌-◌, length, chars, codes};
 ghost use Rattle.std.specs.Fmt.{decimal};
 ghost use Rattle.plain_text.specs.Texts.{spaces, right_in};
-ghost use Rattle.plain_text.specs.Numbers.{rounded, last_digits, seconds};
+ghost use Rattle.plain_text.specs.Numbers.{digit_column, last_digits, rounded, seconds};
 ghost use Rattle.plain_text.specs.Writer.{Puts};
 
 use crate::write_str::{WriteFault, WriteStr};
@@ -93,6 +93,62 @@ pub fn write_right<W: WriteStr>(w: &mut W, columns: usize, text: &str) -> Result
 {
     write_spaces(w, columns.saturating_sub(char_count(text)))?;
     w.write_str(text)
+}
+
+/// Writes nanoseconds as seconds with three decimals, right in eight columns, between brackets, and a space.
+///
+/// The nearest thousandth is written, of two that are as near the greater one.
+///
+/// ```
+/// write_bracketed_seconds(w, 5_000_000) // "[   0.005s] "
+/// ```
+pub fn write_bracketed_seconds<W: WriteStr>(w: &mut W, nanos: u128) -> Result<(), WriteFault>
+    ensures { Puts W.meaning w.old (codes "[" ++ (right_in 8 (seconds 3 nanos) ++ codes "s] ")) result w.new }
+{
+    // Almost every duration is shorter, and its text is one piece of twelve bytes.
+    if nanos < 9_999_000_000_000 {
+        return write_short_seconds(w, nanos as u64);
+    }
+    write_seconds_between(w, "[", 8, nanos, "s] ")
+}
+
+// The same of less than 9,999 seconds, which have four digits at most.
+#[inline]
+fn write_short_seconds<W: WriteStr>(w: &mut W, nanos: u64) -> Result<(), WriteFault>
+    requires { nanos < 9999000000000 }
+    ensures { Puts W.meaning w.old (codes "[" ++ (right_in 8 (seconds 3 nanos) ++ codes "s] ")) result w.new }
+{
+    let rounded = ((nanos + 500_000) / 1_000_000) as u32;
+    let whole = rounded / 1000;
+    let row = [
+        b'[',
+        digit_or_space(whole, 1000),
+        digit_or_space(whole, 100),
+        digit_or_space(whole, 10),
+        b'0' + (whole % 10) as u8,
+        b'.',
+        b'0' + (rounded / 100 % 10) as u8,
+        b'0' + (rounded / 10 % 10) as u8,
+        b'0' + (rounded % 10) as u8,
+        b's',
+        b']',
+        b' ',
+    ];
+    // These twelve are ASCII.
+    w.write_str(unsafe { str::from_utf8_unchecked(&row) })
+}
+
+// The digit of a number at a power of ten, or a space where the number is below it.
+#[inline(always)]
+fn digit_or_space(number: u32, power: u32) -> u8
+    requires { 0 < power }
+    ensures { result ≡ digit_column number power }
+{
+    if number < power {
+        b' '
+    } else {
+        b'0' + (number / power % 10) as u8
+    }
 }
 
 /// Writes nanoseconds as seconds with three decimals, right in so many columns, between two texts.

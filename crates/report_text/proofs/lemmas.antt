@@ -5,5 +5,6 @@ pub mod FreeWords
 pub mod InstanceTints
 pub mod InstanceWidths
 pub mod NameWidths
+pub mod PlainNames
 pub mod Quotes
 pub mod Tints

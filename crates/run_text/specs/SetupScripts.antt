@@ -75,7 +75,7 @@ HasFailedOutput x = is_success x.result ≡ false → has_loaded_output x.output
 
 -- what a script wrote, unless it succeeded
 unfoldable pub failed_script_output : Settings → SetupScriptExecuteStatus LiveSpec ChildOutputDescription → Text
-failed_script_output s x = if is_success x.result then [] else script_output s x.is_slow x.result x.output
+failed_script_output s x = if is_success x.result then [] else script_output s x.result x.output
 
 -- a script has finished
 unfoldable pub setup_script_finished_text : Settings → Script → SetupScriptExecuteStatus LiveSpec ChildOutputDescription → Text

@@ -201,5 +201,5 @@ fn write_failed_script_output<W: WriteStr>(
     if outcome.is_success() {
         return Ok(());
     }
-    write_setup_script_execute_status(w, settings, run_status.is_slow, outcome, &run_status.output)
+    write_setup_script_execute_status(w, settings, outcome, &run_status.output)
 }

@@ -1,3 +1,2 @@
-pub mod Finishes
 pub mod StatusTints
 pub mod TestTints

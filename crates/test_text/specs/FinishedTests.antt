@@ -13,10 +13,10 @@ use Rattle.run_model.specs.declared.status.StatusSummary.{StatusSummary}
 use Rattle.run_model.specs.declared.stress.StressIndex.{StressIndex}
 use Rattle.plain_text.specs.Texts.{Text}
 use Rattle.event_text.specs.AttemptOutputs.{attempt_output}
-use Rattle.test_text.specs.Finishes.{display_of, finish_row, is_ever_shown, is_line_shown, row_at_once}
+use Rattle.event_text.specs.Finishes.{display_of, finish_row, is_ever_shown, is_line_shown, row_at_once}
 use Rattle.event_text.specs.Settings.{finished_counter}
 use Rattle.test_text.specs.StatusLines.{status_line}
-use Rattle.test_text.specs.declared.finish.FinishRow.{FinishRow}
+use Rattle.event_text.specs.declared.finish.FinishRow.{FinishRow}
 use Rattle.event_text.specs.declared.instance.CountedInstance.{CountedInstance}
 use Rattle.event_text.specs.declared.settings.Settings.{Settings}
 use Rattle.test_text.specs.declared.status_line.StatusLineKind.TheVariants.{Intermediate}
@@ -61,7 +61,7 @@ line_at_once s f = if is_line_shown s f.summary then status_line s.styles Interm
 -- the output of its last attempt, where that is shown at once, whatever the status level
 unfoldable pub output_at_once : Settings → TestFinish → Text
 output_at_once s f =
-    if row_at_once f.row f.display then attempt_output s false f.last.is_slow f.last.result f.last.output else []
+    if row_at_once f.row f.display then attempt_output s false f.last.result f.last.output else []
 
 -- a finished test: its line and its output
 unfoldable pub test_finished_text : Settings → TestFinish → Text

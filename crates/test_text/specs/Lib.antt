@@ -1,5 +1,4 @@
 pub mod FinishedTests
-pub mod Finishes
 pub mod RetriedTests
 pub mod SkippedTests
 pub mod SlowTests

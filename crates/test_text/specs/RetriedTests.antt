@@ -43,7 +43,7 @@ HasFailedOutput s x failure = is_failed_output_shown s failure ≡ true → has_
 
 -- its output, where that is shown at once
 unfoldable pub failed_output : Settings → Attempt → TestOutputDisplay → Text
-failed_output s x failure = if is_failed_output_shown s failure then attempt_output s true x.is_slow x.result x.output else []
+failed_output s x failure = if is_failed_output_shown s failure then attempt_output s true x.result x.output else []
 
 -- the number of the next attempt
 abbrev pub delay_words : RetryData → Text

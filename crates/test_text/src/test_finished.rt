@@ -5,9 +5,9 @@ ghost use Rattle.run_model.specs.Levels.{reason_rank};
 ghost use Rattle.plain_text.specs.Writer.{Puts};
 ghost use Rattle.test_text.specs.FinishedTests.{HasShownOutput, finish_of, line_at_once, output_at_once, test_finish, test_finished_text};
 
-use crate::finish::FinishRow;
 use crate::status_line::{StatusLine, StatusLineKind, write_status_line};
 use event_text::attempt_output::write_test_execute_status;
+use event_text::finish::FinishRow;
 use event_text::instance::CountedInstance;
 use event_text::settings::Settings;
 use plain_text::write_str::{WriteFault, WriteStr};
@@ -110,7 +110,7 @@ fn write_output_at_once<W: WriteStr>(
 {
     if finished.row.is_shown_at_once(finished.display) {
         let last = finished.describe.last_status();
-        write_test_execute_status(w, settings, false, last.is_slow, &last.result, &last.output)
+        write_test_execute_status(w, settings, false, &last.result, &last.output)
     } else {
         Ok(())
     }

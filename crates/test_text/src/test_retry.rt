@@ -115,7 +115,6 @@ fn write_failed_output<W: WriteStr>(
         w,
         settings,
         true,
-        run_status.is_slow,
         &run_status.result,
         &run_status.output,
     )

@@ -9,7 +9,7 @@ use Rattle.report_text.specs.PlainTexts.{HoldsIf, IsPlainResult}
 use Rattle.report_text.proofs.lemmas.Tints.{IsTinted, tinted-none, tinted-append}
 use Rattle.unit_report.specs.PlainOutputs.{IsPlainWritten}
 use Rattle.test_text.specs.FinishedTests.{TestFinish, test_finish}
-use Rattle.test_text.specs.Finishes.{display_of, is_final_wanted, row_at_end}
+use Rattle.event_text.specs.Finishes.{display_of, is_final_wanted, row_at_end}
 use Rattle.event_text.specs.declared.instance.CountedInstance.{CountedInstance}
 use Rattle.event_text.specs.declared.settings.Settings.{Settings}
 use Rattle.test_text.specs.declared.status_line.StatusLineKind.TheVariants.{Final}
@@ -41,7 +41,7 @@ tinted-final_text : (k : Bool) (s : Settings) (test : CountedInstance) (x : Fina
 unfolding final_text
 tinted-final_text k s test (Executed summary) h j = tinted-status_line k Final test summary h j
 tinted-final_text k s test (ExecutedWithOutput summary output) h j =
-    tinted-append k _ _ _ _ (tinted-status_line k Final test summary h j.0) (tinted-unit_output k s unit.Test false summary.is_slow summary.result output j.0 j.1)
+    tinted-append k _ _ _ _ (tinted-status_line k Final test summary h j.0) (tinted-unit_output k s unit.Test false summary.result output j.0 j.1)
 tinted-final_text k s test Skipped h j = tinted-skip_line k s test h
 
 pub tinted-entries_text : (k : Bool) (s : Settings) (es : List FinalOutputEntry) → AllByRecursion (IsPlainEntry k) es → IsTinted k (entries_text (painted true s) es) (entries_text (painted false s) es)

@@ -36,13 +36,13 @@ use Rattle.store_text.specs.declared.config.StoreConfig.{StoreConfig}
 use Rattle.event_text.specs.AttemptOutputs.{Written}
 use Rattle.event_text.specs.ResultWords.{short_word}
 use Rattle.test_text.specs.FinishedTests.{line_at_once, output_at_once, test_finished_text}
-use Rattle.test_text.specs.Finishes.{display_of, is_final_wanted, row_at_end, row_at_once, row_listed}
+use Rattle.event_text.specs.Finishes.{display_of, is_final_wanted, row_at_end, row_at_once, row_listed}
 use Rattle.event_text.specs.Instances.{padded_instance}
 use Rattle.test_text.specs.RetriedTests.{Attempt, attempt_failed_line, attempt_failed_text, delay_line, failed_output, is_failed_output_shown}
 use Rattle.event_text.specs.Scripts.{Script}
 use Rattle.event_text.specs.Settings.{finished_counter, is_level_shown}
 use Rattle.test_text.specs.StatusLines.{status_line}
-use Rattle.test_text.proofs.lemmas.Finishes.{row_below}
+use Rattle.event_text.proofs.lemmas.Finishes.{row_below}
 use Rattle.event_text.specs.declared.instance.CountedInstance.{CountedInstance}
 use Rattle.event_text.specs.declared.settings.Settings.{Settings}
 use Rattle.test_text.specs.declared.status_line.StatusLineKind.TheVariants.{Final}
@@ -169,7 +169,7 @@ script_differs : (s : Settings) (script : Script) (x : SetupScriptExecuteStatus 
 unfolding setup_script_finished_text failed_script_output
 script_differs s script x is e =
     let failed : is_success x.result ≡ false = not-true _ is in
-    outputs_differ s unit.Script false x.is_slow x.result (append_cancel_left (setup_script_line s.styles script x.result x.time_taken.0) _ _ (rw failed at e))
+    outputs_differ s unit.Script false x.result (append_cancel_left (setup_script_line s.styles script x.result x.time_taken.0) _ _ (rw failed at e))
 
 -- an attempt that failed, whose output is shown
 attempt_differs : (s : Settings) (stress : Option StressIndex) (test : TestInstanceId) (x : Attempt) (delay : ℕ) (failure : TestOutputDisplay) → loads_attempt (decider_by s None) failure ≡ true →
@@ -180,7 +180,7 @@ attempt_differs s stress test x delay failure is e =
     let shown : is_level_shown s level.Retry ≡ true = parts.0 in
     let at_once : is_failed_output_shown s failure ≡ true = parts.1 in
     let same = rw (shown, at_once) at e in
-    outputs_differ s unit.Test true x.is_slow x.result
+    outputs_differ s unit.Test true x.result
     (append_cancel_right _ _ (delay_line s.styles (padded_instance s stress test) x.retry_data delay)
     (append_cancel_left (attempt_failed_line s.styles (padded_instance s stress test) x) _ _ same))
 
@@ -193,7 +193,7 @@ listed_differ s test x front back elapsed (RunFinished taken stats outstanding) 
     let rest = not_seen_text s outstanding ++ final_warnings s.styles s.mode (final_stats_of_run stats) in
     let entries = append_cancel_right _ _ rest (append_cancel_left (run_finished_text s taken.0 stats) _ _ e) in
     let outputs = append_cancel_right _ _ place.1 (append_cancel_left place.0 _ _ (sym (place.2 wrote_a) ∙ entries ∙ place.2 wrote_b)) in
-    outputs_differ s unit.Test false x.is_slow x.result (append_cancel_left (status_line s.styles Final test x) _ _ outputs)
+    outputs_differ s unit.Test false x.result (append_cancel_left (status_line s.styles Final test x) _ _ outputs)
 listed_differ s test x front back elapsed other is e = absurd (false≢true is)
 
 -- a finished test whose output is shown
@@ -212,7 +212,7 @@ module _ (config : Configuration) (before after : List ReportCall) (elapsed : Na
   unfolding event_text test_finished_text line_at_once output_at_once row_at_once
   finish_at_once rest now = observed_at_once config before rest finished (λ e.
       let row = row_below (cancel (reverse before)) statuses.last.result (calm_past before calm) in
-      outputs_differ s unit.Test false statuses.last.is_slow statuses.last.result (append_cancel_left _ _ _ (rw (row, now) at e)))
+      outputs_differ s unit.Test false statuses.last.result (append_cancel_left _ _ _ (rw (row, now) at e)))
 
   kept_with : (output : Written) → is_final display ≡ true →
       entry_of s 0 (with_output output finished.kind) ≡ Some (entry_with (record { stress_index = stress; counter = finished_counter s stats; instance = test }) (summary_of statuses) output)

@@ -28,11 +28,11 @@ use Rattle.store_text.specs.Records.{record_text}
 use Rattle.store_text.specs.StoredOutputs.{is_stored, stored_output}
 use Rattle.store_text.specs.declared.config.StoreConfig.{StoreConfig}
 use Rattle.test_text.specs.FinishedTests.{TestFinish, line_at_once, output_at_once, test_finish, test_finished_text}
-use Rattle.test_text.specs.Finishes.{display_of, is_ever_shown, row_at_end, row_at_once}
+use Rattle.event_text.specs.Finishes.{display_of, is_ever_shown, row_at_end, row_at_once}
 use Rattle.test_text.specs.RetriedTests.{Attempt, attempt_failed_text, attempt_failed_line, failed_output, is_failed_output_shown}
 use Rattle.event_text.specs.Settings.{is_level_shown}
-use Rattle.test_text.specs.declared.finish.FinishRow.{FinishRow}
-use Rattle.test_text.specs.declared.finish.FinishRow.TheVariants.{Hidden, Shown, ShownOnce}
+use Rattle.event_text.specs.declared.finish.FinishRow.{FinishRow}
+use Rattle.event_text.specs.declared.finish.FinishRow.TheVariants.{Hidden, Shown, ShownOnce}
 use Rattle.event_text.specs.declared.settings.Settings.{Settings}
 use Rattle.run_text.specs.SetupScripts.{failed_script_output, setup_script_finished_text}
 use Rattle.event_text.specs.Scripts.{Script}

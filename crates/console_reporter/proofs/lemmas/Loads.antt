@@ -24,7 +24,7 @@ use Rattle.unit_report.specs.Overrides.{display_for}
 use Rattle.store_text.specs.declared.config.StoreConfig.{StoreConfig}
 use Rattle.event_text.specs.AttemptOutputs.{Written}
 use Rattle.test_text.specs.FinishedTests.{HasShownOutput, test_finish}
-use Rattle.test_text.specs.Finishes.{display_of, is_ever_shown}
+use Rattle.event_text.specs.Finishes.{display_of, is_ever_shown}
 use Rattle.test_text.specs.RetriedTests.{Attempt, HasFailedOutput, is_failed_output_shown}
 use Rattle.event_text.specs.Settings.{is_level_shown}
 use Rattle.event_text.specs.declared.settings.Settings.{Settings}

@@ -10,7 +10,7 @@ use Rattle.plain_text.specs.Escapes.{HasNoEscape}
 use Rattle.report_text.specs.PlainTexts.{HoldsIf}
 use Rattle.report_text.proofs.lemmas.Tints.{IsTinted, tinted-none, tinted-append, tinted-if, tinted-whole}
 use Rattle.unit_report.proofs.lemmas.SkipTints.{tinted-final_warnings}
-use Rattle.test_text.specs.Finishes.{display_of}
+use Rattle.event_text.specs.Finishes.{display_of}
 use Rattle.event_text.specs.declared.settings.Settings.{Settings}
 use Rattle.event_text.proofs.lemmas.LineTints.{painted}
 use Rattle.test_text.proofs.lemmas.StatusTints.{tinted-test_finished_text}

@@ -43,14 +43,14 @@ use Rattle.console_reporter.specs.Order.{ordered_by, put_in}
 use Rattle.console_reporter.specs.Entries.{cancel, kept, final_order}
 use Rattle.test_text.specs.FinishedTests.{test_finish}
 use Rattle.console_reporter.specs.Effects.{finished_entry}
-use Rattle.test_text.specs.Finishes.{display_of, finish_row, row_listed, is_final_wanted}
+use Rattle.event_text.specs.Finishes.{display_of, finish_row, row_listed, is_final_wanted}
 use Rattle.event_text.specs.Bars.{bar_line}
 use Rattle.run_text.specs.RunIds.{id_text, run_id_text}
 use Rattle.run_text.specs.Starts.{profile_text, run_id_line, test_counts_text, starting_line, run_started_text}
 use Rattle.run_text.specs.Summaries.{initial_count_text, run_counts_text, summary_line, run_finished_text}
 use Rattle.test_text.specs.StatusLines.{status_prefix, flaky_failure_line, status_line}
 use Rattle.run_model.specs.declared.call.ReportCall.TheVariants.{Event}
-use Rattle.test_text.specs.declared.finish.FinishRow.TheVariants as row
+use Rattle.event_text.specs.declared.finish.FinishRow.TheVariants as row
 use Rattle.event_text.specs.declared.settings.Settings.{Settings}
 use Rattle.test_text.specs.declared.status_line.StatusLineKind.{StatusLineKind}
 use Rattle.test_text.specs.declared.status_line.StatusLineKind.TheVariants.{Intermediate, Final}

@@ -61,7 +61,7 @@ use Rattle.info_text.specs.Starts.{info_finished_text, info_started_text}
 use Rattle.console_reporter.specs.Configuration.{Configuration}
 use Rattle.test_text.specs.FinishedTests.{TestFinish, test_finish, line_at_once, output_at_once, test_finished_text}
 use Rattle.console_reporter.specs.Entries.{hiding_rank, entry_text, final_text}
-use Rattle.test_text.specs.Finishes.{is_line_shown, row_at_once}
+use Rattle.event_text.specs.Finishes.{is_line_shown, row_at_once}
 use Rattle.console_reporter.specs.Outcomes.{IsOfLines}
 use Rattle.console_reporter.specs.Report.{Known, end_of_run_text, event_text, listed_text, script_by, text}
 use Rattle.event_text.specs.Instances.{instance_end, padded_instance, untimed_end}
@@ -161,25 +161,25 @@ ends-info_end : EndsLine (plain (codes ")\n\n"))
 unfolding plain
 ends-info_end = record { front = codes ")\n"; is = refl }
 
-ends-shown_info_line : (s : Styles) (kind : UnitKind) (is_slow : Bool) (result : ExecutionResultDescription) → EndsLine (shown_info_line s kind is_slow result)
+ends-shown_info_line : (s : Styles) (kind : UnitKind) (result : ExecutionResultDescription) → EndsLine (shown_info_line s kind result)
 unfolding shown_info_line
-ends-shown_info_line s kind is_slow result = search (ends_after, ends-info_end) depth 12
+ends-shown_info_line s kind result = search (ends_after, ends-info_end) depth 12
 
-of_lines-info_line : (s : Styles) (kind : UnitKind) (is_slow : Bool) (result : ExecutionResultDescription) → IsOfLines (info_line s kind is_slow result)
+of_lines-info_line : (s : Styles) (kind : UnitKind) (result : ExecutionResultDescription) → IsOfLines (info_line s kind result)
 unfolding info_line
-of_lines-info_line s kind is_slow result = elim (cases_Bool (has_info_line result)) [ inl y ↦ rw y (of_line _ (ends-shown_info_line s kind is_slow result)) | inr n ↦ rw n (inl refl) ]
+of_lines-info_line s kind result = elim (cases_Bool (has_info_line result)) [ inl y ↦ rw y (of_line _ (ends-shown_info_line s kind result)) | inr n ↦ rw n (inl refl) ]
 
 ends-execution_output : (r : UnitOutputReporter) (s : Styles) (layout : OutputLayout) (output : Written) → EndsLine (execution_output r s layout output)
 unfolding execution_output
 ends-execution_output r s layout (Output result output errors highlight) = search (ends_after, ends-feed) depth 12
 ends-execution_output r s layout (StartError chain) = search (ends_after, ends-feed) depth 12
 
-ends-unit_output : (s : Settings) (kind : UnitKind) (is_retry is_slow : Bool) (result : ExecutionResultDescription) (output : Written) → EndsLine (unit_output s kind is_retry is_slow result output)
+ends-unit_output : (s : Settings) (kind : UnitKind) (is_retry : Bool) (result : ExecutionResultDescription) (output : Written) → EndsLine (unit_output s kind is_retry result output)
 unfolding unit_output
-ends-unit_output s kind is_retry is_slow result output = ends_before _ _ (ends-execution_output _ _ _ output) (of_lines-info_line s.styles kind is_slow result)
+ends-unit_output s kind is_retry result output = ends_before _ _ (ends-execution_output _ _ _ output) (of_lines-info_line s.styles kind result)
 
-ends-attempt_output : (s : Settings) (is_retry is_slow : Bool) (result : ExecutionResultDescription) (output : Written) → EndsLine (attempt_output s is_retry is_slow result output)
-ends-attempt_output s is_retry is_slow result output = ends-unit_output s unit.Test is_retry is_slow result output
+ends-attempt_output : (s : Settings) (is_retry : Bool) (result : ExecutionResultDescription) (output : Written) → EndsLine (attempt_output s is_retry result output)
+ends-attempt_output s is_retry result output = ends-unit_output s unit.Test is_retry result output
 
 ends-setup_script_started_text : (s : Styles) (index total : ℕ) (script : Script) → EndsLine (setup_script_started_text s index total script)
 unfolding setup_script_started_text
@@ -201,7 +201,7 @@ ends-setup_script_line s script result time_taken = search (ends_after, ends-fee
 of_lines-failed_script_output : (s : Settings) (x : SetupScriptExecuteStatus LiveSpec ChildOutputDescription) → IsOfLines (failed_script_output s x)
 unfolding failed_script_output
 of_lines-failed_script_output s x =
-    elim (cases_Bool (is_success x.result)) [ inl y ↦ rw y (inl refl) | inr n ↦ rw n (of_line _ (ends-unit_output s unit.Script false x.is_slow x.result x.output)) ]
+    elim (cases_Bool (is_success x.result)) [ inl y ↦ rw y (inl refl) | inr n ↦ rw n (of_line _ (ends-unit_output s unit.Script false x.result x.output)) ]
 
 ends-setup_script_finished_text : (s : Settings) (script : Script) (x : SetupScriptExecuteStatus LiveSpec ChildOutputDescription) → EndsLine (setup_script_finished_text s script x)
 unfolding setup_script_finished_text
@@ -314,7 +314,7 @@ ends-skip_line s test = search (ends_after, ends-untimed_end) depth 12
 ends-final_text : (s : Settings) (test : CountedInstance) (x : FinalOutput) → EndsLine (final_text s test x)
 unfolding final_text
 ends-final_text s test (Executed summary) = ends-status_line s.styles Final test summary
-ends-final_text s test (ExecutedWithOutput summary output) = ends_after _ _ (ends-attempt_output s false summary.is_slow summary.result output)
+ends-final_text s test (ExecutedWithOutput summary output) = ends_after _ _ (ends-attempt_output s false summary.result output)
 ends-final_text s test Skipped = ends-skip_line s test
 
 of_lines-entries : (s : Settings) (es : List FinalOutputEntry) → IsOfLines (flat_map (entry_text s) es)
@@ -333,7 +333,7 @@ of_lines-line_at_once s f =
 of_lines-output_at_once : (s : Settings) (f : TestFinish) → IsOfLines (output_at_once s f)
 unfolding output_at_once
 of_lines-output_at_once s f =
-    elim (cases_Bool (row_at_once f.row f.display)) [ inl y ↦ rw y (of_line _ (ends-attempt_output s false f.last.is_slow f.last.result f.last.output)) | inr n ↦ rw n (inl refl) ]
+    elim (cases_Bool (row_at_once f.row f.display)) [ inl y ↦ rw y (of_line _ (ends-attempt_output s false f.last.result f.last.output)) | inr n ↦ rw n (inl refl) ]
 
 of_lines-test_finished_text : (s : Settings) (f : TestFinish) → IsOfLines (test_finished_text s f)
 unfolding test_finished_text
@@ -388,7 +388,7 @@ ends-attempt_failed_line s test x = search (ends_after, ends-instance_end) depth
 of_lines-failed_output : (s : Settings) (x : Attempt) (failure : TestOutputDisplay) → IsOfLines (failed_output s x failure)
 unfolding failed_output
 of_lines-failed_output s x failure =
-    elim (cases_Bool (is_failed_output_shown s failure)) [ inl y ↦ rw y (of_line _ (ends-attempt_output s true x.is_slow x.result x.output)) | inr n ↦ rw n (inl refl) ]
+    elim (cases_Bool (is_failed_output_shown s failure)) [ inl y ↦ rw y (of_line _ (ends-attempt_output s true x.result x.output)) | inr n ↦ rw n (inl refl) ]
 
 of_lines-delay_line : (s : Styles) (test : CountedInstance) (r : RetryData) (delay : ℕ) → IsOfLines (delay_line s test r delay)
 unfolding delay_line

@@ -5,7 +5,7 @@ ghost use Rattle.run_model.specs.Statuses.{is_aborted};
 ghost use Rattle.test_text.specs.FinishedTests.{HasShownOutput, finish_of};
 ghost use Rattle.console_reporter.specs.Effects.{final_output, finished_entry, skipped_entry};
 ghost use Rattle.console_reporter.specs.Entries.{final_level_in};
-ghost use Rattle.test_text.specs.Finishes.{row_at_end};
+ghost use Rattle.event_text.specs.Finishes.{row_at_end};
 
 use super::loaded_output::LoadedOutput;
 use event_text::instance::CountedInstance;

@@ -103,7 +103,6 @@ fn write_entry<W: WriteStr>(
                 w,
                 settings,
                 false,
-                summary.is_slow,
                 &summary.result,
                 output.get(),
             )

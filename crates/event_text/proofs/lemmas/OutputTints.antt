@@ -43,15 +43,15 @@ unfolding info_line_start
 free-info_line_start unit.Test = refl
 free-info_line_start unit.Script = refl
 
-tinted-info_line : (k : Bool) (kind : UnitKind) (b : Bool) (x : ExecutionResultDescription) → IsPlainResult x → IsTinted k (info_line (styles_of true) kind b x) (info_line (styles_of false) kind b x)
+tinted-info_line : (k : Bool) (kind : UnitKind) (x : ExecutionResultDescription) → IsPlainResult x → IsTinted k (info_line (styles_of true) kind x) (info_line (styles_of false) kind x)
 unfolding info_line shown_info_line
-tinted-info_line k kind b x h = let info = tinted-info_text k b x h in search (tints, free-info_line_start) depth 12
+tinted-info_line k kind x h = let info = tinted-info_text k false x h in search (tints, free-info_line_start) depth 12
 
-pub tinted-unit_output : (k : Bool) (s : Settings) (kind : UnitKind) (is_retry is_slow : Bool) (x : ExecutionResultDescription) (w : Written) → IsPlainResult x → IsPlainWritten k w
-    → IsTinted k (unit_output (painted true s) kind is_retry is_slow x w) (unit_output (painted false s) kind is_retry is_slow x w)
+pub tinted-unit_output : (k : Bool) (s : Settings) (kind : UnitKind) (is_retry : Bool) (x : ExecutionResultDescription) (w : Written) → IsPlainResult x → IsPlainWritten k w
+    → IsTinted k (unit_output (painted true s) kind is_retry x w) (unit_output (painted false s) kind is_retry x w)
 unfolding unit_output
-tinted-unit_output k s kind is_retry is_slow x w h j =
+tinted-unit_output k s kind is_retry x w h j =
     let layout = tinted-layout_in k kind s.no_output_indent s.theme_characters (header_style (styles_of true) x is_retry) in
     let shown = tinted-execution_output k s.unit_output _ _ layout w j in
-    let info = tinted-info_line k kind is_slow x h in
+    let info = tinted-info_line k kind x h in
     rw plain_style (search (tints, shown, info) depth 12)

@@ -78,7 +78,7 @@ cannot spawn
         let mut text = String::new(alloc);
         let outcome = ExecutionResultDescription::ExecFail;
         let output = start_error(alloc)?;
-        write_test_execute_status(&mut text, &settings, false, false, &outcome, &output)?;
+        write_test_execute_status(&mut text, &settings, false, &outcome, &output)?;
         assert_eq!(rt; text.as_str(), want);
     }
     Ok(())
@@ -97,7 +97,6 @@ fn after_failure(
     write_test_execute_status(
         &mut text,
         &settings,
-        false,
         false,
         &outcome,
         &written(alloc)?,

@@ -1,11 +1,13 @@
 -- Texts of digits (for `write_decimals`, `write_seconds_right`).
-use Rattle.std.proofs.Common.{◌≡◌, ℕ, zero, suc, ◌+◌, ◌-◌, ◌/◌, ◌%◌, ◌^◌, ◌<◌, [], ◌∷◌, ◌++◌, length, ap, ◌∙◌, arith, length-append, append_assoc, codes, lit<, refl}
+use Rattle.std.proofs.Common.{◌≡◌, ◌≤◌, ◌⊎◌, inl, inr, true, false, nat_lt, sym, ℕ, zero, suc, ◌+◌, ◌-◌, ◌/◌, ◌%◌, ◌^◌, ◌<◌, [], ◌∷◌, ◌++◌, length, ap, ◌∙◌, arith, length-append, append_assoc, codes, lit<, refl}
 use Rattle.std.specs.Fmt.{decimal}
 use Rattle.std.specs.Str.{IsAscii, IsUtf8, chars}
 use Rattle.std.proofs.lemmas.Str.{chars-IsAscii, IsAscii-append, IsUtf8-from_ascii}
-use Rattle.std.proofs.lemmas.Fmt.{IsAscii-decimal_wide}
+use Rattle.std.proofs.lemmas.Bool.{cases_lt}
+use Rattle.std.proofs.lemmas.Bool.Decides.{nat_tests}
+use Rattle.std.proofs.lemmas.Fmt.{IsAscii-decimal_wide, decimal_digit, decimal_step}
 use Rattle.plain_text.specs.Texts.{Text, spaces, right_in}
-use Rattle.plain_text.specs.Numbers.{rounded, last_digits, with_point, seconds}
+use Rattle.plain_text.specs.Numbers.{digit_column, rounded, last_digits, with_point, seconds}
 
 -- one byte, and a list with one more in front
 pub IsAscii-cons : (c : ℕ) (t : Text) → c < 128 → IsAscii t → IsAscii (c ∷ t)
@@ -65,3 +67,73 @@ IsUtf8-digits n h =
     (IsAscii-cons (48 + n / 100) ((48 + n / 10 % 10) ∷ (48 + n % 10) ∷ []) (omega arith)
     (IsAscii-cons (48 + n / 10 % 10) ((48 + n % 10) ∷ []) (omega arith)
     (IsAscii-cons (48 + n % 10) [] (omega arith) IsAscii-none))))
+
+-- the column of a number's digit at a power of ten
+below : (n p : ℕ) → n < p → digit_column n p ≡ 32
+below n p h = let e : nat_lt n p ≡ true = grind (arith, nat_tests) in rw e refl
+
+above : (n p : ℕ) → p ≤ n → digit_column n p ≡ 48 + n / p % 10
+above n p h = let e : nat_lt n p ≡ false = grind (arith, nat_tests) in rw e refl
+
+digit_column-small : (n p : ℕ) → digit_column n p < 128
+digit_column-small n p = elim (cases_lt n p) [ inl l ↦ rw (below n p l) (lit< tt) | inr m ↦ rw (above n p m) (omega arith) ]
+
+-- a number below ten thousand takes four columns
+abbrev columns_of : ℕ → Text
+columns_of n = digit_column n 1000 ∷ digit_column n 100 ∷ digit_column n 10 ∷ (48 + n % 10) ∷ []
+
+one-column : (n : ℕ) → n < 10 → spaces (4 - length (decimal n)) ++ decimal n ≡ columns_of n
+one-column n h =
+    let last : n % 10 ≡ n = omega arith in
+    rw (decimal_digit n h, below n 1000 (omega arith), below n 100 (omega arith), below n 10 h, last) refl
+
+two-columns : (n : ℕ) → 10 ≤ n → n < 100 → spaces (4 - length (decimal n)) ++ decimal n ≡ columns_of n
+two-columns n l h =
+    let tens : n / 10 % 10 ≡ n / 10 = omega arith in
+    rw (decimal_step n l (omega arith), decimal_digit (n / 10) (omega arith), below n 1000 (omega arith), below n 100 h, above n 10 l, tens) refl
+
+three-columns : (n : ℕ) → 100 ≤ n → n < 1000 → spaces (4 - length (decimal n)) ++ decimal n ≡ columns_of n
+three-columns n l h =
+    let hundreds : n / 100 % 10 ≡ n / 10 / 10 = omega arith in
+    rw (decimal_step n (omega arith) (omega arith), decimal_step (n / 10) (omega arith) (omega arith), decimal_digit (n / 10 / 10) (omega arith), below n 1000 h, above n 100 l, above n 10 (omega arith), hundreds) refl
+
+four-columns : (n : ℕ) → 1000 ≤ n → n < 10000 → spaces (4 - length (decimal n)) ++ decimal n ≡ columns_of n
+four-columns n l h =
+    let hundreds : n / 100 % 10 ≡ n / 10 / 10 % 10 = omega arith in
+    let thousands : n / 1000 % 10 ≡ n / 10 / 10 / 10 = omega arith in
+    rw (decimal_step n (omega arith) (omega arith), decimal_step (n / 10) (omega arith) (omega arith), decimal_step (n / 10 / 10) (omega arith) (omega arith), decimal_digit (n / 10 / 10 / 10) (omega arith),
+    above n 1000 l, above n 100 (omega arith), above n 10 (omega arith), hundreds, thousands) refl
+
+in-columns : (n : ℕ) → n < 10000 → spaces (4 - length (decimal n)) ++ decimal n ≡ columns_of n
+in-columns n h =
+    elim (cases_lt n 10) [ inl a ↦ one-column n a | inr b ↦
+    elim (cases_lt n 100) [ inl c ↦ two-columns n b c | inr d ↦
+    elim (cases_lt n 1000) [ inl e ↦ three-columns n d e | inr f ↦ four-columns n f h ] ] ]
+
+-- the bytes of a short duration between brackets
+abbrev pub row_of : ℕ → ℕ → ℕ → ℕ → ℕ → Text
+row_of whole r a b c =
+    91 ∷ a ∷ b ∷ c ∷ (48 + whole % 10) ∷ 46 ∷ (48 + r / 100 % 10) ∷ (48 + r / 10 % 10) ∷ (48 + r % 10) ∷ 115 ∷ 93 ∷ 32 ∷ []
+
+three-ascii : (x y z : ℕ) → x < 128 → y < 128 → z < 128 → IsAscii (x ∷ y ∷ z ∷ [])
+three-ascii x y z h k l = IsAscii-cons x (y ∷ z ∷ []) h (IsAscii-cons y (z ∷ []) k (IsAscii-cons z [] l IsAscii-none))
+
+pub IsUtf8-row : (whole r a b c : ℕ) → a ≡ digit_column whole 1000 → b ≡ digit_column whole 100 → c ≡ digit_column whole 10 → IsUtf8 (row_of whole r a b c)
+IsUtf8-row whole r a b c p q s =
+    let front = three-ascii 91 a b (lit< tt) (rw p (digit_column-small whole 1000)) (rw q (digit_column-small whole 100)) in
+    let point = three-ascii c (48 + whole % 10) 46 (rw s (digit_column-small whole 10)) (omega arith) (lit< tt) in
+    let thousandths = three-ascii (48 + r / 100 % 10) (48 + r / 10 % 10) (48 + r % 10) (omega arith) (omega arith) (omega arith) in
+    let end = three-ascii 115 93 32 (lit< tt) (lit< tt) (lit< tt) in
+    let last = IsAscii-append ((48 + r / 100 % 10) ∷ (48 + r / 10 % 10) ∷ (48 + r % 10) ∷ []) (115 ∷ 93 ∷ 32 ∷ []) thousandths end in
+    let rest = IsAscii-append (c ∷ (48 + whole % 10) ∷ 46 ∷ []) ((48 + r / 100 % 10) ∷ (48 + r / 10 % 10) ∷ (48 + r % 10) ∷ 115 ∷ 93 ∷ 32 ∷ []) point last in
+    IsUtf8-from_ascii (row_of whole r a b c) (IsAscii-append (91 ∷ a ∷ b ∷ []) (c ∷ (48 + whole % 10) ∷ 46 ∷ (48 + r / 100 % 10) ∷ (48 + r / 10 % 10) ∷ (48 + r % 10) ∷ 115 ∷ 93 ∷ 32 ∷ []) front rest)
+
+-- they are what the definition says
+pub bracketed-row : (n whole r a b c : ℕ) → n < 9999000000000 → r ≡ rounded 1000000 n → whole ≡ r / 1000 → a ≡ digit_column whole 1000 → b ≡ digit_column whole 100 → c ≡ digit_column whole 10
+    → row_of whole r a b c ≡ codes "[" ++ (right_in 8 (seconds 3 n) ++ codes "s] ")
+bracketed-row n whole r a b c h is over p q s =
+    let small : whole < 10000 = omega arith in
+    let hundreds : r / 10 / 10 % 10 ≡ r / 100 % 10 = omega arith in
+    let text : right_in 8 (seconds 3 n) ≡ (spaces (4 - length (decimal whole)) ++ decimal whole) ++ decimals r
+      = ap (right_in 8) (seconds-thousandths n) ∙ right-thousandths 8 (rounded 1000000 n) (omega arith) ∙ rw (← is, ← over) (sym (append_assoc (spaces (4 - length (decimal whole))) (decimal whole) (decimals r))) in
+    rw (text, in-columns whole small, p, q, s, hundreds) refl

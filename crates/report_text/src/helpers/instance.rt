@@ -356,6 +356,10 @@ pub fn write_test_name<W: WriteStr>(
 ) -> Result<(), WriteFault>
     ensures { Puts W.meaning w.old (name_text styles.now name.now) result w.new }
 {
+    // Where neither style is a colour, the two and what joins them are the name as it is.
+    if styles.module_path == Style::Plain && styles.test_name == Style::Plain {
+        return w.write_str(name.as_str());
+    }
     let (module_path, last) = name.module_path_and_name();
     match module_path {
         None => styles.test_name.write(w, last),

@@ -59,5 +59,5 @@ pub tinted-setup_script_finished_text : (k : Bool) (s : Settings) (x : Script) (
 unfolding setup_script_finished_text failed_script_output
 tinted-setup_script_finished_text k s x status h p =
     let line = tinted-setup_script_line k x status.result status.time_taken.0 h p.0 in
-    let output = tinted-unit_output k s unit.Script false status.is_slow status.result status.output p.0 p.1 in
+    let output = tinted-unit_output k s unit.Script false status.result status.output p.0 p.1 in
     search tints depth 12

@@ -15,7 +15,7 @@ use Rattle.report_text.proofs.lemmas.Tints.{IsTinted, tinted-none, tinted-if, ti
 use Rattle.unit_report.proofs.lemmas.DurationTints.{tinted-bracketed_duration}
 use Rattle.unit_report.specs.PlainOutputs.{IsPlainWritten}
 use Rattle.test_text.specs.FinishedTests.{TestFinish, line_at_once, output_at_once, test_finished_text}
-use Rattle.test_text.specs.Finishes.{is_line_shown}
+use Rattle.event_text.specs.Finishes.{is_line_shown}
 use Rattle.test_text.specs.StatusLines.{flaky_words, status_words, status_prefix, flaky_note, flaky_failure_line, status_line}
 use Rattle.event_text.specs.declared.instance.CountedInstance.{CountedInstance}
 use Rattle.event_text.specs.declared.settings.Settings.{Settings}
@@ -64,4 +64,4 @@ pub tinted-test_finished_text : (k : Bool) (s : Settings) (f : TestFinish) → I
 unfolding test_finished_text line_at_once output_at_once is_line_shown
 tinted-test_finished_text k s f h = tinted-append k _ _ _ _
     (tinted-if k _ _ _ _ _ (tinted-status_line k Intermediate f.test f.summary h.test h.summary) (tinted-none k))
-    (tinted-if k _ _ _ _ _ (tinted-unit_output k s unit.Test false f.last.is_slow f.last.result f.last.output h.last h.output) (tinted-none k))
+    (tinted-if k _ _ _ _ _ (tinted-unit_output k s unit.Test false f.last.result f.last.output h.last h.output) (tinted-none k))

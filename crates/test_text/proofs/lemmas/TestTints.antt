@@ -93,6 +93,6 @@ unfolding attempt_failed_text failed_output is_failed_output_shown is_level_show
 tinted-attempt_failed_text k s stress i x delay failure h j w =
     let test = plain-padded s stress i h in
     let line = tinted-attempt_failed_line k (padded_instance s stress i) x test j in
-    let output = tinted-unit_output k s unit.Test true x.is_slow x.result x.output j w in
+    let output = tinted-unit_output k s unit.Test true x.result x.output j w in
     let wait = tinted-delay_line k (padded_instance s stress i) x.retry_data delay test in
     search tints depth 12

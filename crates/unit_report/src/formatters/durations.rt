@@ -6,7 +6,7 @@ ghost use Rattle.plain_text.specs.Numbers.{seconds};
 ghost use Rattle.plain_text.specs.Writer.{Puts};
 ghost use Rattle.unit_report.specs.Durations.{bracketed_clock, bracketed_duration, duration_by, slow_duration};
 
-use plain_text::numbers::write_seconds_between;
+use plain_text::numbers::{write_bracketed_seconds, write_seconds_between};
 use plain_text::show_written;
 use plain_text::write_str::{WriteFault, WriteStr};
 use report_text::helpers::durations::write_clock_between;
@@ -31,7 +31,7 @@ impl DisplayBracketedDuration {
         ensures { Puts W.meaning w.old (bracketed_duration self.now.0.0) result w.new }
     {
         let Nanos(nanos) = self.0;
-        write_seconds_between(w, "[", 8, nanos, "s] ")
+        write_bracketed_seconds(w, nanos)
     }
 }
 

@@ -7,9 +7,9 @@ use Rattle.run_model.specs.Displays.{is_immediate, is_final}
 use Rattle.run_model.specs.declared.config.TestOutputDisplay.{TestOutputDisplay}
 use Rattle.run_model.specs.declared.config.TestOutputDisplay.TheVariants.{Immediate, ImmediateFinal, Final, Never}
 use Rattle.run_model.specs.declared.status.ExecutionResultDescription.{ExecutionResultDescription}
-use Rattle.test_text.specs.Finishes.{IsOnlyHidden, IsSameBelowImmediate, finish_row, is_shown_at_end, is_shown_at_once, row_at_end, row_at_once}
-use Rattle.test_text.specs.declared.finish.FinishRow.{FinishRow}
-use Rattle.test_text.specs.declared.finish.FinishRow.TheVariants.{Hidden, Shown, ShownOnce}
+use Rattle.event_text.specs.Finishes.{IsOnlyHidden, IsSameBelowImmediate, finish_row, is_shown_at_end, is_shown_at_once, row_at_end, row_at_once}
+use Rattle.event_text.specs.declared.finish.FinishRow.{FinishRow}
+use Rattle.event_text.specs.declared.finish.FinishRow.TheVariants.{Hidden, Shown, ShownOnce}
 
 -- below the immediate end, and without a reason, the row is one
 pub row_below : (reason : ℕ) (result : ExecutionResultDescription) → reason < 5 → finish_row reason result ≡ Shown

@@ -3,9 +3,9 @@
 ghost use Rattle.std.specs.Prelude.{◌≡◌, true};
 ghost use Rattle.run_model.specs.Levels.{reason_rank};
 ghost use Rattle.run_model.specs.Statuses.{described_summary};
-ghost use Rattle.test_text.specs.Finishes.{IsOnlyHidden, IsSameBelowImmediate, display_of, finish_row, is_ever_shown, is_shown_at_end, is_shown_at_once, is_final_wanted, is_line_shown, is_terminated, is_terminated_abort, is_terminated_failure, row_at_end, row_at_once, row_listed};
+ghost use Rattle.event_text.specs.Finishes.{IsOnlyHidden, IsSameBelowImmediate, display_of, finish_row, is_ever_shown, is_shown_at_end, is_shown_at_once, is_final_wanted, is_line_shown, is_terminated, is_terminated_abort, is_terminated_failure, row_at_end, row_at_once, row_listed};
 
-use event_text::settings::Settings;
+use crate::settings::Settings;
 use run_model::abort::AbortDescription;
 use run_model::config::TestOutputDisplay;
 use run_model::level::CancelReason;

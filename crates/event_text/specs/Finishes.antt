@@ -14,8 +14,8 @@ use Rattle.run_model.specs.declared.status.FailureDescription.{FailureDescriptio
 use Rattle.run_model.specs.declared.status.FailureDescription.TheVariants.{ExitCode, Abort}
 use Rattle.run_model.specs.declared.status.StatusSummary.{StatusSummary}
 use Rattle.unit_report.specs.Overrides.{display_for}
-use Rattle.test_text.specs.declared.finish.FinishRow.{FinishRow}
-use Rattle.test_text.specs.declared.finish.FinishRow.TheVariants as row
+use Rattle.event_text.specs.declared.finish.FinishRow.{FinishRow}
+use Rattle.event_text.specs.declared.finish.FinishRow.TheVariants as row
 use Rattle.event_text.specs.declared.settings.Settings.{Settings}
 
 -- the process was ended as the run ends its processes: by signal 15, or with its job

@@ -1,0 +1,10 @@
+use Rattle.std.proofs.Common.{◌≡◌, rules}
+use Rattle.plain_text.specs.declared.style.Style.TheVariants.{Plain}
+use Rattle.report_text.proofs.lemmas.PlainNames.{plain_name}
+use Rattle.report_text.proofs.helpers.instance.write_test_name.Goals as goal
+
+pub returns-then-eq-2 : goal.returns-then-eq-2
+returns-then-eq-2 g c =
+    let path : c.args.styles.now.module_path ≡ Plain = search rules in
+    let last : c.args.styles.now.test_name ≡ Plain = search rules in
+    rw (plain_name c.args.styles.now c.args.name.now path last) (search rules)
