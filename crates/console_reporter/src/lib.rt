@@ -6,5 +6,6 @@
 
 pub mod imp;
 
-pub use report_text::{escapes, helpers, indenter, reporter_helpers, style, write_str};
+pub use plain_text::{escapes, indenter, reporter_helpers, style, write_str};
+pub use report_text::helpers;
 pub use unit_report::{config, formatters, unit_output};
