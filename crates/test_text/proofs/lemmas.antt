@@ -1,2 +1,3 @@
+pub mod PassWords
 pub mod StatusTints
 pub mod TestTints

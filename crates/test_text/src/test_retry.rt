@@ -111,13 +111,7 @@ fn write_failed_output<W: WriteStr>(
     if !shows_failed_output(settings, failure_output) {
         return Ok(());
     }
-    write_test_execute_status(
-        w,
-        settings,
-        true,
-        &run_status.result,
-        &run_status.output,
-    )
+    write_test_execute_status(w, settings, true, &run_status.result, &run_status.output)
 }
 
 // Whether the output of an attempt that failed is shown at once: by the setting of failures, also where the test could
