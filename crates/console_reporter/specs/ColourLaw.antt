@@ -1,10 +1,11 @@
 -- The law of colour: colour adds nothing that is visible, and takes nothing away.
-use Rattle.std.specs.Prelude.{ℕ, List, Bool, true, false, reverse}
+use Rattle.std.specs.Prelude.{◌≡◌, ℕ, List, Bool, true, false, reverse}
 use Rattle.plain_text.specs.Alike.{IsAlike}
 use Rattle.plain_text.specs.Escapes.{visible}
 use Rattle.console_reporter.specs.Configuration.{Configuration}
 use Rattle.console_reporter.specs.PlainCalls.{ArePlain, IsPlainConfiguration}
 use Rattle.console_reporter.specs.Report.{report, text_at}
+use Rattle.console_reporter.specs.Stored.{stored, stored_at}
 use Rattle.run_model.specs.declared.call.ReportCall.{ReportCall}
 
 -- the same configuration, in colour or plain
@@ -19,3 +20,8 @@ pub record IsAlikeInColour (config : Configuration) (calls : List ReportCall) : 
 -- it is so where no text that is handed in holds an escape character
 abbrev pub ColourLaw : Configuration → List ReportCall → Type 0
 ColourLaw config calls = IsPlainConfiguration config → ArePlain true calls → IsAlikeInColour config calls
+
+-- what is stored is the same, byte for byte, in colour and without: the record of each call, and all that is stored
+pub record IsSameStoredInColour (config : Configuration) (calls : List ReportCall) : Type 0 where
+  pub at_each : (position : ℕ) → stored_at (in_colour true config).store calls position ≡ stored_at (in_colour false config).store calls position
+  pub whole : stored (in_colour true config).store (reverse calls) ≡ stored (in_colour false config).store (reverse calls)

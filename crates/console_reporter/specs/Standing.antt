@@ -12,7 +12,7 @@ use Rattle.event_text.specs.declared.settings.Settings.{Settings}
 use Rattle.run_model.specs.declared.call.ReportCall.{ReportCall}
 use Rattle.run_model.specs.declared.call.ReportCall.TheVariants.{Event, Header, Prefix}
 use Rattle.console_reporter.specs.declared.imp.reporter.DisplayReporter.{DisplayReporter}
-use Rattle.console_reporter.specs.declared.imp.reporter.ReporterState.{ReporterState}
+use Rattle.console_reporter.specs.declared.imp.state.ReporterState.{ReporterState}
 
 -- the reporter works, and holds what the texts after this past need: its entries stand in their final order; and its store, if it
 -- has one, is asked to keep what the configuration says

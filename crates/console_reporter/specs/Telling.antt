@@ -1,5 +1,5 @@
 -- What one call does to the two writers of a reporter, and what calls in turn do.
-use Rattle.std.specs.Prelude.{◌≡◌, ◌≤◌, ◌⊎◌, ℕ, List, [], ◌∷◌, Option, None, Some, length}
+use Rattle.std.specs.Prelude.{◌≡◌, ◌≤◌, ◌⊎◌, ◌++◌, ℕ, List, [], ◌∷◌, Option, None, Some, length}
 use Rattle.plain_text.specs.Texts.{Text}
 use Rattle.plain_text.specs.Writer.{Meaning, one_further}
 use Rattle.console_reporter.specs.Configuration.{Configuration}
@@ -31,10 +31,11 @@ abbrev pub MayGrowFor : {W S : Type 0} → DisplayReporter W S → Option Report
 MayGrowFor reporter None = ⊥
 MayGrowFor reporter (Some call) = MayGrowIn reporter call
 
--- both have the same writers
-pub record AreSameWriters {W S : Type 0} (old new : DisplayReporter W S) : Type 0 where
+-- both have the same writers, and go by the same settings
+pub record IsSameReporter {W S : Type 0} (old new : DisplayReporter W S) : Type 0 where
   pub writer : new.writer.ghost_name ≡ old.writer.ghost_name
   pub store : IsSameStore old.store new.store
+  pub settings : new.state.settings ≡ old.state.settings
 
 module _ {W S : Type 0} (m : Meaning W) (n : Meaning S) where
   -- both writers have delivered all that they accepted
@@ -63,8 +64,11 @@ module _ {W S : Type 0} (m : Meaning W) (n : Meaning S) where
     pub stored : (config : Configuration) → StandsAfter config [] old → (store_meaning n).accepts old.store (stored config.store past) new.store
     pub stands : (config : Configuration) → StandsAfter config [] old → StandsAfter config past new
 
-  -- the error stopped the call at this place, or past the last the end of the report
+  -- the error stopped the call at this place, or past the last the end of the report, and no byte of its record was accepted before
+  -- its whole text
   pub record BreaksRun (old : DisplayReporter W S) (calls : List ReportCall) (position : ℕ) (e : WriteEventError) (new : DisplayReporter W S) : Type 0 where
     pub within : position ≤ length calls
     pub stopped : (config : Configuration) → StandsAfter config [] old → StopsAfter m old.writer.now (report config (past_at calls position)) (text_at config calls position) e new.writer.now
     pub store_stopped : (config : Configuration) → StandsAfter config [] old → StopsRecordAfter (store_meaning n) old.store (stored config.store (past_at calls position)) (stored_at config.store calls position) e new.store
+    pub order : (config : Configuration) → StandsAfter config [] old → (store_meaning n).accepts old.store (stored config.store (past_at calls position)) new.store
+        ⊎ m.accepts old.writer.now (report config (past_at calls position) ++ text_at config calls position) new.writer.now

@@ -2,8 +2,9 @@
 //!
 //! One module a concern: `builder` says what a reporter is built from, `faults` how it fails (what it is asked is `run_model::call`),
 //! `decider` what it decides of an event by its metadata, `effect` what an event does beside its text, `final_output` what is kept
-//! of a test for the summary, `entry_key` what that is ordered by, `kept` how it is held and listed, `reporter` the calls, `store` where records go, and
-//! `topics` what text an event has. The texts themselves stand in the crates `event_text` and `run_text`.
+//! of a test for the summary, `entry_key` what that is ordered by, `kept` how it is held and listed, `state` what is known of the
+//! calls before, `store` where records go, `reporter` the calls, `run` the run of a list of them, and `topics` what text an event
+//! has. The texts themselves stand in the crates `event_text`, `test_text`, `run_text` and `info_text`, the records in `store_text`.
 
 mod builder;
 mod decider;
@@ -14,6 +15,8 @@ mod final_output;
 mod kept;
 mod loaded_output;
 mod reporter;
+mod run;
+mod state;
 mod store;
 mod topics;
 
@@ -22,7 +25,8 @@ pub use decider::{OutputLoadDecider, first_refused, unload_skipped};
 pub use event_text::finish::reasons_only_hide;
 pub use faults::{RunFault, WriteEventError};
 pub use kept::one_final_order;
-pub use reporter::{DisplayReporter, run_report, run_report_with_store, texts_make_the_report};
+pub use reporter::DisplayReporter;
+pub use run::{run_report, run_report_with_store, texts_make_the_report};
 pub use run_model::call::ReportCall;
 pub use store_text::config::StoreConfig;
 pub use unit_report::unit_output::DisplayerKind;

@@ -10,6 +10,8 @@ use Rattle.run_model.specs.declared.status.FailureDescription.TheVariants.{ExitC
 use Rattle.run_model.specs.declared.status.LeakTimeoutResult.TheVariants as leak
 use Rattle.run_model.specs.declared.status.SlowTimeoutResult.TheVariants as slow
 use Rattle.plain_text.specs.Texts.{Text}
+use Rattle.event_text.specs.declared.result_words.ShortWord.{ShortWord}
+use Rattle.event_text.specs.declared.result_words.ShortWord.TheVariants as shown
 
 -- a process that was ended from outside: the long word and the short one
 abbrev pub long_abort_word : AbortDescription → Text
@@ -54,6 +56,11 @@ short_word (outcome.Fail failure leaked) = short_failure_word failure leaked
 short_word outcome.ExecFail = codes "XFAIL"
 short_word (outcome.Timeout slow.Pass) = codes "TMPASS"
 short_word (outcome.Timeout slow.Fail) = codes "TMT"
+
+-- a short word as it is shown: of a signal without a name its number
+abbrev pub shown_word : ShortWord → Text
+shown_word (shown.Text word) = word.now
+shown_word (shown.Signal signal) = codes "SIG " ++ signed_decimal signal
 
 -- the word of a success, where the flag is set with the word that it was slow; other results do not come here
 unfoldable pub success_word : Bool → ExecutionResultDescription → Text

@@ -1,7 +1,7 @@
 //! The words of results in the lines of tests.
 
 ghost use Rattle.std.specs.Prelude.{◌≡◌, ◌++◌, codes};
-ghost use Rattle.event_text.specs.ResultWords.{long_word, long_failure_word, long_abort_word, short_word, short_failure_word, short_abort_word, success_word, is_plain_success};
+ghost use Rattle.event_text.specs.ResultWords.{long_word, long_failure_word, long_abort_word, short_word, short_failure_word, short_abort_word, shown_word, success_word, is_plain_success};
 
 use itoa::Buffer;
 use run_model::abort::AbortDescription;
@@ -90,69 +90,103 @@ fn abort_str<'b>(abort: &'b AbortDescription, number: &'b mut Buffer) -> Word<'b
     }
 }
 
-/// A space and the word of a result as it stands after the number of an attempt. A signal's number is written into the
+/// The word of a result as it stands after the number of an attempt, and in a record. A signal's number is written into the
 /// buffer.
-#[tactic(auto, unfolding(crate::specs::ResultWords::short_word))]
+///
+/// ```
+/// short_status_str(&ExecutionResultDescription::ExecFail, &mut number) // "XFAIL"
+/// ```
+pub fn short_status_str<'b>(
+    outcome: &'b ExecutionResultDescription,
+    number: &'b mut Buffer,
+) -> Word<'b>
+    ensures { result.front.now ++ result.back.now ≡ short_word outcome.now }
+{
+    match ShortWord::of_result(outcome) {
+        ShortWord::Text(word) => Word::whole(word),
+        ShortWord::Signal(signal) => Word {
+            front: "SIG ",
+            back: number.format(signal),
+        },
+    }
+}
+
+/// A space and that word.
 pub fn spaced_short_status_str<'b>(
     outcome: &'b ExecutionResultDescription,
     number: &'b mut Buffer,
 ) -> Word<'b>
     ensures { result.front.now ++ result.back.now ≡ codes " " ++ short_word outcome.now }
 {
-    match outcome {
-        ExecutionResultDescription::Pass => Word::whole(" PASS"),
-        ExecutionResultDescription::Leak { result } => match result {
-            LeakTimeoutResult::Pass => Word::whole(" LEAK"),
-            LeakTimeoutResult::Fail => Word::whole(" LKFAIL"),
+    match ShortWord::of_result(outcome) {
+        ShortWord::Text(word) => Word {
+            front: " ",
+            back: word,
         },
-        ExecutionResultDescription::Fail { failure, leaked } => spaced_short_failure_str(
-            failure, *leaked, number,
-        ),
-        ExecutionResultDescription::ExecFail => Word::whole(" XFAIL"),
-        ExecutionResultDescription::Timeout { result } => match result {
-            SlowTimeoutResult::Pass => Word::whole(" TMPASS"),
-            SlowTimeoutResult::Fail => Word::whole(" TMT"),
+        ShortWord::Signal(signal) => Word {
+            front: " SIG ",
+            back: number.format(signal),
         },
     }
 }
 
-// The same of a failure.
-fn spaced_short_failure_str<'b>(
-    failure: &'b FailureDescription,
-    leaked: bool,
-    number: &'b mut Buffer,
-) -> Word<'b>
-    ensures { result.front.now ++ result.back.now ≡ codes " " ++ short_failure_word failure.now leaked }
-{
-    match failure {
-        FailureDescription::ExitCode { .. } => {
-            if leaked {
-                Word::whole(" FL+LK")
-            } else {
-                Word::whole(" FAIL")
+// The word of a result after the number of an attempt: a text, or that of a signal without a name.
+#[derive(Clone, Copy, Debug)]
+enum ShortWord<'b> {
+    Text(&'b str),
+    Signal(i32),
+}
+
+impl<'b> ShortWord<'b> {
+    #[tactic(auto, unfolding(crate::specs::ResultWords::short_word))]
+    fn of_result(outcome: &'b ExecutionResultDescription) -> ShortWord<'b>
+        ensures { shown_word result ≡ short_word outcome.now }
+    {
+        match outcome {
+            ExecutionResultDescription::Pass => ShortWord::Text("PASS"),
+            ExecutionResultDescription::Leak { result } => match result {
+                LeakTimeoutResult::Pass => ShortWord::Text("LEAK"),
+                LeakTimeoutResult::Fail => ShortWord::Text("LKFAIL"),
+            },
+            ExecutionResultDescription::Fail { failure, leaked } => {
+                ShortWord::of_failure(failure, *leaked)
+            }
+            ExecutionResultDescription::ExecFail => ShortWord::Text("XFAIL"),
+            ExecutionResultDescription::Timeout { result } => match result {
+                SlowTimeoutResult::Pass => ShortWord::Text("TMPASS"),
+                SlowTimeoutResult::Fail => ShortWord::Text("TMT"),
+            },
+        }
+    }
+
+    fn of_failure(failure: &'b FailureDescription, leaked: bool) -> ShortWord<'b>
+        ensures { shown_word result ≡ short_failure_word failure.now leaked }
+    {
+        match failure {
+            FailureDescription::ExitCode { .. } => {
+                if leaked {
+                    ShortWord::Text("FL+LK")
+                } else {
+                    ShortWord::Text("FAIL")
+                }
+            }
+            FailureDescription::Abort { abort } => ShortWord::of_abort(abort.get()),
+        }
+    }
+
+    // The word of a process that was ended from outside.
+    fn of_abort(abort: &'b AbortDescription) -> ShortWord<'b>
+        ensures { shown_word result ≡ short_abort_word abort.now }
+    {
+        match abort {
+            AbortDescription::UnixSignal { signal, name } => match name {
+                Some(name) => ShortWord::Text(name.as_str()),
+                None => ShortWord::Signal(*signal),
+            },
+            AbortDescription::WindowsNtStatus { .. } | AbortDescription::WindowsJobObject => {
+                ShortWord::Text("ABORT")
             }
         }
-        FailureDescription::Abort { abort } => spaced_short_abort_str(abort.get(), number),
-    }
-}
-
-// The same of a process that was ended from outside.
-fn spaced_short_abort_str<'b>(abort: &'b AbortDescription, number: &'b mut Buffer) -> Word<'b>
-    ensures { result.front.now ++ result.back.now ≡ codes " " ++ short_abort_word abort.now }
-{
-    match abort {
-        AbortDescription::UnixSignal { signal, name } => match name {
-            Some(name) => Word {
-                front: " ",
-                back: name.as_str(),
-            },
-            None => Word {
-                front: " SIG ",
-                back: number.format(*signal),
-            },
-        },
-        AbortDescription::WindowsNtStatus { .. } | AbortDescription::WindowsJobObject =>
-            Word::whole(" ABORT"),
     }
 }
 

@@ -1,5 +1,5 @@
-//! The tests of the crate `console_reporter`: reports of lists of calls, entries and their order, refusals, the load decider, and
-//! faults. They stand in a crate of their own because a crate with tests is proved twice.
+//! The tests of the crate `console_reporter`: reports of lists of calls, entries and their order, refusals, the load decider,
+//! faults, and stores. They stand in a crate of their own because a crate with tests is proved twice.
 #![tactic(auto)]
 
 #[cfg(test)]
@@ -14,5 +14,7 @@ mod orders;
 mod outputs;
 #[cfg(test)]
 mod refused;
+#[cfg(test)]
+mod stores;
 #[cfg(test)]
 mod testing;

@@ -4,16 +4,26 @@ ghost use Rattle.std.specs.Prelude.{◌≡◌};
 ghost use Rattle.store_text.specs.StoredOutputs.{is_switched_on};
 
 /// What a store is asked to keep of finished tests beside their names and how they ended.
+///
+/// ```
+/// // The output of tests that fail, and of no others.
+/// let store = StoreConfig { store_success_output: false, store_failure_output: true };
+/// ```
 #[derive(Clone, Copy, Debug, PartialEq, Eq)]
 pub struct StoreConfig {
-    /// The output of tests whose output is shown as that of a success.
+    /// Whether it keeps the output of tests whose last attempt passed, also where that came after others and counts as a failure.
     pub store_success_output: bool,
-    /// The output of all others.
+    /// Whether it keeps the output of all others.
     pub store_failure_output: bool,
 }
 
 impl StoreConfig {
     /// Whether it asks for the output of a test, by whether that counts as a success where it is asked whose output is shown.
+    ///
+    /// ```
+    /// let is_success = statuses.describe().is_success_for_output();
+    /// if store.stores_output(is_success) { }
+    /// ```
     pub fn stores_output(self, is_success: bool) -> bool
         ensures { result ≡ is_switched_on self is_success }
     {

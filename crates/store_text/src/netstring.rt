@@ -1,4 +1,4 @@
-//! Netstrings: a text after the number of its bytes.
+//! Netstrings: a text after the number of its bytes, so that it may hold any byte.
 
 ghost use Rattle.std.specs.Prelude.{◌≡◌, ◌++◌};
 ghost use Rattle.plain_text.specs.Writer.{Puts};
@@ -7,10 +7,11 @@ ghost use Rattle.store_text.specs.Netstrings.{joined_netstring, netstring, netst
 use itoa::Buffer;
 use plain_text::write_str::{WriteFault, WriteStr, write_strs};
 
-/// Writes a text as a netstring.
+/// Writes a text as a netstring: the number of its bytes in decimal, a colon, the text, and a comma. It takes no memory.
 ///
 /// ```
 /// write_netstring(w, "t1")?; // "2:t1,"
+/// write_netstring(w, "é")?; // "2:é,"
 /// ```
 #[tactic(auto, unfolding(crate::specs::Netstrings::netstring, crate::specs::Netstrings::netstring_head))]
 pub fn write_netstring<W: WriteStr>(w: &mut W, text: &str) -> Result<(), WriteFault>
@@ -20,7 +21,11 @@ pub fn write_netstring<W: WriteStr>(w: &mut W, text: &str) -> Result<(), WriteFa
     write_strs(w, &[length.format(text.len()), ":", text, ","])
 }
 
-/// Writes a text in two parts as one netstring.
+/// Writes a text in two parts as one netstring. It takes no memory.
+///
+/// ```
+/// write_joined_netstring(w, "SIG ", "6")?; // "5:SIG 6,"
+/// ```
 #[tactic(auto, unfolding(crate::specs::Netstrings::joined_netstring))]
 pub fn write_joined_netstring<W: WriteStr>(
     w: &mut W,
@@ -33,7 +38,7 @@ pub fn write_joined_netstring<W: WriteStr>(
     write_strs(w, &[front, back, ","])
 }
 
-/// Writes what stands before a text of so many bytes in a netstring.
+/// Writes what stands before a text of so many bytes in a netstring. The text and a comma are to follow.
 #[tactic(auto, unfolding(crate::specs::Netstrings::netstring_head))]
 pub(super) fn write_netstring_head<W: WriteStr>(w: &mut W, length: u128) -> Result<(), WriteFault>
     ensures { Puts W.meaning w.old (netstring_head length) result w.new }

@@ -9,18 +9,22 @@ ghost use Rattle.store_text.specs.Records.{record_text};
 use crate::config::StoreConfig;
 use crate::netstring::{write_joined_netstring, write_netstring};
 use crate::stored_output::write_stored_output;
-use crate::word::short_status_str;
+use event_text::result_words::short_status_str;
 use itoa::Buffer;
 use plain_text::write_str::{WriteFault, WriteStr};
 use run_model::name::TestInstanceId;
 use run_model::output::LiveSpec;
 use run_model::status::{ExecutionResultDescription, ExecutionStatuses};
 
-/// Writes the record of a finished test: its binary's id, its name, how its last attempt ended, and its output as far as it is
-/// asked for. It takes no memory.
+/// Writes the record of a finished test: its binary's id, its name, how its last attempt ended in a short word, and its output
+/// if the store is asked to keep it, each as a netstring, and a line feed. It takes no memory.
+///
+/// On a fault of the writer a beginning of the record was accepted.
 ///
 /// ```
-/// write_record(w, store, instance, &statuses)?; // "5:alpha,2:t1,4:PASS,0:,\n"
+/// let store = StoreConfig { store_success_output: false, store_failure_output: true };
+/// write_record(w, store, passed, &statuses)?; // "5:alpha,2:t1,4:PASS,0:,\n"
+/// write_record(w, store, failed, &statuses)?; // "5:alpha,7:mod::t2,4:FAIL,5:boom\n,\n"
 /// ```
 #[tactic(auto, unfolding(crate::specs::Records::record_text))]
 pub fn write_record<W: WriteStr>(

@@ -1,4 +1,4 @@
-//! What is kept of captured output: its text, with the escape sequences that it has.
+//! What is kept of captured output: its text, as it was decoded, with the escape sequences that it has.
 
 ghost use Rattle.std.specs.Prelude.{◌≡◌, ◌++◌, []};
 ghost use Rattle.plain_text.specs.Writer.{Puts};
@@ -14,7 +14,7 @@ use run_model::output::{
 };
 use run_model::status::ExecutionStatuses;
 
-/// The text of captured output in two parts, the second of which may be empty. It takes no memory: it is a view of the bytes.
+// The text of captured output in two parts, the second of which may be empty. It takes no memory: it is a view of the bytes.
 #[derive(Debug, Drop)]
 struct OutputTexts<'o> {
     front: LossyText<'o>,
@@ -87,7 +87,13 @@ impl<'o> OutputTexts<'o> {
     }
 }
 
-/// Writes what is kept of what the attempts of a test wrote, as a netstring. The number of its bytes is counted first.
+/// Writes the output that is kept of a test's attempts, as a netstring: of the last one, if the store is asked for it, standard
+/// output and then standard error, or both as they came. It takes no memory: bytes that are not UTF-8 are gone through twice,
+/// first to count what they are decoded to.
+///
+/// ```
+/// write_stored_output(w, store, &statuses)?; // "4:é\nx,", or "0:," where the store is not asked for it
+/// ```
 pub fn write_stored_output<W: WriteStr>(
     w: &mut W,
     store: StoreConfig,

@@ -1,18 +1,32 @@
 -- Calls in turn, of a reporter with both its writers (for `DisplayReporter::make_calls`).
-use Rattle.std.proofs.Common.{◌≡◌, ℕ, ◌+◌, ◌<◌, List, [], Some, None, length, reverse, get_or, subst, sym, ◌∙◌, arith}
+use Rattle.std.proofs.Common.{◌≡◌, ℕ, ◌+◌, ◌<◌, ◌⊎◌, inl, inr, List, [], ◌++◌, Some, None, length, reverse, get_or, subst, sym, ◌∙◌, arith}
+use Rattle.plain_text.specs.Texts.{Text}
 use Rattle.plain_text.specs.Writer.{Meaning, WriterLaws}
-use Rattle.console_reporter.specs.Report.{past_at}
+use Rattle.console_reporter.specs.Configuration.{Configuration}
+use Rattle.console_reporter.specs.Report.{past_at, report, text_at}
+use Rattle.console_reporter.specs.Slots.{store_meaning}
 use Rattle.console_reporter.specs.Standing.{StandsAfter}
-use Rattle.console_reporter.specs.Telling.{AreSameWriters, Breaks, BreaksRun, Tells, TellsRun}
+use Rattle.console_reporter.specs.Stored.{stored}
+use Rattle.console_reporter.specs.Telling.{IsSameReporter, Breaks, BreaksRun, Tells, TellsRun}
 use Rattle.run_model.specs.declared.call.ReportCall.{ReportCall}
 use Rattle.console_reporter.specs.declared.imp.faults.WriteEventError.{WriteEventError}
 use Rattle.console_reporter.specs.declared.imp.reporter.DisplayReporter.{DisplayReporter}
-use Rattle.console_reporter.proofs.lemmas.Calls.{past_all, past_read, accepted_more, stopped_at, accepted_all, stopped_past}
+use Rattle.console_reporter.proofs.lemmas.Calls.{past_all, past_read, text_past, text_read, accepted_more, stopped_at, accepted_all, stopped_past}
 use Rattle.console_reporter.proofs.lemmas.Records.{stored_more, record_stopped_at, stored_all, record_stopped_past}
 use Rattle.console_reporter.proofs.lemmas.Stores.{same-store-after, store-laws, store-nothing}
 
-pub same-after : {W S : Type 0} {a b c : DisplayReporter W S} → AreSameWriters a b → AreSameWriters b c → AreSameWriters a c
-same-after p q = record { writer = q.writer ∙ p.writer; store = same-store-after _ _ _ p.store q.store }
+pub same-after : {W S : Type 0} {a b c : DisplayReporter W S} → IsSameReporter a b → IsSameReporter b c → IsSameReporter a c
+same-after p q = record { writer = q.writer ∙ p.writer; store = same-store-after _ _ _ p.store q.store; settings = q.settings ∙ p.settings }
+
+-- no more was stored than of a past, or the text after it was accepted too
+abbrev IsOrdered : {W S : Type 0} → Meaning W → Meaning S → Configuration → DisplayReporter W S → DisplayReporter W S → List ReportCall → Text → Type 0
+IsOrdered m n config a c past t = (store_meaning n).accepts a.store (stored config.store past) c.store ⊎ m.accepts a.writer.now (report config past ++ t) c.writer.now
+
+module _ {W S : Type 0} {m : Meaning W} (laws : WriterLaws m) (n : Meaning S) (config : Configuration) (a b c : DisplayReporter W S) (past : List ReportCall) (t : Text) where
+  ordered : m.accepts a.writer.now (report config past) b.writer.now → (store_meaning n).accepts a.store (stored config.store past) b.store →
+      (c.store ≡ b.store) ⊎ m.accepts b.writer.now t c.writer.now → IsOrdered m n config a c past t
+  ordered told kept (inl same) = inl (subst (λ s. (store_meaning n).accepts a.store (stored config.store past) s) (sym same) kept)
+  ordered told kept (inr here) = inr (laws.joins a.writer.now b.writer.now c.writer.now (report config past) t told here)
 
 module _ {W S : Type 0} {m : Meaning W} {n : Meaning S} (laws : WriterLaws m) (store_laws : WriterLaws n) where
   -- no call was made
@@ -34,6 +48,9 @@ module _ {W S : Type 0} {m : Meaning W} {n : Meaning S} (laws : WriterLaws m) (s
       within = omega arith;
       stopped = λ config stands. stopped_at laws config calls i _ _ _ (before.accepted config stands) call e is within (here.stopped config _ (before.stands config stands));
       store_stopped = λ config stands. record_stopped_at (store-laws store_laws) config.store calls i _ _ _ (before.stored config stands) call e is within (here.store_stopped config _ (before.stands config stands));
+      order = λ config stands.
+          let here_first = ordered laws n config a b c (past_at calls i) _ (before.accepted config stands) (before.stored config stands) (here.order config _ (before.stands config stands)) in
+          subst (IsOrdered m n config a c (past_at calls i)) (sym (text_read config calls i call is within)) here_first;
     }
 
     -- all calls were made, and the report has its end
@@ -50,4 +67,8 @@ module _ {W S : Type 0} {m : Meaning W} {n : Meaning S} (laws : WriterLaws m) (s
       within = omega arith;
       stopped = λ config stands. stopped_past laws config calls i _ _ _ (before.accepted config stands) e at (here.stopped config _ (before.stands config stands));
       store_stopped = λ config stands. record_stopped_past (store-laws store_laws) config.store calls i _ _ _ (before.stored config stands) e at (here.store_stopped config _ (before.stands config stands));
+      order = λ config stands.
+          let here_first = ordered laws n config a b c (past_at calls i) [] (before.accepted config stands) (before.stored config stands) (here.order config _ (before.stands config stands)) in
+          subst (IsOrdered m n config a c (past_at calls (length calls))) (sym (text_past config calls (length calls) (omega arith)))
+          (subst (λ position. IsOrdered m n config a c (past_at calls position) []) at here_first);
     }

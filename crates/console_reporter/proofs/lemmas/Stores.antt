@@ -1,20 +1,20 @@
 -- A store that may be absent obeys the laws of writers (for `DisplayReporter::make_calls`, `run_report_with_store`).
-use Rattle.std.proofs.Common.{◌≡◌, ℕ, List, [], ◌++◌, Option, None, Some, refl, ap, subst, ◌∙◌, Result, Ok, Err, OnOk, IfErr, inl, inr}
+use Rattle.std.proofs.Common.{◌≡◌, ℕ, List, [], ◌++◌, Option, None, Some, refl, ap, subst, ◌∙◌, Result, Ok, Err, OnOk, IfErr, ◌⊎◌, inl, inr}
 use Rattle.std.specs.Io.KnownBytes.{Appends}
 use Rattle.plain_text.specs.Writer.{AppendsFront, Meaning, WriterLaws, one_further}
 use Rattle.plain_text.specs.declared.write_str.WriteFault.TheVariants.{Device, Memory as RefusedMemory}
 use Rattle.console_reporter.specs.Outcomes.{StopsRecord, StopsRecordAfter}
-use Rattle.console_reporter.specs.Standing.{StandsAfter}
+use Rattle.console_reporter.specs.Standing.{MayGrowAt, StandsAfter}
 use Rattle.console_reporter.specs.Configuration.{Configuration}
 use Rattle.console_reporter.specs.declared.imp.reporter.DisplayReporter.{DisplayReporter}
 use Rattle.run_model.specs.declared.call.ReportCall.{ReportCall}
-use Rattle.console_reporter.specs.declared.imp.reporter.ReporterState.{ReporterState}
+use Rattle.console_reporter.specs.declared.imp.state.ReporterState.{ReporterState}
 use Rattle.console_reporter.specs.declared.imp.faults.RunFault.{RunFault}
 use Rattle.run_model.specs.Levels.{reason_rank}
 use Rattle.console_reporter.specs.declared.imp.faults.WriteEventError.{WriteEventError}
 use Rattle.console_reporter.specs.declared.imp.faults.WriteEventError.TheVariants.{RetriedSuccess, OutputNotLoaded, Io, Memory, Failed, StoreIo}
 use Rattle.plain_text.specs.declared.write_str.WriteFault.{WriteFault}
-use Rattle.console_reporter.specs.Report.{past_at}
+use Rattle.console_reporter.specs.Report.{past_at, report, text_at}
 use Rattle.console_reporter.specs.Stored.{stored, stored_at}
 use Rattle.console_reporter.specs.Telling.{BreaksRun, TellsRun}
 use Rattle.console_reporter.specs.Slots.{IsSameStore, config_of, store_accepts, store_adds, store_failures, store_known, store_may_refuse, store_meaning, store_stops}
@@ -140,6 +140,19 @@ module _ {S : Type 0} (m : Meaning S) where
         let s = subst (λ x. StopsRecordAfter (store_meaning m) x (stored config.store (past_at calls stop.position)) (stored_at config.store calls stop.position) stop.fault new.store) old_is (h.store_stopped config stands) in
         let z = subst (λ x. StopsRecordAfter (store_meaning m) (Some a) (stored config.store (past_at calls stop.position)) (stored_at config.store calls stop.position) stop.fault x) new_is s in
         stopped_mid a b z.mid _ _ stop.fault z.accepted z.stopped
+
+    pub first_there : (calls : List ReportCall) (r : Result (Unit {0}) RunFault) → IfErr r (λ stop. BreaksRun k m old calls stop.position stop.fault new) →
+        IfErr r (λ stop. m.accepts a.writer.now (stored config.store (past_at calls stop.position)) b.writer.now
+        ⊎ k.accepts old.writer.now (report config (past_at calls stop.position) ++ text_at config calls stop.position) new.writer.now)
+    first_there calls (Ok done) h = tt
+    first_there calls (Err stop) h = let s = h.order config stands in rw (old_is, new_is) at s
+
+  -- why memory was refused in a run with a store
+  pub refused_there : {W : Type 0} (k : Meaning W) (config : Configuration) (old : DisplayReporter W S) (a : Store S) → StandsAfter config [] old → old.store ≡ Some a → (calls : List ReportCall) (r : Result (Unit {0}) RunFault) →
+      IfErr r (λ stop. (c : Configuration) → StandsAfter c [] old → stop.fault ≡ Memory → k.may_refuse old.writer.now ⊎ MayGrowAt c calls stop.position ⊎ store_may_refuse m old.store) →
+      IfErr r (λ stop. stop.fault ≡ Memory → k.may_refuse old.writer.now ⊎ MayGrowAt config calls stop.position ⊎ m.may_refuse a.writer.now)
+  refused_there k config old a stands old_is calls (Ok done) h = tt
+  refused_there k config old a stands old_is calls (Err stop) h = λ is. let s = h config stands is in rw old_is at s
 
   -- where there is no store, none fails
   absent_mid : (mid : Option (Store S)) (t u : List ℕ) (new : Option (Store S)) → store_accepts m None t mid → StopsRecord (store_meaning m) mid u StoreIo new → ⊥

@@ -99,13 +99,7 @@ fn write_entry<W: WriteStr>(
         FinalOutput::Executed { summary } => write_line(w, settings, test, summary),
         FinalOutput::ExecutedWithOutput { summary, output } => {
             write_line(w, settings, test, summary)?;
-            write_test_execute_status(
-                w,
-                settings,
-                false,
-                &summary.result,
-                output.get(),
-            )
+            write_test_execute_status(w, settings, false, &summary.result, output.get())
         }
         FinalOutput::Skipped => write_skip_line(w, settings, test),
     }

@@ -1,47 +1,37 @@
-//! The calls of a reporter, and the run of a list of calls.
+//! The calls of a reporter.
 
-ghost use Rattle.std.specs.Prelude.{◌≡◌, ◌≤◌, ◌⊎◌, ◌+◌, List, ℕ, [], ◌∷◌, ◌++◌, OnOk, OnErr, IfErr, IsErrOf, None, Some, length, max, nat_lt, reverse, slice_get, take, true, false};
-ghost use Rattle.std.specs.List.{flat_map};
-ghost use Rattle.std.specs.Option.{is_some, option_and_then, option_map, option_to_list};
+ghost use Rattle.std.specs.Prelude.{◌≡◌, ◌⊎◌, List, [], ◌∷◌, OnOk, OnErr, IfErr, IsErrOf, None, Some, nat_lt, reverse, take, true, false};
+ghost use Rattle.std.specs.Option.{is_some, option_map};
 ghost use Rattle.run_model.specs.Levels.{reason_rank};
 ghost use Rattle.plain_text.specs.Writer.{Puts, one_further};
-ghost use Rattle.test_text.specs.FinishedTests.{HasShownOutput, finish_of};
 ghost use Rattle.run_text.specs.Headers.{replay_header_text};
 ghost use Rattle.run_model.specs.declared.call.ReportCall.{ReportCall};
 ghost use Rattle.console_reporter.specs.declared.imp.faults.WriteEventError.{WriteEventError};
-ghost use Rattle.console_reporter.specs.declared.imp.final_output.FinalOutputEntry.{FinalOutputEntry};
-ghost use Rattle.console_reporter.specs.ColourLaw.{ColourLaw};
-ghost use Rattle.console_reporter.specs.PlainLaw.{PlainLaw};
-ghost use Rattle.console_reporter.specs.Configuration.{Configuration, configured, configured_with_store, settings_of};
-ghost use Rattle.console_reporter.specs.Accepted.{AreAccepted, IsAccepted, decider_by, decider_of, refusal, refusal_at};
-ghost use Rattle.console_reporter.specs.Effects.{HasEndOutput, HasEndOutputIn, TestEnd, effect_of, end_of, kept_entry};
+ghost use Rattle.console_reporter.specs.Configuration.{Configuration, settings_of};
+ghost use Rattle.console_reporter.specs.Accepted.{AreAccepted, decider_by, decider_of, refusal, refusal_at};
+ghost use Rattle.console_reporter.specs.Effects.{HasEndOutputIn, effect_of, end_of};
 ghost use Rattle.console_reporter.specs.Loads.{lacks_output};
-ghost use Rattle.console_reporter.specs.Entries.{final_order, hiding_rank};
+ghost use Rattle.console_reporter.specs.Entries.{hiding_rank};
 ghost use Rattle.console_reporter.specs.Exactness.{IsExact};
-ghost use Rattle.console_reporter.specs.Exchanges.{IsOrderIndependent};
-ghost use Rattle.console_reporter.specs.Outcomes.{IsOfConsole, Stops, StopsAfter, StopsRecordAfter, IsOfLines, answered_refusal, error_for, refusal_in, store_error_for};
-ghost use Rattle.console_reporter.specs.Report.{end_of_run_text, event_text, finished_text, listed_text, text, texts, report, past_at, text_at};
-ghost use Rattle.console_reporter.specs.Slots.{config_of, store_delivered, store_may_refuse, store_meaning};
-ghost use Rattle.console_reporter.specs.Stored.{record_of, stored, stored_at};
-ghost use Rattle.console_reporter.specs.Statistics.{IsStatsIndependent};
-ghost use Rattle.console_reporter.specs.Telling.{AreDelivered, AreSameWriters, Breaks, BreaksRun, Tells, TellsRun};
+ghost use Rattle.console_reporter.specs.Outcomes.{IsOfConsole, Stops, IsOfLines, answered_refusal, error_for, refusal_in, store_error_for};
+ghost use Rattle.console_reporter.specs.Report.{end_of_run_text, event_text, finished_text, listed_text, text, report};
+ghost use Rattle.console_reporter.specs.Slots.{config_of, store_accepts, store_delivered, store_may_refuse, store_meaning};
+ghost use Rattle.console_reporter.specs.Stored.{record_of, stored};
+ghost use Rattle.console_reporter.specs.Telling.{AreDelivered, IsSameReporter, Breaks, BreaksRun, Tells, TellsRun};
 ghost use Rattle.console_reporter.specs.Topics.{is_of_run};
 ghost use Rattle.console_reporter.specs.Standing.{StandsAfter, HasFailed, IsSameWriter, MayGrow, MayGrowAt, known_by};
 
-use super::builder::DisplayReporterBuilder;
 use super::decider::OutputLoadDecider;
-use super::effect::{EndedTest, EventEffect, greater_reason};
+use super::effect::{EndedTest, EventEffect};
 use super::faults::{RunFault, WriteEventError};
-use super::final_output::FinalOutputEntry;
-use super::kept::KeptEntries;
+use super::state::ReporterState;
 use super::store::Store;
 use super::topics::{write_attempt, write_info, write_setup_script, write_start, write_stop};
-use event_text::instance::CountedInstance;
 use event_text::settings::Settings;
 use plain_text::write_str::{WriteFault, WriteStr};
 use run_model::call::ReportCall;
 use run_model::event::{TestEvent, TestEventKind};
-use run_model::level::{CancelReason, FinalStatusLevel};
+use run_model::level::CancelReason;
 use run_model::memory::OutOfMemory;
 use run_model::not_seen::NotSeen;
 use run_model::replay::ReplayHeader;
@@ -56,7 +46,7 @@ use run_text::stress::{write_stress_sub_run_finished, write_stress_sub_run_start
 use run_text::summary::write_run_finished;
 use std::alloc::Global;
 use store_text::config::StoreConfig;
-use test_text::test_finished::{FinishedTest, write_test_finished};
+use test_text::test_finished::write_test_finished;
 use test_text::test_skipped::write_test_skipped;
 use unit_report::formatters::write_final_warnings;
 
@@ -68,20 +58,9 @@ use unit_report::formatters::write_final_warnings;
 /// nothing.
 #[derive(Drop)]
 pub struct DisplayReporter<'a, W, S> {
-    writer: &'a mut W,
-    store: Option<Store<'a, S>>,
-    state: ReporterState<'a>,
-}
-
-// What a reporter knows of the calls before.
-#[derive(Drop)]
-struct ReporterState<'a> {
-    alloc: Global,
-    kept: KeptEntries<'a>,
-    unique_prefix: Option<ShortestRunIdPrefix>,
-    cancel_status: Option<CancelReason>,
-    settings: Settings,
-    has_failed: bool,
+    pub(super) writer: &'a mut W,
+    pub(super) store: Option<Store<'a, S>>,
+    pub(super) state: ReporterState<'a>,
 }
 
 impl<'a, W: WriteStr, S: WriteStr> DisplayReporter<'a, W, S> {
@@ -126,13 +105,20 @@ impl<'a, W: WriteStr, S: WriteStr> DisplayReporter<'a, W, S> {
         }
     }
 
-    /// What decides by an event's metadata whether this reporter refuses it, and whether it shows its output.
+    /// What decides by an event's metadata whether this reporter refuses it, and whether it shows or stores its output. It goes by
+    /// the reporter's configuration alone: it is the same after every call, also after one that failed.
     ///
-    /// No output that it skips changes a report. In a run that comes to its end, and is not cancelled at once, each that it loads
-    /// does.
+    /// No output that it skips changes a report or what is stored. In a run that comes to its end, and is not cancelled at once,
+    /// each that it loads does.
+    ///
+    /// ```
+    /// let decider = reporter.output_load_decider();
+    /// if decider.should_load_output(&recorded) == LoadOutput::Load { }
+    /// ```
     pub fn output_load_decider(&self) -> OutputLoadDecider
-        ensures decider { (config : Configuration) (past : List ReportCall) → StandsAfter config past self.now → result ≡ decider_of config }
-        ensures exactness { (config : Configuration) (past : List ReportCall) → StandsAfter config past self.now → IsExact config result }
+        ensures decider { result ≡ decider_by self.now.state.settings (config_of self.now.store) }
+        ensures stands { (config : Configuration) (past : List ReportCall) → StandsAfter config past self.now → result ≡ decider_of config }
+        ensures exactness { (config : Configuration) → decider_of config ≡ result → IsExact config result }
     {
         let store = self.store_config();
         OutputLoadDecider::of_settings(&self.state.settings, store)
@@ -156,7 +142,7 @@ impl<'a, W: WriteStr, S: WriteStr> DisplayReporter<'a, W, S> {
     /// reporter.finish()?;
     /// ```
     pub fn write_event(&mut self, event: &TestEvent<'a>) -> Result<(), WriteEventError>
-        ensures same { AreSameWriters self.old self.new }
+        ensures same { IsSameReporter self.old self.new }
         ensures ok { OnOk result (Tells W.meaning S.meaning self.old (Some (ReportCall.Event event.now)) self.new) }
         ensures delivered { OnOk result (AreDelivered W.meaning S.meaning self.new) }
         ensures err { IfErr result (λ e. Breaks W.meaning S.meaning self.old (Some (ReportCall.Event event.now)) e self.new) }
@@ -187,7 +173,7 @@ impl<'a, W: WriteStr, S: WriteStr> DisplayReporter<'a, W, S> {
     // Reports an event, and then writes its record and delivers that.
     fn report_and_store(&mut self, event: &TestEvent<'a>) -> Result<(), WriteEventError>
         requires { lacks_output (decider_by self.old.state.settings None) event.now.kind ≡ false }
-        ensures same { AreSameWriters self.old self.new }
+        ensures same { IsSameReporter self.old self.new }
         ensures ok { OnOk result (Tells W.meaning S.meaning self.old (Some (ReportCall.Event event.now)) self.new) }
         ensures delivered { OnOk result (AreDelivered W.meaning S.meaning self.new) }
         ensures err { IfErr result (λ e. Breaks W.meaning S.meaning self.old (Some (ReportCall.Event event.now)) e self.new) }
@@ -207,6 +193,7 @@ impl<'a, W: WriteStr, S: WriteStr> DisplayReporter<'a, W, S> {
         requires { lacks_output (decider_by self.old.state.settings None) event.now.kind ≡ false }
         ensures same_writer { IsSameWriter self.old self.new }
         ensures store { self.new.store ≡ self.old.store }
+        ensures settings { self.new.state.settings ≡ self.old.state.settings }
         ensures accepted { OnOk result ((config : Configuration) (past : List ReportCall) → StandsAfter config past self.old →
             W.meaning.accepts self.old.writer.now (text config past (ReportCall.Event event.now)) self.new.writer.now) }
         ensures stands { OnOk result ((config : Configuration) (past : List ReportCall) → StandsAfter config past self.old →
@@ -231,7 +218,7 @@ impl<'a, W: WriteStr, S: WriteStr> DisplayReporter<'a, W, S> {
 
     // Writes the record of an event to the store, if there is one, and delivers it.
     fn deliver_record(&mut self, event: &TestEvent<'_>) -> Result<(), WriteFault>
-        ensures same { AreSameWriters self.old self.new }
+        ensures same { IsSameReporter self.old self.new }
         ensures writer { self.new.writer.now ≡ self.old.writer.now }
         ensures state { self.new.state ≡ self.old.state }
         ensures text { Puts (store_meaning S.meaning) self.old.store (record_of (config_of self.old.store) event.now.kind) result self.new.store }
@@ -245,7 +232,7 @@ impl<'a, W: WriteStr, S: WriteStr> DisplayReporter<'a, W, S> {
 
     // Delivers what the store holds, if there is one.
     fn flush_store(&mut self) -> Result<(), WriteFault>
-        ensures same { AreSameWriters self.old self.new }
+        ensures same { IsSameReporter self.old self.new }
         ensures writer { self.new.writer.now ≡ self.old.writer.now }
         ensures state { self.new.state ≡ self.old.state }
         ensures text { Puts (store_meaning S.meaning) self.old.store [] result self.new.store }
@@ -260,7 +247,7 @@ impl<'a, W: WriteStr, S: WriteStr> DisplayReporter<'a, W, S> {
     /// Writes what a replay says before it: which recorded run it shows, when that started and how it ended; and delivers it.
     /// The run's id is shown by the header's own prefix.
     pub fn write_replay_header(&mut self, header: &ReplayHeader) -> Result<(), WriteEventError>
-        ensures same { AreSameWriters self.old self.new }
+        ensures same { IsSameReporter self.old self.new }
         ensures ok { OnOk result (Tells W.meaning S.meaning self.old (Some (ReportCall.Header header.now)) self.new) }
         ensures delivered { OnOk result (AreDelivered W.meaning S.meaning self.new) }
         ensures err { IfErr result (λ e. Breaks W.meaning S.meaning self.old (Some (ReportCall.Header header.now)) e self.new) }
@@ -287,7 +274,7 @@ impl<'a, W: WriteStr, S: WriteStr> DisplayReporter<'a, W, S> {
 
     /// Takes the unique prefix of the run's id, which later starts of a run show. It takes no memory and writes nothing.
     pub fn set_run_id_unique_prefix(&mut self, prefix: ShortestRunIdPrefix)
-        ensures same { AreSameWriters self.old self.new }
+        ensures same { IsSameReporter self.old self.new }
         ensures ok { Tells W.meaning S.meaning self.old (Some (ReportCall.Prefix prefix)) self.new }
         ensures untouched { (self.new.writer.now ≡ self.old.writer.now) × (self.new.store ≡ self.old.store) }
         ensures failed { self.new.state.has_failed ≡ self.old.state.has_failed }
@@ -295,9 +282,11 @@ impl<'a, W: WriteStr, S: WriteStr> DisplayReporter<'a, W, S> {
         self.state.unique_prefix = Some(prefix);
     }
 
-    /// Ends the report: all that was written is delivered, and no text is added.
+    /// Ends the report: both writers deliver what they hold, and no text is added.
     pub fn finish(&mut self) -> Result<(), WriteEventError>
-        ensures same { AreSameWriters self.old self.new }
+        ensures same { IsSameReporter self.old self.new }
+        ensures told_nothing { OnOk result (W.meaning.accepts self.old.writer.now [] self.new.writer.now) }
+        ensures stored_nothing { OnOk result (store_accepts S.meaning self.old.store [] self.new.store) }
         ensures ok { OnOk result (Tells W.meaning S.meaning self.old None self.new) }
         ensures delivered { OnOk result (AreDelivered W.meaning S.meaning self.new) }
         ensures err { IfErr result (λ e. Breaks W.meaning S.meaning self.old None e self.new) }
@@ -322,8 +311,12 @@ impl<'a, W: WriteStr, S: WriteStr> DisplayReporter<'a, W, S> {
     }
 
     // Makes the calls, and stops at the first fault.
-    fn make_calls(&mut self, alloc: Global, calls: &[ReportCall<'a>]) -> Result<(), RunFault>
-        ensures same { AreSameWriters self.old self.new }
+    pub(super) fn make_calls(
+        &mut self,
+        alloc: Global,
+        calls: &[ReportCall<'a>],
+    ) -> Result<(), RunFault>
+        ensures same { IsSameReporter self.old self.new }
         ensures ok { OnOk result (TellsRun W.meaning S.meaning self.old (reverse calls.now) self.new) }
         ensures delivered { OnOk result (AreDelivered W.meaning S.meaning self.new) }
         ensures err { IfErr result (λ stop. BreaksRun W.meaning S.meaning self.old calls.now stop.position stop.fault self.new) }
@@ -350,7 +343,7 @@ impl<'a, W: WriteStr, S: WriteStr> DisplayReporter<'a, W, S> {
 
     // Makes one call. A prefix is copied.
     fn make_call(&mut self, alloc: Global, call: &ReportCall<'a>) -> Result<(), WriteEventError>
-        ensures same { AreSameWriters self.old self.new }
+        ensures same { IsSameReporter self.old self.new }
         ensures ok { OnOk result (Tells W.meaning S.meaning self.old (Some call.now) self.new) }
         ensures err { IfErr result (λ e. Breaks W.meaning S.meaning self.old (Some call.now) e self.new) }
         ensures refused { (config : Configuration) (past : List ReportCall) → StandsAfter config past self.old → answered_refusal result ≡ refusal config call.now }
@@ -366,101 +359,6 @@ impl<'a, W: WriteStr, S: WriteStr> DisplayReporter<'a, W, S> {
                 Err(OutOfMemory) => Err(WriteEventError::Memory),
             },
         }
-    }
-}
-
-impl<'a> ReporterState<'a> {
-    // What a reporter that goes by these settings knows before its first call.
-    fn new(alloc: Global, settings: Settings) -> ReporterState<'a>
-        ensures settings { result.settings ≡ settings }
-        ensures prefix { result.unique_prefix ≡ None }
-        ensures reason { result.cancel_status ≡ None }
-        ensures kept { result.kept ≡ final_order [] }
-        ensures works { result.has_failed ≡ false }
-    {
-        ReporterState {
-            alloc,
-            kept: KeptEntries::new(alloc),
-            unique_prefix: None,
-            cancel_status: None,
-            settings,
-            has_failed: false,
-        }
-    }
-
-    // Does what an event does: it may cancel the run, and finish a test.
-    fn apply(&mut self, effect: &EventEffect<'_, 'a>) -> Result<(), OutOfMemory>
-        requires { HasEndOutputIn (option_map end_of effect.now.ended) }
-        ensures settings { self.new.settings ≡ self.old.settings }
-        ensures prefix { self.new.unique_prefix ≡ self.old.unique_prefix }
-        ensures reason { OnOk result (reason_rank self.new.cancel_status ≡ max (reason_rank effect.now.reason) (reason_rank self.old.cancel_status)) }
-        ensures works { self.new.has_failed ≡ self.old.has_failed }
-        ensures kept { OnOk result ((before : List FinalOutputEntry) → self.old.kept ≡ final_order before →
-            self.new.kept ≡ final_order (before ++ option_to_list (option_and_then (kept_entry self.old.settings) (option_map end_of effect.now.ended)))) }
-        ensures needed { OnErr result (is_some (option_and_then (kept_entry self.old.settings) (option_map end_of effect.now.ended)) ≡ true) }
-    {
-        if let Some(ended) = &effect.ended {
-            self.keep_test(ended)?;
-        }
-        self.cancel_status = greater_reason(self.cancel_status, effect.reason);
-        Ok(())
-    }
-
-    // Keeps a test where the summary lists it.
-    fn keep_test(&mut self, ended: &EndedTest<'_, 'a>) -> Result<(), OutOfMemory>
-        requires { HasEndOutput (end_of ended.now) }
-        ensures settings { self.new.settings ≡ self.old.settings }
-        ensures prefix { self.new.unique_prefix ≡ self.old.unique_prefix }
-        ensures reason { self.new.cancel_status ≡ self.old.cancel_status }
-        ensures works { self.new.has_failed ≡ self.old.has_failed }
-        ensures kept { OnOk result ((before : List FinalOutputEntry) → self.old.kept ≡ final_order before →
-            self.new.kept ≡ final_order (before ++ option_to_list (kept_entry self.old.settings (end_of ended.now)))) }
-        ensures needed { OnErr result (is_some (kept_entry self.old.settings (end_of ended.now)) ≡ true) }
-    {
-        match ended {
-            EndedTest::Finished(finished) => self.keep_finished(finished),
-            EndedTest::Skipped(test) => self.keep_skipped(*test),
-        }
-    }
-
-    // Keeps a finished test where the summary lists it.
-    fn keep_finished(&mut self, finished: &FinishedTest<'_, 'a>) -> Result<(), OutOfMemory>
-        requires { HasShownOutput (finish_of finished.now) }
-        ensures settings { self.new.settings ≡ self.old.settings }
-        ensures prefix { self.new.unique_prefix ≡ self.old.unique_prefix }
-        ensures reason { self.new.cancel_status ≡ self.old.cancel_status }
-        ensures works { self.new.has_failed ≡ self.old.has_failed }
-        ensures kept { OnOk result ((before : List FinalOutputEntry) → self.old.kept ≡ final_order before →
-            self.new.kept ≡ final_order (before ++ option_to_list (kept_entry self.old.settings (TestEnd.Finished (finish_of finished.now))))) }
-        ensures needed { OnErr result (is_some (kept_entry self.old.settings (TestEnd.Finished (finish_of finished.now))) ≡ true) }
-    {
-        let is_wanted = self
-            .settings
-            .is_final_wanted(finished.display, &finished.describe);
-        if !finished.row.is_listed(is_wanted) {
-            return Ok(());
-        }
-        let entry = FinalOutputEntry::of_test(self.alloc, finished)?;
-        self.kept.keep(entry)?;
-        Ok(())
-    }
-
-    // Keeps a skipped test where the summary lists it.
-    fn keep_skipped(&mut self, test: CountedInstance<'a>) -> Result<(), OutOfMemory>
-        ensures settings { self.new.settings ≡ self.old.settings }
-        ensures prefix { self.new.unique_prefix ≡ self.old.unique_prefix }
-        ensures reason { self.new.cancel_status ≡ self.old.cancel_status }
-        ensures works { self.new.has_failed ≡ self.old.has_failed }
-        ensures kept { OnOk result ((before : List FinalOutputEntry) → self.old.kept ≡ final_order before →
-            self.new.kept ≡ final_order (before ++ option_to_list (kept_entry self.old.settings (TestEnd.Skipped test.entry)))) }
-        ensures needed { OnErr result (is_some (kept_entry self.old.settings (TestEnd.Skipped test.entry)) ≡ true) }
-    {
-        let shown = self.settings.status_levels.final_status_level;
-        if !FinalStatusLevel::Skip.is_shown_at(shown) {
-            return Ok(());
-        }
-        self.kept.keep(FinalOutputEntry::skipped(test))?;
-        Ok(())
     }
 }
 
@@ -654,152 +552,4 @@ fn shows_entries(reason: Option<CancelReason>) -> bool
         None => true,
         Some(reason) => CancelReason::Interrupt.is_above(reason),
     }
-}
-
-/// A report is the texts of its calls, one after another, and the text of each call stands at the call's place.
-pub fn texts_make_the_report()
-    ensures joined { (config : Configuration) (past : List ReportCall) → report config past ≡ flat_map (λ t. t) (texts config past) }
-    ensures placed { (config : Configuration) (later : List ReportCall) (call : ReportCall) (past : List ReportCall) → slice_get (texts config (later ++ call ∷ past)) (length past) ≡ Some (text config past call) }
-{}
-
-/// Makes the calls in order on a reporter of its own, ends the report, and stops at the first fault.
-///
-/// On `Ok` the writer has accepted the report of the calls and delivered it. On a fault at a place it has accepted the
-/// report of the calls before that place and a beginning of the text of the call there. A refusal is of the first call that is
-/// not accepted, and nothing of that call was written.
-pub fn run_report<'a, W: WriteStr>(
-    alloc: Global,
-    builder: DisplayReporterBuilder,
-    writer: &mut W,
-    use_unicode: bool,
-    is_terminal: bool,
-    is_ci: bool,
-    display_empty_outputs: bool,
-    calls: &'a [ReportCall<'a>],
-) -> Result<(), RunFault>
-    ensures ok { let config = configured builder use_unicode is_terminal is_ci display_empty_outputs in
-        OnOk result (W.meaning.accepts writer.old (report config (reverse calls.now)) writer.new) }
-    ensures delivered { OnOk result (W.meaning.is_delivered writer.new) }
-    ensures accepted { let config = configured builder use_unicode is_terminal is_ci display_empty_outputs in
-        OnOk result (AreAccepted config calls.now) }
-    ensures position { IfErr result (λ stop. stop.position ≤ length calls.now) }
-    ensures accepted_before { let config = configured builder use_unicode is_terminal is_ci display_empty_outputs in
-        IfErr result (λ stop. AreAccepted config (take stop.position calls.now)) }
-    ensures refused { let config = configured builder use_unicode is_terminal is_ci display_empty_outputs in
-        IfErr result (λ stop. refusal_at config calls.now stop.position ≡ refusal_in stop.fault) }
-    ensures err { let config = configured builder use_unicode is_terminal is_ci display_empty_outputs in
-        IfErr result (λ stop. StopsAfter W.meaning writer.old (report config (past_at calls.now stop.position)) (text_at config calls.now stop.position) stop.fault writer.new) }
-    ensures no_failure { OnOk result (W.meaning.failures writer.new ≡ W.meaning.failures writer.old) }
-    ensures io { IfErr result (λ stop. stop.fault ≡ WriteEventError.Io → W.meaning.failures writer.new ≡ one_further (W.meaning.failures writer.old)) }
-    ensures memory { let config = configured builder use_unicode is_terminal is_ci display_empty_outputs in
-        IfErr result (λ stop. stop.fault ≡ WriteEventError.Memory → W.meaning.may_refuse writer.old ⊎ MayGrowAt config calls.now stop.position) }
-    ensures known { IfErr result (λ stop. stop.fault ≡ WriteEventError.Failed → ⊥) }
-    ensures no_store { IfErr result (λ stop. stop.fault ≡ WriteEventError.StoreIo → ⊥) }
-    ensures colour { ColourLaw (configured builder use_unicode is_terminal is_ci display_empty_outputs) calls.now }
-    ensures plain { PlainLaw (configured builder use_unicode is_terminal is_ci display_empty_outputs) calls.now }
-    ensures order { let config = configured builder use_unicode is_terminal is_ci display_empty_outputs in
-        IsOrderIndependent config calls.now }
-    ensures statistics { let config = configured builder use_unicode is_terminal is_ci display_empty_outputs in
-        IsStatsIndependent config calls.now }
-{
-    let mut reporter = builder.build(
-        alloc,
-        writer,
-        use_unicode,
-        is_terminal,
-        is_ci,
-        display_empty_outputs,
-    );
-    let outcome = reporter.make_calls(alloc, &*calls);
-    let DisplayReporter {
-        writer,
-        store,
-        state,
-    } = reporter;
-    drop(state);
-    drop(store);
-    let _writer = writer;
-    outcome
-}
-
-/// Makes the calls in order on a reporter of its own with a store, ends the report, and stops at the first fault.
-///
-/// Of the report it says what [`run_report`] does. On `Ok` the second writer has accepted the records of the calls and delivered
-/// them; on a fault at a place those of the calls before that place, and a beginning of the record of the call there.
-pub fn run_report_with_store<'a, W: WriteStr, S: WriteStr>(
-    alloc: Global,
-    builder: DisplayReporterBuilder,
-    writer: &mut W,
-    store_writer: &mut S,
-    store: StoreConfig,
-    use_unicode: bool,
-    is_terminal: bool,
-    is_ci: bool,
-    display_empty_outputs: bool,
-    calls: &'a [ReportCall<'a>],
-) -> Result<(), RunFault>
-    ensures ok { let config = configured_with_store store builder use_unicode is_terminal is_ci display_empty_outputs in
-        OnOk result (W.meaning.accepts writer.old (report config (reverse calls.now)) writer.new) }
-    ensures stored { OnOk result (S.meaning.accepts store_writer.old (stored (Some store) (reverse calls.now)) store_writer.new) }
-    ensures delivered { OnOk result (W.meaning.is_delivered writer.new) }
-    ensures store_delivered { OnOk result (S.meaning.is_delivered store_writer.new) }
-    ensures accepted { let config = configured_with_store store builder use_unicode is_terminal is_ci display_empty_outputs in
-        OnOk result (AreAccepted config calls.now) }
-    ensures position { IfErr result (λ stop. stop.position ≤ length calls.now) }
-    ensures accepted_before { let config = configured_with_store store builder use_unicode is_terminal is_ci display_empty_outputs in
-        IfErr result (λ stop. AreAccepted config (take stop.position calls.now)) }
-    ensures refused { let config = configured_with_store store builder use_unicode is_terminal is_ci display_empty_outputs in
-        IfErr result (λ stop. refusal_at config calls.now stop.position ≡ refusal_in stop.fault) }
-    ensures err { let config = configured_with_store store builder use_unicode is_terminal is_ci display_empty_outputs in
-        IfErr result (λ stop. StopsAfter W.meaning writer.old (report config (past_at calls.now stop.position)) (text_at config calls.now stop.position) stop.fault writer.new) }
-    ensures store_err { IfErr result (λ stop. StopsRecordAfter S.meaning store_writer.old (stored (Some store) (past_at calls.now stop.position)) (stored_at (Some store) calls.now stop.position) stop.fault store_writer.new) }
-    ensures no_failure { OnOk result (W.meaning.failures writer.new ≡ W.meaning.failures writer.old) }
-    ensures io { IfErr result (λ stop. stop.fault ≡ WriteEventError.Io → W.meaning.failures writer.new ≡ one_further (W.meaning.failures writer.old)) }
-    ensures store_io { IfErr result (λ stop. stop.fault ≡ WriteEventError.StoreIo → S.meaning.failures store_writer.new ≡ one_further (S.meaning.failures store_writer.old)) }
-    ensures known { IfErr result (λ stop. stop.fault ≡ WriteEventError.Failed → ⊥) }
-    ensures colour { ColourLaw (configured_with_store store builder use_unicode is_terminal is_ci display_empty_outputs) calls.now }
-    ensures plain { PlainLaw (configured_with_store store builder use_unicode is_terminal is_ci display_empty_outputs) calls.now }
-    ensures order { let config = configured_with_store store builder use_unicode is_terminal is_ci display_empty_outputs in
-        IsOrderIndependent config calls.now }
-    ensures statistics { let config = configured_with_store store builder use_unicode is_terminal is_ci display_empty_outputs in
-        IsStatsIndependent config calls.now }
-{
-    let mut reporter = builder.build_with_store(
-        alloc,
-        writer,
-        store_writer,
-        store,
-        use_unicode,
-        is_terminal,
-        is_ci,
-        display_empty_outputs,
-    );
-    let outcome = reporter.make_calls(alloc, &*calls);
-    let DisplayReporter {
-        writer,
-        store,
-        state,
-    } = reporter;
-    drop(state);
-    match store {
-        Some(store) => {
-            let Store {
-                writer: store_writer,
-                config,
-            } = store;
-            let _config = config;
-            give_back(writer, store_writer);
-            outcome
-        }
-        None => outcome,
-    }
-}
-
-// Both writers end as they are.
-fn give_back<W, S>(writer: &mut W, store_writer: &mut S)
-    ensures writer { writer.new ≡ writer.old }
-    ensures store_writer { store_writer.new ≡ store_writer.old }
-{
-    let _store_writer = store_writer;
-    let _writer = writer;
 }

@@ -1,4 +1,4 @@
-use Rattle.std.proofs.Common.{rules, arith, length, sym, ◌∙◌, inl, inr}
+use Rattle.std.proofs.Common.{rules, arith, length, refl, sym, ◌∙◌, inl, inr}
 use Rattle.console_reporter.proofs.lemmas.Calls.{grow_at, accepted_read, accepted_to_end, refusal_past, refusal_read}
 use Rattle.console_reporter.proofs.lemmas.Runs.{run_begun, run_broken, run_ended, run_more, run_unended, same-after}
 use Rattle.console_reporter.proofs.lemmas.Stores.{same-store, store-laws}
@@ -6,7 +6,7 @@ use Rattle.console_reporter.proofs.imp.reporter.DisplayReporter.make_calls.Goals
 
 pub loop-position-init : goal.loop-position-init
 loop-position-init g c = record {
-  same = record { writer = search rules; store = same-store _ };
+  same = record { writer = search rules; store = same-store _; settings = refl };
   tells = run_begun g.met.W.WriteStr.laws g.met.S.WriteStr.laws _;
   unrefused = λ config stands. tt;
 }

@@ -1,12 +1,11 @@
-use Rattle.std.proofs.Common.{subst, sym, ap₂, ◌∙◌}
+use Rattle.std.proofs.Common.{subst, ap₂, ◌∙◌}
 use Rattle.console_reporter.specs.Accepted.{decider_by}
 use Rattle.console_reporter.specs.Exactness.{IsExact}
 use Rattle.console_reporter.proofs.lemmas.Exactness.{exact}
 use Rattle.console_reporter.proofs.imp.reporter.DisplayReporter.output_load_decider.Goals as goal
 
-pub returns-clause-decider : goal.returns-clause-decider
-returns-clause-decider g c = λ config past stands. c.of_settings.ensures ∙ ap₂ decider_by stands.settings (c.store_config-store.ensures ∙ stands.store)
+pub returns-clause-stands : goal.returns-clause-stands
+returns-clause-stands g c = λ config past stands. c.of_settings.ensures ∙ ap₂ decider_by stands.settings (c.store_config-store.ensures ∙ stands.store)
 
 pub returns-clause-exactness : goal.returns-clause-exactness
-returns-clause-exactness g c = λ config past stands.
-    subst (IsExact config) (sym (c.of_settings.ensures ∙ ap₂ decider_by stands.settings (c.store_config-store.ensures ∙ stands.store))) (exact config)
+returns-clause-exactness g c = λ config is. subst (IsExact config) is (exact config)

@@ -1,6 +1,6 @@
 use Rattle.std.proofs.Common.{rules, ap, subst, sym, ◌∙◌}
 use Rattle.run_model.specs.Levels.{reason_rank}
-use Rattle.console_reporter.specs.declared.imp.reporter.ReporterState.{ReporterState}
+use Rattle.console_reporter.specs.declared.imp.state.ReporterState.{ReporterState}
 use Rattle.console_reporter.proofs.lemmas.Stores.{config-same}
 use Rattle.console_reporter.proofs.lemmas.Calls.{stops_error}
 use Rattle.console_reporter.proofs.lemmas.Whole.{of_lines-text}

@@ -7,8 +7,8 @@ use Rattle.console_reporter.proofs.lemmas.Calls.{err_here, ok_here, stopped_io, 
 use Rattle.console_reporter.proofs.lemmas.Exchanges.{order_independent, stats_independent}
 use Rattle.console_reporter.proofs.lemmas.Records.{stopped_store_io}
 use Rattle.console_reporter.proofs.lemmas.ReportTints.{colour_holds, plain_holds}
-use Rattle.console_reporter.proofs.lemmas.Stores.{ok_there, err_there}
-use Rattle.console_reporter.proofs.imp.reporter.run_report_with_store.Goals as goal
+use Rattle.console_reporter.proofs.lemmas.Stores.{ok_there, err_there, first_there, refused_there}
+use Rattle.console_reporter.proofs.imp.run.run_report_with_store.Goals as goal
 
 pub returns-in-Some-clause-accepted : goal.returns-in-Some-clause-accepted
 returns-in-Some-clause-accepted g c =
@@ -34,6 +34,20 @@ returns-in-Some-clause-store_err g c =
     let built = c.build_with_store-reporter in
     let config = configured_with_store c.args.store c.args.builder c.args.use_unicode c.args.is_terminal c.args.is_ci c.args.display_empty_outputs in
     let h = err_there g.S.WriteStr.meaning g.W.WriteStr.meaning config built.result _ _ _ built.ensures.stands built.ensures.store c.in-Some.is _ _ c.make_calls-outcome.ensures.err in
+    search rules
+
+pub returns-in-Some-clause-text_first : goal.returns-in-Some-clause-text_first
+returns-in-Some-clause-text_first g c =
+    let built = c.build_with_store-reporter in
+    let config = configured_with_store c.args.store c.args.builder c.args.use_unicode c.args.is_terminal c.args.is_ci c.args.display_empty_outputs in
+    let h = first_there g.S.WriteStr.meaning g.W.WriteStr.meaning config built.result _ _ _ built.ensures.stands built.ensures.store c.in-Some.is _ _ c.make_calls-outcome.ensures.err in
+    search rules
+
+pub returns-in-Some-clause-memory : goal.returns-in-Some-clause-memory
+returns-in-Some-clause-memory g c =
+    let built = c.build_with_store-reporter in
+    let config = configured_with_store c.args.store c.args.builder c.args.use_unicode c.args.is_terminal c.args.is_ci c.args.display_empty_outputs in
+    let h = refused_there g.S.WriteStr.meaning g.W.WriteStr.meaning config built.result _ built.ensures.stands built.ensures.store _ _ c.make_calls-outcome.ensures.memory in
     search rules
 
 pub returns-in-Some-clause-ok : goal.returns-in-Some-clause-ok

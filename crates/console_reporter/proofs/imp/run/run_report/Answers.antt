@@ -8,7 +8,7 @@ use Rattle.console_reporter.proofs.lemmas.Calls.{err_here, ok_here, refused_from
 use Rattle.console_reporter.proofs.lemmas.ReportTints.{colour_holds, plain_holds}
 use Rattle.console_reporter.proofs.lemmas.Exchanges.{order_independent, stats_independent}
 use Rattle.console_reporter.proofs.lemmas.Stores.{absent_here}
-use Rattle.console_reporter.proofs.imp.reporter.run_report.Goals as goal
+use Rattle.console_reporter.proofs.imp.run.run_report.Goals as goal
 
 pub returns-clause-ok : goal.returns-clause-ok
 returns-clause-ok g c = search rules
