@@ -24,6 +24,9 @@ mod unload;
 
 const RUN: &str = "run\t00000000-0000-4000-8000-000000000001\tdefault\t2\t1\t-";
 
+const DONE: &str =
+    "done\t-\talpha\tt1\tnever\tnever\tpass\tinitial=2 finished=1 passed=1\t1\tpass\t5000000\t0\tsplit\t\t\t-\t-";
+
 const END: &str = "end\t1520000000\tinitial=2 finished=2 passed=1 failed=1\t0\t-";
 
 const OPTIONS: Options<'static> = Options {

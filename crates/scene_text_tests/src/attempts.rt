@@ -1,12 +1,13 @@
 //! What a scene says of the attempts of a finished test.
 
 use crate::testing::{DONE, fault_of_line, refused, taken};
-use run_model::output::{ChildExecutionOutputDescription, ChildOutputDescription};
-use run_model::status::{ExecutionDescription, RetryData};
+use run_model::output::{ChildExecutionOutputDescription, ChildOutputDescription, LiveSpec};
+use run_model::status::{ExecuteStatus, ExecutionDescription, ExecutionStatuses, RetryData};
 use scene_text::fault::LineFault;
 use scene_text::reader::read_scene;
 use scene_text::scene::event::SceneEvent;
 use scene_text::scene::test_events::TestFinish;
+use std::alloc::Global;
 use std::test::Fail;
 
 const COMBINED: &str =
@@ -67,7 +68,7 @@ fn refuses_bad_results(rt: HostRuntime) -> Result<(), Fail> {
 }
 
 #[test]
-fn reads_iterations_and_displays(rt: HostRuntime) -> Result<(), Fail> {
+fn reads_iterations(rt: HostRuntime) -> Result<(), Fail> {
     let alloc = rt.alloc();
     let good = ["-", "0", "0/1", "7/3", "007/4294967295"];
     assert_eq!(rt; refused(alloc, DONE, 2, &good)?, None);
@@ -83,6 +84,12 @@ fn reads_iterations_and_displays(rt: HostRuntime) -> Result<(), Fail> {
         "1/0",
     ];
     assert_eq!(rt; taken(alloc, DONE, 2, &bad)?, None);
+    Ok(())
+}
+
+#[test]
+fn reads_displays(rt: HostRuntime) -> Result<(), Fail> {
+    let alloc = rt.alloc();
     let displays = ["immediate", "immediate-final", "final"];
     assert_eq!(rt; refused(alloc, DONE, 5, &displays)?, None);
     assert_eq!(rt; taken(alloc, DONE, 6, &["", "-", "Final", "later"])?, None);
@@ -114,11 +121,14 @@ fn reads_start_errors(rt: HostRuntime) -> Result<(), Fail> {
     assert_eq!(rt; refused(alloc, NOT_STARTED, 14, &good)?, None);
     let bad = ["-", "\\", "a\\,\\q", "\\x80"];
     assert_eq!(rt; taken(alloc, NOT_STARTED, 14, &bad)?, None);
+    Ok(())
+}
+
+#[test]
+fn has_nothing_after_a_start_error(rt: HostRuntime) -> Result<(), Fail> {
     for field in 15..18 {
-        assert_eq!(rt;
-            taken(alloc, NOT_STARTED, field, &["", "x", "out:0:"])?,
-            None
-        );
+        let bad = taken(rt.alloc(), NOT_STARTED, field, &["", "x", "out:0:"])?;
+        assert_eq!(rt; bad, None);
     }
     Ok(())
 }
@@ -155,18 +165,40 @@ fn counts_the_fields_of_attempts(rt: HostRuntime) -> Result<(), Fail> {
             Some(LineFault::WrongNumberOfFields)
         );
     }
+    Ok(())
+}
+
+#[test]
+fn reads_every_attempt(rt: HostRuntime) -> Result<(), Fail> {
+    let alloc = rt.alloc();
     assert_eq!(rt; taken(alloc, TWO_ATTEMPTS, 18, &["", "passed"])?, None);
     assert_eq!(rt; taken(alloc, TWO_ATTEMPTS, 25, &["", "x"])?, None);
     Ok(())
 }
 
-#[test]
-fn holds_the_last_attempt(rt: HostRuntime) -> Result<(), Fail> {
-    let scene = read_scene(rt.alloc(), TWO_ATTEMPTS.as_bytes())?;
+// The attempts that the line of two attempts tells.
+fn two_attempts(alloc: Global) -> Result<ExecutionStatuses<LiveSpec>, Fail> {
+    let scene = read_scene(alloc, TWO_ATTEMPTS.as_bytes())?;
     let [SceneEvent::TestFinished(TestFinish { attempts, .. })] = scene.events.as_slice() else {
         return Err(Fail::from("one test has finished"));
     };
-    let run_statuses = attempts.statuses(rt.alloc())?;
+    Ok(attempts.statuses(alloc)?)
+}
+
+// The first of two attempts.
+fn first_of(statuses: &ExecutionStatuses<LiveSpec>) -> Result<&ExecuteStatus<LiveSpec>, Fail> {
+    match statuses.describe() {
+        ExecutionDescription::Flaky {
+            prior_statuses: [first],
+            ..
+        } => Ok(first),
+        _ => Err(Fail::from("one attempt stands before the last")),
+    }
+}
+
+#[test]
+fn holds_the_last_attempt(rt: HostRuntime) -> Result<(), Fail> {
+    let run_statuses = two_attempts(rt.alloc())?;
     let last = run_statuses.last_status();
     let retry_data = RetryData {
         attempt: 2,
@@ -185,30 +217,32 @@ fn holds_the_last_attempt(rt: HostRuntime) -> Result<(), Fail> {
 }
 
 #[test]
-fn holds_earlier_attempts(rt: HostRuntime) -> Result<(), Fail> {
-    let scene = read_scene(rt.alloc(), TWO_ATTEMPTS.as_bytes())?;
-    let [SceneEvent::TestFinished(TestFinish { attempts, .. })] = scene.events.as_slice() else {
-        return Err(Fail::from("one test has finished"));
-    };
-    let run_statuses = attempts.statuses(rt.alloc())?;
-    let ExecutionDescription::Flaky {
-        prior_statuses: [first],
-        ..
-    } = run_statuses.describe()
-    else {
-        return Err(Fail::from("one attempt stands before the last"));
-    };
+fn holds_the_errors_of_earlier_attempts(rt: HostRuntime) -> Result<(), Fail> {
+    let run_statuses = two_attempts(rt.alloc())?;
+    let first = first_of(&run_statuses)?;
     assert_eq!(rt; first.retry_data.attempt, 1);
     let ChildExecutionOutputDescription::Output {
         errors: Some(errors),
-        highlight: Some(highlight),
         ..
     } = &first.output
     else {
-        return Err(Fail::from("errors and a highlight are there"));
+        return Err(Fail::from("errors are there"));
     };
     assert_eq!(rt; errors.message(), "e");
     assert_eq!(rt; errors.causes().len(), 1);
+    Ok(())
+}
+
+#[test]
+fn holds_the_highlight_of_earlier_attempts(rt: HostRuntime) -> Result<(), Fail> {
+    let run_statuses = two_attempts(rt.alloc())?;
+    let ChildExecutionOutputDescription::Output {
+        highlight: Some(highlight),
+        ..
+    } = &first_of(&run_statuses)?.output
+    else {
+        return Err(Fail::from("a highlight is there"));
+    };
     assert_eq!(rt; highlight.get().start, 2);
     assert_eq!(rt; highlight.get().slice.as_slice(), b"e".as_slice());
     Ok(())

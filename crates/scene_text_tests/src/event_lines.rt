@@ -106,11 +106,23 @@ fn tells_bad_fields(rt: HostRuntime) -> Result<(), Fail> {
     for (line, field, texts) in fields {
         assert_eq!(rt; taken(alloc, line, field, texts)?, None, "{line}");
     }
+    Ok(())
+}
+
+#[test]
+fn tells_bad_fields_of_instances(rt: HostRuntime) -> Result<(), Fail> {
+    let alloc = rt.alloc();
     for line in [START, RETRY_START, SLOW, RETRY, SKIP] {
         assert_eq!(rt; taken(alloc, line, 2, &["", "x", "0/0"])?, None, "{line}");
         assert_eq!(rt; taken(alloc, line, 3, &["\\", "\\,"])?, None, "{line}");
         assert_eq!(rt; taken(alloc, line, 4, &["\\xe9"])?, None, "{line}");
     }
+    Ok(())
+}
+
+#[test]
+fn tells_bad_counts_of_scripts(rt: HostRuntime) -> Result<(), Fail> {
+    let alloc = rt.alloc();
     for line in [PAUSE, CONTINUE] {
         assert_eq!(rt; taken(alloc, line, 2, &["", "-", "+1"])?, None, "{line}");
     }
@@ -176,21 +188,36 @@ fn makes_calls_of_tests(rt: HostRuntime) -> Result<(), Fail> {
 #[test]
 fn makes_calls_of_a_cancelled_run(rt: HostRuntime) -> Result<(), Fail> {
     let alloc = rt.alloc();
-    let text = format!(in alloc; "{CANCEL}\n{KILL}\n{CONTINUE}\n")?;
+    let text = format!(in alloc; "{CANCEL}\n{KILL}\n")?;
     let scene = read_scene(alloc, text.as_bytes())?;
     let calls = whole_calls(alloc, scene.events.as_slice())?;
-    let [cancelled, killed, continued] = calls.as_slice() else {
-        return Err(Fail::from("there are three calls"));
+    let [cancelled, killed] = calls.as_slice() else {
+        return Err(Fail::from("there are two calls"));
     };
     let TestEventKind::RunBeginCancel { current_stats, .. } = &event_of(cancelled)?.kind else {
         return Err(Fail::from("the run is cancelled"));
     };
     let TestEventKind::RunBeginKill {
-        setup_scripts_running: killed,
+        setup_scripts_running,
         ..
     } = &event_of(killed)?.kind
     else {
         return Err(Fail::from("the run is killed"));
+    };
+    assert_eq!(rt;
+        current_stats.cancel_reason,
+        Some(CancelReason::TestFailure)
+    );
+    assert_eq!(rt; *setup_scripts_running, 1);
+    Ok(())
+}
+
+#[test]
+fn makes_a_call_of_a_run_that_goes_on(rt: HostRuntime) -> Result<(), Fail> {
+    let scene = read_scene(rt.alloc(), CONTINUE.as_bytes())?;
+    let calls = whole_calls(rt.alloc(), scene.events.as_slice())?;
+    let [continued] = calls.as_slice() else {
+        return Err(Fail::from("there is one call"));
     };
     let TestEventKind::RunContinued {
         setup_scripts_running,
@@ -199,11 +226,6 @@ fn makes_calls_of_a_cancelled_run(rt: HostRuntime) -> Result<(), Fail> {
     else {
         return Err(Fail::from("the run goes on"));
     };
-    assert_eq!(rt;
-        current_stats.cancel_reason,
-        Some(CancelReason::TestFailure)
-    );
-    assert_eq!(rt; *killed, 1);
     assert_eq!(rt; (*setup_scripts_running, *running), (1, 2));
     Ok(())
 }

@@ -207,19 +207,31 @@ fn names_every_bad_field_of_every_line(rt: HostRuntime) -> Result<(), Fail> {
 }
 
 #[test]
-fn reads_the_configuration(rt: HostRuntime) -> Result<(), Fail> {
+fn reads_when_the_configuration_shows_output(rt: HostRuntime) -> Result<(), Fail> {
     let alloc = rt.alloc();
     for line in ["config\tsuccess\t", "config\tfailure\t"] {
         let good = ["immediate", "immediate-final", "final", "never"];
         assert_eq!(rt; refused(alloc, line, 3, &good)?, None);
         assert_eq!(rt; taken(alloc, line, 3, &["", "-", "Final"])?, None);
     }
+    Ok(())
+}
+
+#[test]
+fn reads_the_keys_of_the_configuration(rt: HostRuntime) -> Result<(), Fail> {
+    let alloc = rt.alloc();
     let keys = ["nocapture", "verbose", "noindent", "unicode", "empty"];
     assert_eq!(rt; refused(alloc, "config\t\t1", 2, &keys)?, None);
     assert_eq!(rt;
         taken(alloc, "config\t\t1", 2, &["Verbose", "NoCapture"])?,
         None
     );
+    Ok(())
+}
+
+#[test]
+fn tells_bad_flags_of_the_configuration(rt: HostRuntime) -> Result<(), Fail> {
+    let alloc = rt.alloc();
     for line in [
         "config\tnocapture\t",
         "config\tverbose\t",

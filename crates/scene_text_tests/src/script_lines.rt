@@ -92,6 +92,12 @@ fn tells_bad_fields_of_scripts(rt: HostRuntime) -> Result<(), Fail> {
     for (line, field, texts) in fields {
         assert_eq!(rt; taken(alloc, line, field, texts)?, None, "{line}");
     }
+    Ok(())
+}
+
+#[test]
+fn tells_bad_fields_of_finished_scripts(rt: HostRuntime) -> Result<(), Fail> {
+    let alloc = rt.alloc();
     for (field, texts) in [
         (4, ["\\", "\\,"]),
         (6, ["", "fail"]),
@@ -109,7 +115,7 @@ fn tells_bad_fields_of_scripts(rt: HostRuntime) -> Result<(), Fail> {
 }
 
 #[test]
-fn tells_bad_fields_of_runs(rt: HostRuntime) -> Result<(), Fail> {
+fn tells_bad_progresses(rt: HostRuntime) -> Result<(), Fail> {
     let alloc = rt.alloc();
     let progresses = [
         "",
@@ -127,6 +133,12 @@ fn tells_bad_fields_of_runs(rt: HostRuntime) -> Result<(), Fail> {
     ];
     assert_eq!(rt; taken(alloc, SUB_START, 2, &progresses)?, None);
     assert_eq!(rt; taken(alloc, SUB_END, 2, &progresses)?, None);
+    Ok(())
+}
+
+#[test]
+fn tells_bad_fields_of_runs(rt: HostRuntime) -> Result<(), Fail> {
+    let alloc = rt.alloc();
     let fields: [(&str, usize, &[&str]); 16] = [
         (SUB_END, 3, &["", "-"]),
         (SUB_END, 4, &["", "passed"]),
@@ -152,13 +164,13 @@ fn tells_bad_fields_of_runs(rt: HostRuntime) -> Result<(), Fail> {
 }
 
 #[test]
-fn makes_calls_of_scripts_and_requests(rt: HostRuntime) -> Result<(), Fail> {
+fn makes_calls_of_scripts(rt: HostRuntime) -> Result<(), Fail> {
     let alloc = rt.alloc();
-    let text = format!(in alloc; "{SETUP}\n{SETUP_DONE}\n{INPUT}\n")?;
+    let text = format!(in alloc; "{SETUP}\n{SETUP_DONE}\n")?;
     let scene = read_scene(alloc, text.as_bytes())?;
     let calls = whole_calls(alloc, scene.events.as_slice())?;
-    let [started, finished, requested] = calls.as_slice() else {
-        return Err(Fail::from("there are three calls"));
+    let [started, finished] = calls.as_slice() else {
+        return Err(Fail::from("there are two calls"));
     };
     let TestEventKind::SetupScriptStarted {
         script_id,
@@ -171,16 +183,26 @@ fn makes_calls_of_scripts_and_requests(rt: HostRuntime) -> Result<(), Fail> {
     let TestEventKind::SetupScriptFinished { run_status, .. } = &event_of(finished)?.kind else {
         return Err(Fail::from("a script ends"));
     };
-    let request = event_of(requested)?;
-    let TestEventKind::InputEnter { running, .. } = &request.kind else {
-        return Err(Fail::from("a key is pressed"));
-    };
     assert_eq!(rt; script_id.as_str(), "db");
     assert_eq!(rt; program.as_str(), "make-db");
     assert_eq!(rt;
         (run_status.time_taken, run_status.is_slow),
         (Nanos(5_000_000), true)
     );
+    Ok(())
+}
+
+#[test]
+fn makes_calls_of_requests(rt: HostRuntime) -> Result<(), Fail> {
+    let scene = read_scene(rt.alloc(), INPUT.as_bytes())?;
+    let calls = whole_calls(rt.alloc(), scene.events.as_slice())?;
+    let [requested] = calls.as_slice() else {
+        return Err(Fail::from("there is one call"));
+    };
+    let request = event_of(requested)?;
+    let TestEventKind::InputEnter { running, .. } = &request.kind else {
+        return Err(Fail::from("a key is pressed"));
+    };
     assert_eq!(rt; (request.elapsed, *running), (Nanos(3_725_000_000_000), 2));
     Ok(())
 }
