@@ -101,14 +101,29 @@ four-columns : (n : ℕ) → 1000 ≤ n → n < 10000 → spaces (4 - length (de
 four-columns n l h =
     let hundreds : n / 100 % 10 ≡ n / 10 / 10 % 10 = omega arith in
     let thousands : n / 1000 % 10 ≡ n / 10 / 10 / 10 = omega arith in
-    rw (decimal_step n (omega arith) (omega arith), decimal_step (n / 10) (omega arith) (omega arith), decimal_step (n / 10 / 10) (omega arith) (omega arith), decimal_digit (n / 10 / 10 / 10) (omega arith),
-    above n 1000 l, above n 100 (omega arith), above n 10 (omega arith), hundreds, thousands) refl
+    rw (
+      decimal_step n (omega arith) (omega arith),
+      decimal_step (n / 10) (omega arith) (omega arith),
+      decimal_step (n / 10 / 10) (omega arith) (omega arith),
+      decimal_digit (n / 10 / 10 / 10) (omega arith),
+      above n 1000 l,
+      above n 100 (omega arith),
+      above n 10 (omega arith),
+      hundreds,
+      thousands,
+    ) refl
 
 in-columns : (n : ℕ) → n < 10000 → spaces (4 - length (decimal n)) ++ decimal n ≡ columns_of n
 in-columns n h =
-    elim (cases_lt n 10) [ inl a ↦ one-column n a | inr b ↦
-    elim (cases_lt n 100) [ inl c ↦ two-columns n b c | inr d ↦
-    elim (cases_lt n 1000) [ inl e ↦ three-columns n d e | inr f ↦ four-columns n f h ] ] ]
+    elim (cases_lt n 10) [
+      | inl a ↦ one-column n a
+      | inr b ↦
+          elim (cases_lt n 100) [
+            | inl c ↦ two-columns n b c
+            | inr d ↦
+                elim (cases_lt n 1000) [ inl e ↦ three-columns n d e | inr f ↦ four-columns n f h ]
+          ]
+    ]
 
 -- the bytes of a short duration between brackets
 abbrev pub row_of : ℕ → ℕ → ℕ → ℕ → ℕ → Text
@@ -135,5 +150,5 @@ bracketed-row n whole r a b c h is over p q s =
     let small : whole < 10000 = omega arith in
     let hundreds : r / 10 / 10 % 10 ≡ r / 100 % 10 = omega arith in
     let text : right_in 8 (seconds 3 n) ≡ (spaces (4 - length (decimal whole)) ++ decimal whole) ++ decimals r
-      = ap (right_in 8) (seconds-thousandths n) ∙ right-thousandths 8 (rounded 1000000 n) (omega arith) ∙ rw (← is, ← over) (sym (append_assoc (spaces (4 - length (decimal whole))) (decimal whole) (decimals r))) in
+    = ap (right_in 8) (seconds-thousandths n) ∙ right-thousandths 8 (rounded 1000000 n) (omega arith) ∙ rw (← is, ← over) (sym (append_assoc (spaces (4 - length (decimal whole))) (decimal whole) (decimals r))) in
     rw (text, in-columns whole small, p, q, s, hundreds) refl
