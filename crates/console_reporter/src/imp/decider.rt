@@ -76,7 +76,7 @@ impl OutputLoadDecider {
         })
     }
 
-    // The same of an event of a run that is going on, if it is a decided one.
+    // The decision for a live event; `None` for kinds without captured output.
     fn decision(&self, kind: &TestEventKind<'_>) -> Option<LoadOutput>
         ensures { result ≡ decision self.now kind.now }
     {

@@ -149,6 +149,7 @@ impl<'a, W: WriteStr, S: WriteStr> DisplayReporter<'a, W, S> {
         ensures lines { (config : Configuration) (past : List ReportCall) → IsOfLines (text config past (ReportCall.Event event.now)) }
         ensures refused { (config : Configuration) (past : List ReportCall) → StandsAfter config past self.old →
             answered_refusal result ≡ refusal config (ReportCall.Event event.now) }
+        // A refusal leaves the reporter as it was, and it goes on; after any other error it has failed.
         ensures untouched { is_some (answered_refusal result) ≡ true → self.new ≡ self.old }
         ensures fails { IfErr result (λ e. is_some (refusal_in e) ≡ false → HasFailed self.new) }
         ensures failed { HasFailed self.old → (result ≡ Err WriteEventError.Failed) × (self.new ≡ self.old) }

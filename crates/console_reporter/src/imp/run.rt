@@ -46,6 +46,7 @@ pub fn run_report<'a, W: WriteStr>(
     display_empty_outputs: bool,
     calls: &'a [ReportCall<'a>],
 ) -> Result<(), RunFault>
+    // A report lists a summary's entries in their final order, of which `one_final_order` says that there is no other.
     ensures ok { let config = configured builder use_unicode is_terminal is_ci display_empty_outputs in
         OnOk result (W.meaning.accepts writer.old (report config (reverse calls.now)) writer.new) }
     ensures delivered { OnOk result (W.meaning.is_delivered writer.new) }
