@@ -46,4 +46,4 @@ fault_of_read read.OutOfMemory = fault.OutOfMemory
 -- what is told where an error of this kind was met: the fault, unless the error says that memory was refused
 abbrev pub fault_by_kind : ErrorKind → Fault → Fault
 fault_by_kind kind.OutOfMemory told = fault.OutOfMemory
-fault_by_kind other told = told
+fault_by_kind _ told = told
