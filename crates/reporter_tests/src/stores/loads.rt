@@ -26,19 +26,25 @@ fn decider(alloc: Global, store: StoreConfig) -> Result<OutputLoadDecider, Fail>
     Ok(reporter.output_load_decider())
 }
 
-// What a replay does of a test of these attempts, for a store that keeps the output of failures alone.
-fn answer(
-    alloc: Global,
-    statuses: Vec<ExecuteStatus<LiveSpec>>,
-) -> Result<Option<LoadOutput>, Fail> {
-    let names = Names::new(alloc)?;
-    let recorded = finished(names.first(), statuses)?.recorded(alloc)?;
+// What a replay of an event does for a store that keeps the output of failures alone.
+fn answer(alloc: Global, event: &TestEvent<'_>) -> Result<Option<LoadOutput>, Fail> {
     let decider = decider(alloc, OF_FAILURES)?;
+    let recorded = event.recorded(alloc)?;
     Ok(
         recorded
             .as_ref()
             .map(|kind| decider.should_load_output(kind)),
     )
+}
+
+// What a replay of a test of these attempts does for it.
+fn answer_of(
+    alloc: Global,
+    statuses: Vec<ExecuteStatus<LiveSpec>>,
+) -> Result<Option<LoadOutput>, Fail> {
+    let names = Names::new(alloc)?;
+    let event = finished(names.first(), statuses)?;
+    answer(alloc, &event)
 }
 
 #[test]
@@ -51,16 +57,16 @@ fn a_store_of_failures_asks_for_their_output_alone(rt: HostRuntime) -> Result<()
     ] {
         let mut statuses = Vec::new(alloc);
         statuses.push(attempt(1, 1, outcome))?;
-        assert_eq!(rt; answer(alloc, statuses)?, Some(want));
+        assert_eq!(rt; answer_of(alloc, statuses)?, Some(want));
     }
     let mut flaky = Vec::new(alloc);
     flaky.push(attempt(1, 2, failed()))?;
     flaky.push(attempt(2, 2, ExecutionResultDescription::Pass))?;
-    assert_eq!(rt; answer(alloc, flaky)?, Some(LoadOutput::Skip));
+    assert_eq!(rt; answer_of(alloc, flaky)?, Some(LoadOutput::Skip));
     Ok(())
 }
 
-// What reporters with these stores, and then one without, answer to the event; and whether they wrote nothing where they refused it.
+// What a reporter answers whose store keeps the output of failures, one whose store keeps none, and one without a store.
 fn answers_to(
     alloc: Global,
     event: &TestEvent<'_>,
@@ -72,6 +78,7 @@ fn answers_to(
     ])
 }
 
+// What a reporter with this store answers. One that refuses the event writes nothing.
 fn answer_with_store(
     alloc: Global,
     store: StoreConfig,

@@ -8,6 +8,7 @@ use crate::testing::{STATS, failed};
 use console_reporter::imp::{ReportCall, StoreConfig, run_report, run_report_with_store};
 use run_model::event::{TestEvent, TestEventKind};
 use run_model::level::CancelReason;
+use run_model::name::TestInstanceId;
 use run_model::time::Nanos;
 use std::alloc::Global;
 use std::test::Fail;
@@ -70,22 +71,31 @@ fn a_store_changes_no_byte_of_the_report(rt: HostRuntime) -> Result<(), Fail> {
     Ok(())
 }
 
-// The records of a test that failed after it wrote an accented letter to its standard output and an x to the other, with an
-// interrupt before it or without.
+// A test that failed after it wrote an accented letter to its standard output and an x to the other, with an interrupt before it or
+// without.
+fn accented<'a>(
+    alloc: Global,
+    test: TestInstanceId<'a>,
+    is_interrupted: bool,
+) -> Result<Vec<ReportCall<'a>>, Fail> {
+    let status = attempt_that_wrote(alloc, failed(), "é\n".as_bytes(), b"x")?;
+    let mut calls = Vec::new(alloc);
+    if is_interrupted {
+        calls.push(ReportCall::Event(interrupt()))?;
+    }
+    calls.push(ReportCall::Event(finished_once(alloc, test, status)?))?;
+    Ok(calls)
+}
+
+// What is stored of it.
 fn record_of_accented(
     alloc: Global,
     store: StoreConfig,
     is_interrupted: bool,
 ) -> Result<String, Fail> {
     let names = Names::new(alloc)?;
-    let status = attempt_that_wrote(alloc, failed(), "é\n".as_bytes(), b"x")?;
-    let mut calls = Vec::new(alloc);
-    if is_interrupted {
-        calls.push(ReportCall::Event(interrupt()))?;
-    }
-    calls.push(ReportCall::Event(finished_once(alloc, names.first(), status)?))?;
-    let (_, records) = texts_of(alloc, store, calls.as_slice())?;
-    Ok(records)
+    let calls = accented(alloc, names.first(), is_interrupted)?;
+    Ok(texts_of(alloc, store, calls.as_slice())?.1)
 }
 
 // The run is cancelled by an interrupt.
