@@ -1,6 +1,7 @@
 pub mod Attempts
 pub mod Displays
 pub mod ErrorChains
+pub mod Events
 pub mod Infos
 pub mod Instances
 pub mod Levels

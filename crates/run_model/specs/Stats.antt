@@ -12,6 +12,26 @@ use Rattle.run_model.specs.declared.stats.StressFinalRunStats.{StressFinalRunSta
 use Rattle.run_model.specs.declared.stats.StressFinalRunStats.TheVariants as stress
 use Rattle.run_model.specs.declared.stats.StressRunStats.{StressRunStats}
 
+-- so many tests are to run, and nothing has happened
+abbrev pub planned_stats : ℕ → RunStats
+planned_stats n = record {
+  initial_run_count = n;
+  finished_count = 0;
+  passed = 0;
+  passed_slow = 0;
+  flaky = 0;
+  leaky = 0;
+  failed = 0;
+  leaky_failed = 0;
+  exec_failed = 0;
+  timed_out = 0;
+  skipped = 0;
+  setup_scripts_failed = 0;
+  setup_scripts_exec_failed = 0;
+  setup_scripts_timed_out = 0;
+  cancel_reason = None;
+}
+
 -- a setup script failed, could not be started or timed out
 abbrev pub has_setup_failures : RunStats → Bool
 has_setup_failures s =

@@ -35,6 +35,21 @@ impl CommandLine {
         })
     }
 
+    /// A command of these words, which it copies.
+    ///
+    /// ```
+    /// CommandLine::from_words(alloc, &["cargo", "build", "--release"])?
+    /// ```
+    pub fn from_words(alloc: Global, words: &[&str]) -> Result<Self, OutOfMemory>
+        ensures { IfOk result (λ command. command ≡ map (λ word. word.now) words.now) }
+    {
+        let mut owned = Vec::with_capacity(alloc, words.len())?;
+        for word in words {
+            owned.push(String::from_str(alloc, word)?)?;
+        }
+        CommandLine::new(alloc, owned)
+    }
+
     /// Its words.
     pub fn words(&self) -> &[String]
         ensures { map string_bytes result.now ≡ self.now }

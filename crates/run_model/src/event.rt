@@ -1,6 +1,7 @@
 //! What happens in a run.
 
 ghost use Rattle.std.specs.Prelude.{◌≡◌, IfOk};
+ghost use Rattle.run_model.specs.Events.{run_finished, test_finished};
 ghost use Rattle.run_model.specs.Recorded.{recorded_kind};
 ghost use Rattle.run_model.specs.Unloaded.{unloaded_event};
 
@@ -29,6 +30,47 @@ pub struct TestEvent<'a> {
 }
 
 impl<'a> TestEvent<'a> {
+    /// A test has finished, so long after the run began. What it wrote is shown as nextest shows it where nothing is configured: at
+    /// once where the test failed, and never where it passed.
+    ///
+    /// ```
+    /// TestEvent::test_finished(elapsed, test_instance, ExecutionStatuses::one(alloc, status), stats)
+    /// ```
+    pub fn test_finished(
+        elapsed: Nanos,
+        test_instance: TestInstanceId<'a>,
+        run_statuses: ExecutionStatuses<LiveSpec>,
+        current_stats: RunStats,
+    ) -> Self
+        ensures { result ≡ test_finished elapsed test_instance.entry run_statuses current_stats }
+    {
+        TestEvent {
+            elapsed,
+            kind: TestEventKind::TestFinished {
+                stress_index: None,
+                test_instance,
+                success_output: TestOutputDisplay::Never,
+                failure_output: TestOutputDisplay::Immediate,
+                run_statuses,
+                current_stats,
+            },
+        }
+    }
+
+    /// The run has finished after this time, and came to this.
+    pub fn run_finished(elapsed: Nanos, run_stats: RunStats) -> Self
+        ensures { result ≡ run_finished elapsed run_stats }
+    {
+        TestEvent {
+            elapsed,
+            kind: TestEventKind::RunFinished {
+                elapsed,
+                run_stats: RunFinishedStats::Single(run_stats),
+                outstanding_not_seen: None,
+            },
+        }
+    }
+
     /// Leaves the captured output of every attempt of a decided event unread. Other events stay. It takes no memory.
     pub fn unload(&mut self)
         ensures { self.new ≡ unloaded_event self.old }

@@ -4,6 +4,7 @@ ghost use Rattle.std.specs.Prelude.{◌≡◌, [], length, ◌==◌, is_ok, true
 ghost use Rattle.std.specs.Cow.{cow_str_bytes, IsOwnedStr};
 ghost use Rattle.std.specs.Str.{encode_utf8_all, IsUtf8};
 ghost use Rattle.bstr.specs.Utf8.{lossy_chars};
+ghost use Rattle.run_model.specs.Attempts.{execution_with_output, silent_execution};
 ghost use Rattle.run_model.specs.Outputs.{subslice_value, stdout_part, stderr_part, combined_part, has_errors, has_loaded_output, is_loaded};
 ghost use Rattle.run_model.specs.Recorded.{recorded_execution, recorded_member, recorded_output};
 ghost use Rattle.run_model.specs.Unloaded.{unloaded_output};
@@ -137,6 +138,29 @@ pub enum ChildOutputDescription {
 }
 
 impl ChildOutputDescription {
+    /// What was captured of each stream by itself. It allocates, but for streams of no bytes.
+    ///
+    /// ```
+    /// ChildOutputDescription::split(alloc, Bytes::new(), Bytes::from_static(b"no such file\n"))?
+    /// ```
+    pub fn split(alloc: Global, stdout: Bytes, stderr: Bytes) -> Result<Self, OutOfMemory>
+        ensures { IfOk result (λ output. output ≡ ChildOutputDescription.Split (Some stdout) (Some stderr)) }
+    {
+        Ok(ChildOutputDescription::Split {
+            stdout: Some(ChildSingleOutput::new(alloc, stdout)?),
+            stderr: Some(ChildSingleOutput::new(alloc, stderr)?),
+        })
+    }
+
+    /// What was captured of both streams together. It allocates, but for no bytes.
+    pub fn combined(alloc: Global, output: Bytes) -> Result<Self, OutOfMemory>
+        ensures { IfOk result (λ captured. captured ≡ ChildOutputDescription.Combined output) }
+    {
+        Ok(ChildOutputDescription::Combined {
+            output: ChildSingleOutput::new(alloc, output)?,
+        })
+    }
+
     /// Whether it is there, and not left unread.
     pub fn is_loaded(&self) -> bool
         ensures { result ≡ is_loaded self.now }
@@ -256,6 +280,41 @@ impl<S: OutputSpec> ChildExecutionOutputDescription<S> {
 }
 
 impl ChildExecutionOutputDescription<LiveSpec> {
+    /// A process that ended so and wrote nothing on either stream.
+    pub fn silent(outcome: ExecutionResultDescription) -> Self
+        ensures { result ≡ silent_execution outcome }
+    {
+        ChildExecutionOutputDescription::Output {
+            result: Some(outcome),
+            output: ChildOutputDescription::Split {
+                stdout: Some(ChildSingleOutput::empty()),
+                stderr: Some(ChildSingleOutput::empty()),
+            },
+            errors: None,
+            highlight: None,
+        }
+    }
+
+    /// The same, where the process wrote this. One that could not be started wrote nothing, and stays as it is.
+    pub fn with_output(self, captured: ChildOutputDescription) -> Self
+        ensures { result ≡ execution_with_output self captured }
+    {
+        match self {
+            ChildExecutionOutputDescription::Output {
+                result,
+                errors,
+                highlight,
+                ..
+            } => ChildExecutionOutputDescription::Output {
+                result,
+                output: captured,
+                errors,
+                highlight,
+            },
+            not_started => not_started,
+        }
+    }
+
     /// Copies its texts, which allocates. The copy shares the bytes of the output.
     pub fn copy(&self, alloc: Global) -> Result<Self, OutOfMemory>
         ensures { IfOk result (λ output. output ≡ self.now) }

@@ -1,13 +1,17 @@
 //! How many tests of a run passed, failed and so on, and what that makes of the run.
 
 ghost use Rattle.std.specs.Prelude.{◌≡◌};
-ghost use Rattle.run_model.specs.Stats.{has_failures, failure_kind, final_stats_of, final_stats_of_run, stress_stats_of};
+ghost use Rattle.run_model.specs.Stats.{has_failures, failure_kind, final_stats_of, final_stats_of_run, planned_stats, stress_stats_of};
 
 use crate::level::CancelReason;
 use crate::stress::StressIndex;
 
-/// The counts of a run so far.
-#[derive(Clone, Copy, Debug, PartialEq, Eq)]
+/// The counts of a run so far. By default all are 0, and nothing has cancelled the run.
+///
+/// ```
+/// RunStats { finished_count: 1, passed: 1, ..RunStats::new(2) } // of two tests one has passed
+/// ```
+#[derive(Clone, Copy, Debug, Default, PartialEq, Eq)]
 pub struct RunStats {
     /// How many tests were to run at first.
     pub initial_run_count: usize,
@@ -42,6 +46,16 @@ pub struct RunStats {
 }
 
 impl RunStats {
+    /// What a run of so many tests begins with: nothing has finished, and nothing has cancelled it.
+    pub fn new(initial_run_count: usize) -> Self
+        ensures { result ≡ planned_stats initial_run_count }
+    {
+        RunStats {
+            initial_run_count,
+            ..RunStats::default()
+        }
+    }
+
     /// Whether a test or a setup script failed, could not be started or timed out.
     pub fn has_failures(&self) -> bool
         ensures { result ≡ has_failures self.now }

@@ -1,6 +1,7 @@
 //! How the attempts of a test ended.
 
 ghost use Rattle.std.specs.Prelude.{◌≡◌, ◌≤◌, IfSome, IfNone, IfOk, IsOk, false, [], ◌∷◌, ◌++◌, map, IsTrue, ◌↔◌};
+ghost use Rattle.run_model.specs.Attempts.{attempt_of, attempt_with_output, code_failure, only_attempt, silent_attempt};
 ghost use Rattle.run_model.specs.Statuses.{is_aborted, is_abort, is_success, is_leaky_success, is_success_case, case_of, summary_of, summary_by, described_case, described_last, described_prior, described_summary, final_level_of, final_level_by, status_level_of, status_level_by};
 ghost use Rattle.run_model.specs.Recorded.{recorded_attempt, recorded_attempts, recorded_script};
 ghost use Rattle.run_model.specs.Unloaded.{unloaded_attempt, unloaded_attempts, unloaded_script};
@@ -9,7 +10,9 @@ use crate::abort::AbortDescription;
 use crate::boxed::Boxed;
 use crate::level::{FinalStatusLevel, StatusLevel};
 use crate::memory::OutOfMemory;
-use crate::output::{ChildExecutionOutputDescription, LiveSpec, OutputSpec, RecordingSpec};
+use crate::output::{
+    ChildExecutionOutputDescription, ChildOutputDescription, LiveSpec, OutputSpec, RecordingSpec,
+};
 use crate::time::Nanos;
 use std::alloc::Global;
 use std::marker::Model;
@@ -24,6 +27,16 @@ pub struct RetryData {
 }
 
 impl RetryData {
+    /// An attempt that is the only one there can be.
+    pub fn only() -> Self
+        ensures { result ≡ only_attempt }
+    {
+        RetryData {
+            attempt: 1,
+            total_attempts: 1,
+        }
+    }
+
     /// Whether no attempt follows this one.
     pub fn is_last_attempt(&self) -> bool
         ensures { IsTrue result ↔ (self.now.total_attempts ≤ self.now.attempt) }
@@ -59,6 +72,16 @@ pub enum ExecutionResultDescription {
 }
 
 impl ExecutionResultDescription {
+    /// A failure with this exit code, which left no handle open.
+    pub fn exit_code(code: i32) -> Self
+        ensures { result ≡ code_failure code }
+    {
+        ExecutionResultDescription::Fail {
+            failure: FailureDescription::ExitCode { code },
+            leaked: false,
+        }
+    }
+
     /// Whether it counts as a success.
     pub fn is_success(&self) -> bool
         ensures { result ≡ is_success self.now }
@@ -176,6 +199,88 @@ pub struct ExecuteStatus<S: OutputSpec> {
 }
 
 impl ExecuteStatus<LiveSpec> {
+    /// The only attempt of a test, which ended so after this time, was not slow and wrote nothing. It allocates where the result
+    /// holds text.
+    pub fn new(
+        alloc: Global,
+        outcome: ExecutionResultDescription,
+        time_taken: Nanos,
+    ) -> Result<Self, OutOfMemory>
+        ensures attempt { IfOk result (λ status. status ≡ silent_attempt outcome time_taken) }
+        ensures free { is_aborted outcome ≡ false → IsOk result }
+    {
+        Ok(ExecuteStatus {
+            time_taken,
+            retry_data: RetryData::only(),
+            output: ChildExecutionOutputDescription::silent(outcome.copy(alloc)?),
+            result: outcome,
+            is_slow: false,
+        })
+    }
+
+    /// The only attempt of a test, which passed after this time, was not slow and wrote nothing.
+    ///
+    /// ```
+    /// ExecuteStatus::passed(Nanos::from_millis(20))
+    /// ```
+    pub fn passed(time_taken: Nanos) -> Self
+        ensures { result ≡ silent_attempt ExecutionResultDescription.Pass time_taken }
+    {
+        ExecuteStatus {
+            time_taken,
+            retry_data: RetryData::only(),
+            output: ChildExecutionOutputDescription::silent(ExecutionResultDescription::Pass),
+            result: ExecutionResultDescription::Pass,
+            is_slow: false,
+        }
+    }
+
+    /// The only attempt of a test, which failed with this exit code after this time, was not slow and wrote nothing.
+    ///
+    /// ```
+    /// ExecuteStatus::failed(101, Nanos::from_secs(3)).with_output(output) // a panic, and what it wrote
+    /// ```
+    pub fn failed(exit_code: i32, time_taken: Nanos) -> Self
+        ensures { result ≡ silent_attempt (code_failure exit_code) time_taken }
+    {
+        ExecuteStatus {
+            time_taken,
+            retry_data: RetryData::only(),
+            output: ChildExecutionOutputDescription::silent(ExecutionResultDescription::exit_code(
+                exit_code,
+            )),
+            result: ExecutionResultDescription::exit_code(exit_code),
+            is_slow: false,
+        }
+    }
+
+    /// This attempt, which wrote this. One that could not be started wrote nothing, and stays as it is.
+    pub fn with_output(self, output: ChildOutputDescription) -> Self
+        ensures { result ≡ attempt_with_output self output }
+    {
+        ExecuteStatus {
+            output: self.output.with_output(output),
+            ..self
+        }
+    }
+
+    /// This attempt as one of several, the first of which is 1.
+    ///
+    /// ```
+    /// ExecuteStatus::failed(1, time).as_attempt(1, 3) // the first of at most three
+    /// ```
+    pub fn as_attempt(self, attempt: u32, total_attempts: u32) -> Self
+        ensures { result ≡ attempt_of self attempt total_attempts }
+    {
+        ExecuteStatus {
+            retry_data: RetryData {
+                attempt,
+                total_attempts,
+            },
+            ..self
+        }
+    }
+
     /// Copies its texts, which allocates. The copy shares the bytes of the output.
     pub fn copy(&self, alloc: Global) -> Result<Self, OutOfMemory>
         ensures { IfOk result (λ status. status ≡ self.now) }
@@ -528,6 +633,19 @@ impl<S: OutputSpec> ExecutionStatuses<S> {
             last,
             flaky_result,
         })
+    }
+
+    /// The one attempt of a test that was not tried again. It allocates nothing.
+    ///
+    /// ```
+    /// ExecutionStatuses::one(alloc, ExecuteStatus::passed(Nanos::from_millis(20)))
+    /// ```
+    pub fn one(alloc: Global, status: ExecuteStatus<S>) -> Self
+        ensures earlier { result.earlier ≡ [] }
+        ensures last { result.last ≡ status }
+        ensures flaky { result.flaky_result ≡ FlakyResult.Pass }
+    {
+        ExecutionStatuses::with_last(Vec::new(alloc), status, FlakyResult::Pass)
     }
 
     /// The attempts before the last one, in order, and the last; and what a success after earlier attempts counts as.

@@ -1,5 +1,7 @@
 //! Durations.
 
+ghost use Rattle.std.specs.Prelude.{◌≡◌, ◌*◌};
+
 /// A duration in nanoseconds. Every number is taken, beyond what std's `Duration` holds.
 ///
 /// ```
@@ -7,3 +9,19 @@
 /// ```
 #[derive(Clone, Copy, Debug, Default, PartialEq, Eq, PartialOrd, Ord, Hash)]
 pub struct Nanos(pub u128);
+
+impl Nanos {
+    /// So many seconds.
+    pub fn from_secs(seconds: u64) -> Self
+        ensures { result.0 ≡ seconds * 1000000000 }
+    {
+        Nanos(seconds as u128 * 1_000_000_000)
+    }
+
+    /// So many milliseconds.
+    pub fn from_millis(milliseconds: u64) -> Self
+        ensures { result.0 ≡ milliseconds * 1000000 }
+    {
+        Nanos(milliseconds as u128 * 1_000_000)
+    }
+}
