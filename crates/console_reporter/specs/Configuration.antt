@@ -1,13 +1,41 @@
 -- A configuration of a reporter, and what it comes to.
-use Rattle.std.specs.Prelude.{Bool, Option, None, Some}
+use Rattle.std.specs.Prelude.{ℕ, Bool, true, false, Option, None, Some, codes}
+use Rattle.run_model.specs.declared.config.CompiledDefaultFilterSection.TheVariants.{Profile}
+use Rattle.run_model.specs.declared.config.NextestRunMode.TheVariants.{Test}
+use Rattle.run_model.specs.declared.level.FinalStatusLevel.TheVariants as final
+use Rattle.run_model.specs.declared.level.StatusLevel.TheVariants as status
 use Rattle.plain_text.specs.Styles.{styles_of}
 use Rattle.unit_report.specs.Levels.{resolved_display}
 use Rattle.unit_report.specs.declared.config.ResolvedDisplay.{ResolvedDisplay}
+use Rattle.unit_report.specs.declared.config.ShowProgress.TheVariants.{Auto}
+use Rattle.unit_report.specs.declared.unit_output.DisplayerKind.TheVariants.{Live}
 use Rattle.unit_report.specs.declared.unit_output.overrides.OutputDisplayOverrides.{OutputDisplayOverrides}
 use Rattle.event_text.specs.Settings.{counter_width_of, overrides_by, theme_of}
 use Rattle.event_text.specs.declared.settings.Settings.{Settings}
 use Rattle.store_text.specs.declared.config.StoreConfig.{StoreConfig}
 use Rattle.console_reporter.specs.declared.imp.builder.DisplayReporterBuilder.{DisplayReporterBuilder}
+
+-- nextest's defaults, for a run of so many tests
+abbrev pub default_builder : ℕ → DisplayReporterBuilder
+default_builder run_count = record {
+  mode = Test;
+  default_filter = record { profile = codes "default"; section = Profile };
+  display_config = record {
+    show_progress = Auto false;
+    no_capture = false;
+    status_level = None;
+    final_status_level = None;
+    profile_status_level = status.Pass;
+    profile_final_status_level = final.Flaky;
+  };
+  run_count = run_count;
+  success_output = None;
+  failure_output = None;
+  should_colorize = false;
+  verbose = false;
+  no_output_indent = false;
+  displayer_kind = Live;
+}
 
 -- the builder's fields, what the caller knows of the terminal and of the environment, and what a store is asked to keep, if there
 -- is one

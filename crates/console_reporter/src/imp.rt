@@ -20,7 +20,7 @@ mod state;
 mod store;
 mod topics;
 
-pub use builder::DisplayReporterBuilder;
+pub use builder::{DisplayReporterBuilder, Surroundings};
 pub use decider::{OutputLoadDecider, first_refused, unload_skipped};
 pub use event_text::finish::reasons_only_hide;
 pub use faults::{RunFault, WriteEventError};

@@ -322,6 +322,21 @@ pub struct OwnedTestInstanceId {
 }
 
 impl OwnedTestInstanceId {
+    /// The test of this name in this binary. It copies both texts.
+    ///
+    /// ```
+    /// OwnedTestInstanceId::new(alloc, "alpha", "parser::empty_input")?
+    /// ```
+    pub fn new(alloc: Global, binary_id: &str, test_name: &str) -> Result<Self, OutOfMemory>
+        ensures binary_id { IfOk result (λ test. test.binary_id ≡ binary_id.now) }
+        ensures test_name { IfOk result (λ test. test.test_name ≡ test_name.now) }
+    {
+        Ok(OwnedTestInstanceId {
+            binary_id: RustBinaryId::new(alloc, binary_id)?,
+            test_name: TestCaseName::new(alloc, test_name)?,
+        })
+    }
+
     /// The test, its names borrowed.
     pub fn as_ref(&self) -> TestInstanceId<'_>
         ensures binary_id { result.binary_id.now ≡ self.now.binary_id }

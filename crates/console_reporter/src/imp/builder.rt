@@ -1,19 +1,42 @@
 //! How a reporter is configured.
 
-ghost use Rattle.std.specs.Prelude.{◌≡◌, [], None, Some};
-ghost use Rattle.console_reporter.specs.Configuration.{configured, configured_with_store, settings_of};
+ghost use Rattle.std.specs.Prelude.{◌≡◌, IfOk, [], None, Some};
+ghost use Rattle.console_reporter.specs.Configuration.{configured, configured_with_store, default_builder, settings_of};
 ghost use Rattle.console_reporter.specs.Standing.{StandsAfter};
 
 use super::reporter::DisplayReporter;
 use event_text::settings::{Settings, counter_width_for, overrides_for, styles_for, theme_for};
 use plain_text::write_str::WriteStr;
-use run_model::config::{CompiledDefaultFilter, NextestRunMode, TestOutputDisplay};
+use run_model::config::{
+    CompiledDefaultFilter, CompiledDefaultFilterSection, NextestRunMode, TestOutputDisplay,
+};
+use run_model::level::{FinalStatusLevel, StatusLevel};
+use run_model::memory::OutOfMemory;
+use run_model::name::ProfileName;
 use std::alloc::Global;
 use store_text::config::StoreConfig;
-use unit_report::config::DisplayConfig;
+use unit_report::config::{DisplayConfig, ShowProgress};
 use unit_report::unit_output::{DisplayerKind, UnitOutputReporter};
 
-/// What a reporter is built from.
+/// Where a report goes: what nextest finds out by itself, and a caller of this library says. By default it goes to a file: no
+/// terminal, no build machine, ASCII characters, and empty outputs are not shown.
+///
+/// ```
+/// Surroundings { use_unicode: true, ..Surroundings::default() }
+/// ```
+#[derive(Clone, Copy, Debug, Default, PartialEq, Eq)]
+pub struct Surroundings {
+    /// Whether bars are drawn with characters beyond ASCII.
+    pub use_unicode: bool,
+    /// Whether the report goes to a terminal.
+    pub is_terminal: bool,
+    /// Whether the run is that of a build machine.
+    pub is_ci: bool,
+    /// Whether a stream that is empty has its header nevertheless.
+    pub display_empty_outputs: bool,
+}
+
+/// What a reporter is built from. [`DisplayReporterBuilder::new`] has nextest's defaults.
 #[derive(Debug, Drop)]
 pub struct DisplayReporterBuilder {
     /// Whether the run runs tests or benchmarks.
@@ -39,6 +62,70 @@ pub struct DisplayReporterBuilder {
 }
 
 impl DisplayReporterBuilder {
+    /// What nextest reports a run of so many tests by where nothing is configured: tests that pass, fail or are tried again have a
+    /// line, those that failed or were flaky stand in the summary, with counters and without colours. It allocates the name of the
+    /// default profile.
+    ///
+    /// ```
+    /// let mut builder = DisplayReporterBuilder::new(alloc, 2)?;
+    /// builder.should_colorize = true;
+    /// ```
+    pub fn new(alloc: Global, run_count: usize) -> Result<Self, OutOfMemory>
+        ensures { IfOk result (λ builder. builder ≡ default_builder run_count) }
+    {
+        Ok(DisplayReporterBuilder {
+            mode: NextestRunMode::Test,
+            default_filter: CompiledDefaultFilter {
+                profile: ProfileName::new(alloc, "default")?,
+                section: CompiledDefaultFilterSection::Profile,
+            },
+            display_config: DisplayConfig {
+                show_progress: ShowProgress::Auto {
+                    suppress_success: false,
+                },
+                no_capture: false,
+                status_level: None,
+                final_status_level: None,
+                profile_status_level: StatusLevel::Pass,
+                profile_final_status_level: FinalStatusLevel::Flaky,
+            },
+            run_count,
+            success_output: None,
+            failure_output: None,
+            should_colorize: false,
+            verbose: false,
+            no_output_indent: false,
+            displayer_kind: DisplayerKind::Live,
+        })
+    }
+
+    /// A reporter to a writer in these surroundings, as [`DisplayReporterBuilder::build`] makes it.
+    ///
+    /// ```
+    /// let mut reporter = builder.build_in(alloc, &mut out, Surroundings::default());
+    /// reporter.write_event(&event)?;
+    /// ```
+    pub fn build_in<'a, W: WriteStr>(
+        self,
+        alloc: Global,
+        writer: &'a mut W,
+        surroundings: Surroundings,
+    ) -> DisplayReporter<'a, W, String>
+        ensures same_reference { result.writer.ghost_name ≡ writer.entry.ghost_name }
+        ensures untouched { result.writer.now ≡ writer.old }
+        ensures no_store { result.store ≡ None }
+        ensures stands { StandsAfter (configured self surroundings.use_unicode surroundings.is_terminal surroundings.is_ci surroundings.display_empty_outputs) [] result }
+    {
+        self.build(
+            alloc,
+            writer,
+            surroundings.use_unicode,
+            surroundings.is_terminal,
+            surroundings.is_ci,
+            surroundings.display_empty_outputs,
+        )
+    }
+
     /// A reporter to a writer, to which nothing is written yet. It takes no memory.
     pub fn build<'a, W: WriteStr>(
         self,

@@ -1,0 +1,93 @@
+//! One error for a program that makes reports.
+
+use crate::imp::{RunFault, WriteEventError};
+use plain_text::write_str::WriteFault;
+use run_model::memory::OutOfMemory;
+use std::alloc::{AllocError, AllocFailed};
+use std::io;
+use thiserror::Error;
+
+/// Why a program could not make its report. Each fault of this library turns into it by `?`, so a `main` can have it as its error.
+///
+/// ```
+/// fn main(rt: HostRuntime) -> Result<(), ReportError> {
+///     let mut out = TextBuffer::new(rt.alloc(), io::writer(&rt))?;
+/// ```
+#[derive(Clone, Copy, Debug, PartialEq, Eq, Error)]
+pub enum ReportError {
+    /// A growth of memory was refused.
+    #[error("out of memory")]
+    OutOfMemory,
+    /// A device failed outside of a reporter's call, where a text was written or a file was read.
+    #[error("input or output failed")]
+    Io,
+    /// A call of a reporter failed.
+    #[error("{0}")]
+    WriteEvent(WriteEventError),
+    /// A call of a list failed.
+    #[error("call {position}: {fault}")]
+    Run {
+        /// The place of the call from 0, or the number of calls where the end of the report failed.
+        position: usize,
+        /// Why it failed.
+        fault: WriteEventError,
+    },
+}
+
+impl From<OutOfMemory> for ReportError {
+    fn from(_refused: OutOfMemory) -> Self {
+        ReportError::OutOfMemory
+    }
+}
+
+impl From<AllocError> for ReportError {
+    fn from(_refused: AllocError) -> Self {
+        ReportError::OutOfMemory
+    }
+}
+
+impl<T: Drop> From<AllocFailed<T>> for ReportError {
+    fn from(_refused: AllocFailed<T>) -> Self {
+        ReportError::OutOfMemory
+    }
+}
+
+// What a buffer answers that cannot be made: it gives back the writer, which is let go.
+impl<W: Drop> From<(AllocError, W)> for ReportError {
+    fn from(_refused: (AllocError, W)) -> Self {
+        ReportError::OutOfMemory
+    }
+}
+
+impl From<WriteFault> for ReportError {
+    fn from(fault: WriteFault) -> Self {
+        match fault {
+            WriteFault::Device => ReportError::Io,
+            WriteFault::Memory => ReportError::OutOfMemory,
+        }
+    }
+}
+
+impl From<WriteEventError> for ReportError {
+    fn from(fault: WriteEventError) -> Self {
+        ReportError::WriteEvent(fault)
+    }
+}
+
+impl From<RunFault> for ReportError {
+    fn from(stop: RunFault) -> Self {
+        ReportError::Run {
+            position: stop.position,
+            fault: stop.fault,
+        }
+    }
+}
+
+impl From<io::Error> for ReportError {
+    fn from(error: io::Error) -> Self {
+        match error.kind() {
+            io::ErrorKind::OutOfMemory => ReportError::OutOfMemory,
+            _ => ReportError::Io,
+        }
+    }
+}

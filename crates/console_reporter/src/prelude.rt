@@ -1,0 +1,31 @@
+//! What most callers need, of this crate and of those below, under one roof.
+//!
+//! ```
+//! use console_reporter::prelude::*;
+//! ```
+//!
+//! All else of a run's events stands in [`crate::model`], the crate `run_model`.
+
+pub use crate::error::ReportError;
+pub use crate::imp::{
+    DisplayReporter, DisplayReporterBuilder, DisplayerKind, ReportCall, RunFault, StoreConfig,
+    Surroundings, WriteEventError, first_refused, run_report, run_report_with_store,
+    unload_skipped,
+};
+pub use bytes::Bytes;
+pub use plain_text::indenter::indented;
+pub use plain_text::write_str::{TextBuffer, WriteStr};
+pub use run_model::abort::DescriptionText;
+pub use run_model::command::CommandLine;
+pub use run_model::config::{NextestRunMode, TestOutputDisplay};
+pub use run_model::event::{TestEvent, TestEventKind};
+pub use run_model::level::{CancelReason, FinalStatusLevel, StatusLevel};
+pub use run_model::memory::OutOfMemory;
+pub use run_model::name::{OwnedTestInstanceId, RustBinaryId, TestCaseName, TestInstanceId};
+pub use run_model::output::{ChildOutputDescription, ErrorChain};
+pub use run_model::stats::RunStats;
+pub use run_model::status::{
+    ExecuteStatus, ExecutionResultDescription, ExecutionStatuses, FlakyResult,
+};
+pub use run_model::time::Nanos;
+pub use unit_report::config::{DisplayConfig, ShowProgress};
