@@ -82,6 +82,23 @@ class Run:
         for key in keys:
             self.counts[key] = self.counts.get(key, 0) + 1
 
+    def start(self, binary, name, command):
+        self.line("start", "-", text(binary), text(name), self.stats(), words(command))
+
+    def retry(self, binary, name, attempt, number, total):
+        """An attempt failed, and the next one starts at once."""
+        self.line("retry", "-", text(binary), text(name), str(number), str(total), "0", "immediate", *attempt.fields)
+        self.line("retrystart", "-", text(binary), text(name), str(number + 1), str(total), "-")
+
+    def cancel(self, running, reason):
+        """`RunStats::cancel_reason` is the reason from here on."""
+        self.counts["cancel"] = reason
+        self.line("cancel", "0", str(running), reason)
+
+    def kill(self, running, reason):
+        self.counts["cancel"] = reason
+        self.line("kill", "0", str(running), reason)
+
     def slow(self, binary, name, attempt, total, seconds, will_terminate=False):
         self.line("slow", "-", text(binary), text(name), str(attempt), str(total), nanos(seconds), str(int(will_terminate)))
 

@@ -1,0 +1,38 @@
+//! How a test's process can end.
+
+use std::{env, fs, process, thread, time::Duration};
+
+#[test]
+fn aborts() {
+    process::abort()
+}
+
+#[test]
+fn exits() {
+    println!("bye");
+    process::exit(3)
+}
+
+#[test]
+fn is_slow() {
+    thread::sleep(Duration::from_millis(1400));
+}
+
+#[test]
+fn never_ends() {
+    loop {
+        thread::sleep(Duration::from_secs(60));
+    }
+}
+
+// It fails the first time in a folder.
+#[test]
+fn is_flaky() {
+    let mark = env::var_os("MIXED_MARK").map(std::path::PathBuf::from).unwrap_or_else(|| env::temp_dir().join("mixed-mark"));
+    if mark.exists() {
+        fs::remove_file(mark).unwrap();
+    } else {
+        fs::write(mark, "").unwrap();
+        panic!("the first time");
+    }
+}
