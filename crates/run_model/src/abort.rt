@@ -52,7 +52,7 @@ impl AbortDescription {
     }
 }
 
-// Takes memory for another text, where there is one.
+// Copies the text, if there is one, which allocates.
 fn copy_text(
     alloc: Global,
     text: &Option<DescriptionText>,

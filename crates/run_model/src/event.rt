@@ -176,7 +176,7 @@ pub enum TestEventKind<'a> {
         args: CommandLine,
         /// How long it has taken.
         elapsed: Nanos,
-        /// Whether it is ended for it.
+        /// Whether it is terminated for that.
         will_terminate: bool,
     },
     /// A setup script has finished.
@@ -213,7 +213,7 @@ pub enum TestEventKind<'a> {
         retry_data: RetryData,
         /// How long the attempt has taken.
         elapsed: Nanos,
-        /// Whether the attempt is ended for it.
+        /// Whether the attempt is terminated for that.
         will_terminate: bool,
     },
     /// An attempt of a test has failed, and another one follows.

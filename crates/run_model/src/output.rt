@@ -383,7 +383,7 @@ impl ChildExecutionOutputDescription<LiveSpec> {
     }
 }
 
-// Takes memory for another result, where there is one and it holds a text.
+// Copies the result, if there is one; allocates only if it holds text.
 fn copy_result(
     alloc: Global,
     outcome: &Option<ExecutionResultDescription>,
@@ -396,7 +396,7 @@ fn copy_result(
     }
 }
 
-// Takes memory for another error, where there is one.
+// Copies the error, if there is one, which allocates.
 fn copy_errors(
     alloc: Global,
     errors: &Option<ErrorChain>,
@@ -484,7 +484,7 @@ impl ErrorChain {
     }
 }
 
-// Takes memory for other causes.
+// Copies the causes, which allocates.
 fn copy_causes(
     alloc: Global,
     causes: &[DescriptionText],

@@ -591,7 +591,7 @@ fn unload_attempts(attempts: &mut [ExecuteStatus<LiveSpec>])
     }
 }
 
-// Takes memory for the same attempts as a record has them.
+// Copies the attempts in the form of a recorded run, which allocates.
 fn recorded_earlier(
     alloc: Global,
     attempts: &[ExecuteStatus<LiveSpec>],
@@ -605,7 +605,7 @@ fn recorded_earlier(
     Ok(recorded)
 }
 
-// Takes memory for other attempts that are the same. Where there is none it takes none.
+// Copies the attempts; allocates nothing where there is none.
 fn copy_attempts(
     alloc: Global,
     attempts: &[ExecuteStatus<LiveSpec>],

@@ -18,7 +18,7 @@ use std::io::ErrorKind;
 /// ```
 #[derive(Clone, Copy, Debug)]
 pub enum Fault<'a> {
-    /// The command line is not used rightly.
+    /// The command line is wrong.
     Usage,
     /// The file cannot be read.
     CannotRead {

@@ -28,7 +28,7 @@ impl Model for LoadedOutput {
 }
 
 impl LoadedOutput {
-    /// Takes memory for the texts of an output that is there. Its captured bytes are shared.
+    /// Copies output that was loaded: it allocates for the texts and shares the captured bytes.
     pub fn copy_of(
         alloc: Global,
         output: &ChildExecutionOutputDescription<LiveSpec>,

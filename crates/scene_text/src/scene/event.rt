@@ -76,7 +76,7 @@ const _: () = prove!(size_of::<SceneEvent>() == 320);
 impl SceneEvent {
     ghost use Rattle.scene_text.specs.Scenes.{AddsCallOf};
 
-    /// Adds the event as a reporter takes it, which is made where it stands: it is large.
+    /// Pushes this event as a `ReportCall`, which is built in place: it is large.
     pub fn push_call<'a>(
         &'a self,
         alloc: Global,

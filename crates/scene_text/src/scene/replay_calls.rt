@@ -56,7 +56,7 @@ pub struct SceneHeader {
 }
 
 impl SceneHeader {
-    /// Adds the header as a reporter takes it.
+    /// Pushes the header as a `ReportCall`.
     pub fn push_call<'a>(
         &self,
         alloc: Global,
@@ -79,7 +79,7 @@ impl SceneHeader {
     }
 }
 
-/// Adds that the run's id has this unique prefix, as a reporter takes it.
+/// Pushes the unique prefix of the run's id as a `ReportCall`.
 pub fn push_prefix_call<'a>(
     alloc: Global,
     prefix: &ShortestRunIdPrefix,

@@ -48,7 +48,7 @@ pub struct SlowSetup {
     pub stress_index: Option<StressIndex>,
     /// The script.
     pub script: SceneScript,
-    /// Whether it is ended for it.
+    /// Whether it is terminated for that.
     pub will_terminate: bool,
 }
 

@@ -113,7 +113,7 @@ impl SceneState {
 }
 
 impl LiveState {
-    // Takes memory for the state, of an attempt that ended so, as a reporter takes it.
+    // The state of an attempt that ended so, as an event has it. It allocates.
     fn state(
         &self,
         alloc: Global,
@@ -144,7 +144,7 @@ impl LiveState {
 }
 
 impl EndedState {
-    // The state, of an attempt that ended so, as a reporter takes it.
+    // The state of an attempt that ended so, as an event has it.
     fn state(&self, outcome: ExecutionResultDescription) -> UnitState
         ensures { result ≡ ended_state self.now outcome }
     {

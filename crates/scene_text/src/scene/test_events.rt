@@ -60,7 +60,7 @@ pub struct SlowTest {
     pub test: SceneTest,
     /// Which attempt it is.
     pub retry_data: RetryData,
-    /// Whether the attempt is ended for it.
+    /// Whether the attempt is terminated for that.
     pub will_terminate: bool,
 }
 
@@ -95,7 +95,7 @@ pub struct TestFinish {
 impl SceneTest {
     ghost use Rattle.scene_text.specs.Scenes.{HasNames};
 
-    /// Adds that the test is skipped, as a reporter takes it.
+    /// Pushes that the test is skipped as a `ReportCall`.
     pub fn push_skipped_call<'a>(
         &'a self,
         calls: &mut Vec<ReportCall<'a>>,
@@ -110,7 +110,7 @@ impl SceneTest {
         Ok(())
     }
 
-    /// The test as a reporter takes it, which borrows the names.
+    /// The test as an event has it. It borrows the names.
     #[inline(always)]
     pub fn instance(&self) -> TestInstanceId<'_>
         ensures { HasNames self.now result }
