@@ -4,7 +4,7 @@
 statistics after it. The statistics follow nextest's `RunStats`; each rule stands where it is used.
 """
 
-from decimal import ROUND_HALF_UP, Decimal, InvalidOperation
+from decimal import ROUND_HALF_UP, Decimal
 
 NAMED = {"\n": "\\n", "\t": "\\t", "\r": "\\r", "\x1b": "\\e", "\\": "\\\\"}
 # Reports show the id; what is made of another tool's output has none of its own.
@@ -44,11 +44,12 @@ def words(values):
 
 
 def nanos(seconds):
-    """Decimal seconds as whole nanoseconds, ties up. What is no number, or below 0, is 0."""
+    """Decimal seconds as whole nanoseconds, ties up. What is no number, below 0 or beyond all durations is 0."""
     try:
         exact = Decimal(str(seconds or 0)) * 1_000_000_000
-        return str(max(0, int(exact.to_integral_value(ROUND_HALF_UP))))
-    except (InvalidOperation, ValueError, OverflowError):
+        rounded = int(exact.to_integral_value(ROUND_HALF_UP)) if abs(exact) < 1 << 128 else 0
+        return str(rounded if 0 <= rounded < 1 << 128 else 0)
+    except (ArithmeticError, ValueError):
         return "0"
 
 
