@@ -18,7 +18,7 @@ use run_model::status::{
 use run_model::unit::UnitKind;
 use unit_report::unit_output::{ChildOutputSpec, OutputHeader, OutputName};
 
-/// Writes what an attempt of a test wrote, which ended so, and how it ended where that is worth a line of its own.
+/// Writes the output of an attempt that ended with this result, and how it ended where nextest has a line for that.
 ///
 /// `is_retry` says that another attempt follows. The output must not have been left unread.
 pub fn write_test_execute_status<W: WriteStr>(
@@ -35,7 +35,7 @@ pub fn write_test_execute_status<W: WriteStr>(
     write_unit_execute_status(w, settings, kind, is_retry, outcome, output)
 }
 
-/// Writes what a setup script wrote, which ended so, and how it ended where that is worth a line of its own. The output
+/// Writes the output of a setup script that ended with this result, and how it ended where nextest has a line for that. It
 /// must not have been left unread.
 pub fn write_setup_script_execute_status<W: WriteStr>(
     w: &mut W,

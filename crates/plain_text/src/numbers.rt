@@ -86,7 +86,7 @@ fn char_count(text: &str) -> usize
     text.chars().count()
 }
 
-/// Writes a text right in so many columns, one for each character.
+/// Writes a text right-aligned in so many columns, one for each character.
 #[tactic(auto, unfolding(crate::specs::Texts::right_in))]
 pub fn write_right<W: WriteStr>(w: &mut W, columns: usize, text: &str) -> Result<(), WriteFault>
     ensures { Puts W.meaning w.old (right_in columns text.now) result w.new }
@@ -95,9 +95,9 @@ pub fn write_right<W: WriteStr>(w: &mut W, columns: usize, text: &str) -> Result
     w.write_str(text)
 }
 
-/// Writes nanoseconds as seconds with three decimals, right in eight columns, between brackets, and a space.
+/// Writes nanoseconds as seconds with three decimals, right-aligned in eight columns, between brackets, and a space.
 ///
-/// The nearest thousandth is written, of two that are as near the greater one.
+/// The nearest thousandth is written, ties go up.
 ///
 /// ```
 /// write_bracketed_seconds(w, 5_000_000) // "[   0.005s] "
@@ -151,9 +151,9 @@ fn digit_or_space(number: u32, power: u32) -> u8
     }
 }
 
-/// Writes nanoseconds as seconds with three decimals, right in so many columns, between two texts.
+/// Writes nanoseconds as seconds with three decimals, right-aligned in so many columns, between two texts.
 ///
-/// The nearest thousandth is written, of two that are as near the greater one.
+/// The nearest thousandth is written, ties go up.
 ///
 /// ```
 /// write_seconds_between(w, "[", 8, 5_000_000, "s] ") // "[   0.005s] "
@@ -219,7 +219,7 @@ fn write_decimals<W: WriteStr>(w: &mut W, thousandths: u32) -> Result<(), WriteF
     w.write_str(unsafe { str::from_utf8_unchecked(&digits) })
 }
 
-/// Writes four texts joined, right in so many columns, one for each character.
+/// Writes four texts joined, right-aligned in so many columns, one for each character.
 ///
 /// ```
 /// write_right_joined(w, 12, "TRY ", "2", " ", "FAIL") // "  TRY 2 FAIL"

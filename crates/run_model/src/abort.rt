@@ -20,14 +20,14 @@ pub enum AbortDescription {
         /// Its name without the `SIG` in front, if it is known.
         name: Option<DescriptionText>,
     },
-    /// With a status that tells of a fault, on Windows.
+    /// By an NT status that tells of a fault, on Windows.
     WindowsNtStatus {
         /// The status.
         code: i32,
         /// What the system says of it, if it is known.
         message: Option<DescriptionText>,
     },
-    /// With the job that it belonged to, on Windows.
+    /// Together with its job object, on Windows.
     WindowsJobObject,
 }
 

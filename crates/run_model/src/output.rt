@@ -61,7 +61,7 @@ impl Model for ChildSingleOutput {
 }
 
 impl ChildSingleOutput {
-    /// The output with these bytes. It takes memory, but for no bytes.
+    /// The output with these bytes. It allocates unless there are none.
     pub fn new(alloc: Global, bytes: Bytes) -> Result<Self, OutOfMemory>
         ensures bytes { IfOk result (λ output. output ≡ bytes) }
         ensures free { bytes ≡ [] → IsOk result }
@@ -98,7 +98,7 @@ impl ChildSingleOutput {
         self.as_bytes().is_empty()
     }
 
-    /// The text of the bytes, with U+FFFD for what is no character. It takes no memory where the bytes are UTF-8.
+    /// The text of the bytes, with U+FFFD in place of what is not UTF-8. It allocates only where there is such.
     pub fn as_str_lossy(&self, alloc: Global) -> Result<CowStr<'_, Global>, OutOfMemory>
         ensures text { IfOk result (λ t. cow_str_bytes t ≡ encode_utf8_all (lossy_chars self.now)) }
         ensures borrowed { IsUtf8 self.now → (is_ok result ≡ true) × IfOk result (λ t. IsOwnedStr t → ⊥) }
@@ -138,7 +138,7 @@ pub enum ChildOutputDescription {
 }
 
 impl ChildOutputDescription {
-    /// What was captured of each stream by itself. It allocates, but for streams of no bytes.
+    /// What was captured of each stream by itself. It allocates for streams that are not empty.
     ///
     /// ```
     /// ChildOutputDescription::split(alloc, Bytes::new(), Bytes::from_static(b"no such file\n"))?
@@ -152,7 +152,7 @@ impl ChildOutputDescription {
         })
     }
 
-    /// What was captured of both streams together. It allocates, but for no bytes.
+    /// What was captured of both streams together. It allocates unless that is empty.
     pub fn combined(alloc: Global, output: Bytes) -> Result<Self, OutOfMemory>
         ensures { IfOk result (λ captured. captured ≡ ChildOutputDescription.Combined output) }
     {

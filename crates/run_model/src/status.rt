@@ -696,7 +696,7 @@ impl<S: OutputSpec> ExecutionStatuses<S> {
         }
     }
 
-    /// What the attempts came to, without what they wrote. It takes memory where the last result holds a text.
+    /// What the attempts came to, without what they wrote. It allocates only where the last result holds a text.
     pub fn summary(&self, alloc: Global) -> Result<StatusSummary, OutOfMemory>
         ensures summary { IfOk result (λ s. s ≡ summary_of self.now) }
         ensures free { is_aborted self.now.last.result ≡ false → IsOk result }

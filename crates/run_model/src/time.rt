@@ -2,7 +2,7 @@
 
 ghost use Rattle.std.specs.Prelude.{◌≡◌, ◌*◌};
 
-/// A duration in nanoseconds. Every number is taken, beyond what std's `Duration` holds.
+/// A duration in nanoseconds. It holds every `u128`, which is more than std's `Duration` does.
 ///
 /// ```
 /// Nanos(1_500_000_000) // one second and a half

@@ -89,7 +89,7 @@ impl<'b> StatusLine<'b> {
         }
     }
 
-    /// The summary that it is the line of. It takes memory where the last attempt was aborted.
+    /// The summary that it is the line of. It allocates only where the last attempt was aborted.
     pub fn to_summary(self, alloc: Global) -> Result<StatusSummary, OutOfMemory>
         ensures same { IfOk result (λ x. x ≡ shown_summary self.entry) }
         ensures free { is_aborted self.entry.result.now ≡ false → IsOk result }

@@ -47,9 +47,9 @@ pub struct DisplayReporterBuilder {
     pub display_config: DisplayConfig,
     /// How many tests are to run, which decides the width of padded counters.
     pub run_count: usize,
-    /// When the output of tests that succeed is shown, in the place of what a test asks for.
+    /// When the output of tests that succeed is shown, overriding what each test asks for.
     pub success_output: Option<TestOutputDisplay>,
-    /// When the output of tests that fail is shown, in the place of what a test asks for.
+    /// When the output of tests that fail is shown, overriding what each test asks for.
     pub failure_output: Option<TestOutputDisplay>,
     /// Whether the report has colours.
     pub should_colorize: bool,

@@ -9,7 +9,7 @@ use run_model::output::{ChildExecutionOutputDescription, LiveSpec};
 use std::alloc::Global;
 use std::marker::Model;
 
-/// What an attempt wrote, which is there: an entry that shows output has nothing else. Contracts see the output.
+/// Output that was loaded: an entry that shows output holds no other. Contracts see the output.
 #[derive(Debug, Drop)]
 pub struct LoadedOutput {
     output: Boxed<ChildExecutionOutputDescription<LiveSpec>>,

@@ -14,7 +14,7 @@ use std::io::Write;
 /// How many bytes are gathered before they are delivered.
 pub const CAPACITY: usize = 8192;
 
-/// Gathers text and delivers it to a device, as a file or standard output.
+/// Gathers text and delivers it to a device, such as a file or standard output.
 ///
 /// Its accepted text is what was delivered followed by what is pending. A device fails where it answers an error of any
 /// kind, or takes none of the bytes that it was given; what was not delivered then stays pending.

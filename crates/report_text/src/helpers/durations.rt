@@ -25,7 +25,7 @@ const MILLISECOND: u128 = 1_000_000;
 
 /// A duration in seconds with two decimals, and above a minute in minutes and seconds.
 ///
-/// The nearest hundredth is shown, of two that are as near the greater one; as nextest does it, the seconds after the
+/// The nearest hundredth is shown, ties go up; as nextest does it, the seconds after the
 /// minutes can so be shown as 60.00.
 ///
 /// ```
@@ -157,7 +157,7 @@ pub fn write_clock<W: WriteStr>(w: &mut W, seconds: u128) -> Result<(), WriteFau
     )
 }
 
-/// Writes seconds as hours, minutes and seconds, right in so many columns, between two texts.
+/// Writes seconds as hours, minutes and seconds, right-aligned in so many columns, between two texts.
 ///
 /// ```
 /// write_clock_between(w, "[", 9, 12, "] ") // "[ 00:00:12] "

@@ -31,7 +31,7 @@ pub enum ExitDescription {
 ///
 /// # Errors
 ///
-/// Memory was refused. A writer takes the text without any: [`write_exited_with`].
+/// Memory was refused. [`write_exited_with`] writes the same without allocating.
 pub fn display_exited_with(alloc: Global, exit: &ExitDescription) -> Result<String, OutOfMemory>
     ensures { IfOk result (λ text. string_bytes text ≡ exit_text exit.now) }
 {
@@ -86,7 +86,7 @@ fn write_exit_details<W: WriteStr>(w: &mut W, exit: &ExitDescription) -> Result<
 ///
 /// # Errors
 ///
-/// Memory was refused. A writer takes the text without any: [`write_abort_status`].
+/// Memory was refused. [`write_abort_status`] writes the same without allocating.
 pub fn display_abort_status(alloc: Global, abort: &AbortDescription) -> Result<String, OutOfMemory>
     ensures { IfOk result (λ text. string_bytes text ≡ abort_text abort.now) }
 {

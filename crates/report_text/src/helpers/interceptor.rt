@@ -26,7 +26,7 @@ use std::alloc::Global;
 ///
 /// # Errors
 ///
-/// Memory was refused. A writer takes the text without any: [`write_interceptor_too_many_tests`].
+/// Memory was refused. [`write_interceptor_too_many_tests`] writes the same without allocating.
 pub fn format_interceptor_too_many_tests(
     alloc: Global,
     cli_opt_name: &str,

@@ -38,7 +38,7 @@ impl CommandWord for &str {
     }
 }
 
-/// The words as a shell reads them, with one space between each two.
+/// The words as a shell reads them, separated by single spaces.
 ///
 /// ```
 /// shell_join(alloc, &["cargo", "", "it's", "a=b"]) // cargo '' 'it'\''s' a=b
@@ -46,7 +46,7 @@ impl CommandWord for &str {
 ///
 /// # Errors
 ///
-/// Memory was refused. A writer takes the words without any: [`write_shell_words`].
+/// Memory was refused. [`write_shell_words`] writes the same without allocating.
 pub fn shell_join<T: CommandWord>(alloc: Global, words: &[T]) -> Result<String, OutOfMemory>
     ensures { IfOk result (λ joined. string_bytes joined ≡ shell_words (map T.text words.now)) }
 {
@@ -57,7 +57,7 @@ pub fn shell_join<T: CommandWord>(alloc: Global, words: &[T]) -> Result<String, 
     }
 }
 
-/// Writes words as a shell reads them, with one space between each two.
+/// Writes words as a shell reads them, separated by single spaces.
 #[tactic(auto, unfolding(crate::specs::Quoting::shell_words))]
 pub fn write_shell_words<W: WriteStr, T: CommandWord>(
     w: &mut W,
@@ -71,7 +71,7 @@ pub fn write_shell_words<W: WriteStr, T: CommandWord>(
     }
 }
 
-/// Writes a command and its arguments as a shell reads them, with one space between each two.
+/// Writes a command and its arguments as a shell reads them, separated by single spaces.
 pub fn write_shell_command<W: WriteStr, T: CommandWord>(
     w: &mut W,
     command: &str,

@@ -14,9 +14,9 @@ use run_model::time::Nanos;
 use std::fmt;
 use std::fmt::Formatter;
 
-/// A duration between brackets, and a space: seconds with three decimals, right in eight columns.
+/// A duration between brackets, and a space: seconds with three decimals, right-aligned in eight columns.
 ///
-/// The nearest thousandth is shown, of two that are as near the greater one.
+/// The nearest thousandth is shown, ties go up.
 ///
 /// ```
 /// DisplayBracketedDuration(Nanos(5_000_000)) // "[   0.005s] "
@@ -43,7 +43,7 @@ impl fmt::Display for DisplayBracketedDuration {
     }
 }
 
-/// How long a run has taken, between brackets and a space: hours, minutes and seconds, right in nine columns. A part of a
+/// How long a run has taken, between brackets and a space: hours, minutes and seconds, right-aligned in nine columns. A part of a
 /// second is left out.
 ///
 /// ```
@@ -71,7 +71,7 @@ impl fmt::Display for DisplayBracketedHhMmSs {
     }
 }
 
-/// The delay after which something comes: seconds with three decimals, right in seven columns.
+/// The delay after which something comes: seconds with three decimals, right-aligned in seven columns.
 ///
 /// ```
 /// DisplayDurationBy(Nanos(1_000_000_000)) // "by   1.000s "
@@ -98,7 +98,7 @@ impl fmt::Display for DisplayDurationBy {
     }
 }
 
-/// A duration that was exceeded, between brackets and a space: seconds with three decimals, right in seven columns.
+/// A duration that was exceeded, between brackets and a space: seconds with three decimals, right-aligned in seven columns.
 ///
 /// ```
 /// DisplaySlowDuration(Nanos(60_000_000_000)) // "[> 60.000s] "

@@ -8,7 +8,7 @@ use run_model::config::TestOutputDisplay;
 use run_model::output::OutputSpec;
 use run_model::status::{ExecutionDescription, ExecutionResultDescription};
 
-/// When output is shown in the place of what a test asks for. A setting that is absent leaves the choice to the test.
+/// When output is shown overriding what each test asks for. A setting that is absent leaves the choice to the test.
 #[derive(Clone, Copy, Debug, Default, PartialEq, Eq)]
 pub struct OutputDisplayOverrides {
     /// Of tests that succeed.
