@@ -1,6 +1,7 @@
 //! An example: a recorded run is shown again, and of what its tests wrote only that is read which the report shows.
 #![tactic(auto)]
 
+use console_reporter::imp::OutputLoadDecider;
 use console_reporter::model::output_event::LoadOutput;
 use console_reporter::prelude::*;
 use std::alloc::Global;
@@ -53,26 +54,46 @@ fn main(rt: HostRuntime) -> Result<(), ReportError> {
             test_name,
         };
         stats = counted(stats, recorded);
-        let unread = finished(
-            alloc,
-            test,
-            recorded,
-            stats,
-            ChildOutputDescription::NotLoaded,
-        )?;
-        let event = match unread.recorded(alloc)? {
-            Some(kind) if decider.should_load_output(&kind) == LoadOutput::Load => {
-                rt.eprintln(recorded.test_name)?;
-                let stderr = Bytes::from_static(recorded.stderr);
-                let output = ChildOutputDescription::split(alloc, Bytes::new(), stderr)?;
-                finished(alloc, test, recorded, stats, output)?
-            }
-            _ => unread,
-        };
+        let event = read_event(alloc, &decider, test, recorded, stats)?;
         reporter.write_event(&event)?;
     }
     reporter.write_event(&TestEvent::run_finished(TIME, stats))?;
     Ok(reporter.finish()?)
+}
+
+// The event of a test of the record, with what it wrote where the report shows that.
+fn read_event<'a>(
+    alloc: Global,
+    decider: &OutputLoadDecider,
+    test: TestInstanceId<'a>,
+    recorded: &Recorded,
+    stats: RunStats,
+) -> Result<TestEvent<'a>, OutOfMemory> {
+    let unread = finished(
+        alloc,
+        test,
+        recorded,
+        stats,
+        ChildOutputDescription::NotLoaded,
+    )?;
+    if !is_shown(alloc, decider, &unread)? {
+        return Ok(unread);
+    }
+    let stderr = Bytes::from_static(recorded.stderr);
+    let output = ChildOutputDescription::split(alloc, Bytes::new(), stderr)?;
+    finished(alloc, test, recorded, stats, output)
+}
+
+// Whether the report shows what the test of an event wrote.
+fn is_shown(
+    alloc: Global,
+    decider: &OutputLoadDecider,
+    event: &TestEvent<'_>,
+) -> Result<bool, OutOfMemory> {
+    match event.recorded(alloc)? {
+        Some(kind) => Ok(decider.should_load_output(&kind) == LoadOutput::Load),
+        None => Ok(false),
+    }
 }
 
 // The counts with one more test.
