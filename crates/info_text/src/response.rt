@@ -22,7 +22,7 @@ use run_model::status::RetryData;
 use run_model::unit::UnitKind;
 use unit_report::unit_output::{ChildOutputSpec, OutputHeader, OutputName};
 
-/// Writes the answer of a unit. `index` is its place among so many, from 0. Output of the unit must not have been left
+/// Writes the answer of a unit. `index` is its place among all, from 0. Output of the unit must not have been left
 /// unread.
 #[tactic(auto, unfolding(crate::specs::Responses::info_response_text))]
 pub fn write_info_response<W: WriteStr>(
@@ -57,7 +57,7 @@ fn write_separator<W: WriteStr>(
     write_plain(w, "\n")
 }
 
-// Writes which of so many answers it is. The number is counted from 1, and may be above the greatest of its type.
+// Writes which of the answers it is. The number is counted from 1, and may be above the greatest of its type.
 #[tactic(auto, unfolding(crate::specs::Responses::response_number))]
 fn write_response_number<W: WriteStr>(
     w: &mut W,

@@ -12,7 +12,7 @@ use plain_text::write_str::{WriteFault, WriteStr};
 use run_model::stats::RunStats;
 use run_model::time::Nanos;
 
-/// Writes that so many units are asked, which stand for those that run, with the counts of the run.
+/// Writes how many units are asked, which are those that run, with the counts of the run.
 #[tactic(auto, unfolding(crate::specs::Starts::info_started_text))]
 pub fn write_info_started<W: WriteStr>(
     w: &mut W,

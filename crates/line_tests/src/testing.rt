@@ -84,7 +84,7 @@ impl TestNames {
     }
 }
 
-/// The counts of a run of so many tests, of which so many have finished and passed.
+/// The counts of a run of this many tests, of which so many have finished and passed.
 pub fn stats(initial_run_count: usize, finished_count: usize, passed: usize) -> RunStats {
     RunStats {
         initial_run_count,

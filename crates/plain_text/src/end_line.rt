@@ -8,7 +8,7 @@ use crate::write_str::{WriteFault, WriteStr};
 
 /// Writes a text that comes in pieces, without one line feed that closes it.
 ///
-/// A line feed at the end of a piece is held back until more follows. It takes no memory: pieces go down as they are.
+/// A line feed at the end of a piece is held back until more follows. It allocates nothing: pieces go down as they are.
 ///
 /// ```
 /// let mut end_line = EndLine::new();

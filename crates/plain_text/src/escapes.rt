@@ -51,7 +51,7 @@ impl<'a> Model for Scanner<'a> {
     ghost view = { λ s. pieces s.rest.now };
 }
 
-/// The sequences of a text and the stretches between them, in order. Joined they are the text. It takes no memory.
+/// The sequences of a text and the stretches between them, in order. Joined they are the text. It allocates nothing.
 ///
 /// ```
 /// pieces("\x1b[1mhi") // Sequence("\x1b[1m"), Stretch("hi")
@@ -106,7 +106,7 @@ pub fn write_stripped<W: WriteStr>(w: &mut W, text: &str) -> Result<(), WriteFau
     Ok(())
 }
 
-/// What the pieces of each text are: the text, and its stretches what is visible of it.
+/// The law of pieces: joined they are the text, and the stretches joined are what is visible of it.
 #[tactic(auto, using(crate::proofs::lemmas::Pieces::piece_laws))]
 pub fn piece_laws()
     ensures joined { (t : List ℕ) → joined (pieces t) ≡ t }
@@ -221,7 +221,7 @@ pub(crate) enum State {
 enum Step {
     // The character belongs to the sequence, which goes on.
     Inside(State),
-    // So many characters more belong to the sequence, this one with them.
+    // This many further characters belong to the sequence, this one included.
     Ends(usize),
 }
 

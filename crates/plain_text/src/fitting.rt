@@ -19,7 +19,7 @@ use crate::write_str::{WriteFault, WriteStr};
 use column_counter::ColumnCounter;
 use fitted::Fitted;
 
-/// How wide cut texts are, and that they keep each sequence: of texts each of whose sequences ends by itself.
+/// The laws of cut texts, where each sequence of a text ends by itself: how wide they are, and that they keep each sequence.
 #[tactic(auto, using(crate::proofs::lemmas::Widths::width_laws))]
 pub fn width_laws()
     ensures columns { (t : List ℕ) (start end : ℕ) → IsPainted t → columns (fit t start end) ≤ end - start }
@@ -72,7 +72,7 @@ pub fn write_fitted<T: WriteText, W: WriteStr>(
     result
 }
 
-/// Writes a text that is so wide, or where there is less room its front.
+/// Writes a text of this width, or the front of it where there is less room.
 #[tactic(auto, using(std::proofs::lemmas::Bool::Decides::nat_tests))]
 pub fn write_front<T: WriteText, W: WriteStr>(
     w: &mut W,
@@ -91,7 +91,7 @@ pub fn write_front<T: WriteText, W: WriteStr>(
     write_fitted(w, part, 0, room)
 }
 
-/// Writes a text that is so wide, or where there is less room its end.
+/// Writes a text of this width, or the end of it where there is less room.
 #[tactic(auto, using(std::proofs::lemmas::Bool::Decides::nat_tests))]
 pub fn write_back<T: WriteText, W: WriteStr>(
     w: &mut W,

@@ -54,7 +54,7 @@ impl<T: fmt::Display> fmt::Display for DisplayIndented<T> {
     }
 }
 
-/// What indentation is: a text may be cut anywhere, and a scan with one flag indents it.
+/// The law of indentation: a text may be cut anywhere, and a scan with one flag indents it.
 pub fn indent_laws()
     ensures pieces { IndentsInPieces }
     ensures bytes { IndentsByBytes }

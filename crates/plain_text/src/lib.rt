@@ -1,7 +1,7 @@
 //! Writers, and the texts that know nothing of a run: styles, escape sequences, lines, indentation, columns, numbers.
 //!
 //! Each function that writes takes a [`write_str::WriteStr`] and has one clause: what was written, or a beginning of it
-//! where a fault came. No function here takes memory of its own while it writes.
+//! where a fault came. No function here allocates while it writes.
 #![tactic(auto)]
 
 pub mod decimal;

@@ -14,7 +14,7 @@ use std::marker::Model;
 
 /// The text that bytes are decoded to, piece by piece.
 ///
-/// It takes no memory: pieces that are UTF-8 are slices of the bytes. The first piece is decoded once, whatever is asked
+/// It allocates nothing: pieces that are UTF-8 are slices of the bytes. The first piece is decoded once, whatever is asked
 /// of it, so bytes that are UTF-8 are read once.
 #[derive(Debug, Drop)]
 pub struct LossyText<'a> {
@@ -49,7 +49,7 @@ impl<'a> LossyText<'a> {
         }
     }
 
-    /// The same text. It takes no memory.
+    /// The same text. It allocates nothing.
     pub fn copy(&self) -> LossyText<'a>
         ensures { result ≡ self.now }
     {
@@ -99,7 +99,7 @@ impl<'a> LossyText<'a> {
         Ok(())
     }
 
-    /// How many bytes the text has. It takes no memory: what is not UTF-8 is decoded for the count, and once more where it is
+    /// How many bytes the text has. It allocates nothing: what is not UTF-8 is decoded for the count, and once more where it is
     /// written.
     pub fn byte_count(&self) -> u128
         ensures count { result ≡ length self.now }

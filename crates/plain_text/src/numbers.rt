@@ -44,7 +44,7 @@ pub fn digit_str(digit: u128) -> &'static str
     }
 }
 
-/// So many spaces, at most twelve.
+/// The given number of spaces, at most twelve.
 pub fn spaces_str(count: usize) -> &'static str
     requires { count ≤ 12 }
     ensures { result.now ≡ spaces count }
@@ -67,7 +67,7 @@ pub fn spaces_str(count: usize) -> &'static str
     }
 }
 
-/// Writes so many spaces.
+/// Writes the given number of spaces.
 fn write_spaces<W: WriteStr>(w: &mut W, count: usize) -> Result<(), WriteFault>
     ensures { Puts W.meaning w.old (spaces count) result w.new }
 {
@@ -86,7 +86,7 @@ fn char_count(text: &str) -> usize
     text.chars().count()
 }
 
-/// Writes a text right-aligned in so many columns, one for each character.
+/// Writes a text right-aligned in the given number of columns, one for each character.
 #[tactic(auto, unfolding(crate::specs::Texts::right_in))]
 pub fn write_right<W: WriteStr>(w: &mut W, columns: usize, text: &str) -> Result<(), WriteFault>
     ensures { Puts W.meaning w.old (right_in columns text.now) result w.new }
@@ -151,7 +151,7 @@ fn digit_or_space(number: u32, power: u32) -> u8
     }
 }
 
-/// Writes nanoseconds as seconds with three decimals, right-aligned in so many columns, between two texts.
+/// Writes nanoseconds as seconds with three decimals, right-aligned in the given number of columns, between two texts.
 ///
 /// The nearest thousandth is written, ties go up.
 ///
@@ -173,7 +173,7 @@ pub fn write_seconds_between<W: WriteStr>(
     w.write_str(after)
 }
 
-// Writes nanoseconds as seconds with three decimals, right in so many columns.
+// Writes nanoseconds as seconds with three decimals, right-aligned in the given number of columns.
 fn write_seconds_right<W: WriteStr>(
     w: &mut W,
     columns: usize,
@@ -219,7 +219,7 @@ fn write_decimals<W: WriteStr>(w: &mut W, thousandths: u32) -> Result<(), WriteF
     w.write_str(unsafe { str::from_utf8_unchecked(&digits) })
 }
 
-/// Writes four texts joined, right-aligned in so many columns, one for each character.
+/// Writes four texts joined, right-aligned in the given number of columns, one for each character.
 ///
 /// ```
 /// write_right_joined(w, 12, "TRY ", "2", " ", "FAIL") // "  TRY 2 FAIL"

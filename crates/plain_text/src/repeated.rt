@@ -6,7 +6,7 @@ ghost use Rattle.plain_text.specs.Writer.{Puts};
 
 use crate::write_str::{WriteFault, WriteStr};
 
-/// Writes the character so many times.
+/// Writes the character the given number of times.
 pub fn write_repeated<W: WriteStr>(
     w: &mut W,
     count: usize,

@@ -18,7 +18,7 @@ use memchr::memchr;
 
 /// Writes a text that comes in pieces without its escape sequences, and without one line feed that closes what is left.
 ///
-/// A sequence can run from one piece into the next. It takes no memory: stretches of the pieces go down as they are.
+/// A sequence can run from one piece into the next. It allocates nothing: stretches of the pieces go down as they are.
 ///
 /// ```
 /// let mut stripped = StrippedPieces::new();
@@ -66,7 +66,7 @@ impl StrippedPieces {
 /// Writes a text without its escape sequences, and without one line feed that closes what is left.
 ///
 /// That is what [`StrippedPieces`] writes of a text in one piece, and it costs less: a sequence is scanned as a whole, and
-/// stretches between sequences are written together. It takes no memory.
+/// stretches between sequences are written together. It allocates nothing.
 pub fn write_stripped_text<W: WriteStr>(w: &mut W, text: &str) -> Result<(), WriteFault>
     ensures { Puts W.meaning w.old (without_end_line (visible text.now)) result w.new }
 {

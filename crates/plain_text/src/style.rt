@@ -82,7 +82,7 @@ impl Style {
         Part::Styled(self, text)
     }
 
-    /// A text right-aligned in so many columns, as a part. A column holds a character, and the padding is inside the style.
+    /// A text right-aligned in the given number of columns, as a part. A column holds a character, and the padding is inside the style.
     pub fn right(self, columns: usize, text: &str) -> Part<'_>
         ensures { part_of result ≡ PartText.Styled self (right_in columns text.now) }
     {
@@ -113,7 +113,7 @@ impl Style {
         w.write_str(self.suffix())
     }
 
-    /// Writes a text right-aligned in so many columns.
+    /// Writes a text right-aligned in the given number of columns.
     #[tactic(auto, unfolding(crate::specs::Styles::styled))]
     pub fn write_right<W: WriteStr>(
         self,
@@ -153,7 +153,7 @@ impl Style {
         w.write_str(self.suffix())
     }
 
-    /// Writes four texts joined, right-aligned in so many columns.
+    /// Writes four texts joined, right-aligned in the given number of columns.
     ///
     /// ```
     /// styles.fail.write_right_joined(w, 12, "TRY ", "2", " ", "FAIL") // "  TRY 2 FAIL" in the style
@@ -183,7 +183,7 @@ pub enum Part<'a> {
     Plain(&'a str),
     /// A text in a style.
     Styled(Style, &'a str),
-    /// A text right-aligned in so many columns, one for each character, the padding inside the style.
+    /// A text right-aligned in the given number of columns, one for each character, the padding inside the style.
     Right(Style, usize, &'a str),
 }
 

@@ -68,7 +68,7 @@ impl WriteStr for String {
         }
     }
 
-    // It has nothing to deliver, and takes no memory for that.
+    // It has nothing to deliver, and allocates nothing for that.
     fn write_str_flush(&mut self) -> Result<(), WriteFault>
         ensures text { Puts string_meaning self.old [] result self.new }
         ensures delivered { OnOk result (string_meaning.is_delivered self.new) }

@@ -1,6 +1,6 @@
 //! Words, numbers, durations and names as a report shows them.
 //!
-//! Each type whose text is its own has `write_to`, which takes no memory and has one clause: the text that was written, or a beginning of
+//! Each type whose text is its own has `write_to`, which allocates nothing and has one clause: the text that was written, or a beginning of
 //! it where a fault came. Its `Display` shows that very text.
 
 pub mod durations;

@@ -71,7 +71,7 @@ impl<'a> TestEvent<'a> {
         }
     }
 
-    /// Leaves the captured output of every attempt of a decided event unread. Other events stay. It takes no memory.
+    /// Leaves the captured output of every attempt of a decided event unread. Other events stay. It allocates nothing.
     pub fn unload(&mut self)
         ensures { self.new ≡ unloaded_event self.old }
     {

@@ -186,7 +186,7 @@ impl ChildOutputDescription {
         })
     }
 
-    // The same by the names of members of an archive, which are empty. It takes memory for these.
+    // The same by the names of members of an archive, which are empty. It allocates for these.
     fn recorded(&self, alloc: Global) -> Result<RecordedOutput, OutOfMemory>
         ensures { IfOk result (λ output. output ≡ recorded_output self.now) }
     {

@@ -46,7 +46,7 @@ pub struct RunStats {
 }
 
 impl RunStats {
-    /// What a run of so many tests begins with: nothing has finished, and nothing has cancelled it.
+    /// What a run of this many tests begins with: nothing has finished, and nothing has cancelled it.
     pub fn new(initial_run_count: usize) -> Self
         ensures { result ≡ planned_stats initial_run_count }
     {

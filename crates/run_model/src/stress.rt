@@ -38,7 +38,7 @@ impl StressIndex {
 /// How often a stress run is to run its tests.
 #[derive(Clone, Copy, Debug, PartialEq, Eq)]
 pub enum StressCount {
-    /// So many times.
+    /// This many times.
     Count {
         /// How many iterations there are.
         count: NonZeroU32,
@@ -50,7 +50,7 @@ pub enum StressCount {
 /// How far a stress run has come.
 #[derive(Clone, Copy, Debug, PartialEq, Eq)]
 pub enum StressProgress {
-    /// Of a run of so many iterations.
+    /// Of a run of this many iterations.
     Count {
         /// How many there are to be.
         total: StressCount,
@@ -115,7 +115,7 @@ impl StressProgress {
     }
 }
 
-// The iterations that remain of so many, if there are any.
+// The iterations that remain of this many, if there are any.
 fn count_left(count: NonZeroU32, completed: u32) -> Option<StressRemaining>
     ensures { option_map remaining_value result ≡ count_left (non_zero_u32_get count) completed }
 {
@@ -137,7 +137,7 @@ fn time_left(total: Nanos, elapsed: Nanos) -> Option<StressRemaining>
 /// What remains of a stress run.
 #[derive(Clone, Copy, Debug, PartialEq, Eq)]
 pub enum StressRemaining {
-    /// So many iterations.
+    /// This many iterations.
     Count(NonZeroU32),
     /// Iterations without end.
     Infinite,

@@ -11,14 +11,14 @@ ghost use Rattle.std.specs.Prelude.{◌≡◌, ◌*◌};
 pub struct Nanos(pub u128);
 
 impl Nanos {
-    /// So many seconds.
+    /// This many seconds.
     pub fn from_secs(seconds: u64) -> Self
         ensures { result.0 ≡ seconds * 1000000000 }
     {
         Nanos(seconds as u128 * 1_000_000_000)
     }
 
-    /// So many milliseconds.
+    /// This many milliseconds.
     pub fn from_millis(milliseconds: u64) -> Self
         ensures { result.0 ≡ milliseconds * 1000000 }
     {

@@ -21,7 +21,7 @@ use run_model::status::{ExecutionResultDescription, LeakTimeoutResult, SetupScri
 use run_model::time::Nanos;
 use unit_report::formatters::{DisplayBracketedDuration, DisplaySlowDuration};
 
-/// Writes that a setup script has started. `index` is its place among so many, from 0.
+/// Writes that a setup script has started. `index` is its place among all, from 0.
 #[tactic(auto, unfolding(crate::specs::SetupScripts::setup_script_started_text))]
 pub fn write_setup_script_started<W: WriteStr>(
     w: &mut W,
@@ -39,7 +39,7 @@ pub fn write_setup_script_started<W: WriteStr>(
     write_plain(w, "\n")
 }
 
-// Writes which of so many scripts it is, from 1. That number may be above the greatest of its type.
+// Writes which of the scripts it is, from 1. That number may be above the greatest of its type.
 #[tactic(auto, unfolding(crate::specs::SetupScripts::script_counter))]
 fn write_script_counter<W: WriteStr>(
     w: &mut W,

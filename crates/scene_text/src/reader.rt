@@ -47,7 +47,7 @@ use stress_lines::{read_end_stress, read_sub_end, read_sub_start};
 use test_lines::{read_done, read_retry, read_retry_start, read_skip, read_slow, read_start};
 
 /// Reads a scene. Its lines end in line feeds, which the last may lack; empty lines and lines that begin with `#` are
-/// passed over. The fault of the first line that has one is told.
+/// skipped. The error is that of the first line that is wrong.
 ///
 /// ```
 /// read_scene(alloc, b"# a run of no test\nconfig\tfinal\tall\n")

@@ -7,7 +7,7 @@ ghost use Rattle.store_text.specs.Netstrings.{joined_netstring, netstring, netst
 use itoa::Buffer;
 use plain_text::write_str::{WriteFault, WriteStr, write_strs};
 
-/// Writes a text as a netstring: the number of its bytes in decimal, a colon, the text, and a comma. It takes no memory.
+/// Writes a text as a netstring: the number of its bytes in decimal, a colon, the text, and a comma. It allocates nothing.
 ///
 /// ```
 /// write_netstring(w, "t1")?; // "2:t1,"
@@ -21,7 +21,7 @@ pub fn write_netstring<W: WriteStr>(w: &mut W, text: &str) -> Result<(), WriteFa
     write_strs(w, &[length.format(text.len()), ":", text, ","])
 }
 
-/// Writes a text in two parts as one netstring. It takes no memory.
+/// Writes a text in two parts as one netstring. It allocates nothing.
 ///
 /// ```
 /// write_joined_netstring(w, "SIG ", "6")?; // "5:SIG 6,"
@@ -38,7 +38,7 @@ pub fn write_joined_netstring<W: WriteStr>(
     write_strs(w, &[front, back, ","])
 }
 
-/// Writes what stands before a text of so many bytes in a netstring. The text and a comma are to follow.
+/// Writes what stands before a text of the given number of bytes in a netstring. The text and a comma are to follow.
 #[tactic(auto, unfolding(crate::specs::Netstrings::netstring_head))]
 pub(super) fn write_netstring_head<W: WriteStr>(w: &mut W, length: u128) -> Result<(), WriteFault>
     ensures { Puts W.meaning w.old (netstring_head length) result w.new }

@@ -17,7 +17,7 @@ use run_model::output::LiveSpec;
 use run_model::status::{ExecutionResultDescription, ExecutionStatuses};
 
 /// Writes the record of a finished test: its binary's id, its name, how its last attempt ended in a short word, and its output
-/// if the store is asked to keep it, each as a netstring, and a line feed. It takes no memory.
+/// if the store is asked to keep it, each as a netstring, and a line feed. It allocates nothing.
 ///
 /// On a fault of the writer a beginning of the record was accepted.
 ///

@@ -14,7 +14,7 @@ use run_model::output::{
 };
 use run_model::status::ExecutionStatuses;
 
-// The text of captured output in two parts, the second of which may be empty. It takes no memory: it is a view of the bytes.
+// The text of captured output in two parts, the second of which may be empty. It allocates nothing: it is a view of the bytes.
 #[derive(Debug, Drop)]
 struct OutputTexts<'o> {
     front: LossyText<'o>,
@@ -88,7 +88,7 @@ impl<'o> OutputTexts<'o> {
 }
 
 /// Writes the output that is kept of a test's attempts, as a netstring: of the last one, if the store is asked for it, standard
-/// output and then standard error, or both as they came. It takes no memory: bytes that are not UTF-8 are gone through twice,
+/// output and then standard error, or both as they came. It allocates nothing: bytes that are not UTF-8 are gone through twice,
 /// first to count what they are decoded to.
 ///
 /// ```

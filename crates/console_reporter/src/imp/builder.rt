@@ -62,7 +62,7 @@ pub struct DisplayReporterBuilder {
 }
 
 impl DisplayReporterBuilder {
-    /// What nextest reports a run of so many tests by where nothing is configured: tests that pass, fail or are tried again have a
+    /// What nextest reports a run of this many tests by where nothing is configured: tests that pass, fail or are tried again have a
     /// line, those that failed or were flaky stand in the summary, with counters and without colours. It allocates the name of the
     /// default profile.
     ///
@@ -123,7 +123,7 @@ impl DisplayReporterBuilder {
         )
     }
 
-    /// A reporter to a writer, to which nothing is written yet. It takes no memory.
+    /// A reporter to a writer, to which nothing is written yet. It allocates nothing.
     pub fn build<'a, W: WriteStr>(
         self,
         alloc: Global,
@@ -143,7 +143,7 @@ impl DisplayReporterBuilder {
     }
 
     /// A reporter to a writer that also writes a record of each finished test to a second one. To neither is written yet. It
-    /// takes no memory.
+    /// allocates nothing.
     pub fn build_with_store<'a, W: WriteStr, S: WriteStr>(
         self,
         alloc: Global,

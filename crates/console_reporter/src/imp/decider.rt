@@ -49,7 +49,7 @@ impl OutputLoadDecider {
     }
 
     /// Whether a replay has to load the captured output of a recorded event: where a report shows it, at once or at the end of
-    /// the run, unless a reason for cancelling hides it, or where a store is asked to keep it. It takes no memory.
+    /// the run, unless a reason for cancelling hides it, or where a store is asked to keep it. It allocates nothing.
     ///
     /// An event of a run that is going on has the answer of its recorded form.
     ///
@@ -212,7 +212,7 @@ impl OutputLoadDecider {
 }
 
 /// The place of the first call that a reporter of the decider's configuration refuses, or None where it accepts each. It
-/// takes no memory.
+/// allocates nothing.
 ///
 /// ```
 /// match first_refused(&decider, &calls) { None => {} Some(place) => {} }
@@ -224,7 +224,7 @@ pub fn first_refused(decider: &OutputLoadDecider, calls: &[ReportCall<'_>]) -> O
 }
 
 /// Leaves the captured output of every attempt unread of each event that the decider skips, as a replay does that did not load
-/// it. It takes no memory.
+/// it. It allocates nothing.
 ///
 /// No reporter of the decider's configuration then writes another byte, and it accepts what it accepted.
 ///

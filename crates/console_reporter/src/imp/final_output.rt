@@ -77,7 +77,7 @@ impl FinalOutput {
 }
 
 impl<'a> FinalOutputEntry<'a> {
-    /// What the summary shows of a finished test. It takes memory for the texts of the last attempt; the bytes of its output
+    /// What the summary shows of a finished test. It allocates for the texts of the last attempt; the bytes of its output
     /// are shared. Output that is shown must not have been left unread.
     pub fn of_test(
         alloc: Global,

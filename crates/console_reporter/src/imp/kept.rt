@@ -41,7 +41,7 @@ impl<'a> Model for KeptEntries<'a> {
 }
 
 impl<'a> KeptEntries<'a> {
-    /// No entries. It takes no memory.
+    /// No entries. It allocates nothing.
     #[tactic(auto, unfolding(crate::specs::Order::ordered_by))]
     pub fn new(alloc: Global) -> KeptEntries<'a>
         ensures { result ≡ final_order [] }
@@ -66,7 +66,7 @@ impl<'a> KeptEntries<'a> {
         Ok(())
     }
 
-    /// Writes the entries in their order. It takes no memory.
+    /// Writes the entries in their order. It allocates nothing.
     pub fn write<W: WriteStr>(&self, w: &mut W, settings: &Settings) -> Result<(), WriteFault>
         ensures { Puts W.meaning w.old (entries_text settings.now self.now) result w.new }
     {

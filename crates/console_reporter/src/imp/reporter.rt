@@ -64,7 +64,7 @@ pub struct DisplayReporter<'a, W, S> {
 }
 
 impl<'a, W: WriteStr, S: WriteStr> DisplayReporter<'a, W, S> {
-    // A reporter without a store that goes by these settings, and has made no call yet. It takes no memory.
+    // A reporter without a store that goes by these settings, and has made no call yet. It allocates nothing.
     pub(super) fn new(
         alloc: Global,
         writer: &'a mut W,
@@ -273,7 +273,7 @@ impl<'a, W: WriteStr, S: WriteStr> DisplayReporter<'a, W, S> {
         }
     }
 
-    /// Takes the unique prefix of the run's id, which later starts of a run show. It takes no memory and writes nothing.
+    /// Takes the unique prefix of the run's id, which later starts of a run show. It allocates nothing and writes nothing.
     pub fn set_run_id_unique_prefix(&mut self, prefix: ShortestRunIdPrefix)
         ensures same { IsSameReporter self.old self.new }
         ensures ok { Tells W.meaning S.meaning self.old (Some (ReportCall.Prefix prefix)) self.new }

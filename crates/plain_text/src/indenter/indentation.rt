@@ -13,7 +13,7 @@ use std::fmt;
 
 /// Indents each line of what is written to the writer below.
 ///
-/// A line that is not empty gets the indentation before its first character, an empty one gets none. It takes no memory:
+/// A line that is not empty gets the indentation before its first character, an empty one gets none. It allocates nothing:
 /// pieces of the source go down as they are.
 #[derive(Drop)]
 pub struct Indented<'a, W> {

@@ -10,7 +10,7 @@ const CAPACITY: usize = 2048;
 
 /// Pieces of a text that are gathered, joined.
 ///
-/// They lie in the value itself, which takes no memory of its own.
+/// They lie in the value itself, which allocates nothing.
 #[derive(Drop)]
 pub(super) struct PieceBuffer {
     bytes: [u8; CAPACITY],

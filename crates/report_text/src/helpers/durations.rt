@@ -121,7 +121,7 @@ impl fmt::Display for FormattedHhMmSs {
 }
 
 impl DurationRounding {
-    // The whole seconds of so many nanoseconds.
+    // The whole seconds of this many nanoseconds.
     #[tactic(auto, using(std::proofs::lemmas::Bool::Decides::nat_tests))]
     fn seconds(self, nanos: u128) -> u128
         ensures { result ≡ whole_seconds self nanos }
@@ -157,7 +157,7 @@ pub fn write_clock<W: WriteStr>(w: &mut W, seconds: u128) -> Result<(), WriteFau
     )
 }
 
-/// Writes seconds as hours, minutes and seconds, right-aligned in so many columns, between two texts.
+/// Writes seconds as hours, minutes and seconds, right-aligned in the given number of columns, between two texts.
 ///
 /// ```
 /// write_clock_between(w, "[", 9, 12, "] ") // "[ 00:00:12] "
@@ -177,7 +177,7 @@ pub fn write_clock_between<W: WriteStr>(
     w.write_str(after)
 }
 
-// Writes seconds as hours, minutes and seconds, right in so many columns.
+// Writes seconds as hours, minutes and seconds, right-aligned in the given number of columns.
 #[tactic(auto, unfolding(plain_text::specs::Texts::right_in))]
 fn write_clock_right<W: WriteStr>(
     w: &mut W,

@@ -185,7 +185,7 @@ pub fn write_nt_status<W: WriteStr>(w: &mut W, code: i32) -> Result<(), WriteFau
     write_hex_digits(w, 8, code.cast_unsigned())
 }
 
-// Writes the last digits in base 16, so many of them.
+// Writes the given number of last digits in base 16.
 #[tactic(auto, unfolding(crate::specs::Failures::last_hex_digits))]
 fn write_hex_digits<W: WriteStr>(w: &mut W, count: usize, n: u32) -> Result<(), WriteFault>
     ensures { Puts W.meaning w.old (last_hex_digits count n) result w.new }

@@ -55,7 +55,7 @@ impl<'a> DisplayTestInstance<'a> {
         }
     }
 
-    /// Shows at most so many columns. The iteration, the counter and the binary's id take of them in this order, each
+    /// Shows at most the given number of columns. The iteration, the counter and the binary's id take of them in this order, each
     /// cut at its end; the name takes what is left, cut at its beginning.
     pub fn with_max_width(mut self, max_width: usize) -> DisplayTestInstance<'a>
         ensures width { result.max_width ≡ Some max_width }
@@ -79,7 +79,7 @@ impl<'a> DisplayTestInstance<'a> {
         }
     }
 
-    // Writes it cut to so many columns.
+    // Writes it cut to the given number of columns.
     fn write_within<W: WriteStr>(&self, w: &mut W, width: usize) -> Result<(), WriteFault>
         ensures text { Puts W.meaning w.old (shown_instance (Some width) self.now.styles self.now.stress_index self.now.counter_index self.now.instance) result w.new }
         ensures law { HasPlainWords self.now.counter_index self.now.instance.binary_id.now self.now.instance.test_name.now → FitsWidth width (front_parts self.now.styles self.now.stress_index self.now.counter_index self.now.instance.binary_id.now) (name_text self.now.styles self.now.instance.test_name.now) }
@@ -243,7 +243,7 @@ impl DisplayCounterIndex {
         }
     }
 
-    /// A line as wide as a counter whose total has so many digits.
+    /// A line as wide as a counter whose total has this many digits.
     pub fn new_padded(character: char, width: usize) -> DisplayCounterIndex
         ensures { result ≡ DisplayCounterIndex.Padded character width }
     {

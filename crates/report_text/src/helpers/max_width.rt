@@ -74,7 +74,7 @@ impl WriteText for DisplayTestName<'_> {
     }
 }
 
-/// Writes the parts, cut to so many columns together.
+/// Writes the parts, cut to the given number of columns together.
 pub(super) fn write_within<W: WriteStr>(
     w: &mut W,
     stress: &StressPart,

@@ -20,7 +20,7 @@ use std::fmt::Formatter;
 /// A setup script as a report shows it: its iteration of a stress run, if there is one, its id and its command as a
 /// shell reads it.
 ///
-/// [`write_script_instance`] writes the same and takes no memory.
+/// [`write_script_instance`] writes the same and allocates nothing.
 ///
 /// ```
 /// DisplayScriptInstance::new(alloc, None, script_id, "cmd", &args, script_id_style, count_style)? // s1: cmd 'an argument'

@@ -30,7 +30,7 @@ impl ThemeCharacters {
         if self.is_unicode { '─' } else { '-' }
     }
 
-    /// A bar of so many characters.
+    /// A bar of the given number of characters.
     ///
     /// # Errors
     ///
@@ -45,7 +45,7 @@ impl ThemeCharacters {
         }
     }
 
-    /// Writes a bar of so many characters.
+    /// Writes a bar of the given number of characters.
     #[tactic(auto, unfolding(crate::specs::Theme::hbar_text))]
     pub fn write_hbar<W: WriteStr>(&self, w: &mut W, width: usize) -> Result<(), WriteFault>
         ensures { Puts W.meaning w.old (hbar_text self.now.is_unicode width) result w.new }

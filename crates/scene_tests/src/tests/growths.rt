@@ -37,7 +37,7 @@ const RECORDS: [&str; 3] = [
     "",
 ];
 
-/// A device that takes no memory: it holds what it took.
+/// A device that allocates nothing: it holds what it took.
 #[derive(Drop)]
 struct FixedDevice {
     taken: [u8; 600],

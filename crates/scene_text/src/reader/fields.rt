@@ -62,7 +62,7 @@ impl<'a> Fields<'a> {
         self.left
     }
 
-    /// Passes over so many fields.
+    /// Skips the given number of fields.
     pub fn pass(&mut self, count: usize)
         requires { count ≤ length self.old.left }
         ensures number { self.new.number ≡ self.old.number + count }
@@ -99,7 +99,7 @@ impl<'a> Fields<'a> {
         }
     }
 
-    /// Takes a field, and reads it as `read` does, by a function that takes memory.
+    /// Takes a field, and reads it as `read` does, by a function that allocates.
     pub fn try_read<T: Drop, F: FnOnce(&'a str) -> Result<Option<T>, OutOfMemory>>(
         &mut self,
         read: F,

@@ -106,7 +106,7 @@ impl LineKind {
         }
     }
 
-    /// Whether so many fields may stand after the first. An attempt has eight: a setup script and a retried test have one,
+    /// Whether this many fields may stand after the first. An attempt has eight: a setup script and a retried test have one,
     /// and a finished test one or more.
     #[tactic(auto, unfolding(crate::specs::Lines::takes))]
     pub fn takes(self, fields: usize) -> bool

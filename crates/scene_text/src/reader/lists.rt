@@ -16,7 +16,7 @@ use run_model::not_seen::TestInstanceList;
 use run_model::output::ErrorChain;
 use std::alloc::Global;
 
-/// The words of a command. None is a bad field.
+/// Reads the words of a command. `None` means a bad field.
 ///
 /// ```
 /// read_command_line(alloc, r"cargo\,nextest") // two words
@@ -31,7 +31,7 @@ pub fn read_command_line(alloc: Global, field: &str) -> Result<Option<CommandLin
     }
 }
 
-/// An error and its causes, which are the words of a list. None is a bad field, as is the list of no word.
+/// Reads an error and its causes, which are the words of a list. `None` means a bad field, which a list of no words is, too.
 ///
 /// ```
 /// read_chain(alloc, r"cannot spawn\,no file") // the message and one cause
@@ -53,7 +53,7 @@ pub fn read_chain(alloc: Global, field: &str) -> Result<Option<ErrorChain>, OutO
     Ok(Some(ErrorChain::new(alloc, message, causes)?))
 }
 
-/// The tests whose binaries' ids and whose names are the words of a list, in turn. None is a bad field.
+/// Reads the tests whose binaries' ids and whose names are the words of a list, in turn. `None` means a bad field.
 ///
 /// ```
 /// read_instances(alloc, r"alpha\,t1\,beta\,t2") // two tests
@@ -65,7 +65,7 @@ pub fn read_instances(alloc: Global, field: &str) -> Result<Option<TestInstanceL
     read_more_instances(alloc, list)
 }
 
-// The tests of a list, where there is one. None is a bad word, or an id with no name.
+// Reads the tests of a list, where there is one. None is a bad word, or an id with no name.
 fn read_more_instances(
     alloc: Global,
     list: Option<&str>,
@@ -84,7 +84,7 @@ fn read_more_instances(
     Ok(Some(TestInstanceList::new(instances)))
 }
 
-// The first test of a list, and the list that follows it, where one does. None is a bad word, or an id with no name.
+// Reads the first test of a list, and the list that follows it, where one does. None is a bad word, or an id with no name.
 fn read_instance(
     alloc: Global,
     list: &str,
@@ -119,7 +119,7 @@ fn descriptions(alloc: Global, words: &[String]) -> Result<Vec<DescriptionText>,
     Ok(texts)
 }
 
-// The words of a list, where there is one. None is a bad word.
+// Reads the words of a list, where there is one. None is a bad word.
 fn read_words(alloc: Global, list: Option<&str>) -> Result<Option<Vec<String>>, OutOfMemory>
     ensures { IfOk result (λ words. option_map (λ v. map string_bytes v.items) words ≡ more_words list.entry) }
 {
@@ -135,7 +135,7 @@ fn read_words(alloc: Global, list: Option<&str>) -> Result<Option<Vec<String>>, 
     Ok(Some(words))
 }
 
-// The first word of a list, and the list that follows it, where one does. None is a bad word.
+// Reads the first word of a list, and the list that follows it, where one does. None is a bad word.
 fn read_word(alloc: Global, list: &str) -> Result<Option<(String, Option<&str>)>, OutOfMemory>
     ensures words { IfOk result (λ word. list_words list.now ≡ words_from word) }
     ensures shorter { IfOk result (λ word. IfSome word (λ x. IfSome x.1 (λ after. length after.now < length list.now))) }

@@ -9,7 +9,7 @@ use super::split::split_at_byte;
 use crate::scene::replay_calls::SceneMoment;
 use jiff::civil::{Date, Time};
 
-/// A date with a time of day. The years go from -9999 to 9999, the hours to 23, the minutes and seconds to 59. None is a
+/// Reads a date with a time of day. The years go from -9999 to 9999, the hours to 23, the minutes and seconds to 59. None is a
 /// bad field.
 ///
 /// ```
@@ -27,7 +27,7 @@ pub fn read_moment(field: &str) -> Option<SceneMoment>
     Some(SceneMoment::new(date, time))
 }
 
-// A day by the texts of its numbers.
+// Reads a day by the texts of its numbers.
 fn read_day(year: &str, month: &str, day: &str) -> Option<Date>
     ensures { option_map day_of result ≡ day_in year.now month.now day.now }
 {
@@ -48,7 +48,7 @@ fn new_day(year: i32, month: u32, day: u32) -> Option<Date>
     Date::new(year, month, day).ok()
 }
 
-// A time of day: hour, minute and second.
+// Reads a time of day: hour, minute and second.
 #[tactic(auto, unfolding(crate::specs::Moments::time_in))]
 fn read_time(text: &str) -> Option<Time>
     ensures { option_map clock_of result ≡ time_in text.now }

@@ -8,7 +8,7 @@ use run_model::memory::OutOfMemory;
 use run_model::name::{ProfileName, ProgramName, RustBinaryId, ScriptId, TestCaseName};
 use std::alloc::Global;
 
-/// The name of a profile.
+/// Reads the name of a profile.
 pub fn read_profile_name(alloc: Global, field: &str) -> Result<Option<ProfileName>, OutOfMemory>
     ensures { IfOk result (λ name. name ≡ text_in field.now) }
 {
@@ -18,7 +18,7 @@ pub fn read_profile_name(alloc: Global, field: &str) -> Result<Option<ProfileNam
     }
 }
 
-/// The id of a test's binary.
+/// Reads the id of a test's binary.
 pub fn read_binary_id(alloc: Global, field: &str) -> Result<Option<RustBinaryId>, OutOfMemory>
     ensures { IfOk result (λ id. id ≡ text_in field.now) }
 {
@@ -28,7 +28,7 @@ pub fn read_binary_id(alloc: Global, field: &str) -> Result<Option<RustBinaryId>
     }
 }
 
-/// The name of a test.
+/// Reads the name of a test.
 pub fn read_test_name(alloc: Global, field: &str) -> Result<Option<TestCaseName>, OutOfMemory>
     ensures { IfOk result (λ name. name ≡ text_in field.now) }
 {
@@ -38,7 +38,7 @@ pub fn read_test_name(alloc: Global, field: &str) -> Result<Option<TestCaseName>
     }
 }
 
-/// The id of a setup script.
+/// Reads the id of a setup script.
 pub fn read_script_id(alloc: Global, field: &str) -> Result<Option<ScriptId>, OutOfMemory>
     ensures { IfOk result (λ id. id ≡ text_in field.now) }
 {
@@ -48,7 +48,7 @@ pub fn read_script_id(alloc: Global, field: &str) -> Result<Option<ScriptId>, Ou
     }
 }
 
-/// The program of a setup script.
+/// Reads the program of a setup script.
 pub fn read_program_name(alloc: Global, field: &str) -> Result<Option<ProgramName>, OutOfMemory>
     ensures { IfOk result (λ name. name ≡ text_in field.now) }
 {

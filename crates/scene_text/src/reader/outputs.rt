@@ -41,7 +41,7 @@ pub enum OutputForm {
     StartError,
 }
 
-/// The form of an output.
+/// Reads the form of an output.
 pub fn read_output_form(field: &str) -> Option<OutputForm>
     ensures { result ≡ output_form_in field.now }
 {
@@ -139,7 +139,7 @@ fn read_after_streams(
     })
 }
 
-// A stream's bytes, or `-` where it was not captured.
+// Reads a stream's bytes, or `-` where it was not captured.
 #[tactic(auto, unfolding(crate::specs::Texts::unescaped_after))]
 fn read_stream(alloc: Global, field: &str) -> Result<Option<Option<ChildSingleOutput>>, OutOfMemory>
     ensures { IfOk result (λ stream. stream ≡ stream_in field.now) }
@@ -151,7 +151,7 @@ fn read_stream(alloc: Global, field: &str) -> Result<Option<Option<ChildSingleOu
     }
 }
 
-// The bytes of one stream, or of both together.
+// Reads the bytes of one stream, or of both together.
 fn read_single(alloc: Global, field: &str) -> Result<Option<ChildSingleOutput>, OutOfMemory>
     ensures { IfOk result (λ output. output ≡ bytes_in field.now) }
 {
@@ -161,7 +161,7 @@ fn read_single(alloc: Global, field: &str) -> Result<Option<ChildSingleOutput>, 
     }
 }
 
-// What went wrong while an attempt was run, or `-`.
+// Reads what went wrong while an attempt was run, or `-`.
 fn read_errors(alloc: Global, field: &str) -> Result<Option<Option<ErrorChain>>, OutOfMemory>
     ensures { IfOk result (λ errors. errors ≡ errors_in field.now) }
 {
@@ -171,7 +171,7 @@ fn read_errors(alloc: Global, field: &str) -> Result<Option<Option<ErrorChain>>,
     }
 }
 
-// The part of the output to point out: its stream, the place of its first byte, and its bytes; or `-`.
+// Reads the part of the output to point out: its stream, the place of its first byte, and its bytes; or `-`.
 fn read_highlight(
     alloc: Global,
     field: &str,
@@ -198,7 +198,7 @@ fn read_highlight(
     Ok(Some(Some(Boxed::new(alloc, highlight)?)))
 }
 
-// The stream that a highlight stands in.
+// Reads the stream that a highlight stands in.
 fn read_highlight_stream(field: &str) -> Option<HighlightStream>
     ensures { result ≡ highlight_stream_in field.now }
 {

@@ -60,7 +60,7 @@ fn read_unique_prefix(
     Ok(Some(ShortestRunIdPrefix::new(alloc, prefix.as_str(), rest.as_str())?))
 }
 
-// A text, or `-` where there is none.
+// Reads a text, or `-` where there is none.
 fn read_text_or_none(
     alloc: Global,
     field: &str,
@@ -73,7 +73,7 @@ fn read_text_or_none(
     }
 }
 
-// A text, where `-` is a bad field.
+// Reads a text, where `-` is a bad field.
 fn read_some_text(alloc: Global, field: &str) -> Result<Option<DescriptionText>, OutOfMemory>
     ensures { IfOk result (λ text. text ≡ some_text_in field.now) }
 {
@@ -83,7 +83,7 @@ fn read_some_text(alloc: Global, field: &str) -> Result<Option<DescriptionText>,
     }
 }
 
-// A text.
+// Reads a text.
 fn read_description(alloc: Global, field: &str) -> Result<Option<DescriptionText>, OutOfMemory>
     ensures { IfOk result (λ text. text ≡ text_in field.now) }
 {

@@ -20,7 +20,7 @@ use run_model::status::{
 };
 use std::alloc::Global;
 
-/// How an attempt ended. None is a bad field.
+/// Reads how an attempt ended. `None` means a bad field.
 ///
 /// ```
 /// read_result(alloc, "sig:11:SEGV") // ended by signal 11, whose name is SIGSEGV
@@ -38,7 +38,7 @@ pub fn read_result(
     }
 }
 
-// A result that is one word.
+// Reads a result that is one word.
 fn read_plain(alloc: Global, field: &str) -> Result<Option<ExecutionResultDescription>, OutOfMemory>
     ensures { IfOk result (λ outcome. outcome ≡ plain_in field.now) }
 {
@@ -62,7 +62,7 @@ fn read_plain(alloc: Global, field: &str) -> Result<Option<ExecutionResultDescri
     })
 }
 
-// A result whose word has something to tell of.
+// Reads a result whose word has something to tell of.
 fn read_told(
     alloc: Global,
     word: &str,
@@ -80,7 +80,7 @@ fn read_told(
     }
 }
 
-// A failure by an exit code.
+// Reads a failure by an exit code.
 fn read_exit_code(code: &str, leaked: bool) -> Option<ExecutionResultDescription>
     ensures { result ≡ option_map (exit_code leaked) (code_in code.now) }
 {
@@ -92,7 +92,7 @@ fn read_exit_code(code: &str, leaked: bool) -> Option<ExecutionResultDescription
     })
 }
 
-// A signal by its number, which its name may follow.
+// Reads a signal by its number, which its name may follow.
 fn read_signal(alloc: Global, text: &str) -> Result<Option<ExecutionResultDescription>, OutOfMemory>
     ensures { IfOk result (λ outcome. outcome ≡ signal_cut text.now (cut 58 text.now)) }
 {
@@ -109,7 +109,7 @@ fn read_signal(alloc: Global, text: &str) -> Result<Option<ExecutionResultDescri
     Ok(Some(aborted(alloc, AbortDescription::UnixSignal { signal, name }, false)?))
 }
 
-// A signal by its number alone.
+// Reads a signal by its number alone.
 fn read_nameless_signal(
     alloc: Global,
     number: &str,
@@ -124,7 +124,7 @@ fn read_nameless_signal(
     Ok(Some(aborted(alloc, abort, leaked)?))
 }
 
-// A status of Windows by its number, and what the system says of it.
+// Reads a status of Windows by its number, and what the system says of it.
 fn read_status(alloc: Global, text: &str) -> Result<Option<ExecutionResultDescription>, OutOfMemory>
     ensures { IfOk result (λ outcome. outcome ≡ status_cut (cut 58 text.now)) }
 {

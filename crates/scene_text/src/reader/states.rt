@@ -42,7 +42,7 @@ pub enum StateWord {
     Delay,
 }
 
-/// What a unit is doing, without how the attempt ended. None is a bad field.
+/// Reads what a unit is doing, without how the attempt ended. `None` means a bad field.
 ///
 /// ```
 /// read_state_parts(alloc, "running:42:1500000000:-") // for 1.5 s, as the process 42
@@ -66,7 +66,7 @@ pub fn read_state_parts(alloc: Global, field: &str) -> Result<Option<StateParts>
     }
 }
 
-/// The state that these parts make with the result of this field, or with `-` in its place. None is a bad field: what has
+/// Reads the state that these parts make with the result of this field, or with `-` in its place. `None` means a bad field: what has
 /// ended has a result.
 #[tactic(auto, unfolding(crate::specs::States::state_in))]
 pub fn read_state(
@@ -82,7 +82,7 @@ pub fn read_state(
     }
 }
 
-// The word that a state begins with.
+// Reads the word that a state begins with.
 fn read_state_word(text: &str) -> Option<StateWord>
     ensures { result ≡ state_word_in text.now }
 {
@@ -96,7 +96,7 @@ fn read_state_word(text: &str) -> Option<StateWord>
     }
 }
 
-// The parts after `running`: the process's id, and how long it has run.
+// Reads the parts after `running`: the process's id, and how long it has run.
 #[tactic(auto, unfolding(crate::specs::States::running_in))]
 fn read_running(text: &str) -> Option<LiveState>
     ensures { result ≡ running_in text.now }
@@ -108,7 +108,7 @@ fn read_running(text: &str) -> Option<LiveState>
     })
 }
 
-// The parts after `exiting`: the same, and the wait for the process's handles.
+// Reads the parts after `exiting`: the same, and the wait for the process's handles.
 #[tactic(auto, unfolding(crate::specs::States::exiting_in))]
 fn read_exiting(text: &str) -> Option<LiveState>
     ensures { result ≡ exiting_in text.now }
@@ -126,7 +126,7 @@ fn read_exiting(text: &str) -> Option<LiveState>
     })
 }
 
-// The parts after `terminating`: the process's id, how long it has run, why it is ended and by which signal, and the wait
+// Reads the parts after `terminating`: the process's id, how long it has run, why it is ended and by which signal, and the wait
 // for its end. A colon in the signal's name would part it.
 #[tactic(auto, unfolding(crate::specs::States::terminating_in))]
 fn read_terminating(alloc: Global, text: &str) -> Result<Option<LiveState>, OutOfMemory>
@@ -165,14 +165,14 @@ fn read_terminating(alloc: Global, text: &str) -> Result<Option<LiveState>, OutO
     })))
 }
 
-// The parts after `exited`: how long the process ran.
+// Reads the parts after `exited`: how long the process ran.
 fn read_exited(text: &str) -> Option<EndedState>
     ensures { result ≡ exited_in text.now }
 {
     read_timing(text).map(EndedState::Exited)
 }
 
-// The parts after `delay`: whether the attempt before was slow, and the wait for the next one.
+// Reads the parts after `delay`: whether the attempt before was slow, and the wait for the next one.
 #[tactic(auto, unfolding(crate::specs::States::delay_in))]
 fn read_delay(text: &str) -> Option<EndedState>
     ensures { result ≡ delay_in text.now }
@@ -184,7 +184,7 @@ fn read_delay(text: &str) -> Option<EndedState>
     })
 }
 
-// How long a process has run, and when its unit was marked as slow.
+// Reads how long a process has run, and when its unit was marked as slow.
 #[tactic(auto, unfolding(crate::specs::States::timing_in))]
 fn read_timing(text: &str) -> Option<Timing>
     ensures { result ≡ timing_in text.now }
@@ -196,7 +196,7 @@ fn read_timing(text: &str) -> Option<Timing>
     })
 }
 
-// How long something has been waited for, and how much longer it is.
+// Reads how long something has been waited for, and how much longer it is.
 #[tactic(auto, unfolding(crate::specs::States::wait_in))]
 fn read_wait(text: &str) -> Option<Wait>
     ensures { result ≡ wait_in text.now }
@@ -208,7 +208,7 @@ fn read_wait(text: &str) -> Option<Wait>
     })
 }
 
-// When a unit was marked as slow, or `-`.
+// Reads when a unit was marked as slow, or `-`.
 fn read_slow_after(text: &str) -> Option<Option<Nanos>>
     ensures { result ≡ slow_after_in text.now }
 {
@@ -218,7 +218,7 @@ fn read_slow_after(text: &str) -> Option<Option<Nanos>>
     }
 }
 
-// Why a process is ended.
+// Reads why a process is ended.
 fn read_terminate_reason(text: &str) -> Option<UnitTerminateReason>
     ensures { result ≡ terminate_reason_in text.now }
 {
@@ -230,7 +230,7 @@ fn read_terminate_reason(text: &str) -> Option<UnitTerminateReason>
     }
 }
 
-// How an attempt ended, or `-`.
+// Reads how an attempt ended, or `-`.
 fn read_result_or_none(
     alloc: Global,
     field: &str,

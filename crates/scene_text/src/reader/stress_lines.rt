@@ -66,7 +66,7 @@ pub fn read_end_stress(alloc: Global, fields: &mut Fields<'_>) -> Result<SceneEv
     }))
 }
 
-// How far a stress run has come, by iterations or by time: the total, the time that was taken, and the iterations that
+// Reads how far a stress run has come, by iterations or by time: the total, the time that was taken, and the iterations that
 // have finished.
 //
 // ```
@@ -94,7 +94,7 @@ fn read_progress(field: &str) -> Option<StressProgress>
     }
 }
 
-// How many iterations there are to be.
+// Reads how many iterations there are to be.
 fn read_stress_count(text: &str) -> Option<StressCount>
     ensures { result ≡ stress_count_in text.now }
 {
@@ -106,7 +106,7 @@ fn read_stress_count(text: &str) -> Option<StressCount>
     }
 }
 
-// How many iterations have finished, perhaps of how many.
+// Reads how many iterations have finished, perhaps of how many.
 fn read_completed(field: &str) -> Option<StressIndex>
     ensures { result ≡ completed_in field.now }
 {

@@ -177,7 +177,7 @@ fn read_attempts(
     Ok(SceneAttempts::with_last(earlier, last, flaky_result))
 }
 
-/// Reads an attempt: result, duration, whether it was slow, and its output. Most wrote nothing, which takes no memory.
+/// Reads an attempt: result, duration, whether it was slow, and its output. Most wrote nothing, and then it allocates nothing.
 #[tactic(auto, unfolding(crate::specs::TestLines::attempt_fields))]
 pub fn read_attempt(
     alloc: Global,

@@ -16,7 +16,7 @@ use std::borrow::CowStr;
 /// The greatest byte that an escape may give in a text.
 const ASCII: u8 = 0x7f;
 
-/// A text. It takes memory only where there is an escape; None is a bad field.
+/// Reads a text. It allocates only where there is an escape; `None` means a bad field.
 ///
 /// ```
 /// read_text(alloc, r"a\tb") // a, a tab and b
@@ -39,7 +39,7 @@ pub fn read_text(alloc: Global, field: &str) -> Result<Option<CowStr<'_, Global>
     Ok(Some(CowStr::Owned(text)))
 }
 
-/// Adds what stands before an escape, and what the escape gives. It answers what follows the escape; None is a bad one.
+/// Adds what stands before an escape, and what the escape gives. It answers what follows the escape; `None` means a bad one.
 pub fn push_stretch<'a>(
     text: &mut String,
     plain: &str,
@@ -55,7 +55,7 @@ pub fn push_stretch<'a>(
     Ok(Some(after))
 }
 
-/// The bytes that a test wrote. None is a bad field.
+/// Reads the bytes that a test wrote. `None` means a bad field.
 pub fn read_bytes(alloc: Global, field: &str) -> Result<Option<Vec<u8>>, OutOfMemory>
     ensures { IfOk result (λ bytes. option_map (λ v. v.items) bytes ≡ bytes_in field.now) }
 {
@@ -73,7 +73,7 @@ pub fn read_bytes(alloc: Global, field: &str) -> Result<Option<Vec<u8>>, OutOfMe
     Ok(Some(bytes))
 }
 
-// What an escape gives, without its backslash, each byte by digits at most `most`; and what follows the escape.
+// Reads what an escape gives, without its backslash, each byte by digits at most `most`; and what follows the escape.
 fn read_escape(escape: &str, most: u8) -> Option<(u8, &str)>
     ensures { MatchOption result (escape_byte most escape.now ≡ None) (λ x. (escape_byte most escape.now ≡ Some x.0) × (x.1.now ≡ drop (escape_len escape.now) escape.now)) }
 {

@@ -39,7 +39,7 @@ pub enum ConfigKey {
     Empty,
 }
 
-/// The key of a `config` line.
+/// Reads the key of a `config` line.
 pub fn read_config_key(field: &str) -> Option<ConfigKey>
     ensures { result ≡ config_key_in field.now }
 {
@@ -58,7 +58,7 @@ pub fn read_config_key(field: &str) -> Option<ConfigKey>
     }
 }
 
-/// The absent value, `-`.
+/// Reads the absent value, `-`.
 pub fn read_absent(field: &str) -> Option<()>
     ensures { result ≡ absent_in field.now }
 {
@@ -68,7 +68,7 @@ pub fn read_absent(field: &str) -> Option<()>
     }
 }
 
-/// The id of a run, in any form that a UUID has.
+/// Reads the id of a run, in any form that a UUID has.
 pub fn read_run_id(field: &str) -> Option<Uuid>
     ensures { result ≡ parsed field.now }
 {
@@ -78,7 +78,7 @@ pub fn read_run_id(field: &str) -> Option<Uuid>
     }
 }
 
-/// Yes or no, as `1` or `0`.
+/// Reads yes or no, as `1` or `0`.
 pub fn read_flag(field: &str) -> Option<bool>
     ensures { result ≡ flag_in field.now }
 {
@@ -89,7 +89,7 @@ pub fn read_flag(field: &str) -> Option<bool>
     }
 }
 
-/// Whether a run runs tests or benchmarks, as `0` or `1`.
+/// Reads whether a run runs tests or benchmarks, as `0` or `1`.
 pub fn read_mode(field: &str) -> Option<NextestRunMode>
     ensures { result ≡ mode_in field.now }
 {
@@ -100,7 +100,7 @@ pub fn read_mode(field: &str) -> Option<NextestRunMode>
     }
 }
 
-/// The level from which on the summary lists a test.
+/// Reads the level from which on the summary lists a test.
 pub fn read_final_level(field: &str) -> Option<FinalStatusLevel>
     ensures { result ≡ final_level_in field.now }
 {
@@ -117,14 +117,14 @@ pub fn read_final_level(field: &str) -> Option<FinalStatusLevel>
     }
 }
 
-/// When an output is shown.
+/// Reads when an output is shown.
 pub fn read_display(field: &str) -> Option<TestOutputDisplay>
     ensures { result ≡ display_in field.now }
 {
     TestOutputDisplay::from_name(field)
 }
 
-/// What a success after earlier attempts counts as.
+/// Reads what a success after earlier attempts counts as.
 pub fn read_flaky_result(field: &str) -> Option<FlakyResult>
     ensures { result ≡ flaky_in field.now }
 {
@@ -135,7 +135,7 @@ pub fn read_flaky_result(field: &str) -> Option<FlakyResult>
     }
 }
 
-/// An iteration of a stress run: its number from 0, perhaps with a slash and how many there are, or `-`.
+/// Reads an iteration of a stress run: its number from 0, perhaps with a slash and how many there are, or `-`.
 ///
 /// ```
 /// read_stress_index("0/3") // the first of three
@@ -156,7 +156,7 @@ pub fn read_stress_index(field: &str) -> Option<Option<StressIndex>>
     }
 }
 
-/// How many iterations of a stress run there are, which is not 0.
+/// Reads how many iterations of a stress run there are, which is not 0.
 pub fn read_total(text: &str) -> Option<NonZeroU32>
     ensures { result ≡ total_in (number_in 32 text.now) }
 {
@@ -170,7 +170,7 @@ fn non_zero(number: u32) -> Option<NonZeroU32>
     NonZeroU32::new(number)
 }
 
-/// Why a run is cancelled.
+/// Reads why a run is cancelled.
 pub fn read_reason(field: &str) -> Option<CancelReason>
     ensures { result ≡ reason_in field.now }
 {
@@ -187,7 +187,7 @@ pub fn read_reason(field: &str) -> Option<CancelReason>
     }
 }
 
-/// Why a run is cancelled, or `-`.
+/// Reads why a run is cancelled, or `-`.
 pub fn read_reason_or_none(field: &str) -> Option<Option<CancelReason>>
     ensures { result ≡ reason_or_none_in field.now }
 {

@@ -104,7 +104,7 @@ impl Model for SceneAttempt {
 impl SceneAttempt {
     ghost use Rattle.scene_text.specs.SceneAttempts.{script_status, silence};
 
-    /// An attempt whose streams were both captured, and hold nothing. It takes no memory.
+    /// An attempt whose streams were both captured, and hold nothing. It allocates nothing.
     pub fn silent(
         outcome: ExecutionResultDescription,
         time_taken: Nanos,

@@ -41,7 +41,7 @@ fn skipped_tests(mode: NextestRunMode, skip_counts: &SkipCounts) -> usize
     }
 }
 
-// Writes the note, where so many tests and the binaries are not none.
+// Writes the note, unless neither a test nor a binary was skipped.
 #[tactic(auto, unfolding(crate::specs::SkipCounts::skip_note))]
 fn write_skip_note<W: WriteStr>(
     w: &mut W,
@@ -204,7 +204,7 @@ fn write_filter_name<W: WriteStr>(
     }
 }
 
-// Writes so many tests and binaries, those that are not 0.
+// Writes the numbers of tests and binaries, and leaves out what is 0.
 #[tactic(auto, unfolding(crate::specs::SkipCounts::tests_and_binaries))]
 fn write_tests_and_binaries<W: WriteStr>(
     w: &mut W,

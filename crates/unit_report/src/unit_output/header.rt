@@ -92,7 +92,7 @@ impl OutputHeader {
     }
 }
 
-// Writes a bar of so many characters, or a space, in this style.
+// Writes a bar of the given number of characters, or a space, in this style.
 fn write_bar<W: WriteStr>(
     w: &mut W,
     style: Style,
@@ -107,7 +107,7 @@ fn write_bar<W: WriteStr>(
     }
 }
 
-// Writes a bar of so many characters in this style.
+// Writes a bar of the given number of characters in this style.
 #[tactic(auto, unfolding(plain_text::specs::Styles::styled))]
 fn write_hbar<W: WriteStr>(
     w: &mut W,
