@@ -1,6 +1,6 @@
 -- A configuration of a reporter, and what it comes to.
-use Rattle.std.specs.Prelude.{ℕ, Bool, true, false, Option, None, Some, codes}
-use Rattle.run_model.specs.declared.config.CompiledDefaultFilterSection.TheVariants.{Profile}
+use Rattle.std.specs.Prelude.{ℕ, Bool, true, false, Option, None, Some}
+use Rattle.run_model.specs.Filters.{default_config_filter}
 use Rattle.run_model.specs.declared.config.NextestRunMode.TheVariants.{Test}
 use Rattle.run_model.specs.declared.level.FinalStatusLevel.TheVariants as final
 use Rattle.run_model.specs.declared.level.StatusLevel.TheVariants as status
@@ -19,7 +19,7 @@ use Rattle.console_reporter.specs.declared.imp.builder.DisplayReporterBuilder.{D
 abbrev pub default_builder : ℕ → DisplayReporterBuilder
 default_builder run_count = record {
   mode = Test;
-  default_filter = record { profile = codes "default"; section = Profile };
+  default_filter = default_config_filter;
   display_config = record {
     show_progress = Auto false;
     no_capture = false;

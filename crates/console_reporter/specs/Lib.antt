@@ -14,6 +14,7 @@ pub mod Outcomes
 pub mod PlainCalls
 pub mod PlainLaw
 pub mod Report
+pub mod ReportErrors
 pub mod Slots
 pub mod Standing
 pub mod Statistics

@@ -1,5 +1,10 @@
 //! One error for a program that makes reports.
 
+ghost use Rattle.std.specs.Prelude.{◌≡◌};
+ghost use Rattle.std.specs.IoError.{error_kind};
+ghost use Rattle.console_reporter.specs.ReportErrors.{error_of_io, error_of_run, error_of_write};
+ghost use Rattle.console_reporter.specs.declared.error.ReportError.{ReportError};
+
 use crate::imp::{RunFault, WriteEventError};
 use plain_text::write_str::WriteFault;
 use run_model::memory::OutOfMemory;
@@ -35,18 +40,24 @@ pub enum ReportError {
 }
 
 impl From<OutOfMemory> for ReportError {
+    ghost from_gives = { λ _ error. error ≡ ReportError.OutOfMemory };
+
     fn from(_refused: OutOfMemory) -> Self {
         ReportError::OutOfMemory
     }
 }
 
 impl From<AllocError> for ReportError {
+    ghost from_gives = { λ _ error. error ≡ ReportError.OutOfMemory };
+
     fn from(_refused: AllocError) -> Self {
         ReportError::OutOfMemory
     }
 }
 
 impl<T: Drop> From<AllocFailed<T>> for ReportError {
+    ghost from_gives = { λ _ error. error ≡ ReportError.OutOfMemory };
+
     fn from(_refused: AllocFailed<T>) -> Self {
         ReportError::OutOfMemory
     }
@@ -54,12 +65,16 @@ impl<T: Drop> From<AllocFailed<T>> for ReportError {
 
 // What a buffer answers that cannot be made: it gives back the writer, which is let go.
 impl<W: Drop> From<(AllocError, W)> for ReportError {
+    ghost from_gives = { λ _ error. error ≡ ReportError.OutOfMemory };
+
     fn from(_refused: (AllocError, W)) -> Self {
         ReportError::OutOfMemory
     }
 }
 
 impl From<WriteFault> for ReportError {
+    ghost from_gives = { λ fault error. error ≡ error_of_write fault };
+
     fn from(fault: WriteFault) -> Self {
         match fault {
             WriteFault::Device => ReportError::Io,
@@ -69,12 +84,16 @@ impl From<WriteFault> for ReportError {
 }
 
 impl From<WriteEventError> for ReportError {
+    ghost from_gives = { λ fault error. error ≡ ReportError.WriteEvent fault };
+
     fn from(fault: WriteEventError) -> Self {
         ReportError::WriteEvent(fault)
     }
 }
 
 impl From<RunFault> for ReportError {
+    ghost from_gives = { λ stop error. error ≡ error_of_run stop };
+
     fn from(stop: RunFault) -> Self {
         ReportError::Run {
             position: stop.position,
@@ -84,6 +103,8 @@ impl From<RunFault> for ReportError {
 }
 
 impl From<io::Error> for ReportError {
+    ghost from_gives = { λ refused error. error ≡ error_of_io (error_kind refused) };
+
     fn from(error: io::Error) -> Self {
         match error.kind() {
             io::ErrorKind::OutOfMemory => ReportError::OutOfMemory,

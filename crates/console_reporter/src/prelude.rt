@@ -25,7 +25,7 @@ pub use run_model::name::{OwnedTestInstanceId, RustBinaryId, TestCaseName, TestI
 pub use run_model::output::{ChildOutputDescription, ErrorChain};
 pub use run_model::stats::RunStats;
 pub use run_model::status::{
-    ExecuteStatus, ExecutionResultDescription, ExecutionStatuses, FlakyResult,
+    ExecuteStatus, ExecutionResultDescription, ExecutionStatuses, FlakyResult, RetryData,
 };
 pub use run_model::time::Nanos;
 pub use unit_report::config::{DisplayConfig, ShowProgress};

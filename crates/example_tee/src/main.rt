@@ -27,8 +27,8 @@ fn report(rt: &HostRuntime, alloc: Global) -> Result<String, ReportError> {
     let mut brief = DisplayReporterBuilder::new(alloc, 2)?;
     brief.display_config.status_level = Some(StatusLevel::Fail);
     let mut tee = Tee {
-        first: colorful.build_in(alloc, &mut screen, Surroundings::default()),
-        second: brief.build_in(alloc, &mut failures, Surroundings::default()),
+        first: colorful.build_for(alloc, &mut screen, Surroundings::default()),
+        second: brief.build_for(alloc, &mut failures, Surroundings::default()),
     };
 
     let time = Nanos::from_millis(20);
@@ -41,7 +41,7 @@ fn report(rt: &HostRuntime, alloc: Global) -> Result<String, ReportError> {
         passed: 1,
         ..RunStats::new(2)
     };
-    let statuses = ExecutionStatuses::one(alloc, ExecuteStatus::passed(time));
+    let statuses = ExecutionStatuses::single(alloc, ExecuteStatus::passed(time));
     tell(
         &mut tee,
         &TestEvent::test_finished(time, test, statuses, stats),
@@ -56,7 +56,7 @@ fn report(rt: &HostRuntime, alloc: Global) -> Result<String, ReportError> {
         failed: 1,
         ..stats
     };
-    let statuses = ExecutionStatuses::one(alloc, ExecuteStatus::failed(101, time));
+    let statuses = ExecutionStatuses::single(alloc, ExecuteStatus::failed(101, time));
     tell(
         &mut tee,
         &TestEvent::test_finished(time, test, statuses, stats),

@@ -1,6 +1,6 @@
 //! Two reporters over one stream of events.
 
-ghost use Rattle.std.specs.Prelude.{◌≡◌, OnOk, IfErr, Some};
+ghost use Rattle.std.specs.Prelude.{◌≡◌, OnOk, IfErr, None, Some};
 ghost use Rattle.plain_text.specs.Accept.{string_meaning};
 ghost use Rattle.run_model.specs.declared.call.ReportCall.{ReportCall};
 ghost use Rattle.console_reporter.specs.Telling.{Breaks, Tells};
@@ -33,8 +33,13 @@ impl<'a, V: WriteStr, W: WriteStr> Tee<'a, V, W> {
         (first, second)
     }
 
-    /// Ends both reports.
-    pub fn finish(&mut self) -> Answers {
+    /// Ends both reports, and answers what each answered.
+    pub fn finish(&mut self) -> Answers
+        ensures first { OnOk result.0 (Tells V.meaning string_meaning self.old.first None self.new.first) }
+        ensures first_err { IfErr result.0 (λ e. Breaks V.meaning string_meaning self.old.first None e self.new.first) }
+        ensures second { OnOk result.1 (Tells W.meaning string_meaning self.old.second None self.new.second) }
+        ensures second_err { IfErr result.1 (λ e. Breaks W.meaning string_meaning self.old.second None e self.new.second) }
+    {
         let first = self.first.finish();
         let second = self.second.finish();
         (first, second)

@@ -1,4 +1,4 @@
-//! What the tests share: what a reporter goes by, counts, results and outputs.
+//! What the tests share: what a reporter goes by, the names of a test, counts, results and outputs.
 
 ghost use Rattle.std.specs.Prelude.{◌≡◌, IfOk, true};
 ghost use Rattle.run_model.specs.Outputs.{has_loaded_output};
@@ -7,7 +7,7 @@ use bytes::Bytes;
 use event_text::settings::{Settings, overrides_for, styles_for, theme_for};
 use run_model::config::{CompiledDefaultFilter, CompiledDefaultFilterSection, NextestRunMode};
 use run_model::level::{FinalStatusLevel, StatusLevel};
-use run_model::name::ProfileName;
+use run_model::name::{ProfileName, RustBinaryId, TestCaseName, TestInstanceId};
 use run_model::output::{
     ChildExecutionOutputDescription, ChildOutputDescription, ChildSingleOutput, LiveSpec,
 };
@@ -57,6 +57,31 @@ pub fn settings_in(
     let mut settings = settings(alloc, StatusLevel::Pass, should_colorize)?;
     settings.mode = mode;
     Ok(settings)
+}
+
+/// The names of a test.
+#[derive(Debug, Drop)]
+pub struct TestNames {
+    binary_id: RustBinaryId,
+    test_name: TestCaseName,
+}
+
+impl TestNames {
+    /// The names of the test `a t1`.
+    pub fn of_a_t1(alloc: Global) -> Result<TestNames, Fail> {
+        Ok(TestNames {
+            binary_id: RustBinaryId::new(alloc, "a")?,
+            test_name: TestCaseName::new(alloc, "t1")?,
+        })
+    }
+
+    /// The test.
+    pub fn instance(&self) -> TestInstanceId<'_> {
+        TestInstanceId {
+            binary_id: &self.binary_id,
+            test_name: &self.test_name,
+        }
+    }
 }
 
 /// The counts of a run of so many tests, of which so many have finished and passed.

@@ -13,6 +13,7 @@ pub mod FitMarks
 pub mod Fits
 pub mod FittedPuts
 pub mod FittedTexts
+pub mod Flushes
 pub mod Gathered
 pub mod Highlighted
 pub mod IndentedCalls

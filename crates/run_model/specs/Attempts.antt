@@ -51,5 +51,5 @@ abbrev pub attempt_with_output : ExecuteStatus LiveSpec ChildOutputDescription �
 attempt_with_output status captured = record status { output = execution_with_output status.output captured }
 
 -- an attempt as one of several
-abbrev pub attempt_of : ExecuteStatus LiveSpec ChildOutputDescription → ℕ → ℕ → ExecuteStatus LiveSpec ChildOutputDescription
-attempt_of status attempt total = record status { retry_data = record { attempt = attempt; total_attempts = total } }
+abbrev pub attempt_with_retry_data : ExecuteStatus LiveSpec ChildOutputDescription → RetryData → ExecuteStatus LiveSpec ChildOutputDescription
+attempt_with_retry_data status retry_data = record status { retry_data = retry_data }

@@ -2,6 +2,7 @@ pub mod Attempts
 pub mod Displays
 pub mod ErrorChains
 pub mod Events
+pub mod Filters
 pub mod Infos
 pub mod Instances
 pub mod Levels

@@ -2,7 +2,7 @@
 
 ghost use Rattle.std.specs.Prelude.{◌≡◌, IfOk, map, string_bytes};
 
-use crate::memory::OutOfMemory;
+use crate::memory::{OutOfMemory, TooManyOwners};
 use std::alloc::Global;
 use std::marker::Model;
 use std::sync::Arc;
@@ -57,8 +57,8 @@ impl CommandLine {
         self.words.as_slice()
     }
 
-    /// A copy that shares the same words. It allocates nothing; it fails only where no further sharer can be counted.
-    pub fn copy(&self) -> Result<Self, OutOfMemory>
+    /// A copy that shares the same words. It allocates nothing.
+    pub fn copy(&self) -> Result<Self, TooManyOwners>
         ensures { IfOk result (λ command. command ≡ self.now) }
     {
         Ok(CommandLine {

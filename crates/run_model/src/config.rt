@@ -1,10 +1,13 @@
 //! What kind of run it is, and what a profile leaves out.
 
-ghost use Rattle.std.specs.Prelude.{◌≡◌, ◌≢◌, MatchOption};
+ghost use Rattle.std.specs.Prelude.{◌≡◌, ◌≢◌, IfOk, MatchOption};
 ghost use Rattle.run_model.specs.Displays.{display_name, is_immediate, is_final};
+ghost use Rattle.run_model.specs.Filters.{default_config_filter};
 ghost use Rattle.run_model.specs.declared.config.TestOutputDisplay.{TestOutputDisplay};
 
+use crate::memory::OutOfMemory;
 use crate::name::ProfileName;
+use std::alloc::Global;
 
 /// Whether a run runs tests or benchmarks.
 #[derive(Clone, Copy, Debug, PartialEq, Eq)]
@@ -86,6 +89,18 @@ pub struct CompiledDefaultFilter {
     pub profile: ProfileName,
     /// The profile's own filter, or one of its overrides.
     pub section: CompiledDefaultFilterSection,
+}
+
+impl CompiledDefaultFilter {
+    /// The filter of the profile `default` itself, nextest's where nothing is configured. It allocates the profile's name.
+    pub fn for_default_config(alloc: Global) -> Result<Self, OutOfMemory>
+        ensures { IfOk result (λ filter. filter ≡ default_config_filter) }
+    {
+        Ok(CompiledDefaultFilter {
+            profile: ProfileName::new(alloc, "default")?,
+            section: CompiledDefaultFilterSection::Profile,
+        })
+    }
 }
 
 /// Which of a profile's default filters it is.

@@ -34,7 +34,7 @@ impl<'a> TestEvent<'a> {
     /// once where the test failed, and never where it passed.
     ///
     /// ```
-    /// TestEvent::test_finished(elapsed, test_instance, ExecutionStatuses::one(alloc, status), stats)
+    /// TestEvent::test_finished(elapsed, test_instance, ExecutionStatuses::single(alloc, status), stats)
     /// ```
     pub fn test_finished(
         elapsed: Nanos,

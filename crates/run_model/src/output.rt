@@ -11,7 +11,7 @@ ghost use Rattle.run_model.specs.Unloaded.{unloaded_output};
 
 use crate::abort::DescriptionText;
 use crate::boxed::Boxed;
-use crate::memory::OutOfMemory;
+use crate::memory::{OutOfMemory, TooManyOwners};
 use crate::status::ExecutionResultDescription;
 use bstr::ByteSlice;
 use bytes::Bytes;
@@ -106,8 +106,8 @@ impl ChildSingleOutput {
         Ok(self.as_bytes().to_str_lossy(alloc)?)
     }
 
-    /// A copy that shares the same bytes.
-    pub fn copy(&self) -> Result<Self, OutOfMemory>
+    /// A copy that shares the same bytes. It allocates nothing.
+    pub fn copy(&self) -> Result<Self, TooManyOwners>
         ensures { IfOk result (λ output. output ≡ self.now) }
     {
         let bytes = match &self.bytes {
@@ -144,7 +144,8 @@ impl ChildOutputDescription {
     /// ChildOutputDescription::split(alloc, Bytes::new(), Bytes::from_static(b"no such file\n"))?
     /// ```
     pub fn split(alloc: Global, stdout: Bytes, stderr: Bytes) -> Result<Self, OutOfMemory>
-        ensures { IfOk result (λ output. output ≡ ChildOutputDescription.Split (Some stdout) (Some stderr)) }
+        ensures streams { IfOk result (λ output. output ≡ ChildOutputDescription.Split (Some stdout) (Some stderr)) }
+        ensures free { stdout ≡ [] → stderr ≡ [] → IsOk result }
     {
         Ok(ChildOutputDescription::Split {
             stdout: Some(ChildSingleOutput::new(alloc, stdout)?),
@@ -154,7 +155,8 @@ impl ChildOutputDescription {
 
     /// What was captured of both streams together. It allocates unless that is empty.
     pub fn combined(alloc: Global, output: Bytes) -> Result<Self, OutOfMemory>
-        ensures { IfOk result (λ captured. captured ≡ ChildOutputDescription.Combined output) }
+        ensures streams { IfOk result (λ captured. captured ≡ ChildOutputDescription.Combined output) }
+        ensures free { output ≡ [] → IsOk result }
     {
         Ok(ChildOutputDescription::Combined {
             output: ChildSingleOutput::new(alloc, output)?,
@@ -168,8 +170,8 @@ impl ChildOutputDescription {
         !matches!(self, ChildOutputDescription::NotLoaded)
     }
 
-    /// A copy that shares the same bytes.
-    pub fn copy(&self) -> Result<Self, OutOfMemory>
+    /// A copy that shares the same bytes. It allocates nothing.
+    pub fn copy(&self) -> Result<Self, TooManyOwners>
         ensures { IfOk result (λ output. output ≡ self.now) }
     {
         Ok(match self {
@@ -215,7 +217,9 @@ fn recorded_member(
 }
 
 // Another stream of the same bytes, where it was captured.
-fn copy_stream(stream: &Option<ChildSingleOutput>) -> Result<Option<ChildSingleOutput>, OutOfMemory>
+fn copy_stream(
+    stream: &Option<ChildSingleOutput>,
+) -> Result<Option<ChildSingleOutput>, TooManyOwners>
     ensures { IfOk result (λ s. s ≡ stream.now) }
 {
     match stream {

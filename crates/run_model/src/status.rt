@@ -1,7 +1,7 @@
 //! How the attempts of a test ended.
 
 ghost use Rattle.std.specs.Prelude.{◌≡◌, ◌≤◌, IfSome, IfNone, IfOk, IsOk, false, [], ◌∷◌, ◌++◌, map, IsTrue, ◌↔◌};
-ghost use Rattle.run_model.specs.Attempts.{attempt_of, attempt_with_output, code_failure, only_attempt, silent_attempt};
+ghost use Rattle.run_model.specs.Attempts.{attempt_with_output, attempt_with_retry_data, code_failure, only_attempt, silent_attempt};
 ghost use Rattle.run_model.specs.Statuses.{is_aborted, is_abort, is_success, is_leaky_success, is_success_case, case_of, summary_of, summary_by, described_case, described_last, described_prior, described_summary, final_level_of, final_level_by, status_level_of, status_level_by};
 ghost use Rattle.run_model.specs.Recorded.{recorded_attempt, recorded_attempts, recorded_script};
 ghost use Rattle.run_model.specs.Unloaded.{unloaded_attempt, unloaded_attempts, unloaded_script};
@@ -73,11 +73,11 @@ pub enum ExecutionResultDescription {
 
 impl ExecutionResultDescription {
     /// A failure with this exit code, which left no handle open.
-    pub fn exit_code(code: i32) -> Self
-        ensures { result ≡ code_failure code }
+    pub fn failed(exit_code: i32) -> Self
+        ensures { result ≡ code_failure exit_code }
     {
         ExecutionResultDescription::Fail {
-            failure: FailureDescription::ExitCode { code },
+            failure: FailureDescription::ExitCode { code: exit_code },
             leaked: false,
         }
     }
@@ -246,10 +246,10 @@ impl ExecuteStatus<LiveSpec> {
         ExecuteStatus {
             time_taken,
             retry_data: RetryData::only(),
-            output: ChildExecutionOutputDescription::silent(ExecutionResultDescription::exit_code(
+            output: ChildExecutionOutputDescription::silent(ExecutionResultDescription::failed(
                 exit_code,
             )),
-            result: ExecutionResultDescription::exit_code(exit_code),
+            result: ExecutionResultDescription::failed(exit_code),
             is_slow: false,
         }
     }
@@ -264,21 +264,16 @@ impl ExecuteStatus<LiveSpec> {
         }
     }
 
-    /// This attempt as one of several, the first of which is 1.
+    /// This attempt as one of several.
     ///
     /// ```
-    /// ExecuteStatus::failed(1, time).as_attempt(1, 3) // the first of at most three
+    /// let first = RetryData { attempt: 1, total_attempts: 3 };
+    /// ExecuteStatus::failed(1, time).with_retry_data(first)
     /// ```
-    pub fn as_attempt(self, attempt: u32, total_attempts: u32) -> Self
-        ensures { result ≡ attempt_of self attempt total_attempts }
+    pub fn with_retry_data(self, retry_data: RetryData) -> Self
+        ensures { result ≡ attempt_with_retry_data self retry_data }
     {
-        ExecuteStatus {
-            retry_data: RetryData {
-                attempt,
-                total_attempts,
-            },
-            ..self
-        }
+        ExecuteStatus { retry_data, ..self }
     }
 
     /// Copies its texts, which allocates. The copy shares the bytes of the output.
@@ -638,9 +633,9 @@ impl<S: OutputSpec> ExecutionStatuses<S> {
     /// The one attempt of a test that was not tried again. It allocates nothing.
     ///
     /// ```
-    /// ExecutionStatuses::one(alloc, ExecuteStatus::passed(Nanos::from_millis(20)))
+    /// ExecutionStatuses::single(alloc, ExecuteStatus::passed(Nanos::from_millis(20)))
     /// ```
-    pub fn one(alloc: Global, status: ExecuteStatus<S>) -> Self
+    pub fn single(alloc: Global, status: ExecuteStatus<S>) -> Self
         ensures earlier { result.earlier ≡ [] }
         ensures last { result.last ≡ status }
         ensures flaky { result.flaky_result ≡ FlakyResult.Pass }

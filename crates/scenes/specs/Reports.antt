@@ -1,8 +1,8 @@
 -- What the program writes of a scene.
-use Rattle.std.specs.Prelude.{◌≡◌, ◌⊎◌, ℕ, List, reverse, true, false, if◌then◌else◌, Option, Some, codes, ⊤}
+use Rattle.std.specs.Prelude.{◌≡◌, ◌⊎◌, ℕ, List, reverse, true, false, if◌then◌else◌, Option, Some, ⊤}
 use Rattle.std.specs.Option.{is_some, option_map}
 use Rattle.std.specs.List.{AllZip}
-use Rattle.run_model.specs.declared.config.CompiledDefaultFilterSection.TheVariants.{Profile}
+use Rattle.run_model.specs.Filters.{default_config_filter}
 use Rattle.unit_report.specs.Levels.{overridden}
 use Rattle.unit_report.specs.declared.config.ShowProgress.{ShowProgress}
 use Rattle.unit_report.specs.declared.config.ShowProgress.TheVariants as progress
@@ -42,7 +42,7 @@ kind_for options = if options.is_replay then displayer.Replay else displayer.Liv
 abbrev pub builder_for : Options → Scene → DisplayReporterBuilder
 builder_for options scene = record {
   mode = scene.config.mode;
-  default_filter = record { profile = codes "default"; section = Profile };
+  default_filter = default_config_filter;
   display_config = overridden (progress_for options) scene.config.no_capture options.status_level scene.config.final_status_level;
   run_count = scene.config.run_count;
   success_output = scene.config.success_output;

@@ -29,7 +29,6 @@ use scene_text::reader::read_scene;
 use std::alloc::{AllocError, Global};
 use std::io::{Read, Write};
 use std::marker::Model;
-use std::mem::ManuallyDrop;
 use store_text::config::StoreConfig;
 
 /// A scene that was judged: what its reporter gets, of which it refuses nothing.
@@ -173,9 +172,6 @@ fn is_retried_success(event: &TestEventKind<'_>) -> bool
 /// Reads a scene to its end, judges it, and writes its report to a device and its records to a second one, if the options ask for
 /// them. It gives both devices back: the whole way from a file's bytes to those of both texts. A scene that has a fault leaves the
 /// devices as they were.
-///
-/// The memory of the scene and of its calls is not given back, as a program ends with its report and its memory with the
-/// process.
 pub fn report_scene<'a, R: Read + Drop, W: Write, S: Write>(
     alloc: Global,
     options: &Options<'a>,
@@ -191,13 +187,7 @@ pub fn report_scene<'a, R: Read + Drop, W: Write, S: Write>(
     ensures no_store { options.now.store ≡ None → result.2 ≡ store_writer }
 {
     match read_whole(alloc, options, reader) {
-        Ok(scene) => report_read(
-            alloc,
-            options,
-            &ManuallyDrop::new(scene),
-            writer,
-            store_writer,
-        ),
+        Ok(scene) => report_read(alloc, options, &scene, writer, store_writer),
         Err(fault) => (Err(fault), writer, store_writer),
     }
 }
@@ -216,7 +206,7 @@ fn report_read<W: Write, S: Write>(
     ensures no_store { options.now.store ≡ None → result.2 ≡ store_writer }
 {
     match judge_scene(alloc, options, scene) {
-        Ok(judged) => report_judged(alloc, &ManuallyDrop::new(judged), writer, store_writer),
+        Ok(judged) => report_judged(alloc, &judged, writer, store_writer),
         Err(fault) => (Err(fault), writer, store_writer),
     }
 }

@@ -12,8 +12,7 @@ use crate::scene::{Scene, SceneConfig};
 use crate::words::Options;
 use console_reporter::config::{DisplayConfig, ShowProgress};
 use console_reporter::imp::{DisplayReporterBuilder, DisplayerKind, OutputLoadDecider};
-use run_model::config::{CompiledDefaultFilter, CompiledDefaultFilterSection};
-use run_model::name::ProfileName;
+use run_model::config::CompiledDefaultFilter;
 use std::alloc::Global;
 use store_text::config::StoreConfig;
 
@@ -91,10 +90,7 @@ pub fn builder_of(
 {
     Ok(DisplayReporterBuilder {
         mode: scene.config.mode,
-        default_filter: CompiledDefaultFilter {
-            profile: ProfileName::new(alloc, "default")?,
-            section: CompiledDefaultFilterSection::Profile,
-        },
+        default_filter: CompiledDefaultFilter::for_default_config(alloc)?,
         display_config: DisplayConfig::with_overrides(
             progress_for(options),
             scene.config.no_capture,

@@ -1,36 +1,109 @@
 //! The filter, over any reader and any writer.
 
-ghost use Rattle.std.specs.Prelude.{◌≡◌, IfOk, OnOk, string_bytes};
-ghost use Rattle.std.specs.Io.KnownBytes.{Appends};
+ghost use Rattle.std.specs.Prelude.{◌≡◌, IfErr, IfOk, OnOk, string_bytes};
 ghost use Rattle.std.specs.Option.{IfSome};
 ghost use Rattle.plain_text.specs.Escapes.{visible};
+ghost use Rattle.plain_text.specs.Writer.{Puts};
+ghost use Rattle.strip.specs.Filters.{Leaves, error_of_read};
 
 use plain_text::escapes::{strip, write_stripped};
+use plain_text::write_str::{WriteFault, WriteStr};
 use run_model::memory::OutOfMemory;
 use std::alloc::Global;
 use std::io;
-use std::io::{ErrorKind, Read, Write};
+use std::io::{ErrorKind, Read};
+use thiserror::Error;
 
-/// Writes what the reader has left, without its escape sequences. The work is done once, and as often as `turns` says
-/// where that is more. An error says that the text is not UTF-8, or that reading, writing or memory failed; only where
-/// writing failed may a beginning be written.
+/// Why a text was not filtered whole.
+#[derive(Clone, Copy, Debug, PartialEq, Eq, Error)]
+pub enum FilterError {
+    /// The text could not be read, or is not UTF-8. Nothing was written.
+    #[error("the text could not be read, or is not UTF-8")]
+    Read,
+    /// The writer's device failed. A beginning was written.
+    #[error("the text could not be written")]
+    Write,
+    /// A growth of memory was refused.
+    #[error("out of memory")]
+    OutOfMemory,
+}
+
+impl From<OutOfMemory> for FilterError {
+    ghost use Rattle.std.specs.Prelude.{◌≡◌};
+    ghost use Rattle.strip.specs.declared.filter.FilterError.{FilterError};
+
+    ghost from_gives = { λ _ error. error ≡ FilterError.OutOfMemory };
+
+    fn from(_refused: OutOfMemory) -> FilterError {
+        FilterError::OutOfMemory
+    }
+}
+
+impl From<WriteFault> for FilterError {
+    ghost use Rattle.std.specs.Prelude.{◌≡◌};
+    ghost use Rattle.strip.specs.Filters.{error_of_write};
+
+    ghost from_gives = { λ fault error. error ≡ error_of_write fault };
+
+    fn from(fault: WriteFault) -> FilterError {
+        match fault {
+            WriteFault::Device => FilterError::Write,
+            WriteFault::Memory => FilterError::OutOfMemory,
+        }
+    }
+}
+
+impl From<FilterError> for io::Error {
+    fn from(error: FilterError) -> io::Error {
+        match error {
+            FilterError::Read => ErrorKind::InvalidData.into(),
+            FilterError::Write => ErrorKind::WriteZero.into(),
+            FilterError::OutOfMemory => ErrorKind::OutOfMemory.into(),
+        }
+    }
+}
+
+/// Writes what the reader has left, without its escape sequences, and delivers it. The work is done once, and as often as `turns` says
+/// where that is more.
 ///
 /// ```
 /// filter(alloc, "\x1b[1mhi".as_bytes(), &mut out, 1)? // out holds "hi"
 /// ```
-pub fn filter<R: Read + Drop, W: Write>(
+pub fn filter<R: Read + Drop, W: WriteStr>(
     alloc: Global,
     reader: R,
-    writer: &mut W,
+    w: &mut W,
     turns: u32,
-) -> io::Result<()>
-    ensures { OnOk result (IfSome (R.remaining reader) (λ text. Appends (W.contents writer.old) (W.contents writer.new) (visible text))) }
+) -> Result<(), FilterError>
+    ensures ok { OnOk result (IfSome (R.remaining reader) (λ text. W.meaning.accepts w.old (visible text) w.new)) }
+    ensures delivered { OnOk result (W.meaning.is_delivered w.new) }
+    ensures err { IfErr result (λ error. IfSome (R.remaining reader) (λ text. Leaves W.meaning w.old (visible text) error w.new)) }
 {
-    let text = io::read_to_string(alloc, reader)?;
-    match strip_over(alloc, text.as_str(), turns) {
-        Ok(stripped) => writer.write_all(stripped.as_bytes()),
-        Err(OutOfMemory) => Err(ErrorKind::OutOfMemory.into()),
+    let text = match io::read_to_string(alloc, reader) {
+        Ok(text) => text,
+        Err(error) => return Err(read_error(error.kind())),
+    };
+    let stripped = strip_over(alloc, text.as_str(), turns)?;
+    Ok(write_whole(w, stripped.as_str())?)
+}
+
+// What an error of this kind says of a text that was read.
+fn read_error(kind: ErrorKind) -> FilterError
+    ensures { result ≡ error_of_read kind }
+{
+    match kind {
+        ErrorKind::OutOfMemory => FilterError::OutOfMemory,
+        _ => FilterError::Read,
     }
+}
+
+// Writes a text and delivers it.
+fn write_whole<W: WriteStr>(w: &mut W, text: &str) -> Result<(), WriteFault>
+    ensures text { Puts W.meaning w.old text.now result w.new }
+    ensures delivered { OnOk result (W.meaning.is_delivered w.new) }
+{
+    w.write_str(text)?;
+    w.write_str_flush()
 }
 
 // The text without its sequences, which is made anew in the same memory for each turn after the first.

@@ -7,6 +7,8 @@
 mod filter;
 
 use filter::filter;
+use plain_text::write_str::TextBuffer;
+use std::io::ErrorKind;
 use std::{env, io};
 
 fn main(rt: HostRuntime) -> io::Result<()> {
@@ -17,5 +19,8 @@ fn main(rt: HostRuntime) -> io::Result<()> {
         },
         None => 1,
     };
-    filter(rt.alloc(), rt.reader(), &mut io::writer(&rt), turns)
+    match TextBuffer::new(rt.alloc(), io::writer(&rt)) {
+        Ok(mut out) => Ok(filter(rt.alloc(), rt.reader(), &mut out, turns)?),
+        Err(_) => Err(ErrorKind::OutOfMemory.into()),
+    }
 }

@@ -1,20 +1,11 @@
-//! The tests of the texts that the lines are made of: of the crates `plain_text` and `report_text`, a file for each of their modules.
-//! They stand in a crate of their own because a crate with tests is proved twice.
+//! The tests of the events of a run and of the texts that its lines are made of: of the crates `run_model` (in `model`), `plain_text` and
+//! `report_text` (in `text`) and `unit_report` (in `unit`), a file for each of their modules. They stand in a crate of their own because a
+//! crate with tests is proved twice.
 #![tactic(auto)]
 
 #[cfg(test)]
-mod escapes;
+mod model;
 #[cfg(test)]
-mod fitting;
+mod text;
 #[cfg(test)]
-mod helpers;
-#[cfg(test)]
-mod indenter;
-#[cfg(test)]
-mod lossy;
-#[cfg(test)]
-mod reporter_helpers;
-#[cfg(test)]
-mod stripped;
-#[cfg(test)]
-mod text_buffer;
+mod unit;

@@ -18,8 +18,17 @@ fn is_slow() {
     thread::sleep(Duration::from_millis(1400));
 }
 
+extern "C" {
+    fn signal(number: i32, handler: usize) -> usize;
+}
+
+// Ctrl-C does not end it either.
 #[test]
 fn never_ends() {
+    const SIGINT: i32 = 2;
+    const SIG_IGN: usize = 1;
+    // Sound, since no handler of ours is installed.
+    unsafe { signal(SIGINT, SIG_IGN) };
     loop {
         thread::sleep(Duration::from_secs(60));
     }

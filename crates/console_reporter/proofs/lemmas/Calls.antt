@@ -66,11 +66,6 @@ pub text_past : (config : Configuration) (calls : List ReportCall) (i : ℕ) →
 text_past config calls i h = ap (λ o. option_map_or (text config (past_at calls i)) o []) (slice_get_past calls i h)
 
 module _ {S : Type 0} {m : Meaning S} (laws : WriterLaws m) where
-  -- a text, and then a flush
-  pub puts_flushed : (a b c : S) (t : List ℕ) (r : Result (Unit {0}) WriteFault) → m.accepts a t b → Puts m b [] r c → Puts m a t r c
-  puts_flushed a b c t (Ok x) p q = subst (λ u. m.accepts a u c) (append-nil t) (laws.joins a b c t [] p q)
-  puts_flushed a b c t (Err e) p q = subst (λ u. m.stops a u e c) (append-nil t) (laws.goes_on a b c t [] e p q)
-
   module _ (config : Configuration) (calls : List ReportCall) (i : ℕ) (a b c : S) (before : m.accepts a (report config (past_at calls i)) b) where
     -- one call more was reported
     pub accepted_more : (call : ReportCall) → call ≡ get_or calls i call → i < length calls → m.accepts b (text config (past_at calls i) call) c → m.accepts a (report config (past_at calls (i + 1))) c

@@ -75,10 +75,7 @@ impl DisplayReporterBuilder {
     {
         Ok(DisplayReporterBuilder {
             mode: NextestRunMode::Test,
-            default_filter: CompiledDefaultFilter {
-                profile: ProfileName::new(alloc, "default")?,
-                section: CompiledDefaultFilterSection::Profile,
-            },
+            default_filter: CompiledDefaultFilter::for_default_config(alloc)?,
             display_config: DisplayConfig {
                 show_progress: ShowProgress::Auto {
                     suppress_success: false,
@@ -102,10 +99,10 @@ impl DisplayReporterBuilder {
     /// A reporter to a writer in these surroundings, as [`DisplayReporterBuilder::build`] makes it.
     ///
     /// ```
-    /// let mut reporter = builder.build_in(alloc, &mut out, Surroundings::default());
+    /// let mut reporter = builder.build_for(alloc, &mut out, Surroundings::default());
     /// reporter.write_event(&event)?;
     /// ```
-    pub fn build_in<'a, W: WriteStr>(
+    pub fn build_for<'a, W: WriteStr>(
         self,
         alloc: Global,
         writer: &'a mut W,

@@ -3,14 +3,14 @@
 ghost use Rattle.std.specs.Prelude.{◌≡◌, true};
 ghost use Rattle.run_model.specs.Outputs.{has_loaded_output};
 
-use crate::testing::{failure, settings_in, written};
+use crate::testing::{TestNames, failure, settings_in, written};
 use info_text::response::write_info_response;
 use run_model::abort::DescriptionText;
 use run_model::boxed::Boxed;
 use run_model::command::CommandLine;
 use run_model::config::NextestRunMode;
 use run_model::info::{InfoResponse, SetupScriptInfoResponse, TestInfoResponse, UnitState};
-use run_model::name::{ProgramName, RustBinaryId, ScriptId, TestCaseName, TestInstanceId};
+use run_model::name::{ProgramName, ScriptId};
 use run_model::output::{
     ChildExecutionOutputDescription, ChildOutputDescription, ErrorChain, LiveSpec,
 };
@@ -48,14 +48,10 @@ fn test_answer(
 ) -> Result<String, Fail>
     requires { has_loaded_output output ≡ true }
 {
-    let binary_id = RustBinaryId::new(alloc, "a")?;
-    let test_name = TestCaseName::new(alloc, "t1")?;
+    let names = TestNames::of_a_t1(alloc)?;
     let response = InfoResponse::Test(TestInfoResponse {
         stress_index: None,
-        test_instance: TestInstanceId {
-            binary_id: &binary_id,
-            test_name: &test_name,
-        },
+        test_instance: names.instance(),
         retry_data,
         state: Boxed::new(alloc, state)?,
         output: Boxed::new(alloc, output)?,

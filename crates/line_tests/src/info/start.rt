@@ -1,6 +1,6 @@
 //! The lines round the answers.
 
-use crate::testing::settings_in;
+use crate::testing::{settings_in, stats};
 use info_text::start::{write_info_finished, write_info_started};
 use run_model::config::NextestRunMode;
 use run_model::stats::RunStats;
@@ -8,24 +8,10 @@ use run_model::time::Nanos;
 use std::test::Fail;
 
 // The counts of a run of two tests, of which one has finished.
-fn stats(passed: usize, failed: usize) -> RunStats {
-    RunStats {
-        initial_run_count: 2,
-        finished_count: 1,
-        passed,
-        passed_slow: 0,
-        flaky: 0,
-        leaky: 0,
-        failed,
-        leaky_failed: 0,
-        exec_failed: 0,
-        timed_out: 0,
-        skipped: 0,
-        setup_scripts_failed: 0,
-        setup_scripts_exec_failed: 0,
-        setup_scripts_timed_out: 0,
-        cancel_reason: None,
-    }
+fn one_of_two(passed: usize, failed: usize) -> RunStats {
+    let mut counts = stats(2, 1, passed);
+    counts.failed = failed;
+    counts
 }
 
 #[test]
@@ -33,14 +19,20 @@ fn units_are_asked(rt: HostRuntime) -> Result<(), Fail> {
     let alloc = rt.alloc();
     let plain = settings_in(alloc, NextestRunMode::Test, false)?;
     let mut text = String::new(alloc);
-    write_info_started(&mut text, &plain, Nanos(3_500_000_000), 1, &stats(1, 0))?;
+    write_info_started(
+        &mut text,
+        &plain,
+        Nanos(3_500_000_000),
+        1,
+        &one_of_two(1, 0),
+    )?;
     assert_eq!(rt;
         text.as_str(),
         "------------\ninfo: 1 running, 1 passed, 0 skipped in 3.500s\n"
     );
     let coloured = settings_in(alloc, NextestRunMode::Test, true)?;
     let mut text = String::new(alloc);
-    write_info_started(&mut text, &coloured, Nanos(0), 2, &stats(0, 1))?;
+    write_info_started(&mut text, &coloured, Nanos(0), 2, &one_of_two(0, 1))?;
     assert_eq!(rt;
         text.as_str(),
         "------------\n\x1b[31;1minfo\x1b[0m: \x1b[1m2\x1b[0m \x1b[32;1mrunning\x1b[0m, \x1b[1m0\x1b[0m \x1b[32;1mpassed\x1b[0m, \x1b[1m1\x1b[0m \x1b[31;1mfailed\x1b[0m, \x1b[1m0\x1b[0m \x1b[33;1mskipped\x1b[0m in 0.000s\n"

@@ -1,6 +1,6 @@
 //! The lines of setup scripts, by how they ended and how long they ran.
 
-use crate::testing::settings;
+use crate::testing::{failure, settings};
 use bytes::Bytes;
 use event_text::script::ScriptInstance;
 use run_model::command::CommandLine;
@@ -10,8 +10,7 @@ use run_model::output::{
     ChildExecutionOutputDescription, ChildOutputDescription, ChildSingleOutput, LiveSpec,
 };
 use run_model::status::{
-    ExecutionResultDescription, FailureDescription, LeakTimeoutResult, SetupScriptExecuteStatus,
-    SlowTimeoutResult,
+    ExecutionResultDescription, LeakTimeoutResult, SetupScriptExecuteStatus, SlowTimeoutResult,
 };
 use run_model::stress::StressIndex;
 use run_model::time::Nanos;
@@ -190,11 +189,7 @@ fn a_failure_has_its_output(rt: HostRuntime) -> Result<(), Fail> {
 
 "
     );
-    let failure = ExecutionResultDescription::Fail {
-        failure: FailureDescription::ExitCode { code: 1 },
-        leaked: false,
-    };
-    let failed = finished(alloc, failure, false)?;
+    let failed = finished(alloc, failure(), false)?;
     assert_eq!(rt;
         failed.as_str(),
         "  SETUP FAIL [   1.000s] s1: cmd

@@ -1,6 +1,6 @@
 //! Slow tests by the attempt and the status level.
 
-use crate::testing::{Names, settings_at};
+use crate::testing::{TestNames, settings};
 use run_model::level::StatusLevel;
 use run_model::status::RetryData;
 use run_model::time::Nanos;
@@ -16,8 +16,8 @@ fn after_a_minute(
     total_attempts: u32,
     will_terminate: bool,
 ) -> Result<String, Fail> {
-    let settings = settings_at(alloc, level)?;
-    let names = Names::of_a_t1(alloc)?;
+    let settings = settings(alloc, level, false)?;
+    let names = TestNames::of_a_t1(alloc)?;
     let retry_data = RetryData {
         attempt,
         total_attempts,
@@ -83,8 +83,8 @@ fn the_last_attempt_that_is_ended_is_a_failure(rt: HostRuntime) -> Result<(), Fa
 #[test]
 fn the_style_tells_a_retry_from_a_failure(rt: HostRuntime) -> Result<(), Fail> {
     let alloc = rt.alloc();
-    let names = Names::of_a_t1(alloc)?;
-    let mut settings = settings_at(alloc, StatusLevel::Pass)?;
+    let names = TestNames::of_a_t1(alloc)?;
+    let mut settings = settings(alloc, StatusLevel::Pass, false)?;
     settings.styles.colorize();
     settings.counter_width = Some(1);
     let instance = "[> 60.000s] (---) \x1b[35;1ma\x1b[0m \x1b[34;1mt1\x1b[0m\n";

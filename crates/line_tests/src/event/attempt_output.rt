@@ -3,7 +3,7 @@
 ghost use Rattle.std.specs.Prelude.{◌≡◌, IfOk, true};
 ghost use Rattle.run_model.specs.Outputs.{has_loaded_output};
 
-use crate::testing::settings_at;
+use crate::testing::settings;
 use bytes::Bytes;
 use event_text::attempt_output::write_test_execute_status;
 use event_text::settings::Settings;
@@ -19,8 +19,8 @@ use std::alloc::Global;
 use std::test::Fail;
 
 // What a reporter without colours goes by.
-fn settings(alloc: Global, no_output_indent: bool) -> Result<Settings, Fail> {
-    let mut settings = settings_at(alloc, StatusLevel::Pass)?;
+fn plain_settings(alloc: Global, no_output_indent: bool) -> Result<Settings, Fail> {
+    let mut settings = settings(alloc, StatusLevel::Pass, false)?;
     settings.no_output_indent = no_output_indent;
     Ok(settings)
 }
@@ -74,7 +74,7 @@ cannot spawn
 
 ";
     for (no_output_indent, want) in [(false, indented), (true, flush_left)] {
-        let settings = settings(alloc, no_output_indent)?;
+        let settings = plain_settings(alloc, no_output_indent)?;
         let mut text = String::new(alloc);
         let outcome = ExecutionResultDescription::ExecFail;
         let output = start_error(alloc)?;
@@ -91,7 +91,7 @@ fn after_failure(
     leaked: bool,
     no_output_indent: bool,
 ) -> Result<String, Fail> {
-    let settings = settings(alloc, no_output_indent)?;
+    let settings = plain_settings(alloc, no_output_indent)?;
     let mut text = String::new(alloc);
     let outcome = ExecutionResultDescription::Fail { failure, leaked };
     write_test_execute_status(&mut text, &settings, false, &outcome, &written(alloc)?)?;

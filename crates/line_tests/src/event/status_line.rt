@@ -1,5 +1,6 @@
 //! The lines of tests by what their attempts came to.
 
+use crate::testing::{TestNames, failure};
 use event_text::instance::CountedInstance;
 use plain_text::style::Styles;
 use report_text::helpers::DisplayCounterIndex;
@@ -19,16 +20,11 @@ use test_text::status_line::{StatusLine, StatusLineKind, write_status_line};
 
 // The summary's line of a test `a t1` of a second.
 fn final_line(alloc: Global, styles: &Styles, summary: &StatusSummary) -> Result<String, Fail> {
-    let binary_id = RustBinaryId::new(alloc, "a")?;
-    let test_name = TestCaseName::new(alloc, "t1")?;
-    let instance = TestInstanceId {
-        binary_id: &binary_id,
-        test_name: &test_name,
-    };
+    let names = TestNames::of_a_t1(alloc)?;
     let test = CountedInstance {
         stress_index: None,
         counter: None,
-        instance,
+        instance: names.instance(),
     };
     let mut text = String::new(alloc);
     let line = StatusLine::of_summary(summary);
@@ -141,12 +137,7 @@ fn flaky() -> StatusSummary {
 
 #[test]
 fn a_failure_is_listed_with_its_test(rt: HostRuntime) -> Result<(), Fail> {
-    let failure = FailureDescription::ExitCode { code: 1 };
-    let outcome = ExecutionResultDescription::Fail {
-        failure,
-        leaked: false,
-    };
-    let failed = summary(StatusCase::Failure, 1, outcome, false);
+    let failed = summary(StatusCase::Failure, 1, failure(), false);
     let line = line_of_test1(rt.alloc(), None, None, &failed)?;
     assert_eq!(rt;
         line.as_str(),

@@ -3,7 +3,7 @@
 ghost use Rattle.std.specs.Prelude.{◌≡◌, IfOk, true};
 ghost use Rattle.run_model.specs.Outputs.{has_loaded_output};
 
-use crate::testing::{Names, settings_at};
+use crate::testing::{TestNames, failure, settings};
 use bytes::Bytes;
 use event_text::settings::{Settings, overrides_for};
 use run_model::config::TestOutputDisplay;
@@ -11,7 +11,7 @@ use run_model::level::StatusLevel;
 use run_model::output::{
     ChildExecutionOutputDescription, ChildOutputDescription, ChildSingleOutput, LiveSpec,
 };
-use run_model::status::{ExecuteStatus, ExecutionResultDescription, FailureDescription, RetryData};
+use run_model::status::{ExecuteStatus, ExecutionResultDescription, RetryData};
 use run_model::time::Nanos;
 use std::alloc::Global;
 use std::test::Fail;
@@ -48,14 +48,7 @@ fn attempt(
 fn failed(alloc: Global) -> Result<ExecuteStatus<LiveSpec>, Fail>
     ensures { IfOk result (λ status. has_loaded_output status.output ≡ true) }
 {
-    let failure = FailureDescription::ExitCode { code: 1 };
-    attempt(
-        alloc,
-        ExecutionResultDescription::Fail {
-            failure,
-            leaked: false,
-        },
-    )
+    attempt(alloc, failure())
 }
 
 // What is written of an attempt of the test `a t1`.
@@ -68,7 +61,7 @@ fn text_of(
 ) -> Result<String, Fail>
     requires { has_loaded_output status.now.output ≡ true }
 {
-    let names = Names::of_a_t1(alloc)?;
+    let names = TestNames::of_a_t1(alloc)?;
     let mut text = String::new(alloc);
     write_attempt_failed(
         &mut text,
@@ -93,7 +86,7 @@ fn an_attempt_is_told_from_its_level_on(rt: HostRuntime) -> Result<(), Fail> {
         (StatusLevel::Retry, lines),
         (StatusLevel::Slow, lines),
     ] {
-        let settings = settings_at(alloc, level)?;
+        let settings = settings(alloc, level, false)?;
         let status = failed(alloc)?;
         let text = text_of(alloc, &settings, &status, SECOND, TestOutputDisplay::Never)?;
         assert_eq!(rt; text.as_str(), want);
@@ -118,7 +111,7 @@ fn its_output_stands_before_the_delay(rt: HostRuntime) -> Result<(), Fail> {
         (SECOND, TestOutputDisplay::ImmediateFinal, with_output),
         (Nanos(0), TestOutputDisplay::Final, line),
     ] {
-        let settings = settings_at(alloc, StatusLevel::Retry)?;
+        let settings = settings(alloc, StatusLevel::Retry, false)?;
         let text = text_of(alloc, &settings, &failed(alloc)?, delay, display)?;
         assert_eq!(rt; text.as_str(), want);
     }
@@ -128,7 +121,7 @@ fn its_output_stands_before_the_delay(rt: HostRuntime) -> Result<(), Fail> {
 #[test]
 fn nothing_is_shown_below_the_level(rt: HostRuntime) -> Result<(), Fail> {
     let alloc = rt.alloc();
-    let settings = settings_at(alloc, StatusLevel::Fail)?;
+    let settings = settings(alloc, StatusLevel::Fail, false)?;
     let text = text_of(
         alloc,
         &settings,
@@ -143,7 +136,7 @@ fn nothing_is_shown_below_the_level(rt: HostRuntime) -> Result<(), Fail> {
 #[test]
 fn a_failed_start_goes_by_the_setting_of_failures(rt: HostRuntime) -> Result<(), Fail> {
     let alloc = rt.alloc();
-    let mut settings = settings_at(alloc, StatusLevel::Retry)?;
+    let mut settings = settings(alloc, StatusLevel::Retry, false)?;
     settings.unit_output = UnitOutputReporter::new(
         overrides_for(true, None, None),
         DisplayerKind::Live,
@@ -164,7 +157,7 @@ fn a_failed_start_goes_by_the_setting_of_failures(rt: HostRuntime) -> Result<(),
 #[test]
 fn the_style_is_that_of_retries(rt: HostRuntime) -> Result<(), Fail> {
     let alloc = rt.alloc();
-    let mut settings = settings_at(alloc, StatusLevel::Retry)?;
+    let mut settings = settings(alloc, StatusLevel::Retry, false)?;
     settings.styles.colorize();
     let mut status = failed(alloc)?;
     status.retry_data.attempt = u32::MAX;

@@ -1,18 +1,17 @@
 //! The starts of tests, without capture and with commands.
 
-use crate::testing::{Names, settings_at};
+use crate::testing::{TestNames, settings, stats};
 use event_text::settings::Settings;
 use run_model::command::CommandLine;
 use run_model::level::StatusLevel;
-use run_model::stats::RunStats;
 use run_model::status::RetryData;
 use std::alloc::Global;
 use std::test::Fail;
 use test_text::test_started::{write_test_retry_started, write_test_started};
 
 // A reporter that shows nothing but starts. It asks for capture and for commands.
-fn settings(alloc: Global, no_capture: bool, verbose: bool) -> Result<Settings, Fail> {
-    let mut settings = settings_at(alloc, StatusLevel::None)?;
+fn start_settings(alloc: Global, no_capture: bool, verbose: bool) -> Result<Settings, Fail> {
+    let mut settings = settings(alloc, StatusLevel::None, false)?;
     settings.no_capture = no_capture;
     settings.verbose = verbose;
     Ok(settings)
@@ -34,24 +33,8 @@ fn started(
     finished_count: usize,
     initial_run_count: usize,
 ) -> Result<String, Fail> {
-    let names = Names::of_a_t1(alloc)?;
-    let stats = RunStats {
-        initial_run_count,
-        finished_count,
-        passed: finished_count,
-        passed_slow: 0,
-        flaky: 0,
-        leaky: 0,
-        failed: 0,
-        leaky_failed: 0,
-        exec_failed: 0,
-        timed_out: 0,
-        skipped: 0,
-        setup_scripts_failed: 0,
-        setup_scripts_exec_failed: 0,
-        setup_scripts_timed_out: 0,
-        cancel_reason: None,
-    };
+    let names = TestNames::of_a_t1(alloc)?;
+    let stats = stats(initial_run_count, finished_count, finished_count);
     let mut text = String::new(alloc);
     write_test_started(
         &mut text,
@@ -74,7 +57,7 @@ fn a_start_is_told_without_capture_or_with_commands(rt: HostRuntime) -> Result<(
         (false, true, with_command),
         (true, true, with_command),
     ] {
-        let settings = settings(rt.alloc(), no_capture, verbose)?;
+        let settings = start_settings(rt.alloc(), no_capture, verbose)?;
         let text = started(rt.alloc(), &settings, 1, 3)?;
         assert_eq!(rt; text.as_str(), want);
     }
@@ -83,7 +66,7 @@ fn a_start_is_told_without_capture_or_with_commands(rt: HostRuntime) -> Result<(
 
 #[test]
 fn a_start_counts_one_further(rt: HostRuntime) -> Result<(), Fail> {
-    let mut settings = settings(rt.alloc(), true, false)?;
+    let mut settings = start_settings(rt.alloc(), true, false)?;
     settings.counter_width = Some(1);
     for (finished, initial, want) in [
         (1, 3, "       START [         ] (2/3) a t1\n"),
@@ -102,7 +85,7 @@ fn a_start_counts_one_further(rt: HostRuntime) -> Result<(), Fail> {
 #[test]
 fn another_attempt_is_told_by_its_number(rt: HostRuntime) -> Result<(), Fail> {
     let alloc = rt.alloc();
-    let names = Names::of_a_t1(alloc)?;
+    let names = TestNames::of_a_t1(alloc)?;
     let retry_data = RetryData {
         attempt: 2,
         total_attempts: 3,
@@ -114,7 +97,7 @@ fn another_attempt_is_told_by_its_number(rt: HostRuntime) -> Result<(), Fail> {
         (true, false, line),
         (false, true, with_command),
     ] {
-        let mut settings = settings(alloc, no_capture, verbose)?;
+        let mut settings = start_settings(alloc, no_capture, verbose)?;
         settings.counter_width = Some(2);
         let mut text = String::new(alloc);
         let command = command(alloc)?;

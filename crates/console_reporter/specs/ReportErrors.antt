@@ -1,0 +1,22 @@
+-- The one error that a program has for each fault.
+use Rattle.std.specs.declared.io.ErrorKind.{ErrorKind}
+use Rattle.std.specs.declared.io.ErrorKind.TheVariants as kind
+use Rattle.plain_text.specs.declared.write_str.WriteFault.{WriteFault}
+use Rattle.plain_text.specs.declared.write_str.WriteFault.TheVariants as write
+use Rattle.console_reporter.specs.declared.error.ReportError.{ReportError}
+use Rattle.console_reporter.specs.declared.error.ReportError.TheVariants.{OutOfMemory, Io, Run}
+use Rattle.console_reporter.specs.declared.imp.faults.RunFault.{RunFault}
+
+-- a device failed, or memory was refused
+abbrev pub error_of_write : WriteFault → ReportError
+error_of_write write.Device = Io
+error_of_write write.Memory = OutOfMemory
+
+-- an error of input or output, which can say that memory was refused
+abbrev pub error_of_io : ErrorKind → ReportError
+error_of_io kind.OutOfMemory = OutOfMemory
+error_of_io _ = Io
+
+-- a list of calls stopped there for that
+abbrev pub error_of_run : RunFault → ReportError
+error_of_run stop = Run stop.position stop.fault

@@ -1,0 +1,6 @@
+//! What a run comes to, its attempts, and outputs in memory.
+
+mod output;
+mod stats;
+mod status;
+mod stress;

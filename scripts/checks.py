@@ -1,0 +1,36 @@
+"""What the check scripts share: what they need before they begin, and how they count what they found."""
+
+import os
+import shutil
+import sys
+
+
+def need_program(program, makes="./test, or `rt run -- /dev/null` in crates/report, makes it"):
+    """Ends the script where there is no such program."""
+    if not os.access(program, os.X_OK):
+        sys.exit(f"{sys.argv[0]}: there is no program {program}: {makes}")
+
+
+def need_tool(tool):
+    """Ends the script where there is no such command."""
+    if not shutil.which(tool):
+        sys.exit(f"{sys.argv[0]}: there is no {tool} on the PATH")
+
+
+class Checks:
+    """Counts what was checked and what failed."""
+
+    def __init__(self, name):
+        self.name, self.done, self.failed = name, 0, 0
+
+    def expect(self, holds, message):
+        """Tells the message where this does not hold."""
+        self.done += 1
+        if not holds:
+            self.failed += 1
+            print(f"FAILED: {message}")
+
+    def end(self):
+        """Ends the script: its last line counts, and its status is 1 where anything failed."""
+        print(f"{self.name}: {self.done - self.failed} passed, {self.failed} failed")
+        sys.exit(1 if self.failed else 0)
