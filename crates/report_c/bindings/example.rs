@@ -36,7 +36,13 @@ type Failure = (String, u8);
 
 fn run() -> Result<(), Failure> {
     let mut words = std::env::args().skip(1);
-    let usage = || ("usage: example FILE [--color] [--counter] [--replay] [--level N] [--room N]".to_string(), 2);
+    let usage = || {
+        (
+            "usage: example FILE [--color] [--counter] [--replay] [--level N] [--room N]"
+                .to_string(),
+            2,
+        )
+    };
     let file = words.next().ok_or_else(usage)?;
     let (mut options, mut room) = (Options::default(), None);
     while let Some(word) = words.next() {
@@ -44,7 +50,11 @@ fn run() -> Result<(), Failure> {
             "--color" => options.should_colorize = true,
             "--counter" => options.show_counter = true,
             "--replay" => options.is_replay = true,
-            "--level" => options.status_level = *LEVELS.get(number(words.next()).ok_or_else(usage)?).ok_or_else(usage)?,
+            "--level" => {
+                options.status_level = *LEVELS
+                    .get(number(words.next()).ok_or_else(usage)?)
+                    .ok_or_else(usage)?
+            }
             "--room" => room = Some(number(words.next()).ok_or_else(usage)?),
             _ => return Err(usage()),
         }
@@ -54,7 +64,9 @@ fn run() -> Result<(), Failure> {
         Some(room) => one_call(&options, &scene, room)?,
         None => norigully::report(&options, &scene).map_err(failure)?,
     };
-    std::io::stdout().write_all(&report).map_err(|error| (error.to_string(), 3))
+    std::io::stdout()
+        .write_all(&report)
+        .map_err(|error| (error.to_string(), 3))
 }
 
 fn number(word: Option<String>) -> Option<usize> {
@@ -77,6 +89,9 @@ fn one_call(options: &Options, scene: &[u8], room: usize) -> Result<Vec<u8>, Fai
             out.truncate(length);
             Ok(out)
         }
-        Fit::Needs(length) => Err((format!("the report has {length} bytes, and there is room for {room}"), 3)),
+        Fit::Needs(length) => Err((
+            format!("the report has {length} bytes, and there is room for {room}"),
+            3,
+        )),
     }
 }

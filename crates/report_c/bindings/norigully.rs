@@ -95,7 +95,13 @@ pub fn report_into(options: &Options, scene: &[u8], out: &mut [u8]) -> Result<Fi
     // SAFETY: the declaration below is that of norigully.h. The pointers and lengths are those of slices, which are valid for the call,
     // and `out` is lent for it alone.
     let outcome = unsafe {
-        norigully_report(&options, scene.as_ptr(), scene.len(), out.as_mut_ptr(), out.len())
+        norigully_report(
+            &options,
+            scene.as_ptr(),
+            scene.len(),
+            out.as_mut_ptr(),
+            out.len(),
+        )
     };
     match outcome.status {
         0 => Ok(Fit::Whole(outcome.length)),

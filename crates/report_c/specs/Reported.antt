@@ -1,5 +1,5 @@
 -- What a caller in C gets of a scene's text.
-use Rattle.std.specs.Prelude.{◌≡◌, ℕ, ◌<◌, ◌≤◌, List, [], ◌++◌, length, drop, Option, None, Some, Err, false, ⊤}
+use Rattle.std.specs.Prelude.{◌≡◌, ◌==◌, ℕ, ◌<◌, ◌≤◌, if◌then◌else◌, List, [], ◌++◌, length, drop, Option, None, Some, Err, false, ⊤}
 use Rattle.run_model.specs.declared.level.StatusLevel.{StatusLevel}
 use Rattle.run_model.specs.declared.level.StatusLevel.TheVariants as level
 use Rattle.scene_text.specs.declared.fault.LineFault.{LineFault}
@@ -14,15 +14,16 @@ use Rattle.report_c.specs.declared.NorigullyOptions.{NorigullyOptions}
 
 -- The status level of a number, from none at 0 to all at 7.
 abbrev pub level_of : ℕ → Option StatusLevel
-level_of 0 = Some level.None
-level_of 1 = Some level.Fail
-level_of 2 = Some level.Retry
-level_of 3 = Some level.Slow
-level_of 4 = Some level.Leak
-level_of 5 = Some level.Pass
-level_of 6 = Some level.Skip
-level_of 7 = Some level.All
-level_of _ = None
+level_of n =
+    if n == 0 then Some level.None
+    else (if n == 1 then Some level.Fail
+    else (if n == 2 then Some level.Retry
+    else (if n == 3 then Some level.Slow
+    else (if n == 4 then Some level.Leak
+    else (if n == 5 then Some level.Pass
+    else (if n == 6 then Some level.Skip
+    else (if n == 7 then Some level.All
+    else None)))))))
 
 -- These options of the program ask for what those of C say, and for no records.
 pub record AsksFor (options : NorigullyOptions) (program : Options) : Type 0 where
@@ -58,8 +59,8 @@ pub record IsTooLong (options : NorigullyOptions) (text old : List ℕ) (n : ℕ
 pub record IsWrongLine (options : NorigullyOptions) (text : List ℕ) (line : ℕ) : Type 0 where
   pub program : Options
   pub asked : AsksFor options program
-  pub fault : LineFault
-  pub judged : IsJudged program (Err (fault.Line line fault)) text
+  pub wrong : LineFault
+  pub judged : IsJudged program (Err (fault.Line line wrong)) text
 
 -- What ended a report to memory: a line that is wrong, or that memory was refused.
 abbrev pub fault_told : Fault → ReadFault

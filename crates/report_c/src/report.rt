@@ -1,18 +1,14 @@
 //! The report of a scene's text, and the options that it is made by.
 
-ghost use Rattle.std.specs.Prelude.{◌≡◌, ◌⊎◌, [], IfSome, IfOk, IfErr, None, Some};
-ghost use Rattle.scenes.specs.Judged.{IsSceneRefused};
-ghost use Rattle.scenes.specs.Reports.{IsStop};
-ghost use Rattle.scenes.specs.SpelledRuns.{PrintsReport, PrintsRun};
+ghost use Rattle.std.specs.Prelude.{◌≡◌, ◌↔◌, [], IfSome, IfOk, IfErr, None, Some};
+ghost use Rattle.scenes.specs.SpelledRuns.{PrintsRun};
 ghost use Rattle.report_c.specs.Reported.{AsksFor, IsUnreported, fault_told, level_of};
 
 use crate::NorigullyOptions;
 use run_model::level::StatusLevel;
 use scene_text::fault::ReadFault;
-use scene_text::reader::read_scene;
 use scenes::fault::Fault;
-use scenes::program::{judge_scene, report_judged};
-use scenes::scene::Scene;
+use scenes::program::report_scene;
 use scenes::words::Options;
 use std::alloc::Global;
 use std::io;
@@ -22,16 +18,18 @@ pub fn options_of(options: &NorigullyOptions) -> Option<Options<'static>>
     ensures asked { IfSome result (AsksFor options.now) }
     ensures none { (result ≡ None) ↔ (level_of options.now.status_level ≡ None) }
 {
-    let status_level = read_level(options.status_level)?;
-    Some(Options {
-        should_colorize: options.should_colorize,
-        show_counter: options.show_counter,
-        is_replay: options.is_replay,
-        unload_skipped: false,
-        status_level,
-        store: None,
-        file: "",
-    })
+    match read_level(options.status_level) {
+        None => None,
+        Some(status_level) => Some(Options {
+            should_colorize: options.should_colorize,
+            show_counter: options.show_counter,
+            is_replay: options.is_replay,
+            unload_skipped: false,
+            status_level,
+            store: None,
+            file: "",
+        }),
+    }
 }
 
 // The status level of a number.
@@ -51,43 +49,21 @@ fn read_level(number: u32) -> Option<StatusLevel>
     }
 }
 
-/// The report of the run that a text spells, or the line that is wrong, or that memory was refused.
+/// The report of the run that a text spells; or the line that is wrong, or that memory was refused.
 pub fn report_of(alloc: Global, options: &Options<'_>, text: &[u8]) -> Result<Vec<u8>, ReadFault>
     ensures report { IfOk result (λ report. PrintsRun options.now text.now (Some []) (Some report.items) None None) }
     ensures fault { IfErr result (IsUnreported options.now text.now) }
 {
-    let run = match read_scene(alloc, text) {
-        Ok(run) => run,
-        Err(fault) => return Err(fault),
-    };
-    let scene = Scene {
-        config: run.config,
-        events: run.events,
-        lines: run.lines,
-    };
-    match report_of_scene(alloc, options, &scene) {
-        Ok(report) => Ok(report),
-        Err(fault) => Err(fault_told(&fault)),
-    }
-}
-
-// The report of a scene, or the fault of its first refused event, or what stopped the report.
-fn report_of_scene(
-    alloc: Global,
-    options: &Options<'_>,
-    scene: &Scene,
-) -> Result<Vec<u8>, Fault<'static>>
-    ensures report { IfOk result (λ report. PrintsReport options.now scene.now (Some []) (Some report.items) None None) }
-    ensures err { IfErr result (λ fault. IsSceneRefused options.now scene.now fault ⊎ IsStop options.now fault) }
-{
-    let judged = match judge_scene(alloc, options, scene) {
-        Ok(judged) => judged,
-        Err(fault) => return Err(fault),
-    };
-    let (outcome, report, _unstored) = report_judged(alloc, &judged, Vec::new(alloc), io::sink());
+    let (outcome, report, _unstored) = report_scene(
+        alloc,
+        options,
+        text,
+        Vec::new(alloc),
+        io::sink(),
+    );
     match outcome {
         Ok(()) => Ok(report),
-        Err(fault) => Err(fault),
+        Err(fault) => Err(fault_told(&fault)),
     }
 }
 
