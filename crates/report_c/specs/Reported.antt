@@ -1,0 +1,73 @@
+-- What a caller in C gets of a scene's text.
+use Rattle.std.specs.Prelude.{◌≡◌, ◌==◌, ℕ, ◌<◌, ◌≤◌, if◌then◌else◌, List, [], ◌++◌, length, drop, Option, None, Some, Err, false, ⊤}
+use Rattle.run_model.specs.declared.level.StatusLevel.{StatusLevel}
+use Rattle.run_model.specs.declared.level.StatusLevel.TheVariants as level
+use Rattle.scene_text.specs.declared.fault.LineFault.{LineFault}
+use Rattle.scene_text.specs.declared.fault.ReadFault.{ReadFault}
+use Rattle.scene_text.specs.declared.fault.ReadFault.TheVariants as read
+use Rattle.scenes.specs.Judged.{IsJudged}
+use Rattle.scenes.specs.SpelledRuns.{PrintsRun}
+use Rattle.scenes.specs.declared.fault.Fault.{Fault}
+use Rattle.scenes.specs.declared.fault.Fault.TheVariants as fault
+use Rattle.scenes.specs.declared.words.Options.{Options}
+use Rattle.report_c.specs.declared.NorigullyOptions.{NorigullyOptions}
+
+-- The status level of a number, from none at 0 to all at 7.
+abbrev pub level_of : ℕ → Option StatusLevel
+level_of n =
+    if n == 0 then Some level.None
+    else (if n == 1 then Some level.Fail
+    else (if n == 2 then Some level.Retry
+    else (if n == 3 then Some level.Slow
+    else (if n == 4 then Some level.Leak
+    else (if n == 5 then Some level.Pass
+    else (if n == 6 then Some level.Skip
+    else (if n == 7 then Some level.All
+    else None)))))))
+
+-- These options of the program ask for what those of C say, and for no records.
+pub record AsksFor (options : NorigullyOptions) (program : Options) : Type 0 where
+  pub should_colorize : program.should_colorize ≡ options.should_colorize
+  pub show_counter : program.show_counter ≡ options.show_counter
+  pub is_replay : program.is_replay ≡ options.is_replay
+  pub unload_skipped : program.unload_skipped ≡ false
+  pub status_level : level_of options.status_level ≡ Some program.status_level
+  pub store : program.store ≡ None
+
+-- The bytes are those that the program prints of exactly the run that the text spells.
+pub record IsReport (options : NorigullyOptions) (text report : List ℕ) : Type 0 where
+  pub program : Options
+  pub asked : AsksFor options program
+  pub printed : PrintsRun program text (Some []) (Some report) None None
+
+-- The report fits the buffer, which begins with it now and is as it was behind it.
+pub record IsWritten (options : NorigullyOptions) (text old new : List ℕ) (n : ℕ) : Type 0 where
+  pub report : List ℕ
+  pub reported : IsReport options text report
+  pub fits : length report ≤ length old
+  pub buffer : new ≡ report ++ drop (length report) old
+  pub count : n ≡ length report
+
+-- The report has more bytes than the buffer.
+pub record IsTooLong (options : NorigullyOptions) (text old : List ℕ) (n : ℕ) : Type 0 where
+  pub report : List ℕ
+  pub reported : IsReport options text report
+  pub beyond : length old < length report
+  pub count : n ≡ length report
+
+-- The program tells a fault of this line.
+pub record IsWrongLine (options : NorigullyOptions) (text : List ℕ) (line : ℕ) : Type 0 where
+  pub program : Options
+  pub asked : AsksFor options program
+  pub wrong : LineFault
+  pub judged : IsJudged program (Err (fault.Line line wrong)) text
+
+-- What ended a report to memory: a line that is wrong, or that memory was refused.
+abbrev pub fault_told : Fault → ReadFault
+fault_told (fault.Line n f) = read.Line n f
+fault_told _ = read.OutOfMemory
+
+-- There is no report, since the program tells a fault of this line, or since memory was refused.
+abbrev pub IsUnreported : Options → List ℕ → ReadFault → Type 0
+IsUnreported options text (read.Line n f) = IsJudged options (Err (fault.Line n f)) text
+IsUnreported options text read.OutOfMemory = ⊤

@@ -1,0 +1,81 @@
+//! The report of a scene's text, and the options that it is made by.
+
+ghost use Rattle.std.specs.Prelude.{◌≡◌, ◌↔◌, [], IfSome, IfOk, IfErr, None, Some};
+ghost use Rattle.scenes.specs.SpelledRuns.{PrintsRun};
+ghost use Rattle.report_c.specs.Reported.{AsksFor, IsUnreported, fault_told, level_of};
+
+use crate::NorigullyOptions;
+use run_model::level::StatusLevel;
+use scene_text::fault::ReadFault;
+use scenes::fault::Fault;
+use scenes::program::report_scene;
+use scenes::words::Options;
+use std::alloc::Global;
+use std::io;
+
+/// The options of the program that ask for the same, or None where there is no such status level. They name no file.
+pub fn options_of(options: &NorigullyOptions) -> Option<Options<'static>>
+    ensures asked { IfSome result (AsksFor options.now) }
+    ensures none { (result ≡ None) ↔ (level_of options.now.status_level ≡ None) }
+{
+    match read_level(options.status_level) {
+        None => None,
+        Some(status_level) => Some(Options {
+            should_colorize: options.should_colorize,
+            show_counter: options.show_counter,
+            is_replay: options.is_replay,
+            unload_skipped: false,
+            status_level,
+            store: None,
+            file: "",
+        }),
+    }
+}
+
+// The status level of a number.
+fn read_level(number: u32) -> Option<StatusLevel>
+    ensures { result ≡ level_of number }
+{
+    match number {
+        0 => Some(StatusLevel::None),
+        1 => Some(StatusLevel::Fail),
+        2 => Some(StatusLevel::Retry),
+        3 => Some(StatusLevel::Slow),
+        4 => Some(StatusLevel::Leak),
+        5 => Some(StatusLevel::Pass),
+        6 => Some(StatusLevel::Skip),
+        7 => Some(StatusLevel::All),
+        _ => None,
+    }
+}
+
+/// The report of the run that a text spells; or the line that is wrong, or that memory was refused.
+pub fn report_of(alloc: Global, options: &Options<'_>, text: &[u8]) -> Result<Vec<u8>, ReadFault>
+    ensures report { IfOk result (λ report. PrintsRun options.now text.now (Some []) (Some report.items) None None) }
+    ensures fault { IfErr result (IsUnreported options.now text.now) }
+{
+    let (outcome, report, _unstored) = report_scene(
+        alloc,
+        options,
+        text,
+        Vec::new(alloc),
+        io::sink(),
+    );
+    match outcome {
+        Ok(()) => Ok(report),
+        Err(fault) => Err(fault_told(&fault)),
+    }
+}
+
+// A line that is wrong. All else that ends a report to memory is that memory was refused.
+fn fault_told(fault: &Fault<'_>) -> ReadFault
+    ensures { result ≡ fault_told fault.now }
+{
+    match fault {
+        Fault::Line { line, fault } => ReadFault::Line {
+            line: *line,
+            fault: *fault,
+        },
+        _ => ReadFault::OutOfMemory,
+    }
+}
