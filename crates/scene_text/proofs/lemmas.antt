@@ -6,6 +6,7 @@ pub mod FirstFaults
 pub mod NonZero
 pub mod Numbers
 pub mod Pairs
+pub mod ShortNumbers
 pub mod Silence
 pub mod Tabs
 pub mod Tellings
