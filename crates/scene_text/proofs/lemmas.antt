@@ -8,6 +8,7 @@ pub mod Numbers
 pub mod Pairs
 pub mod ShortNumbers
 pub mod Silence
+pub mod TabMasks
 pub mod Tabs
 pub mod Tellings
 pub mod Unescaped
