@@ -6,7 +6,9 @@ pub mod FirstFaults
 pub mod NonZero
 pub mod Numbers
 pub mod Pairs
+pub mod ShortNumbers
 pub mod Silence
+pub mod TabMasks
 pub mod Tabs
 pub mod Tellings
 pub mod Unescaped

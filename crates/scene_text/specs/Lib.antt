@@ -18,6 +18,7 @@ pub mod ScriptLines
 pub mod Split
 pub mod States
 pub mod StressLines
+pub mod Tabs
 pub mod TestLines
 pub mod Texts
 pub mod Values

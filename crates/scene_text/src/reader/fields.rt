@@ -4,8 +4,8 @@ ghost use Rattle.std.specs.Prelude.{◌≡◌, ◌+◌, ◌≤◌, ◌^◌, OnOk
 ghost use Rattle.scene_text.specs.Split.{parted, texts};
 ghost use Rattle.scene_text.specs.Fields.{Place, ReadsBy, TriesBy, answered, next, taken_text};
 
+use super::tabs::{first_place, tabs_from, without_place};
 use crate::fault::{LineError, LineFault};
-use memchr::memchr_iter;
 use run_model::memory::OutOfMemory;
 use std::marker::Model;
 
@@ -14,10 +14,19 @@ pub fn split_fields<'a>(line: &'a str, fields: &mut Vec<&'a str>) -> Result<(), 
     ensures { OnOk result (texts fields.new.items ≡ parted 9 line.now) }
 {
     fields.clear();
+    let bytes = line.as_bytes();
     let mut start = 0;
-    for tab in memchr_iter(b'\t', line.as_bytes()) {
-        fields.push(&line[start..tab])?;
-        start = tab + 1;
+    let mut from = 0;
+    while from < bytes.len() {
+        let mut tabs = tabs_from(bytes, from);
+        while tabs != 0 {
+            let place = first_place(tabs);
+            let tab = from + place;
+            fields.push(&line[start..tab])?;
+            start = tab + 1;
+            tabs = without_place(tabs, place);
+        }
+        from += 32;
     }
     fields.push(&line[start..])?;
     Ok(())

@@ -2,7 +2,7 @@
 //!
 //! They are decimal, and zeros may stand in front. A plus never does, and a minus only where a number may be negative.
 
-ghost use Rattle.std.specs.Prelude.{◌≡◌, ◌<◌, ◌^◌};
+ghost use Rattle.std.specs.Prelude.{◌≡◌, ◌<◌, ◌≤◌, ◌^◌, length};
 ghost use Rattle.std.specs.Option.{SomeIff};
 ghost use Rattle.std.specs.Str.Parse.{IsNumeral, digits_value, signed_digits_value};
 ghost use Rattle.scene_text.specs.Numbers.{IsSigned, code_in, nanos_in, number_in};
@@ -25,10 +25,32 @@ pub fn read_count(text: &str) -> Option<usize>
 fn parse_count(text: &str) -> Option<usize>
     ensures { SomeIff result (IsNumeral 10 text.now × (digits_value 10 text.now < 2 ^ 64)) (digits_value 10 text.now) }
 {
+    if let Some(number) = short_number(text.as_bytes()) {
+        return Some(number as usize);
+    }
     if text.starts_with('+') {
         return None;
     }
     text.parse().ok()
+}
+
+// The number that at most nineteen digits write. It fits 64 bits whatever they are, so that no digit needs a test of overflow.
+#[inline]
+fn short_number(text: &[u8]) -> Option<u64>
+    ensures { SomeIff result (IsNumeral 10 text.now × (length text.now ≤ 19)) (digits_value 10 text.now) }
+{
+    if text.is_empty() || text.len() > 19 {
+        return None;
+    }
+    let mut number = 0;
+    for byte in text {
+        let digit = byte.wrapping_sub(b'0');
+        if digit > 9 {
+            return None;
+        }
+        number = number * 10 + u64::from(digit);
+    }
+    Some(number)
 }
 
 /// A number of attempts or the like, which is anything that a `u32` holds.
@@ -62,15 +84,15 @@ fn read_wide_count(text: &str) -> Option<u128>
     parse_wide_count(text)
 }
 
-// The number of 128 bits that digits without a plus write. Most fit 64 bits, whose parsing takes half the time.
+// The number of 128 bits that digits without a plus write.
 fn parse_wide_count(text: &str) -> Option<u128>
     ensures { SomeIff result (IsNumeral 10 text.now × (digits_value 10 text.now < 2 ^ 128)) (digits_value 10 text.now) }
 {
+    if let Some(number) = short_number(text.as_bytes()) {
+        return Some(u128::from(number));
+    }
     if text.starts_with('+') {
         return None;
-    }
-    if let Ok(number) = text.parse::<u64>() {
-        return Some(u128::from(number));
     }
     text.parse().ok()
 }

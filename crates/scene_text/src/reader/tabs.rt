@@ -1,0 +1,56 @@
+//! The tabs of a line, found 32 bytes at a time.
+//!
+//! Tabs stand close together, so that a search for each of them would mostly be its start and its end.
+
+ghost use Rattle.std.specs.Prelude.{◌≡◌, ◌≢◌, ◌+◌, ◌<◌, ◌≤◌, ℕ, length, slice_index};
+ghost use Rattle.std.specs.Int.{bit_at};
+ghost use Rattle.scene_text.specs.Tabs.{MarksTabs};
+
+use std::simd::prelude::*;
+
+/// The tabs among the 32 bytes from a place on, or among those that are left, each as a bit.
+#[inline]
+pub fn tabs_from(bytes: &[u8], from: usize) -> u64
+    requires { from ≤ length bytes.now }
+    ensures { MarksTabs (λ k. slice_index bytes.now (from + k)) result }
+{
+    let rest = &bytes[from..];
+    if rest.len() >= 32 {
+        return tabs_of(u8x32::from_slice(rest));
+    }
+    let mut block = [0; 32];
+    block[..rest.len()].copy_from_slice(rest);
+    tabs_of(u8x32::from_array(block))
+}
+
+// The tabs of a block.
+#[inline(always)]
+fn tabs_of(block: u8x32) -> u64
+    ensures { MarksTabs (λ k. slice_index block k) result }
+{
+    block.simd_eq(u8x32::splat(b'\t')).to_bitmask()
+}
+
+/// The first place whose bit is set.
+#[inline(always)]
+pub fn first_place(mask: u64) -> usize
+    requires { mask ≢ 0 }
+    ensures bound { result < 64 }
+    ensures set { bit_at mask result ≡ 1 }
+    ensures below { (k : ℕ) → k < result → bit_at mask k ≡ 0 }
+{
+    mask.trailing_zeros() as usize
+}
+
+/// The mask without the bit of a place.
+#[inline(always)]
+pub fn without_place(mask: u64, place: usize) -> u64
+    requires bound { place < 64 }
+    requires set { bit_at mask place ≡ 1 }
+    ensures smaller { result < mask }
+    ensures cleared { bit_at result place ≡ 0 }
+    ensures kept { (k : ℕ) → k < 64 → k ≢ place → bit_at result k ≡ bit_at mask k }
+    ensures no_more { (k : ℕ) → bit_at result k ≡ 1 → bit_at mask k ≡ 1 }
+{
+    mask & !(1 << place)
+}
