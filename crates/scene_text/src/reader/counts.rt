@@ -54,7 +54,7 @@ pub enum StatsKey {
 // How many keys there are.
 const STATS_KEYS: usize = 15;
 
-// The key of a word.
+// Reads the key of a word.
 fn read_stats_key(word: &str) -> Option<StatsKey>
     ensures { result ≡ stats_key_in word.now }
 {
@@ -145,7 +145,7 @@ fn set_count(count: &mut usize, value: &str) -> Option<()>
     Some(())
 }
 
-/// The statistics of a run.
+/// Reads the statistics of a run.
 ///
 /// ```
 /// read_stats("initial=2 finished=1 failed=1 cancel=signal")
@@ -160,7 +160,7 @@ pub fn read_stats(field: &str) -> Option<RunStats>
     read_stats_pairs(field)
 }
 
-// What pairs say that spaces part.
+// Reads what pairs say that spaces part.
 fn read_stats_pairs(pairs: &str) -> Option<RunStats>
     ensures { result ≡ option_map (λ read. read.stats) (in_turn stats_pair no_stats (parted 32 pairs.now)) }
 {
@@ -194,7 +194,7 @@ pub enum SkipsKey {
 // How many keys there are.
 const SKIPS_KEYS: usize = 6;
 
-// The key of a word.
+// Reads the key of a word.
 fn read_skips_key(word: &str) -> Option<SkipsKey>
     ensures { result ≡ skips_key_in word.now }
 {
@@ -263,7 +263,7 @@ fn set_skip(counts: &mut SkipCounts, key: SkipsKey, value: &str) -> Option<()>
     }
 }
 
-/// What a run skips.
+/// Reads what a run skips.
 ///
 /// ```
 /// read_skips("tests=3 filter=2")
@@ -278,7 +278,7 @@ pub fn read_skips(field: &str) -> Option<SkipCounts>
     read_skips_pairs(field)
 }
 
-// What pairs say that spaces part.
+// Reads what pairs say that spaces part.
 fn read_skips_pairs(pairs: &str) -> Option<SkipCounts>
     ensures { result ≡ option_map (λ read. read.counts) (in_turn skips_pair no_skips (parted 32 pairs.now)) }
 {

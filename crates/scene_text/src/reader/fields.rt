@@ -9,7 +9,7 @@ use crate::fault::{LineError, LineFault};
 use run_model::memory::OutOfMemory;
 use std::marker::Model;
 
-/// Splits a line into its fields, which tabs part. They take the place of what the list held.
+/// Splits a line into its fields, which tabs separate. They take the place of what the list held.
 pub fn split_fields<'a>(line: &'a str, fields: &mut Vec<&'a str>) -> Result<(), OutOfMemory>
     ensures { OnOk result (texts fields.new.items ≡ parted 9 line.now) }
 {

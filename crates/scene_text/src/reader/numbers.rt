@@ -9,7 +9,7 @@ ghost use Rattle.scene_text.specs.Numbers.{IsSigned, code_in, nanos_in, number_i
 
 use run_model::time::Nanos;
 
-/// A count, which is anything that a `usize` holds.
+/// Reads a count, which is anything that a `usize` holds.
 ///
 /// ```
 /// read_count("007") // Some(7)
@@ -53,7 +53,7 @@ fn short_number(text: &[u8]) -> Option<u64>
     Some(number)
 }
 
-/// A number of attempts or the like, which is anything that a `u32` holds.
+/// Reads a number of attempts or the like, which is anything that a `u32` holds.
 pub fn read_small_count(text: &str) -> Option<u32>
     ensures { result ≡ number_in 32 text.now }
 {
@@ -70,14 +70,14 @@ fn parse_small_count(text: &str) -> Option<u32>
     text.parse().ok()
 }
 
-/// A duration in nanoseconds.
+/// Reads a duration in nanoseconds.
 pub fn read_nanos(text: &str) -> Option<Nanos>
     ensures { result ≡ nanos_in text.now }
 {
     Some(Nanos(read_wide_count(text)?))
 }
 
-// A number of 128 bits.
+// Reads a number of 128 bits.
 fn read_wide_count(text: &str) -> Option<u128>
     ensures { result ≡ number_in 128 text.now }
 {
@@ -97,7 +97,7 @@ fn parse_wide_count(text: &str) -> Option<u128>
     text.parse().ok()
 }
 
-/// An exit code or the like, which may have a minus in front.
+/// Reads an exit code or the like, which may have a minus in front.
 ///
 /// ```
 /// read_code("-0") // Some(0)
