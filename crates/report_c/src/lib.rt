@@ -136,6 +136,7 @@ mod tests {
         let mut out = [7u8; 1000];
         let needed = norigully_report(rt.alloc(), &PLAIN, SCENE, &mut out[..10]);
         assert_eq!(rt; (needed.status, needed.line, out[0]), (1, 0, 7));
+        assert!(rt; 0 < needed.length && needed.length < 1000);
         let whole = norigully_report(rt.alloc(), &PLAIN, SCENE, &mut out[..needed.length]);
         assert_eq!(rt;
             (whole.status, whole.line, whole.length),
