@@ -1,7 +1,7 @@
 //! Devices that fail.
 
-use crate::testing::{builder, run_finished};
-use console_reporter::imp::{ReportCall, RunFault, WriteEventError, run_report};
+use crate::testing::{builder, run_finished, run_finished_event};
+use console_reporter::imp::{RunFault, WriteEventError, run_report};
 use plain_text::write_str::{TextBuffer, WriteStr};
 use std::alloc::Global;
 use std::io;
@@ -49,9 +49,7 @@ fn answers_over<W: WriteStr>(
     alloc: Global,
     writer: &mut W,
 ) -> Result<[Result<(), WriteEventError>; 3], Fail> {
-    let ReportCall::Event(event) = run_finished() else {
-        return Err(Fail::from("it is an event"));
-    };
+    let event = run_finished_event();
     let mut reporter = builder(alloc)?.build(alloc, writer, false, false, false, false);
     Ok([
         reporter.write_event(&event),

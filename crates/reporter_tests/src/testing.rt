@@ -10,8 +10,7 @@ use run_model::name::{ProfileName, RustBinaryId, TestCaseName, TestInstanceId};
 use run_model::output::{ChildExecutionOutputDescription, ChildOutputDescription, LiveSpec};
 use run_model::stats::{RunFinishedStats, RunStats};
 use run_model::status::{
-    ExecuteStatus, ExecutionResultDescription, ExecutionStatuses, FailureDescription, FlakyResult,
-    RetryData,
+    ExecuteStatus, ExecutionResultDescription, ExecutionStatuses, FlakyResult, RetryData,
 };
 use run_model::time::Nanos;
 use std::alloc::Global;
@@ -89,10 +88,7 @@ pub fn attempt(
 
 /// A failure with the code 1.
 pub fn failed() -> ExecutionResultDescription {
-    ExecutionResultDescription::Fail {
-        failure: FailureDescription::ExitCode { code: 1 },
-        leaked: false,
-    }
+    ExecutionResultDescription::failed(1)
 }
 
 /// A test that finished after an attempt, or after this and a second one.
@@ -128,15 +124,20 @@ pub fn finished<'a>(
 }
 
 /// The end of that run, after three seconds.
-pub fn run_finished<'a>() -> ReportCall<'a> {
-    ReportCall::Event(TestEvent {
+pub fn run_finished_event<'a>() -> TestEvent<'a> {
+    TestEvent {
         elapsed: Nanos(0),
         kind: TestEventKind::RunFinished {
             elapsed: Nanos(3_000_000_000),
             run_stats: RunFinishedStats::Single(STATS),
             outstanding_not_seen: None,
         },
-    })
+    }
+}
+
+/// The same as a call.
+pub fn run_finished<'a>() -> ReportCall<'a> {
+    ReportCall::Event(run_finished_event())
 }
 
 /// What is printed of these calls.

@@ -72,7 +72,7 @@ pub enum ExecutionResultDescription {
 }
 
 impl ExecutionResultDescription {
-    /// A failure with this exit code, which left no handle open.
+    /// A failure with this exit code, which left no handle open; Rust's test harness ends with 101. It allocates nothing.
     pub fn failed(exit_code: i32) -> Self
         ensures { result ≡ code_failure exit_code }
     {
@@ -270,6 +270,8 @@ impl ExecuteStatus<LiveSpec> {
     /// let first = RetryData { attempt: 1, total_attempts: 3 };
     /// ExecuteStatus::failed(1, time).with_retry_data(first)
     /// ```
+    ///
+    /// Attempts count from 1, as nextest's do. Nothing looks at whether the total is as large.
     pub fn with_retry_data(self, retry_data: RetryData) -> Self
         ensures { result ≡ attempt_with_retry_data self retry_data }
     {
@@ -630,11 +632,13 @@ impl<S: OutputSpec> ExecutionStatuses<S> {
         })
     }
 
-    /// The one attempt of a test that was not tried again. It allocates nothing.
+    /// The one attempt of a test that was not tried again.
     ///
     /// ```
     /// ExecutionStatuses::single(alloc, ExecuteStatus::passed(Nanos::from_millis(20)))
     /// ```
+    ///
+    /// It allocates nothing. What a success after other attempts counts as does not matter, as there are none.
     pub fn single(alloc: Global, status: ExecuteStatus<S>) -> Self
         ensures earlier { result.earlier ≡ [] }
         ensures last { result.last ≡ status }

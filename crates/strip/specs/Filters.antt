@@ -18,6 +18,12 @@ abbrev pub error_of_read : ErrorKind → FilterError
 error_of_read kind.OutOfMemory = OutOfMemory
 error_of_read _ = Read
 
+-- the kind of error that the program ends with
+abbrev pub kind_of : FilterError → ErrorKind
+kind_of Read = kind.InvalidData
+kind_of Write = kind.Other
+kind_of OutOfMemory = kind.OutOfMemory
+
 -- nothing where it could not be read, a beginning of what is visible where the device failed, and one of the two where memory was refused
 abbrev pub Leaves : {S : Type 0} → Meaning S → S → List ℕ → FilterError → S → Type 0
 Leaves m old visible Read new = new ≡ old

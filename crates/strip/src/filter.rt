@@ -6,9 +6,9 @@ ghost use Rattle.plain_text.specs.Escapes.{visible};
 ghost use Rattle.plain_text.specs.Writer.{Puts};
 ghost use Rattle.strip.specs.Filters.{Leaves, error_of_read};
 
+use out_of_memory::OutOfMemory;
 use plain_text::escapes::{strip, write_stripped};
 use plain_text::write_str::{WriteFault, WriteStr};
-use run_model::memory::OutOfMemory;
 use std::alloc::Global;
 use std::io;
 use std::io::{ErrorKind, Read};
@@ -54,21 +54,31 @@ impl From<WriteFault> for FilterError {
 }
 
 impl From<FilterError> for io::Error {
+    ghost use Rattle.std.specs.Prelude.{◌≡◌};
+    ghost use Rattle.std.specs.IoError.{error_kind};
+    ghost use Rattle.strip.specs.Filters.{kind_of};
+
+    ghost from_gives = { λ error told. error_kind told ≡ kind_of error };
+
     fn from(error: FilterError) -> io::Error {
         match error {
-            FilterError::Read => ErrorKind::InvalidData.into(),
-            FilterError::Write => ErrorKind::WriteZero.into(),
-            FilterError::OutOfMemory => ErrorKind::OutOfMemory.into(),
+            FilterError::Read => {
+                let words = "the text could not be read, or is not UTF-8";
+                io::Error::new(ErrorKind::InvalidData, words)
+            }
+            FilterError::Write => io::Error::other("the text could not be written"),
+            FilterError::OutOfMemory => io::Error::new(ErrorKind::OutOfMemory, "out of memory"),
         }
     }
 }
 
-/// Writes what the reader has left, without its escape sequences, and delivers it. The work is done once, and as often as `turns` says
-/// where that is more.
+/// Writes what the reader has left, without its escape sequences, and delivers it.
 ///
 /// ```
 /// filter(alloc, "\x1b[1mhi".as_bytes(), &mut out, 1)? // out holds "hi"
 /// ```
+///
+/// The work is done once, and as often as `turns` says where that is more. [`FilterError`] says what each fault leaves.
 pub fn filter<R: Read + Drop, W: WriteStr>(
     alloc: Global,
     reader: R,

@@ -96,12 +96,14 @@ impl DisplayReporterBuilder {
         })
     }
 
-    /// A reporter to a writer in these surroundings, as [`DisplayReporterBuilder::build`] makes it.
+    /// A reporter to a writer in these surroundings, to which nothing is written yet.
     ///
     /// ```
     /// let mut reporter = builder.build_for(alloc, &mut out, Surroundings::default());
     /// reporter.write_event(&event)?;
     /// ```
+    ///
+    /// It is the one that [`DisplayReporterBuilder::build`] makes of nextest's four flags. It allocates nothing.
     pub fn build_for<'a, W: WriteStr>(
         self,
         alloc: Global,
