@@ -5,6 +5,7 @@ pub mod Exactness
 pub mod Exchanges
 pub mod Inserts
 pub mod Isolation
+pub mod KeptTests
 pub mod Keys
 pub mod Loads
 pub mod Orders

@@ -10,6 +10,7 @@ use Rattle.event_text.specs.Finishes.{is_final_wanted, row_at_end, row_listed}
 use Rattle.event_text.specs.Instances.{padded_instance}
 use Rattle.event_text.specs.declared.instance.CountedInstance.{CountedInstance}
 use Rattle.event_text.specs.declared.settings.Settings.{Settings}
+use Rattle.console_reporter.specs.KeptTests.{kept_test}
 use Rattle.console_reporter.specs.declared.imp.effect.EndedTest.{EndedTest}
 use Rattle.console_reporter.specs.declared.imp.effect.EndedTest.TheVariants as ended
 use Rattle.console_reporter.specs.declared.imp.final_output.FinalOutput.{FinalOutput}
@@ -41,10 +42,10 @@ final_output f = if row_at_end f.row f.display then output.ExecutedWithOutput f.
 
 -- the entry of a finished test, and that of a skipped one
 abbrev pub finished_entry : TestFinish → FinalOutputEntry
-finished_entry f = record { test = f.test; output = final_output f }
+finished_entry f = record { test = kept_test f.test; output = final_output f }
 
 abbrev pub skipped_entry : CountedInstance → FinalOutputEntry
-skipped_entry test = record { test = test; output = output.Skipped }
+skipped_entry test = record { test = kept_test test; output = output.Skipped }
 
 -- the summary lists the finished test
 abbrev pub is_kept : Settings → TestFinish → Bool

@@ -18,6 +18,7 @@ use Rattle.report_text.specs.declared.helpers.instance.DisplayCounterIndex.{Disp
 use Rattle.report_text.specs.declared.helpers.instance.DisplayCounterIndex.TheVariants.{Counter, Padded}
 use Rattle.event_text.specs.AttemptOutputs.{attempt_output}
 use Rattle.console_reporter.specs.Effects.{effect_of, entry_of}
+use Rattle.console_reporter.specs.KeptTests.{counted}
 use Rattle.console_reporter.specs.Order.{key_cmp, ordered_by}
 use Rattle.test_text.specs.SkippedTests.{skip_line}
 use Rattle.test_text.specs.StatusLines.{status_line}
@@ -79,7 +80,7 @@ level_key e = 7 - final_rank (final_level_in e.output)
 -- the key of an entry: the final level, the greatest first, then the iteration, then the counter where one is shown, then
 -- the bytes of the binary's id and of the test's name
 abbrev pub entry_key : FinalOutputEntry → List (List ℕ)
-entry_key e = (level_key e ∷ []) ∷ iteration_key e.test.stress_index ∷ counter_key e.test.counter ∷ e.test.instance.binary_id.now ∷ e.test.instance.test_name.now ∷ []
+entry_key e = (level_key e ∷ []) ∷ iteration_key e.test.stress_index ∷ counter_key e.test.counter ∷ e.test.instance.binary_id ∷ e.test.instance.test_name ∷ []
 
 abbrev pub entry_cmp : FinalOutputEntry → FinalOutputEntry → Ordering
 entry_cmp a b = key_cmp (entry_key a) (entry_key b)
@@ -105,7 +106,7 @@ final_text s test Skipped = skip_line s test
 
 -- how it shows an entry
 abbrev pub entry_text : Settings → FinalOutputEntry → Text
-entry_text s e = final_text s e.test e.output
+entry_text s e = final_text s (counted e.test) e.output
 
 -- the entries as they stand, one after another
 abbrev pub entries_text : Settings → List FinalOutputEntry → Text

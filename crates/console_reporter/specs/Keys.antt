@@ -6,22 +6,22 @@ use Rattle.std.specs.Cmp.{IsTotalOrder, then_total, on_total, nat_cmp_total}
 use Rattle.std.specs.Cmp.Lexicographic.{lists_total, nat_list_cmp_total}
 use Rattle.std.specs.List.{AllByRecursion}
 use Rattle.run_model.specs.Levels.{final_rank}
-use Rattle.run_model.specs.declared.name.TestInstanceId.{TestInstanceId}
-use Rattle.event_text.specs.declared.instance.CountedInstance.{CountedInstance}
+use Rattle.run_model.specs.declared.name.OwnedTestInstanceId.{OwnedTestInstanceId}
 use Rattle.console_reporter.specs.Entries.{counter_key, entry_key, iteration_key}
 use Rattle.console_reporter.specs.Order.{key_cmp}
 use Rattle.console_reporter.specs.declared.imp.entry_key.EntryKey.{EntryKey}
 use Rattle.console_reporter.specs.declared.imp.final_output.FinalOutput.{FinalOutput}
 use Rattle.console_reporter.specs.declared.imp.final_output.FinalOutputEntry.{FinalOutputEntry}
+use Rattle.console_reporter.specs.declared.imp.kept_test.KeptTest.{KeptTest}
 
 -- the parts of a key from the instance, from the counter and from the iteration on
-abbrev pub instance_key : TestInstanceId → List (List ℕ)
-instance_key i = i.binary_id.now ∷ i.test_name.now ∷ []
+abbrev pub instance_key : OwnedTestInstanceId → List (List ℕ)
+instance_key i = i.binary_id ∷ i.test_name ∷ []
 
-abbrev pub counted_key : CountedInstance → List (List ℕ)
+abbrev pub counted_key : KeptTest → List (List ℕ)
 counted_key t = counter_key t.counter ∷ instance_key t.instance
 
-abbrev pub test_key : CountedInstance → List (List ℕ)
+abbrev pub test_key : KeptTest → List (List ℕ)
 test_key t = iteration_key t.stress_index ∷ counted_key t
 
 -- the final order's part of a key

@@ -7,6 +7,7 @@ pub mod Entries
 pub mod Exactness
 pub mod Exchanges
 pub mod Isolation
+pub mod KeptTests
 pub mod Keys
 pub mod Loads
 pub mod Order

@@ -13,6 +13,7 @@ mod entry_key;
 mod faults;
 mod final_output;
 mod kept;
+mod kept_test;
 mod loaded_output;
 mod reporter;
 mod run;

@@ -22,7 +22,7 @@ pub type Answers = (Result<(), WriteEventError>, Result<(), WriteEventError>);
 impl<'a, V: WriteStr, W: WriteStr> Tee<'a, V, W> {
     /// Tells both, and answers what each answered: a fault of one output does not keep the other from its report. Each output gets
     /// the text of the event after its own calls before, and on a fault a beginning of that text.
-    pub fn write_event(&mut self, event: &TestEvent<'a>) -> Answers
+    pub fn write_event(&mut self, event: &TestEvent<'_>) -> Answers
         ensures first { OnOk result.0 (Tells V.meaning string_meaning self.old.first (Some (ReportCall.Event event.now)) self.new.first) }
         ensures first_err { IfErr result.0 (λ e. Breaks V.meaning string_meaning self.old.first (Some (ReportCall.Event event.now)) e self.new.first) }
         ensures second { OnOk result.1 (Tells W.meaning string_meaning self.old.second (Some (ReportCall.Event event.now)) self.new.second) }

@@ -43,7 +43,6 @@ use Rattle.event_text.specs.Scripts.{Script}
 use Rattle.event_text.specs.Settings.{finished_counter, is_level_shown}
 use Rattle.test_text.specs.StatusLines.{status_line}
 use Rattle.event_text.proofs.lemmas.Finishes.{row_below}
-use Rattle.event_text.specs.declared.instance.CountedInstance.{CountedInstance}
 use Rattle.event_text.specs.declared.settings.Settings.{Settings}
 use Rattle.test_text.specs.declared.status_line.StatusLineKind.TheVariants.{Final}
 use Rattle.run_model.specs.Stats.{final_stats_of_run}
@@ -57,6 +56,7 @@ use Rattle.console_reporter.specs.Configuration.{Configuration, settings_of}
 use Rattle.console_reporter.specs.Effects.{entry_of, final_output}
 use Rattle.console_reporter.specs.Entries.{cancel, final_order, final_text}
 use Rattle.console_reporter.specs.Exactness.{IsExact, IsObserved, IsSeen, IsStoredThere, combined, with_output, writing}
+use Rattle.console_reporter.specs.KeptTests.{counted, kept_test}
 use Rattle.console_reporter.specs.Loads.{decision, is_kept_by, load_if, loads_attempt, loads_script}
 use Rattle.console_reporter.specs.Report.{event_text, listed_text, script_by, text, texts}
 use Rattle.console_reporter.specs.Stored.{record_of, records, stored_text}
@@ -65,6 +65,7 @@ use Rattle.run_model.specs.declared.call.ReportCall.{ReportCall}
 use Rattle.run_model.specs.declared.call.ReportCall.TheVariants.{Event}
 use Rattle.console_reporter.specs.declared.imp.decider.OutputLoadDecider.{OutputLoadDecider}
 use Rattle.console_reporter.specs.declared.imp.final_output.FinalOutputEntry.{FinalOutputEntry}
+use Rattle.console_reporter.specs.declared.imp.kept_test.KeptTest.{KeptTest}
 use Rattle.console_reporter.proofs.lemmas.CalmRuns.{calm_back, calm_both, calm_end, calm_entries, calm_front, calm_past, listing}
 use Rattle.console_reporter.proofs.lemmas.Isolation.{same-record, same-unloaded}
 use Rattle.console_reporter.proofs.lemmas.OtherOutputs.{ascii, outputs_differ}
@@ -185,7 +186,7 @@ attempt_differs s stress test x delay failure is e =
     (append_cancel_left (attempt_failed_line s.styles (padded_instance s stress test) x) _ _ same))
 
 -- an entry's output, among those of a run that ends
-listed_differ : (s : Settings) (test : CountedInstance) (x : StatusSummary) (front back : List FinalOutputEntry) (elapsed : ℕ) (end : TestEventKind) → is_end_of_run end ≡ true →
+listed_differ : (s : Settings) (test : KeptTest) (x : StatusSummary) (front back : List FinalOutputEntry) (elapsed : ℕ) (end : TestEventKind) → is_end_of_run end ≡ true →
     event_text s (listing (final_order (front ++ entry_with test x wrote_a ∷ back))) elapsed end ≢ event_text s (listing (final_order (front ++ entry_with test x wrote_b ∷ back))) elapsed end
 unfolding event_text listed_text final_text
 listed_differ s test x front back elapsed (RunFinished taken stats outstanding) is e =
@@ -193,7 +194,7 @@ listed_differ s test x front back elapsed (RunFinished taken stats outstanding) 
     let rest = not_seen_text s outstanding ++ final_warnings s.styles s.mode (final_stats_of_run stats) in
     let entries = append_cancel_right _ _ rest (append_cancel_left (run_finished_text s taken.0 stats) _ _ e) in
     let outputs = append_cancel_right _ _ place.1 (append_cancel_left place.0 _ _ (sym (place.2 wrote_a) ∙ entries ∙ place.2 wrote_b)) in
-    outputs_differ s unit.Test false x.result (append_cancel_left (status_line s.styles Final test x) _ _ outputs)
+    outputs_differ s unit.Test false x.result (append_cancel_left (status_line s.styles Final (counted test) x) _ _ outputs)
 listed_differ s test x front back elapsed other is e = absurd (false≢true is)
 
 -- a finished test whose output is shown
@@ -215,14 +216,14 @@ module _ (config : Configuration) (before after : List ReportCall) (elapsed : Na
       outputs_differ s unit.Test false statuses.last.result (append_cancel_left _ _ _ (rw (row, now) at e)))
 
   kept_with : (output : Written) → is_final display ≡ true →
-      entry_of s 0 (with_output output finished.kind) ≡ Some (entry_with (record { stress_index = stress; counter = finished_counter s stats; instance = test }) (summary_of statuses) output)
+      entry_of s 0 (with_output output finished.kind) ≡ Some (entry_with (kept_test (record { stress_index = stress; counter = finished_counter s stats; instance = test })) (summary_of statuses) output)
   unfolding final_output row_at_end row_listed is_final_wanted
   kept_with output final = rw (row_below 0 statuses.last.result (omega arith), final) refl
 
   finish_at_end : (end : TestEvent) → is_end_of_run end.kind ≡ true → AreCalm after → is_final display ≡ true → IsSeen config before finished (after ++ Event end ∷ [])
   finish_at_end end ends calm_after final =
       let f = calm_entries s in
-      let shown = λ (t : Text). entry_with (record { stress_index = stress; counter = finished_counter s stats; instance = test }) (summary_of statuses) (combined t) in
+      let shown = λ (t : Text). entry_with (kept_test (record { stress_index = stress; counter = finished_counter s stats; instance = test })) (summary_of statuses) (combined t) in
       let said : (t : Text) → text config (reverse (before ++ writing t finished ∷ after)) (Event end)
       ≡ event_text s (listing (final_order (flat_map f before ++ shown t ∷ flat_map f after))) end.elapsed.0 end.kind =
       λ t. calm_end config (before ++ writing t finished ∷ after) end (calm_both before (writing t finished ∷ after) calm (lit< tt, calm_after)) ends

@@ -3,13 +3,13 @@ use Rattle.std.proofs.Common.{◌≡◌, ℕ, ◌<◌, ◌+◌, List, [], ◌∷
 use Rattle.std.specs.Ordering.{ordering_then}
 use Rattle.std.specs.BTreeMap.{insert_entry}
 use Rattle.run_model.specs.declared.level.FinalStatusLevel.{FinalStatusLevel}
-use Rattle.event_text.specs.declared.instance.CountedInstance.{CountedInstance}
 use Rattle.console_reporter.specs.Order.{key_cmp}
 use Rattle.console_reporter.specs.Entries.{entry_cmp, entry_key, final_level_in, final_order, is_before}
 use Rattle.console_reporter.specs.Keys.{AreKeyed, entries_at, entry_at, order_key, placed_cmp}
 use Rattle.console_reporter.specs.declared.imp.entry_key.EntryKey.{EntryKey}
 use Rattle.console_reporter.specs.declared.imp.final_output.FinalOutput.{FinalOutput}
 use Rattle.console_reporter.specs.declared.imp.final_output.FinalOutputEntry.{FinalOutputEntry}
+use Rattle.console_reporter.specs.declared.imp.kept_test.KeptTest.{KeptTest}
 use Rattle.console_reporter.proofs.lemmas.Keys.{is_before-ranks}
 use Rattle.console_reporter.proofs.lemmas.Orders.{put_last, order_more}
 
@@ -41,7 +41,7 @@ inserts k x (p ∷ ps) h all = by_first k x p ps h (keyed-more k.place (p ∷ ps
     (inserts k x ps h all.1)
 
 -- the key that an entry is inserted at
-abbrev pub key_of : FinalStatusLevel → CountedInstance → ℕ → EntryKey
+abbrev pub key_of : FinalStatusLevel → KeptTest → ℕ → EntryKey
 key_of level test place = record { level = level; test = test; place = place }
 
 module _ (level : FinalStatusLevel) (e : FinalOutputEntry) (place : ℕ) (ps : List (EntryKey × FinalOutput)) (is_level : level ≡ final_level_in e.output) (at_end : place ≡ length ps) (all : AreKeyed (length ps) ps) where

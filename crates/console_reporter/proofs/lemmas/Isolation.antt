@@ -43,6 +43,7 @@ use Rattle.console_reporter.specs.Effects.TestEnd.{Finished}
 use Rattle.console_reporter.specs.declared.imp.final_output.FinalOutput.{FinalOutput}
 use Rattle.run_model.specs.declared.status.StatusSummary.{StatusSummary}
 use Rattle.console_reporter.specs.Isolation.{IsIsolated}
+use Rattle.console_reporter.specs.KeptTests.{kept_test}
 use Rattle.console_reporter.specs.Loads.{load_if, loads_attempt, loads_finish, loads_script}
 use Rattle.console_reporter.specs.Report.{event_text, script_by}
 use Rattle.console_reporter.specs.Stored.{record_of, records, stored, stored_text}
@@ -85,7 +86,7 @@ never-output f last h = rw (never-at_end f.row f.display h) refl
 
 never-kept : (s : Settings) (f : TestFinish) (last : Attempt) → is_ever_shown f.display ≡ false → kept_entry s (Finished (record f { last = last })) ≡ kept_entry s (Finished f)
 never-kept s f last h =
-    ap (λ (o : FinalOutput). if is_kept s f then Some (record { test = f.test; output = o }) else None) (never-output f last h)
+    ap (λ (o : FinalOutput). if is_kept s f then Some (record { test = kept_test f.test; output = o }) else None) (never-output f last h)
 
 -- attempts come to the same, whatever they wrote
 unloaded-summary : (a : Attempts LiveSpec ChildOutputDescription) → summary_of (unloaded_attempts a) ≡ summary_of a

@@ -5,14 +5,14 @@ use Rattle.std.proofs.lemmas.Grind.{flat_map-append}
 use Rattle.run_model.specs.declared.status.StatusSummary.{StatusSummary}
 use Rattle.plain_text.specs.Texts.{Text}
 use Rattle.event_text.specs.AttemptOutputs.{Written}
-use Rattle.event_text.specs.declared.instance.CountedInstance.{CountedInstance}
 use Rattle.event_text.specs.declared.settings.Settings.{Settings}
 use Rattle.console_reporter.specs.Entries.{entries_text, entry_text, final_order, is_before}
 use Rattle.console_reporter.specs.Order.{ordered_by, put_in}
 use Rattle.console_reporter.specs.declared.imp.final_output.FinalOutput.TheVariants.{Executed, ExecutedWithOutput}
 use Rattle.console_reporter.specs.declared.imp.final_output.FinalOutputEntry.{FinalOutputEntry}
+use Rattle.console_reporter.specs.declared.imp.kept_test.KeptTest.{KeptTest}
 
-module _ (test : CountedInstance) (x : StatusSummary) where
+module _ (test : KeptTest) (x : StatusSummary) where
   -- the test with an output
   abbrev pub entry_with : Written → FinalOutputEntry
   entry_with output = record { test = test; output = ExecutedWithOutput x output }

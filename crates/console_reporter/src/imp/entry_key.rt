@@ -8,50 +8,50 @@ ghost use Rattle.console_reporter.specs.Entries.{counter_key, iteration_key};
 ghost use Rattle.console_reporter.specs.Keys.{counted_key, instance_key, order_key, placed_cmp, placed_total, test_key};
 ghost use Rattle.console_reporter.specs.Order.{key_cmp};
 
-use event_text::instance::CountedInstance;
+use super::kept_test::KeptTest;
 use report_text::helpers::DisplayCounterIndex;
 use run_model::level::FinalStatusLevel;
-use run_model::name::TestInstanceId;
+use run_model::name::OwnedTestInstanceId;
 use run_model::stress::StressIndex;
 use std::cmp::Ordering;
 
 /// What an entry is ordered by: its final level, the greatest first, then the iteration, then the counter where one is
 /// shown, then the bytes of the binary's id and of the test's name, and then how many entries were kept before.
-#[derive(Clone, Copy, Debug)]
-pub struct EntryKey<'a> {
+#[derive(Debug, Drop)]
+pub struct EntryKey {
     /// The level from which on the summary lists the test.
     pub level: FinalStatusLevel,
     /// The test.
-    pub test: CountedInstance<'a>,
+    pub test: KeptTest,
     /// How many entries were kept before, so that no two have one key.
     pub place: usize,
 }
 
-impl<'a> PartialEq for EntryKey<'a> {
+impl PartialEq for EntryKey {
     ghost eq = { eq_by_cmp placed_cmp };
 
     ghost laws = { partial_equiv_from_equiv (eq_by_cmp_equiv placed_total) };
 
-    fn eq(&self, other: &EntryKey<'a>) -> bool {
+    fn eq(&self, other: &EntryKey) -> bool {
         self.cmp(other).is_eq()
     }
 }
 
-impl<'a> Eq for EntryKey<'a> {
+impl Eq for EntryKey {
     ghost laws = { eq_by_cmp_equiv placed_total };
 }
 
-impl<'a> PartialOrd for EntryKey<'a> {
+impl PartialOrd for EntryKey {
     ghost partial_cmp = { as_partial_cmp placed_cmp };
 
     ghost laws = { partial_order_from_total placed_total };
 
-    fn partial_cmp(&self, other: &EntryKey<'a>) -> Option<Ordering> {
+    fn partial_cmp(&self, other: &EntryKey) -> Option<Ordering> {
         Some(self.cmp(other))
     }
 }
 
-impl<'a> Ord for EntryKey<'a> {
+impl Ord for EntryKey {
     ghost cmp = { placed_cmp };
 
     ghost total = { placed_total };
@@ -60,7 +60,7 @@ impl<'a> Ord for EntryKey<'a> {
 
     ghost matches_eq = { λ x y. refl };
 
-    fn cmp(&self, other: &EntryKey<'a>) -> Ordering {
+    fn cmp(&self, other: &EntryKey) -> Ordering {
         match compare_order(self, other) {
             Ordering::Less => Ordering::Less,
             Ordering::Equal => self.place.cmp(&other.place),
@@ -70,7 +70,7 @@ impl<'a> Ord for EntryKey<'a> {
 }
 
 // Compares as the final order does, which does not look at places.
-fn compare_order(left: &EntryKey<'_>, right: &EntryKey<'_>) -> Ordering
+fn compare_order(left: &EntryKey, right: &EntryKey) -> Ordering
     ensures { result ≡ key_cmp (order_key left.now) (order_key right.now) }
 {
     match left.level.below_all().cmp(&right.level.below_all()) {
@@ -81,7 +81,7 @@ fn compare_order(left: &EntryKey<'_>, right: &EntryKey<'_>) -> Ordering
 }
 
 // Compares the iterations, then the counters and the instances.
-fn compare_tests(left: &CountedInstance<'_>, right: &CountedInstance<'_>) -> Ordering
+fn compare_tests(left: &KeptTest, right: &KeptTest) -> Ordering
     ensures { result ≡ key_cmp (test_key left.now) (test_key right.now) }
 {
     match compare_iterations(left.stress_index, right.stress_index) {
@@ -104,12 +104,12 @@ fn compare_iterations(left: Option<StressIndex>, right: Option<StressIndex>) -> 
 }
 
 // Compares the counters, then the instances.
-fn compare_counted(left: &CountedInstance<'_>, right: &CountedInstance<'_>) -> Ordering
+fn compare_counted(left: &KeptTest, right: &KeptTest) -> Ordering
     ensures { result ≡ key_cmp (counted_key left.now) (counted_key right.now) }
 {
     match compare_counters(left.counter, right.counter) {
         Ordering::Less => Ordering::Less,
-        Ordering::Equal => compare_instances(left.instance, right.instance),
+        Ordering::Equal => compare_instances(&left.instance, &right.instance),
         Ordering::Greater => Ordering::Greater,
     }
 }
@@ -152,12 +152,12 @@ fn compare_shown_counters(left: DisplayCounterIndex, right: DisplayCounterIndex)
 }
 
 // Compares the bytes of the binaries' ids, then of the tests' names.
-fn compare_instances(left: TestInstanceId<'_>, right: TestInstanceId<'_>) -> Ordering
-    ensures { result ≡ key_cmp (instance_key left.entry) (instance_key right.entry) }
+fn compare_instances(left: &OwnedTestInstanceId, right: &OwnedTestInstanceId) -> Ordering
+    ensures { result ≡ key_cmp (instance_key left.now) (instance_key right.now) }
 {
-    match left.binary_id.cmp(right.binary_id) {
+    match left.binary_id.cmp(&right.binary_id) {
         Ordering::Less => Ordering::Less,
-        Ordering::Equal => left.test_name.cmp(right.test_name),
+        Ordering::Equal => left.test_name.cmp(&right.test_name),
         Ordering::Greater => Ordering::Greater,
     }
 }

@@ -7,6 +7,7 @@ ghost use Rattle.console_reporter.specs.Effects.{final_output, finished_entry, s
 ghost use Rattle.console_reporter.specs.Entries.{final_level_in};
 ghost use Rattle.event_text.specs.Finishes.{row_at_end};
 
+use super::kept_test::KeptTest;
 use super::loaded_output::LoadedOutput;
 use event_text::instance::CountedInstance;
 use run_model::level::FinalStatusLevel;
@@ -18,9 +19,9 @@ use test_text::test_finished::FinishedTest;
 
 /// An entry of the summary.
 #[derive(Debug, Drop)]
-pub struct FinalOutputEntry<'a> {
+pub struct FinalOutputEntry {
     /// The test.
-    pub test: CountedInstance<'a>,
+    pub test: KeptTest,
     /// What is shown of it.
     pub output: FinalOutput,
 }
@@ -76,30 +77,32 @@ impl FinalOutput {
     }
 }
 
-impl<'a> FinalOutputEntry<'a> {
-    /// What the summary shows of a finished test. It allocates for the texts of the last attempt; the bytes of its output
-    /// are shared. Output that is shown must not have been left unread.
+impl FinalOutputEntry {
+    /// What the summary shows of a finished test. It allocates for the test's names and the texts of the last attempt; the bytes of
+    /// its output are shared. Output that is shown must not have been left unread.
     pub fn of_test(
         alloc: Global,
-        finished: &FinishedTest<'_, 'a>,
-    ) -> Result<FinalOutputEntry<'a>, OutOfMemory>
+        finished: &FinishedTest<'_, '_>,
+    ) -> Result<FinalOutputEntry, OutOfMemory>
         requires { HasShownOutput (finish_of finished.now) }
-        ensures entry { IfOk result (λ e. e ≡ finished_entry (finish_of finished.now)) }
-        ensures free { is_aborted (finish_of finished.now).last.result ≡ false → row_at_end finished.now.row finished.now.display ≡ false → IsOk result }
+        ensures { IfOk result (λ e. e ≡ finished_entry (finish_of finished.now)) }
     {
         Ok(FinalOutputEntry {
-            test: finished.test,
+            test: KeptTest::copy_of(alloc, finished.test)?,
             output: FinalOutput::of_test(alloc, finished)?,
         })
     }
 
-    /// What the summary shows of a skipped test.
-    pub fn skipped(test: CountedInstance<'a>) -> FinalOutputEntry<'a>
-        ensures { result ≡ skipped_entry test.entry }
+    /// What the summary shows of a skipped test. It allocates for the test's names.
+    pub fn skipped(
+        alloc: Global,
+        test: CountedInstance<'_>,
+    ) -> Result<FinalOutputEntry, OutOfMemory>
+        ensures { IfOk result (λ e. e ≡ skipped_entry test.entry) }
     {
-        FinalOutputEntry {
-            test,
+        Ok(FinalOutputEntry {
+            test: KeptTest::copy_of(alloc, test)?,
             output: FinalOutput::Skipped,
-        }
+        })
     }
 }

@@ -5,12 +5,13 @@ ghost use Rattle.plain_text.specs.Writer.{Puts};
 ghost use Rattle.test_text.specs.StatusLines.{status_line};
 ghost use Rattle.test_text.specs.declared.status_line.StatusLineKind.{StatusLineKind};
 ghost use Rattle.console_reporter.specs.Entries.{final_text, entries_text, final_order, IsFinalOrder};
+ghost use Rattle.console_reporter.specs.KeptTests.{counted};
 ghost use Rattle.console_reporter.specs.declared.imp.final_output.FinalOutputEntry.{FinalOutputEntry};
 
 use super::entry_key::EntryKey;
 use super::final_output::{FinalOutput, FinalOutputEntry};
+use super::kept_test::KeptTest;
 use event_text::attempt_output::write_test_execute_status;
-use event_text::instance::CountedInstance;
 use event_text::settings::Settings;
 use plain_text::write_str::{WriteFault, WriteStr};
 use run_model::status::StatusSummary;
@@ -22,12 +23,12 @@ use test_text::test_skipped::write_skip_line;
 
 /// The entries that a summary lists. Contracts see them as the list in which it shows them.
 #[derive(Drop)]
-pub struct KeptEntries<'a> {
+pub struct KeptEntries {
     // a key holds the test of its entry
-    by_key: BTreeMap<EntryKey<'a>, FinalOutput>,
+    by_key: BTreeMap<EntryKey, FinalOutput>,
 }
 
-impl<'a> Model for KeptEntries<'a> {
+impl Model for KeptEntries {
     ghost use Rattle.std.specs.Prelude.{List};
     ghost use Rattle.std.specs.BTreeMap.{btree_map_len};
     ghost use Rattle.console_reporter.specs.Keys.{AreKeyed, entries_at};
@@ -40,10 +41,10 @@ impl<'a> Model for KeptEntries<'a> {
     ghost invariant = { λ k. AreKeyed (btree_map_len k.by_key) k.by_key.entries };
 }
 
-impl<'a> KeptEntries<'a> {
+impl KeptEntries {
     /// No entries. It allocates nothing.
     #[tactic(auto, unfolding(crate::specs::Order::ordered_by))]
-    pub fn new(alloc: Global) -> KeptEntries<'a>
+    pub fn new(alloc: Global) -> KeptEntries
         ensures { result ≡ final_order [] }
     {
         KeptEntries {
@@ -52,8 +53,8 @@ impl<'a> KeptEntries<'a> {
     }
 
     /// Keeps an entry in its place in the final order: after those of its key that were kept before.
-    pub fn keep(&mut self, entry: FinalOutputEntry<'a>) -> Result<(), AllocError>
-        ensures ok { OnOk result ((kept : List FinalOutputEntry) → self.old ≡ final_order kept → self.new ≡ final_order (kept ++ entry.entry ∷ [])) }
+    pub fn keep(&mut self, entry: FinalOutputEntry) -> Result<(), AllocError>
+        ensures ok { OnOk result ((kept : List FinalOutputEntry) → self.old ≡ final_order kept → self.new ≡ final_order (kept ++ entry ∷ [])) }
         ensures err { OnErr result (self.new ≡ self.old) }
     {
         let FinalOutputEntry { test, output } = entry;
@@ -71,7 +72,7 @@ impl<'a> KeptEntries<'a> {
         ensures { Puts W.meaning w.old (entries_text settings.now self.now) result w.new }
     {
         for (key, output) in self.by_key.iter() {
-            write_entry(w, settings, key.test, output)?;
+            write_entry(w, settings, &key.test, output)?;
         }
         Ok(())
     }
@@ -86,14 +87,14 @@ pub fn one_final_order()
 {}
 
 // Writes an entry: its line, and what the last attempt wrote where that is kept; or that the test was skipped.
-#[tactic(auto, unfolding(crate::specs::Entries::final_text))]
+#[tactic(auto, unfolding(crate::specs::Entries::final_text), using(crate::proofs::lemmas::KeptTests::skip_of_kept))]
 fn write_entry<W: WriteStr>(
     w: &mut W,
     settings: &Settings,
-    test: CountedInstance<'_>,
+    test: &KeptTest,
     output: &FinalOutput,
 ) -> Result<(), WriteFault>
-    ensures { Puts W.meaning w.old (final_text settings.now test.entry output.now) result w.new }
+    ensures { Puts W.meaning w.old (final_text settings.now (counted test.now) output.now) result w.new }
 {
     match output {
         FinalOutput::Executed { summary } => write_line(w, settings, test, summary),
@@ -101,19 +102,26 @@ fn write_entry<W: WriteStr>(
             write_line(w, settings, test, summary)?;
             write_test_execute_status(w, settings, false, &summary.result, output.get())
         }
-        FinalOutput::Skipped => write_skip_line(w, settings, test),
+        FinalOutput::Skipped => write_skip_line(w, settings, test.as_counted()),
     }
 }
 
 // Writes the line of a test that was run.
+#[tactic(auto, using(crate::proofs::lemmas::KeptTests::line_of_kept))]
 fn write_line<W: WriteStr>(
     w: &mut W,
     settings: &Settings,
-    test: CountedInstance<'_>,
+    test: &KeptTest,
     summary: &StatusSummary,
 ) -> Result<(), WriteFault>
-    ensures { Puts W.meaning w.old (status_line settings.now.styles StatusLineKind.Final test.entry summary.now) result w.new }
+    ensures { Puts W.meaning w.old (status_line settings.now.styles StatusLineKind.Final (counted test.now) summary.now) result w.new }
 {
     let line = StatusLine::of_summary(summary);
-    write_status_line(w, &settings.styles, StatusLineKind::Final, test, line)
+    write_status_line(
+        w,
+        &settings.styles,
+        StatusLineKind::Final,
+        test.as_counted(),
+        line,
+    )
 }

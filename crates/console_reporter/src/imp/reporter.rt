@@ -60,7 +60,7 @@ use unit_report::formatters::write_final_warnings;
 pub struct DisplayReporter<'a, W, S> {
     pub(super) writer: &'a mut W,
     pub(super) store: Option<Store<'a, S>>,
-    pub(super) state: ReporterState<'a>,
+    pub(super) state: ReporterState,
 }
 
 impl<'a, W: WriteStr, S: WriteStr> DisplayReporter<'a, W, S> {
@@ -141,7 +141,7 @@ impl<'a, W: WriteStr, S: WriteStr> DisplayReporter<'a, W, S> {
     /// reporter.write_event(&event)?;
     /// reporter.finish()?;
     /// ```
-    pub fn write_event(&mut self, event: &TestEvent<'a>) -> Result<(), WriteEventError>
+    pub fn write_event(&mut self, event: &TestEvent<'_>) -> Result<(), WriteEventError>
         ensures same { IsSameReporter self.old self.new }
         ensures ok { OnOk result (Tells W.meaning S.meaning self.old (Some (ReportCall.Event event.now)) self.new) }
         ensures delivered { OnOk result (AreDelivered W.meaning S.meaning self.new) }
@@ -172,7 +172,7 @@ impl<'a, W: WriteStr, S: WriteStr> DisplayReporter<'a, W, S> {
     }
 
     // Reports an event, and then writes its record and delivers that.
-    fn report_and_store(&mut self, event: &TestEvent<'a>) -> Result<(), WriteEventError>
+    fn report_and_store(&mut self, event: &TestEvent<'_>) -> Result<(), WriteEventError>
         requires { lacks_output (decider_by self.old.state.settings None) event.now.kind ≡ false }
         ensures same { IsSameReporter self.old self.new }
         ensures ok { OnOk result (Tells W.meaning S.meaning self.old (Some (ReportCall.Event event.now)) self.new) }
@@ -190,7 +190,7 @@ impl<'a, W: WriteStr, S: WriteStr> DisplayReporter<'a, W, S> {
     }
 
     // Writes and delivers the text of an event, and does what it does.
-    fn report_event(&mut self, event: &TestEvent<'a>) -> Result<(), WriteEventError>
+    fn report_event(&mut self, event: &TestEvent<'_>) -> Result<(), WriteEventError>
         requires { lacks_output (decider_by self.old.state.settings None) event.now.kind ≡ false }
         ensures same_writer { IsSameWriter self.old self.new }
         ensures store { self.new.store ≡ self.old.store }
@@ -315,7 +315,7 @@ impl<'a, W: WriteStr, S: WriteStr> DisplayReporter<'a, W, S> {
     pub(super) fn make_calls(
         &mut self,
         alloc: Global,
-        calls: &[ReportCall<'a>],
+        calls: &[ReportCall<'_>],
     ) -> Result<(), RunFault>
         ensures same { IsSameReporter self.old self.new }
         ensures ok { OnOk result (TellsRun W.meaning S.meaning self.old (reverse calls.now) self.new) }
@@ -343,7 +343,7 @@ impl<'a, W: WriteStr, S: WriteStr> DisplayReporter<'a, W, S> {
     }
 
     // Makes one call. A prefix is copied.
-    fn make_call(&mut self, alloc: Global, call: &ReportCall<'a>) -> Result<(), WriteEventError>
+    fn make_call(&mut self, alloc: Global, call: &ReportCall<'_>) -> Result<(), WriteEventError>
         ensures same { IsSameReporter self.old self.new }
         ensures ok { OnOk result (Tells W.meaning S.meaning self.old (Some call.now) self.new) }
         ensures err { IfErr result (λ e. Breaks W.meaning S.meaning self.old (Some call.now) e self.new) }
@@ -402,7 +402,7 @@ fn deliver_header<W: WriteStr>(
 // Writes the text of an event, and delivers it.
 fn write_delivered<W: WriteStr>(
     w: &mut W,
-    state: &ReporterState<'_>,
+    state: &ReporterState,
     event: &TestEvent<'_>,
     effect: &EventEffect<'_, '_>,
 ) -> Result<(), WriteFault>
@@ -420,7 +420,7 @@ fn write_delivered<W: WriteStr>(
 #[tactic(auto, unfolding(crate::specs::Report::event_text))]
 fn write_event_text<W: WriteStr>(
     w: &mut W,
-    state: &ReporterState<'_>,
+    state: &ReporterState,
     event: &TestEvent<'_>,
     effect: &EventEffect<'_, '_>,
 ) -> Result<(), WriteFault>
@@ -464,7 +464,7 @@ fn write_event_text<W: WriteStr>(
 #[tactic(auto, unfolding(crate::specs::Report::event_text))]
 fn write_run<W: WriteStr>(
     w: &mut W,
-    state: &ReporterState<'_>,
+    state: &ReporterState,
     event: &TestEvent<'_>,
 ) -> Result<(), WriteFault>
     requires { is_of_run event.now.kind ≡ true }
@@ -504,7 +504,7 @@ fn write_run<W: WriteStr>(
 // Writes the end of a run: its summary, the entries, the tests that were not seen, and the warnings.
 fn write_end_of_run<W: WriteStr>(
     w: &mut W,
-    state: &ReporterState<'_>,
+    state: &ReporterState,
     elapsed: Nanos,
     run_stats: &RunFinishedStats,
     outstanding_not_seen: &Option<NotSeen>,
@@ -535,7 +535,7 @@ fn write_finished<W: WriteStr>(
 
 // Writes the entries, unless the run was interrupted.
 #[tactic(auto, unfolding(crate::specs::Report::listed_text))]
-fn write_listed<W: WriteStr>(w: &mut W, state: &ReporterState<'_>) -> Result<(), WriteFault>
+fn write_listed<W: WriteStr>(w: &mut W, state: &ReporterState) -> Result<(), WriteFault>
     ensures { Puts W.meaning w.old (listed_text state.now.settings (known_by state.now)) result w.new }
 {
     if shows_entries(state.cancel_status) {

@@ -36,7 +36,7 @@ pub fn texts_make_the_report()
 /// On `Ok` the writer has accepted the report of the calls and delivered it. On a fault at a place it has accepted the
 /// report of the calls before that place and a beginning of the text of the call there. A refusal is of the first call that is
 /// not accepted, and nothing of that call was written.
-pub fn run_report<'a, W: WriteStr>(
+pub fn run_report<W: WriteStr>(
     alloc: Global,
     builder: DisplayReporterBuilder,
     writer: &mut W,
@@ -44,7 +44,7 @@ pub fn run_report<'a, W: WriteStr>(
     is_terminal: bool,
     is_ci: bool,
     display_empty_outputs: bool,
-    calls: &'a [ReportCall<'a>],
+    calls: &[ReportCall<'_>],
 ) -> Result<(), RunFault>
     // A report lists a summary's entries in their final order, of which `one_final_order` says that there is no other.
     ensures ok { let config = configured builder use_unicode is_terminal is_ci display_empty_outputs in
@@ -106,7 +106,7 @@ pub fn run_report<'a, W: WriteStr>(
 /// let store = StoreConfig { store_success_output: false, store_failure_output: true };
 /// run_report_with_store(alloc, builder, &mut report, &mut records, store, true, false, false, false, &calls)?;
 /// ```
-pub fn run_report_with_store<'a, W: WriteStr, S: WriteStr>(
+pub fn run_report_with_store<W: WriteStr, S: WriteStr>(
     alloc: Global,
     builder: DisplayReporterBuilder,
     writer: &mut W,
@@ -116,7 +116,7 @@ pub fn run_report_with_store<'a, W: WriteStr, S: WriteStr>(
     is_terminal: bool,
     is_ci: bool,
     display_empty_outputs: bool,
-    calls: &'a [ReportCall<'a>],
+    calls: &[ReportCall<'_>],
 ) -> Result<(), RunFault>
     ensures ok { let config = configured_with_store store builder use_unicode is_terminal is_ci display_empty_outputs in
         OnOk result (W.meaning.accepts writer.old (report config (reverse calls.now)) writer.new) }

@@ -21,18 +21,18 @@ use test_text::test_finished::FinishedTest;
 
 // What a reporter knows of the calls before.
 #[derive(Drop)]
-pub(super) struct ReporterState<'a> {
+pub(super) struct ReporterState {
     pub(super) alloc: Global,
-    pub(super) kept: KeptEntries<'a>,
+    pub(super) kept: KeptEntries,
     pub(super) unique_prefix: Option<ShortestRunIdPrefix>,
     pub(super) cancel_status: Option<CancelReason>,
     pub(super) settings: Settings,
     pub(super) has_failed: bool,
 }
 
-impl<'a> ReporterState<'a> {
+impl ReporterState {
     // What a reporter that goes by these settings knows before its first call.
-    pub(super) fn new(alloc: Global, settings: Settings) -> ReporterState<'a>
+    pub(super) fn new(alloc: Global, settings: Settings) -> ReporterState
         ensures settings { result.settings ≡ settings }
         ensures prefix { result.unique_prefix ≡ None }
         ensures reason { result.cancel_status ≡ None }
@@ -50,7 +50,7 @@ impl<'a> ReporterState<'a> {
     }
 
     // Does what an event does: it may cancel the run, and finish a test.
-    pub(super) fn apply(&mut self, effect: &EventEffect<'_, 'a>) -> Result<(), OutOfMemory>
+    pub(super) fn apply(&mut self, effect: &EventEffect<'_, '_>) -> Result<(), OutOfMemory>
         requires { HasEndOutputIn (option_map end_of effect.now.ended) }
         ensures settings { self.new.settings ≡ self.old.settings }
         ensures prefix { self.new.unique_prefix ≡ self.old.unique_prefix }
@@ -68,7 +68,7 @@ impl<'a> ReporterState<'a> {
     }
 
     // Keeps a test where the summary lists it.
-    fn keep_test(&mut self, ended: &EndedTest<'_, 'a>) -> Result<(), OutOfMemory>
+    fn keep_test(&mut self, ended: &EndedTest<'_, '_>) -> Result<(), OutOfMemory>
         requires { HasEndOutput (end_of ended.now) }
         ensures settings { self.new.settings ≡ self.old.settings }
         ensures prefix { self.new.unique_prefix ≡ self.old.unique_prefix }
@@ -85,7 +85,7 @@ impl<'a> ReporterState<'a> {
     }
 
     // Keeps a finished test where the summary lists it.
-    fn keep_finished(&mut self, finished: &FinishedTest<'_, 'a>) -> Result<(), OutOfMemory>
+    fn keep_finished(&mut self, finished: &FinishedTest<'_, '_>) -> Result<(), OutOfMemory>
         requires { HasShownOutput (finish_of finished.now) }
         ensures settings { self.new.settings ≡ self.old.settings }
         ensures prefix { self.new.unique_prefix ≡ self.old.unique_prefix }
@@ -107,7 +107,7 @@ impl<'a> ReporterState<'a> {
     }
 
     // Keeps a skipped test where the summary lists it.
-    fn keep_skipped(&mut self, test: CountedInstance<'a>) -> Result<(), OutOfMemory>
+    fn keep_skipped(&mut self, test: CountedInstance<'_>) -> Result<(), OutOfMemory>
         ensures settings { self.new.settings ≡ self.old.settings }
         ensures prefix { self.new.unique_prefix ≡ self.old.unique_prefix }
         ensures reason { self.new.cancel_status ≡ self.old.cancel_status }
@@ -120,7 +120,8 @@ impl<'a> ReporterState<'a> {
         if !FinalStatusLevel::Skip.is_shown_at(shown) {
             return Ok(());
         }
-        self.kept.keep(FinalOutputEntry::skipped(test))?;
+        let entry = FinalOutputEntry::skipped(self.alloc, test)?;
+        self.kept.keep(entry)?;
         Ok(())
     }
 }
