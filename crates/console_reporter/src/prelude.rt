@@ -8,9 +8,9 @@
 
 pub use crate::error::ReportError;
 pub use crate::imp::{
-    DisplayReporter, DisplayReporterBuilder, DisplayerKind, ReportCall, RunFault, StoreConfig,
-    Surroundings, WriteEventError, first_refused, run_report, run_report_with_store,
-    unload_skipped,
+    DisplayReporter, DisplayReporterBuilder, DisplayerKind, OutputLoadDecider, ReportCall,
+    RunFault, StoreConfig, Surroundings, WriteEventError, first_refused, run_report,
+    run_report_with_store, unload_skipped,
 };
 pub use bytes::Bytes;
 pub use plain_text::indenter::indented;
@@ -23,6 +23,7 @@ pub use run_model::level::{CancelReason, FinalStatusLevel, StatusLevel};
 pub use run_model::memory::OutOfMemory;
 pub use run_model::name::{OwnedTestInstanceId, RustBinaryId, TestCaseName, TestInstanceId};
 pub use run_model::output::{ChildOutputDescription, ErrorChain};
+pub use run_model::output_event::LoadOutput;
 pub use run_model::stats::RunStats;
 pub use run_model::status::{
     ExecuteStatus, ExecutionResultDescription, ExecutionStatuses, FlakyResult, RetryData,
