@@ -18,7 +18,7 @@ use Rattle.report_text.specs.declared.helpers.instance.DisplayCounterIndex.{Disp
 use Rattle.report_text.specs.declared.helpers.instance.DisplayCounterIndex.TheVariants.{Counter, Padded}
 use Rattle.event_text.specs.AttemptOutputs.{attempt_output}
 use Rattle.console_reporter.specs.Effects.{effect_of, entry_of}
-use Rattle.console_reporter.specs.KeptTests.{counted}
+use Rattle.console_reporter.specs.KeptTests.{borrowed_test}
 use Rattle.console_reporter.specs.Order.{key_cmp, ordered_by}
 use Rattle.test_text.specs.SkippedTests.{skip_line}
 use Rattle.test_text.specs.StatusLines.{status_line}
@@ -106,7 +106,7 @@ final_text s test Skipped = skip_line s test
 
 -- how it shows an entry
 abbrev pub entry_text : Settings → FinalOutputEntry → Text
-entry_text s e = final_text s (counted e.test) e.output
+entry_text s e = final_text s (borrowed_test e.test) e.output
 
 -- the entries as they stand, one after another
 abbrev pub entries_text : Settings → List FinalOutputEntry → Text

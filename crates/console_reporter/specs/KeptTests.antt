@@ -17,8 +17,8 @@ abbrev pub lent : List ℕ → Bor (List ℕ)
 lent t = record { ref_ptr = (0, 0); now = t }
 
 -- a kept test as lines name it
-abbrev pub counted : KeptTest → CountedInstance
-counted t = record {
+abbrev pub borrowed_test : KeptTest → CountedInstance
+borrowed_test t = record {
   stress_index = t.stress_index;
   counter = t.counter;
   instance = record { binary_id = lent t.instance.binary_id; test_name = lent t.instance.test_name };

@@ -2,9 +2,10 @@
 //!
 //! One module a concern: `builder` says what a reporter is built from, `faults` how it fails (what it is asked is `run_model::call`),
 //! `decider` what it decides of an event by its metadata, `effect` what an event does beside its text, `final_output` what is kept
-//! of a test for the summary, `entry_key` what that is ordered by, `kept` how it is held and listed, `state` what is known of the
-//! calls before, `store` where records go, `reporter` the calls, `run` the run of a list of them, and `topics` what text an event
-//! has. The texts themselves stand in the crates `event_text`, `test_text`, `run_text` and `info_text`, the records in `store_text`.
+//! of a test for the summary, `kept_test` the test with names of its own, `entry_key` what an entry is ordered by, `kept` how entries
+//! are held and listed, `state` what is known of the calls before, `store` where records go, `reporter` the calls, `run` the run of a
+//! list of them, and `topics` what text an event has. The texts themselves stand in the crates `event_text`, `test_text`, `run_text`
+//! and `info_text`, the records in `store_text`.
 
 mod builder;
 mod decider;

@@ -20,7 +20,7 @@ use Rattle.test_text.proofs.lemmas.TestTints.{tinted-skip_line}
 use Rattle.run_text.specs.PlainRuns.{IsPlainPrefix}
 use Rattle.console_reporter.specs.Effects.{final_output, finished_entry, is_kept, is_skip_kept, entry_of}
 use Rattle.console_reporter.specs.Entries.{cancel, prefix, kept, final_order, is_before, final_text, entries_text}
-use Rattle.console_reporter.specs.KeptTests.{counted}
+use Rattle.console_reporter.specs.KeptTests.{borrowed_test}
 use Rattle.console_reporter.specs.Order.{put_in, ordered_by}
 use Rattle.console_reporter.specs.PlainCalls.{IsPlainKind, IsPlainCall}
 use Rattle.run_model.specs.declared.call.ReportCall.{ReportCall}
@@ -36,7 +36,7 @@ IsPlainFinal k (ExecutedWithOutput summary output) = IsPlainResult summary.resul
 IsPlainFinal k Skipped = Unit {0}
 
 abbrev pub IsPlainEntry : Bool → FinalOutputEntry → Type 0
-IsPlainEntry k e = IsPlainTest (counted e.test) × IsPlainFinal k e.output
+IsPlainEntry k e = IsPlainTest (borrowed_test e.test) × IsPlainFinal k e.output
 
 tinted-final_text : (k : Bool) (s : Settings) (test : CountedInstance) (x : FinalOutput) → IsPlainTest test → IsPlainFinal k x → IsTinted k (final_text (painted true s) test x) (final_text (painted false s) test x)
 unfolding final_text
@@ -47,7 +47,7 @@ tinted-final_text k s test Skipped h j = tinted-skip_line k s test h
 
 pub tinted-entries_text : (k : Bool) (s : Settings) (es : List FinalOutputEntry) → AllByRecursion (IsPlainEntry k) es → IsTinted k (entries_text (painted true s) es) (entries_text (painted false s) es)
 tinted-entries_text k s [] h = tinted-none k
-tinted-entries_text k s (e ∷ es) h = tinted-append k _ _ _ _ (tinted-final_text k s (counted e.test) e.output h.0.0 h.0.1) (tinted-entries_text k s es h.1)
+tinted-entries_text k s (e ∷ es) h = tinted-append k _ _ _ _ (tinted-final_text k s (borrowed_test e.test) e.output h.0.0 h.0.1) (tinted-entries_text k s es h.1)
 
 -- lists of what is plain
 pub All-append : {X : Type 0} (P : X → Type 0) (xs ys : List X) → AllByRecursion P xs → AllByRecursion P ys → AllByRecursion P (xs ++ ys)

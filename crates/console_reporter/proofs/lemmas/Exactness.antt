@@ -56,7 +56,7 @@ use Rattle.console_reporter.specs.Configuration.{Configuration, settings_of}
 use Rattle.console_reporter.specs.Effects.{entry_of, final_output}
 use Rattle.console_reporter.specs.Entries.{cancel, final_order, final_text}
 use Rattle.console_reporter.specs.Exactness.{IsExact, IsObserved, IsSeen, IsStoredThere, combined, with_output, writing}
-use Rattle.console_reporter.specs.KeptTests.{counted, kept_test}
+use Rattle.console_reporter.specs.KeptTests.{borrowed_test, kept_test}
 use Rattle.console_reporter.specs.Loads.{decision, is_kept_by, load_if, loads_attempt, loads_script}
 use Rattle.console_reporter.specs.Report.{event_text, listed_text, script_by, text, texts}
 use Rattle.console_reporter.specs.Stored.{record_of, records, stored_text}
@@ -194,7 +194,7 @@ listed_differ s test x front back elapsed (RunFinished taken stats outstanding) 
     let rest = not_seen_text s outstanding ++ final_warnings s.styles s.mode (final_stats_of_run stats) in
     let entries = append_cancel_right _ _ rest (append_cancel_left (run_finished_text s taken.0 stats) _ _ e) in
     let outputs = append_cancel_right _ _ place.1 (append_cancel_left place.0 _ _ (sym (place.2 wrote_a) ∙ entries ∙ place.2 wrote_b)) in
-    outputs_differ s unit.Test false x.result (append_cancel_left (status_line s.styles Final (counted test) x) _ _ outputs)
+    outputs_differ s unit.Test false x.result (append_cancel_left (status_line s.styles Final (borrowed_test test) x) _ _ outputs)
 listed_differ s test x front back elapsed other is e = absurd (false≢true is)
 
 -- a finished test whose output is shown

@@ -8,13 +8,13 @@ use Rattle.test_text.specs.StatusLines.{status_line}
 use Rattle.event_text.specs.declared.instance.CountedInstance.{CountedInstance}
 use Rattle.event_text.specs.declared.settings.Settings.{Settings}
 use Rattle.test_text.specs.declared.status_line.StatusLineKind.{StatusLineKind}
-use Rattle.console_reporter.specs.KeptTests.{counted, kept_test}
+use Rattle.console_reporter.specs.KeptTests.{borrowed_test, kept_test}
 use Rattle.console_reporter.specs.declared.imp.kept_test.KeptTest.{KeptTest}
 
-pub line_of_kept : (s : Styles) (kind : StatusLineKind) (a : CountedInstance) (t : KeptTest) (x : StatusSummary) → kept_test a ≡ t → status_line s kind a x ≡ status_line s kind (counted t) x
+pub line_of_kept : (s : Styles) (kind : StatusLineKind) (a : CountedInstance) (t : KeptTest) (x : StatusSummary) → kept_test a ≡ t → status_line s kind a x ≡ status_line s kind (borrowed_test t) x
 unfolding status_line
-line_of_kept s kind a t x h = subst (λ u. status_line s kind a x ≡ status_line s kind (counted u) x) h refl
+line_of_kept s kind a t x h = subst (λ u. status_line s kind a x ≡ status_line s kind (borrowed_test u) x) h refl
 
-pub skip_of_kept : (s : Settings) (a : CountedInstance) (t : KeptTest) → kept_test a ≡ t → skip_line s a ≡ skip_line s (counted t)
+pub skip_of_kept : (s : Settings) (a : CountedInstance) (t : KeptTest) → kept_test a ≡ t → skip_line s a ≡ skip_line s (borrowed_test t)
 unfolding skip_line untimed_end instance_end
-skip_of_kept s a t h = subst (λ u. skip_line s a ≡ skip_line s (counted u)) h refl
+skip_of_kept s a t h = subst (λ u. skip_line s a ≡ skip_line s (borrowed_test u)) h refl

@@ -62,7 +62,7 @@ use Rattle.console_reporter.specs.Configuration.{Configuration}
 use Rattle.test_text.specs.FinishedTests.{TestFinish, test_finish, line_at_once, output_at_once, test_finished_text}
 use Rattle.console_reporter.specs.Entries.{hiding_rank, entry_text, final_text}
 use Rattle.event_text.specs.Finishes.{is_line_shown, row_at_once}
-use Rattle.console_reporter.specs.KeptTests.{counted}
+use Rattle.console_reporter.specs.KeptTests.{borrowed_test}
 use Rattle.console_reporter.specs.Outcomes.{IsOfLines}
 use Rattle.console_reporter.specs.Report.{Known, end_of_run_text, event_text, listed_text, script_by, text}
 use Rattle.event_text.specs.Instances.{instance_end, padded_instance, untimed_end}
@@ -320,7 +320,7 @@ ends-final_text s test Skipped = ends-skip_line s test
 
 of_lines-entries : (s : Settings) (es : List FinalOutputEntry) → IsOfLines (flat_map (entry_text s) es)
 of_lines-entries s [] = inl refl
-of_lines-entries s (e ∷ es) = of_lines-append (entry_text s e) (flat_map (entry_text s) es) (of_line _ (ends-final_text s (counted e.test) e.output)) (of_lines-entries s es)
+of_lines-entries s (e ∷ es) = of_lines-append (entry_text s e) (flat_map (entry_text s) es) (of_line _ (ends-final_text s (borrowed_test e.test) e.output)) (of_lines-entries s es)
 
 of_lines-listed_text : (s : Settings) (known : Known) → IsOfLines (listed_text s known)
 unfolding listed_text

@@ -5,7 +5,7 @@ ghost use Rattle.plain_text.specs.Writer.{Puts};
 ghost use Rattle.test_text.specs.StatusLines.{status_line};
 ghost use Rattle.test_text.specs.declared.status_line.StatusLineKind.{StatusLineKind};
 ghost use Rattle.console_reporter.specs.Entries.{final_text, entries_text, final_order, IsFinalOrder};
-ghost use Rattle.console_reporter.specs.KeptTests.{counted};
+ghost use Rattle.console_reporter.specs.KeptTests.{borrowed_test};
 ghost use Rattle.console_reporter.specs.declared.imp.final_output.FinalOutputEntry.{FinalOutputEntry};
 
 use super::entry_key::EntryKey;
@@ -94,7 +94,7 @@ fn write_entry<W: WriteStr>(
     test: &KeptTest,
     output: &FinalOutput,
 ) -> Result<(), WriteFault>
-    ensures { Puts W.meaning w.old (final_text settings.now (counted test.now) output.now) result w.new }
+    ensures { Puts W.meaning w.old (final_text settings.now (borrowed_test test.now) output.now) result w.new }
 {
     match output {
         FinalOutput::Executed { summary } => write_line(w, settings, test, summary),
@@ -114,7 +114,7 @@ fn write_line<W: WriteStr>(
     test: &KeptTest,
     summary: &StatusSummary,
 ) -> Result<(), WriteFault>
-    ensures { Puts W.meaning w.old (status_line settings.now.styles StatusLineKind.Final (counted test.now) summary.now) result w.new }
+    ensures { Puts W.meaning w.old (status_line settings.now.styles StatusLineKind.Final (borrowed_test test.now) summary.now) result w.new }
 {
     let line = StatusLine::of_summary(summary);
     write_status_line(
