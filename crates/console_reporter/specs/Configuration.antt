@@ -14,6 +14,7 @@ use Rattle.event_text.specs.Settings.{counter_width_of, overrides_by, theme_of}
 use Rattle.event_text.specs.declared.settings.Settings.{Settings}
 use Rattle.store_text.specs.declared.config.StoreConfig.{StoreConfig}
 use Rattle.console_reporter.specs.declared.imp.builder.DisplayReporterBuilder.{DisplayReporterBuilder}
+use Rattle.console_reporter.specs.declared.imp.builder.Surroundings.{Surroundings}
 
 -- nextest's defaults, for a run of so many tests
 abbrev pub default_builder : ℕ → DisplayReporterBuilder
@@ -56,6 +57,11 @@ configured builder use_unicode is_terminal is_ci display_empty_outputs = record 
   display_empty_outputs = display_empty_outputs;
   store = None;
 }
+
+-- the same in named surroundings, and with a store where there is one
+abbrev pub configured_in : DisplayReporterBuilder → Surroundings → Option StoreConfig → Configuration
+configured_in builder surroundings store =
+    record (configured builder surroundings.use_unicode surroundings.is_terminal surroundings.is_ci surroundings.display_empty_outputs) { store = store }
 
 -- the same with a store
 abbrev pub configured_with_store : StoreConfig → DisplayReporterBuilder → Bool → Bool → Bool → Bool → Configuration

@@ -1,6 +1,6 @@
 -- Isolation: a replay may leave unread every captured output that the load decider skips, and no byte changes.
-use Rattle.std.specs.Prelude.{◌≡◌, List, reverse}
-use Rattle.console_reporter.specs.Accepted.{AreAcceptedBy, decider_of, first_refused}
+use Rattle.std.specs.Prelude.{◌≡◌, ℕ, List, reverse}
+use Rattle.console_reporter.specs.Accepted.{AreAcceptedBy, decider_of, first_refused, refusal_at_by}
 use Rattle.console_reporter.specs.Configuration.{Configuration}
 use Rattle.console_reporter.specs.Report.{report, texts}
 use Rattle.console_reporter.specs.Stored.{records, stored}
@@ -8,8 +8,8 @@ use Rattle.run_model.specs.declared.call.ReportCall.{ReportCall}
 use Rattle.console_reporter.specs.declared.imp.decider.OutputLoadDecider.{OutputLoadDecider}
 
 -- For every configuration that has this decider, each position of the calls with its skipped outputs left unread has the text and
--- the record of that position of the calls, so the report and what is stored are the same; where the calls are accepted they still are; and the first call that is
--- refused is the same one.
+-- the record of that position of the calls, so the report and what is stored are the same; where the calls are accepted they still are; the first call that is
+-- refused is the same one; and each call is refused for the same reason.
 abbrev pub IsIsolated : OutputLoadDecider → List ReportCall → List ReportCall → Type 0
 IsIsolated decider calls left =
     ((config : Configuration) → decider_of config ≡ decider → texts config (reverse left) ≡ texts config (reverse calls))
@@ -18,3 +18,4 @@ IsIsolated decider calls left =
     × ((config : Configuration) → decider_of config ≡ decider → stored config.store (reverse left) ≡ stored config.store (reverse calls))
     × (AreAcceptedBy decider calls → AreAcceptedBy decider left)
     × (first_refused decider left ≡ first_refused decider calls)
+    × ((i : ℕ) → refusal_at_by decider left i ≡ refusal_at_by decider calls i)

@@ -1,9 +1,8 @@
 -- Scenes that are judged: each line by itself, and then whether the scene's reporter would refuse an event.
-use Rattle.std.specs.Prelude.{◌≡◌, ◌⊎◌, ℕ, List, get_or, if◌then◌else◌, Option, None, Some, Result, Ok, Err, ⊤}
+use Rattle.std.specs.Prelude.{◌≡◌, ◌⊎◌, ℕ, List, get_or, Option, None, Some, Result, Ok, Err, ⊤}
 use Rattle.std.specs.Option.{option_and_then}
-use Rattle.console_reporter.specs.Accepted.{first_refused, is_retried_success, refusal_at_by}
+use Rattle.console_reporter.specs.Accepted.{first_refused, refusal_at_by}
 use Rattle.run_model.specs.declared.call.ReportCall.{ReportCall}
-use Rattle.run_model.specs.declared.call.ReportCall.TheVariants.{Event, Header, Prefix}
 use Rattle.console_reporter.specs.declared.imp.faults.WriteEventError.{WriteEventError}
 use Rattle.console_reporter.specs.declared.imp.faults.WriteEventError.TheVariants.{RetriedSuccess, OutputNotLoaded, Io, Memory, Failed, StoreIo}
 use Rattle.scenes.specs.Reports.{AreCallsOf}
@@ -44,11 +43,10 @@ line_fault_for Memory = None
 line_fault_for Failed = None
 line_fault_for StoreIo = None
 
--- the same by the call alone
-abbrev pub fault_if_refused : ReportCall → LineFault
-fault_if_refused (Event e) = if is_retried_success e.kind then line.RetriedSuccess else line.OutputNotLoaded
-fault_if_refused (Header h) = line.OutputNotLoaded
-fault_if_refused (Prefix p) = line.OutputNotLoaded
+-- the same of a call that is refused
+abbrev pub fault_of_refusal : Option WriteEventError → LineFault
+fault_of_refusal (Some RetriedSuccess) = line.RetriedSuccess
+fault_of_refusal _ = line.OutputNotLoaded
 
 -- the line is that of the first call that is refused, and it says why
 pub record IsRefusedLine (options : Options) (scene : Scene) (calls : List ReportCall) (n : ℕ) (f : LineFault) : Type 0 where

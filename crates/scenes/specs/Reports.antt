@@ -12,15 +12,17 @@ use Rattle.plain_text.specs.Texts.{Text}
 use Rattle.plain_text.specs.Buffer.{GrowsWithin}
 use Rattle.plain_text.specs.Writer.{Meaning}
 use Rattle.store_text.specs.declared.config.StoreConfig.{StoreConfig}
-use Rattle.console_reporter.specs.Configuration.{Configuration, configured}
+use Rattle.console_reporter.specs.Configuration.{Configuration, configured_in}
 use Rattle.console_reporter.specs.Outcomes.{HasFront, Stops, StopsRecord}
 use Rattle.console_reporter.specs.Report.{report}
 use Rattle.console_reporter.specs.Stored.{stored}
 use Rattle.console_reporter.specs.declared.imp.builder.DisplayReporterBuilder.{DisplayReporterBuilder}
+use Rattle.console_reporter.specs.declared.imp.builder.Surroundings.{Surroundings}
 use Rattle.run_model.specs.declared.call.ReportCall.{ReportCall}
 use Rattle.console_reporter.specs.declared.imp.faults.WriteEventError.{WriteEventError}
 use Rattle.console_reporter.specs.declared.imp.faults.WriteEventError.TheVariants.{RetriedSuccess, OutputNotLoaded, Io, Memory, Failed, StoreIo}
 use Rattle.scene_text.specs.Scenes.{IsCallOf}
+use Rattle.scene_text.specs.declared.scene.SceneConfig.{SceneConfig}
 use Rattle.scenes.specs.declared.fault.Fault.{Fault}
 use Rattle.scenes.specs.declared.fault.Fault.TheVariants.{Usage, CannotRead, CannotWrite, Line, WriteFailed, StoreFailed, OutOfMemory}
 use Rattle.scenes.specs.declared.scene.Scene.{Scene}
@@ -57,9 +59,13 @@ builder_for options scene = record {
 abbrev pub store_for : Options → Option StoreConfig
 store_for options = option_map (λ s. s.config) options.store
 
--- the same with what the scene says of Unicode and of empty outputs, without terminal and CI, and with the store
+-- what the scene says of where its report goes: to no terminal, and from no build machine
+abbrev pub surroundings_of : SceneConfig → Surroundings
+surroundings_of config = record { use_unicode = config.use_unicode; is_terminal = false; is_ci = false; display_empty_outputs = config.display_empty_outputs }
+
+-- the configuration of its reporter
 abbrev pub configuration_for : Options → Scene → Configuration
-configuration_for options scene = record (configured (builder_for options scene) scene.config.use_unicode false false scene.config.display_empty_outputs) { store = store_for options }
+configuration_for options scene = configured_in (builder_for options scene) (surroundings_of scene.config) (store_for options)
 
 -- the report of a scene whose calls are these
 abbrev pub report_of : Options → Scene → List ReportCall → Text

@@ -8,8 +8,8 @@ ghost use Rattle.std.specs.Io.KnownBytes.{Appends};
 ghost use Rattle.scenes.specs.declared.fault.Fault.{Fault};
 ghost use Rattle.scene_text.specs.Split.{parted};
 ghost use Rattle.scenes.specs.Faults.{IsJudgeFault};
-ghost use Rattle.console_reporter.specs.Accepted.{first_refused, is_retried_success};
-ghost use Rattle.scenes.specs.Judged.{IsJudged, IsJudgedFault, IsSceneAccepted, IsSceneRefused, fault_if_refused};
+ghost use Rattle.console_reporter.specs.Accepted.{first_refused};
+ghost use Rattle.scenes.specs.Judged.{IsJudged, IsJudgedFault, IsSceneAccepted, IsSceneRefused, fault_of_refusal};
 ghost use Rattle.scenes.specs.Reports.{Begins, IsStop, StopsStore, StopsText, fault_for, report_of, store_for, stored_of};
 ghost use Rattle.scene_text.specs.SceneTexts.{AllTell, event_lines, nothing_told, text_told};
 ghost use Rattle.scenes.specs.SpelledRuns.{BeginsReport, BeginsRun, IsRejected, PrintsReport, PrintsRun};
@@ -24,7 +24,6 @@ use console_reporter::imp::{
     ReportCall, WriteEventError, first_refused, run_report, run_report_with_store,
 };
 use console_reporter::write_str::{TextBuffer, WriteStr};
-use run_model::event::TestEventKind;
 use scene_text::reader::read_scene;
 use std::alloc::{AllocError, Global};
 use std::io::{Read, Write};
@@ -142,30 +141,18 @@ fn judge_calls(
         None => Ok(()),
         Some(place) => Err(Fault::Line {
             line: scene.line_of(place),
-            fault: fault_if_refused(&calls[place]),
+            fault: fault_of_refusal(decider.refusal(&calls[place])),
         }),
     }
 }
 
-// What the line of a call says that is refused.
-fn fault_if_refused(call: &ReportCall<'_>) -> LineFault
-    ensures { result ≡ fault_if_refused call.now }
+// What the line of a call says that is refused so.
+fn fault_of_refusal(refusal: Option<WriteEventError>) -> LineFault
+    ensures { result ≡ fault_of_refusal refusal }
 {
-    match call {
-        ReportCall::Event(event) if is_retried_success(&event.kind) => LineFault::RetriedSuccess,
+    match refusal {
+        Some(WriteEventError::RetriedSuccess) => LineFault::RetriedSuccess,
         _ => LineFault::OutputNotLoaded,
-    }
-}
-
-// Whether another attempt is said to follow one that succeeded.
-fn is_retried_success(event: &TestEventKind<'_>) -> bool
-    ensures { result ≡ is_retried_success event.now }
-{
-    match event {
-        TestEventKind::TestAttemptFailedWillRetry { run_status, .. } => {
-            run_status.result.is_success()
-        }
-        _ => false,
     }
 }
 

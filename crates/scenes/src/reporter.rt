@@ -1,9 +1,7 @@
 //! The reporter of a scene: what it is built from, and what it decides by.
 
-ghost use Rattle.std.specs.Prelude.{◌≡◌, IfOk, IfErr, false};
-ghost use Rattle.console_reporter.specs.Accepted.{decider_of};
-ghost use Rattle.console_reporter.specs.Configuration.{configured, configured_with_store};
-ghost use Rattle.scenes.specs.Reports.{builder_for, kind_for, progress_for};
+ghost use Rattle.std.specs.Prelude.{◌≡◌, IfOk, IfErr};
+ghost use Rattle.scenes.specs.Reports.{builder_for, kind_for, progress_for, surroundings_of};
 ghost use Rattle.scenes.specs.Unloads.{decider_for};
 ghost use Rattle.scenes.specs.declared.fault.Fault.{Fault};
 
@@ -11,13 +9,13 @@ use crate::fault::Fault;
 use crate::scene::{Scene, SceneConfig};
 use crate::words::Options;
 use console_reporter::config::{DisplayConfig, ShowProgress};
-use console_reporter::imp::{DisplayReporterBuilder, DisplayerKind, OutputLoadDecider};
+use console_reporter::imp::{
+    DisplayReporterBuilder, DisplayerKind, OutputLoadDecider, Surroundings,
+};
 use run_model::config::CompiledDefaultFilter;
 use std::alloc::Global;
-use store_text::config::StoreConfig;
 
-/// What decides which output the scene's reporter needs and which events it refuses. The reporter that is asked writes
-/// nothing.
+/// What decides which output the scene's reporter needs and which events it refuses.
 pub fn decider_of(
     alloc: Global,
     options: &Options<'_>,
@@ -27,56 +25,19 @@ pub fn decider_of(
     ensures err { IfErr result (λ fault. fault ≡ Fault.OutOfMemory) }
 {
     let builder = builder_of(alloc, options, scene)?;
-    match options.store {
-        None => Ok(decider_alone(alloc, builder, &scene.config)),
-        Some(store) => Ok(decider_with_store(alloc, builder, store.config, &scene.config)),
+    let store = options.store.map(|store| store.config);
+    Ok(builder.output_load_decider(surroundings_of(&scene.config), store))
+}
+
+// What the scene says of where its report goes: to no terminal, and from no build machine.
+fn surroundings_of(config: &SceneConfig) -> Surroundings
+    ensures { result ≡ surroundings_of config.now }
+{
+    Surroundings {
+        use_unicode: config.use_unicode,
+        display_empty_outputs: config.display_empty_outputs,
+        ..Surroundings::default()
     }
-}
-
-// What decides where there is no store.
-fn decider_alone(
-    alloc: Global,
-    builder: DisplayReporterBuilder,
-    config: &SceneConfig,
-) -> OutputLoadDecider
-    ensures { result ≡ decider_of (configured builder config.now.use_unicode false false config.now.display_empty_outputs) }
-{
-    let mut unwritten = String::new(alloc);
-    let (is_terminal, is_ci) = (false, false);
-    let reporter = builder.build(
-        alloc,
-        &mut unwritten,
-        config.use_unicode,
-        is_terminal,
-        is_ci,
-        config.display_empty_outputs,
-    );
-    reporter.output_load_decider()
-}
-
-// What decides where there is one.
-fn decider_with_store(
-    alloc: Global,
-    builder: DisplayReporterBuilder,
-    store: StoreConfig,
-    config: &SceneConfig,
-) -> OutputLoadDecider
-    ensures { result ≡ decider_of (configured_with_store store builder config.now.use_unicode false false config.now.display_empty_outputs) }
-{
-    let mut unwritten = String::new(alloc);
-    let mut unstored = String::new(alloc);
-    let (is_terminal, is_ci) = (false, false);
-    let reporter = builder.build_with_store(
-        alloc,
-        &mut unwritten,
-        &mut unstored,
-        store,
-        config.use_unicode,
-        is_terminal,
-        is_ci,
-        config.display_empty_outputs,
-    );
-    reporter.output_load_decider()
 }
 
 /// What the scene's reporter is built from.

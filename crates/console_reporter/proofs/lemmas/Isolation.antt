@@ -1,9 +1,10 @@
 -- What the decider skips is not shown (for `unload_skipped`, `DisplayReporter::output_load_decider`).
 use Rattle.std.proofs.Common.{◌≡◌, ℕ, Bool, true, false, not, Option, None, Some, List, [], ◌∷◌, ◌++◌, map, reverse, if◌then◌else◌, refl, sym, ap, ap₂, subst, ◌∙◌, inl, inr, codes, ◌||◌}
-use Rattle.std.specs.List.{position_or_len}
-use Rattle.std.specs.Option.{is_some, option_map_or}
+use Rattle.std.specs.List.{position_or_len, slice_get}
+use Rattle.std.specs.Option.{is_some, option_and_then, option_map, option_map_or}
 use Rattle.std.proofs.lemmas.Bool.{cases_Bool, false≢true}
 use Rattle.std.proofs.lemmas.List.{length-map, map-append, reverse-append}
+use Rattle.std.proofs.lemmas.Option.{slice_get-map}
 use Rattle.run_model.specs.Attempts.{Attempts}
 use Rattle.run_model.specs.Displays.{is_immediate, is_final}
 use Rattle.run_model.specs.Outputs.{has_loaded_output}
@@ -36,7 +37,7 @@ use Rattle.event_text.specs.declared.finish.FinishRow.TheVariants.{Hidden, Shown
 use Rattle.event_text.specs.declared.settings.Settings.{Settings}
 use Rattle.run_text.specs.SetupScripts.{failed_script_output, setup_script_finished_text}
 use Rattle.event_text.specs.Scripts.{Script}
-use Rattle.console_reporter.specs.Accepted.{AreAcceptedBy, decider_by, decider_of, event_refusal, first_refused, refusal_by}
+use Rattle.console_reporter.specs.Accepted.{AreAcceptedBy, decider_by, decider_of, event_refusal, first_refused, refusal_at_by, refusal_by}
 use Rattle.console_reporter.specs.Configuration.{Configuration, settings_of}
 use Rattle.console_reporter.specs.Effects.{final_output, is_kept, kept_entry}
 use Rattle.console_reporter.specs.Effects.TestEnd.{Finished}
@@ -208,6 +209,13 @@ same-len d (call ∷ calls) = rw (same-call-refusal d call, same-len d calls) re
 same-first : (d : OutputLoadDecider) (calls : List ReportCall) → first_refused d (unread d calls) ≡ first_refused d calls
 same-first d calls = rw (same-len d calls, length-map calls (unread_call d)) refl
 
+same-refusal-in : (d : OutputLoadDecider) (o : Option ReportCall) → option_and_then (refusal_by d) (option_map (unread_call d) o) ≡ option_and_then (refusal_by d) o
+same-refusal-in d None = refl
+same-refusal-in d (Some call) = same-call-refusal d call
+
+same-refusal-at : (d : OutputLoadDecider) (calls : List ReportCall) (i : ℕ) → refusal_at_by d (unread d calls) i ≡ refusal_at_by d calls i
+same-refusal-at d calls i = ap (option_and_then (refusal_by d)) (slice_get-map (unread_call d) calls i) ∙ same-refusal-in d (slice_get calls i)
+
 all-accepted : (d : OutputLoadDecider) (calls : List ReportCall) → AreAcceptedBy d calls → AreAcceptedBy d (unread d calls)
 all-accepted d [] h = tt
 all-accepted d (call ∷ calls) h = (same-call-refusal d call ∙ h.0, all-accepted d calls h.1)
@@ -264,4 +272,5 @@ isolated d calls = (
       (ap (stored config.store) (sym (map_reverse (unread_call (decider_of config)) calls)) ∙ same-stored config (reverse calls)),
   all-accepted d calls,
   same-first d calls,
+  same-refusal-at d calls,
 )

@@ -1,9 +1,12 @@
 //! How a reporter is configured.
 
 ghost use Rattle.std.specs.Prelude.{◌≡◌, IfOk, [], None, Some};
-ghost use Rattle.console_reporter.specs.Configuration.{configured, configured_with_store, default_builder, settings_of};
+ghost use Rattle.console_reporter.specs.Accepted.{decider_of};
+ghost use Rattle.console_reporter.specs.Configuration.{configured, configured_in, configured_with_store, default_builder, settings_of};
 ghost use Rattle.console_reporter.specs.Standing.{StandsAfter};
+ghost use Rattle.event_text.specs.Settings.{overrides_by};
 
+use super::decider::OutputLoadDecider;
 use super::reporter::DisplayReporter;
 use event_text::settings::{Settings, counter_width_for, overrides_for, styles_for, theme_for};
 use plain_text::write_str::WriteStr;
@@ -16,7 +19,7 @@ use run_model::name::ProfileName;
 use std::alloc::Global;
 use store_text::config::StoreConfig;
 use unit_report::config::{DisplayConfig, ShowProgress};
-use unit_report::unit_output::{DisplayerKind, UnitOutputReporter};
+use unit_report::unit_output::{DisplayerKind, OutputDisplayOverrides, UnitOutputReporter};
 
 /// Where a report goes: what nextest finds out by itself, and a caller of this library says. By default it goes to a file: no
 /// terminal, no build machine, ASCII characters, and empty outputs are not shown.
@@ -166,6 +169,36 @@ impl DisplayReporterBuilder {
         DisplayReporter::with_store(alloc, writer, store_writer, store, settings)
     }
 
+    /// What decides by an event's metadata whether the reporter refuses it, and whether it shows or stores its output: the decider that the
+    /// reporter of this builder answers in these surroundings, with a store where one is named. It allocates nothing.
+    ///
+    /// ```
+    /// let decider = builder.output_load_decider(Surroundings::default(), None);
+    /// ```
+    pub fn output_load_decider(
+        &self,
+        surroundings: Surroundings,
+        store: Option<StoreConfig>,
+    ) -> OutputLoadDecider
+        ensures { result ≡ decider_of (configured_in self.now surroundings store) }
+    {
+        let resolved = self
+            .display_config
+            .resolve(surroundings.is_terminal, surroundings.is_ci);
+        OutputLoadDecider::new(resolved.status_levels.status_level, self.overrides(), store)
+    }
+
+    // When the outputs of tests are shown, overriding what each test asks for.
+    fn overrides(&self) -> OutputDisplayOverrides
+        ensures { result ≡ overrides_by self.now.display_config.no_capture self.now.success_output self.now.failure_output }
+    {
+        overrides_for(
+            self.display_config.no_capture,
+            self.success_output,
+            self.failure_output,
+        )
+    }
+
     // What a reporter goes by that is built so.
     fn settings(
         self,
@@ -177,11 +210,7 @@ impl DisplayReporterBuilder {
         ensures { result ≡ settings_of (configured self use_unicode is_terminal is_ci display_empty_outputs) }
     {
         let resolved = self.display_config.resolve(is_terminal, is_ci);
-        let overrides = overrides_for(
-            self.display_config.no_capture,
-            self.success_output,
-            self.failure_output,
-        );
+        let overrides = self.overrides();
         Settings {
             mode: self.mode,
             status_levels: resolved.status_levels,

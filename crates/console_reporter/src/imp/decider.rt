@@ -37,15 +37,27 @@ pub struct OutputLoadDecider {
 }
 
 impl OutputLoadDecider {
+    // What decides at this status level by these overrides, and by what a store is asked to keep.
+    pub(super) fn new(
+        status_level: StatusLevel,
+        overrides: OutputDisplayOverrides,
+        store: Option<StoreConfig>,
+    ) -> OutputLoadDecider
+        ensures { result ≡ (record { status_level = status_level; overrides = overrides; store = store }) }
+    {
+        OutputLoadDecider {
+            status_level,
+            overrides,
+            store,
+        }
+    }
+
     // What decides by these settings, and by what a store is asked to keep.
     pub(super) fn of_settings(settings: &Settings, store: Option<StoreConfig>) -> OutputLoadDecider
         ensures { result ≡ decider_by settings.now store }
     {
-        OutputLoadDecider {
-            status_level: settings.status_levels.status_level,
-            overrides: settings.unit_output.overrides(),
-            store,
-        }
+        let overrides = settings.unit_output.overrides();
+        OutputLoadDecider::new(settings.status_levels.status_level, overrides, store)
     }
 
     /// Whether a replay has to load the captured output of a recorded event: where a report shows it, at once or at the end of
@@ -189,13 +201,18 @@ impl OutputLoadDecider {
         }
     }
 
-    // Whether the reporter refuses the call.
-    fn refuses(&self, call: &ReportCall<'_>) -> bool
-        ensures { result ≡ is_some (refusal_by self.now call.now) }
+    /// Why a reporter of the decider's configuration refuses a call, `RetriedSuccess` or `OutputNotLoaded`, or None where it accepts it.
+    /// It allocates nothing.
+    ///
+    /// ```
+    /// if let Some(refusal) = decider.refusal(&call) { return Err(refusal); }
+    /// ```
+    pub fn refusal(&self, call: &ReportCall<'_>) -> Option<WriteEventError>
+        ensures { result ≡ refusal_by self.now call.now }
     {
         match call {
-            ReportCall::Event(event) => self.refusal_of(event).is_some(),
-            ReportCall::Header(_) | ReportCall::Prefix(_) => false,
+            ReportCall::Event(event) => self.refusal_of(event),
+            ReportCall::Header(_) | ReportCall::Prefix(_) => None,
         }
     }
 
@@ -211,8 +228,8 @@ impl OutputLoadDecider {
     }
 }
 
-/// The place of the first call that a reporter of the decider's configuration refuses, or None where it accepts each. It
-/// allocates nothing.
+/// The place of the first call that a reporter of the decider's configuration refuses, or None where it accepts each.
+/// [`OutputLoadDecider::refusal`] says why. It allocates nothing.
 ///
 /// ```
 /// match first_refused(&decider, &calls) { None => {} Some(place) => {} }
@@ -220,7 +237,9 @@ impl OutputLoadDecider {
 pub fn first_refused(decider: &OutputLoadDecider, calls: &[ReportCall<'_>]) -> Option<usize>
     ensures { result ≡ first_refused decider.now calls.now }
 {
-    calls.iter().position(|call| decider.refuses(call))
+    calls
+        .iter()
+        .position(|call| decider.refusal(call).is_some())
 }
 
 /// Leaves the captured output of every attempt unread of each event that the decider skips, as a replay does that did not load
