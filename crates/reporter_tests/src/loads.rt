@@ -1,7 +1,9 @@
 //! Which outputs a replay loads, and lists of calls without the others.
 
 use crate::testing::{STATS, attempt, builder, failed};
-use console_reporter::imp::{OutputLoadDecider, ReportCall, first_refused, unload_skipped};
+use console_reporter::imp::{
+    OutputLoadDecider, ReportCall, Surroundings, first_refused, unload_skipped,
+};
 use run_model::command::CommandLine;
 use run_model::config::TestOutputDisplay;
 use run_model::event::{TestEvent, TestEventKind};
@@ -51,9 +53,7 @@ fn decider(alloc: Global, status_level: StatusLevel) -> Result<OutputLoadDecider
         status_level,
         final_level,
     );
-    let mut report = String::new(alloc);
-    let reporter = builder.build(alloc, &mut report, false, false, false, false);
-    Ok(reporter.output_load_decider())
+    Ok(builder.output_load_decider(Surroundings::default(), None))
 }
 
 // A test of these attempts that asks for these displays. A success after others counts as a failure.
@@ -95,13 +95,16 @@ fn retried(test_instance: TestInstanceId<'_>) -> TestEvent<'_> {
 
 // A setup script that left handles open, which counts so.
 fn script<'a>(alloc: Global, counts_as: LeakTimeoutResult) -> Result<TestEvent<'a>, Fail> {
+    let script_id = ScriptId::new(alloc, "s1")?;
+    let program = ProgramName::new(alloc, "cmd")?;
+    let args = CommandLine::new(alloc, Vec::new(alloc))?;
     Ok(TestEvent {
         elapsed: Nanos(0),
         kind: TestEventKind::SetupScriptFinished {
             stress_index: None,
-            script_id: ScriptId::new(alloc, "s1")?,
-            program: ProgramName::new(alloc, "cmd")?,
-            args: CommandLine::new(alloc, Vec::new(alloc))?,
+            script_id,
+            program,
+            args,
             run_status: SetupScriptExecuteStatus {
                 output: attempt(1, 1, failed()).output,
                 result: ExecutionResultDescription::Leak { result: counts_as },
