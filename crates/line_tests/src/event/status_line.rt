@@ -1,4 +1,4 @@
-//! The line of a finished test in the summary. No scene asks for one with a bar in the place of its counter.
+//! The line of a finished test in the summary. No scene reaches one with a bar in the place of its counter.
 
 use event_text::instance::CountedInstance;
 use plain_text::style::Styles;
