@@ -1,5 +1,5 @@
-//! The words of results that no scene reaches: the long ones of successes, which have other words in their lines, and those of a process
-//! that left handles open where a scene cannot say so.
+//! The words of results that no scene reaches: the long ones of successes, since their lines take the words of `success_str`, and those of
+//! a process that left handles open where a scene cannot say so.
 
 use event_text::result_words::{spaced_short_status_str, status_str};
 use itoa::Buffer;
