@@ -1,8 +1,12 @@
 """What the check scripts share: what they need before they begin, and how they count what they found."""
 
 import os
+import pathlib
+import re
 import shutil
 import sys
+
+CRATES = pathlib.Path(__file__).resolve().parent.parent / "crates"
 
 
 def need_program(program, makes="./test, or `rt run -- /dev/null` in crates/report, makes it"):
@@ -15,6 +19,12 @@ def need_tool(tool):
     """Ends the script where there is no such command."""
     if not shutil.which(tool):
         sys.exit(f"{sys.argv[0]}: there is no {tool} on the PATH")
+
+
+def words_of(file, name):
+    """The words that a definition of specs/ gives to the kinds of something, as in `line_word line.Run = codes "run"`."""
+    text = (CRATES / file).read_text()
+    return set(re.findall(rf'^{name} [\w.]+ = codes "(.*)"$', text, re.M))
 
 
 class Checks:

@@ -4,7 +4,3 @@ mod abort_line;
 mod attempt_output;
 mod result_words;
 mod status_line;
-mod test_retry;
-mod test_skipped;
-mod test_slow;
-mod test_started;

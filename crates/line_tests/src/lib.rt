@@ -1,13 +1,12 @@
-//! The tests of the lines that are told of tests, of a run and of what its units answer: of the crates `event_text` and `test_text` (in
-//! `event`), `run_text` (in `run`) and `info_text` (in `info`), a file for each of their modules. They stand in a crate of their own because
-//! a crate with tests is proved twice.
+//! The tests of lines that no scene reaches: a scene cannot spell what they tell, or the program never asks for them. Lines that a scene
+//! reaches are cases of `cases/printed`, with the bytes that nextest printed. The tests are of the crates `event_text` and `test_text` (in
+//! `event`) and `info_text` (in `info`), a file for each of their modules. They stand in a crate of their own because a crate with tests is
+//! proved twice.
 #![tactic(auto)]
 
 #[cfg(test)]
 mod event;
 #[cfg(test)]
 mod info;
-#[cfg(test)]
-mod run;
 #[cfg(test)]
 mod testing;

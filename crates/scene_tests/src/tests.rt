@@ -13,14 +13,11 @@ use std::io::{ErrorKind, Read, Write};
 use std::test::Fail;
 use store_text::config::StoreConfig;
 
-mod event_lines;
 mod faults;
 mod growths;
-mod info_lines;
-mod replay_lines;
-mod script_lines;
 mod stores;
 mod unload;
+mod unshown;
 
 const RUN: &str = "run\t00000000-0000-4000-8000-000000000001\tdefault\t2\t1\t-";
 
@@ -213,56 +210,12 @@ fn stops_where_the_device_fails(rt: HostRuntime) -> Result<(), Fail> {
     Ok(())
 }
 
-// The line that the program prints of a scene, empty where the scene is accepted.
-fn line_of(alloc: Global, scene: &[u8]) -> Result<String, Fail> {
-    match judge(alloc, &OPTIONS, scene) {
-        Ok(_) => Ok(String::new(alloc)),
-        Err(fault) => Ok(fault.to_string(alloc)?),
-    }
-}
-
 // The event of a call.
 fn event_of<'c, 'a>(call: &'c ReportCall<'a>) -> Result<&'c TestEvent<'a>, Fail> {
     match call {
         ReportCall::Event(event) => Ok(event),
         _ => Err(Fail::from("the call is no event")),
     }
-}
-
-#[test]
-fn tells_the_fault_of_a_line(rt: HostRuntime) -> Result<(), Fail> {
-    let scenes: [(&[u8], &str); 14] = [
-        (b"", ""),
-        (b"\n# \xff\n#\tx\n\n", ""),
-        (b"# a comment\nbogus\n", "report: line 2: unknown event"),
-        (
-            b"config\tfinal\tall\nbogus\xff\n",
-            "report: line 2: not UTF-8",
-        ),
-        (b"bogus\tconfig", "report: line 1: unknown event"),
-        (b" end\t1\t-\t0\t-", "report: line 1: unknown event"),
-        (b"\r\n", "report: line 1: unknown event"),
-        (b"done\t-\ta", "report: line 1: wrong number of fields"),
-        (
-            b"end\t1\t-\t0\t-\t",
-            "report: line 1: wrong number of fields",
-        ),
-        (b"config", "report: line 1: wrong number of fields"),
-        (
-            b"end\tx\t-\t0\t-\nconfig\tfinal\tall",
-            "report: line 1: bad field 2",
-        ),
-        (
-            b"end\t1\t-\t0\t-\nconfig\tloud",
-            "report: line 2: config after an event",
-        ),
-        (b"end\t1\t-\t0\t-\r\n", "report: line 1: bad field 5"),
-        (b"end\t1\t-\tx\ty\n", "report: line 1: bad field 4"),
-    ];
-    for (scene, line) in scenes {
-        assert_eq!(rt; line_of(rt.alloc(), scene)?.as_str(), line);
-    }
-    Ok(())
 }
 
 // A reader that gives at most seven bytes a read, and fails at one of them.

@@ -1,6 +1,7 @@
-//! The words of each result.
+//! The words of results that no scene reaches: the long ones of successes, since their lines take the words of `success_str`, and those of
+//! a process that left handles open where a scene cannot say so.
 
-use event_text::result_words::{spaced_short_status_str, status_str, success_str};
+use event_text::result_words::{spaced_short_status_str, status_str};
 use itoa::Buffer;
 use run_model::abort::{AbortDescription, DescriptionText};
 use run_model::boxed::Boxed;
@@ -43,38 +44,6 @@ fn successes_have_their_words(rt: HostRuntime) -> Result<(), Fail> {
     Ok(())
 }
 
-#[test]
-fn other_results_have_their_words(rt: HostRuntime) -> Result<(), Fail> {
-    let leak = ExecutionResultDescription::Leak {
-        result: LeakTimeoutResult::Fail,
-    };
-    let timeout = ExecutionResultDescription::Timeout {
-        result: SlowTimeoutResult::Fail,
-    };
-    for row in [
-        (leak, "LEAK-FAIL", " LKFAIL"),
-        (ExecutionResultDescription::ExecFail, "XFAIL", " XFAIL"),
-        (timeout, "TIMEOUT", " TMT"),
-    ] {
-        assert!(rt; has_words(rt.alloc(), &row)?);
-    }
-    Ok(())
-}
-
-#[test]
-fn failures_have_their_words(rt: HostRuntime) -> Result<(), Fail> {
-    for (leaked, long, short) in [(false, "FAIL", " FAIL"), (true, "FAIL + LEAK", " FL+LK")] {
-        let failure = FailureDescription::ExitCode { code: 101 };
-        let row = (
-            ExecutionResultDescription::Fail { failure, leaked },
-            long,
-            short,
-        );
-        assert!(rt; has_words(rt.alloc(), &row)?);
-    }
-    Ok(())
-}
-
 // A result of a process that was ended so.
 fn aborted(alloc: Global, abort: AbortDescription) -> Result<ExecutionResultDescription, Fail> {
     Ok(ExecutionResultDescription::Fail {
@@ -91,39 +60,16 @@ fn aborts_have_their_words(rt: HostRuntime) -> Result<(), Fail> {
         signal: 11,
         name: Some(DescriptionText::new(rt.alloc(), "SEGV")?),
     };
-    let unnamed = AbortDescription::UnixSignal {
-        signal: 64,
-        name: None,
-    };
     let status = AbortDescription::WindowsNtStatus {
         code: -1,
         message: None,
     };
     for (abort, long, short) in [
         (named, "SIGSEGV", " SEGV"),
-        (unnamed, "ABORT SIG 64", " SIG 64"),
         (status, "ABORT", " ABORT"),
         (AbortDescription::WindowsJobObject, "ABORT", " ABORT"),
     ] {
         assert!(rt; has_words(rt.alloc(), &(aborted(rt.alloc(), abort)?, long, short))?);
-    }
-    Ok(())
-}
-
-#[test]
-fn slow_successes_have_their_words(rt: HostRuntime) -> Result<(), Fail> {
-    let leak = ExecutionResultDescription::Leak {
-        result: LeakTimeoutResult::Pass,
-    };
-    let timeout = ExecutionResultDescription::Timeout {
-        result: SlowTimeoutResult::Pass,
-    };
-    for (outcome, word) in [
-        (ExecutionResultDescription::Pass, "SLOW"),
-        (leak, "SLOW + LEAK"),
-        (timeout, "SLOW+TMPASS"),
-    ] {
-        assert_eq!(rt; success_str(true, &outcome), word);
     }
     Ok(())
 }

@@ -1,9 +1,7 @@
 //! Reports whose memory may be refused. With ample memory each is whole. `scripts/faults` runs these tests once for each growth,
 //! which is refused then: a test answers that, and panics where the text is no beginning of its report.
 
-use super::event_lines::RETRY;
 use super::faults::{ASKED, CANCELLED, OF_ASKED, OF_CANCELLED, run_to};
-use super::script_lines::SETUP_DONE;
 use super::{OPTIONS, STORING, TWO_TESTS};
 use console_reporter::imp::{ReportCall, RunFault, WriteEventError};
 use plain_text::write_str::TextBuffer;
@@ -29,6 +27,11 @@ const REPORTS: [(&str, &str); 3] = [
     (CANCELLED, OF_CANCELLED),
     (ASKED, OF_ASKED),
 ];
+
+// An attempt that another one follows, and a setup script: they have outputs of their own.
+const RETRY: &str = "retry\t0/3\ta\tt1\t1\t3\t0\tnever\tfail:1\t5000000\t0\tsplit\tx\t\t-\t-";
+
+const SETUP_DONE: &str = "setupdone\t1/3\tdb\tmake-db\t-\tfail:2\t5000000\t1\tsplit\tx\t\t-\t-";
 
 // What is stored of them without outputs.
 const RECORDS: [&str; 3] = [
