@@ -1,5 +1,5 @@
 -- What the program writes of a scene.
-use Rattle.std.specs.Prelude.{◌≡◌, ◌⊎◌, ℕ, List, reverse, true, false, if◌then◌else◌, Option, Some, ⊤}
+use Rattle.std.specs.Prelude.{◌≡◌, ℕ, List, reverse, true, false, if◌then◌else◌, Option, Some, ⊤}
 use Rattle.std.specs.Option.{is_some, option_map}
 use Rattle.std.specs.List.{AllZip}
 use Rattle.run_model.specs.Filters.{default_config_filter}

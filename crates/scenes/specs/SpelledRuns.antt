@@ -7,7 +7,7 @@ use Rattle.scenes.specs.Faults.{IsJudgeFault}
 use Rattle.scenes.specs.Judged.{IsJudged}
 use Rattle.scenes.specs.Reports.{AreCallsOf, Begins, IsStop, report_of, stored_of}
 use Rattle.scenes.specs.ToldScenes.{scene_told}
-use Rattle.scene_text.specs.SceneTexts.{text_told, told}
+use Rattle.scene_text.specs.SceneTexts.{text_told}
 use Rattle.scenes.specs.Unloads.{decider_for}
 use Rattle.scenes.specs.declared.fault.Fault.{Fault}
 use Rattle.scenes.specs.declared.scene.Scene.{Scene}

@@ -1,9 +1,8 @@
 -- A run that was spelled and printed (for `judge`, `report_judged`, `report_read`, `report_scene`).
 use Rattle.std.proofs.Common.{◌≡◌, ℕ, List, [], reverse, Option, ◌⊎◌, None, inl, inr, refl, subst, sym, ◌∙◌}
-use Rattle.std.specs.Prelude.{Result, Ok, Err, IfErr, OnOk, ⊤}
+use Rattle.std.specs.Prelude.{Result, Ok, Err, IfErr, OnOk}
 use Rattle.std.specs.Io.KnownBytes.{Appends}
 use Rattle.std.proofs.KnownBytes.{Appends-nil}
-use Rattle.console_reporter.specs.Accepted.{first_refused}
 use Rattle.scenes.specs.Faults.{IsJudgeFault}
 use Rattle.scenes.specs.Judged.{IsJudgedScene, IsRefusedText, IsSceneRefused, Judged}
 use Rattle.scenes.specs.Reports.{Begins, IsStop, report_of, store_for, stored_of}

@@ -16,7 +16,7 @@ module _ (options : Options) (scene : Scene) where
     made = calls;
     of_scene = of_scene;
     ready = rw off refl;
-    isolated = (λ config is. refl, λ config is. refl, λ config is. refl, λ config is. refl, λ accepted. accepted, refl);
+    isolated = (λ config is. refl, λ config is. refl, λ config is. refl, λ config is. refl, λ accepted. accepted, refl, λ i. refl);
   }
 
   -- what is skipped is left unread

@@ -1,0 +1,26 @@
+use Rattle.std.proofs.Common.{rules, ◌≡◌, ◌++◌, length, take, drop, ap, sym, subst, ◌∙◌, true}
+use Rattle.std.proofs.Math.Seq.{take-append_seam}
+use Rattle.std.proofs.lemmas.List.{length-map}
+use Rattle.console_reporter.specs.Isolation.{IsIsolated}
+use Rattle.console_reporter.specs.Unread.{unread, unread_call}
+use Rattle.scenes.specs.Reports.{AreCallsOf}
+use Rattle.scenes.specs.Unloads.{AreReadyCallsOf, decider_for}
+use Rattle.scenes.proofs.lemmas.Unloads.{ready_unread}
+use Rattle.scenes.proofs.scene.Scene.calls.Goals as goal
+
+pub returns-clause-calls : goal.returns-clause-calls
+returns-clause-calls c =
+    let left = c.unload_skipped.new.calls in
+    let made = c.in_ok-calls.calls.items in
+    let decider = decider_for c.args.options.now c.args.self.now in
+    let on : c.args.options.now.unload_skipped ≡ true = search rules in
+    let of_scene : AreCallsOf c.args.self.now made = search rules in
+    let unread_left : left ≡ unread decider made = search rules in
+    let told : IsIsolated c.in_ok-decider.decider c.as_mut_slice.result.now left = c.unload_skipped.ensures.isolation in
+    let isolated : IsIsolated decider made left =
+        subst (λ d. IsIsolated d made left) c.in_ok-decider.ensures.ok (subst (λ calls. IsIsolated c.in_ok-decider.decider calls left) c.as_mut_slice.ensures.value told) in
+    let size : c.in_ok-calls.calls.len ≡ length made = search rules in
+    let same : length left ≡ length made = ap length unread_left ∙ length-map made (unread_call decider) in
+    let whole : take c.in_ok-calls.calls.len (left ++ drop (length left) made) ≡ left =
+        ap (λ n. take n (left ++ drop (length left) made)) (size ∙ sym same) ∙ take-append_seam left (drop (length left) made) in
+    subst (AreReadyCallsOf c.args.options.now c.args.self.now) (sym whole) (ready_unread c.args.options.now c.args.self.now made left on of_scene unread_left isolated)
