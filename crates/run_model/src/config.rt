@@ -67,7 +67,7 @@ impl TestOutputDisplay {
     /// The setting of this name, if there is one.
     ///
     /// ```
-    /// TestOutputDisplay::from_name("final") // Some(TestOutputDisplay::Final)
+    /// assert_eq!(TestOutputDisplay::from_name("final"), Some(TestOutputDisplay::Final));
     /// ```
     pub fn from_name(name: &str) -> Option<TestOutputDisplay>
         ensures { MatchOption result ((display : TestOutputDisplay) → name.now ≢ display_name display) (λ display. name.now ≡ display_name display) }

@@ -34,7 +34,9 @@ impl<'a> TestEvent<'a> {
     /// once where the test failed, and never where it passed.
     ///
     /// ```
-    /// TestEvent::test_finished(elapsed, test_instance, ExecutionStatuses::single(alloc, status), stats)
+    /// let statuses = ExecutionStatuses::single(alloc, ExecuteStatus::passed(time));
+    /// let event = TestEvent::test_finished(time, test.as_ref(), statuses, stats);
+    /// assert_eq!(event.elapsed, time);
     /// ```
     pub fn test_finished(
         elapsed: Nanos,

@@ -143,7 +143,7 @@ pub struct UnitTerminatingState {
 /// Why a process is ended. It prints its name in lower case.
 ///
 /// ```
-/// UnitTerminateReason::Timeout // "timeout"
+/// assert_eq!(UnitTerminateReason::Timeout.to_string(alloc)?.as_str(), "timeout");
 /// ```
 #[derive(Clone, Copy, Debug, PartialEq, Eq)]
 pub enum UnitTerminateReason {

@@ -114,7 +114,7 @@ impl CancelReason {
     /// The words that a report says it by.
     ///
     /// ```
-    /// CancelReason::TestFailureImmediate.as_str() // "test failure"
+    /// assert_eq!(CancelReason::TestFailureImmediate.as_str(), "test failure");
     /// ```
     pub fn as_str(self) -> &'static str
         ensures { result.now ≡ reason_words self }

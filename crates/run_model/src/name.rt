@@ -119,7 +119,8 @@ impl TestCaseName {
     /// The text cut at its last `::`: the module path, if there is one, and the name in it.
     ///
     /// ```
-    /// name.module_path_and_name() // (Some("a::b"), "c") for a::b::c
+    /// let name = TestCaseName::new(alloc, "a::b::c")?;
+    /// assert_eq!(name.module_path_and_name(), (Some("a::b"), "c"));
     /// ```
     pub fn module_path_and_name(&self) -> (Option<&str>, &str)
         ensures path { option_text result.0 ≡ module_path_of self.now }
@@ -325,7 +326,8 @@ impl OwnedTestInstanceId {
     /// The test of this name in this binary. It copies both texts.
     ///
     /// ```
-    /// OwnedTestInstanceId::new(alloc, "alpha", "parser::empty_input")?
+    /// let test = OwnedTestInstanceId::new(alloc, "alpha", "parser::empty_input")?;
+    /// assert_eq!(test.test_name.as_str(), "parser::empty_input");
     /// ```
     pub fn new(alloc: Global, binary_id: &str, test_name: &str) -> Result<Self, OutOfMemory>
         ensures binary_id { IfOk result (λ test. test.binary_id ≡ binary_id.now) }

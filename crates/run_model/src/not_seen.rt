@@ -17,7 +17,8 @@ pub struct NotSeen {
 /// Tests in order. Contracts see them as a list.
 ///
 /// ```
-/// TestInstanceList::new(instances) // of a vector of tests whose names are their own
+/// let list = TestInstanceList::new(vec![in alloc; test]?);
+/// assert_eq!(list.as_slice()[0].binary_id.as_str(), "alpha");
 /// ```
 #[derive(Debug, Drop)]
 pub struct TestInstanceList {

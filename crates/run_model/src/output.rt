@@ -141,7 +141,9 @@ impl ChildOutputDescription {
     /// What was captured of each stream by itself. It allocates for streams that are not empty.
     ///
     /// ```
-    /// ChildOutputDescription::split(alloc, Bytes::new(), Bytes::from_static(b"no such file\n"))?
+    /// let stderr = Bytes::from_static(b"no such file\n");
+    /// let output = ChildOutputDescription::split(alloc, Bytes::new(), stderr)?;
+    /// assert!(output.is_loaded());
     /// ```
     pub fn split(alloc: Global, stdout: Bytes, stderr: Bytes) -> Result<Self, OutOfMemory>
         ensures streams { IfOk result (λ output. output ≡ ChildOutputDescription.Split (Some stdout) (Some stderr)) }

@@ -9,7 +9,8 @@ use crate::stress::StressIndex;
 /// The counts of a run so far. By default all are 0, and nothing has cancelled the run.
 ///
 /// ```
-/// RunStats { finished_count: 1, passed: 1, ..RunStats::new(2) } // of two tests one has passed
+/// let stats = RunStats { finished_count: 1, passed: 1, ..RunStats::new(2) };
+/// assert!(!stats.has_failures()); // of two tests one has passed
 /// ```
 #[derive(Clone, Copy, Debug, Default, PartialEq, Eq)]
 pub struct RunStats {

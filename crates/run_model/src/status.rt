@@ -221,7 +221,8 @@ impl ExecuteStatus<LiveSpec> {
     /// The only attempt of a test, which passed after this time, was not slow and wrote nothing.
     ///
     /// ```
-    /// ExecuteStatus::passed(Nanos::from_millis(20))
+    /// let status = ExecuteStatus::passed(Nanos::from_millis(20));
+    /// assert!(status.result.is_success());
     /// ```
     pub fn passed(time_taken: Nanos) -> Self
         ensures { result ≡ silent_attempt ExecutionResultDescription.Pass time_taken }
@@ -238,7 +239,10 @@ impl ExecuteStatus<LiveSpec> {
     /// The only attempt of a test, which failed with this exit code after this time, was not slow and wrote nothing.
     ///
     /// ```
-    /// ExecuteStatus::failed(101, Nanos::from_secs(3)).with_output(output) // a panic, and what it wrote
+    /// let stderr = Bytes::from_static(b"a bracket is missing\n");
+    /// let output = ChildOutputDescription::split(alloc, Bytes::new(), stderr)?;
+    /// let panicked = ExecuteStatus::failed(101, Nanos::from_secs(3)).with_output(output);
+    /// assert!(!panicked.result.is_success());
     /// ```
     pub fn failed(exit_code: i32, time_taken: Nanos) -> Self
         ensures { result ≡ silent_attempt (code_failure exit_code) time_taken }
@@ -268,7 +272,8 @@ impl ExecuteStatus<LiveSpec> {
     ///
     /// ```
     /// let first = RetryData { attempt: 1, total_attempts: 3 };
-    /// ExecuteStatus::failed(1, time).with_retry_data(first)
+    /// let status = ExecuteStatus::failed(1, time).with_retry_data(first);
+    /// assert!(!status.retry_data.is_last_attempt());
     /// ```
     ///
     /// Attempts count from 1, as nextest's do. Nothing looks at whether the total is as large.
@@ -635,7 +640,8 @@ impl<S: OutputSpec> ExecutionStatuses<S> {
     /// The one attempt of a test that was not tried again.
     ///
     /// ```
-    /// ExecutionStatuses::single(alloc, ExecuteStatus::passed(Nanos::from_millis(20)))
+    /// let statuses = ExecutionStatuses::single(alloc, ExecuteStatus::passed(Nanos::from_millis(20)));
+    /// assert!(statuses.last_status().result.is_success());
     /// ```
     ///
     /// It allocates nothing. What a success after other attempts counts as does not matter, as there are none.
