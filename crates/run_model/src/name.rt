@@ -15,6 +15,11 @@ use std::cmp::Ordering;
 use std::marker::Model;
 
 /// The id of a test binary, as `alpha` or `alpha::bin/beta`.
+///
+/// ```
+/// let id = RustBinaryId::new(alloc, "alpha::bin/beta")?;
+/// assert_eq!(id.as_str(), "alpha::bin/beta");
+/// ```
 #[derive(Debug, Drop)]
 pub struct RustBinaryId {
     text: String,
@@ -279,6 +284,12 @@ impl ProgramName {
 /// A test: its binary's id and its name in it.
 ///
 /// Its order is by the bytes of the id, then by those of the name.
+///
+/// ```
+/// let (binary_id, test_name) = (RustBinaryId::new(alloc, "alpha")?, TestCaseName::new(alloc, "t1")?);
+/// let instance = TestInstanceId { binary_id: &binary_id, test_name: &test_name };
+/// assert_eq!(instance.test_name.as_str(), "t1");
+/// ```
 #[derive(Clone, Copy, Debug, PartialEq, Eq)]
 pub struct TestInstanceId<'a> {
     /// The binary's id.

@@ -156,6 +156,11 @@ impl ChildOutputDescription {
     }
 
     /// What was captured of both streams together. It allocates unless that is empty.
+    ///
+    /// ```
+    /// let output = ChildOutputDescription::combined(alloc, Bytes::from_static(b"both streams\n"))?;
+    /// assert!(output.is_loaded());
+    /// ```
     pub fn combined(alloc: Global, output: Bytes) -> Result<Self, OutOfMemory>
         ensures streams { IfOk result (λ captured. captured ≡ ChildOutputDescription.Combined output) }
         ensures free { output ≡ [] → IsOk result }
@@ -429,6 +434,12 @@ fn copy_highlight(
 }
 
 /// An error, and its causes from the nearest to the farthest.
+///
+/// ```
+/// let causes = vec![in alloc; DescriptionText::new(alloc, "no such file")?]?;
+/// let chain = ErrorChain::new(alloc, DescriptionText::new(alloc, "cannot spawn")?, causes)?;
+/// assert_eq!(chain.message(), "cannot spawn");
+/// ```
 #[derive(Debug, Drop)]
 pub struct ErrorChain {
     parts: Box<ErrorParts>,
@@ -516,6 +527,12 @@ pub enum HighlightStream {
 }
 
 /// A part of the captured output to point out, as the lines of a panic.
+///
+/// ```
+/// let slice = Bytes::from_static(b"thread 't1' panicked");
+/// let highlight = Highlight { stream: HighlightStream::Stderr, start: 0, slice };
+/// assert!(highlight.stderr_subslice().is_some());
+/// ```
 #[derive(Debug, Drop)]
 pub struct Highlight {
     /// Where it stands.

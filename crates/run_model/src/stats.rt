@@ -70,6 +70,10 @@ impl RunStats {
     }
 
     /// What the run came to: cancelled for a reason, failed, without tests, cut short or a success, the first that holds.
+    ///
+    /// ```
+    /// assert_eq!(RunStats::new(0).summarize_final(), FinalRunStats::NoTestsRun);
+    /// ```
     pub fn summarize_final(&self) -> FinalRunStats
         ensures { result ≡ final_stats_of self.now }
     {

@@ -28,6 +28,10 @@ pub struct RetryData {
 
 impl RetryData {
     /// An attempt that is the only one there can be.
+    ///
+    /// ```
+    /// assert!(RetryData::only().is_last_attempt());
+    /// ```
     pub fn only() -> Self
         ensures { result ≡ only_attempt }
     {
@@ -73,6 +77,10 @@ pub enum ExecutionResultDescription {
 
 impl ExecutionResultDescription {
     /// A failure with this exit code, which left no handle open; Rust's test harness ends with 101. It allocates nothing.
+    ///
+    /// ```
+    /// assert!(!ExecutionResultDescription::failed(101).is_success());
+    /// ```
     pub fn failed(exit_code: i32) -> Self
         ensures { result ≡ code_failure exit_code }
     {
@@ -201,6 +209,12 @@ pub struct ExecuteStatus<S: OutputSpec> {
 impl ExecuteStatus<LiveSpec> {
     /// The only attempt of a test, which ended so after this time, was not slow and wrote nothing. It allocates where the result
     /// holds text.
+    ///
+    /// ```
+    /// let timeout = ExecutionResultDescription::Timeout { result: SlowTimeoutResult::Fail };
+    /// let status = ExecuteStatus::new(alloc, timeout, Nanos::from_secs(60))?;
+    /// assert!(!status.result.is_success());
+    /// ```
     pub fn new(
         alloc: Global,
         outcome: ExecutionResultDescription,
@@ -623,6 +637,11 @@ fn copy_attempts(
 
 impl<S: OutputSpec> ExecutionStatuses<S> {
     /// The attempts in order, unless there is none; and what a success after earlier attempts counts as.
+    ///
+    /// ```
+    /// let attempts = vec![in alloc; ExecuteStatus::failed(1, time), ExecuteStatus::passed(time)]?;
+    /// assert!(ExecutionStatuses::new(attempts, FlakyResult::Pass).is_some());
+    /// ```
     pub fn new(statuses: Vec<ExecuteStatus<S>>, flaky_result: FlakyResult) -> Option<Self>
         ensures attempts { IfSome result (λ s. statuses.items ≡ s.earlier ++ s.last ∷ []) }
         ensures flaky { IfSome result (λ s. s.flaky_result ≡ flaky_result) }
@@ -654,6 +673,12 @@ impl<S: OutputSpec> ExecutionStatuses<S> {
     }
 
     /// The attempts before the last one, in order, and the last; and what a success after earlier attempts counts as.
+    ///
+    /// ```
+    /// let earlier = vec![in alloc; ExecuteStatus::failed(1, time)]?;
+    /// let flaky = ExecutionStatuses::with_last(earlier, ExecuteStatus::passed(time), FlakyResult::Pass);
+    /// assert_eq!(flaky.describe().final_status_level(), FinalStatusLevel::Flaky);
+    /// ```
     pub fn with_last(
         earlier: Vec<ExecuteStatus<S>>,
         last: ExecuteStatus<S>,

@@ -12,6 +12,10 @@ pub struct Nanos(pub u128);
 
 impl Nanos {
     /// This many seconds.
+    ///
+    /// ```
+    /// assert_eq!(Nanos::from_secs(3), Nanos(3_000_000_000));
+    /// ```
     pub fn from_secs(seconds: u64) -> Self
         ensures { result.0 ≡ seconds * 1000000000 }
     {
