@@ -15,8 +15,13 @@ use thiserror::Error;
 /// Why a program could not make its report. Each fault of this library turns into it by `?`, so a `main` can have it as its error.
 ///
 /// ```
+/// use std::io;
 /// fn main(rt: HostRuntime) -> Result<(), ReportError> {
 ///     let mut out = TextBuffer::new(rt.alloc(), io::writer(&rt))?;
+///     let builder = DisplayReporterBuilder::new(rt.alloc(), 2)?;
+///     let mut reporter = builder.build_for(rt.alloc(), &mut out, Surroundings::default());
+///     Ok(reporter.finish()?)
+/// }
 /// ```
 #[derive(Clone, Copy, Debug, PartialEq, Eq, Error)]
 pub enum ReportError {

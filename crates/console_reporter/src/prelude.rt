@@ -2,6 +2,8 @@
 //!
 //! ```
 //! use console_reporter::prelude::*;
+//! let passed = ExecutionStatuses::single(alloc, ExecuteStatus::passed(Nanos::from_millis(20)));
+//! assert!(passed.last_status().result.is_success());
 //! ```
 //!
 //! All else of a run's events stands in [`crate::model`], the crate `run_model`.

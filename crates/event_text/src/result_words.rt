@@ -94,7 +94,10 @@ fn abort_str<'b>(abort: &'b AbortDescription, number: &'b mut Buffer) -> Word<'b
 /// buffer.
 ///
 /// ```
-/// short_status_str(&ExecutionResultDescription::ExecFail, &mut number) // "XFAIL"
+/// use itoa::Buffer;
+/// let mut number = Buffer::new();
+/// let word = short_status_str(&ExecutionResultDescription::ExecFail, &mut number);
+/// assert_eq!((word.front, word.back), ("XFAIL", ""));
 /// ```
 pub fn short_status_str<'b>(
     outcome: &'b ExecutionResultDescription,

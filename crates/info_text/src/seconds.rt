@@ -10,7 +10,8 @@ use run_model::time::Nanos;
 /// Writes a duration in seconds with three decimals between two texts.
 ///
 /// ```
-/// write_seconds(w, " for ", Nanos(1_500_000_000), "s") // " for 1.500s"
+/// write_seconds(&mut out, " for ", Nanos(1_500_000_000), "s")?;
+/// assert_eq!(out.as_str(), " for 1.500s");
 /// ```
 #[tactic(auto, unfolding(crate::specs::Seconds::seconds_between, plain_text::specs::Texts::right_in))]
 pub fn write_seconds<W: WriteStr>(

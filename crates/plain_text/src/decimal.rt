@@ -66,7 +66,7 @@ impl Unsigned for u128 {
 /// How many digits the number's decimal text has, 1 for 0.
 ///
 /// ```
-/// decimal_char_width(5000u32) // 4
+/// assert_eq!(decimal_char_width(5000u32), 4);
 /// ```
 pub fn decimal_char_width<N: Unsigned>(n: N) -> usize
     ensures { result ≡ length (decimal (N.value n)) }

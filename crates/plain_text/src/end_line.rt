@@ -12,8 +12,10 @@ use crate::write_str::{WriteFault, WriteStr};
 ///
 /// ```
 /// let mut end_line = EndLine::new();
-/// end_line.write(w, "a\n")?; // "a"
-/// end_line.write(w, "b\n")?; // "\nb"
+/// end_line.write(&mut out, "a\n")?;
+/// assert_eq!(out.as_str(), "a");
+/// end_line.write(&mut out, "b\n")?;
+/// assert_eq!(out.as_str(), "a\nb");
 /// ```
 #[derive(Clone, Copy, Debug, Default, PartialEq, Eq)]
 pub struct EndLine {

@@ -54,7 +54,9 @@ impl<'a> Model for Scanner<'a> {
 /// The sequences of a text and the stretches between them, in order. Joined they are the text. It allocates nothing.
 ///
 /// ```
-/// pieces("\x1b[1mhi") // Sequence("\x1b[1m"), Stretch("hi")
+/// let mut scanner = pieces("\x1b[1mhi");
+/// assert!(matches!(scanner.next(), Some(Piece::Sequence("\x1b[1m"))));
+/// assert!(matches!(scanner.next(), Some(Piece::Stretch("hi"))));
 /// ```
 pub fn pieces(text: &str) -> Scanner<'_>
     ensures { result ≡ pieces text.now }
@@ -79,7 +81,7 @@ impl<'a> Iterator for Scanner<'a> {
 /// The text without its sequences, as a text of its own. An error says that memory was refused.
 ///
 /// ```
-/// strip(alloc, "a\x1b[31\nb")? // "a\nb"
+/// assert_eq!(strip(alloc, "a\x1b[31\nb")?.as_str(), "a\nb");
 /// ```
 pub fn strip(alloc: Global, text: &str) -> Result<String, OutOfMemory>
     ensures visible { IfOk result (λ s. string_bytes s ≡ visible text.now) }

@@ -18,7 +18,8 @@ pub use indentation::Indented;
 /// Indents by four spaces, from the first line on.
 ///
 /// ```
-/// indented(&mut text).write_str("a\n\nb")?; // "    a\n\n    b"
+/// indented(&mut out).write_str("a\n\nb")?;
+/// assert_eq!(out.as_str(), "    a\n\n    b");
 /// ```
 pub fn indented<W>(inner: &mut W) -> Indented<'_, W>
     ensures same { result.inner.ghost_name ≡ inner.entry.ghost_name }

@@ -8,7 +8,7 @@ use memchr::memchr;
 /// The first line of a text, with its line feed if it has one, and what follows it.
 ///
 /// ```
-/// split_line("a\nb\n") // "a\n", "b\n"
+/// assert_eq!(split_line("a\nb\n"), ("a\n", "b\n"));
 /// ```
 pub fn split_line(text: &str) -> (&str, &str)
     requires { 0 < length text.now }

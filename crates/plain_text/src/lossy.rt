@@ -69,11 +69,12 @@ impl<'a> LossyText<'a> {
     /// The first piece, which is not empty, and the text after it. `None` says that there is no text.
     ///
     /// ```
-    /// let mut text = LossyText::new(output);
+    /// let mut text = LossyText::new(b"a\xffb");
     /// while let Some((piece, after)) = text.split_first() {
-    ///     w.write_str(piece)?;
+    ///     out.write_str(piece)?;
     ///     text = after;
     /// }
+    /// assert_eq!(out.as_str(), "a\u{FFFD}b");
     /// ```
     pub fn split_first(&self) -> Option<(&'a str, LossyText<'a>)>
         ensures utf8 { IsUtf8 self.now }

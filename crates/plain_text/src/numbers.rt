@@ -100,7 +100,8 @@ pub fn write_right<W: WriteStr>(w: &mut W, columns: usize, text: &str) -> Result
 /// The nearest thousandth is written, ties go up.
 ///
 /// ```
-/// write_bracketed_seconds(w, 5_000_000) // "[   0.005s] "
+/// write_bracketed_seconds(&mut out, 5_000_000)?;
+/// assert_eq!(out.as_str(), "[   0.005s] ");
 /// ```
 pub fn write_bracketed_seconds<W: WriteStr>(w: &mut W, nanos: u128) -> Result<(), WriteFault>
     ensures { Puts W.meaning w.old (codes "[" ++ (right_in 8 (seconds 3 nanos) ++ codes "s] ")) result w.new }
@@ -156,7 +157,8 @@ fn digit_or_space(number: u32, power: u32) -> u8
 /// The nearest thousandth is written, ties go up.
 ///
 /// ```
-/// write_seconds_between(w, "[", 8, 5_000_000, "s] ") // "[   0.005s] "
+/// write_seconds_between(&mut out, "[", 8, 5_000_000, "s] ")?;
+/// assert_eq!(out.as_str(), "[   0.005s] ");
 /// ```
 pub fn write_seconds_between<W: WriteStr>(
     w: &mut W,
@@ -222,7 +224,8 @@ fn write_decimals<W: WriteStr>(w: &mut W, thousandths: u32) -> Result<(), WriteF
 /// Writes four texts joined, right-aligned in the given number of columns, one for each character.
 ///
 /// ```
-/// write_right_joined(w, 12, "TRY ", "2", " ", "FAIL") // "  TRY 2 FAIL"
+/// write_right_joined(&mut out, 12, "TRY ", "2", " ", "FAIL")?;
+/// assert_eq!(out.as_str(), "  TRY 2 FAIL");
 /// ```
 #[tactic(auto, unfolding(crate::specs::Texts::right_in))]
 pub fn write_right_joined<W: WriteStr>(

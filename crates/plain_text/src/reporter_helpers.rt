@@ -11,7 +11,7 @@ use bstr::ByteSlice;
 /// Where the highlight of a slice ends: before its second line feed, or with the slice.
 ///
 /// ```
-/// highlight_end(b"foo\nbar\nbaz\n") // 7
+/// assert_eq!(highlight_end(b"foo\nbar\nbaz\n"), 7);
 /// ```
 pub fn highlight_end(slice: &[u8]) -> usize
     ensures value { result ≡ highlight_end slice.now }
@@ -34,7 +34,13 @@ pub fn highlight_end(slice: &[u8]) -> usize
 /// last line is a chunk of its own. Joined, the chunks are the text, and none is empty. They are slices of the text.
 ///
 /// ```
-/// print_lines_in_chunks("ab\ncd\ne", 6, |chunk| chunks.push(chunk)); // "ab\ncd\n", "e"
+/// let mut lengths = [0; 2];
+/// let mut count = 0;
+/// print_lines_in_chunks("ab\ncd\ne", 6, |chunk| {
+///     lengths[count] = chunk.len();
+///     count += 1;
+/// });
+/// assert_eq!(lengths, [6, 1]); // "ab\ncd\n" and "e"
 /// ```
 pub fn print_lines_in_chunks<F: FnMut(&str)>(text: &str, limit: usize, mut print: F)
     requires { F.IsAlwaysCallable print }

@@ -22,8 +22,9 @@ use memchr::memchr;
 ///
 /// ```
 /// let mut stripped = StrippedPieces::new();
-/// stripped.write(w, "a\x1b[3")?; // "a"
-/// stripped.write(w, "1mb\n")?; // "b"
+/// stripped.write(&mut out, "a\x1b[3")?;
+/// stripped.write(&mut out, "1mb\n")?;
+/// assert_eq!(out.as_str(), "ab");
 /// ```
 #[derive(Clone, Copy)]
 pub struct StrippedPieces {

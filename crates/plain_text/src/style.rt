@@ -134,7 +134,8 @@ impl Style {
     /// Writes three texts joined, in this style.
     ///
     /// ```
-    /// styles.count.write_joined(w, "profile.", "ci", ".overrides") // "profile.ci.overrides" in the style
+    /// Style::Bold.write_joined(&mut out, "profile.", "ci", ".overrides")?;
+    /// assert_eq!(out.as_str(), "\x1b[1mprofile.ci.overrides\x1b[0m");
     /// ```
     #[tactic(auto, unfolding(crate::specs::Styles::styled))]
     pub fn write_joined<W: WriteStr>(
@@ -156,7 +157,8 @@ impl Style {
     /// Writes four texts joined, right-aligned in the given number of columns.
     ///
     /// ```
-    /// styles.fail.write_right_joined(w, 12, "TRY ", "2", " ", "FAIL") // "  TRY 2 FAIL" in the style
+    /// Style::BoldRed.write_right_joined(&mut out, 12, "TRY ", "2", " ", "FAIL")?;
+    /// assert_eq!(out.as_str(), "\x1b[31;1m  TRY 2 FAIL\x1b[0m");
     /// ```
     #[tactic(auto, unfolding(crate::specs::Styles::styled))]
     pub fn write_right_joined<W: WriteStr>(
@@ -205,7 +207,8 @@ pub fn write_plain<W: WriteStr>(w: &mut W, text: &str) -> Result<(), WriteFault>
 /// Writes the parts in turn.
 ///
 /// ```
-/// write_parts(w, &[styles.pass.right(12, "Starting"), plain(" "), styles.count.paint("2")])?;
+/// write_parts(&mut out, &[styles.pass.right(12, "Starting"), plain(" "), styles.count.paint("2")])?;
+/// assert_eq!(out.as_str(), "    Starting 2");
 /// ```
 pub fn write_parts<W: WriteStr>(w: &mut W, parts: &[Part<'_>]) -> Result<(), WriteFault>
     ensures { Puts W.meaning w.old (painted parts.now) result w.new }

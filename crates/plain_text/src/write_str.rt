@@ -82,7 +82,8 @@ impl WriteStr for String {
 /// Writes the texts in turn.
 ///
 /// ```
-/// write_strs(w, &["(", current, "/", total, ") "])?;
+/// write_strs(&mut out, &["(", "1", "/", "2", ") "])?;
+/// assert_eq!(out.as_str(), "(1/2) ");
 /// ```
 pub fn write_strs<W: WriteStr>(w: &mut W, texts: &[&str]) -> Result<(), WriteFault>
     ensures { Puts W.meaning w.old (strs texts.now) result w.new }

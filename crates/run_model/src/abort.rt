@@ -11,6 +11,11 @@ use std::alloc::Global;
 use std::marker::Model;
 
 /// How a process was ended from outside.
+///
+/// ```
+/// let name = Some(DescriptionText::new(alloc, "SEGV")?);
+/// let abort = AbortDescription::UnixSignal { signal: 11, name };
+/// ```
 #[derive(Debug, Drop, PartialEq, Eq)]
 pub enum AbortDescription {
     /// By a signal, on Unix.

@@ -7,6 +7,11 @@ use std::alloc::Global;
 use std::marker::Model;
 
 /// A value with memory of its own. Contracts see the value.
+///
+/// ```
+/// let boxed = Boxed::new(alloc, Nanos::from_secs(1))?;
+/// assert_eq!(*boxed.get(), Nanos::from_secs(1));
+/// ```
 #[derive(Debug, Drop)]
 pub struct Boxed<T> {
     value: Box<T>,

@@ -5,6 +5,11 @@ use crate::replay::ReplayHeader;
 use crate::run_id::ShortestRunIdPrefix;
 
 /// A call of a reporter.
+///
+/// ```
+/// let calls = [ReportCall::Event(event), ReportCall::Event(TestEvent::run_finished(time, stats))];
+/// assert_eq!(calls.len(), 2);
+/// ```
 #[derive(Debug, Drop)]
 pub enum ReportCall<'a> {
     /// Writes the text of an event.

@@ -10,7 +10,9 @@ use std::sync::Arc;
 /// The words of a command, or the arguments of one, which its copies share. Contracts see them as a list of texts.
 ///
 /// ```
-/// CommandLine::new(alloc, words)? // of a program and its arguments
+/// let words = vec![in alloc; String::from_str(alloc, "cargo")?, String::from_str(alloc, "build")?]?;
+/// let command = CommandLine::new(alloc, words)?;
+/// assert_eq!(command.words().len(), 2);
 /// ```
 #[derive(Debug, Drop)]
 pub struct CommandLine {
@@ -38,7 +40,8 @@ impl CommandLine {
     /// A command of these words, which it copies.
     ///
     /// ```
-    /// CommandLine::from_words(alloc, &["cargo", "build", "--release"])?
+    /// let command = CommandLine::from_words(alloc, &["cargo", "build", "--release"])?;
+    /// assert_eq!(command.words()[2].as_str(), "--release");
     /// ```
     pub fn from_words(alloc: Global, words: &[&str]) -> Result<Self, OutOfMemory>
         ensures { IfOk result (λ command. command ≡ map (λ word. word.now) words.now) }

@@ -67,7 +67,7 @@ impl TestOutputDisplay {
     /// The setting of this name, if there is one.
     ///
     /// ```
-    /// TestOutputDisplay::from_name("final") // Some(TestOutputDisplay::Final)
+    /// assert_eq!(TestOutputDisplay::from_name("final"), Some(TestOutputDisplay::Final));
     /// ```
     pub fn from_name(name: &str) -> Option<TestOutputDisplay>
         ensures { MatchOption result ((display : TestOutputDisplay) → name.now ≢ display_name display) (λ display. name.now ≡ display_name display) }
@@ -93,6 +93,11 @@ pub struct CompiledDefaultFilter {
 
 impl CompiledDefaultFilter {
     /// The filter of the profile `default` itself, nextest's where nothing is configured. It allocates the profile's name.
+    ///
+    /// ```
+    /// let filter = CompiledDefaultFilter::for_default_config(alloc)?;
+    /// assert_eq!(filter.profile.as_str(), "default");
+    /// ```
     pub fn for_default_config(alloc: Global) -> Result<Self, OutOfMemory>
         ensures { IfOk result (λ filter. filter ≡ default_config_filter) }
     {

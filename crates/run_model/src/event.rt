@@ -21,6 +21,11 @@ use std::alloc::Global;
 use uuid::Uuid;
 
 /// An event of a run.
+///
+/// ```
+/// let kind = TestEventKind::TestSkipped { stress_index: None, test_instance: test.as_ref() };
+/// let event = TestEvent { elapsed: time, kind };
+/// ```
 #[derive(Debug, Drop)]
 pub struct TestEvent<'a> {
     /// How long the run has taken.
@@ -34,7 +39,9 @@ impl<'a> TestEvent<'a> {
     /// once where the test failed, and never where it passed.
     ///
     /// ```
-    /// TestEvent::test_finished(elapsed, test_instance, ExecutionStatuses::single(alloc, status), stats)
+    /// let statuses = ExecutionStatuses::single(alloc, ExecuteStatus::passed(time));
+    /// let event = TestEvent::test_finished(time, test.as_ref(), statuses, stats);
+    /// assert_eq!(event.elapsed, time);
     /// ```
     pub fn test_finished(
         elapsed: Nanos,
@@ -58,6 +65,11 @@ impl<'a> TestEvent<'a> {
     }
 
     /// The run has finished after this time, and came to this.
+    ///
+    /// ```
+    /// let event = TestEvent::run_finished(time, stats);
+    /// assert!(matches!(event.kind, TestEventKind::RunFinished { .. }));
+    /// ```
     pub fn run_finished(elapsed: Nanos, run_stats: RunStats) -> Self
         ensures { result ≡ run_finished elapsed run_stats }
     {
@@ -86,6 +98,11 @@ impl<'a> TestEvent<'a> {
     /// The event in the form of a recorded run, with the same metadata; `None` for kinds without captured output. It copies its texts.
     ///
     /// The names of the archive's members are empty.
+    ///
+    /// ```
+    /// assert!(event.recorded(alloc)?.is_some());
+    /// assert!(TestEvent::run_finished(time, stats).recorded(alloc)?.is_none());
+    /// ```
     pub fn recorded(
         &self,
         alloc: Global,
@@ -343,6 +360,11 @@ pub enum TestEventKind<'a> {
 }
 
 /// How many tests and binaries a run has.
+///
+/// ```
+/// let skip_counts = SkipCounts { skipped_tests: 1, ..SkipCounts::default() };
+/// let test_list = TestCounts { run_count: 2, listed_binary_count: 1, skip_counts };
+/// ```
 #[derive(Clone, Copy, Debug, PartialEq, Eq)]
 pub struct TestCounts {
     /// The tests that are to run.

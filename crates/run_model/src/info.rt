@@ -58,6 +58,11 @@ pub struct TestInfoResponse<'a> {
 }
 
 /// What a unit is doing.
+///
+/// ```
+/// let state = UnitState::Running { pid: 42, time_taken: Nanos::from_secs(1), slow_after: None };
+/// assert!(state.has_valid_output());
+/// ```
 #[derive(Debug, Drop)]
 pub enum UnitState {
     /// Its process runs.
@@ -143,7 +148,7 @@ pub struct UnitTerminatingState {
 /// Why a process is ended. It prints its name in lower case.
 ///
 /// ```
-/// UnitTerminateReason::Timeout // "timeout"
+/// assert_eq!(UnitTerminateReason::Timeout.to_string(alloc)?.as_str(), "timeout");
 /// ```
 #[derive(Clone, Copy, Debug, PartialEq, Eq)]
 pub enum UnitTerminateReason {

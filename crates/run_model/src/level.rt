@@ -28,6 +28,10 @@ pub enum StatusLevel {
 
 impl StatusLevel {
     /// Whether what has this level is shown where `shown` is the configured level.
+    ///
+    /// ```
+    /// assert!(StatusLevel::Fail.is_shown_at(StatusLevel::Pass));
+    /// ```
     pub fn is_shown_at(self, shown: StatusLevel) -> bool
         ensures { IsTrue result ↔ (status_rank self ≤ status_rank shown) }
     {
@@ -58,6 +62,10 @@ pub enum FinalStatusLevel {
 
 impl FinalStatusLevel {
     /// Whether what has this level is listed where `shown` is the configured level.
+    ///
+    /// ```
+    /// assert!(FinalStatusLevel::Fail.is_shown_at(FinalStatusLevel::Flaky));
+    /// ```
     pub fn is_shown_at(self, shown: FinalStatusLevel) -> bool
         ensures { IsTrue result ↔ (final_rank self ≤ final_rank shown) }
     {
@@ -105,6 +113,10 @@ pub enum CancelReason {
 
 impl CancelReason {
     /// Whether it replaces the other as the reason of a run.
+    ///
+    /// ```
+    /// assert!(CancelReason::Interrupt.is_above(CancelReason::TestFailure));
+    /// ```
     pub fn is_above(self, other: CancelReason) -> bool
         ensures { IsTrue result ↔ (reason_rank (Some other) < reason_rank (Some self)) }
     {
@@ -114,7 +126,7 @@ impl CancelReason {
     /// The words that a report says it by.
     ///
     /// ```
-    /// CancelReason::TestFailureImmediate.as_str() // "test failure"
+    /// assert_eq!(CancelReason::TestFailureImmediate.as_str(), "test failure");
     /// ```
     pub fn as_str(self) -> &'static str
         ensures { result.now ≡ reason_words self }

@@ -15,6 +15,11 @@ use std::cmp::Ordering;
 use std::marker::Model;
 
 /// The id of a test binary, as `alpha` or `alpha::bin/beta`.
+///
+/// ```
+/// let id = RustBinaryId::new(alloc, "alpha::bin/beta")?;
+/// assert_eq!(id.as_str(), "alpha::bin/beta");
+/// ```
 #[derive(Debug, Drop)]
 pub struct RustBinaryId {
     text: String,
@@ -119,7 +124,8 @@ impl TestCaseName {
     /// The text cut at its last `::`: the module path, if there is one, and the name in it.
     ///
     /// ```
-    /// name.module_path_and_name() // (Some("a::b"), "c") for a::b::c
+    /// let name = TestCaseName::new(alloc, "a::b::c")?;
+    /// assert_eq!(name.module_path_and_name(), (Some("a::b"), "c"));
     /// ```
     pub fn module_path_and_name(&self) -> (Option<&str>, &str)
         ensures path { option_text result.0 ≡ module_path_of self.now }
@@ -278,6 +284,12 @@ impl ProgramName {
 /// A test: its binary's id and its name in it.
 ///
 /// Its order is by the bytes of the id, then by those of the name.
+///
+/// ```
+/// let (binary_id, test_name) = (RustBinaryId::new(alloc, "alpha")?, TestCaseName::new(alloc, "t1")?);
+/// let instance = TestInstanceId { binary_id: &binary_id, test_name: &test_name };
+/// assert_eq!(instance.test_name.as_str(), "t1");
+/// ```
 #[derive(Clone, Copy, Debug, PartialEq, Eq)]
 pub struct TestInstanceId<'a> {
     /// The binary's id.
@@ -325,7 +337,8 @@ impl OwnedTestInstanceId {
     /// The test of this name in this binary. It copies both texts.
     ///
     /// ```
-    /// OwnedTestInstanceId::new(alloc, "alpha", "parser::empty_input")?
+    /// let test = OwnedTestInstanceId::new(alloc, "alpha", "parser::empty_input")?;
+    /// assert_eq!(test.test_name.as_str(), "parser::empty_input");
     /// ```
     pub fn new(alloc: Global, binary_id: &str, test_name: &str) -> Result<Self, OutOfMemory>
         ensures binary_id { IfOk result (λ test. test.binary_id ≡ binary_id.now) }

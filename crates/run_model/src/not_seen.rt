@@ -6,6 +6,11 @@ use crate::name::OwnedTestInstanceId;
 use std::marker::Model;
 
 /// The tests that are outstanding from the run before and that a rerun has not seen.
+///
+/// ```
+/// let list = TestInstanceList::new(vec![in alloc; test]?);
+/// let not_seen = NotSeen { not_seen: list, total_not_seen: 1 };
+/// ```
 #[derive(Debug, Drop)]
 pub struct NotSeen {
     /// Those that are listed. There may be more.
@@ -17,7 +22,8 @@ pub struct NotSeen {
 /// Tests in order. Contracts see them as a list.
 ///
 /// ```
-/// TestInstanceList::new(instances) // of a vector of tests whose names are their own
+/// let list = TestInstanceList::new(vec![in alloc; test]?);
+/// assert_eq!(list.as_slice()[0].binary_id.as_str(), "alpha");
 /// ```
 #[derive(Debug, Drop)]
 pub struct TestInstanceList {

@@ -141,7 +141,9 @@ impl ChildOutputDescription {
     /// What was captured of each stream by itself. It allocates for streams that are not empty.
     ///
     /// ```
-    /// ChildOutputDescription::split(alloc, Bytes::new(), Bytes::from_static(b"no such file\n"))?
+    /// let stderr = Bytes::from_static(b"no such file\n");
+    /// let output = ChildOutputDescription::split(alloc, Bytes::new(), stderr)?;
+    /// assert!(output.is_loaded());
     /// ```
     pub fn split(alloc: Global, stdout: Bytes, stderr: Bytes) -> Result<Self, OutOfMemory>
         ensures streams { IfOk result (λ output. output ≡ ChildOutputDescription.Split (Some stdout) (Some stderr)) }
@@ -154,6 +156,11 @@ impl ChildOutputDescription {
     }
 
     /// What was captured of both streams together. It allocates unless that is empty.
+    ///
+    /// ```
+    /// let output = ChildOutputDescription::combined(alloc, Bytes::from_static(b"both streams\n"))?;
+    /// assert!(output.is_loaded());
+    /// ```
     pub fn combined(alloc: Global, output: Bytes) -> Result<Self, OutOfMemory>
         ensures streams { IfOk result (λ captured. captured ≡ ChildOutputDescription.Combined output) }
         ensures free { output ≡ [] → IsOk result }
@@ -427,6 +434,12 @@ fn copy_highlight(
 }
 
 /// An error, and its causes from the nearest to the farthest.
+///
+/// ```
+/// let causes = vec![in alloc; DescriptionText::new(alloc, "no such file")?]?;
+/// let chain = ErrorChain::new(alloc, DescriptionText::new(alloc, "cannot spawn")?, causes)?;
+/// assert_eq!(chain.message(), "cannot spawn");
+/// ```
 #[derive(Debug, Drop)]
 pub struct ErrorChain {
     parts: Box<ErrorParts>,
@@ -514,6 +527,12 @@ pub enum HighlightStream {
 }
 
 /// A part of the captured output to point out, as the lines of a panic.
+///
+/// ```
+/// let slice = Bytes::from_static(b"thread 't1' panicked");
+/// let highlight = Highlight { stream: HighlightStream::Stderr, start: 0, slice };
+/// assert!(highlight.stderr_subslice().is_some());
+/// ```
 #[derive(Debug, Drop)]
 pub struct Highlight {
     /// Where it stands.

@@ -6,6 +6,15 @@ use jiff::civil::DateTime;
 use uuid::Uuid;
 
 /// Which recorded run a replay shows.
+///
+/// ```
+/// use jiff::civil::DateTime;
+/// use uuid::Uuid;
+/// let run_id = Uuid::from_u128(0x4000_8000_0000_0000_0001);
+/// let started_at = DateTime::new(2024, 2, 29, 7, 5, 9, 0)?;
+/// let status = DescriptionText::new(alloc, "ok")?;
+/// let header = ReplayHeader { run_id, unique_prefix: None, started_at, status };
+/// ```
 #[derive(Debug, Drop)]
 pub struct ReplayHeader {
     /// The run's id.

@@ -8,6 +8,11 @@ use std::alloc::Global;
 use std::marker::Model;
 
 /// The shortest part of a run's id that no other recorded run has, and the rest of the id.
+///
+/// ```
+/// let id = ShortestRunIdPrefix::new(alloc, "4f", "000000-0000-4000-8000-000000000001")?;
+/// assert_eq!(id.prefix(), "4f");
+/// ```
 #[derive(Debug, Drop)]
 pub struct ShortestRunIdPrefix {
     prefix: String,

@@ -9,7 +9,8 @@ use crate::stress::StressIndex;
 /// The counts of a run so far. By default all are 0, and nothing has cancelled the run.
 ///
 /// ```
-/// RunStats { finished_count: 1, passed: 1, ..RunStats::new(2) } // of two tests one has passed
+/// let stats = RunStats { finished_count: 1, passed: 1, ..RunStats::new(2) };
+/// assert!(!stats.has_failures()); // of two tests one has passed
 /// ```
 #[derive(Clone, Copy, Debug, Default, PartialEq, Eq)]
 pub struct RunStats {
@@ -69,6 +70,10 @@ impl RunStats {
     }
 
     /// What the run came to: cancelled for a reason, failed, without tests, cut short or a success, the first that holds.
+    ///
+    /// ```
+    /// assert_eq!(RunStats::new(0).summarize_final(), FinalRunStats::NoTestsRun);
+    /// ```
     pub fn summarize_final(&self) -> FinalRunStats
         ensures { result ≡ final_stats_of self.now }
     {

@@ -28,6 +28,10 @@ pub struct RetryData {
 
 impl RetryData {
     /// An attempt that is the only one there can be.
+    ///
+    /// ```
+    /// assert!(RetryData::only().is_last_attempt());
+    /// ```
     pub fn only() -> Self
         ensures { result ≡ only_attempt }
     {
@@ -73,6 +77,10 @@ pub enum ExecutionResultDescription {
 
 impl ExecutionResultDescription {
     /// A failure with this exit code, which left no handle open; Rust's test harness ends with 101. It allocates nothing.
+    ///
+    /// ```
+    /// assert!(!ExecutionResultDescription::failed(101).is_success());
+    /// ```
     pub fn failed(exit_code: i32) -> Self
         ensures { result ≡ code_failure exit_code }
     {
@@ -201,6 +209,12 @@ pub struct ExecuteStatus<S: OutputSpec> {
 impl ExecuteStatus<LiveSpec> {
     /// The only attempt of a test, which ended so after this time, was not slow and wrote nothing. It allocates where the result
     /// holds text.
+    ///
+    /// ```
+    /// let timeout = ExecutionResultDescription::Timeout { result: SlowTimeoutResult::Fail };
+    /// let status = ExecuteStatus::new(alloc, timeout, Nanos::from_secs(60))?;
+    /// assert!(!status.result.is_success());
+    /// ```
     pub fn new(
         alloc: Global,
         outcome: ExecutionResultDescription,
@@ -221,7 +235,8 @@ impl ExecuteStatus<LiveSpec> {
     /// The only attempt of a test, which passed after this time, was not slow and wrote nothing.
     ///
     /// ```
-    /// ExecuteStatus::passed(Nanos::from_millis(20))
+    /// let status = ExecuteStatus::passed(Nanos::from_millis(20));
+    /// assert!(status.result.is_success());
     /// ```
     pub fn passed(time_taken: Nanos) -> Self
         ensures { result ≡ silent_attempt ExecutionResultDescription.Pass time_taken }
@@ -238,7 +253,10 @@ impl ExecuteStatus<LiveSpec> {
     /// The only attempt of a test, which failed with this exit code after this time, was not slow and wrote nothing.
     ///
     /// ```
-    /// ExecuteStatus::failed(101, Nanos::from_secs(3)).with_output(output) // a panic, and what it wrote
+    /// let stderr = Bytes::from_static(b"a bracket is missing\n");
+    /// let output = ChildOutputDescription::split(alloc, Bytes::new(), stderr)?;
+    /// let panicked = ExecuteStatus::failed(101, Nanos::from_secs(3)).with_output(output);
+    /// assert!(!panicked.result.is_success());
     /// ```
     pub fn failed(exit_code: i32, time_taken: Nanos) -> Self
         ensures { result ≡ silent_attempt (code_failure exit_code) time_taken }
@@ -268,7 +286,8 @@ impl ExecuteStatus<LiveSpec> {
     ///
     /// ```
     /// let first = RetryData { attempt: 1, total_attempts: 3 };
-    /// ExecuteStatus::failed(1, time).with_retry_data(first)
+    /// let status = ExecuteStatus::failed(1, time).with_retry_data(first);
+    /// assert!(!status.retry_data.is_last_attempt());
     /// ```
     ///
     /// Attempts count from 1, as nextest's do. Nothing looks at whether the total is as large.
@@ -618,6 +637,11 @@ fn copy_attempts(
 
 impl<S: OutputSpec> ExecutionStatuses<S> {
     /// The attempts in order, unless there is none; and what a success after earlier attempts counts as.
+    ///
+    /// ```
+    /// let attempts = vec![in alloc; ExecuteStatus::failed(1, time), ExecuteStatus::passed(time)]?;
+    /// assert!(ExecutionStatuses::new(attempts, FlakyResult::Pass).is_some());
+    /// ```
     pub fn new(statuses: Vec<ExecuteStatus<S>>, flaky_result: FlakyResult) -> Option<Self>
         ensures attempts { IfSome result (λ s. statuses.items ≡ s.earlier ++ s.last ∷ []) }
         ensures flaky { IfSome result (λ s. s.flaky_result ≡ flaky_result) }
@@ -635,7 +659,8 @@ impl<S: OutputSpec> ExecutionStatuses<S> {
     /// The one attempt of a test that was not tried again.
     ///
     /// ```
-    /// ExecutionStatuses::single(alloc, ExecuteStatus::passed(Nanos::from_millis(20)))
+    /// let statuses = ExecutionStatuses::single(alloc, ExecuteStatus::passed(Nanos::from_millis(20)));
+    /// assert!(statuses.last_status().result.is_success());
     /// ```
     ///
     /// It allocates nothing. What a success after other attempts counts as does not matter, as there are none.
@@ -648,6 +673,12 @@ impl<S: OutputSpec> ExecutionStatuses<S> {
     }
 
     /// The attempts before the last one, in order, and the last; and what a success after earlier attempts counts as.
+    ///
+    /// ```
+    /// let earlier = vec![in alloc; ExecuteStatus::failed(1, time)]?;
+    /// let flaky = ExecutionStatuses::with_last(earlier, ExecuteStatus::passed(time), FlakyResult::Pass);
+    /// assert_eq!(flaky.describe().final_status_level(), FinalStatusLevel::Flaky);
+    /// ```
     pub fn with_last(
         earlier: Vec<ExecuteStatus<S>>,
         last: ExecuteStatus<S>,

@@ -16,7 +16,9 @@ use std::num::NonZeroU32;
 /// Its order is by the iteration, then by how many there are; without that number it comes first.
 ///
 /// ```
-/// StressIndex { current: 0, total: NonZeroU32::new(3) } // the first of three
+/// use std::num::NonZeroU32;
+/// let first = StressIndex { current: 0, total: NonZeroU32::new(3) };
+/// assert!(first < StressIndex { current: 1, ..first });
 /// ```
 #[derive(Clone, Copy, Debug, PartialEq, Eq, PartialOrd, Ord)]
 pub struct StressIndex {
@@ -95,7 +97,7 @@ impl StressProgress {
     ///
     /// ```
     /// let progress = StressProgress::Time { total: Nanos(5), elapsed: Nanos(3), completed: 1 };
-    /// progress.remaining() // Some(StressRemaining::Time(Nanos(2)))
+    /// assert_eq!(progress.remaining(), Some(StressRemaining::Time(Nanos(2))));
     /// ```
     pub fn remaining(&self) -> Option<StressRemaining>
         ensures { option_map remaining_value result ≡ remaining_of self.now }

@@ -5,13 +5,17 @@ ghost use Rattle.std.specs.Prelude.{◌≡◌, ◌*◌};
 /// A duration in nanoseconds. It holds every `u128`, which is more than std's `Duration` does.
 ///
 /// ```
-/// Nanos(1_500_000_000) // one second and a half
+/// assert_eq!(Nanos(1_500_000_000), Nanos::from_millis(1_500)); // one second and a half
 /// ```
 #[derive(Clone, Copy, Debug, Default, PartialEq, Eq, PartialOrd, Ord, Hash)]
 pub struct Nanos(pub u128);
 
 impl Nanos {
     /// This many seconds.
+    ///
+    /// ```
+    /// assert_eq!(Nanos::from_secs(3), Nanos(3_000_000_000));
+    /// ```
     pub fn from_secs(seconds: u64) -> Self
         ensures { result.0 ≡ seconds * 1000000000 }
     {

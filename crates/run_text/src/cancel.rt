@@ -13,8 +13,8 @@ use run_model::level::CancelReason;
 /// Writes that the run is about to be cancelled, why, and how many setup scripts or tests still run.
 ///
 /// ```
-/// // "  Cancelling due to interrupt: 2 tests still running"
-/// write_begin_cancel(w, settings, setup_scripts_running, stats.cancel_reason, running)?;
+/// write_begin_cancel(&mut out, &settings, 0, Some(CancelReason::Interrupt), 2)?;
+/// assert_eq!(out.as_str(), "  Cancelling due to interrupt: 2 tests still running\n");
 /// ```
 #[tactic(auto, unfolding(crate::specs::Cancels::begin_cancel_text))]
 pub fn write_begin_cancel<W: WriteStr>(

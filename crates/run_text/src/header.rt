@@ -14,9 +14,10 @@ use run_model::replay::ReplayHeader;
 /// Writes what a replay says before it.
 ///
 /// ```
-/// //   Replaying recorded run 00000000-0000-4000-8000-000000000001
-/// //     Started 2024-02-29 07:05:09  status: ok
-/// write_replay_header(w, &styles, &header)?;
+/// write_replay_header(&mut out, &styles, &header)?;
+/// let replaying = "   Replaying recorded run 00000000-0000-4000-8000-000000000001\n";
+/// let started = "     Started 2024-02-29 07:05:09  status: ok\n";
+/// assert_eq!(out.as_str(), format!(in alloc; "{replaying}{started}")?.as_str());
 /// ```
 #[tactic(auto, unfolding(crate::specs::Headers::replay_header_text))]
 pub fn write_replay_header<W: WriteStr>(

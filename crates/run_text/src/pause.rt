@@ -11,8 +11,8 @@ use plain_text::write_str::{WriteFault, WriteStr};
 /// Writes that the run was stopped for a while, and how many setup scripts or tests run.
 ///
 /// ```
-/// // "     Pausing due to signal: 2 tests running"
-/// write_run_paused(w, settings, setup_scripts_running, running)?;
+/// write_run_paused(&mut out, &settings, 0, 2)?;
+/// assert_eq!(out.as_str(), "     Pausing due to signal: 2 tests running\n");
 /// ```
 #[tactic(auto, unfolding(crate::specs::Pauses::run_paused_text))]
 pub fn write_run_paused<W: WriteStr>(

@@ -30,7 +30,8 @@ impl Running {
     /// Writes how many run, and of what.
     ///
     /// ```
-    /// Running { setup_scripts: 0, tests: 3 }.write_to(w, mode, styles)?; // "3 tests"
+    /// Running { setup_scripts: 0, tests: 3 }.write_to(&mut out, NextestRunMode::Test, &styles)?;
+    /// assert_eq!(out.as_str(), "3 tests");
     /// ```
     #[tactic(auto, unfolding(crate::specs::Running::running_text))]
     pub fn write_to<W: WriteStr>(

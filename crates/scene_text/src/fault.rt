@@ -50,7 +50,8 @@ impl Error for LineFault {}
 /// Why a scene could not be read.
 ///
 /// ```
-/// ReadFault::Line { line: 2, fault: LineFault::UnknownEvent } // line 2: unknown event
+/// let fault = ReadFault::Line { line: 2, fault: LineFault::UnknownEvent };
+/// assert_eq!(fault.to_string(alloc)?.as_str(), "line 2: unknown event");
 /// ```
 #[derive(Clone, Copy, Debug, PartialEq, Eq)]
 pub enum ReadFault {

@@ -51,7 +51,8 @@ use test_lines::{read_done, read_retry, read_retry_start, read_skip, read_slow, 
 /// skipped. The error is that of the first line that is wrong.
 ///
 /// ```
-/// read_scene(alloc, b"# a run of no test\nconfig\tfinal\tall\n")
+/// let scene = read_scene(alloc, b"# a run of no test\nconfig\tfinal\tall\n")?;
+/// assert_eq!(scene.config.final_status_level, FinalStatusLevel::All);
 /// ```
 pub fn read_scene(alloc: Global, text: &[u8]) -> Result<ToldRun, ReadFault>
     // Each line tells, one after the other, and all of them tell the scene.

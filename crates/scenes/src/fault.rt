@@ -14,7 +14,9 @@ use std::io::ErrorKind;
 /// What can go wrong. It is shown as the line that the program prints on standard error.
 ///
 /// ```
-/// Fault::Line { line: 2, fault: LineFault::UnknownEvent } // report: line 2: unknown event
+/// use scene_text::fault::LineFault;
+/// let fault = Fault::Line { line: 2, fault: LineFault::UnknownEvent };
+/// assert_eq!(fault.to_string(alloc)?.as_str(), "report: line 2: unknown event");
 /// ```
 #[derive(Clone, Copy, Debug)]
 pub enum Fault<'a> {

@@ -42,10 +42,12 @@ pub struct StoreOptions<'a> {
 /// `pass` where that option is left out, or with an output to keep and no `--store`.
 ///
 /// ```
-/// words(&["--level", "fail", "first.scene"]) // plain, no counter, status level Fail, no records
-/// words(&["--level", "fail"]) // None, since the file is missing
-/// words(&["--store", "out", "--store-failure", "first.scene"]) // records go to `out`, with what failed tests wrote
-/// words(&["--store-failure", "first.scene"]) // None, since there are no records
+/// let given = CommandLine::from_words(alloc, &["--level", "fail", "first.scene"])?;
+/// assert_eq!(words(given.words()).map(|options| options.status_level), Some(StatusLevel::Fail));
+/// let given = CommandLine::from_words(alloc, &["--store", "out", "--store-failure", "first.scene"])?;
+/// assert_eq!(words(given.words()).map(|options| options.store.is_some()), Some(true));
+/// let given = CommandLine::from_words(alloc, &["--store-failure", "first.scene"])?;
+/// assert_eq!(words(given.words()), None); // there are no records
 /// ```
 pub fn words(words: &[String]) -> Option<Options<'_>>
     ensures { asked result ≡ options_of (texts words.now) }

@@ -8,6 +8,7 @@ ghost use Rattle.store_text.specs.StoredOutputs.{is_switched_on};
 /// ```
 /// // The output of tests that fail, and of no others.
 /// let store = StoreConfig { store_success_output: false, store_failure_output: true };
+/// assert!(store.stores_output(false));
 /// ```
 #[derive(Clone, Copy, Debug, PartialEq, Eq)]
 pub struct StoreConfig {
@@ -22,7 +23,7 @@ impl StoreConfig {
     ///
     /// ```
     /// let is_success = statuses.describe().is_success_for_output();
-    /// if store.stores_output(is_success) { }
+    /// assert!(!store.stores_output(is_success));
     /// ```
     pub fn stores_output(self, is_success: bool) -> bool
         ensures { result ≡ is_switched_on self is_success }

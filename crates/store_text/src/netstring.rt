@@ -10,8 +10,9 @@ use plain_text::write_str::{WriteFault, WriteStr, write_strs};
 /// Writes a text as a netstring: the number of its bytes in decimal, a colon, the text, and a comma. It allocates nothing.
 ///
 /// ```
-/// write_netstring(w, "t1")?; // "2:t1,"
-/// write_netstring(w, "é")?; // "2:é,"
+/// write_netstring(&mut out, "t1")?;
+/// write_netstring(&mut out, "é")?;
+/// assert_eq!(out.as_str(), "2:t1,2:é,");
 /// ```
 #[tactic(auto, unfolding(crate::specs::Netstrings::netstring, crate::specs::Netstrings::netstring_head))]
 pub fn write_netstring<W: WriteStr>(w: &mut W, text: &str) -> Result<(), WriteFault>
@@ -24,7 +25,8 @@ pub fn write_netstring<W: WriteStr>(w: &mut W, text: &str) -> Result<(), WriteFa
 /// Writes a text in two parts as one netstring. It allocates nothing.
 ///
 /// ```
-/// write_joined_netstring(w, "SIG ", "6")?; // "5:SIG 6,"
+/// write_joined_netstring(&mut out, "SIG ", "6")?;
+/// assert_eq!(out.as_str(), "5:SIG 6,");
 /// ```
 #[tactic(auto, unfolding(crate::specs::Netstrings::joined_netstring))]
 pub fn write_joined_netstring<W: WriteStr>(

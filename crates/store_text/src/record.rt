@@ -22,9 +22,8 @@ use run_model::status::{ExecutionResultDescription, ExecutionStatuses};
 /// On a fault of the writer a beginning of the record was accepted.
 ///
 /// ```
-/// let store = StoreConfig { store_success_output: false, store_failure_output: true };
-/// write_record(w, store, passed, &statuses)?; // "5:alpha,2:t1,4:PASS,0:,\n"
-/// write_record(w, store, failed, &statuses)?; // "5:alpha,7:mod::t2,4:FAIL,5:boom\n,\n"
+/// write_record(&mut out, store, test.as_ref(), &statuses)?;
+/// assert_eq!(out.as_str(), "5:alpha,2:t1,4:PASS,0:,\n");
 /// ```
 #[tactic(auto, unfolding(crate::specs::Records::record_text))]
 pub fn write_record<W: WriteStr>(

@@ -92,7 +92,11 @@ impl<'o> OutputTexts<'o> {
 /// first to count what they are decoded to.
 ///
 /// ```
-/// write_stored_output(w, store, &statuses)?; // "4:é\nx,", or "0:," where the store is not asked for it
+/// let (stdout, stderr) = (Bytes::from_static("é\n".as_bytes()), Bytes::from_static(b"x"));
+/// let output = ChildOutputDescription::split(alloc, stdout, stderr)?;
+/// let failed = ExecutionStatuses::single(alloc, ExecuteStatus::failed(1, time).with_output(output));
+/// write_stored_output(&mut out, store, &failed)?;
+/// assert_eq!(out.as_str(), "4:é\nx,");
 /// ```
 pub fn write_stored_output<W: WriteStr>(
     w: &mut W,

@@ -30,8 +30,10 @@ use unit_report::formatters::{DisplayBracketedDuration, DisplayDurationBy};
 /// that is shown at once, and how long the next attempt waits. Output that is shown must not have been left unread.
 ///
 /// ```
-/// // "  TRY 1 FAIL [   0.500s] alpha t1", and before an attempt that waits "   DELAY 2/3 by   1.000s alpha t1"
-/// write_attempt_failed(w, settings, stress_index, instance, run_status, delay, failure_output)?;
+/// let attempt = ExecuteStatus::failed(1, Nanos::from_millis(500)).with_retry_data(RetryData { attempt: 1, total_attempts: 3 });
+/// let (delay, display) = (Nanos::from_secs(1), TestOutputDisplay::Never);
+/// write_attempt_failed(&mut out, &settings, None, test.as_ref(), &attempt, delay, display)?;
+/// assert_eq!(out.as_str(), "  TRY 1 FAIL [   0.500s] alpha t1\n   DELAY 2/3 by   1.000s alpha t1\n");
 /// ```
 #[tactic(auto, unfolding(crate::specs::RetriedTests::attempt_failed_text))]
 pub fn write_attempt_failed<W: WriteStr>(

@@ -30,7 +30,8 @@ pub fn write_test_skipped<W: WriteStr>(
 /// Writes the line of a test that is not run, which the summary repeats.
 ///
 /// ```
-/// write_skip_line(w, settings, test)?; // "        SKIP [         ] alpha t1" and a line feed
+/// write_skip_line(&mut out, &settings, settings.padded_instance(None, test.as_ref()))?;
+/// assert_eq!(out.as_str(), "        SKIP [         ] alpha t1\n");
 /// ```
 #[tactic(auto, unfolding(crate::specs::SkippedTests::skip_line))]
 pub fn write_skip_line<W: WriteStr>(

@@ -21,8 +21,8 @@ use unit_report::formatters::DisplaySlowDuration;
 /// Writes that an attempt of a test is slow, or that it is ended for that, where its level is shown.
 ///
 /// ```
-/// // "        SLOW [> 60.000s] alpha t1", or " TERMINATING [> 60.000s] alpha t1"
-/// write_test_slow(w, settings, stress_index, instance, retry_data, elapsed, will_terminate)?;
+/// write_test_slow(&mut out, &settings, None, test.as_ref(), RetryData::only(), Nanos::from_secs(60), false)?;
+/// assert_eq!(out.as_str(), "        SLOW [> 60.000s] alpha t1\n");
 /// ```
 #[tactic(auto, unfolding(crate::specs::SlowTests::test_slow_text))]
 pub fn write_test_slow<W: WriteStr>(

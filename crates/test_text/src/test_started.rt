@@ -20,8 +20,9 @@ use run_model::stress::StressIndex;
 /// Writes that a test has started, and the command that runs it.
 ///
 /// ```
-/// // "       START [         ] (1/2) alpha t1", and with commands "             command: cargo test t1"
-/// write_test_started(w, settings, stress_index, instance, stats, command_line)?;
+/// let command = CommandLine::from_words(alloc, &["cargo", "test", "t1"])?;
+/// write_test_started(&mut out, &settings, None, test.as_ref(), &stats, &command)?;
+/// assert_eq!(out.as_str(), "       START [         ] alpha t1\n             command: cargo test t1\n");
 /// ```
 #[tactic(auto, unfolding(crate::specs::TestStarts::test_started_text))]
 pub fn write_test_started<W: WriteStr>(

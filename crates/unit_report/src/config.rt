@@ -70,6 +70,11 @@ pub struct DisplayConfig {
 
 impl DisplayConfig {
     /// Asks for these levels, and has them as the profile's too.
+    ///
+    /// ```
+    /// let config = DisplayConfig::with_overrides(ShowProgress::Counter, false, StatusLevel::Fail, FinalStatusLevel::Fail);
+    /// assert_eq!(config.resolve(false, false).progress_display, ProgressDisplay::Counter);
+    /// ```
     pub fn with_overrides(
         show_progress: ShowProgress,
         no_capture: bool,

@@ -25,7 +25,8 @@ use unit_report::unit_output::{DisplayerKind, OutputDisplayOverrides, UnitOutput
 /// terminal, no build machine, ASCII characters, and empty outputs are not shown.
 ///
 /// ```
-/// Surroundings { use_unicode: true, ..Surroundings::default() }
+/// let surroundings = Surroundings { use_unicode: true, ..Surroundings::default() };
+/// assert!(!surroundings.is_terminal);
 /// ```
 #[derive(Clone, Copy, Debug, Default, PartialEq, Eq)]
 pub struct Surroundings {
@@ -72,6 +73,7 @@ impl DisplayReporterBuilder {
     /// ```
     /// let mut builder = DisplayReporterBuilder::new(alloc, 2)?;
     /// builder.should_colorize = true;
+    /// builder.display_config.status_level = Some(StatusLevel::Fail);
     /// ```
     pub fn new(alloc: Global, run_count: usize) -> Result<Self, OutOfMemory>
         ensures { IfOk result (λ builder. builder ≡ default_builder run_count) }
@@ -104,6 +106,8 @@ impl DisplayReporterBuilder {
     /// ```
     /// let mut reporter = builder.build_for(alloc, &mut out, Surroundings::default());
     /// reporter.write_event(&event)?;
+    /// drop(reporter);
+    /// assert_eq!(out.as_str(), "        PASS [   0.020s] (1/1) alpha t1\n");
     /// ```
     ///
     /// It is the one that [`DisplayReporterBuilder::build`] makes of nextest's four flags. It allocates nothing.
@@ -129,6 +133,12 @@ impl DisplayReporterBuilder {
     }
 
     /// A reporter to a writer, to which nothing is written yet. It allocates nothing.
+    ///
+    /// ```
+    /// let (use_unicode, is_terminal, is_ci, display_empty_outputs) = (true, false, false, false);
+    /// let mut reporter = builder.build(alloc, &mut out, use_unicode, is_terminal, is_ci, display_empty_outputs);
+    /// reporter.write_event(&event)?;
+    /// ```
     pub fn build<'a, W: WriteStr>(
         self,
         alloc: Global,
@@ -149,6 +159,14 @@ impl DisplayReporterBuilder {
 
     /// A reporter to a writer that also writes a record of each finished test to a second one. To neither is written yet. It
     /// allocates nothing.
+    ///
+    /// ```
+    /// let mut records = String::new(alloc);
+    /// let mut reporter = builder.build_with_store(alloc, &mut out, &mut records, store, true, false, false, false);
+    /// reporter.write_event(&event)?;
+    /// drop(reporter);
+    /// assert_eq!(records.as_str(), "5:alpha,2:t1,4:PASS,0:,\n");
+    /// ```
     pub fn build_with_store<'a, W: WriteStr, S: WriteStr>(
         self,
         alloc: Global,
@@ -174,6 +192,7 @@ impl DisplayReporterBuilder {
     ///
     /// ```
     /// let decider = builder.output_load_decider(Surroundings::default(), None);
+    /// assert_eq!(decider.refusal(&ReportCall::Event(event)), None);
     /// ```
     pub fn output_load_decider(
         &self,

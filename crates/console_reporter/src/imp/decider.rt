@@ -66,7 +66,9 @@ impl OutputLoadDecider {
     /// An event of a run that is going on has the answer of its recorded form.
     ///
     /// ```
-    /// match decider.should_load_output(&recorded) { LoadOutput::Load => {} LoadOutput::Skip => {} }
+    /// if let Some(recorded) = event.recorded(alloc)? {
+    ///     assert_eq!(decider.should_load_output(&recorded), LoadOutput::Skip); // the test passed
+    /// }
     /// ```
     pub fn should_load_output(&self, event: &OutputEventKind<RecordingSpec>) -> LoadOutput
         ensures loads { result ≡ load_if (loads self.now event.now) }
@@ -205,7 +207,11 @@ impl OutputLoadDecider {
     /// It allocates nothing.
     ///
     /// ```
-    /// if let Some(refusal) = decider.refusal(&call) { return Err(refusal); }
+    /// let failed = ExecutionStatuses::single(alloc, ExecuteStatus::failed(101, time));
+    /// let mut event = TestEvent::test_finished(time, test.as_ref(), failed, stats);
+    /// event.unload();
+    /// let call = ReportCall::Event(event);
+    /// assert_eq!(decider.refusal(&call), Some(WriteEventError::OutputNotLoaded));
     /// ```
     pub fn refusal(&self, call: &ReportCall<'_>) -> Option<WriteEventError>
         ensures { result ≡ refusal_by self.now call.now }
@@ -232,7 +238,7 @@ impl OutputLoadDecider {
 /// [`OutputLoadDecider::refusal`] says why. It allocates nothing.
 ///
 /// ```
-/// match first_refused(&decider, &calls) { None => {} Some(place) => {} }
+/// assert_eq!(first_refused(&decider, &calls), None);
 /// ```
 pub fn first_refused(decider: &OutputLoadDecider, calls: &[ReportCall<'_>]) -> Option<usize>
     ensures { result ≡ first_refused decider.now calls.now }
@@ -248,7 +254,8 @@ pub fn first_refused(decider: &OutputLoadDecider, calls: &[ReportCall<'_>]) -> O
 /// No reporter of the decider's configuration then writes another byte, and it accepts what it accepted.
 ///
 /// ```
-/// unload_skipped(&reporter.output_load_decider(), &mut calls);
+/// unload_skipped(&decider, &mut calls);
+/// assert_eq!(first_refused(&decider, &calls), None);
 /// ```
 pub fn unload_skipped(decider: &OutputLoadDecider, calls: &mut [ReportCall<'_>])
     ensures unread { calls.new ≡ unread decider.now calls.old }

@@ -113,7 +113,7 @@ impl<'a, W: WriteStr, S: WriteStr> DisplayReporter<'a, W, S> {
     ///
     /// ```
     /// let decider = reporter.output_load_decider();
-    /// if decider.should_load_output(&recorded) == LoadOutput::Load { }
+    /// assert_eq!(first_refused(&decider, &calls), None);
     /// ```
     pub fn output_load_decider(&self) -> OutputLoadDecider
         ensures decider { result ≡ decider_by self.now.state.settings (config_of self.now.store) }
@@ -137,9 +137,11 @@ impl<'a, W: WriteStr, S: WriteStr> DisplayReporter<'a, W, S> {
     /// Writes the text of an event, and delivers it. An event that is refused changes nothing.
     ///
     /// ```
-    /// let mut reporter = builder.build(alloc, &mut writer, use_unicode, is_terminal, is_ci, false);
+    /// let mut reporter = builder.build_for(alloc, &mut out, Surroundings::default());
     /// reporter.write_event(&event)?;
     /// reporter.finish()?;
+    /// drop(reporter);
+    /// assert_eq!(out.as_str(), "        PASS [   0.020s] (1/1) alpha t1\n");
     /// ```
     pub fn write_event(&mut self, event: &TestEvent<'_>) -> Result<(), WriteEventError>
         ensures same { IsSameReporter self.old self.new }
@@ -247,6 +249,12 @@ impl<'a, W: WriteStr, S: WriteStr> DisplayReporter<'a, W, S> {
 
     /// Writes what a replay says before it: which recorded run it shows, when that started and how it ended; and delivers it.
     /// The run's id is shown by the header's own prefix.
+    ///
+    /// ```
+    /// reporter.write_replay_header(&header)?;
+    /// drop(reporter);
+    /// assert!(out.as_str().starts_with("   Replaying recorded run 00000000-0000-4000-8000-000000000001\n"));
+    /// ```
     pub fn write_replay_header(&mut self, header: &ReplayHeader) -> Result<(), WriteEventError>
         ensures same { IsSameReporter self.old self.new }
         ensures ok { OnOk result (Tells W.meaning S.meaning self.old (Some (ReportCall.Header header.now)) self.new) }
@@ -274,6 +282,12 @@ impl<'a, W: WriteStr, S: WriteStr> DisplayReporter<'a, W, S> {
     }
 
     /// Takes the unique prefix of the run's id, which later starts of a run show. It allocates nothing and writes nothing.
+    ///
+    /// ```
+    /// use console_reporter::model::run_id::ShortestRunIdPrefix;
+    /// let prefix = ShortestRunIdPrefix::new(alloc, "0", "0000000-0000-4000-8000-000000000001")?;
+    /// reporter.set_run_id_unique_prefix(prefix);
+    /// ```
     pub fn set_run_id_unique_prefix(&mut self, prefix: ShortestRunIdPrefix)
         ensures same { IsSameReporter self.old self.new }
         ensures ok { Tells W.meaning S.meaning self.old (Some (ReportCall.Prefix prefix)) self.new }
@@ -284,6 +298,11 @@ impl<'a, W: WriteStr, S: WriteStr> DisplayReporter<'a, W, S> {
     }
 
     /// Ends the report: both writers deliver what they hold, and no text is added.
+    ///
+    /// ```
+    /// reporter.write_event(&event)?;
+    /// reporter.finish()?;
+    /// ```
     pub fn finish(&mut self) -> Result<(), WriteEventError>
         ensures same { IsSameReporter self.old self.new }
         ensures told_nothing { OnOk result (W.meaning.accepts self.old.writer.now [] self.new.writer.now) }

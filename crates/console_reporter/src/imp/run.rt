@@ -36,6 +36,11 @@ pub fn texts_make_the_report()
 /// On `Ok` the writer has accepted the report of the calls and delivered it. On a fault at a place it has accepted the
 /// report of the calls before that place and a beginning of the text of the call there. A refusal is of the first call that is
 /// not accepted, and nothing of that call was written.
+///
+/// ```
+/// run_report(alloc, builder, &mut out, true, false, false, false, &calls)?;
+/// assert!(out.as_str().starts_with("        PASS [   0.020s] (1/1) alpha t1\n"));
+/// ```
 pub fn run_report<W: WriteStr>(
     alloc: Global,
     builder: DisplayReporterBuilder,
@@ -103,8 +108,9 @@ pub fn run_report<W: WriteStr>(
 /// copied.
 ///
 /// ```
-/// let store = StoreConfig { store_success_output: false, store_failure_output: true };
-/// run_report_with_store(alloc, builder, &mut report, &mut records, store, true, false, false, false, &calls)?;
+/// let mut records = String::new(alloc);
+/// run_report_with_store(alloc, builder, &mut out, &mut records, store, true, false, false, false, &calls)?;
+/// assert_eq!(records.as_str(), "5:alpha,2:t1,4:PASS,0:,\n");
 /// ```
 pub fn run_report_with_store<W: WriteStr, S: WriteStr>(
     alloc: Global,

@@ -10,9 +10,20 @@ use std::fmt::Formatter;
 /// Shows in a formatter what a value's `write_to` writes: the body of its `Display`.
 ///
 /// ```
-/// fn fmt<W: fmt::Write>(&self, f: &mut Formatter<W>) -> fmt::Result {
-///     show_written!(self, f)
+/// use plain_text::show_written;
+/// use std::fmt::{self, Formatter};
+/// # struct Word;
+/// # impl Word {
+/// #     fn write_to<W: WriteStr>(&self, w: &mut W) -> Result<(), WriteFault> {
+/// #         w.write_str("word")
+/// #     }
+/// # }
+/// impl fmt::Display for Word {
+///     fn fmt<W: fmt::Write>(&self, f: &mut Formatter<W>) -> fmt::Result {
+///         show_written!(self, f)
+///     }
 /// }
+/// assert_eq!(Word.to_string(alloc)?.as_str(), "word");
 /// ```
 #[macro_export]
 macro_rules! show_written {

@@ -18,6 +18,13 @@ pub const CAPACITY: usize = 8192;
 ///
 /// Its accepted text is what was delivered followed by what is pending. A device fails where it answers an error of any
 /// kind, or takes none of the bytes that it was given; what was not delivered then stays pending.
+///
+/// ```
+/// use std::io;
+/// let mut out = TextBuffer::new(alloc, io::writer(&rt))?;
+/// out.write_str("done\n")?;
+/// out.write_str_flush()?;
+/// ```
 #[derive(Drop)]
 pub struct TextBuffer<W> {
     writer: W,

@@ -29,8 +29,8 @@ const MILLISECOND: u128 = 1_000_000;
 /// minutes can so be shown as 60.00.
 ///
 /// ```
-/// FormattedDuration(Nanos(60_000_000_000)) // 60.00s
-/// FormattedDuration(Nanos(60_001_000_000)) // 1m 0.00s
+/// assert_eq!(FormattedDuration(Nanos(60_000_000_000)).to_string(alloc)?.as_str(), "60.00s");
+/// assert_eq!(FormattedDuration(Nanos(60_001_000_000)).to_string(alloc)?.as_str(), "1m 0.00s");
 /// ```
 #[derive(Clone, Copy, Debug, PartialEq, Eq)]
 pub struct FormattedDuration(pub Nanos);
@@ -92,7 +92,9 @@ pub enum DurationRounding {
 /// A duration in hours, minutes and seconds, each in at least two digits.
 ///
 /// ```
-/// FormattedHhMmSs { duration: Nanos(3_725_001_000_000), rounding: DurationRounding::Ceiling } // 01:02:06
+/// let duration = Nanos::from_millis(3_725_001);
+/// let shown = FormattedHhMmSs { duration, rounding: DurationRounding::Ceiling };
+/// assert_eq!(shown.to_string(alloc)?.as_str(), "01:02:06");
 /// ```
 #[derive(Clone, Copy, Debug, PartialEq, Eq)]
 pub struct FormattedHhMmSs {
@@ -160,7 +162,8 @@ pub fn write_clock<W: WriteStr>(w: &mut W, seconds: u128) -> Result<(), WriteFau
 /// Writes seconds as hours, minutes and seconds, right-aligned in the given number of columns, between two texts.
 ///
 /// ```
-/// write_clock_between(w, "[", 9, 12, "] ") // "[ 00:00:12] "
+/// write_clock_between(&mut out, "[", 9, 12, "] ")?;
+/// assert_eq!(out.as_str(), "[ 00:00:12] ");
 /// ```
 pub fn write_clock_between<W: WriteStr>(
     w: &mut W,
@@ -214,8 +217,8 @@ fn leading_zero(n: u128) -> &'static str
 /// A year has 365.25 days and a month 30.44.
 ///
 /// ```
-/// FormattedRelativeDuration(Nanos(1_500_000)) // 1ms
-/// FormattedRelativeDuration(Nanos(0))         // 0s
+/// assert_eq!(FormattedRelativeDuration(Nanos(1_500_000)).to_string(alloc)?.as_str(), "1ms");
+/// assert_eq!(FormattedRelativeDuration(Nanos(0)).to_string(alloc)?.as_str(), "0s");
 /// ```
 #[derive(Clone, Copy, Debug, PartialEq, Eq)]
 pub struct FormattedRelativeDuration(pub Nanos);

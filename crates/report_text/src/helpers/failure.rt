@@ -26,7 +26,8 @@ pub enum ExitDescription {
 /// How a process ended.
 ///
 /// ```
-/// display_exited_with(alloc, &ExitDescription::Code(3)) // exited with exit code 3
+/// let text = display_exited_with(alloc, &ExitDescription::Code(3))?;
+/// assert_eq!(text.as_str(), "exited with exit code 3");
 /// ```
 ///
 /// # Errors
@@ -81,7 +82,10 @@ fn write_exit_details<W: WriteStr>(w: &mut W, exit: &ExitDescription) -> Result<
 /// How a process was ended from outside.
 ///
 /// ```
-/// display_abort_status(alloc, &abort) // aborted with signal 11 (SIGSEGV)
+/// use run_model::abort::AbortDescription;
+/// let name = Some(DescriptionText::new(alloc, "SEGV")?);
+/// let text = display_abort_status(alloc, &AbortDescription::UnixSignal { signal: 11, name })?;
+/// assert_eq!(text.as_str(), "aborted with signal 11 (SIGSEGV)");
 /// ```
 ///
 /// # Errors
@@ -175,7 +179,8 @@ fn write_message<W: WriteStr>(w: &mut W, message: Option<&str>) -> Result<(), Wr
 /// Writes a status of Windows as `0x` and eight digits in base 16, in lower case.
 ///
 /// ```
-/// write_nt_status(w, -1073741819) // 0xc0000005
+/// write_nt_status(&mut out, -1073741819)?;
+/// assert_eq!(out.as_str(), "0xc0000005");
 /// ```
 #[tactic(auto, unfolding(crate::specs::Failures::hex_text))]
 pub fn write_nt_status<W: WriteStr>(w: &mut W, code: i32) -> Result<(), WriteFault>

@@ -21,7 +21,9 @@ use std::fmt::Formatter;
 /// its name.
 ///
 /// ```
-/// DisplayTestInstance::new(None, Some(DisplayCounterIndex::new_counter(1, 2)), instance, &styles.list_styles) // (1/2) alpha mod::t2
+/// let counter = DisplayCounterIndex::new_counter(1, 2);
+/// let shown = DisplayTestInstance::new(None, Some(counter), test.as_ref(), &styles.list_styles);
+/// assert_eq!(shown.to_string(alloc)?.as_str(), "(1/2) alpha t1");
 /// ```
 #[derive(Clone, Copy, Debug)]
 pub struct DisplayTestInstance<'a> {
@@ -129,7 +131,11 @@ impl fmt::Display for DisplayTestInstance<'_> {
 /// An iteration of a stress run: its number from 1, and its total where there is one.
 ///
 /// ```
-/// DisplayStressIndex { stress_index, count_style } // 3, or with a total " 3/10"
+/// use run_model::stress::StressIndex;
+/// use std::num::NonZeroU32;
+/// let stress_index = StressIndex { current: 2, total: NonZeroU32::new(10) };
+/// let shown = DisplayStressIndex { stress_index, count_style: styles.count };
+/// assert_eq!(shown.to_string(alloc)?.as_str(), " 3/10");
 /// ```
 #[derive(Clone, Copy, Debug)]
 pub struct DisplayStressIndex {
@@ -211,8 +217,8 @@ pub(super) fn write_id_prefix<W: WriteStr>(
 /// How far a run is, before a test.
 ///
 /// ```
-/// DisplayCounterIndex::new_counter(20, 5000) // (  20/5000)
-/// DisplayCounterIndex::new_padded('-', 4)    // (---------)
+/// assert_eq!(DisplayCounterIndex::new_counter(20, 5000).to_string(alloc)?.as_str(), "(  20/5000)");
+/// assert_eq!(DisplayCounterIndex::new_padded('-', 4).to_string(alloc)?.as_str(), "(---------)");
 /// ```
 #[derive(Clone, Copy, Debug, PartialEq, Eq)]
 pub enum DisplayCounterIndex {
@@ -311,7 +317,9 @@ pub(super) fn write_counter_prefix<W: WriteStr>(
 /// A test's name in these styles.
 ///
 /// ```
-/// DisplayTestName::new(name, &styles.list_styles) // mod::t2
+/// let name = TestCaseName::new(alloc, "mod::t2")?;
+/// let shown = DisplayTestName::new(&name, &styles.list_styles);
+/// assert_eq!(shown.to_string(alloc)?.as_str(), "mod::t2");
 /// ```
 #[derive(Clone, Copy, Debug)]
 pub struct DisplayTestName<'a> {

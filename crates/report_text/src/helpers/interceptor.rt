@@ -18,10 +18,10 @@ use std::alloc::Global;
 /// listed, and how many more there are.
 ///
 /// ```
-/// format_interceptor_too_many_tests(alloc, "debugger", NextestRunMode::Test, 3, &[instance], &list_styles, count_style)
-/// // --debugger requires exactly one test, but 3 tests were selected:
-/// //   a t1
-/// //   ... and 2 more tests
+/// let (mode, list_styles) = (NextestRunMode::Test, &styles.list_styles);
+/// let text = format_interceptor_too_many_tests(alloc, "debugger", mode, 3, &[test], list_styles, styles.count)?;
+/// let first = "--debugger requires exactly one test, but 3 tests were selected:";
+/// assert_eq!(text.as_str(), format!(in alloc; "{first}\n  alpha t1\n  ... and 2 more tests")?.as_str());
 /// ```
 ///
 /// # Errors

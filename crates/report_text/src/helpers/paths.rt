@@ -19,7 +19,7 @@ pub fn dylib_path_envvar() -> &'static str
 /// The value is cut at each `:`, and empty parts are kept. Without a value there is none.
 ///
 /// ```
-/// dylib_path(alloc, Some("a::b")) // ["a", "", "b"]
+/// assert_eq!(dylib_path(alloc, Some("a::b"))?.as_slice(), ["a", "", "b"].as_slice());
 /// ```
 ///
 /// # Errors
@@ -66,7 +66,7 @@ pub fn is_relative(path: &str) -> bool
 /// A path below another, both relative ([`is_relative`]), with `/` between them.
 ///
 /// ```
-/// rel_path_join(alloc, "a", "b/c") // a/b/c
+/// assert_eq!(rel_path_join(alloc, "a", "b/c")?.as_str(), "a/b/c");
 /// ```
 ///
 /// # Errors

@@ -41,7 +41,8 @@ impl CommandWord for &str {
 /// The words as a shell reads them, separated by single spaces.
 ///
 /// ```
-/// shell_join(alloc, &["cargo", "", "it's", "a=b"]) // cargo '' 'it'\''s' a=b
+/// let joined = shell_join(alloc, &["cargo", "", "it's", "a=b"])?;
+/// assert_eq!(joined.as_str(), r"cargo '' 'it'\''s' a=b");
 /// ```
 ///
 /// # Errors
@@ -111,7 +112,8 @@ fn write_word_after<W: WriteStr>(w: &mut W, separator: &str, word: &str) -> Resu
 /// empty word, and a quote in it as `'\''`.
 ///
 /// ```
-/// write_shell_word(w, "it's") // 'it'\''s'
+/// write_shell_word(&mut out, "it's")?;
+/// assert_eq!(out.as_str(), r"'it'\''s'");
 /// ```
 #[tactic(auto, unfolding(crate::specs::Quoting::shell_word))]
 pub fn write_shell_word<W: WriteStr>(w: &mut W, word: &str) -> Result<(), WriteFault>
@@ -169,7 +171,7 @@ fn split_quote(text: &str) -> Option<(&str, &str)>
 /// A value between single quotes, which are not escaped in it.
 ///
 /// ```
-/// QuotedDisplay(&script_id) // 's1'
+/// assert_eq!(QuotedDisplay(&"s1").to_string(alloc)?.as_str(), "'s1'");
 /// ```
 #[derive(Clone, Copy, Debug)]
 pub struct QuotedDisplay<'a, T>(pub &'a T);

@@ -20,7 +20,9 @@ const INVALID_RUN_ID: &str =
 /// The value is that of [`FORCE_RUN_ID_ENV`], in any form that `uuid` parses.
 ///
 /// ```
-/// force_or_new_run_id(None, random) // (the id of the bytes, None)
+/// let (id, refused) = force_or_new_run_id(None, [0; 16]);
+/// assert_eq!(id.to_string(alloc)?.as_str(), "00000000-0000-4000-8000-000000000000");
+/// assert_eq!(refused, None);
 /// ```
 pub fn force_or_new_run_id(value: Option<&str>, random: [u8; 16]) -> (Uuid, Option<&'static str>)
     ensures id { result.0 ≡ run_id (option_text value.entry) random }

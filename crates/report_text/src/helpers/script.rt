@@ -23,7 +23,11 @@ use std::fmt::Formatter;
 /// [`write_script_instance`] writes the same and allocates nothing.
 ///
 /// ```
-/// DisplayScriptInstance::new(alloc, None, script_id, "cmd", &args, script_id_style, count_style)? // s1: cmd 'an argument'
+/// use run_model::name::ScriptId;
+/// let id = ScriptId::new(alloc, "s1")?;
+/// let args = [String::from_str(alloc, "an argument")?];
+/// let shown = DisplayScriptInstance::new(alloc, None, id, "cmd", &args, styles.script_id, styles.count)?;
+/// assert_eq!(shown.to_string(alloc)?.as_str(), "s1: cmd 'an argument'");
 /// ```
 #[derive(Debug, Drop)]
 pub struct DisplayScriptInstance {

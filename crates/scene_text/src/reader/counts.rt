@@ -148,7 +148,8 @@ fn set_count(count: &mut usize, value: &str) -> Option<()>
 /// Reads the statistics of a run.
 ///
 /// ```
-/// read_stats("initial=2 finished=1 failed=1 cancel=signal")
+/// let stats = RunStats { finished_count: 1, failed: 1, cancel_reason: Some(CancelReason::Signal), ..RunStats::new(2) };
+/// assert_eq!(read_stats("initial=2 finished=1 failed=1 cancel=signal"), Some(stats));
 /// ```
 #[tactic(auto, unfolding(crate::specs::Counts::stats_in))]
 pub fn read_stats(field: &str) -> Option<RunStats>
@@ -266,7 +267,9 @@ fn set_skip(counts: &mut SkipCounts, key: SkipsKey, value: &str) -> Option<()>
 /// Reads what a run skips.
 ///
 /// ```
-/// read_skips("tests=3 filter=2")
+/// use run_model::event::SkipCounts;
+/// let skipped = SkipCounts { skipped_tests: 3, skipped_tests_default_filter: 2, ..SkipCounts::default() };
+/// assert_eq!(read_skips("tests=3 filter=2"), Some(skipped));
 /// ```
 #[tactic(auto, unfolding(crate::specs::Counts::skips_in))]
 pub fn read_skips(field: &str) -> Option<SkipCounts>

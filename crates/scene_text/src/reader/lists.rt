@@ -19,7 +19,8 @@ use std::alloc::Global;
 /// Reads the words of a command. `None` means a bad field.
 ///
 /// ```
-/// read_command_line(alloc, r"cargo\,nextest") // two words
+/// let command = read_command_line(alloc, r"cargo\,nextest")?;
+/// assert_eq!(command.map(|command| command.words().len()), Some(2));
 /// ```
 pub fn read_command_line(alloc: Global, field: &str) -> Result<Option<CommandLine>, OutOfMemory>
     ensures { IfOk result (λ command. command ≡ words_of field.now) }
@@ -34,7 +35,8 @@ pub fn read_command_line(alloc: Global, field: &str) -> Result<Option<CommandLin
 /// Reads an error and its causes, which are the words of a list. `None` means a bad field, which a list of no words is, too.
 ///
 /// ```
-/// read_chain(alloc, r"cannot spawn\,no file") // the message and one cause
+/// let chain = read_chain(alloc, r"cannot spawn\,no file")?;
+/// assert_eq!(chain.map(|chain| chain.causes().len()), Some(1));
 /// ```
 pub fn read_chain(alloc: Global, field: &str) -> Result<Option<ErrorChain>, OutOfMemory>
     ensures { IfOk result (λ chain. chain ≡ chain_in field.now) }
@@ -56,7 +58,8 @@ pub fn read_chain(alloc: Global, field: &str) -> Result<Option<ErrorChain>, OutO
 /// Reads the tests whose binaries' ids and whose names are the words of a list, in turn. `None` means a bad field.
 ///
 /// ```
-/// read_instances(alloc, r"alpha\,t1\,beta\,t2") // two tests
+/// let tests = read_instances(alloc, r"alpha\,t1\,beta\,t2")?;
+/// assert_eq!(tests.map(|tests| tests.as_slice().len()), Some(2));
 /// ```
 pub fn read_instances(alloc: Global, field: &str) -> Result<Option<TestInstanceList>, OutOfMemory>
     ensures { IfOk result (λ list. list ≡ instances_in field.now) }

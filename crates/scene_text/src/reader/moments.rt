@@ -13,7 +13,8 @@ use jiff::civil::{Date, Time};
 /// bad field.
 ///
 /// ```
-/// read_moment("-5,2,28,7,5,9")
+/// assert!(read_moment("-5,2,28,7,5,9").is_some());
+/// assert!(read_moment("2023,2,29,7,5,9").is_none()); // there is no such day
 /// ```
 #[tactic(auto, unfolding(crate::specs::Moments::moment_in))]
 pub fn read_moment(field: &str) -> Option<SceneMoment>

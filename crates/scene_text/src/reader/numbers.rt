@@ -12,8 +12,8 @@ use run_model::time::Nanos;
 /// Reads a count, which is anything that a `usize` holds.
 ///
 /// ```
-/// read_count("007") // Some(7)
-/// read_count("+7") // None
+/// assert_eq!(read_count("007"), Some(7));
+/// assert_eq!(read_count("+7"), None);
 /// ```
 pub fn read_count(text: &str) -> Option<usize>
     ensures { result ≡ number_in 64 text.now }
@@ -100,7 +100,7 @@ fn parse_wide_count(text: &str) -> Option<u128>
 /// Reads an exit code or the like, which may have a minus in front.
 ///
 /// ```
-/// read_code("-0") // Some(0)
+/// assert_eq!(read_code("-0"), Some(0));
 /// ```
 pub fn read_code(text: &str) -> Option<i32>
     ensures { result ≡ code_in text.now }

@@ -23,7 +23,8 @@ use std::alloc::Global;
 /// Reads how an attempt ended. `None` means a bad field.
 ///
 /// ```
-/// read_result(alloc, "sig:11:SEGV") // ended by signal 11, whose name is SIGSEGV
+/// let outcome = read_result(alloc, "sig:11:SEGV")?;
+/// assert!(matches!(outcome, Some(ExecutionResultDescription::Fail { leaked: false, .. })));
 /// ```
 #[tactic(auto, unfolding(crate::specs::Results::result_in))]
 pub fn read_result(

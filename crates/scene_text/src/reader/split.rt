@@ -11,7 +11,7 @@ use memchr::memchr;
 /// What stands before the first of these bytes in a text, and what follows it. The byte is an ASCII one.
 ///
 /// ```
-/// split_at_byte("a=b=c", b'=') // Some(("a", "b=c"))
+/// assert_eq!(split_at_byte("a=b=c", b'='), Some(("a", "b=c")));
 /// ```
 pub fn split_at_byte(text: &str, byte: u8) -> Option<(&str, &str)>
     requires { byte < 128 }

@@ -45,7 +45,8 @@ pub enum StateWord {
 /// Reads what a unit is doing, without how the attempt ended. `None` means a bad field.
 ///
 /// ```
-/// read_state_parts(alloc, "running:42:1500000000:-") // for 1.5 s, as the process 42
+/// let told = read_state_parts(alloc, "running:42:1500000000:-")?; // for 1.5 s, as the process 42
+/// assert!(matches!(told, Some(StateParts::Live(_))));
 /// ```
 #[tactic(auto, unfolding(crate::specs::States::state_parts_in))]
 pub fn read_state_parts(alloc: Global, field: &str) -> Result<Option<StateParts>, OutOfMemory>

@@ -19,7 +19,8 @@ const ASCII: u8 = 0x7f;
 /// Reads a text. It allocates only where there is an escape; `None` means a bad field.
 ///
 /// ```
-/// read_text(alloc, r"a\tb") // a, a tab and b
+/// let text = read_text(alloc, r"a\tb")?;
+/// assert_eq!(text.map(|text| text.as_str() == "a\tb"), Some(true));
 /// ```
 pub fn read_text(alloc: Global, field: &str) -> Result<Option<CowStr<'_, Global>>, OutOfMemory>
     ensures { IfOk result (λ text. option_map cow_text text ≡ text_in field.now) }

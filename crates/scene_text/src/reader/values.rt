@@ -138,7 +138,10 @@ pub fn read_flaky_result(field: &str) -> Option<FlakyResult>
 /// Reads an iteration of a stress run: its number from 0, perhaps with a slash and how many there are, or `-`.
 ///
 /// ```
-/// read_stress_index("0/3") // the first of three
+/// use run_model::stress::StressIndex;
+/// use std::num::NonZeroU32;
+/// let first = StressIndex { current: 0, total: NonZeroU32::new(3) };
+/// assert_eq!(read_stress_index("0/3"), Some(Some(first)));
 /// ```
 pub fn read_stress_index(field: &str) -> Option<Option<StressIndex>>
     ensures { result ≡ stress_in field.now }

@@ -19,7 +19,7 @@ use std::fmt::Formatter;
 /// The nearest thousandth is shown, ties go up.
 ///
 /// ```
-/// DisplayBracketedDuration(Nanos(5_000_000)) // "[   0.005s] "
+/// assert_eq!(DisplayBracketedDuration(Nanos(5_000_000)).to_string(alloc)?.as_str(), "[   0.005s] ");
 /// ```
 #[derive(Clone, Copy, Debug)]
 pub struct DisplayBracketedDuration(pub Nanos);
@@ -47,7 +47,7 @@ impl fmt::Display for DisplayBracketedDuration {
 /// second is left out.
 ///
 /// ```
-/// DisplayBracketedHhMmSs(Nanos(12_000_000_000)) // "[ 00:00:12] "
+/// assert_eq!(DisplayBracketedHhMmSs(Nanos(12_000_000_000)).to_string(alloc)?.as_str(), "[ 00:00:12] ");
 /// ```
 #[derive(Clone, Copy, Debug)]
 pub struct DisplayBracketedHhMmSs(pub Nanos);
@@ -74,7 +74,7 @@ impl fmt::Display for DisplayBracketedHhMmSs {
 /// The delay after which something comes: seconds with three decimals, right-aligned in seven columns.
 ///
 /// ```
-/// DisplayDurationBy(Nanos(1_000_000_000)) // "by   1.000s "
+/// assert_eq!(DisplayDurationBy(Nanos(1_000_000_000)).to_string(alloc)?.as_str(), "by   1.000s ");
 /// ```
 #[derive(Clone, Copy, Debug)]
 pub struct DisplayDurationBy(pub Nanos);
@@ -101,7 +101,7 @@ impl fmt::Display for DisplayDurationBy {
 /// A duration that was exceeded, between brackets and a space: seconds with three decimals, right-aligned in seven columns.
 ///
 /// ```
-/// DisplaySlowDuration(Nanos(60_000_000_000)) // "[> 60.000s] "
+/// assert_eq!(DisplaySlowDuration(Nanos(60_000_000_000)).to_string(alloc)?.as_str(), "[> 60.000s] ");
 /// ```
 #[derive(Clone, Copy, Debug)]
 pub struct DisplaySlowDuration(pub Nanos);

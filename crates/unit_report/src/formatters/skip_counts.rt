@@ -13,8 +13,12 @@ use run_model::event::SkipCounts;
 /// Writes what a run skips, between parentheses and after a space; nothing where it skips nothing.
 ///
 /// ```
-/// // " (2 tests and 1 binary skipped, including 1 test that already passed)"
-/// write_skip_counts(NextestRunMode::Test, &skip_counts, &default_filter, &styles, w)?;
+/// use run_model::config::CompiledDefaultFilter;
+/// use run_model::event::SkipCounts;
+/// let filter = CompiledDefaultFilter::for_default_config(alloc)?;
+/// let skipped = SkipCounts { skipped_tests: 2, skipped_tests_rerun: 1, skipped_binaries: 1, ..SkipCounts::default() };
+/// write_skip_counts(NextestRunMode::Test, &skipped, &filter, &styles, &mut out)?;
+/// assert_eq!(out.as_str(), " (2 tests and 1 binary skipped, including 1 test that already passed)");
 /// ```
 pub fn write_skip_counts<W: WriteStr>(
     mode: NextestRunMode,

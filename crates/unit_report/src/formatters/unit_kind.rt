@@ -14,7 +14,9 @@ use std::fmt::Formatter;
 /// The word for a unit: "test", in benchmark mode "benchmark", or "script".
 ///
 /// ```
-/// DisplayUnitKind::new(NextestRunMode::Benchmark, UnitKind::Test) // "benchmark"
+/// use run_model::unit::UnitKind;
+/// let kind = DisplayUnitKind::new(NextestRunMode::Benchmark, UnitKind::Test);
+/// assert_eq!(kind.to_string(alloc)?.as_str(), "benchmark");
 /// ```
 #[derive(Clone, Copy, Debug)]
 pub struct DisplayUnitKind {

@@ -14,8 +14,11 @@ use run_model::stats::{FinalRunStats, RunStatsFailureKind};
 /// Writes a line that warns of tests that were not run; nothing where all ran, or where a setup script failed.
 ///
 /// ```
-/// // "warning: 1/1 test was not run due to interrupt" and a line feed
-/// write_final_warnings(NextestRunMode::Test, final_stats, &styles, w)?;
+/// use run_model::stats::{FinalRunStats, RunStatsFailureKind};
+/// let kind = RunStatsFailureKind::Test { initial_run_count: 1, not_run: 1 };
+/// let cancelled = FinalRunStats::Cancelled { reason: Some(CancelReason::Interrupt), kind };
+/// write_final_warnings(NextestRunMode::Test, cancelled, &styles, &mut out)?;
+/// assert_eq!(out.as_str(), "warning: 1/1 test was not run due to interrupt\n");
 /// ```
 #[tactic(auto, unfolding(crate::specs::Warnings::final_warnings))]
 pub fn write_final_warnings<W: WriteStr>(

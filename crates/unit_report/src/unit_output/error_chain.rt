@@ -15,10 +15,10 @@ use run_model::output::ErrorChain;
 /// Writes the message, and below it each cause on a line of its own.
 ///
 /// ```
-/// // cannot spawn
-/// //   caused by:
-/// //   - no such file
-/// write_error_chain(w, &chain)?;
+/// let causes = vec![in alloc; DescriptionText::new(alloc, "no such file")?]?;
+/// let chain = ErrorChain::new(alloc, DescriptionText::new(alloc, "cannot spawn")?, causes)?;
+/// write_error_chain(&mut out, &chain)?;
+/// assert_eq!(out.as_str(), "cannot spawn\n  caused by:\n  - no such file");
 /// ```
 #[tactic(auto, unfolding(crate::specs::ErrorChains::error_chain_text))]
 pub fn write_error_chain<W: WriteStr>(w: &mut W, chain: &ErrorChain) -> Result<(), WriteFault>

@@ -10,7 +10,8 @@ use std::fmt::Formatter;
 /// Displays what stands before a text in a style: ESC `[` code `m`, or nothing.
 ///
 /// ```
-/// FmtPrefix(Style::BoldRed) // "\x1b[31;1m"
+/// use plain_text::style::Style;
+/// assert_eq!(FmtPrefix(Style::BoldRed).to_string(alloc)?.as_str(), "\x1b[31;1m");
 /// ```
 #[derive(Clone, Copy, Debug, PartialEq, Eq)]
 pub struct FmtPrefix(pub Style);
