@@ -1,8 +1,5 @@
-//! Levels, skip counts, warnings and the outputs of units.
+//! Settings, skip counts and warnings.
 
 mod config;
-mod durations;
 mod skip_counts;
-mod unit_kind;
-mod unit_output;
 mod warnings;

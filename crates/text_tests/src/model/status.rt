@@ -1,4 +1,4 @@
-//! Attempts, and what they come to.
+//! Summaries of attempts, which a report makes otherwise.
 
 use run_model::abort::{AbortDescription, DescriptionText};
 use run_model::boxed::Boxed;
@@ -6,18 +6,14 @@ use run_model::level::{FinalStatusLevel, StatusLevel};
 use run_model::output::{ChildExecutionOutputDescription, ChildOutputDescription, LiveSpec};
 use run_model::status::{
     ExecuteStatus, ExecutionResultDescription, ExecutionStatuses, FailureDescription, FlakyResult,
-    LeakTimeoutResult, RetryData, SlowTimeoutResult,
+    LeakTimeoutResult, RetryData, StatusSummary,
 };
 use run_model::time::Nanos;
 use std::alloc::Global;
 use std::test::Fail;
 
-// An attempt that ended so.
-fn attempt(
-    attempt: u32,
-    outcome: ExecutionResultDescription,
-    is_slow: bool,
-) -> ExecuteStatus<LiveSpec> {
+// An attempt that was slow and ended so.
+fn attempt(attempt: u32, outcome: ExecutionResultDescription) -> ExecuteStatus<LiveSpec> {
     ExecuteStatus {
         retry_data: RetryData {
             attempt,
@@ -34,69 +30,52 @@ fn attempt(
         },
         result: outcome,
         time_taken: Nanos(1_000_000_000),
-        is_slow,
+        is_slow: true,
     }
 }
 
-// The levels of these attempts, which are those of their summary too.
-fn levels(
+// The summary of a test whose last attempt ended so, and whose first failed where it was retried.
+fn summary(
     alloc: Global,
-    attempts: Vec<ExecuteStatus<LiveSpec>>,
+    is_retried: bool,
+    outcome: ExecutionResultDescription,
     flaky_result: FlakyResult,
-) -> Result<(StatusLevel, FinalStatusLevel), Fail> {
+) -> Result<StatusSummary, Fail> {
+    let mut attempts = Vec::new(alloc);
+    if is_retried {
+        attempts.push(attempt(1, ExecutionResultDescription::ExecFail))?;
+    }
+    attempts.push(attempt(if is_retried { 2 } else { 1 }, outcome))?;
     let Some(statuses) = ExecutionStatuses::new(attempts, flaky_result) else {
         return Err(Fail::from("there are attempts"));
     };
-    let describe = statuses.describe();
-    let summary = statuses.summary(alloc)?;
-    if describe.status_level() != summary.status_level()
-        || describe.final_status_level() != summary.final_status_level()
-    {
-        return Err(Fail::from("a summary has the levels of the attempts"));
-    }
-    Ok((describe.status_level(), describe.final_status_level()))
-}
-
-// A leaky success.
-fn leaky() -> ExecutionResultDescription {
-    ExecutionResultDescription::Leak {
-        result: LeakTimeoutResult::Pass,
-    }
+    Ok(statuses.summary(alloc)?)
 }
 
 #[test]
-fn one_attempt_has_its_levels(rt: HostRuntime) -> Result<(), Fail> {
-    let timeout = ExecutionResultDescription::Timeout {
-        result: SlowTimeoutResult::Fail,
-    };
-    for (outcome, is_slow, want) in [
-        (leaky(), false, (StatusLevel::Leak, FinalStatusLevel::Leak)),
-        (leaky(), true, (StatusLevel::Leak, FinalStatusLevel::Slow)),
-        (timeout, true, (StatusLevel::Fail, FinalStatusLevel::Fail)),
-    ] {
-        let mut attempts = Vec::new(rt.alloc());
-        attempts.push(attempt(1, outcome, is_slow))?;
-        assert!(rt; levels(rt.alloc(), attempts, FlakyResult::Pass)? == want);
-    }
-    Ok(())
-}
-
-#[test]
-fn two_attempts_have_their_levels(rt: HostRuntime) -> Result<(), Fail> {
-    for (flaky_result, want) in [
+fn a_summary_has_the_levels_of_its_attempts(rt: HostRuntime) -> Result<(), Fail> {
+    for (is_retried, flaky_result, want) in [
         (
+            false,
+            FlakyResult::Pass,
+            (StatusLevel::Leak, FinalStatusLevel::Slow),
+        ),
+        (
+            true,
             FlakyResult::Pass,
             (StatusLevel::Retry, FinalStatusLevel::Flaky),
         ),
         (
+            true,
             FlakyResult::Fail,
             (StatusLevel::Fail, FinalStatusLevel::Fail),
         ),
     ] {
-        let mut attempts = Vec::new(rt.alloc());
-        attempts.push(attempt(1, ExecutionResultDescription::ExecFail, false))?;
-        attempts.push(attempt(2, leaky(), true))?;
-        assert!(rt; levels(rt.alloc(), attempts, flaky_result)? == want);
+        let leaky = ExecutionResultDescription::Leak {
+            result: LeakTimeoutResult::Pass,
+        };
+        let summary = summary(rt.alloc(), is_retried, leaky, flaky_result)?;
+        assert!(rt; (summary.status_level(), summary.final_status_level()) == want);
     }
     Ok(())
 }
@@ -118,13 +97,8 @@ fn ended_by(alloc: Global, name: &str) -> Result<ExecutionResultDescription, Fai
 #[test]
 fn a_summary_tells_how_a_process_was_ended(rt: HostRuntime) -> Result<(), Fail> {
     let alloc = rt.alloc();
-    let mut attempts = Vec::new(alloc);
-    attempts.push(attempt(1, ended_by(alloc, "SEGV")?, false))?;
-    let Some(statuses) = ExecutionStatuses::new(attempts, FlakyResult::Pass) else {
-        return Err(Fail::from("there is an attempt"));
-    };
-    let outcome = statuses.summary(alloc)?.result;
-    assert!(rt; outcome == ended_by(alloc, "SEGV")?);
-    assert!(rt; outcome != ended_by(alloc, "ABRT")?);
+    let summary = summary(alloc, false, ended_by(alloc, "SEGV")?, FlakyResult::Pass)?;
+    assert!(rt; summary.result == ended_by(alloc, "SEGV")?);
+    assert!(rt; summary.result != ended_by(alloc, "ABRT")?);
     Ok(())
 }

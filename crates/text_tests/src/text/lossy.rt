@@ -1,28 +1,7 @@
-//! Texts of bytes that are UTF-8, and of bytes that are not.
+//! Texts of bytes, piece by piece and cut where no character ends.
 
 use plain_text::lossy::LossyText;
 use std::test::Fail;
-
-#[test]
-fn decodes_each_piece(rt: HostRuntime) -> Result<(), Fail> {
-    for (bytes, want) in [
-        (&b"plain"[..], "plain"),
-        (b"\xc3\xa9", "é"),
-        (b"a\xc3", "a\u{FFFD}"),
-        (b"\xffA", "\u{FFFD}A"),
-        (b"\xe2\x82(", "\u{FFFD}("),
-        (b"\xc0\x80", "\u{FFFD}\u{FFFD}"),
-        (b"a\xf0\x9f\x92b\xed\xa0c", "a\u{FFFD}b\u{FFFD}\u{FFFD}c"),
-        (b"", ""),
-    ] {
-        let text = LossyText::new(bytes);
-        let mut shown = String::new(rt.alloc());
-        text.write_front(&mut shown, want.len())?;
-        assert_eq!(rt; shown.as_str(), want);
-        assert!(rt; text.skip(want.len() + 1).is_none());
-    }
-    Ok(())
-}
 
 #[test]
 fn hands_out_pieces(rt: HostRuntime) -> Result<(), Fail> {
@@ -32,6 +11,7 @@ fn hands_out_pieces(rt: HostRuntime) -> Result<(), Fail> {
     };
     assert_eq!(rt; first, "ab");
     assert!(rt; !text.is_empty());
+    assert!(rt; text.copy().starts_with("\u{FFFD}".as_bytes()));
     let Some((second, text)) = text.split_first() else {
         return Err(Fail::from("there is a second piece"));
     };
@@ -39,30 +19,6 @@ fn hands_out_pieces(rt: HostRuntime) -> Result<(), Fail> {
     assert!(rt; text.is_empty());
     assert!(rt; text.split_first().is_none());
     Ok(())
-}
-
-#[test]
-fn skips_whole_characters(rt: HostRuntime) -> Result<(), Fail> {
-    let text = LossyText::new(b"\xffA");
-    assert!(rt; text.skip(1).is_none());
-    let Some(after) = text.skip(3) else {
-        return Err(Fail::from("a character ends there"));
-    };
-    assert!(rt; after.starts_with(b"A"));
-    assert!(rt; after.copy().starts_with(b"A"));
-    assert!(rt; after.skip(2).is_none());
-    Ok(())
-}
-
-#[test]
-fn begins_with_bytes_of_several_pieces(rt: HostRuntime) {
-    let text = LossyText::new(b"a\xffb");
-    for bytes in ["", "a", "a\u{FFFD}", "a\u{FFFD}b"] {
-        assert!(rt; text.starts_with(bytes.as_bytes()));
-    }
-    for bytes in ["b", "a\u{FFFD}c", "a\u{FFFD}bc"] {
-        assert!(rt; !text.starts_with(bytes.as_bytes()));
-    }
 }
 
 #[test]

@@ -1,6 +1,6 @@
-//! Chunks and ends of highlights, by nextest's own vectors.
+//! Chunks, by nextest's own vectors.
 
-use plain_text::reporter_helpers::{highlight_end, print_lines_in_chunks};
+use plain_text::reporter_helpers::print_lines_in_chunks;
 use std::test::Fail;
 
 #[test]
@@ -38,20 +38,4 @@ fn prints_a_long_line_whole(rt: HostRuntime) -> Result<(), Fail> {
     assert!(rt; !is_full);
     assert_eq!(rt; lens.as_slice(), [2000].as_slice());
     Ok(())
-}
-
-#[test]
-fn ends_highlights(rt: HostRuntime) {
-    for (slice, end) in [
-        ("", 0),
-        ("\n", 1),
-        ("foo", 3),
-        ("foo\n", 4),
-        ("foo\nbar", 7),
-        ("foo\nbar\n", 7),
-        ("foo\nbar\nbaz\n", 7),
-        ("\nfoo\nbar\nbaz", 4),
-    ] {
-        assert_eq!(rt; highlight_end(slice.as_bytes()), end);
-    }
 }

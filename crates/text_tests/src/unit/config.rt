@@ -106,79 +106,61 @@ fn every_setting_comes_to_its_row(rt: HostRuntime) {
 }
 
 #[test]
-fn a_profile_of_passed_and_flaky_tests(rt: HostRuntime) {
+fn levels_that_are_asked_for_win(rt: HostRuntime) {
+    let show_progress = ShowProgress::Auto {
+        suppress_success: true,
+    };
     let suppressing = DisplayConfig {
-        show_progress: ShowProgress::Auto {
-            suppress_success: true,
-        },
+        show_progress,
         no_capture: false,
         status_level: None,
         final_status_level: None,
         profile_status_level: StatusLevel::Pass,
         profile_final_status_level: FinalStatusLevel::Flaky,
     };
-    let slow = resolved(
-        ProgressDisplay::Bar,
-        StatusLevel::Slow,
-        FinalStatusLevel::None,
-    );
-    assert_eq!(rt; suppressing.resolve(true, false), slow);
-    let counted = resolved(
-        ProgressDisplay::Counter,
-        StatusLevel::Pass,
-        FinalStatusLevel::Flaky,
-    );
-    assert_eq!(rt; suppressing.resolve(true, true), counted);
     let asking_for_all = DisplayConfig {
         status_level: Some(StatusLevel::All),
         ..suppressing
     };
-    let all = resolved(
-        ProgressDisplay::Bar,
-        StatusLevel::All,
-        FinalStatusLevel::None,
-    );
-    assert_eq!(rt; asking_for_all.resolve(true, false), all);
     let uncaptured = DisplayConfig {
         show_progress: ShowProgress::Running,
         no_capture: true,
         status_level: Some(StatusLevel::Fail),
         ..suppressing
     };
-    let raised = resolved(
-        ProgressDisplay::None,
-        StatusLevel::Pass,
-        FinalStatusLevel::Flaky,
-    );
-    assert_eq!(rt; uncaptured.resolve(true, false), raised);
-}
-
-#[test]
-fn overriding_levels_win_over_a_bar(rt: HostRuntime) {
-    let show_progress = ShowProgress::Auto {
-        suppress_success: true,
-    };
-    let config = DisplayConfig::with_overrides(
-        show_progress,
-        false,
-        StatusLevel::Leak,
-        FinalStatusLevel::Pass,
-    );
+    let (leak, final_pass) = (StatusLevel::Leak, FinalStatusLevel::Pass);
+    let overridden = DisplayConfig::with_overrides(show_progress, false, leak, final_pass);
     let expected = DisplayConfig {
         show_progress,
         no_capture: false,
-        status_level: Some(StatusLevel::Leak),
-        final_status_level: Some(FinalStatusLevel::Pass),
-        profile_status_level: StatusLevel::Leak,
-        profile_final_status_level: FinalStatusLevel::Pass,
+        status_level: Some(leak),
+        final_status_level: Some(final_pass),
+        profile_status_level: leak,
+        profile_final_status_level: final_pass,
     };
-    assert_eq!(rt; config, expected);
-    assert_eq!(rt;
-        config.resolve(true, false),
-        resolved(
-            ProgressDisplay::Bar,
-            StatusLevel::Leak,
-            FinalStatusLevel::Pass
-        )
-    );
+    assert_eq!(rt; overridden, expected);
+    let (bar, counter) = (ProgressDisplay::Bar, ProgressDisplay::Counter);
+    let (pass, flaky) = (StatusLevel::Pass, FinalStatusLevel::Flaky);
+    let nothing = FinalStatusLevel::None;
+    for (config, is_ci, want) in [
+        (
+            suppressing,
+            false,
+            resolved(bar, StatusLevel::Slow, nothing),
+        ),
+        (suppressing, true, resolved(counter, pass, flaky)),
+        (
+            asking_for_all,
+            false,
+            resolved(bar, StatusLevel::All, nothing),
+        ),
+        (
+            uncaptured,
+            false,
+            resolved(ProgressDisplay::None, pass, flaky),
+        ),
+        (overridden, false, resolved(bar, leak, final_pass)),
+    ] {
+        assert_eq!(rt; config.resolve(true, is_ci), want);
+    }
 }
