@@ -18,9 +18,9 @@ returns-clause-calls c =
     let unread_left : left ≡ unread decider made = search rules in
     let told : IsIsolated c.in_ok-decider.decider c.as_mut_slice.result.now left = c.unload_skipped.ensures.isolation in
     let isolated : IsIsolated decider made left =
-        subst (λ d. IsIsolated d made left) c.in_ok-decider.ensures.ok (subst (λ calls. IsIsolated c.in_ok-decider.decider calls left) c.as_mut_slice.ensures.value told) in
+    subst (λ d. IsIsolated d made left) c.in_ok-decider.ensures.ok (subst (λ calls. IsIsolated c.in_ok-decider.decider calls left) c.as_mut_slice.ensures.value told) in
     let size : c.in_ok-calls.calls.len ≡ length made = search rules in
     let same : length left ≡ length made = ap length unread_left ∙ length-map made (unread_call decider) in
     let whole : take c.in_ok-calls.calls.len (left ++ drop (length left) made) ≡ left =
-        ap (λ n. take n (left ++ drop (length left) made)) (size ∙ sym same) ∙ take-append_seam left (drop (length left) made) in
+    ap (λ n. take n (left ++ drop (length left) made)) (size ∙ sym same) ∙ take-append_seam left (drop (length left) made) in
     subst (AreReadyCallsOf c.args.options.now c.args.self.now) (sym whole) (ready_unread c.args.options.now c.args.self.now made left on of_scene unread_left isolated)
