@@ -34,13 +34,11 @@ pub fn highlight_end(slice: &[u8]) -> usize
 /// last line is a chunk of its own. Joined, the chunks are the text, and none is empty. They are slices of the text.
 ///
 /// ```
-/// let mut lengths = [0; 2];
-/// let mut count = 0;
+/// let mut is_full = false;
 /// print_lines_in_chunks("ab\ncd\ne", 6, |chunk| {
-///     lengths[count] = chunk.len();
-///     count += 1;
+///     is_full = is_full || out.push_str(chunk).is_err() || out.push_str("|").is_err();
 /// });
-/// assert_eq!(lengths, [6, 1]); // "ab\ncd\n" and "e"
+/// assert_eq!(out.as_str(), "ab\ncd\n|e|");
 /// ```
 pub fn print_lines_in_chunks<F: FnMut(&str)>(text: &str, limit: usize, mut print: F)
     requires { F.IsAlwaysCallable print }

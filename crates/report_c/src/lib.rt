@@ -58,7 +58,8 @@ const UNKNOWN_LEVEL: u32 = 4;
 ///
 /// ```
 /// let options = NorigullyOptions { should_colorize: false, show_counter: false, is_replay: false, status_level: 5 };
-/// norigully_report(alloc, &options, b"\nboom\n", &mut out) // status 2, line 2
+/// let outcome = norigully_report(alloc, &options, b"\nboom\n", &mut out);
+/// assert_eq!((outcome.status, outcome.line), (2, 2));
 /// ```
 #[unsafe(no_mangle)]
 pub extern "C" fn norigully_report(

@@ -75,7 +75,8 @@ impl From<FilterError> for io::Error {
 /// Writes what the reader has left, without its escape sequences, and delivers it.
 ///
 /// ```
-/// filter(alloc, "\x1b[1mhi".as_bytes(), &mut out, 1)? // out holds "hi"
+/// filter(alloc, "\x1b[1mhi".as_bytes(), &mut out, 1)?;
+/// assert_eq!(out.as_str(), "hi");
 /// ```
 ///
 /// The work is done once, and as often as `turns` says where that is more. [`FilterError`] says what each fault leaves.
