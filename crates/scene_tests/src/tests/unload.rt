@@ -1,13 +1,12 @@
 //! Output that was left unread, and the option that leaves unread what the report does not show.
 
-use super::{BEGINNING, OPTIONS, RUN, SUMMARY, TWO_TESTS, event_of, report_of};
+use super::{BEGINNING, OPTIONS, SUMMARY, TWO_TESTS, event_of, report_of};
 use run_model::event::TestEventKind;
 use run_model::level::StatusLevel;
 use run_model::output::{ChildExecutionOutputDescription, ChildOutputDescription};
-use scenes::program::{judge, report_scene};
+use scenes::program::judge;
 use scenes::words::Options;
 use std::alloc::Global;
-use std::io;
 use std::test::Fail;
 
 const UNLOADING: Options<'static> = Options {
@@ -42,18 +41,6 @@ const SKIPPED: [&str; 7] = [
     "answer-script\t0\t1\t-\tdb\tmake-db\t-\tdelay:0:200000000:800000000\tpass",
 ];
 
-const AFTER_AN_INTERRUPT: &str = "cancel\t0\t0\tinterrupt\n";
-
-// The line that the program prints of a scene, and no byte of a report; both empty where the scene is accepted.
-fn fault_of(alloc: Global, options: &Options<'_>, scene: &[u8]) -> Result<String, Fail> {
-    let (outcome, printed, _) = report_scene(alloc, options, scene, Vec::new(alloc), io::sink());
-    match outcome {
-        Ok(()) => Ok(String::new(alloc)),
-        Err(fault) if printed.is_empty() && fault.status() == 2 => Ok(fault.to_string(alloc)?),
-        Err(_) => Err(Fail::from("nothing is written of a scene that is refused")),
-    }
-}
-
 #[test]
 fn prints_a_run_without_the_output_it_skips(rt: HostRuntime) -> Result<(), Fail> {
     let alloc = rt.alloc();
@@ -61,62 +48,6 @@ fn prints_a_run_without_the_output_it_skips(rt: HostRuntime) -> Result<(), Fail>
     assert_eq!(rt;
         report_of(alloc, &UNLOADING, TWO_TESTS.as_bytes())?.as_slice(),
         whole.as_bytes()
-    );
-    Ok(())
-}
-
-#[test]
-fn tells_the_line_of_output_that_was_not_loaded(rt: HostRuntime) -> Result<(), Fail> {
-    let alloc = rt.alloc();
-    let scene = format!(in alloc;
-        "config\tfinal\tfail\n{RUN}\ndone\t-\ta\tt1\tnever\tfinal\tpass\t-\t1\tfail:1\t5\t0\t{UNREAD}\n"
-    )?;
-    for options in [&OPTIONS, &UNLOADING] {
-        assert_eq!(rt;
-            fault_of(alloc, options, scene.as_bytes())?.as_str(),
-            "report: line 3: output not loaded"
-        );
-    }
-    Ok(())
-}
-
-#[test]
-fn refuses_what_lacks_needed_output(rt: HostRuntime) -> Result<(), Fail> {
-    let alloc = rt.alloc();
-    for event in NEEDED {
-        let unread = format!(in alloc; "{event}\t{UNREAD}")?;
-        let hidden = format!(in alloc; "{AFTER_AN_INTERRUPT}{event}\t{UNREAD}")?;
-        for options in [&OPTIONS, &UNLOADING] {
-            assert_eq!(rt;
-                fault_of(alloc, options, unread.as_bytes())?.as_str(),
-                "report: line 1: output not loaded",
-                "{event}"
-            );
-            assert_eq!(rt;
-                fault_of(alloc, options, hidden.as_bytes())?.as_str(),
-                "report: line 2: output not loaded",
-                "{event}"
-            );
-        }
-    }
-    Ok(())
-}
-
-#[test]
-fn goes_by_the_settings_without_capture(rt: HostRuntime) -> Result<(), Fail> {
-    let alloc = rt.alloc();
-    let test = "config\tnocapture\t1\ndone\t-\ta\tt1\timmediate\timmediate\tpass\t-\t1";
-    let failed = format!(in alloc; "{test}\texec\t5000000\t0\t{UNREAD}\n")?;
-    assert_eq!(rt;
-        fault_of(alloc, &OPTIONS, failed.as_bytes())?.as_str(),
-        "report: line 2: output not loaded"
-    );
-    let loaded = format!(in alloc; "{test}\tpass\t5000000\t0\t{LOADED}\n")?;
-    let unread = format!(in alloc; "{test}\tpass\t5000000\t0\t{UNREAD}\n")?;
-    let whole = report_of(alloc, &OPTIONS, loaded.as_bytes())?;
-    assert_eq!(rt;
-        report_of(alloc, &OPTIONS, unread.as_bytes())?.as_slice(),
-        whole.as_slice()
     );
     Ok(())
 }
@@ -166,20 +97,6 @@ fn skips_retries_below_their_level(rt: HostRuntime) -> Result<(), Fail> {
     let retry = "retry\t-\ta\tt1\t1\t3\t1000000000\timmediate\tfail:1\t500000000\t0";
     let unread = format!(in alloc; "{retry}\t{UNREAD}")?;
     assert!(rt; report_of(alloc, &options, unread.as_bytes())?.is_empty());
-    Ok(())
-}
-
-#[test]
-fn tells_a_retried_success_first(rt: HostRuntime) -> Result<(), Fail> {
-    let alloc = rt.alloc();
-    let retry = "retry\t-\ta\tt1\t1\t3\t1000000000\timmediate\tpass\t500000000\t0";
-    let unread = format!(in alloc; "{retry}\t{UNREAD}")?;
-    for options in [&OPTIONS, &UNLOADING] {
-        assert_eq!(rt;
-            fault_of(alloc, options, unread.as_bytes())?.as_str(),
-            "report: line 1: a retried attempt succeeded"
-        );
-    }
     Ok(())
 }
 
