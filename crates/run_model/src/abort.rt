@@ -72,6 +72,11 @@ fn copy_text(
 }
 
 /// A text of a description, which contracts see as its bytes.
+///
+/// ```
+/// let text = DescriptionText::new(alloc, "no such file")?;
+/// assert_eq!(text.as_str(), "no such file");
+/// ```
 #[derive(Debug, Drop)]
 pub struct DescriptionText {
     text: String,

@@ -33,6 +33,10 @@ pub enum TestOutputDisplay {
 
 impl TestOutputDisplay {
     /// Whether it is shown as soon as the test has finished.
+    ///
+    /// ```
+    /// assert!(TestOutputDisplay::ImmediateFinal.is_immediate());
+    /// ```
     pub fn is_immediate(self) -> bool
         ensures { result ≡ is_immediate self }
     {
@@ -43,6 +47,10 @@ impl TestOutputDisplay {
     }
 
     /// Whether it is shown at the end of the run.
+    ///
+    /// ```
+    /// assert!(TestOutputDisplay::ImmediateFinal.is_final());
+    /// ```
     pub fn is_final(self) -> bool
         ensures { result ≡ is_final self }
     {

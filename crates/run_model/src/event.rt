@@ -84,6 +84,14 @@ impl<'a> TestEvent<'a> {
     }
 
     /// Leaves the captured output of every attempt of a decided event unread. Other events stay. It allocates nothing.
+    ///
+    /// ```
+    /// let mut event = TestEvent::test_finished(time, test.as_ref(), statuses, stats);
+    /// event.unload();
+    /// if let TestEventKind::TestFinished { run_statuses, .. } = &event.kind {
+    ///     assert!(!run_statuses.last_status().output.has_loaded_output());
+    /// }
+    /// ```
     pub fn unload(&mut self)
         ensures { self.new ≡ unloaded_event self.old }
     {

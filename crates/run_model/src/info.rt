@@ -43,6 +43,15 @@ pub struct SetupScriptInfoResponse {
 }
 
 /// What a test answers.
+///
+/// ```
+/// use run_model::{boxed::Boxed, output::ChildExecutionOutputDescription};
+/// let state = Boxed::new(alloc, UnitState::Running { pid: 42, time_taken: time, slow_after: None })?;
+/// let output = Boxed::new(alloc, ChildExecutionOutputDescription::silent(ExecutionResultDescription::Pass))?;
+/// let (test_instance, retry_data) = (test.as_ref(), RetryData::only());
+/// let response = TestInfoResponse { stress_index: None, test_instance, retry_data, state, output };
+/// assert!(response.state.get().has_valid_output());
+/// ```
 #[derive(Debug, Drop)]
 pub struct TestInfoResponse<'a> {
     /// Which iteration of a stress run it belongs to.

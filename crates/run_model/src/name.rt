@@ -186,6 +186,10 @@ fn cut_at_last_colons(text: &str) -> (Option<&str>, &str)
 }
 
 /// The name of a profile.
+///
+/// ```
+/// assert_eq!(ProfileName::new(alloc, "ci")?.as_str(), "ci");
+/// ```
 #[derive(Debug, Drop)]
 pub struct ProfileName {
     text: String,
@@ -218,6 +222,10 @@ impl ProfileName {
 }
 
 /// The id of a setup script.
+///
+/// ```
+/// assert_eq!(ScriptId::new(alloc, "set-up-database")?.as_str(), "set-up-database");
+/// ```
 #[derive(Debug, Drop)]
 pub struct ScriptId {
     text: String,
@@ -250,6 +258,10 @@ impl ScriptId {
 }
 
 /// The program that a setup script runs, as it was given.
+///
+/// ```
+/// assert_eq!(ProgramName::new(alloc, "./set-up.sh")?.as_str(), "./set-up.sh");
+/// ```
 #[derive(Debug, Drop)]
 pub struct ProgramName {
     text: String,
@@ -351,6 +363,11 @@ impl OwnedTestInstanceId {
     }
 
     /// The test, its names borrowed.
+    ///
+    /// ```
+    /// let test = OwnedTestInstanceId::new(alloc, "alpha", "t1")?;
+    /// assert_eq!(test.as_ref().binary_id.as_str(), "alpha");
+    /// ```
     pub fn as_ref(&self) -> TestInstanceId<'_>
         ensures binary_id { result.binary_id.now ≡ self.now.binary_id }
         ensures test_name { result.test_name.now ≡ self.now.test_name }

@@ -46,6 +46,11 @@ impl OutputSpec for RecordingSpec {
 /// The bytes of one stream, or of several that were captured together. Contracts see the bytes.
 ///
 /// Most streams are empty: those hold nothing. Others share their bytes with their copies.
+///
+/// ```
+/// let output = ChildSingleOutput::new(alloc, Bytes::from_static(b"a\xffb"))?;
+/// assert_eq!(output.as_str_lossy(alloc)?.as_str(), "a\u{fffd}b");
+/// ```
 #[derive(Debug, Drop)]
 pub struct ChildSingleOutput {
     bytes: Option<Arc<Bytes>>,
@@ -292,6 +297,11 @@ impl<S: OutputSpec> ChildExecutionOutputDescription<S> {
 
 impl ChildExecutionOutputDescription<LiveSpec> {
     /// A process that ended so and wrote nothing on either stream.
+    ///
+    /// ```
+    /// let output = ChildExecutionOutputDescription::silent(ExecutionResultDescription::Pass);
+    /// assert!(!output.has_errors());
+    /// ```
     pub fn silent(outcome: ExecutionResultDescription) -> Self
         ensures { result ≡ silent_execution outcome }
     {
@@ -462,6 +472,11 @@ impl Model for ErrorChain {
 
 impl ErrorChain {
     /// The error with this message and these causes. It allocates.
+    ///
+    /// ```
+    /// let chain = ErrorChain::new(alloc, DescriptionText::new(alloc, "timed out")?, Vec::new(alloc))?;
+    /// assert!(chain.causes().is_empty());
+    /// ```
     pub fn new(
         alloc: Global,
         message: DescriptionText,

@@ -30,6 +30,11 @@ impl Model for ShortestRunIdPrefix {
 
 impl ShortestRunIdPrefix {
     /// Copies the texts.
+    ///
+    /// ```
+    /// let id = ShortestRunIdPrefix::new(alloc, "01", "890a5d")?;
+    /// assert_eq!((id.prefix(), id.rest()), ("01", "890a5d"));
+    /// ```
     pub fn new(alloc: Global, prefix: &str, rest: &str) -> Result<Self, OutOfMemory>
         ensures prefix { IfOk result (λ p. p.prefix ≡ prefix.now) }
         ensures rest { IfOk result (λ p. p.rest ≡ rest.now) }

@@ -48,6 +48,10 @@ pub struct RunStats {
 
 impl RunStats {
     /// What a run of this many tests begins with: nothing has finished, and nothing has cancelled it.
+    ///
+    /// ```
+    /// assert_eq!(RunStats::new(2), RunStats { initial_run_count: 2, ..RunStats::default() });
+    /// ```
     pub fn new(initial_run_count: usize) -> Self
         ensures { result ≡ planned_stats initial_run_count }
     {
@@ -152,6 +156,13 @@ pub enum RunStatsFailureKind {
 }
 
 /// The counts of a stress run.
+///
+/// ```
+/// let completed = run_model::stress::StressIndex { current: 3, total: None };
+/// let last_final_stats = FinalRunStats::Success;
+/// let stress = StressRunStats { completed, success_count: 2, failed_count: 1, last_final_stats };
+/// assert_eq!(stress.summarize_final(), StressFinalRunStats::Failed);
+/// ```
 #[derive(Clone, Copy, Debug, PartialEq, Eq)]
 pub struct StressRunStats {
     /// How many iterations have finished, and how many there were to be.
@@ -192,6 +203,10 @@ pub enum StressFinalRunStats {
 }
 
 /// The statistics that end a run.
+///
+/// ```
+/// assert_eq!(RunFinishedStats::Single(stats).final_stats(), FinalRunStats::Success);
+/// ```
 #[derive(Clone, Copy, Debug, PartialEq, Eq)]
 pub enum RunFinishedStats {
     /// Of a single run.

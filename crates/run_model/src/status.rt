@@ -162,6 +162,14 @@ pub enum SlowTimeoutResult {
 }
 
 /// How an attempt failed.
+///
+/// ```
+/// use run_model::abort::AbortDescription;
+/// use run_model::boxed::Boxed;
+/// let abort = Boxed::new(alloc, AbortDescription::UnixSignal { signal: 6, name: None })?;
+/// let ended = ExecutionResultDescription::Fail { failure: FailureDescription::Abort { abort }, leaked: false };
+/// assert!(!ended.is_success());
+/// ```
 #[derive(Debug, Drop, PartialEq, Eq)]
 pub enum FailureDescription {
     /// Its process ended with a code other than 0.
@@ -332,6 +340,14 @@ impl ExecuteStatus<LiveSpec> {
 }
 
 /// The execution of a setup script.
+///
+/// ```
+/// use run_model::output::ChildExecutionOutputDescription;
+/// let output = ChildExecutionOutputDescription::silent(ExecutionResultDescription::Pass);
+/// let (time_taken, result) = (time, ExecutionResultDescription::Pass);
+/// let status = SetupScriptExecuteStatus { time_taken, result, output, is_slow: false };
+/// assert!(status.result.is_success());
+/// ```
 #[derive(Debug, Drop)]
 pub struct SetupScriptExecuteStatus<S: OutputSpec> {
     /// How long it ran.

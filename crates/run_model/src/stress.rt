@@ -50,6 +50,11 @@ pub enum StressCount {
 }
 
 /// How far a stress run has come.
+///
+/// ```
+/// let progress = StressProgress::Count { total: StressCount::Infinite, elapsed: time, completed: 2 };
+/// assert_eq!(progress.remaining(), Some(StressRemaining::Infinite));
+/// ```
 #[derive(Clone, Copy, Debug, PartialEq, Eq)]
 pub enum StressProgress {
     /// Of a run of this many iterations.

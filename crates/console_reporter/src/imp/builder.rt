@@ -41,6 +41,15 @@ pub struct Surroundings {
 }
 
 /// What a reporter is built from. [`DisplayReporterBuilder::new`] has nextest's defaults.
+///
+/// ```
+/// builder.should_colorize = true;
+/// builder.failure_output = Some(TestOutputDisplay::Final);
+/// let mut reporter = builder.build_for(alloc, &mut out, Surroundings::default());
+/// reporter.write_event(&event)?;
+/// drop(reporter);
+/// assert!(out.as_str().ends_with("alpha\x1b[0m \x1b[34;1mt1\x1b[0m\n"));
+/// ```
 #[derive(Debug, Drop)]
 pub struct DisplayReporterBuilder {
     /// Whether the run runs tests or benchmarks.

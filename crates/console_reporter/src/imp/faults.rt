@@ -6,6 +6,13 @@ use thiserror::Error;
 ///
 /// A call that is refused leaves reporter and writer as they were, and the reporter goes on; after a fault of the writer or
 /// of memory it has failed.
+///
+/// ```
+/// let mut statuses = ExecutionStatuses::single(alloc, ExecuteStatus::failed(101, time));
+/// statuses.unload();
+/// let event = TestEvent::test_finished(time, test.as_ref(), statuses, stats);
+/// assert_eq!(reporter.write_event(&event), Err(WriteEventError::OutputNotLoaded));
+/// ```
 #[derive(Clone, Copy, Debug, PartialEq, Eq, Error)]
 pub enum WriteEventError {
     /// The event is refused: another attempt is said to follow one that succeeded. Nothing was written.
@@ -29,6 +36,14 @@ pub enum WriteEventError {
 }
 
 /// Where a run of calls stopped, and why.
+///
+/// ```
+/// let mut statuses = ExecutionStatuses::single(alloc, ExecuteStatus::failed(101, time));
+/// statuses.unload();
+/// let calls = [ReportCall::Event(TestEvent::test_finished(time, test.as_ref(), statuses, stats))];
+/// let stopped = run_report(alloc, builder, &mut out, false, false, false, false, &calls);
+/// assert_eq!(stopped, Err(RunFault { position: 0, fault: WriteEventError::OutputNotLoaded }));
+/// ```
 #[derive(Clone, Copy, Debug, PartialEq, Eq)]
 pub struct RunFault {
     /// The place of the call from 0, or the number of calls where the end of the report failed.

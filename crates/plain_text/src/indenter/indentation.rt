@@ -24,6 +24,11 @@ pub struct Indented<'a, W> {
 
 impl<'a, W> Indented<'a, W> {
     /// Sets the indentation.
+    ///
+    /// ```
+    /// indented(&mut out).with_str("> ").write_str("a\nb")?;
+    /// assert_eq!(out.as_str(), "> a\n> b");
+    /// ```
     pub fn with_str(mut self, indentation: &'a str) -> Indented<'a, W>
         ensures now { result.inner.now ≡ self.entry.inner.now }
         ensures same { result.inner.ghost_name ≡ self.entry.inner.ghost_name }
@@ -35,6 +40,11 @@ impl<'a, W> Indented<'a, W> {
     }
 
     /// Leaves the first line as it is, where something stands before it already.
+    ///
+    /// ```
+    /// indented(&mut out).skip_initial().write_str("a\nb")?;
+    /// assert_eq!(out.as_str(), "a\n    b");
+    /// ```
     pub fn skip_initial(mut self) -> Indented<'a, W>
         ensures now { result.inner.now ≡ self.entry.inner.now }
         ensures same { result.inner.ghost_name ≡ self.entry.inner.ghost_name }
