@@ -58,7 +58,7 @@ const UNKNOWN_LEVEL: u32 = 4;
 ///
 /// ```
 /// let options = NorigullyOptions { should_colorize: false, show_counter: false, is_replay: false, status_level: 5 };
-/// let outcome = norigully_report(alloc, &options, b"\nboom\n", &mut out);
+/// let outcome = norigully_report(alloc, &options, b"\nboom\n", &mut [0; 80]);
 /// assert_eq!((outcome.status, outcome.line), (2, 2));
 /// ```
 #[unsafe(no_mangle)]
