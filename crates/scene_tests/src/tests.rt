@@ -1,6 +1,5 @@
 //! The program over scenes and writers in memory.
 
-use bstr::ByteSlice;
 use console_reporter::imp::ReportCall;
 use run_model::event::TestEvent;
 use run_model::level::StatusLevel;
@@ -18,8 +17,6 @@ mod growths;
 mod stores;
 mod unload;
 mod unshown;
-
-const RUN: &str = "run\t00000000-0000-4000-8000-000000000001\tdefault\t2\t1\t-";
 
 const DONE: &str =
     "done\t-\talpha\tt1\tnever\tnever\tpass\tinitial=2 finished=1 passed=1\t1\tpass\t5000000\t0\tsplit\t\t\t-\t-";
@@ -60,25 +57,16 @@ done\t-\talpha\tt1\tnever\tnever\tpass\tinitial=2 finished=1 passed=1\t1\tpass\t
 done\t-\talpha\tmod::t2\tnever\tnever\tpass\tinitial=2 finished=2 passed=1 failed=1\t1\tfail:1\t1500000000\t0\tsplit\t\t\t-\t-\n\
 end\t1520000000\tinitial=2 finished=2 passed=1 failed=1\t0\t-\n";
 
-const BEGINNING: &str = "------------
+// The report of that.
+const OF_TWO_TESTS: &str = "------------
  Nextest run ID 00000000-0000-4000-8000-000000000001 with nextest profile: default
     Starting 2 tests across 1 binary
         PASS [   0.005s] alpha t1
         FAIL [   1.500s] alpha mod::t2
-";
-
-const SUMMARY: &str = "------------
+------------
      Summary [   1.520s] 2 tests run: 1 passed, 1 failed, 0 skipped
         FAIL [   1.500s] alpha mod::t2
 ";
-
-// What the program prints of a scene that it accepts.
-fn report_of(alloc: Global, options: &Options<'_>, scene: &[u8]) -> Result<Vec<u8>, Fail> {
-    let mut printed = Vec::new(alloc);
-    let scene = judge(alloc, options, scene)?;
-    write_report(alloc, options, &scene, &mut printed, io::sink())?;
-    Ok(printed)
-}
 
 // The texts, as the words of a command line.
 fn words_of(alloc: Global, texts: &[&str]) -> Result<Vec<String>, Fail> {
@@ -87,86 +75,6 @@ fn words_of(alloc: Global, texts: &[&str]) -> Result<Vec<String>, Fail> {
         args.push(String::from_str(alloc, text)?)?;
     }
     Ok(args)
-}
-
-#[test]
-fn prints_a_run(rt: HostRuntime) -> Result<(), Fail> {
-    let alloc = rt.alloc();
-    let once = format!(in alloc; "{BEGINNING}{SUMMARY}")?;
-    assert_eq!(rt;
-        report_of(alloc, &OPTIONS, TWO_TESTS.as_bytes())?.as_slice(),
-        once.as_bytes()
-    );
-    let ends_twice = format!(in alloc; "{TWO_TESTS}{END}")?;
-    let twice = format!(in alloc; "{BEGINNING}{SUMMARY}{SUMMARY}")?;
-    assert_eq!(rt;
-        report_of(alloc, &OPTIONS, ends_twice.as_bytes())?.as_slice(),
-        twice.as_bytes()
-    );
-    assert!(rt; report_of(alloc, &OPTIONS, b"")?.is_empty());
-    Ok(())
-}
-
-// What the program prints of a scene where it is given these words.
-fn report_with(alloc: Global, texts: &[&str], scene: &[u8]) -> Result<Vec<u8>, Fail> {
-    let args = words_of(alloc, texts)?;
-    let Some(options) = words(args.as_slice()) else {
-        return Err(Fail::from("these are words of the program"));
-    };
-    report_of(alloc, &options, scene)
-}
-
-#[test]
-fn prints_what_options_ask_for(rt: HostRuntime) -> Result<(), Fail> {
-    let alloc = rt.alloc();
-    let scene = format!(in alloc; "config\truns\t2\n{TWO_TESTS}")?;
-    let lines: [(&[&str], &str); 3] = [
-        (&["FILE"], "\n        PASS [   0.005s] alpha t1\n"),
-        (
-            &["--color", "FILE"],
-            "\n\x1b[32;1m        PASS\x1b[0m [   0.005s] \x1b[35;1malpha\x1b[0m \x1b[34;1mt1\x1b[0m\n",
-        ),
-        (
-            &["--counter", "FILE"],
-            "\n        PASS [   0.005s] (1/2) alpha t1\n",
-        ),
-    ];
-    for (texts, line) in lines {
-        let printed = report_with(alloc, texts, scene.as_bytes())?;
-        assert!(rt; printed.as_slice().contains_str(line.as_bytes()));
-    }
-    Ok(())
-}
-
-#[test]
-fn shows_benchmarks_from_a_level_on(rt: HostRuntime) -> Result<(), Fail> {
-    let alloc = rt.alloc();
-    let options = Options {
-        status_level: StatusLevel::Fail,
-        ..OPTIONS
-    };
-    let scene = format!(in alloc; "config\tbench\t1\n{TWO_TESTS}")?;
-    let printed = report_of(alloc, &options, scene.as_bytes())?;
-    let lines = "------------
- Nextest run ID 00000000-0000-4000-8000-000000000001 with nextest profile: default
-    Starting 2 benchmarks across 1 binary
-        FAIL [   1.500s] alpha mod::t2
-------------
-     Summary [   1.520s] 2 benchmarks run: 1 passed, 1 failed, 0 skipped
-        FAIL [   1.500s] alpha mod::t2
-";
-    assert_eq!(rt; printed.as_slice(), lines.as_bytes());
-    Ok(())
-}
-
-#[test]
-fn follows_the_configuration(rt: HostRuntime) -> Result<(), Fail> {
-    let alloc = rt.alloc();
-    let scene = format!(in alloc; "config\tunicode\t0\nconfig\tunicode\t1\n{RUN}")?;
-    let printed = report_with(alloc, &["--replay", "FILE"], scene.as_bytes())?;
-    let line = "────────────\n Nextest run ";
-    assert!(rt; printed.as_slice().starts_with(line.as_bytes()));
-    Ok(())
 }
 
 // A device that takes so many bytes and then fails.

@@ -2,7 +2,7 @@
 //! which is refused then: a test answers that, and panics where the text is no beginning of its report.
 
 use super::faults::{ASKED, CANCELLED, OF_ASKED, OF_CANCELLED, run_to};
-use super::{OPTIONS, STORING, TWO_TESTS};
+use super::{OF_TWO_TESTS, OPTIONS, STORING, TWO_TESTS};
 use console_reporter::imp::{ReportCall, RunFault, WriteEventError};
 use plain_text::write_str::TextBuffer;
 use scenes::fault::Fault;
@@ -10,16 +10,6 @@ use scenes::program::{judge, report_scene, write_report};
 use std::io;
 use std::io::{ErrorKind, Write};
 use std::test::Fail;
-
-const OF_TWO_TESTS: &str = "------------
- Nextest run ID 00000000-0000-4000-8000-000000000001 with nextest profile: default
-    Starting 2 tests across 1 binary
-        PASS [   0.005s] alpha t1
-        FAIL [   1.500s] alpha mod::t2
-------------
-     Summary [   1.520s] 2 tests run: 1 passed, 1 failed, 0 skipped
-        FAIL [   1.500s] alpha mod::t2
-";
 
 // Scenes and their reports.
 const REPORTS: [(&str, &str); 3] = [

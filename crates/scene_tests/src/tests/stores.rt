@@ -1,7 +1,7 @@
 //! Records of finished tests beside the report: what they hold, which outputs they need, and what stays of both where a device fails.
 
 use super::faults::{CANCELLED, FailingDevice, Failure, count_writes, ends_of};
-use super::{BEGINNING, DONE, OPTIONS, STORING, SUMMARY, TWO_TESTS, keeping};
+use super::{DONE, OF_TWO_TESTS, OPTIONS, STORING, TWO_TESTS, keeping};
 use scenes::fault::Fault;
 use scenes::program::{judge, report_scene, write_report};
 use scenes::words::Options;
@@ -30,7 +30,6 @@ fn texts_of(
 #[test]
 fn keeps_a_record_of_each_test(rt: HostRuntime) -> Result<(), Fail> {
     let alloc = rt.alloc();
-    let whole = format!(in alloc; "{BEGINNING}{SUMMARY}")?;
     let unloading = Options {
         unload_skipped: true,
         store: keeping("out", false, true),
@@ -38,11 +37,11 @@ fn keeps_a_record_of_each_test(rt: HostRuntime) -> Result<(), Fail> {
     };
     for options in [&STORING, &unloading] {
         let (printed, stored) = texts_of(alloc, options, TWO_TESTS.as_bytes())?;
-        assert_eq!(rt; printed.as_slice(), whole.as_bytes());
+        assert_eq!(rt; printed.as_slice(), OF_TWO_TESTS.as_bytes());
         assert_eq!(rt; stored.as_slice(), RECORDS.as_bytes());
     }
     let (printed, stored) = texts_of(alloc, &OPTIONS, TWO_TESTS.as_bytes())?;
-    assert_eq!(rt; printed.as_slice(), whole.as_bytes());
+    assert_eq!(rt; printed.as_slice(), OF_TWO_TESTS.as_bytes());
     assert!(rt; stored.is_empty());
     Ok(())
 }
