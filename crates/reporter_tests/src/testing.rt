@@ -1,17 +1,13 @@
-//! What the tests share: a reporter that shows all at its end, attempts, events, and what is printed of calls.
+//! What the tests share: a reporter that shows all at its end, attempts, and the end of a run.
 
-use console_reporter::imp::{DisplayReporterBuilder, DisplayerKind, ReportCall, run_report};
-use run_model::config::{
-    CompiledDefaultFilter, CompiledDefaultFilterSection, NextestRunMode, TestOutputDisplay,
-};
+use console_reporter::imp::{DisplayReporterBuilder, DisplayerKind, ReportCall};
+use run_model::config::{CompiledDefaultFilter, CompiledDefaultFilterSection, NextestRunMode};
 use run_model::event::{TestEvent, TestEventKind};
 use run_model::level::{FinalStatusLevel, StatusLevel};
-use run_model::name::{ProfileName, RustBinaryId, TestCaseName, TestInstanceId};
+use run_model::name::ProfileName;
 use run_model::output::{ChildExecutionOutputDescription, ChildOutputDescription, LiveSpec};
 use run_model::stats::{RunFinishedStats, RunStats};
-use run_model::status::{
-    ExecuteStatus, ExecutionResultDescription, ExecutionStatuses, FlakyResult, RetryData,
-};
+use run_model::status::{ExecuteStatus, ExecutionResultDescription, RetryData};
 use run_model::time::Nanos;
 use std::alloc::Global;
 use std::test::Fail;
@@ -91,38 +87,6 @@ pub fn failed() -> ExecutionResultDescription {
     ExecutionResultDescription::failed(1)
 }
 
-/// A test that finished after an attempt, or after this and a second one.
-pub fn finished<'a>(
-    alloc: Global,
-    binary_id: &'a RustBinaryId,
-    test_name: &'a TestCaseName,
-    first: ExecuteStatus<LiveSpec>,
-    second: Option<ExecuteStatus<LiveSpec>>,
-) -> Result<ReportCall<'a>, Fail> {
-    let mut statuses = Vec::new(alloc);
-    statuses.push(first)?;
-    if let Some(second) = second {
-        statuses.push(second)?;
-    }
-    let Some(run_statuses) = ExecutionStatuses::new(statuses, FlakyResult::Pass) else {
-        return Err(Fail::from("there are attempts"));
-    };
-    Ok(ReportCall::Event(TestEvent {
-        elapsed: Nanos(0),
-        kind: TestEventKind::TestFinished {
-            stress_index: None,
-            test_instance: TestInstanceId {
-                binary_id,
-                test_name,
-            },
-            success_output: TestOutputDisplay::Never,
-            failure_output: TestOutputDisplay::Never,
-            run_statuses,
-            current_stats: STATS,
-        },
-    }))
-}
-
 /// The end of that run, after three seconds.
 pub fn run_finished_event<'a>() -> TestEvent<'a> {
     TestEvent {
@@ -138,21 +102,4 @@ pub fn run_finished_event<'a>() -> TestEvent<'a> {
 /// The same as a call.
 pub fn run_finished<'a>() -> ReportCall<'a> {
     ReportCall::Event(run_finished_event())
-}
-
-/// What is printed of these calls.
-pub fn printed<'a>(alloc: Global, calls: &'a [ReportCall<'a>]) -> Result<String, Fail> {
-    let mut report = String::new(alloc);
-    let builder = builder(alloc)?;
-    run_report(
-        alloc,
-        builder,
-        &mut report,
-        false,
-        false,
-        false,
-        false,
-        calls,
-    )?;
-    Ok(report)
 }
