@@ -17,6 +17,9 @@ use Rattle.scene_text.specs.declared.fault.LineFault.{LineFault}
 use Rattle.scene_text.specs.declared.fault.LineFault.TheVariants.{NotUtf8, UnknownEvent, ConfigAfterEvent, WrongNumberOfFields}
 use Rattle.scene_text.specs.declared.fault.ReadFault.{ReadFault}
 use Rattle.scene_text.specs.declared.fault.ReadFault.TheVariants as fault
+use Rattle.scene_text.specs.declared.reader.LineSaid.{LineSaid}
+use Rattle.scene_text.specs.declared.reader.LineSaid.TheVariants as said
+use Rattle.scene_text.specs.declared.reader.LinesBefore.{LinesBefore}
 use Rattle.scene_text.specs.declared.reader.lines.LineKind.{LineKind}
 use Rattle.scene_text.specs.declared.reader.lines.LineKind.TheVariants as line
 use Rattle.scene_text.specs.declared.scene.ToldRun.{ToldRun}
@@ -35,75 +38,97 @@ told scene = record { config = scene.config; events = scene.events.items }
 abbrev pub nothing_told : Told
 nothing_told = record { config = unconfigured; events = [] }
 
--- with the configuration that a line makes, or the event that it tells
-abbrev pub with_config : Told → Result (SceneConfig × Place) LineFault → Result Told LineFault
-with_config before (Ok x) = Ok (record before { config = x.0 })
-with_config before (Err f) = Err f
+-- whether an event is among those of the lines so far
+abbrev pub is_begun : List SceneEvent → Bool
+is_begun [] = false
+is_begun (e ∷ es) = true
 
-abbrev pub with_event : Told → Result (SceneEvent × Place) LineFault → Result Told LineFault
-with_event before (Ok x) = Ok (record before { events = before.events ++ x.0 ∷ [] })
-with_event before (Err f) = Err f
+-- what a line is read by of what the lines before it tell
+abbrev pub lines_before : Told → LinesBefore
+lines_before before = record { config = before.config; is_begun = is_begun before.events }
 
--- the event that is made of what a line says
-abbrev pub with_made : {X : Type 0} → (X → SceneEvent) → Told → Result (X × Place) LineFault → Result Told LineFault
-with_made make before (Ok x) = with_event before (Ok (make x.0, x.1))
-with_made make before (Err f) = Err f
+-- what a line says: the configuration that it makes, or its event
+abbrev pub says_config : Result (SceneConfig × Place) LineFault → Result LineSaid LineFault
+says_config (Ok x) = Ok (said.Config x.0)
+says_config (Err f) = Err f
 
--- what is told once the fields after the first, of which there are enough, are read
-unfoldable pub fields_told : Told → LineKind → Place → Result Told LineFault
-fields_told before line.Config fields = with_config before (config_line before.config fields)
-fields_told before line.Prefix fields = with_event before (prefix_line fields)
-fields_told before line.Header fields = with_event before (header_line fields)
-fields_told before line.Run fields = with_event before (run_line fields)
-fields_told before line.SubStart fields = with_event before (sub_start_line fields)
-fields_told before line.Setup fields = with_event before (setup_line fields)
-fields_told before line.SetupSlow fields = with_event before (setup_slow_line fields)
-fields_told before line.SetupDone fields = with_event before (setup_done_line fields)
-fields_told before line.Start fields = with_event before (start_line fields)
-fields_told before line.RetryStart fields = with_event before (retry_start_line fields)
-fields_told before line.Slow fields = with_event before (slow_line fields)
-fields_told before line.Retry fields = with_event before (retry_line fields)
-fields_told before line.Done fields = with_event before (done_line fields)
-fields_told before line.Skip fields = with_event before (skip_line fields)
-fields_told before line.Cancel fields = with_made event.RunBeginCancel before (cancel_line fields)
-fields_told before line.Kill fields = with_made event.RunBeginKill before (cancel_line fields)
-fields_told before line.Pause fields = with_made event.RunPaused before (pause_line fields)
-fields_told before line.Continue fields = with_made event.RunContinued before (pause_line fields)
-fields_told before line.Info fields = with_event before (info_line fields)
-fields_told before line.AnswerScript fields = with_event before (answer_script_line fields)
-fields_told before line.AnswerTest fields = with_event before (answer_test_line fields)
-fields_told before line.InfoEnd fields = with_event before (info_end_line fields)
-fields_told before line.Input fields = with_event before (input_line fields)
-fields_told before line.SubEnd fields = with_event before (sub_end_line fields)
-fields_told before line.End fields = with_event before (end_line fields)
-fields_told before line.EndStress fields = with_event before (end_stress_line fields)
+abbrev pub says_event : Result (SceneEvent × Place) LineFault → Result LineSaid LineFault
+says_event (Ok x) = Ok (said.Event x.0)
+says_event (Err f) = Err f
 
--- such a line may not stand after these events
-unfoldable pub comes_late : LineKind → List SceneEvent → Bool
-comes_late line.Config [] = false
-comes_late line.Config (e ∷ es) = true
-comes_late other es = false
+-- the event that is made of what its fields hold
+abbrev pub says_made : {X : Type 0} → (X → SceneEvent) → Result (X × Place) LineFault → Result LineSaid LineFault
+says_made make (Ok x) = Ok (said.Event (make x.0))
+says_made make (Err f) = Err f
 
-abbrev pub kind_told : Told → List (List ℕ) → Option LineKind → Result Told LineFault
-kind_told before fields None = Err UnknownEvent
-kind_told before fields (Some kind) =
-    if comes_late kind before.events then Err ConfigAfterEvent
-    else (if takes kind (length fields) then fields_told before kind (record { number = 1; left = fields }) else Err WrongNumberOfFields)
+-- what the fields after the first say, of which there are enough
+unfoldable pub fields_said : SceneConfig → LineKind → Place → Result LineSaid LineFault
+fields_said config line.Config fields = says_config (config_line config fields)
+fields_said config line.Prefix fields = says_event (prefix_line fields)
+fields_said config line.Header fields = says_event (header_line fields)
+fields_said config line.Run fields = says_event (run_line fields)
+fields_said config line.SubStart fields = says_event (sub_start_line fields)
+fields_said config line.Setup fields = says_event (setup_line fields)
+fields_said config line.SetupSlow fields = says_event (setup_slow_line fields)
+fields_said config line.SetupDone fields = says_event (setup_done_line fields)
+fields_said config line.Start fields = says_event (start_line fields)
+fields_said config line.RetryStart fields = says_event (retry_start_line fields)
+fields_said config line.Slow fields = says_event (slow_line fields)
+fields_said config line.Retry fields = says_event (retry_line fields)
+fields_said config line.Done fields = says_event (done_line fields)
+fields_said config line.Skip fields = says_event (skip_line fields)
+fields_said config line.Cancel fields = says_made event.RunBeginCancel (cancel_line fields)
+fields_said config line.Kill fields = says_made event.RunBeginKill (cancel_line fields)
+fields_said config line.Pause fields = says_made event.RunPaused (pause_line fields)
+fields_said config line.Continue fields = says_made event.RunContinued (pause_line fields)
+fields_said config line.Info fields = says_event (info_line fields)
+fields_said config line.AnswerScript fields = says_event (answer_script_line fields)
+fields_said config line.AnswerTest fields = says_event (answer_test_line fields)
+fields_said config line.InfoEnd fields = says_event (info_end_line fields)
+fields_said config line.Input fields = says_event (input_line fields)
+fields_said config line.SubEnd fields = says_event (sub_end_line fields)
+fields_said config line.End fields = says_event (end_line fields)
+fields_said config line.EndStress fields = says_event (end_stress_line fields)
 
-abbrev pub words_told : Told → List (List ℕ) → Result Told LineFault
-words_told before [] = Err WrongNumberOfFields
-words_told before (word ∷ fields) = kind_told before fields (line_in word)
+-- such a line may not stand after an event
+unfoldable pub comes_late : LineKind → Bool → Bool
+comes_late line.Config is_begun = is_begun
+comes_late other is_begun = false
 
--- an empty line, and one that begins with `#`, tell nothing
+abbrev pub kind_said : LinesBefore → List (List ℕ) → Option LineKind → Result LineSaid LineFault
+kind_said before fields None = Err UnknownEvent
+kind_said before fields (Some kind) =
+    if comes_late kind before.is_begun then Err ConfigAfterEvent
+    else (if takes kind (length fields) then fields_said before.config kind (record { number = 1; left = fields }) else Err WrongNumberOfFields)
+
+abbrev pub words_said : LinesBefore → List (List ℕ) → Result LineSaid LineFault
+words_said before [] = Err WrongNumberOfFields
+words_said before (word ∷ fields) = kind_said before fields (line_in word)
+
+-- an empty line, and one that begins with `#`, say nothing
 abbrev pub is_passed_over : List ℕ → Bool
 is_passed_over [] = true
 is_passed_over (c ∷ t) = c == 35
 
+-- what a line says behind others, or what is wrong with it
+unfoldable pub line_said : LinesBefore → List ℕ → Result LineSaid LineFault
+line_said before t =
+    if is_passed_over t then Ok said.Nothing
+    else (if is_utf8 t then words_said before (parted 9 t) else Err NotUtf8)
+
+-- what is told once a line has said this
+abbrev pub with_said : Told → LineSaid → Told
+with_said before said.Nothing = before
+with_said before (said.Config config) = record before { config = config }
+with_said before (said.Event e) = record before { events = before.events ++ e ∷ [] }
+
+abbrev pub told_with : Told → Result LineSaid LineFault → Result Told LineFault
+told_with before (Ok s) = Ok (with_said before s)
+told_with before (Err f) = Err f
+
 -- what is told after a line, or what is wrong with it
 unfoldable pub line_told : Told → List ℕ → Result Told LineFault
-line_told before t =
-    if is_passed_over t then Ok before
-    else (if is_utf8 t then words_told before (parted 9 t) else Err NotUtf8)
+line_told before t = told_with before (line_said (lines_before before) t)
 
 abbrev pub go_on : (Told → Result Told (ℕ × LineFault)) → ℕ → Result Told LineFault → Result Told (ℕ × LineFault)
 go_on next n (Ok after) = next after
@@ -137,9 +162,10 @@ IsAnswer (Ok scene) read = read ≡ Ok (told scene)
 IsAnswer (Err (fault.Line n f)) read = read ≡ Err (n, f)
 IsAnswer (Err fault.OutOfMemory) read = ⊤
 
-abbrev pub IsLineAnswer : Result (Unit {0}) LineError → Told → Result Told LineFault → Type 0
-IsLineAnswer (Ok done) after read = read ≡ Ok after
-IsLineAnswer (Err e) after read = Fails e read
+-- what was returned is what a line says, or its fault; or memory was refused
+abbrev pub IsSaid : Result LineSaid LineError → Result LineSaid LineFault → Type 0
+IsSaid (Ok s) read = read ≡ Ok s
+IsSaid (Err e) read = Fails e read
 
 abbrev pub fault_at : ℕ → LineError → ReadFault
 fault_at n error.OutOfMemory = fault.OutOfMemory

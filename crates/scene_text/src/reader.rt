@@ -10,7 +10,7 @@
 
 ghost use Rattle.std.specs.Prelude.{◌≡◌, ◌++◌, IfOk, IfErr, OnOk, Ok};
 ghost use Rattle.scene_text.specs.Split.{parted, texts};
-ghost use Rattle.scene_text.specs.SceneTexts.{AllTell, IsAnswer, IsFaultOf, IsFaultHere, IsLineAnswer, comes_late, event_lines, fault_at, line_here, fields_told, is_passed_over, line_told, nothing_told, text_told, told, words_told};
+ghost use Rattle.scene_text.specs.SceneTexts.{AllTell, IsAnswer, IsFaultOf, IsFaultHere, IsSaid, comes_late, event_lines, fault_at, fields_said, is_begun, is_passed_over, line_here, line_said, line_told, nothing_told, text_told, told, words_said};
 
 mod counts;
 mod fields;
@@ -46,6 +46,26 @@ use split::first_line;
 use std::alloc::Global;
 use stress_lines::{read_end_stress, read_sub_end, read_sub_start};
 use test_lines::{read_done, read_retry, read_retry_start, read_skip, read_slow, read_start};
+
+/// What a line is read by of the lines before it.
+#[derive(Clone, Copy, Debug)]
+pub struct LinesBefore {
+    /// How they say that the run is reported.
+    pub config: SceneConfig,
+    /// Whether one of them tells an event, after which no line configures the run.
+    pub is_begun: bool,
+}
+
+/// What a line says.
+#[derive(Debug, Drop)]
+pub enum LineSaid {
+    /// Nothing: it is empty, or begins with `#`.
+    Nothing,
+    /// How the run is reported, with what the lines before it say of that.
+    Config(SceneConfig),
+    /// An event.
+    Event(SceneEvent),
+}
 
 /// Reads a scene. Its lines end in line feeds, which the last may lack; empty lines and lines that begin with `#` are
 /// skipped. The error is that of the first line that is wrong.
@@ -95,7 +115,7 @@ fn read_lines(alloc: Global, text: &[u8]) -> Result<ToldRun, ReadFault>
 }
 
 // Reads the line of this number into the scene, and notes the number where the line tells an event.
-#[tactic(auto, using(std::proofs::lemmas::Bool::Decides::nat_tests))]
+#[tactic(auto, unfolding(crate::specs::SceneTexts::line_told), using(std::proofs::lemmas::Bool::Decides::nat_tests))]
 fn read_numbered<'a>(
     alloc: Global,
     number: u64,
@@ -108,15 +128,27 @@ fn read_numbered<'a>(
     ensures lines { OnOk result (lines.new.items ≡ lines.old.items ++ line_here number (told scene.old) (told scene.new)) }
     ensures err { IfErr result (IsFaultHere number (line_told (told scene.old) line.now)) }
 {
-    let events_before = scene.events.len();
-    if let Err(error) = read_line(alloc, line, fields, scene) {
-        return Err(fault_at(number, error));
+    let before = LinesBefore {
+        config: scene.config,
+        is_begun: is_begun(scene.events.as_slice()),
+    };
+    match read_split(alloc, line, fields, before) {
+        Ok(LineSaid::Nothing) => {}
+        Ok(LineSaid::Config(config)) => scene.config = config,
+        Ok(LineSaid::Event(event)) => {
+            scene.events.push(event)?;
+            lines.push(number)?;
+        }
+        Err(error) => return Err(fault_at(number, error)),
     }
-    if scene.events.len() <= events_before {
-        return Ok(());
-    }
-    lines.push(number)?;
     Ok(())
+}
+
+// Whether there is an event among these.
+fn is_begun(events: &[SceneEvent]) -> bool
+    ensures { result ≡ is_begun events.now }
+{
+    !events.is_empty()
 }
 
 // The fault of a scene whose line of this number cannot be read.
@@ -129,24 +161,38 @@ fn fault_at(line: u64, error: LineError) -> ReadFault
     }
 }
 
-// Reads a line into the scene. The list is for its fields.
-#[tactic(auto, unfolding(crate::specs::SceneTexts::line_told), using(crate::proofs::lemmas::Utf8::utf8_passes, crate::proofs::lemmas::Utf8::utf8_fails))]
-fn read_line<'a>(
+/// Reads one line, without the line feed that ends it, behind lines that tell this.
+///
+/// ```
+/// let before = LinesBefore { config: SceneConfig::new(), is_begun: false };
+/// let said = read_line(alloc, b"config\tfinal\tall", before)?;
+/// assert!(matches!(said, LineSaid::Config(config) if config.final_status_level == FinalStatusLevel::All));
+/// ```
+pub fn read_line(alloc: Global, line: &[u8], before: LinesBefore) -> Result<LineSaid, LineError>
+    ensures { IsSaid result (line_said before line.now) }
+{
+    let mut fields = Vec::new(alloc);
+    read_split(alloc, line, &mut fields, before)
+}
+
+// Reads a line behind lines that tell this. The list is for its fields.
+#[tactic(auto, unfolding(crate::specs::SceneTexts::line_said), using(crate::proofs::lemmas::Utf8::utf8_passes, crate::proofs::lemmas::Utf8::utf8_fails))]
+fn read_split<'a>(
     alloc: Global,
     line: &'a [u8],
     fields: &mut Vec<&'a str>,
-    scene: &mut ToldRun,
-) -> Result<(), LineError>
-    ensures { IsLineAnswer result (told scene.new) (line_told (told scene.old) line.now) }
+    before: LinesBefore,
+) -> Result<LineSaid, LineError>
+    ensures { IsSaid result (line_said before line.now) }
 {
     if is_passed_over(line) {
-        return Ok(());
+        return Ok(LineSaid::Nothing);
     }
     let Ok(line) = str::from_utf8(line) else {
         return Err(LineError::Fault(LineFault::NotUtf8));
     };
     split_fields(line, fields)?;
-    read_words(alloc, fields.as_slice(), scene)
+    read_words(alloc, fields.as_slice(), before)
 }
 
 // Whether a line is empty, or begins with `#`.
@@ -157,49 +203,46 @@ fn is_passed_over(line: &[u8]) -> bool
 }
 
 // Reads a line that was split into its fields.
-fn read_words(alloc: Global, words: &[&str], scene: &mut ToldRun) -> Result<(), LineError>
-    ensures { IsLineAnswer result (told scene.new) (words_told (told scene.old) (texts words.now)) }
+fn read_words(alloc: Global, words: &[&str], before: LinesBefore) -> Result<LineSaid, LineError>
+    ensures { IsSaid result (words_said before (texts words.now)) }
 {
     let mut fields = Fields::new(words);
     let name = fields.take()?;
     let Some(kind) = LineKind::from_name(name) else {
         return Err(LineError::Fault(LineFault::UnknownEvent));
     };
-    if comes_late(kind, scene.events.as_slice()) {
+    if comes_late(kind, before.is_begun) {
         return Err(LineError::Fault(LineFault::ConfigAfterEvent));
     }
     if !kind.takes(fields.len()) {
         return Err(LineError::Fault(LineFault::WrongNumberOfFields));
     }
-    read_fields(alloc, kind, &mut fields, scene)
+    read_fields(alloc, kind, &mut fields, before.config)
 }
 
-// Whether such a line may not stand after these events.
+// Whether such a line may not stand where an event came before it, or none did.
 #[tactic(auto, unfolding(crate::specs::SceneTexts::comes_late))]
-fn comes_late(kind: LineKind, events: &[SceneEvent]) -> bool
-    ensures { result ≡ comes_late kind events.now }
+fn comes_late(kind: LineKind, is_begun: bool) -> bool
+    ensures { result ≡ comes_late kind is_begun }
 {
     match kind {
-        LineKind::Config => !events.is_empty(),
+        LineKind::Config => is_begun,
         _ => false,
     }
 }
 
-// Reads what follows a line's first field into the scene.
-#[tactic(auto, unfolding(crate::specs::SceneTexts::fields_told))]
+// Reads what follows a line's first field. A line that configures changes this configuration.
+#[tactic(auto, unfolding(crate::specs::SceneTexts::fields_said))]
 fn read_fields(
     alloc: Global,
     kind: LineKind,
     fields: &mut Fields<'_>,
-    scene: &mut ToldRun,
-) -> Result<(), LineError>
-    ensures { IsLineAnswer result (told scene.new) (fields_told (told scene.old) kind fields.old) }
+    config: SceneConfig,
+) -> Result<LineSaid, LineError>
+    ensures { IsSaid result (fields_said config kind fields.old) }
 {
     let event = match kind {
-        LineKind::Config => {
-            scene.config = read_config(fields, scene.config)?;
-            return Ok(());
-        }
+        LineKind::Config => return Ok(LineSaid::Config(read_config(fields, config)?)),
         LineKind::Prefix => read_prefix(alloc, fields)?,
         LineKind::Header => read_header(alloc, fields)?,
         LineKind::Run => read_run(alloc, fields)?,
@@ -226,6 +269,5 @@ fn read_fields(
         LineKind::End => read_end(alloc, fields)?,
         LineKind::EndStress => read_end_stress(alloc, fields)?,
     };
-    scene.events.push(event)?;
-    Ok(())
+    Ok(LineSaid::Event(event))
 }
