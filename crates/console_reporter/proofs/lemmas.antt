@@ -3,15 +3,10 @@ pub mod CalmRuns
 pub mod EntryTints
 pub mod Exactness
 pub mod Exchanges
-pub mod Inserts
 pub mod Isolation
-pub mod KeptTests
-pub mod Keys
 pub mod Loads
-pub mod Orders
 pub mod OtherOutputs
 pub mod Pasts
-pub mod Places
 pub mod Records
 pub mod Refusals
 pub mod ReportTints

@@ -6,7 +6,7 @@ use Rattle.run_model.specs.declared.event.TestEvent.{TestEvent}
 use Rattle.run_model.specs.declared.event.TestEventKind.{TestEventKind}
 use Rattle.run_model.specs.declared.event.TestEventKind.TheVariants.{RunFinished}
 use Rattle.run_model.specs.declared.level.CancelReason.TheVariants as cause
-use Rattle.console_reporter.specs.Effects.{effect_of}
+use Rattle.reporter_state.specs.Effects.{effect_of}
 use Rattle.run_model.specs.declared.call.ReportCall.{ReportCall}
 use Rattle.run_model.specs.declared.call.ReportCall.TheVariants.{Event, Header, Prefix}
 

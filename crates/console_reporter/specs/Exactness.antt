@@ -10,12 +10,12 @@ use Rattle.plain_text.specs.Texts.{Text}
 use Rattle.event_text.specs.AttemptOutputs.{Written}
 use Rattle.console_reporter.specs.Calm.{AreCalm, EndsRun}
 use Rattle.console_reporter.specs.Configuration.{Configuration}
-use Rattle.console_reporter.specs.Loads.{decision}
+use Rattle.reporter_state.specs.Loads.{decision}
 use Rattle.console_reporter.specs.Report.{texts}
 use Rattle.console_reporter.specs.Stored.{records}
 use Rattle.run_model.specs.declared.call.ReportCall.{ReportCall}
 use Rattle.run_model.specs.declared.call.ReportCall.TheVariants.{Event}
-use Rattle.console_reporter.specs.declared.imp.decider.OutputLoadDecider.{OutputLoadDecider}
+use Rattle.reporter_state.specs.declared.decider.OutputLoadDecider.{OutputLoadDecider}
 
 -- a combined output, without errors, highlight and result of its own
 abbrev pub combined : Text → Written

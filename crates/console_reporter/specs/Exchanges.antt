@@ -3,12 +3,12 @@ use Rattle.std.specs.Prelude.{◌≡◌, true, List, [], ◌∷◌, ◌++◌, re
 use Rattle.run_model.specs.declared.event.TestEvent.{TestEvent}
 use Rattle.console_reporter.specs.Calm.{AreCalm, is_end_of_run}
 use Rattle.console_reporter.specs.Configuration.{Configuration, settings_of}
-use Rattle.console_reporter.specs.Effects.{entry_of}
-use Rattle.console_reporter.specs.Entries.{cancel, entry_key}
+use Rattle.reporter_state.specs.Effects.{entry_of}
+use Rattle.reporter_state.specs.Entries.{cancel, entry_key}
 use Rattle.console_reporter.specs.Report.{text}
 use Rattle.run_model.specs.declared.call.ReportCall.{ReportCall}
 use Rattle.run_model.specs.declared.call.ReportCall.TheVariants.{Event, Header, Prefix}
-use Rattle.console_reporter.specs.declared.imp.final_output.FinalOutputEntry.{FinalOutputEntry}
+use Rattle.reporter_state.specs.declared.final_output.FinalOutputEntry.{FinalOutputEntry}
 
 -- what is kept of a call after a past
 abbrev pub entry_after : Configuration → List ReportCall → ReportCall → Option FinalOutputEntry

@@ -1,11 +1,12 @@
 -- Isolation: a replay may leave unread every captured output that the load decider skips, and no byte changes.
 use Rattle.std.specs.Prelude.{◌≡◌, ℕ, List, reverse}
-use Rattle.console_reporter.specs.Accepted.{AreAcceptedBy, decider_of, first_refused, refusal_at_by}
+use Rattle.reporter_state.specs.Refusals.{AreAcceptedBy, first_refused, refusal_at_by}
+use Rattle.console_reporter.specs.Accepted.{decider_of}
 use Rattle.console_reporter.specs.Configuration.{Configuration}
 use Rattle.console_reporter.specs.Report.{report, texts}
 use Rattle.console_reporter.specs.Stored.{records, stored}
 use Rattle.run_model.specs.declared.call.ReportCall.{ReportCall}
-use Rattle.console_reporter.specs.declared.imp.decider.OutputLoadDecider.{OutputLoadDecider}
+use Rattle.reporter_state.specs.declared.decider.OutputLoadDecider.{OutputLoadDecider}
 
 -- For every configuration that has this decider, each position of the calls with its skipped outputs left unread has the text and
 -- the record of that position of the calls, so the report and what is stored are the same; where the calls are accepted they still are; the first call that is

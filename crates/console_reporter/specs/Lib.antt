@@ -2,15 +2,9 @@ pub mod Accepted
 pub mod Calm
 pub mod ColourLaw
 pub mod Configuration
-pub mod Effects
-pub mod Entries
 pub mod Exactness
 pub mod Exchanges
 pub mod Isolation
-pub mod KeptTests
-pub mod Keys
-pub mod Loads
-pub mod Order
 pub mod Outcomes
 pub mod PlainCalls
 pub mod PlainLaw
@@ -22,4 +16,3 @@ pub mod Statistics
 pub mod Stored
 pub mod Telling
 pub mod Topics
-pub mod Unread

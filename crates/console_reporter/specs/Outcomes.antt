@@ -1,11 +1,12 @@
 -- How a call of a reporter ends.
-use Rattle.std.specs.Prelude.{◌≡◌, [], ◌∷◌, ◌++◌, ◌⊎◌, Option, None, Some, Result, Ok, Err}
+use Rattle.std.specs.Prelude.{◌≡◌, [], ◌∷◌, ◌++◌, ◌⊎◌, Option, None, Result, Ok, Err}
 use Rattle.plain_text.specs.Texts.{Text}
 use Rattle.plain_text.specs.Writer.{Meaning}
 use Rattle.plain_text.specs.declared.write_str.WriteFault.{WriteFault}
 use Rattle.plain_text.specs.declared.write_str.WriteFault.TheVariants.{Device, Memory as RefusedMemory}
-use Rattle.console_reporter.specs.declared.imp.faults.WriteEventError.{WriteEventError}
-use Rattle.console_reporter.specs.declared.imp.faults.WriteEventError.TheVariants.{RetriedSuccess, OutputNotLoaded, Io, Memory, Failed, StoreIo}
+use Rattle.reporter_state.specs.Refusals.{refusal_in}
+use Rattle.reporter_state.specs.declared.faults.WriteEventError.{WriteEventError}
+use Rattle.reporter_state.specs.declared.faults.WriteEventError.TheVariants.{RetriedSuccess, OutputNotLoaded, Io, Memory, Failed, StoreIo}
 
 -- a beginning of the text was accepted
 pub record HasFront {S : Type 0} (m : Meaning S) (old : S) (text : Text) (new : S) : Type 0 where
@@ -32,15 +33,6 @@ StopsRecord m old text Io new = new ≡ old
 StopsRecord m old text Memory new = m.stops old text RefusedMemory new ⊎ HasFront m old text new
 StopsRecord m old text Failed new = ⊥
 StopsRecord m old text StoreIo new = m.stops old text Device new
-
--- the refusal that an error is
-abbrev pub refusal_in : WriteEventError → Option WriteEventError
-refusal_in RetriedSuccess = Some RetriedSuccess
-refusal_in OutputNotLoaded = Some OutputNotLoaded
-refusal_in Io = None
-refusal_in Memory = None
-refusal_in Failed = None
-refusal_in StoreIo = None
 
 -- the refusal that a call answered
 abbrev pub answered_refusal : Result (Unit {0}) WriteEventError → Option WriteEventError

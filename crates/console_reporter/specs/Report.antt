@@ -29,12 +29,12 @@ use Rattle.info_text.specs.Starts.{info_finished_text, info_started_text}
 use Rattle.event_text.specs.Scripts.{Script}
 use Rattle.event_text.specs.declared.settings.Settings.{Settings}
 use Rattle.console_reporter.specs.Configuration.{Configuration, settings_of}
-use Rattle.console_reporter.specs.Effects.{TestEnd}
-use Rattle.console_reporter.specs.Effects.TestEnd.{Finished, Skipped}
-use Rattle.console_reporter.specs.Entries.{cancel, entries_text, final_order, hiding_rank, kept, prefix}
+use Rattle.reporter_state.specs.Effects.{TestEnd}
+use Rattle.reporter_state.specs.Effects.TestEnd.{Finished, Skipped}
+use Rattle.reporter_state.specs.Entries.{cancel, entries_text, final_order, hiding_rank, kept, prefix}
 use Rattle.run_model.specs.declared.call.ReportCall.{ReportCall}
 use Rattle.run_model.specs.declared.call.ReportCall.TheVariants.{Event, Header, Prefix}
-use Rattle.console_reporter.specs.declared.imp.final_output.FinalOutputEntry.{FinalOutputEntry}
+use Rattle.reporter_state.specs.declared.final_output.FinalOutputEntry.{FinalOutputEntry}
 
 -- the text of the test that an event finishes
 abbrev pub finished_text : Settings → Option TestEnd → Text

@@ -5,7 +5,7 @@ use Rattle.plain_text.specs.declared.write_str.WriteFault.{WriteFault}
 use Rattle.plain_text.specs.declared.write_str.WriteFault.TheVariants as write
 use Rattle.console_reporter.specs.declared.error.ReportError.{ReportError}
 use Rattle.console_reporter.specs.declared.error.ReportError.TheVariants.{OutOfMemory, Io, Run}
-use Rattle.console_reporter.specs.declared.imp.faults.RunFault.{RunFault}
+use Rattle.reporter_state.specs.declared.faults.RunFault.{RunFault}
 
 -- a device failed, or memory was refused
 abbrev pub error_of_write : WriteFault → ReportError

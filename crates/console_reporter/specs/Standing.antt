@@ -4,15 +4,15 @@ use Rattle.std.specs.Option.{option_map_or}
 use Rattle.run_model.specs.Levels.{reason_rank}
 use Rattle.run_model.specs.declared.event.TestEvent.{TestEvent}
 use Rattle.console_reporter.specs.Configuration.{Configuration, settings_of}
-use Rattle.console_reporter.specs.Effects.{may_grow_for}
-use Rattle.console_reporter.specs.Entries.{cancel, final_order, kept, prefix}
+use Rattle.reporter_state.specs.Effects.{may_grow_for}
+use Rattle.reporter_state.specs.Entries.{cancel, final_order, kept, prefix}
 use Rattle.console_reporter.specs.Report.{Known, past_at}
 use Rattle.console_reporter.specs.Slots.{config_of}
 use Rattle.event_text.specs.declared.settings.Settings.{Settings}
 use Rattle.run_model.specs.declared.call.ReportCall.{ReportCall}
 use Rattle.run_model.specs.declared.call.ReportCall.TheVariants.{Event, Header, Prefix}
 use Rattle.console_reporter.specs.declared.imp.reporter.DisplayReporter.{DisplayReporter}
-use Rattle.console_reporter.specs.declared.imp.state.ReporterState.{ReporterState}
+use Rattle.reporter_state.specs.declared.state.ReporterState.{ReporterState}
 
 -- the reporter works, and holds what the texts after this past need: its entries stand in their final order; and its store, if it
 -- has one, is asked to keep what the configuration says

@@ -9,8 +9,8 @@ use Rattle.console_reporter.specs.Slots.{IsSameStore, store_meaning}
 use Rattle.console_reporter.specs.Standing.{MayGrowIn, StandsAfter}
 use Rattle.console_reporter.specs.Stored.{stored, stored_at, stored_text}
 use Rattle.run_model.specs.declared.call.ReportCall.{ReportCall}
-use Rattle.console_reporter.specs.declared.imp.faults.WriteEventError.{WriteEventError}
-use Rattle.console_reporter.specs.declared.imp.faults.WriteEventError.TheVariants.{Io, Memory, StoreIo}
+use Rattle.reporter_state.specs.declared.faults.WriteEventError.{WriteEventError}
+use Rattle.reporter_state.specs.declared.faults.WriteEventError.TheVariants.{Io, Memory, StoreIo}
 use Rattle.console_reporter.specs.declared.imp.reporter.DisplayReporter.{DisplayReporter}
 
 -- A call, or the end of a report, which is None: the past after it, what it adds to the report and to the store, and whether the

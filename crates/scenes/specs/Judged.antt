@@ -1,10 +1,10 @@
 -- Scenes that are judged: each line by itself, and then whether the scene's reporter would refuse an event.
 use Rattle.std.specs.Prelude.{◌≡◌, ◌⊎◌, ℕ, List, get_or, Option, None, Some, Result, Ok, Err, ⊤}
 use Rattle.std.specs.Option.{option_and_then}
-use Rattle.console_reporter.specs.Accepted.{first_refused, refusal_at_by}
+use Rattle.reporter_state.specs.Refusals.{first_refused, refusal_at_by}
 use Rattle.run_model.specs.declared.call.ReportCall.{ReportCall}
-use Rattle.console_reporter.specs.declared.imp.faults.WriteEventError.{WriteEventError}
-use Rattle.console_reporter.specs.declared.imp.faults.WriteEventError.TheVariants.{RetriedSuccess, OutputNotLoaded, Io, Memory, Failed, StoreIo}
+use Rattle.reporter_state.specs.declared.faults.WriteEventError.{WriteEventError}
+use Rattle.reporter_state.specs.declared.faults.WriteEventError.TheVariants.{RetriedSuccess, OutputNotLoaded, Io, Memory, Failed, StoreIo}
 use Rattle.scenes.specs.Reports.{AreCallsOf}
 use Rattle.scene_text.specs.SceneTexts.{event_lines, nothing_told, text_told}
 use Rattle.scene_text.specs.Split.{parted}

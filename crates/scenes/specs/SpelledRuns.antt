@@ -1,7 +1,7 @@
 -- From a scene that was judged, and from its text, to the bytes of its report and to those that are stored.
 use Rattle.std.specs.Prelude.{◌≡◌, ℕ, List, Option, None, Ok, Err}
 use Rattle.std.specs.Io.KnownBytes.{Appends}
-use Rattle.console_reporter.specs.Accepted.{first_refused}
+use Rattle.reporter_state.specs.Refusals.{first_refused}
 use Rattle.run_model.specs.declared.call.ReportCall.{ReportCall}
 use Rattle.scenes.specs.Faults.{IsJudgeFault}
 use Rattle.scenes.specs.Judged.{IsJudged}

@@ -3,9 +3,9 @@
 use Rattle.std.specs.Prelude.{◌≡◌, List, if◌then◌else◌}
 use Rattle.console_reporter.specs.Accepted.{decider_of}
 use Rattle.console_reporter.specs.Isolation.{IsIsolated}
-use Rattle.console_reporter.specs.Unread.{unread}
+use Rattle.reporter_state.specs.Unread.{unread}
 use Rattle.run_model.specs.declared.call.ReportCall.{ReportCall}
-use Rattle.console_reporter.specs.declared.imp.decider.OutputLoadDecider.{OutputLoadDecider}
+use Rattle.reporter_state.specs.declared.decider.OutputLoadDecider.{OutputLoadDecider}
 use Rattle.scenes.specs.Reports.{AreCallsOf, configuration_for}
 use Rattle.scenes.specs.declared.scene.Scene.{Scene}
 use Rattle.scenes.specs.declared.words.Options.{Options}

@@ -8,7 +8,7 @@ ghost use Rattle.std.specs.Io.KnownBytes.{Appends};
 ghost use Rattle.scenes.specs.declared.fault.Fault.{Fault};
 ghost use Rattle.scene_text.specs.Split.{parted};
 ghost use Rattle.scenes.specs.Faults.{IsJudgeFault};
-ghost use Rattle.console_reporter.specs.Accepted.{first_refused};
+ghost use Rattle.reporter_state.specs.Refusals.{first_refused};
 ghost use Rattle.scenes.specs.Judged.{IsJudged, IsJudgedFault, IsSceneAccepted, IsSceneRefused, fault_of_refusal};
 ghost use Rattle.scenes.specs.Reports.{Begins, IsStop, StopsStore, StopsText, fault_for, report_of, store_for, stored_of};
 ghost use Rattle.scene_text.specs.SceneTexts.{AllTell, event_lines, nothing_told, text_told};

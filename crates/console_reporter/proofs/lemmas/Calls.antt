@@ -6,13 +6,13 @@ use Rattle.std.proofs.lemmas.List.{take_more, take_all, reverse-append}
 use Rattle.std.proofs.lemmas.Option.{slice_get-get_or, slice_get_past}
 use Rattle.plain_text.specs.Writer.{Meaning, WriterLaws, Puts, one_further}
 use Rattle.plain_text.specs.declared.write_str.WriteFault.{WriteFault}
-use Rattle.console_reporter.specs.declared.imp.faults.WriteEventError.{WriteEventError}
-use Rattle.console_reporter.specs.declared.imp.faults.WriteEventError.TheVariants.{RetriedSuccess, OutputNotLoaded, Io, Memory, Failed, StoreIo}
-use Rattle.console_reporter.specs.declared.imp.faults.RunFault.{RunFault}
+use Rattle.reporter_state.specs.declared.faults.WriteEventError.{WriteEventError}
+use Rattle.reporter_state.specs.declared.faults.WriteEventError.TheVariants.{RetriedSuccess, OutputNotLoaded, Io, Memory, Failed, StoreIo}
+use Rattle.reporter_state.specs.declared.faults.RunFault.{RunFault}
 use Rattle.console_reporter.specs.Accepted.{AreAccepted, IsAccepted, refusal, refusal_at}
 use Rattle.console_reporter.specs.Report.{text, text_at, past_at, report}
 use Rattle.console_reporter.specs.Configuration.{Configuration, settings_of}
-use Rattle.console_reporter.specs.Entries.{cancel}
+use Rattle.reporter_state.specs.Entries.{cancel}
 use Rattle.run_model.specs.declared.call.ReportCall.{ReportCall}
 use Rattle.plain_text.specs.declared.write_str.WriteFault.TheVariants.{Device, Memory as RefusedMemory}
 use Rattle.console_reporter.specs.Outcomes.{IsOfConsole, Stops, StopsAfter, StopsRecord, error_for, store_error_for}

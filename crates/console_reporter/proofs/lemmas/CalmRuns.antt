@@ -13,12 +13,12 @@ use Rattle.event_text.proofs.lemmas.Finishes.{row_below}
 use Rattle.event_text.specs.declared.settings.Settings.{Settings}
 use Rattle.console_reporter.specs.Calm.{AreCalm, carried_reason, is_end_of_run}
 use Rattle.console_reporter.specs.Configuration.{Configuration, settings_of}
-use Rattle.console_reporter.specs.Effects.{entry_of}
-use Rattle.console_reporter.specs.Entries.{cancel, final_order, kept}
+use Rattle.reporter_state.specs.Effects.{entry_of}
+use Rattle.reporter_state.specs.Entries.{cancel, final_order, kept}
 use Rattle.console_reporter.specs.Report.{Known, event_text, listed_text, text}
 use Rattle.run_model.specs.declared.call.ReportCall.{ReportCall}
 use Rattle.run_model.specs.declared.call.ReportCall.TheVariants.{Event, Header, Prefix}
-use Rattle.console_reporter.specs.declared.imp.final_output.FinalOutputEntry.{FinalOutputEntry}
+use Rattle.reporter_state.specs.declared.final_output.FinalOutputEntry.{FinalOutputEntry}
 
 -- parts of calm calls
 pub calm_front : (xs ys : List ReportCall) → AreCalm (xs ++ ys) → AreCalm xs

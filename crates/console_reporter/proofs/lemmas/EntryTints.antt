@@ -18,16 +18,16 @@ use Rattle.event_text.proofs.lemmas.OutputTints.{tinted-unit_output}
 use Rattle.test_text.proofs.lemmas.StatusTints.{IsPlainFinish, tinted-status_line}
 use Rattle.test_text.proofs.lemmas.TestTints.{tinted-skip_line}
 use Rattle.run_text.specs.PlainRuns.{IsPlainPrefix}
-use Rattle.console_reporter.specs.Effects.{final_output, finished_entry, is_kept, is_skip_kept, entry_of}
-use Rattle.console_reporter.specs.Entries.{cancel, prefix, kept, final_order, is_before, final_text, entries_text}
-use Rattle.console_reporter.specs.KeptTests.{borrowed_test}
-use Rattle.console_reporter.specs.Order.{put_in, ordered_by}
+use Rattle.reporter_state.specs.Effects.{final_output, finished_entry, is_kept, is_skip_kept, entry_of}
+use Rattle.reporter_state.specs.Entries.{cancel, prefix, kept, final_order, is_before, final_text, entries_text}
+use Rattle.reporter_state.specs.KeptTests.{borrowed_test}
+use Rattle.reporter_state.specs.Order.{put_in, ordered_by}
 use Rattle.console_reporter.specs.PlainCalls.{IsPlainKind, IsPlainCall}
 use Rattle.run_model.specs.declared.call.ReportCall.{ReportCall}
 use Rattle.run_model.specs.declared.call.ReportCall.TheVariants.{Event, Header, Prefix}
-use Rattle.console_reporter.specs.declared.imp.final_output.FinalOutput.{FinalOutput}
-use Rattle.console_reporter.specs.declared.imp.final_output.FinalOutput.TheVariants.{Executed, ExecutedWithOutput, Skipped}
-use Rattle.console_reporter.specs.declared.imp.final_output.FinalOutputEntry.{FinalOutputEntry}
+use Rattle.reporter_state.specs.declared.final_output.FinalOutput.{FinalOutput}
+use Rattle.reporter_state.specs.declared.final_output.FinalOutput.TheVariants.{Executed, ExecutedWithOutput, Skipped}
+use Rattle.reporter_state.specs.declared.final_output.FinalOutputEntry.{FinalOutputEntry}
 
 -- what an entry shows of its test holds no escape character, but for the output where it need not
 abbrev IsPlainFinal : Bool → FinalOutput → Type 0

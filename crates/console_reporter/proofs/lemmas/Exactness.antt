@@ -50,26 +50,27 @@ use Rattle.unit_report.specs.Warnings.{final_warnings}
 use Rattle.run_text.specs.NotSeens.{not_seen_text}
 use Rattle.run_text.specs.Summaries.{run_finished_text}
 use Rattle.run_text.specs.SetupScripts.{failed_script_output, setup_script_finished_text, setup_script_line}
-use Rattle.console_reporter.specs.Accepted.{decider_by, decider_of}
+use Rattle.reporter_state.specs.Refusals.{decider_by}
+use Rattle.console_reporter.specs.Accepted.{decider_of}
 use Rattle.console_reporter.specs.Calm.{AreCalm, is_end_of_run}
 use Rattle.console_reporter.specs.Configuration.{Configuration, settings_of}
-use Rattle.console_reporter.specs.Effects.{entry_of, final_output}
-use Rattle.console_reporter.specs.Entries.{cancel, final_order, final_text}
+use Rattle.reporter_state.specs.Effects.{entry_of, final_output}
+use Rattle.reporter_state.specs.Entries.{cancel, final_order, final_text}
 use Rattle.console_reporter.specs.Exactness.{IsExact, IsObserved, IsSeen, IsStoredThere, combined, with_output, writing}
-use Rattle.console_reporter.specs.KeptTests.{borrowed_test, kept_test}
-use Rattle.console_reporter.specs.Loads.{decision, is_kept_by, load_if, loads_attempt, loads_script}
+use Rattle.reporter_state.specs.KeptTests.{borrowed_test, kept_test}
+use Rattle.reporter_state.specs.Loads.{decision, is_kept_by, load_if, loads_attempt, loads_script}
 use Rattle.console_reporter.specs.Report.{event_text, listed_text, script_by, text, texts}
 use Rattle.console_reporter.specs.Stored.{record_of, records, stored_text}
-use Rattle.console_reporter.specs.Unread.{is_skip}
+use Rattle.reporter_state.specs.Unread.{is_skip}
 use Rattle.run_model.specs.declared.call.ReportCall.{ReportCall}
 use Rattle.run_model.specs.declared.call.ReportCall.TheVariants.{Event}
-use Rattle.console_reporter.specs.declared.imp.decider.OutputLoadDecider.{OutputLoadDecider}
-use Rattle.console_reporter.specs.declared.imp.final_output.FinalOutputEntry.{FinalOutputEntry}
-use Rattle.console_reporter.specs.declared.imp.kept_test.KeptTest.{KeptTest}
+use Rattle.reporter_state.specs.declared.decider.OutputLoadDecider.{OutputLoadDecider}
+use Rattle.reporter_state.specs.declared.final_output.FinalOutputEntry.{FinalOutputEntry}
+use Rattle.reporter_state.specs.declared.kept_test.KeptTest.{KeptTest}
 use Rattle.console_reporter.proofs.lemmas.CalmRuns.{calm_back, calm_both, calm_end, calm_entries, calm_front, calm_past, listing}
 use Rattle.console_reporter.proofs.lemmas.Isolation.{same-record, same-unloaded}
 use Rattle.console_reporter.proofs.lemmas.OtherOutputs.{ascii, outputs_differ}
-use Rattle.console_reporter.proofs.lemmas.Places.{entry_with, text-place}
+use Rattle.reporter_state.proofs.lemmas.Places.{entry_with, text-place}
 use Rattle.console_reporter.proofs.lemmas.Same.{reverse-middle, same-but-one}
 
 abbrev wrote_a : Written

@@ -13,16 +13,16 @@ use Rattle.run_model.specs.declared.time.Nanos.{Nanos}
 use Rattle.event_text.specs.declared.settings.Settings.{Settings}
 use Rattle.console_reporter.specs.Calm.{AreCalm}
 use Rattle.console_reporter.specs.Configuration.{Configuration, settings_of}
-use Rattle.console_reporter.specs.Entries.{cancel, entry_cmp, entry_key, final_order, is_before}
+use Rattle.reporter_state.specs.Entries.{cancel, entry_cmp, entry_key, final_order, is_before}
 use Rattle.console_reporter.specs.Exchanges.{AreOfOneKey, IsOrderIndependent, entry_after}
 use Rattle.console_reporter.specs.Report.{event_text, texts}
 use Rattle.console_reporter.specs.Statistics.{IsStatsIndependent, with_stats}
 use Rattle.run_model.specs.declared.call.ReportCall.{ReportCall}
 use Rattle.run_model.specs.declared.call.ReportCall.TheVariants.{Event, Header, Prefix}
-use Rattle.console_reporter.specs.declared.imp.final_output.FinalOutputEntry.{FinalOutputEntry}
+use Rattle.reporter_state.specs.declared.final_output.FinalOutputEntry.{FinalOutputEntry}
 use Rattle.console_reporter.proofs.lemmas.CalmRuns.{calm_back, calm_both, calm_end, calm_entries, calm_entry, calm_front, calm_more, calm_past, listing}
-use Rattle.console_reporter.proofs.lemmas.Keys.{is_before-ranks}
-use Rattle.console_reporter.proofs.lemmas.Orders.{order-swap}
+use Rattle.reporter_state.proofs.lemmas.Keys.{is_before-ranks}
+use Rattle.reporter_state.proofs.lemmas.Orders.{order-swap}
 use Rattle.console_reporter.proofs.lemmas.Same.{IsSameEvent, same-but-one}
 
 -- entries of two keys may be exchanged

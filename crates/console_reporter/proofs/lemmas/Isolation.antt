@@ -37,22 +37,23 @@ use Rattle.event_text.specs.declared.finish.FinishRow.TheVariants.{Hidden, Shown
 use Rattle.event_text.specs.declared.settings.Settings.{Settings}
 use Rattle.run_text.specs.SetupScripts.{failed_script_output, setup_script_finished_text}
 use Rattle.event_text.specs.Scripts.{Script}
-use Rattle.console_reporter.specs.Accepted.{AreAcceptedBy, decider_by, decider_of, event_refusal, first_refused, refusal_at_by, refusal_by}
+use Rattle.reporter_state.specs.Refusals.{AreAcceptedBy, decider_by, event_refusal, first_refused, refusal_at_by, refusal_by}
+use Rattle.console_reporter.specs.Accepted.{decider_of}
 use Rattle.console_reporter.specs.Configuration.{Configuration, settings_of}
-use Rattle.console_reporter.specs.Effects.{final_output, is_kept, kept_entry}
-use Rattle.console_reporter.specs.Effects.TestEnd.{Finished}
-use Rattle.console_reporter.specs.declared.imp.final_output.FinalOutput.{FinalOutput}
+use Rattle.reporter_state.specs.Effects.{final_output, is_kept, kept_entry}
+use Rattle.reporter_state.specs.Effects.TestEnd.{Finished}
+use Rattle.reporter_state.specs.declared.final_output.FinalOutput.{FinalOutput}
 use Rattle.run_model.specs.declared.status.StatusSummary.{StatusSummary}
 use Rattle.console_reporter.specs.Isolation.{IsIsolated}
-use Rattle.console_reporter.specs.KeptTests.{kept_test}
-use Rattle.console_reporter.specs.Loads.{load_if, loads_attempt, loads_finish, loads_script}
+use Rattle.reporter_state.specs.KeptTests.{kept_test}
+use Rattle.reporter_state.specs.Loads.{load_if, loads_attempt, loads_finish, loads_script}
 use Rattle.console_reporter.specs.Report.{event_text, script_by}
 use Rattle.console_reporter.specs.Stored.{record_of, records, stored, stored_text}
-use Rattle.console_reporter.specs.Unread.{is_skip, is_skipped, unread, unread_call}
+use Rattle.reporter_state.specs.Unread.{is_skip, is_skipped, unread, unread_call}
 use Rattle.run_model.specs.declared.call.ReportCall.{ReportCall}
 use Rattle.run_model.specs.declared.call.ReportCall.TheVariants.{Event, Header, Prefix}
-use Rattle.console_reporter.specs.declared.imp.decider.OutputLoadDecider.{OutputLoadDecider}
-use Rattle.console_reporter.specs.declared.imp.faults.WriteEventError.TheVariants.{OutputNotLoaded, RetriedSuccess}
+use Rattle.reporter_state.specs.declared.decider.OutputLoadDecider.{OutputLoadDecider}
+use Rattle.reporter_state.specs.declared.faults.WriteEventError.TheVariants.{OutputNotLoaded, RetriedSuccess}
 use Rattle.console_reporter.proofs.lemmas.Same.{AreSame, IsSameEvent, same-call, same-event, same-itself, same-report}
 
 -- an answer of Skip

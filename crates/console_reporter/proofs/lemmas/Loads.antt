@@ -1,73 +1,24 @@
--- What is known of outputs once an event is accepted (for the writers of events that show output, and for `EventEffect::of_event`).
-use Rattle.std.proofs.Common.{◌≡◌, ℕ, Bool, true, false, not, Option, None, Some, if◌then◌else◌, refl, sym, inl, inr, List}
-use Rattle.std.specs.Option.{option_map_or}
-use Rattle.std.proofs.lemmas.Bool.{cases_Bool, false≢true}
-use Rattle.run_model.specs.Attempts.{Attempts}
+-- What is known of outputs once an event is accepted (for the writers of setup scripts and of answers).
+use Rattle.std.proofs.Common.{◌≡◌, ℕ, false, Option, refl, List}
 use Rattle.run_model.specs.Infos.{has_valid_output}
-use Rattle.run_model.specs.Outputs.{has_loaded_output}
-use Rattle.run_model.specs.Statuses.{summary_of}
-use Rattle.run_model.specs.declared.config.TestOutputDisplay.{TestOutputDisplay}
-use Rattle.run_model.specs.declared.event.TestEventKind.{TestEventKind}
-use Rattle.run_model.specs.declared.event.TestEventKind.TheVariants.{SetupScriptFinished, TestAttemptFailedWillRetry, TestFinished, InfoResponse}
+use Rattle.run_model.specs.declared.event.TestEventKind.TheVariants.{SetupScriptFinished, InfoResponse}
 use Rattle.run_model.specs.declared.info.InfoResponse.{InfoResponse as Response}
 use Rattle.run_model.specs.declared.info.InfoResponse.TheVariants.{SetupScript, Test}
-use Rattle.run_model.specs.declared.level.StatusLevel.TheVariants as level
-use Rattle.run_model.specs.declared.name.TestInstanceId.{TestInstanceId}
 use Rattle.run_model.specs.declared.output.ChildOutputDescription.{ChildOutputDescription}
 use Rattle.run_model.specs.declared.output.LiveSpec.{LiveSpec}
-use Rattle.run_model.specs.declared.stats.RunStats.{RunStats}
 use Rattle.run_model.specs.declared.status.SetupScriptExecuteStatus.{SetupScriptExecuteStatus}
 use Rattle.run_model.specs.declared.stress.StressIndex.{StressIndex}
-use Rattle.run_model.specs.declared.time.Nanos.{Nanos}
 use Rattle.plain_text.specs.Texts.{Text}
-use Rattle.unit_report.specs.Overrides.{display_for}
-use Rattle.store_text.specs.declared.config.StoreConfig.{StoreConfig}
-use Rattle.event_text.specs.AttemptOutputs.{Written}
-use Rattle.test_text.specs.FinishedTests.{HasShownOutput, test_finish}
-use Rattle.event_text.specs.Finishes.{display_of, is_ever_shown}
-use Rattle.test_text.specs.RetriedTests.{Attempt, HasFailedOutput, is_failed_output_shown}
-use Rattle.event_text.specs.Settings.{is_level_shown}
-use Rattle.event_text.specs.declared.settings.Settings.{Settings}
 use Rattle.run_text.specs.SetupScripts.{HasFailedOutput as HasFailedScriptOutput}
 use Rattle.info_text.specs.Responses.{HasAnswerOutput}
-use Rattle.console_reporter.specs.Accepted.{decider_by}
-use Rattle.console_reporter.specs.Loads.{lacks_output, loads_attempt, loads_finish, loads_script}
-use Rattle.console_reporter.specs.declared.imp.decider.OutputLoadDecider.{OutputLoadDecider}
-
--- output that is needed is there, where none that is needed was left unread
-loaded_where : (is_needed : Bool) (output : Written) →
-    option_map_or (λ (o : Written). not (has_loaded_output o)) (if is_needed then Some output else None) false ≡ false → is_needed ≡ true → has_loaded_output output ≡ true
-loaded_where is_needed output lacks is =
-    elim (cases_Bool (has_loaded_output output)) [ inl y ↦ y | inr n ↦ absurd (false≢true (sym (rw (is, n) at lacks))) ]
+use Rattle.reporter_state.proofs.lemmas.Loads.{loaded_where}
+use Rattle.reporter_state.specs.Loads.{lacks_output, loads_script}
+use Rattle.reporter_state.specs.declared.decider.OutputLoadDecider.{OutputLoadDecider}
 
 pub script_loaded : (d : OutputLoadDecider) (stress : Option StressIndex) (id program : Text) (args : List Text) (status : SetupScriptExecuteStatus LiveSpec ChildOutputDescription) →
     lacks_output d (SetupScriptFinished stress id program args status) ≡ false → HasFailedScriptOutput status
 script_loaded d stress id program args status lacks failed = loaded_where (loads_script status.result) status.output lacks (rw failed refl)
 
-pub attempt_loaded : (s : Settings) (stress : Option StressIndex) (test : TestInstanceId) (status : Attempt) (delay : Nanos) (failure : TestOutputDisplay) →
-    lacks_output (decider_by s None) (TestAttemptFailedWillRetry stress test status delay failure) ≡ false → is_level_shown s level.Retry ≡ true → HasFailedOutput s status failure
-unfolding is_level_shown is_failed_output_shown
-attempt_loaded s stress test status delay failure lacks shown at_once =
-    loaded_where (loads_attempt (decider_by s None) failure) status.output lacks (rw (shown, at_once) refl)
-
 pub answer_loaded : (d : OutputLoadDecider) (index total : ℕ) (response : Response) → lacks_output d (InfoResponse index total response) ≡ false → HasAnswerOutput response
 answer_loaded d index total (SetupScript x) lacks = λ valid. loaded_where (has_valid_output x.state) x.output lacks valid
 answer_loaded d index total (Test x) lacks = λ valid. loaded_where (has_valid_output x.state) x.output lacks valid
-
-pub finish_loaded : (s : Settings) (reason : ℕ) (stress : Option StressIndex) (test : TestInstanceId) (success failure : TestOutputDisplay) (statuses : Attempts LiveSpec ChildOutputDescription) (stats : RunStats) →
-    lacks_output (decider_by s None) (TestFinished stress test success failure statuses stats) ≡ false → HasShownOutput (test_finish s reason stress test success failure statuses stats)
-unfolding display_of
-finish_loaded s reason stress test success failure statuses stats lacks shown =
-    loaded_where (loads_finish (decider_by s None) success failure (summary_of statuses)) statuses.last.output lacks (rw shown refl)
-
--- what is not lacking for a report and a store is not for the report alone
-pub lacks_less : (s : Settings) (store : Option StoreConfig) (e : TestEventKind) → lacks_output (decider_by s store) e ≡ false → lacks_output (decider_by s None) e ≡ false
-lacks_less s store (SetupScriptFinished stress id program args status) lacks = lacks
-lacks_less s store (TestAttemptFailedWillRetry stress test status delay failure) lacks = lacks
-lacks_less s store (TestFinished stress test success failure statuses stats) lacks =
-    elim (cases_Bool (is_ever_shown (display_for s.unit_output.overrides success failure (summary_of statuses)))) [
-      | inl y ↦ rw y (rw y at lacks)
-      | inr n ↦ rw n refl
-    ]
-lacks_less s store (InfoResponse index total response) lacks = lacks
-lacks_less s store other lacks = lacks

@@ -1,28 +1,18 @@
--- What stands of a past, and what one call more makes of it (for `DisplayReporter::report_event`, `one_final_order`).
+-- What stands of a past, and what one call more makes of it (for `DisplayReporter::report_event`).
 use Rattle.std.proofs.Common.{◌≡◌, ℕ, Option, List, ◌∷◌, ◌++◌, refl, ap, ◌∙◌}
 use Rattle.std.specs.Option.{option_and_then, option_to_list}
-use Rattle.std.specs.List.Sorted.{IsSorted, IsStable}
 use Rattle.run_model.specs.Levels.{reason_rank}
 use Rattle.run_model.specs.declared.event.TestEvent.{TestEvent}
 use Rattle.console_reporter.specs.Configuration.{Configuration, settings_of}
-use Rattle.console_reporter.specs.Effects.{TestEnd, effect_of, entry_of, kept_entry}
-use Rattle.console_reporter.specs.Entries.{cancel, kept, entry_cmp, is_before, final_order, IsFinalOrder}
+use Rattle.reporter_state.specs.Effects.{TestEnd, effect_of, entry_of, kept_entry}
+use Rattle.reporter_state.specs.Entries.{cancel, kept, final_order}
 use Rattle.console_reporter.specs.Report.{event_text, text}
 use Rattle.console_reporter.specs.Standing.{StandsAfter, known_by}
 use Rattle.run_model.specs.declared.call.ReportCall.{ReportCall}
 use Rattle.run_model.specs.declared.call.ReportCall.TheVariants.{Event}
-use Rattle.console_reporter.specs.declared.imp.final_output.FinalOutputEntry.{FinalOutputEntry}
+use Rattle.reporter_state.specs.declared.final_output.FinalOutputEntry.{FinalOutputEntry}
 use Rattle.console_reporter.specs.declared.imp.reporter.DisplayReporter.{DisplayReporter}
 use Rattle.event_text.specs.declared.settings.Settings.{Settings}
-use Rattle.console_reporter.proofs.lemmas.Keys.{is_before-ranks}
-use Rattle.console_reporter.proofs.lemmas.Orders.{is_ordered, ordered_only}
-
--- the entries in their order are the final order
-pub final_order-is : (es order : List FinalOutputEntry) → IsSorted entry_cmp order → IsStable entry_cmp es order → order ≡ final_order es
-final_order-is es order up stable = ordered_only is_before is_before-ranks es order up stable
-
-pub final_order-holds : (es : List FinalOutputEntry) → IsFinalOrder es (final_order es)
-final_order-holds es = is_ordered is_before is_before-ranks es
 
 -- what is written of an event by what the reporter holds is its text after the past
 pub text-held : {W S : Type 0} (config : Configuration) (past : List ReportCall) (reporter : DisplayReporter W S) (e : TestEvent) → StandsAfter config past reporter →

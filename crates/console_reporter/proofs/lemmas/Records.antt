@@ -7,8 +7,8 @@ use Rattle.console_reporter.specs.Outcomes.{StopsRecord, StopsRecordAfter}
 use Rattle.console_reporter.specs.Report.{past_at}
 use Rattle.console_reporter.specs.Stored.{stored, stored_at, stored_text}
 use Rattle.run_model.specs.declared.call.ReportCall.{ReportCall}
-use Rattle.console_reporter.specs.declared.imp.faults.WriteEventError.{WriteEventError}
-use Rattle.console_reporter.specs.declared.imp.faults.WriteEventError.TheVariants.{StoreIo}
+use Rattle.reporter_state.specs.declared.faults.WriteEventError.{WriteEventError}
+use Rattle.reporter_state.specs.declared.faults.WriteEventError.TheVariants.{StoreIo}
 use Rattle.store_text.specs.declared.config.StoreConfig.{StoreConfig}
 use Rattle.console_reporter.proofs.lemmas.Calls.{past_read, past_all}
 

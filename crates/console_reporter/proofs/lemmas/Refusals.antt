@@ -6,9 +6,10 @@ use Rattle.console_reporter.specs.Slots.{store_meaning}
 use Rattle.console_reporter.specs.Telling.{Breaks}
 use Rattle.run_model.specs.declared.call.ReportCall.{ReportCall}
 use Rattle.console_reporter.specs.declared.imp.reporter.DisplayReporter.{DisplayReporter}
-use Rattle.console_reporter.specs.Outcomes.{Stops, StopsRecord, refusal_in}
-use Rattle.console_reporter.specs.declared.imp.faults.WriteEventError.{WriteEventError}
-use Rattle.console_reporter.specs.declared.imp.faults.WriteEventError.TheVariants.{RetriedSuccess, OutputNotLoaded, Io, Memory, Failed, StoreIo}
+use Rattle.reporter_state.specs.Refusals.{refusal_in}
+use Rattle.console_reporter.specs.Outcomes.{Stops, StopsRecord}
+use Rattle.reporter_state.specs.declared.faults.WriteEventError.{WriteEventError}
+use Rattle.reporter_state.specs.declared.faults.WriteEventError.TheVariants.{RetriedSuccess, OutputNotLoaded, Io, Memory, Failed, StoreIo}
 
 -- what is not there
 pub none_where_not_some : {X : Type 0} (o : Option X) → ((x : X) → o ≡ Some x → ⊥) → o ≡ None

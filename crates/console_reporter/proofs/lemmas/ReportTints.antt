@@ -24,7 +24,7 @@ use Rattle.run_text.proofs.lemmas.SummaryTints.{tinted-run_finished_text, tinted
 use Rattle.info_text.proofs.lemmas.ResponseTints.{tinted-info_started_text, tinted-info_response_text, tinted-info_finished_text}
 use Rattle.console_reporter.specs.ColourLaw.{in_colour, ColourLaw}
 use Rattle.console_reporter.specs.Configuration.{Configuration, settings_of}
-use Rattle.console_reporter.specs.Entries.{cancel, prefix, kept, final_order}
+use Rattle.reporter_state.specs.Entries.{cancel, prefix, kept, final_order}
 use Rattle.console_reporter.specs.PlainCalls.{IsPlainConfiguration, IsPlainKind, IsPlainCall, ArePlain}
 use Rattle.console_reporter.specs.PlainLaw.{IsPlainReport, PlainLaw}
 use Rattle.console_reporter.specs.Report.{Known, script_by, listed_text, event_text, text, report, past_at, text_at}

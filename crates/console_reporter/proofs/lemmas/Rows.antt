@@ -39,10 +39,10 @@ use Rattle.event_text.specs.AbortLines.{abort_line}
 use Rattle.event_text.specs.AttemptOutputs.{Written}
 use Rattle.event_text.specs.Settings.{theme_of}
 use Rattle.event_text.specs.ResultWords.{long_word}
-use Rattle.console_reporter.specs.Order.{ordered_by, put_in}
-use Rattle.console_reporter.specs.Entries.{cancel, kept, final_order}
+use Rattle.reporter_state.specs.Order.{ordered_by, put_in}
+use Rattle.reporter_state.specs.Entries.{cancel, kept, final_order}
 use Rattle.test_text.specs.FinishedTests.{test_finish}
-use Rattle.console_reporter.specs.Effects.{finished_entry}
+use Rattle.reporter_state.specs.Effects.{finished_entry}
 use Rattle.event_text.specs.Finishes.{display_of, finish_row, row_listed, is_final_wanted}
 use Rattle.event_text.specs.Bars.{bar_line}
 use Rattle.run_text.specs.RunIds.{id_text, run_id_text}

@@ -9,7 +9,7 @@ use Rattle.console_reporter.specs.Standing.{StandsAfter}
 use Rattle.console_reporter.specs.Stored.{stored}
 use Rattle.console_reporter.specs.Telling.{IsSameReporter, Breaks, BreaksRun, Tells, TellsRun}
 use Rattle.run_model.specs.declared.call.ReportCall.{ReportCall}
-use Rattle.console_reporter.specs.declared.imp.faults.WriteEventError.{WriteEventError}
+use Rattle.reporter_state.specs.declared.faults.WriteEventError.{WriteEventError}
 use Rattle.console_reporter.specs.declared.imp.reporter.DisplayReporter.{DisplayReporter}
 use Rattle.console_reporter.proofs.lemmas.Calls.{past_all, past_read, text_past, text_read, accepted_more, stopped_at, accepted_all, stopped_past}
 use Rattle.console_reporter.proofs.lemmas.Records.{stored_more, record_stopped_at, stored_all, record_stopped_past}

@@ -6,8 +6,8 @@ use Rattle.plain_text.specs.Texts.{Text}
 use Rattle.run_model.specs.declared.event.TestEvent.{TestEvent}
 use Rattle.event_text.specs.declared.settings.Settings.{Settings}
 use Rattle.console_reporter.specs.Configuration.{Configuration, settings_of}
-use Rattle.console_reporter.specs.Effects.{effect_of, entry_of}
-use Rattle.console_reporter.specs.Entries.{cancel, kept, prefix}
+use Rattle.reporter_state.specs.Effects.{effect_of, entry_of}
+use Rattle.reporter_state.specs.Entries.{cancel, kept, prefix}
 use Rattle.console_reporter.specs.Report.{Known, event_text, known_after, report, text, texts}
 use Rattle.run_model.specs.declared.call.ReportCall.{ReportCall}
 use Rattle.run_model.specs.declared.call.ReportCall.TheVariants.{Event, Header, Prefix}

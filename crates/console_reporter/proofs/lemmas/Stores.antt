@@ -8,11 +8,11 @@ use Rattle.console_reporter.specs.Standing.{MayGrowAt, StandsAfter}
 use Rattle.console_reporter.specs.Configuration.{Configuration}
 use Rattle.console_reporter.specs.declared.imp.reporter.DisplayReporter.{DisplayReporter}
 use Rattle.run_model.specs.declared.call.ReportCall.{ReportCall}
-use Rattle.console_reporter.specs.declared.imp.state.ReporterState.{ReporterState}
-use Rattle.console_reporter.specs.declared.imp.faults.RunFault.{RunFault}
+use Rattle.reporter_state.specs.declared.state.ReporterState.{ReporterState}
+use Rattle.reporter_state.specs.declared.faults.RunFault.{RunFault}
 use Rattle.run_model.specs.Levels.{reason_rank}
-use Rattle.console_reporter.specs.declared.imp.faults.WriteEventError.{WriteEventError}
-use Rattle.console_reporter.specs.declared.imp.faults.WriteEventError.TheVariants.{RetriedSuccess, OutputNotLoaded, Io, Memory, Failed, StoreIo}
+use Rattle.reporter_state.specs.declared.faults.WriteEventError.{WriteEventError}
+use Rattle.reporter_state.specs.declared.faults.WriteEventError.TheVariants.{RetriedSuccess, OutputNotLoaded, Io, Memory, Failed, StoreIo}
 use Rattle.plain_text.specs.declared.write_str.WriteFault.{WriteFault}
 use Rattle.console_reporter.specs.Report.{past_at, report, text_at}
 use Rattle.console_reporter.specs.Stored.{stored, stored_at}

@@ -60,9 +60,9 @@ use Rattle.info_text.specs.Seconds.{seconds_between}
 use Rattle.info_text.specs.Starts.{info_finished_text, info_started_text}
 use Rattle.console_reporter.specs.Configuration.{Configuration}
 use Rattle.test_text.specs.FinishedTests.{TestFinish, test_finish, line_at_once, output_at_once, test_finished_text}
-use Rattle.console_reporter.specs.Entries.{hiding_rank, entry_text, final_text}
+use Rattle.reporter_state.specs.Entries.{hiding_rank, entry_text, final_text}
 use Rattle.event_text.specs.Finishes.{is_line_shown, row_at_once}
-use Rattle.console_reporter.specs.KeptTests.{borrowed_test}
+use Rattle.reporter_state.specs.KeptTests.{borrowed_test}
 use Rattle.console_reporter.specs.Outcomes.{IsOfLines}
 use Rattle.console_reporter.specs.Report.{Known, end_of_run_text, event_text, listed_text, script_by, text}
 use Rattle.event_text.specs.Instances.{instance_end, padded_instance, untimed_end}
@@ -83,9 +83,9 @@ use Rattle.run_text.specs.Summaries.{run_counts_text, run_finished_text, stress_
 use Rattle.test_text.specs.StatusLines.{is_flaky_failure, flaky_note, flaky_failure_line, status_line}
 use Rattle.run_model.specs.declared.call.ReportCall.{ReportCall}
 use Rattle.run_model.specs.declared.call.ReportCall.TheVariants.{Event, Header, Prefix}
-use Rattle.console_reporter.specs.declared.imp.final_output.FinalOutput.{FinalOutput}
-use Rattle.console_reporter.specs.declared.imp.final_output.FinalOutput.TheVariants.{Executed, ExecutedWithOutput, Skipped}
-use Rattle.console_reporter.specs.declared.imp.final_output.FinalOutputEntry.{FinalOutputEntry}
+use Rattle.reporter_state.specs.declared.final_output.FinalOutput.{FinalOutput}
+use Rattle.reporter_state.specs.declared.final_output.FinalOutput.TheVariants.{Executed, ExecutedWithOutput, Skipped}
+use Rattle.reporter_state.specs.declared.final_output.FinalOutputEntry.{FinalOutputEntry}
 use Rattle.event_text.specs.declared.instance.CountedInstance.{CountedInstance}
 use Rattle.test_text.specs.declared.status_line.StatusLineKind.{StatusLineKind}
 use Rattle.test_text.specs.declared.status_line.StatusLineKind.TheVariants.{Intermediate, Final}

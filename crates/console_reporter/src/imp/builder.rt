@@ -6,10 +6,10 @@ ghost use Rattle.console_reporter.specs.Configuration.{configured, configured_in
 ghost use Rattle.console_reporter.specs.Standing.{StandsAfter};
 ghost use Rattle.event_text.specs.Settings.{overrides_by};
 
-use super::decider::OutputLoadDecider;
 use super::reporter::DisplayReporter;
 use event_text::settings::{Settings, counter_width_for, overrides_for, styles_for, theme_for};
 use plain_text::write_str::WriteStr;
+use reporter_state::decider::OutputLoadDecider;
 use run_model::config::{
     CompiledDefaultFilter, CompiledDefaultFilterSection, NextestRunMode, TestOutputDisplay,
 };

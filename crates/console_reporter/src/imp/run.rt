@@ -4,12 +4,13 @@ ghost use Rattle.std.specs.Prelude.{◌≡◌, ◌≤◌, ◌⊎◌, ◌++◌, �
 ghost use Rattle.std.specs.List.{flat_map};
 ghost use Rattle.plain_text.specs.Writer.{one_further};
 ghost use Rattle.run_model.specs.declared.call.ReportCall.{ReportCall};
-ghost use Rattle.console_reporter.specs.declared.imp.faults.WriteEventError.{WriteEventError};
+ghost use Rattle.reporter_state.specs.declared.faults.WriteEventError.{WriteEventError};
 ghost use Rattle.console_reporter.specs.Accepted.{AreAccepted, refusal_at};
 ghost use Rattle.console_reporter.specs.ColourLaw.{ColourLaw, IsSameStoredInColour};
 ghost use Rattle.console_reporter.specs.Configuration.{Configuration, configured, configured_with_store};
 ghost use Rattle.console_reporter.specs.Exchanges.{IsOrderIndependent};
-ghost use Rattle.console_reporter.specs.Outcomes.{StopsAfter, StopsRecordAfter, refusal_in};
+ghost use Rattle.reporter_state.specs.Refusals.{refusal_in};
+ghost use Rattle.console_reporter.specs.Outcomes.{StopsAfter, StopsRecordAfter};
 ghost use Rattle.console_reporter.specs.PlainLaw.{PlainLaw};
 ghost use Rattle.console_reporter.specs.Report.{past_at, report, text, text_at, texts};
 ghost use Rattle.console_reporter.specs.Standing.{MayGrowAt};
@@ -17,10 +18,10 @@ ghost use Rattle.console_reporter.specs.Statistics.{IsStatsIndependent};
 ghost use Rattle.console_reporter.specs.Stored.{stored, stored_at};
 
 use super::builder::DisplayReporterBuilder;
-use super::faults::RunFault;
 use super::reporter::DisplayReporter;
 use super::store::Store;
 use plain_text::write_str::WriteStr;
+use reporter_state::faults::RunFault;
 use run_model::call::ReportCall;
 use std::alloc::Global;
 use store_text::config::StoreConfig;

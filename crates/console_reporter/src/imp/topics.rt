@@ -3,8 +3,8 @@
 ghost use Rattle.std.specs.Prelude.{◌≡◌, ℕ, None, false, true};
 ghost use Rattle.plain_text.specs.Writer.{Puts};
 ghost use Rattle.event_text.specs.Scripts.{script_of};
-ghost use Rattle.console_reporter.specs.Accepted.{decider_by};
-ghost use Rattle.console_reporter.specs.Loads.{lacks_output};
+ghost use Rattle.reporter_state.specs.Refusals.{decider_by};
+ghost use Rattle.reporter_state.specs.Loads.{lacks_output};
 ghost use Rattle.console_reporter.specs.Report.{Known, event_text, script_by};
 ghost use Rattle.console_reporter.specs.Topics.{is_of_attempt, is_of_info, is_of_setup_script, is_of_start, is_of_stop};
 

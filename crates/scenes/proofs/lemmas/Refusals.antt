@@ -7,12 +7,12 @@ use Rattle.std.proofs.lemmas.Grind.{common_steps}
 use Rattle.std.proofs.lemmas.List.Sums.{fails_before_first}
 use Rattle.std.proofs.lemmas.List.Quantifiers.{position-Some}
 use Rattle.std.proofs.lemmas.Option.{slice_get-get_or, slice_get_past}
-use Rattle.console_reporter.specs.Accepted.{first_refused, is_retried_success, refusal_at_by, refusal_by}
-use Rattle.console_reporter.specs.declared.imp.faults.WriteEventError.{WriteEventError}
-use Rattle.console_reporter.specs.Loads.{lacks_output}
+use Rattle.reporter_state.specs.Refusals.{first_refused, is_retried_success, refusal_at_by, refusal_by}
+use Rattle.reporter_state.specs.declared.faults.WriteEventError.{WriteEventError}
+use Rattle.reporter_state.specs.Loads.{lacks_output}
 use Rattle.run_model.specs.declared.call.ReportCall.{ReportCall}
 use Rattle.run_model.specs.declared.call.ReportCall.TheVariants.{Event, Header, Prefix}
-use Rattle.console_reporter.specs.declared.imp.decider.OutputLoadDecider.{OutputLoadDecider}
+use Rattle.reporter_state.specs.declared.decider.OutputLoadDecider.{OutputLoadDecider}
 use Rattle.scenes.specs.Judged.{IsSceneAccepted, IsSceneRefused, fault_of_refusal, line_fault_for}
 use Rattle.scenes.specs.Unloads.{AreReadyCallsOf, decider_for}
 use Rattle.scenes.specs.declared.fault.Fault.TheVariants as fault

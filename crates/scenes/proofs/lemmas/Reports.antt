@@ -8,8 +8,10 @@ use Rattle.std.proofs.lemmas.Option.{slice_get-get_or, slice_get_past}
 use Rattle.plain_text.specs.Texts.{Text}
 use Rattle.plain_text.specs.Writer.{Meaning, WriterLaws}
 use Rattle.console_reporter.specs.Configuration.{Configuration, configured, configured_with_store}
-use Rattle.console_reporter.specs.Outcomes.{HasFront, Stops, StopsAfter, StopsRecord, StopsRecordAfter, refusal_in}
-use Rattle.console_reporter.specs.Accepted.{decider_of, first_refused, refusal_at}
+use Rattle.reporter_state.specs.Refusals.{refusal_in}
+use Rattle.console_reporter.specs.Outcomes.{HasFront, Stops, StopsAfter, StopsRecord, StopsRecordAfter}
+use Rattle.reporter_state.specs.Refusals.{first_refused}
+use Rattle.console_reporter.specs.Accepted.{decider_of, refusal_at}
 use Rattle.console_reporter.specs.Stored.{stored, stored_at, stored_text}
 use Rattle.console_reporter.proofs.lemmas.Refusals.{not_refused}
 use Rattle.store_text.specs.declared.config.StoreConfig.{StoreConfig}
@@ -17,8 +19,8 @@ use Rattle.scenes.proofs.lemmas.Refusals.{none_refused_at}
 use Rattle.scenes.specs.declared.fault.Fault.TheVariants.{OutOfMemory, StoreFailed}
 use Rattle.console_reporter.specs.Report.{text, text_at, past_at, report}
 use Rattle.run_model.specs.declared.call.ReportCall.{ReportCall}
-use Rattle.console_reporter.specs.declared.imp.faults.WriteEventError.{WriteEventError}
-use Rattle.console_reporter.specs.declared.imp.faults.WriteEventError.TheVariants.{RetriedSuccess, OutputNotLoaded, Io, Memory, Failed, StoreIo}
+use Rattle.reporter_state.specs.declared.faults.WriteEventError.{WriteEventError}
+use Rattle.reporter_state.specs.declared.faults.WriteEventError.TheVariants.{RetriedSuccess, OutputNotLoaded, Io, Memory, Failed, StoreIo}
 use Rattle.scenes.specs.Reports.{Ends, EndsStore, StopsStore, StopsText, builder_for, configuration_for, fault_for, report_of, store_for, stored_of}
 use Rattle.scenes.specs.Judged.{IsJudgedScene, Judged}
 use Rattle.scenes.specs.declared.fault.Fault.{Fault}

@@ -1,8 +1,8 @@
 -- Calls of which output is left unread make the same report (for `Scene::calls`, `report_to`).
 use Rattle.std.proofs.Common.{◌≡◌, List, true, false, refl, ◌∙◌}
-use Rattle.console_reporter.specs.Accepted.{first_refused}
+use Rattle.reporter_state.specs.Refusals.{first_refused}
 use Rattle.console_reporter.specs.Isolation.{IsIsolated}
-use Rattle.console_reporter.specs.Unread.{unread}
+use Rattle.reporter_state.specs.Unread.{unread}
 use Rattle.run_model.specs.declared.call.ReportCall.{ReportCall}
 use Rattle.scenes.specs.Reports.{AreCallsOf, configuration_for, report_of, stored_of}
 use Rattle.scenes.specs.Unloads.{AreReadyCallsOf, decider_for}

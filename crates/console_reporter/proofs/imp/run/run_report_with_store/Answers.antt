@@ -1,7 +1,7 @@
 use Rattle.std.proofs.Common.{take, ◌≡◌, rules}
 use Rattle.console_reporter.specs.Accepted.{AreAccepted, refusal_at}
 use Rattle.console_reporter.specs.Configuration.{configured_with_store}
-use Rattle.console_reporter.specs.Outcomes.{refusal_in}
+use Rattle.reporter_state.specs.Refusals.{refusal_in}
 use Rattle.std.proofs.lemmas.Result.{on_ok_weaker, IfErr-weaker}
 use Rattle.console_reporter.proofs.lemmas.Calls.{err_here, ok_here, stopped_io, stopped_known}
 use Rattle.console_reporter.proofs.lemmas.Exchanges.{order_independent, stats_independent}

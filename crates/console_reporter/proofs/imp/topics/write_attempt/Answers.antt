@@ -1,4 +1,4 @@
-use Rattle.console_reporter.proofs.lemmas.Loads.{attempt_loaded}
+use Rattle.reporter_state.proofs.lemmas.Loads.{attempt_loaded}
 use Rattle.console_reporter.proofs.imp.topics.write_attempt.Goals as goal
 
 pub write_attempt_failed-requires : goal.write_attempt_failed-requires

@@ -1,5 +1,5 @@
 use Rattle.std.proofs.Common.{subst, ap₂, ◌∙◌}
-use Rattle.console_reporter.specs.Accepted.{decider_by}
+use Rattle.reporter_state.specs.Refusals.{decider_by}
 use Rattle.console_reporter.specs.Exactness.{IsExact}
 use Rattle.console_reporter.proofs.lemmas.Exactness.{exact}
 use Rattle.console_reporter.proofs.imp.reporter.DisplayReporter.output_load_decider.Goals as goal

@@ -1,9 +1,9 @@
 use Rattle.std.proofs.Common.{rules, [], ap₂, sym, append-nil, inr, max, ◌∙◌}
 use Rattle.std.specs.Option.{option_map}
-use Rattle.console_reporter.specs.Effects.{end_of}
+use Rattle.reporter_state.specs.Effects.{end_of}
 use Rattle.console_reporter.proofs.lemmas.Calls.{stops_error}
 use Rattle.console_reporter.proofs.lemmas.Pasts.{kept-more, text-held}
-use Rattle.console_reporter.specs.Entries.{cancel, prefix}
+use Rattle.reporter_state.specs.Entries.{cancel, prefix}
 use Rattle.console_reporter.specs.Report.{text}
 use Rattle.run_model.specs.declared.call.ReportCall.TheVariants.{Event}
 use Rattle.console_reporter.proofs.imp.reporter.DisplayReporter.report_event.Goals as goal

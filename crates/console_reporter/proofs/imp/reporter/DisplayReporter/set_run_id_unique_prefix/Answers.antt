@@ -1,5 +1,5 @@
 use Rattle.std.proofs.Common.{refl}
-use Rattle.console_reporter.specs.Entries.{cancel, kept, prefix}
+use Rattle.reporter_state.specs.Entries.{cancel, kept, prefix}
 use Rattle.console_reporter.proofs.lemmas.Stores.{store-nothing}
 use Rattle.console_reporter.proofs.imp.reporter.DisplayReporter.set_run_id_unique_prefix.Goals as goal
 

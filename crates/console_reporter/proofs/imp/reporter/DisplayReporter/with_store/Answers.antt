@@ -1,6 +1,6 @@
 use Rattle.std.proofs.Common.{ap, sym, ◌∙◌}
 use Rattle.run_model.specs.Levels.{reason_rank}
-use Rattle.console_reporter.specs.Entries.{cancel, kept, prefix}
+use Rattle.reporter_state.specs.Entries.{cancel, kept, prefix}
 use Rattle.console_reporter.proofs.imp.reporter.DisplayReporter.with_store.Goals as goal
 
 pub returns-clause-stands : goal.returns-clause-stands

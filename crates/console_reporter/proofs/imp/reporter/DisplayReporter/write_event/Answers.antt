@@ -1,8 +1,8 @@
 use Rattle.std.proofs.Common.{◌≡◌, false, ap, ap₂, Some, subst, sym, ◌∙◌}
-use Rattle.console_reporter.specs.Accepted.{decider_by, event_refusal}
-use Rattle.console_reporter.specs.Loads.{lacks_output}
+use Rattle.reporter_state.specs.Refusals.{decider_by, event_refusal}
+use Rattle.reporter_state.specs.Loads.{lacks_output}
 use Rattle.run_model.specs.declared.call.ReportCall.TheVariants.{Event}
-use Rattle.console_reporter.proofs.lemmas.Loads.{lacks_less}
+use Rattle.reporter_state.proofs.lemmas.Loads.{lacks_less}
 use Rattle.console_reporter.proofs.lemmas.Refusals.{breaks_refused, none_where_not_some, not_refused, told_is_some}
 use Rattle.console_reporter.proofs.lemmas.Whole.{of_lines-text}
 use Rattle.console_reporter.proofs.imp.reporter.DisplayReporter.write_event.Goals as goal

@@ -1,7 +1,0 @@
-use Rattle.std.proofs.Common.{◌≡◌, ◌++◌, map, take, drop}
-use Rattle.console_reporter.specs.Unread.{unread_call}
-use Rattle.console_reporter.proofs.imp.decider.unload_skipped.Given as goal
-
--- the calls so far are without the outputs that are skipped
-abbrev pub invariant-loop-call : goal.invariant-loop-call
-invariant-loop-call l = l.calls ≡ map (unread_call l.decider) (take l.call-index l.initial.calls) ++ drop l.call-index l.initial.calls

@@ -1,8 +1,0 @@
-use Rattle.console_reporter.proofs.lemmas.Pasts.{final_order-is, final_order-holds}
-use Rattle.console_reporter.proofs.imp.kept.one_final_order.Goals as goal
-
-pub returns-clause-exists : goal.returns-clause-exists
-returns-clause-exists c = final_order-holds
-
-pub returns-clause-only : goal.returns-clause-only
-returns-clause-only c = λ kept order h. final_order-is kept order h.0 h.1

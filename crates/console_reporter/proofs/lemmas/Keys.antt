@@ -1,9 +1,0 @@
--- The order of entries by their keys (for the lemmas of Inserts, Pasts).
-use Rattle.std.specs.Cmp.{IsStrictWeakOrder}
-use Rattle.std.specs.Cmp.Lexicographic.{nat_list_cmp_total, lists_total}
-use Rattle.std.proofs.lemmas.List.Sorted.{ranks_by}
-use Rattle.console_reporter.specs.Entries.{entry_key, is_before}
-use Rattle.console_reporter.specs.declared.imp.final_output.FinalOutputEntry.{FinalOutputEntry}
-
-pub is_before-ranks : IsStrictWeakOrder is_before
-is_before-ranks = ranks_by (lists_total nat_list_cmp_total) (λ (e : FinalOutputEntry). entry_key e)

@@ -1,0 +1,26 @@
+//! A list of calls with the outputs left unread that the decider skips.
+
+ghost use Rattle.std.specs.Prelude.{◌≡◌};
+ghost use Rattle.reporter_state.specs.Unread.{unread};
+ghost use Rattle.console_reporter.specs.Isolation.{IsIsolated};
+
+use reporter_state::decider::OutputLoadDecider;
+use run_model::call::ReportCall;
+
+/// Leaves the captured output of every attempt unread of each event that the decider skips, as a replay does that did not load
+/// it. It allocates nothing.
+///
+/// No reporter of the decider's configuration then writes another byte, and it accepts what it accepted.
+///
+/// ```
+/// unload_skipped(&decider, &mut calls);
+/// assert_eq!(first_refused(&decider, &calls), None);
+/// ```
+pub fn unload_skipped(decider: &OutputLoadDecider, calls: &mut [ReportCall<'_>])
+    ensures unread { calls.new ≡ unread decider.now calls.old }
+    ensures isolation { IsIsolated decider.now calls.old calls.new }
+{
+    for call in calls.iter_mut() {
+        decider.unload(call);
+    }
+}

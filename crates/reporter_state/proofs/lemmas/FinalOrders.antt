@@ -1,0 +1,14 @@
+-- What is kept has one final order (for `one_final_order`).
+use Rattle.std.proofs.Common.{◌≡◌, List}
+use Rattle.std.specs.List.Sorted.{IsSorted, IsStable}
+use Rattle.reporter_state.specs.Entries.{entry_cmp, is_before, final_order, IsFinalOrder}
+use Rattle.reporter_state.specs.declared.final_output.FinalOutputEntry.{FinalOutputEntry}
+use Rattle.reporter_state.proofs.lemmas.Keys.{is_before-ranks}
+use Rattle.reporter_state.proofs.lemmas.Orders.{is_ordered, ordered_only}
+
+-- the entries in their order are the final order
+pub final_order-is : (es order : List FinalOutputEntry) → IsSorted entry_cmp order → IsStable entry_cmp es order → order ≡ final_order es
+final_order-is es order up stable = ordered_only is_before is_before-ranks es order up stable
+
+pub final_order-holds : (es : List FinalOutputEntry) → IsFinalOrder es (final_order es)
+final_order-holds es = is_ordered is_before is_before-ranks es

@@ -1,0 +1,20 @@
+-- A kept test is shown as the test that it is a copy of (for `write_entry`).
+use Rattle.std.proofs.Common.{◌≡◌, refl, subst}
+use Rattle.run_model.specs.declared.status.StatusSummary.{StatusSummary}
+use Rattle.plain_text.specs.declared.style.Styles.{Styles}
+use Rattle.event_text.specs.Instances.{instance_end, untimed_end}
+use Rattle.test_text.specs.SkippedTests.{skip_line}
+use Rattle.test_text.specs.StatusLines.{status_line}
+use Rattle.event_text.specs.declared.instance.CountedInstance.{CountedInstance}
+use Rattle.event_text.specs.declared.settings.Settings.{Settings}
+use Rattle.test_text.specs.declared.status_line.StatusLineKind.{StatusLineKind}
+use Rattle.reporter_state.specs.KeptTests.{borrowed_test, kept_test}
+use Rattle.reporter_state.specs.declared.kept_test.KeptTest.{KeptTest}
+
+pub line_of_kept : (s : Styles) (kind : StatusLineKind) (a : CountedInstance) (t : KeptTest) (x : StatusSummary) → kept_test a ≡ t → status_line s kind a x ≡ status_line s kind (borrowed_test t) x
+unfolding status_line
+line_of_kept s kind a t x h = subst (λ u. status_line s kind a x ≡ status_line s kind (borrowed_test u) x) h refl
+
+pub skip_of_kept : (s : Settings) (a : CountedInstance) (t : KeptTest) → kept_test a ≡ t → skip_line s a ≡ skip_line s (borrowed_test t)
+unfolding skip_line untimed_end instance_end
+skip_of_kept s a t h = subst (λ u. skip_line s a ≡ skip_line s (borrowed_test u)) h refl

@@ -1,0 +1,63 @@
+-- An entry stands in a summary at a place that its output does not decide (for the lemmas of Exactness).
+use Rattle.std.proofs.Common.{◌≡◌, List, [], ◌∷◌, ◌++◌, refl, ◌∙◌, ap, inl, inr}
+use Rattle.std.proofs.lemmas.Bool.{cases_Bool}
+use Rattle.std.proofs.lemmas.Grind.{flat_map-append}
+use Rattle.run_model.specs.declared.status.StatusSummary.{StatusSummary}
+use Rattle.plain_text.specs.Texts.{Text}
+use Rattle.event_text.specs.AttemptOutputs.{Written}
+use Rattle.event_text.specs.declared.settings.Settings.{Settings}
+use Rattle.reporter_state.specs.Entries.{entries_text, entry_text, final_order, is_before}
+use Rattle.reporter_state.specs.Order.{ordered_by, put_in}
+use Rattle.reporter_state.specs.declared.final_output.FinalOutput.TheVariants.{Executed, ExecutedWithOutput}
+use Rattle.reporter_state.specs.declared.final_output.FinalOutputEntry.{FinalOutputEntry}
+use Rattle.reporter_state.specs.declared.kept_test.KeptTest.{KeptTest}
+
+module _ (test : KeptTest) (x : StatusSummary) where
+  -- the test with an output
+  abbrev pub entry_with : Written → FinalOutputEntry
+  entry_with output = record { test = test; output = ExecutedWithOutput x output }
+
+  -- another entry of its key
+  abbrev without_output : FinalOutputEntry
+  without_output = record { test = test; output = Executed x }
+
+  -- it stands between these, whatever its output
+  abbrev HasPlace : (Written → List FinalOutputEntry) → Type 0
+  HasPlace f = (front back : List FinalOutputEntry) × ((output : Written) → f output ≡ front ++ entry_with output ∷ back)
+
+  put_in-place : (es : List FinalOutputEntry) → HasPlace (λ output. put_in is_before (entry_with output) es)
+  unfolding put_in
+  put_in-place [] = ([], [], λ output. refl)
+  put_in-place (f ∷ fs) = let more = put_in-place fs in elim (cases_Bool (is_before f without_output)) [
+    | inl a ↦ (f ∷ more.0, more.1, λ output. rw (a, more.2 output) refl)
+    | inr b ↦ ([], f ∷ fs, λ output. rw b refl)
+  ]
+
+  put_in-past : (g : FinalOutputEntry) (front back : List FinalOutputEntry) → HasPlace (λ output. put_in is_before g (front ++ entry_with output ∷ back))
+  unfolding put_in
+  put_in-past g [] back = elim (cases_Bool (is_before without_output g)) [
+    | inl a ↦ ([], put_in is_before g back, λ output. rw a refl)
+    | inr b ↦ (g ∷ [], back, λ output. rw b refl)
+  ]
+  put_in-past g (f ∷ front) back = let more = put_in-past g front back in elim (cases_Bool (is_before f g)) [
+    | inl a ↦ (f ∷ more.0, more.1, λ output. rw (a, more.2 output) refl)
+    | inr b ↦ (g ∷ f ∷ front, back, λ output. rw b refl)
+  ]
+
+  ordered-place : (front back : List FinalOutputEntry) → HasPlace (λ output. final_order (front ++ entry_with output ∷ back))
+  unfolding ordered_by
+  ordered-place [] back = put_in-place (ordered_by is_before back)
+  ordered-place (g ∷ front) back =
+      let more = ordered-place front back in
+      let past = put_in-past g more.0 more.1 in
+      (past.0, past.1, λ output. ap (λ es. put_in is_before g es) (more.2 output) ∙ past.2 output)
+
+  -- and so does its text among those of the entries
+  pub text-place : (s : Settings) (front back : List FinalOutputEntry) →
+      (before after : Text) × ((output : Written) → entries_text s (final_order (front ++ entry_with output ∷ back)) ≡ before ++ (entry_text s (entry_with output) ++ after))
+  text-place s front back =
+      let place = ordered-place front back in (
+        entries_text s place.0,
+        entries_text s place.1,
+        λ output. ap (entries_text s) (place.2 output) ∙ flat_map-append (entry_text s) place.0 (entry_with output ∷ place.1),
+      )

@@ -1,0 +1,86 @@
+-- What an event does beside its text: one equation for each kind that does something.
+use Rattle.std.specs.Prelude.{ℕ, nat_le, Bool, Option, None, Some, if◌then◌else◌}
+use Rattle.std.specs.Option.{is_some, option_and_then}
+use Rattle.run_model.specs.Levels.{final_rank, reason_rank}
+use Rattle.run_model.specs.declared.event.TestEventKind.{TestEventKind}
+use Rattle.run_model.specs.declared.event.TestEventKind.TheVariants.{TestFinished, TestSkipped, RunBeginCancel, RunBeginKill}
+use Rattle.run_model.specs.declared.level.FinalStatusLevel.TheVariants as final
+use Rattle.test_text.specs.FinishedTests.{HasShownOutput, TestFinish, finish_of, test_finish}
+use Rattle.event_text.specs.Finishes.{is_final_wanted, row_at_end, row_listed}
+use Rattle.event_text.specs.Instances.{padded_instance}
+use Rattle.event_text.specs.declared.instance.CountedInstance.{CountedInstance}
+use Rattle.event_text.specs.declared.settings.Settings.{Settings}
+use Rattle.reporter_state.specs.KeptTests.{kept_test}
+use Rattle.reporter_state.specs.declared.effect.EndedTest.{EndedTest}
+use Rattle.reporter_state.specs.declared.effect.EndedTest.TheVariants as ended
+use Rattle.reporter_state.specs.declared.final_output.FinalOutput.{FinalOutput}
+use Rattle.reporter_state.specs.declared.final_output.FinalOutput.TheVariants as output
+use Rattle.reporter_state.specs.declared.final_output.FinalOutputEntry.{FinalOutputEntry}
+
+-- how a test ended: it finished, or it was not to run
+pub data TestEnd : Type 0 where
+  Finished : TestFinish → TestEnd
+  Skipped : CountedInstance → TestEnd
+
+-- what the code hands on of it
+abbrev pub end_of : EndedTest → TestEnd
+end_of (ended.Finished f) = Finished (finish_of f)
+end_of (ended.Skipped test) = Skipped test
+
+-- output that is shown of it was not left unread
+abbrev pub HasEndOutput : TestEnd → Type 0
+HasEndOutput (Finished f) = HasShownOutput f
+HasEndOutput (Skipped test) = Unit {0}
+
+abbrev pub HasEndOutputIn : Option TestEnd → Type 0
+HasEndOutputIn None = Unit {0}
+HasEndOutputIn (Some end) = HasEndOutput end
+
+-- what the summary shows of a finished test: its line, and the output of its last attempt where that is shown at the end
+unfoldable pub final_output : TestFinish → FinalOutput
+final_output f = if row_at_end f.row f.display then output.ExecutedWithOutput f.summary f.last.output else output.Executed f.summary
+
+-- the entry of a finished test, and that of a skipped one
+abbrev pub finished_entry : TestFinish → FinalOutputEntry
+finished_entry f = record { test = kept_test f.test; output = final_output f }
+
+abbrev pub skipped_entry : CountedInstance → FinalOutputEntry
+skipped_entry test = record { test = kept_test test; output = output.Skipped }
+
+-- the summary lists the finished test
+abbrev pub is_kept : Settings → TestFinish → Bool
+is_kept s f = row_listed f.row (is_final_wanted s f.display f.summary)
+
+-- the summary lists skipped tests: from their final level upwards
+abbrev pub is_skip_kept : Settings → Bool
+is_skip_kept s = nat_le (final_rank final.Skip) (final_rank s.status_levels.final_status_level)
+
+-- what is kept of a test
+abbrev pub kept_entry : Settings → TestEnd → Option FinalOutputEntry
+kept_entry s (Finished f) = if is_kept s f then Some (finished_entry f) else None
+kept_entry s (Skipped test) = if is_skip_kept s then Some (skipped_entry test) else None
+
+-- what an event does: the rank of the reason that it cancels the run for, 0 where it does not; and the test that it ends under
+-- the reason before
+pub record Effect : Type 0 where
+  pub reason : ℕ
+  pub ended : Settings → ℕ → Option TestEnd
+
+abbrev pub no_effect : Effect
+no_effect = record { reason = 0; ended = λ s reason. None }
+
+abbrev pub effect_of : TestEventKind → Effect
+effect_of (TestFinished stress instance success failure statuses stats) =
+    record no_effect { ended = λ s reason. Some (Finished (test_finish s reason stress instance success failure statuses stats)) }
+effect_of (TestSkipped stress instance) = record no_effect { ended = λ s reason. Some (Skipped (padded_instance s stress instance)) }
+effect_of (RunBeginCancel scripts stats running) = record no_effect { reason = reason_rank stats.cancel_reason }
+effect_of (RunBeginKill scripts stats running) = record no_effect { reason = reason_rank stats.cancel_reason }
+effect_of _ = no_effect
+
+-- what is kept of an event under a reason
+abbrev pub entry_of : Settings → ℕ → TestEventKind → Option FinalOutputEntry
+entry_of s reason e = option_and_then (kept_entry s) ((effect_of e).ended s reason)
+
+-- the reporter may take memory of its own for the event: to keep an entry with copies of its texts
+abbrev pub may_grow_for : Settings → ℕ → TestEventKind → Bool
+may_grow_for s reason e = is_some (entry_of s reason e)

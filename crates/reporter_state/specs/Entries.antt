@@ -1,0 +1,113 @@
+-- What is kept of the calls for the summary, and how the summary lists it.
+use Rattle.std.specs.Prelude.{ℕ, ◌-◌, Bool, false, List, [], ◌∷◌, ◌++◌, Option, Some, None, max}
+use Rattle.std.specs.Option.{option_to_list}
+use Rattle.std.specs.declared.cmp.Ordering.{Ordering}
+use Rattle.std.specs.Ordering.{is_lt}
+use Rattle.std.specs.List.{flat_map}
+use Rattle.std.specs.List.Sorted.{IsSorted, IsStable}
+use Rattle.run_model.specs.Levels.{final_rank, reason_rank}
+use Rattle.run_model.specs.Statuses.{final_level_of}
+use Rattle.run_model.specs.Stress.{stress_key}
+use Rattle.run_model.specs.UniquePrefixes.{UniquePrefix}
+use Rattle.run_model.specs.declared.level.CancelReason.TheVariants as cause
+use Rattle.run_model.specs.declared.level.FinalStatusLevel.{FinalStatusLevel}
+use Rattle.run_model.specs.declared.level.FinalStatusLevel.TheVariants as final
+use Rattle.run_model.specs.declared.stress.StressIndex.{StressIndex}
+use Rattle.plain_text.specs.Texts.{Text}
+use Rattle.report_text.specs.declared.helpers.instance.DisplayCounterIndex.{DisplayCounterIndex}
+use Rattle.report_text.specs.declared.helpers.instance.DisplayCounterIndex.TheVariants.{Counter, Padded}
+use Rattle.event_text.specs.AttemptOutputs.{attempt_output}
+use Rattle.reporter_state.specs.Effects.{effect_of, entry_of}
+use Rattle.reporter_state.specs.KeptTests.{borrowed_test}
+use Rattle.reporter_state.specs.Order.{key_cmp, ordered_by}
+use Rattle.test_text.specs.SkippedTests.{skip_line}
+use Rattle.test_text.specs.StatusLines.{status_line}
+use Rattle.run_model.specs.declared.call.ReportCall.{ReportCall}
+use Rattle.run_model.specs.declared.call.ReportCall.TheVariants.{Event, Header, Prefix}
+use Rattle.reporter_state.specs.declared.final_output.FinalOutput.{FinalOutput}
+use Rattle.reporter_state.specs.declared.final_output.FinalOutput.TheVariants.{Executed, ExecutedWithOutput, Skipped}
+use Rattle.reporter_state.specs.declared.final_output.FinalOutputEntry.{FinalOutputEntry}
+use Rattle.event_text.specs.declared.instance.CountedInstance.{CountedInstance}
+use Rattle.event_text.specs.declared.settings.Settings.{Settings}
+use Rattle.test_text.specs.declared.status_line.StatusLineKind.TheVariants.{Final}
+
+-- the greatest reason that a call of a past carries; the latest call of a past is its first
+unfoldable pub cancel : List ReportCall → ℕ
+cancel [] = 0
+cancel (Event e ∷ past) = max (effect_of e.kind).reason (cancel past)
+cancel (Header h ∷ past) = cancel past
+cancel (Prefix p ∷ past) = cancel past
+
+-- the unique prefix of the run's id that the last such call of a past gave
+unfoldable pub prefix : List ReportCall → Option UniquePrefix
+prefix [] = None
+prefix (Event e ∷ past) = prefix past
+prefix (Header h ∷ past) = prefix past
+prefix (Prefix p ∷ past) = Some p
+
+-- the rank from which on a reason hides tests and their entries: an interrupt
+abbrev pub hiding_rank : ℕ
+hiding_rank = reason_rank (Some cause.Interrupt)
+
+-- the entries of a past, each by the reason that stood before it, in the order of the calls
+unfoldable pub kept : Settings → List ReportCall → List FinalOutputEntry
+kept s [] = []
+kept s (Event e ∷ past) = kept s past ++ option_to_list (entry_of s (cancel past) e.kind)
+kept s (Header h ∷ past) = kept s past
+kept s (Prefix p ∷ past) = kept s past
+
+-- the iteration's part of a key: none first, and then the iterations in their order
+abbrev pub iteration_key : Option StressIndex → List ℕ
+iteration_key None = []
+iteration_key (Some i) = stress_key i
+
+-- a counter's part of a key: numbers by both of them, and padding after these
+abbrev pub counter_key : Option DisplayCounterIndex → List ℕ
+counter_key None = []
+counter_key (Some (Counter current total)) = 0 ∷ current ∷ total ∷ []
+counter_key (Some (Padded character width)) = 1 ∷ []
+
+-- the level of an entry
+abbrev pub final_level_in : FinalOutput → FinalStatusLevel
+final_level_in (Executed summary) = final_level_of summary
+final_level_in (ExecutedWithOutput summary output) = final_level_of summary
+final_level_in Skipped = final.Skip
+
+-- how far it stands below all
+abbrev pub level_key : FinalOutputEntry → ℕ
+level_key e = 7 - final_rank (final_level_in e.output)
+
+-- the key of an entry: the final level, the greatest first, then the iteration, then the counter where one is shown, then
+-- the bytes of the binary's id and of the test's name
+abbrev pub entry_key : FinalOutputEntry → List (List ℕ)
+entry_key e = (level_key e ∷ []) ∷ iteration_key e.test.stress_index ∷ counter_key e.test.counter ∷ e.test.instance.binary_id ∷ e.test.instance.test_name ∷ []
+
+abbrev pub entry_cmp : FinalOutputEntry → FinalOutputEntry → Ordering
+entry_cmp a b = key_cmp (entry_key a) (entry_key b)
+
+-- whether an entry's key is less than another's
+abbrev pub is_before : FinalOutputEntry → FinalOutputEntry → Bool
+is_before a b = is_lt (entry_cmp a b)
+
+-- the order is by key, and entries of one key stand as they were kept
+abbrev pub IsFinalOrder : List FinalOutputEntry → List FinalOutputEntry → Type 0
+IsFinalOrder entries order = IsSorted entry_cmp order × IsStable entry_cmp entries order
+
+-- the one final order
+abbrev pub final_order : List FinalOutputEntry → List FinalOutputEntry
+final_order entries = ordered_by is_before entries
+
+-- how the summary shows a test: its line, and then what its last attempt wrote where that is kept; or that it was skipped
+unfoldable pub final_text : Settings → CountedInstance → FinalOutput → Text
+final_text s test (Executed summary) = status_line s.styles Final test summary
+final_text s test (ExecutedWithOutput summary output) =
+    status_line s.styles Final test summary ++ attempt_output s false summary.result output
+final_text s test Skipped = skip_line s test
+
+-- how it shows an entry
+abbrev pub entry_text : Settings → FinalOutputEntry → Text
+entry_text s e = final_text s (borrowed_test e.test) e.output
+
+-- the entries as they stand, one after another
+abbrev pub entries_text : Settings → List FinalOutputEntry → Text
+entries_text s es = flat_map (entry_text s) es

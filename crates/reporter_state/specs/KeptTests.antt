@@ -1,0 +1,25 @@
+-- Tests that are kept, with names of their own.
+use Rattle.std.specs.Borrow.{Bor}
+use Rattle.std.specs.Prelude.{ℕ, List}
+use Rattle.event_text.specs.declared.instance.CountedInstance.{CountedInstance}
+use Rattle.reporter_state.specs.declared.kept_test.KeptTest.{KeptTest}
+
+-- the copy of a test
+abbrev pub kept_test : CountedInstance → KeptTest
+kept_test t = record {
+  stress_index = t.stress_index;
+  counter = t.counter;
+  instance = record { binary_id = t.instance.binary_id.now; test_name = t.instance.test_name.now };
+}
+
+-- a name that is borrowed: where it lies makes no difference to a text
+abbrev pub lent : List ℕ → Bor (List ℕ)
+lent t = record { ref_ptr = (0, 0); now = t }
+
+-- a kept test as lines name it
+abbrev pub borrowed_test : KeptTest → CountedInstance
+borrowed_test t = record {
+  stress_index = t.stress_index;
+  counter = t.counter;
+  instance = record { binary_id = lent t.instance.binary_id; test_name = lent t.instance.test_name };
+}

@@ -1,0 +1,87 @@
+-- Which captured outputs a report shows or a store keeps, judged by results, display settings and levels: no output is looked at.
+use Rattle.std.specs.Prelude.{Bool, false, not, ◌&&◌, ◌||◌, nat_le, Option, None, Some, unwrap_or, if◌then◌else◌}
+use Rattle.std.specs.Option.{option_map_or}
+use Rattle.run_model.specs.Displays.{is_immediate}
+use Rattle.run_model.specs.Infos.{has_valid_output}
+use Rattle.run_model.specs.Levels.{status_rank}
+use Rattle.run_model.specs.Outputs.{has_loaded_output}
+use Rattle.run_model.specs.Statuses.{is_success, is_success_case, summary_of}
+use Rattle.run_model.specs.declared.config.TestOutputDisplay.{TestOutputDisplay}
+use Rattle.run_model.specs.declared.event.TestEventKind.{TestEventKind}
+use Rattle.run_model.specs.declared.event.TestEventKind.TheVariants.{SetupScriptFinished, TestAttemptFailedWillRetry, TestFinished, InfoResponse}
+use Rattle.run_model.specs.declared.info.InfoResponse.{InfoResponse as Response}
+use Rattle.run_model.specs.declared.info.InfoResponse.TheVariants.{SetupScript, Test}
+use Rattle.run_model.specs.declared.info.UnitState.{UnitState}
+use Rattle.run_model.specs.declared.level.StatusLevel.TheVariants as level
+use Rattle.run_model.specs.declared.output_event.LoadOutput.{LoadOutput}
+use Rattle.run_model.specs.declared.output_event.LoadOutput.TheVariants.{Load, Skip}
+use Rattle.run_model.specs.declared.output_event.OutputEventKind.{OutputEventKind}
+use Rattle.run_model.specs.declared.output_event.OutputEventKind.TheVariants as decided
+use Rattle.run_model.specs.declared.status.ExecutionResultDescription.{ExecutionResultDescription}
+use Rattle.run_model.specs.declared.status.StatusCase.{StatusCase}
+use Rattle.run_model.specs.declared.status.StatusSummary.{StatusSummary}
+use Rattle.unit_report.specs.Overrides.{display_for}
+use Rattle.event_text.specs.AttemptOutputs.{Written}
+use Rattle.event_text.specs.Finishes.{is_ever_shown}
+use Rattle.store_text.specs.StoredOutputs.{is_switched_on}
+use Rattle.store_text.specs.declared.config.StoreConfig.{StoreConfig}
+use Rattle.reporter_state.specs.declared.decider.OutputLoadDecider.{OutputLoadDecider}
+
+-- of a setup script: unless it succeeded
+abbrev pub loads_script : ExecutionResultDescription → Bool
+loads_script result = not (is_success result)
+
+-- of an attempt that failed where another one follows: where such attempts are told and the setting of failures shows output at
+-- once, also where the test could not be started
+abbrev pub loads_attempt : OutputLoadDecider → TestOutputDisplay → Bool
+loads_attempt d failure =
+    nat_le (status_rank level.Retry) (status_rank d.status_level) && is_immediate (unwrap_or d.overrides.force_failure_output failure)
+
+-- of a finished test: where its setting shows output, at once or at the end of the run, or a store is asked to keep it
+abbrev pub is_asked_of : Option StoreConfig → Bool → Bool
+is_asked_of None is_success = false
+is_asked_of (Some store) is_success = is_switched_on store is_success
+
+abbrev pub is_kept_by : Option StoreConfig → StatusCase → Bool
+is_kept_by store case = is_asked_of store (is_success_case case)
+
+abbrev pub loads_finish : OutputLoadDecider → TestOutputDisplay → TestOutputDisplay → StatusSummary → Bool
+loads_finish d success failure x = is_ever_shown (display_for d.overrides success failure x) || is_kept_by d.store x.case
+
+-- of a decided event, wherever its output is held
+abbrev pub loads : {S O : Type 0} → OutputLoadDecider → OutputEventKind S O → Bool
+loads d (decided.SetupScriptFinished stress status) = loads_script status.result
+loads d (decided.TestAttemptFailedWillRetry stress status delay failure) = loads_attempt d failure
+loads d (decided.TestFinished stress success failure statuses stats) = loads_finish d success failure (summary_of statuses)
+
+-- the answer of the decider
+abbrev pub load_if : Bool → LoadOutput
+load_if b = if b then Load else Skip
+
+-- the same of an event of a run that is going on; none of the kinds that are not decided
+abbrev pub decision : OutputLoadDecider → TestEventKind → Option LoadOutput
+decision d (SetupScriptFinished stress script program args status) = Some (load_if (loads_script status.result))
+decision d (TestAttemptFailedWillRetry stress test status delay failure) = Some (load_if (loads_attempt d failure))
+decision d (TestFinished stress test success failure statuses stats) = Some (load_if (loads_finish d success failure (summary_of statuses)))
+decision d _ = None
+
+-- the output that an event needs: that of a decided one if the decider loads it, of a finished test that of the last attempt; and
+-- that of a unit which answers, where it is its own
+abbrev pub answered_output : UnitState → Written → Option Written
+answered_output state output = if has_valid_output state then Some output else None
+
+abbrev pub needed_answer : Response → Option Written
+needed_answer (SetupScript x) = answered_output x.state x.output
+needed_answer (Test x) = answered_output x.state x.output
+
+abbrev pub needed_output : OutputLoadDecider → TestEventKind → Option Written
+needed_output d (SetupScriptFinished stress script program args status) = if loads_script status.result then Some status.output else None
+needed_output d (TestAttemptFailedWillRetry stress test status delay failure) = if loads_attempt d failure then Some status.output else None
+needed_output d (TestFinished stress test success failure statuses stats) =
+    if loads_finish d success failure (summary_of statuses) then Some statuses.last.output else None
+needed_output d (InfoResponse index total response) = needed_answer response
+needed_output d _ = None
+
+-- output that is needed was left unread
+abbrev pub lacks_output : OutputLoadDecider → TestEventKind → Bool
+lacks_output d e = option_map_or (λ (output : Written). not (has_loaded_output output)) (needed_output d e) false

@@ -1,0 +1,290 @@
+//! What a reporter decides of an event by its metadata alone.
+
+ghost use Rattle.std.specs.Prelude.{◌≡◌, IfSome, None, Some, false};
+ghost use Rattle.std.specs.Option.{is_some, option_map};
+ghost use Rattle.run_model.specs.Recorded.{recorded_kind};
+ghost use Rattle.run_model.specs.Statuses.{described_summary, summary_of};
+ghost use Rattle.run_model.specs.declared.event.TestEventKind.{TestEventKind};
+ghost use Rattle.reporter_state.specs.Refusals.{decider_by, event_refusal, first_refused, is_retried_success, refusal_by};
+ghost use Rattle.reporter_state.specs.Loads.{decision, is_asked_of, lacks_output, load_if, loads, loads_attempt, loads_finish, loads_script, needed_answer, needed_output};
+ghost use Rattle.reporter_state.specs.Refusals.{refusal_in};
+ghost use Rattle.reporter_state.specs.Unread.{unread_call};
+
+use crate::faults::WriteEventError;
+use event_text::settings::Settings;
+use run_model::call::ReportCall;
+use run_model::config::TestOutputDisplay;
+use run_model::event::{TestEvent, TestEventKind};
+use run_model::info::InfoResponse;
+use run_model::level::StatusLevel;
+use run_model::output::{ChildExecutionOutputDescription, LiveSpec, OutputSpec, RecordingSpec};
+use run_model::output_event::{LoadOutput, OutputEventKind};
+use run_model::status::{ExecutionResultDescription, ExecutionStatuses};
+use store_text::config::StoreConfig;
+use unit_report::unit_output::OutputDisplayOverrides;
+
+/// Decides by an event's metadata what a reporter of one configuration does with it: no call before it matters.
+///
+/// A replay asks it before it loads what was recorded. A reporter has one, and so has a builder
+/// before there is a reporter.
+#[derive(Clone, Copy, Debug)]
+pub struct OutputLoadDecider {
+    status_level: StatusLevel,
+    overrides: OutputDisplayOverrides,
+    store: Option<StoreConfig>,
+}
+
+impl OutputLoadDecider {
+    /// What decides at this status level by these overrides, and by what a store is asked to keep.
+    pub fn new(
+        status_level: StatusLevel,
+        overrides: OutputDisplayOverrides,
+        store: Option<StoreConfig>,
+    ) -> OutputLoadDecider
+        ensures { result ≡ (record { status_level = status_level; overrides = overrides; store = store }) }
+    {
+        OutputLoadDecider {
+            status_level,
+            overrides,
+            store,
+        }
+    }
+
+    /// What decides by these settings, and by what a store is asked to keep.
+    pub fn of_settings(settings: &Settings, store: Option<StoreConfig>) -> OutputLoadDecider
+        ensures { result ≡ decider_by settings.now store }
+    {
+        let overrides = settings.unit_output.overrides();
+        OutputLoadDecider::new(settings.status_levels.status_level, overrides, store)
+    }
+
+    /// Whether a replay has to load the captured output of a recorded event: where a report shows it, at once or at the end of
+    /// the run, unless a reason for cancelling hides it, or where a store is asked to keep it. It allocates nothing.
+    ///
+    /// An event of a run that is going on has the answer of its recorded form.
+    ///
+    /// ```
+    /// if let Some(recorded) = event.recorded(alloc)? {
+    ///     assert_eq!(decider.should_load_output(&recorded), LoadOutput::Skip); // the test passed
+    /// }
+    /// ```
+    pub fn should_load_output(&self, event: &OutputEventKind<RecordingSpec>) -> LoadOutput
+        ensures loads { result ≡ load_if (loads self.now event.now) }
+        ensures live { (kind : TestEventKind) → recorded_kind kind ≡ Some event.now → decision self.now kind ≡ Some result }
+    {
+        load_if(match event {
+            OutputEventKind::SetupScriptFinished { run_status, .. } => {
+                loads_script(&run_status.result)
+            }
+            OutputEventKind::TestAttemptFailedWillRetry { failure_output, .. } => {
+                self.loads_attempt(*failure_output)
+            }
+            OutputEventKind::TestFinished {
+                success_output,
+                failure_output,
+                run_statuses,
+                ..
+            } => self.loads_finish(*success_output, *failure_output, run_statuses),
+        })
+    }
+
+    // The decision for a live event; `None` for kinds without captured output.
+    fn decision(&self, kind: &TestEventKind<'_>) -> Option<LoadOutput>
+        ensures { result ≡ decision self.now kind.now }
+    {
+        Some(load_if(match kind {
+            TestEventKind::SetupScriptFinished { run_status, .. } => {
+                loads_script(&run_status.result)
+            }
+            TestEventKind::TestAttemptFailedWillRetry { failure_output, .. } => {
+                self.loads_attempt(*failure_output)
+            }
+            TestEventKind::TestFinished {
+                success_output,
+                failure_output,
+                run_statuses,
+                ..
+            } => self.loads_finish(*success_output, *failure_output, run_statuses),
+            _ => return None,
+        }))
+    }
+
+    // Whether the output of an attempt that failed where another one follows is shown.
+    fn loads_attempt(&self, failure_output: TestOutputDisplay) -> bool
+        ensures { result ≡ loads_attempt self.now failure_output }
+    {
+        StatusLevel::Retry.is_shown_at(self.status_level)
+            && self.overrides.failure_output(failure_output).is_immediate()
+    }
+
+    // Whether the output of a finished test is shown, at once or at the end of the run, or is kept.
+    fn loads_finish<S: OutputSpec>(
+        &self,
+        success_output: TestOutputDisplay,
+        failure_output: TestOutputDisplay,
+        run_statuses: &ExecutionStatuses<S>,
+    ) -> bool
+        ensures { result ≡ loads_finish self.now success_output failure_output (summary_of run_statuses.now) }
+    {
+        let describe = run_statuses.describe();
+        let display = self
+            .overrides
+            .resolve_for_describe(success_output, failure_output, &describe);
+        display.is_immediate()
+            || display.is_final()
+            || self.is_kept(describe.is_success_for_output())
+    }
+
+    // Whether a store is asked to keep the output of such a test.
+    fn is_kept(&self, is_success: bool) -> bool
+        ensures { result ≡ is_asked_of self.now.store is_success }
+    {
+        match self.store {
+            Some(store) => store.stores_output(is_success),
+            None => false,
+        }
+    }
+
+    // The output that the event needs.
+    fn needed_output<'e>(
+        &self,
+        kind: &'e TestEventKind<'_>,
+    ) -> Option<&'e ChildExecutionOutputDescription<LiveSpec>>
+        ensures { option_map (λ o. o.now) result ≡ needed_output self.now kind.now }
+    {
+        match kind {
+            TestEventKind::SetupScriptFinished { run_status, .. } => {
+                loads_script(&run_status.result).then_some(&run_status.output)
+            }
+            TestEventKind::TestAttemptFailedWillRetry {
+                run_status,
+                failure_output,
+                ..
+            } => self
+                .loads_attempt(*failure_output)
+                .then_some(&run_status.output),
+            TestEventKind::TestFinished {
+                success_output,
+                failure_output,
+                run_statuses,
+                ..
+            } => self
+                .loads_finish(*success_output, *failure_output, run_statuses)
+                .then_some(&run_statuses.last_status().output),
+            TestEventKind::InfoResponse { response, .. } => needed_answer(response),
+            _ => None,
+        }
+    }
+
+    // Whether output that the event needs was left unread.
+    fn lacks_output(&self, kind: &TestEventKind<'_>) -> bool
+        ensures { result ≡ lacks_output self.now kind.now }
+    {
+        match self.needed_output(kind) {
+            Some(output) => !output.has_loaded_output(),
+            None => false,
+        }
+    }
+
+    /// Why the reporter refuses the event, if it does.
+    pub fn refusal_of(&self, event: &TestEvent<'_>) -> Option<WriteEventError>
+        ensures refusal { result ≡ event_refusal self.now event.now.kind }
+        ensures told { IfSome result (λ e. refusal_in e ≡ Some e) }
+        ensures accepted { result ≡ None → lacks_output self.now event.now.kind ≡ false }
+    {
+        if is_retried_success(&event.kind) {
+            Some(WriteEventError::RetriedSuccess)
+        } else if self.lacks_output(&event.kind) {
+            Some(WriteEventError::OutputNotLoaded)
+        } else {
+            None
+        }
+    }
+
+    /// Why a reporter of the decider's configuration refuses a call, `RetriedSuccess` or `OutputNotLoaded`, or None where it accepts it.
+    /// It allocates nothing.
+    ///
+    /// ```
+    /// let failed = ExecutionStatuses::single(alloc, ExecuteStatus::failed(101, time));
+    /// let mut event = TestEvent::test_finished(time, test.as_ref(), failed, stats);
+    /// event.unload();
+    /// let call = ReportCall::Event(event);
+    /// assert_eq!(decider.refusal(&call), Some(WriteEventError::OutputNotLoaded));
+    /// ```
+    pub fn refusal(&self, call: &ReportCall<'_>) -> Option<WriteEventError>
+        ensures { result ≡ refusal_by self.now call.now }
+    {
+        match call {
+            ReportCall::Event(event) => self.refusal_of(event),
+            ReportCall::Header(_) | ReportCall::Prefix(_) => None,
+        }
+    }
+
+    /// Leaves the output of a call unread if it is not needed.
+    pub fn unload(&self, call: &mut ReportCall<'_>)
+        ensures { call.new ≡ unread_call self.now call.old }
+    {
+        if let ReportCall::Event(event) = call {
+            if self.decision(&event.kind) == Some(LoadOutput::Skip) {
+                event.unload();
+            }
+        }
+    }
+}
+
+/// The place of the first call that a reporter of the decider's configuration refuses, or None where it accepts each.
+/// [`OutputLoadDecider::refusal`] says why. It allocates nothing.
+///
+/// ```
+/// assert_eq!(first_refused(&decider, &calls), None);
+/// ```
+pub fn first_refused(decider: &OutputLoadDecider, calls: &[ReportCall<'_>]) -> Option<usize>
+    ensures { result ≡ first_refused decider.now calls.now }
+{
+    calls
+        .iter()
+        .position(|call| decider.refusal(call).is_some())
+}
+
+// What the decider answers.
+fn load_if(is_shown: bool) -> LoadOutput
+    ensures { result ≡ load_if is_shown }
+{
+    if is_shown {
+        LoadOutput::Load
+    } else {
+        LoadOutput::Skip
+    }
+}
+
+// Whether the output of a setup script that ended so is shown.
+fn loads_script(outcome: &ExecutionResultDescription) -> bool
+    ensures { result ≡ loads_script outcome.now }
+{
+    !outcome.is_success()
+}
+
+// The output that the answer of a unit needs.
+fn needed_answer<'e>(
+    response: &'e InfoResponse<'_>,
+) -> Option<&'e ChildExecutionOutputDescription<LiveSpec>>
+    ensures { option_map (λ o. o.now) result ≡ needed_answer response.now }
+{
+    let (state, output) = match response {
+        InfoResponse::SetupScript(response) => (response.state.get(), response.output.get()),
+        InfoResponse::Test(response) => (response.state.get(), response.output.get()),
+    };
+    state.has_valid_output().then_some(output)
+}
+
+// Whether another attempt is said to follow one that succeeded.
+fn is_retried_success(event: &TestEventKind<'_>) -> bool
+    ensures { result ≡ is_retried_success event.now }
+{
+    match event {
+        TestEventKind::TestAttemptFailedWillRetry { run_status, .. } => run_status
+            .result
+            .is_success(),
+        _ => false,
+    }
+}

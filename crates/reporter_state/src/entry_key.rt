@@ -1,0 +1,163 @@
+//! The key at which an entry of the summary is kept.
+
+ghost use Rattle.std.specs.Prelude.{◌≡◌, refl, Some};
+ghost use Rattle.std.specs.Ordering.{as_partial_cmp, eq_by_cmp, nat_cmp};
+ghost use Rattle.std.specs.Cmp.{eq_by_cmp_equiv, partial_equiv_from_equiv, partial_order_from_total};
+ghost use Rattle.std.specs.Cmp.Lexicographic.{slice_cmp};
+ghost use Rattle.reporter_state.specs.Entries.{counter_key, iteration_key};
+ghost use Rattle.reporter_state.specs.Keys.{counted_key, instance_key, order_key, placed_cmp, placed_total, test_key};
+ghost use Rattle.reporter_state.specs.Order.{key_cmp};
+
+use crate::kept_test::KeptTest;
+use report_text::helpers::DisplayCounterIndex;
+use run_model::level::FinalStatusLevel;
+use run_model::name::OwnedTestInstanceId;
+use run_model::stress::StressIndex;
+use std::cmp::Ordering;
+
+/// What an entry is ordered by: its final level, the greatest first, then the iteration, then the counter where one is
+/// shown, then the bytes of the binary's id and of the test's name, and then how many entries were kept before.
+#[derive(Debug, Drop)]
+pub struct EntryKey {
+    /// The level from which on the summary lists the test.
+    pub level: FinalStatusLevel,
+    /// The test.
+    pub test: KeptTest,
+    /// How many entries were kept before, so that no two have one key.
+    pub place: usize,
+}
+
+impl PartialEq for EntryKey {
+    ghost eq = { eq_by_cmp placed_cmp };
+
+    ghost laws = { partial_equiv_from_equiv (eq_by_cmp_equiv placed_total) };
+
+    fn eq(&self, other: &EntryKey) -> bool {
+        self.cmp(other).is_eq()
+    }
+}
+
+impl Eq for EntryKey {
+    ghost laws = { eq_by_cmp_equiv placed_total };
+}
+
+impl PartialOrd for EntryKey {
+    ghost partial_cmp = { as_partial_cmp placed_cmp };
+
+    ghost laws = { partial_order_from_total placed_total };
+
+    fn partial_cmp(&self, other: &EntryKey) -> Option<Ordering> {
+        Some(self.cmp(other))
+    }
+}
+
+impl Ord for EntryKey {
+    ghost cmp = { placed_cmp };
+
+    ghost total = { placed_total };
+
+    ghost matches_partial_cmp = { λ x y. refl };
+
+    ghost matches_eq = { λ x y. refl };
+
+    fn cmp(&self, other: &EntryKey) -> Ordering {
+        match compare_order(self, other) {
+            Ordering::Less => Ordering::Less,
+            Ordering::Equal => self.place.cmp(&other.place),
+            Ordering::Greater => Ordering::Greater,
+        }
+    }
+}
+
+// Compares as the final order does, which does not look at places.
+fn compare_order(left: &EntryKey, right: &EntryKey) -> Ordering
+    ensures { result ≡ key_cmp (order_key left.now) (order_key right.now) }
+{
+    match left.level.below_all().cmp(&right.level.below_all()) {
+        Ordering::Less => Ordering::Less,
+        Ordering::Equal => compare_tests(&left.test, &right.test),
+        Ordering::Greater => Ordering::Greater,
+    }
+}
+
+// Compares the iterations, then the counters and the instances.
+fn compare_tests(left: &KeptTest, right: &KeptTest) -> Ordering
+    ensures { result ≡ key_cmp (test_key left.now) (test_key right.now) }
+{
+    match compare_iterations(left.stress_index, right.stress_index) {
+        Ordering::Less => Ordering::Less,
+        Ordering::Equal => compare_counted(left, right),
+        Ordering::Greater => Ordering::Greater,
+    }
+}
+
+// Compares iterations: none first.
+fn compare_iterations(left: Option<StressIndex>, right: Option<StressIndex>) -> Ordering
+    ensures { result ≡ slice_cmp nat_cmp (iteration_key left) (iteration_key right) }
+{
+    match (left, right) {
+        (None, None) => Ordering::Equal,
+        (None, Some(_)) => Ordering::Less,
+        (Some(_), None) => Ordering::Greater,
+        (Some(left), Some(right)) => left.compare(&right),
+    }
+}
+
+// Compares the counters, then the instances.
+fn compare_counted(left: &KeptTest, right: &KeptTest) -> Ordering
+    ensures { result ≡ key_cmp (counted_key left.now) (counted_key right.now) }
+{
+    match compare_counters(left.counter, right.counter) {
+        Ordering::Less => Ordering::Less,
+        Ordering::Equal => compare_instances(&left.instance, &right.instance),
+        Ordering::Greater => Ordering::Greater,
+    }
+}
+
+// Compares counters: none first, then by their numbers, then padding.
+fn compare_counters(
+    left: Option<DisplayCounterIndex>,
+    right: Option<DisplayCounterIndex>,
+) -> Ordering
+    ensures { result ≡ slice_cmp nat_cmp (counter_key left) (counter_key right) }
+{
+    match (left, right) {
+        (None, None) => Ordering::Equal,
+        (None, Some(_)) => Ordering::Less,
+        (Some(_), None) => Ordering::Greater,
+        (Some(left), Some(right)) => compare_shown_counters(left, right),
+    }
+}
+
+fn compare_shown_counters(left: DisplayCounterIndex, right: DisplayCounterIndex) -> Ordering
+    ensures { result ≡ slice_cmp nat_cmp (counter_key (Some left)) (counter_key (Some right)) }
+{
+    match (left, right) {
+        (
+            DisplayCounterIndex::Counter { current, total },
+            DisplayCounterIndex::Counter {
+                current: right_current,
+                total: right_total,
+            },
+        ) => match current.cmp(&right_current) {
+            Ordering::Less => Ordering::Less,
+            Ordering::Equal => total.cmp(&right_total),
+            Ordering::Greater => Ordering::Greater,
+        },
+        (DisplayCounterIndex::Counter { .. }, DisplayCounterIndex::Padded { .. }) => Ordering::Less,
+        (DisplayCounterIndex::Padded { .. }, DisplayCounterIndex::Counter { .. }) =>
+            Ordering::Greater,
+        (DisplayCounterIndex::Padded { .. }, DisplayCounterIndex::Padded { .. }) => Ordering::Equal,
+    }
+}
+
+// Compares the bytes of the binaries' ids, then of the tests' names.
+fn compare_instances(left: &OwnedTestInstanceId, right: &OwnedTestInstanceId) -> Ordering
+    ensures { result ≡ key_cmp (instance_key left.now) (instance_key right.now) }
+{
+    match left.binary_id.cmp(&right.binary_id) {
+        Ordering::Less => Ordering::Less,
+        Ordering::Equal => left.test_name.cmp(&right.test_name),
+        Ordering::Greater => Ordering::Greater,
+    }
+}

@@ -1,0 +1,108 @@
+//! What is kept of a test for the summary.
+
+ghost use Rattle.std.specs.Prelude.{◌≡◌, IfOk, IsOk, false};
+ghost use Rattle.run_model.specs.Statuses.{is_aborted};
+ghost use Rattle.test_text.specs.FinishedTests.{HasShownOutput, finish_of};
+ghost use Rattle.reporter_state.specs.Effects.{final_output, finished_entry, skipped_entry};
+ghost use Rattle.reporter_state.specs.Entries.{final_level_in};
+ghost use Rattle.event_text.specs.Finishes.{row_at_end};
+
+use crate::kept_test::KeptTest;
+use crate::loaded_output::LoadedOutput;
+use event_text::instance::CountedInstance;
+use run_model::level::FinalStatusLevel;
+use run_model::memory::OutOfMemory;
+use run_model::status::StatusSummary;
+use std::alloc::Global;
+use test_text::status_line::StatusLine;
+use test_text::test_finished::FinishedTest;
+
+/// An entry of the summary.
+#[derive(Debug, Drop)]
+pub struct FinalOutputEntry {
+    /// The test.
+    pub test: KeptTest,
+    /// What is shown of it.
+    pub output: FinalOutput,
+}
+
+/// What the summary shows of a test.
+#[derive(Debug, Drop)]
+pub enum FinalOutput {
+    /// It was run, and its line is shown alone.
+    Executed {
+        /// What its attempts came to.
+        summary: StatusSummary,
+    },
+    /// It was run, and its line is shown with what its last attempt wrote.
+    ExecutedWithOutput {
+        /// What its attempts came to.
+        summary: StatusSummary,
+        /// What its last attempt wrote.
+        output: LoadedOutput,
+    },
+    /// It was not to run, and its line is shown.
+    Skipped,
+}
+
+impl FinalOutput {
+    /// The level from which on the summary lists the test.
+    pub fn final_status_level(&self) -> FinalStatusLevel
+        ensures { result ≡ final_level_in self.now }
+    {
+        match self {
+            FinalOutput::Executed { summary } => summary.final_status_level(),
+            FinalOutput::ExecutedWithOutput { summary, .. } => summary.final_status_level(),
+            FinalOutput::Skipped => FinalStatusLevel::Skip,
+        }
+    }
+
+    // What the summary shows of a finished test.
+    #[tactic(auto, unfolding(crate::specs::Effects::final_output))]
+    fn of_test(alloc: Global, finished: &FinishedTest<'_, '_>) -> Result<FinalOutput, OutOfMemory>
+        requires { HasShownOutput (finish_of finished.now) }
+        ensures output { IfOk result (λ o. o ≡ final_output (finish_of finished.now)) }
+        ensures free { is_aborted (finish_of finished.now).last.result ≡ false → row_at_end finished.now.row finished.now.display ≡ false → IsOk result }
+    {
+        let summary = StatusLine::of_description(&finished.describe).to_summary(alloc)?;
+        if finished.row.is_shown_at_end(finished.display) {
+            let output = &finished.describe.last_status().output;
+            Ok(FinalOutput::ExecutedWithOutput {
+                summary,
+                output: LoadedOutput::copy_of(alloc, output)?,
+            })
+        } else {
+            Ok(FinalOutput::Executed { summary })
+        }
+    }
+}
+
+impl FinalOutputEntry {
+    /// What the summary shows of a finished test. It allocates for the test's names and the texts of the last attempt; the bytes of
+    /// its output are shared. Output that is shown must not have been left unread.
+    pub fn of_test(
+        alloc: Global,
+        finished: &FinishedTest<'_, '_>,
+    ) -> Result<FinalOutputEntry, OutOfMemory>
+        requires { HasShownOutput (finish_of finished.now) }
+        ensures { IfOk result (λ e. e ≡ finished_entry (finish_of finished.now)) }
+    {
+        Ok(FinalOutputEntry {
+            test: KeptTest::copy_of(alloc, finished.test)?,
+            output: FinalOutput::of_test(alloc, finished)?,
+        })
+    }
+
+    /// What the summary shows of a skipped test. It allocates for the test's names.
+    pub fn skipped(
+        alloc: Global,
+        test: CountedInstance<'_>,
+    ) -> Result<FinalOutputEntry, OutOfMemory>
+        ensures { IfOk result (λ e. e ≡ skipped_entry test.entry) }
+    {
+        Ok(FinalOutputEntry {
+            test: KeptTest::copy_of(alloc, test)?,
+            output: FinalOutput::Skipped,
+        })
+    }
+}

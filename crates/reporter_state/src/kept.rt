@@ -1,0 +1,127 @@
+//! What is kept for the summary, and how it is listed.
+
+ghost use Rattle.std.specs.Prelude.{◌≡◌, List, [], ◌∷◌, ◌++◌, OnOk, OnErr};
+ghost use Rattle.plain_text.specs.Writer.{Puts};
+ghost use Rattle.test_text.specs.StatusLines.{status_line};
+ghost use Rattle.test_text.specs.declared.status_line.StatusLineKind.{StatusLineKind};
+ghost use Rattle.reporter_state.specs.Entries.{final_text, entries_text, final_order, IsFinalOrder};
+ghost use Rattle.reporter_state.specs.KeptTests.{borrowed_test};
+ghost use Rattle.reporter_state.specs.declared.final_output.FinalOutputEntry.{FinalOutputEntry};
+
+use crate::entry_key::EntryKey;
+use crate::final_output::{FinalOutput, FinalOutputEntry};
+use crate::kept_test::KeptTest;
+use event_text::attempt_output::write_test_execute_status;
+use event_text::settings::Settings;
+use plain_text::write_str::{WriteFault, WriteStr};
+use run_model::status::StatusSummary;
+use std::alloc::{AllocError, Global};
+use std::collections::BTreeMap;
+use std::marker::Model;
+use test_text::status_line::{StatusLine, StatusLineKind, write_status_line};
+use test_text::test_skipped::write_skip_line;
+
+/// The entries that a summary lists. Contracts see them as the list in which it shows them.
+#[derive(Drop)]
+pub struct KeptEntries {
+    // a key holds the test of its entry
+    by_key: BTreeMap<EntryKey, FinalOutput>,
+}
+
+impl Model for KeptEntries {
+    ghost use Rattle.std.specs.Prelude.{List};
+    ghost use Rattle.std.specs.BTreeMap.{btree_map_len};
+    ghost use Rattle.reporter_state.specs.Keys.{AreKeyed, entries_at};
+    ghost use Rattle.reporter_state.specs.declared.final_output.FinalOutputEntry.{FinalOutputEntry};
+
+    ghost Value = { List FinalOutputEntry };
+
+    ghost view = { λ k. entries_at k.by_key.entries };
+
+    ghost invariant = { λ k. AreKeyed (btree_map_len k.by_key) k.by_key.entries };
+}
+
+impl KeptEntries {
+    /// No entries. It allocates nothing.
+    #[tactic(auto, unfolding(crate::specs::Order::ordered_by))]
+    pub fn new(alloc: Global) -> KeptEntries
+        ensures { result ≡ final_order [] }
+    {
+        KeptEntries {
+            by_key: BTreeMap::new(alloc),
+        }
+    }
+
+    /// Keeps an entry in its place in the final order: after those of its key that were kept before.
+    pub fn keep(&mut self, entry: FinalOutputEntry) -> Result<(), AllocError>
+        ensures ok { OnOk result ((kept : List FinalOutputEntry) → self.old ≡ final_order kept → self.new ≡ final_order (kept ++ entry ∷ [])) }
+        ensures err { OnErr result (self.new ≡ self.old) }
+    {
+        let FinalOutputEntry { test, output } = entry;
+        let key = EntryKey {
+            level: output.final_status_level(),
+            test,
+            place: self.by_key.len(),
+        };
+        self.by_key.insert(key, output)?;
+        Ok(())
+    }
+
+    /// Writes the entries in their order. It allocates nothing.
+    pub fn write<W: WriteStr>(&self, w: &mut W, settings: &Settings) -> Result<(), WriteFault>
+        ensures { Puts W.meaning w.old (entries_text settings.now self.now) result w.new }
+    {
+        for (key, output) in self.by_key.iter() {
+            write_entry(w, settings, &key.test, output)?;
+        }
+        Ok(())
+    }
+}
+
+/// Whatever was kept, it has exactly one final order: by key, and entries of one key as they were kept.
+///
+/// A summary is defined by that list, so however a reporter orders what it keeps, there is one text that is right.
+pub fn one_final_order()
+    ensures exists { (kept : List FinalOutputEntry) → IsFinalOrder kept (final_order kept) }
+    ensures only { (kept order : List FinalOutputEntry) → IsFinalOrder kept order → order ≡ final_order kept }
+{}
+
+// Writes an entry: its line, and what the last attempt wrote where that is kept; or that the test was skipped.
+#[tactic(auto, unfolding(crate::specs::Entries::final_text), using(crate::proofs::lemmas::KeptTests::skip_of_kept))]
+fn write_entry<W: WriteStr>(
+    w: &mut W,
+    settings: &Settings,
+    test: &KeptTest,
+    output: &FinalOutput,
+) -> Result<(), WriteFault>
+    ensures { Puts W.meaning w.old (final_text settings.now (borrowed_test test.now) output.now) result w.new }
+{
+    match output {
+        FinalOutput::Executed { summary } => write_line(w, settings, test, summary),
+        FinalOutput::ExecutedWithOutput { summary, output } => {
+            write_line(w, settings, test, summary)?;
+            write_test_execute_status(w, settings, false, &summary.result, output.get())
+        }
+        FinalOutput::Skipped => write_skip_line(w, settings, test.as_counted()),
+    }
+}
+
+// Writes the line of a test that was run.
+#[tactic(auto, using(crate::proofs::lemmas::KeptTests::line_of_kept))]
+fn write_line<W: WriteStr>(
+    w: &mut W,
+    settings: &Settings,
+    test: &KeptTest,
+    summary: &StatusSummary,
+) -> Result<(), WriteFault>
+    ensures { Puts W.meaning w.old (status_line settings.now.styles StatusLineKind.Final (borrowed_test test.now) summary.now) result w.new }
+{
+    let line = StatusLine::of_summary(summary);
+    write_status_line(
+        w,
+        &settings.styles,
+        StatusLineKind::Final,
+        test.as_counted(),
+        line,
+    )
+}
