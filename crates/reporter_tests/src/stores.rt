@@ -8,8 +8,6 @@ mod growths;
 mod large;
 #[cfg(test)]
 mod loads;
-#[cfg(test)]
-mod records;
 
 use crate::testing::{STATS, attempt, builder, failed, run_finished};
 use bytes::Bytes;

@@ -286,53 +286,6 @@ fn takes_options_in_any_order(rt: HostRuntime) -> Result<(), Fail> {
 }
 
 #[test]
-fn refuses_other_words(rt: HostRuntime) -> Result<(), Fail> {
-    let lines: [&[&str]; 18] = [
-        &[],
-        &["--bogus", "FILE"],
-        &["FILE", "--color"],
-        &["--color", "--color", "FILE"],
-        &["--level", "pass"],
-        &["--level", "Pass", "FILE"],
-        &["--level", "pass", "--level", "pass", "FILE"],
-        &["--level=pass", "FILE"],
-        &["--replay", "--replay", "FILE"],
-        &["--unload", "--unload", "FILE"],
-        &["--store", "FILE"],
-        &["--store-success", "FILE"],
-        &["--store-failure", "FILE"],
-        &[
-            "--store-failure",
-            "--level",
-            "pass",
-            "--store-success",
-            "FILE",
-        ],
-        &["--store", "out", "--store", "out", "FILE"],
-        &[
-            "--store",
-            "out",
-            "--store-success",
-            "--store-success",
-            "FILE",
-        ],
-        &[
-            "--store-failure",
-            "--store",
-            "out",
-            "--store-failure",
-            "FILE",
-        ],
-        &["--store=out", "FILE"],
-    ];
-    for texts in lines {
-        let args = words_of(rt.alloc(), texts)?;
-        assert!(rt; words(args.as_slice()).is_none());
-    }
-    Ok(())
-}
-
-#[test]
 fn tells_each_fault(rt: HostRuntime) -> Result<(), Fail> {
     let faults = [
         (
