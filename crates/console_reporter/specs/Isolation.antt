@@ -3,7 +3,7 @@ use Rattle.std.specs.Prelude.{◌≡◌, ℕ, List, reverse}
 use Rattle.reporter_state.specs.Refusals.{AreAcceptedBy, first_refused, refusal_at_by}
 use Rattle.console_reporter.specs.Accepted.{decider_of}
 use Rattle.console_reporter.specs.Configuration.{Configuration}
-use Rattle.console_reporter.specs.Report.{report, texts}
+use Rattle.console_reporter.specs.Report.{report, report_texts}
 use Rattle.console_reporter.specs.Stored.{records, stored}
 use Rattle.run_model.specs.declared.call.ReportCall.{ReportCall}
 use Rattle.reporter_state.specs.declared.decider.OutputLoadDecider.{OutputLoadDecider}
@@ -13,7 +13,7 @@ use Rattle.reporter_state.specs.declared.decider.OutputLoadDecider.{OutputLoadDe
 -- refused is the same one; and each call is refused for the same reason.
 abbrev pub IsIsolated : OutputLoadDecider → List ReportCall → List ReportCall → Type 0
 IsIsolated decider calls left =
-    ((config : Configuration) → decider_of config ≡ decider → texts config (reverse left) ≡ texts config (reverse calls))
+    ((config : Configuration) → decider_of config ≡ decider → report_texts config (reverse left) ≡ report_texts config (reverse calls))
     × ((config : Configuration) → decider_of config ≡ decider → report config (reverse left) ≡ report config (reverse calls))
     × ((config : Configuration) → decider_of config ≡ decider → records config.store left ≡ records config.store calls)
     × ((config : Configuration) → decider_of config ≡ decider → stored config.store (reverse left) ≡ stored config.store (reverse calls))

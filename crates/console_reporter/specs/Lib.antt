@@ -3,15 +3,15 @@ pub mod Calm
 pub mod ColourLaw
 pub mod Configuration
 pub mod Exactness
-pub mod Exchanges
+pub mod HeldState
 pub mod Isolation
+pub mod OrderIndependence
 pub mod Outcomes
 pub mod PlainCalls
 pub mod PlainLaw
 pub mod Report
 pub mod ReportErrors
 pub mod Slots
-pub mod Standing
 pub mod Statistics
 pub mod Stored
 pub mod Telling

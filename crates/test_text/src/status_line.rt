@@ -3,9 +3,9 @@
 ghost use Rattle.std.specs.Prelude.{◌≡◌, IfOk, IsOk, false};
 ghost use Rattle.run_model.specs.Statuses.{described_summary, is_aborted};
 ghost use Rattle.plain_text.specs.Writer.{Puts};
-ghost use Rattle.plain_text.specs.Styles.{styled};
+ghost use Rattle.plain_text.specs.Style.{styled};
 ghost use Rattle.plain_text.specs.Texts.{right_in};
-ghost use Rattle.test_text.specs.StatusLines.{is_final, shown_summary, flaky_style, flaky_words, failure_words, success_text, is_flaky_failure, status_prefix, flaky_note, flaky_failure_line, status_line};
+ghost use Rattle.test_text.specs.StatusLine.{is_final_line, shown_summary, flaky_style, flaky_words, failure_words, success_text, is_flaky_failure, status_prefix, flaky_note, flaky_failure_line, status_line};
 
 use event_text::abort_line::write_abort_line;
 use event_text::instance::{CountedInstance, write_instance};
@@ -36,8 +36,8 @@ pub enum StatusLineKind {
 
 impl StatusLineKind {
     /// Whether it stands in the summary.
-    pub fn is_final(self) -> bool
-        ensures { result ≡ is_final self }
+    pub fn is_final_line(self) -> bool
+        ensures { result ≡ is_final_line self }
     {
         match self {
             StatusLineKind::Intermediate => false,
@@ -105,7 +105,7 @@ impl<'b> StatusLine<'b> {
 }
 
 /// Writes the line of a finished test.
-#[tactic(auto, unfolding(crate::specs::StatusLines::status_line))]
+#[tactic(auto, unfolding(crate::specs::StatusLine::status_line))]
 pub fn write_status_line<W: WriteStr>(
     w: &mut W,
     styles: &Styles,
@@ -124,7 +124,7 @@ pub fn write_status_line<W: WriteStr>(
 }
 
 // Writes the word that begins the line, and a space.
-#[tactic(auto, unfolding(crate::specs::StatusLines::status_prefix))]
+#[tactic(auto, unfolding(crate::specs::StatusLine::status_prefix))]
 fn write_status_prefix<W: WriteStr>(
     w: &mut W,
     styles: &Styles,
@@ -135,7 +135,7 @@ fn write_status_prefix<W: WriteStr>(
 {
     match line.case {
         StatusCase::Success => {
-            write_success_word(w, styles, kind.is_final() && line.is_slow, line.result)?;
+            write_success_word(w, styles, kind.is_final_line() && line.is_slow, line.result)?;
             write_plain(w, " ")
         }
         StatusCase::Flaky { result } => {
@@ -226,7 +226,7 @@ fn write_failure_word<W: WriteStr>(
 }
 
 // Writes that a success counts as a failure, where it does and the line is shown at once.
-#[tactic(auto, unfolding(crate::specs::StatusLines::flaky_failure_line))]
+#[tactic(auto, unfolding(crate::specs::StatusLine::flaky_failure_line))]
 fn write_flaky_failure_line<W: WriteStr>(
     w: &mut W,
     styles: &Styles,
@@ -248,7 +248,7 @@ fn write_flaky_failure_line<W: WriteStr>(
 }
 
 // Writes that a success counts as a failure.
-#[tactic(auto, unfolding(crate::specs::StatusLines::flaky_note))]
+#[tactic(auto, unfolding(crate::specs::StatusLine::flaky_note))]
 fn write_flaky_note<W: WriteStr>(w: &mut W, styles: &Styles) -> Result<(), WriteFault>
     ensures { Puts W.meaning w.old (flaky_note styles.now) result w.new }
 {

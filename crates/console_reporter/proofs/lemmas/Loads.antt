@@ -9,8 +9,8 @@ use Rattle.run_model.specs.declared.output.LiveSpec.{LiveSpec}
 use Rattle.run_model.specs.declared.status.SetupScriptExecuteStatus.{SetupScriptExecuteStatus}
 use Rattle.run_model.specs.declared.stress.StressIndex.{StressIndex}
 use Rattle.plain_text.specs.Texts.{Text}
-use Rattle.run_text.specs.SetupScripts.{HasFailedOutput as HasFailedScriptOutput}
-use Rattle.info_text.specs.Responses.{HasAnswerOutput}
+use Rattle.run_text.specs.SetupScript.{HasFailedScriptOutput}
+use Rattle.info_text.specs.Response.{HasAnswerOutput}
 use Rattle.reporter_state.proofs.lemmas.Loads.{loaded_where}
 use Rattle.reporter_state.specs.Loads.{lacks_output, loads_script}
 use Rattle.reporter_state.specs.declared.decider.OutputLoadDecider.{OutputLoadDecider}

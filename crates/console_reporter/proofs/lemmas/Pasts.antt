@@ -7,7 +7,7 @@ use Rattle.console_reporter.specs.Configuration.{Configuration, settings_of}
 use Rattle.reporter_state.specs.Effects.{TestEnd, effect_of, entry_of, kept_entry}
 use Rattle.reporter_state.specs.Entries.{cancel, kept, final_order}
 use Rattle.console_reporter.specs.Report.{event_text, text}
-use Rattle.console_reporter.specs.Standing.{StandsAfter, known_by}
+use Rattle.console_reporter.specs.HeldState.{StandsAfter, known_by}
 use Rattle.run_model.specs.declared.call.ReportCall.{ReportCall}
 use Rattle.run_model.specs.declared.call.ReportCall.TheVariants.{Event}
 use Rattle.reporter_state.specs.declared.final_output.FinalOutputEntry.{FinalOutputEntry}

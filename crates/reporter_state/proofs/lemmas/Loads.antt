@@ -2,7 +2,7 @@
 use Rattle.std.proofs.Common.{◌≡◌, ℕ, Bool, true, false, not, Option, None, Some, if◌then◌else◌, refl, sym, inl, inr}
 use Rattle.std.specs.Option.{option_map_or}
 use Rattle.std.proofs.lemmas.Bool.{cases_Bool, false≢true}
-use Rattle.run_model.specs.Attempts.{Attempts}
+use Rattle.run_model.specs.Attempts.{Attempt, Attempts, Written}
 use Rattle.run_model.specs.Outputs.{has_loaded_output}
 use Rattle.run_model.specs.Statuses.{summary_of}
 use Rattle.run_model.specs.declared.config.TestOutputDisplay.{TestOutputDisplay}
@@ -17,10 +17,9 @@ use Rattle.run_model.specs.declared.stress.StressIndex.{StressIndex}
 use Rattle.run_model.specs.declared.time.Nanos.{Nanos}
 use Rattle.unit_report.specs.Overrides.{display_for}
 use Rattle.store_text.specs.declared.config.StoreConfig.{StoreConfig}
-use Rattle.event_text.specs.AttemptOutputs.{Written}
-use Rattle.test_text.specs.FinishedTests.{HasShownOutput, test_finish}
-use Rattle.event_text.specs.Finishes.{display_of, is_ever_shown}
-use Rattle.test_text.specs.RetriedTests.{Attempt, HasFailedOutput, is_failed_output_shown}
+use Rattle.test_text.specs.TestFinished.{HasShownOutput, test_finish}
+use Rattle.event_text.specs.Finish.{display_of, is_ever_shown}
+use Rattle.test_text.specs.TestRetry.{HasFailedAttemptOutput, is_failed_output_shown}
 use Rattle.event_text.specs.Settings.{is_level_shown}
 use Rattle.event_text.specs.declared.settings.Settings.{Settings}
 use Rattle.reporter_state.specs.Refusals.{decider_by}
@@ -33,7 +32,7 @@ loaded_where is_needed output lacks is =
     elim (cases_Bool (has_loaded_output output)) [ inl y ↦ y | inr n ↦ absurd (false≢true (sym (rw (is, n) at lacks))) ]
 
 pub attempt_loaded : (s : Settings) (stress : Option StressIndex) (test : TestInstanceId) (status : Attempt) (delay : Nanos) (failure : TestOutputDisplay) →
-    lacks_output (decider_by s None) (TestAttemptFailedWillRetry stress test status delay failure) ≡ false → is_level_shown s level.Retry ≡ true → HasFailedOutput s status failure
+    lacks_output (decider_by s None) (TestAttemptFailedWillRetry stress test status delay failure) ≡ false → is_level_shown s level.Retry ≡ true → HasFailedAttemptOutput s status failure
 unfolding is_level_shown is_failed_output_shown
 attempt_loaded s stress test status delay failure lacks shown at_once =
     loaded_where (loads_attempt (decider_by s None) failure) status.output lacks (rw (shown, at_once) refl)
