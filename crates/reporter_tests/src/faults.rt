@@ -1,7 +1,7 @@
 //! Devices that fail.
 
-use crate::testing::{builder, run_finished, run_finished_event};
-use console_reporter::imp::{RunFault, WriteEventError, run_report};
+use crate::testing::{builder, finish, run_finished, run_finished_event, write_event};
+use console_reporter::imp::{DisplayReporter, RunFault, WriteEventError, run_report};
 use plain_text::write_str::{TextBuffer, WriteStr};
 use std::alloc::Global;
 use std::io;
@@ -49,13 +49,18 @@ fn answers_over<W: WriteStr>(
     alloc: Global,
     writer: &mut W,
 ) -> Result<[Result<(), WriteEventError>; 3], Fail> {
-    let event = run_finished_event();
     let mut reporter = builder(alloc)?.build(alloc, writer, false, false, false, false);
-    Ok([
-        reporter.write_event(&event),
-        reporter.write_event(&event),
-        reporter.finish(),
-    ])
+    Ok(answers_of(&mut reporter))
+}
+
+// What a reporter answers to the end of a run, to the same once more and to the end of the report.
+fn answers_of<W: WriteStr>(
+    reporter: &mut DisplayReporter<'_, W, String>,
+) -> [Result<(), WriteEventError>; 3] {
+    let event = run_finished_event();
+    let first = write_event(reporter, &event);
+    let second = write_event(reporter, &event);
+    [first, second, finish(reporter)]
 }
 
 #[test]

@@ -1,6 +1,6 @@
 //! Events that a reporter refuses.
 
-use crate::testing::{STATS, attempt, builder, failed};
+use crate::testing::{STATS, attempt, builder, failed, write_event};
 use console_reporter::imp::{
     OutputLoadDecider, ReportCall, RunFault, WriteEventError, first_refused, run_report,
 };
@@ -75,9 +75,9 @@ fn a_refused_event_is_as_if_it_had_not_come(rt: HostRuntime) -> Result<(), Fail>
     let mut report = String::new(alloc);
     let mut reporter = builder(alloc)?.build(alloc, &mut report, false, false, false, false);
     for _ in 0..2 {
-        let outcome = reporter.write_event(&refused);
+        let outcome = write_event(&mut reporter, &refused);
         assert_eq!(rt; outcome, Err(WriteEventError::RetriedSuccess));
-        reporter.write_event(&end)?;
+        write_event(&mut reporter, &end)?;
     }
     drop(reporter);
     assert_eq!(rt; report.as_str(), format!(in alloc; "{END}{END}")?.as_str());

@@ -5,8 +5,6 @@ mod faults;
 #[cfg(test)]
 mod growths;
 #[cfg(test)]
-mod large;
-#[cfg(test)]
 mod loads;
 
 use crate::testing::{STATS, attempt, builder, failed, run_finished};
@@ -16,9 +14,7 @@ use run_model::config::TestOutputDisplay;
 use run_model::event::{TestEvent, TestEventKind};
 use run_model::level::{FinalStatusLevel, StatusLevel};
 use run_model::name::{RustBinaryId, TestCaseName, TestInstanceId};
-use run_model::output::{
-    ChildExecutionOutputDescription, ChildOutputDescription, ChildSingleOutput, LiveSpec,
-};
+use run_model::output::{ChildOutputDescription, ChildSingleOutput, LiveSpec};
 use run_model::status::{
     ExecuteStatus, ExecutionResultDescription, ExecutionStatuses, FlakyResult,
 };
@@ -121,14 +117,7 @@ pub fn attempt_with(
     outcome: ExecutionResultDescription,
     output: ChildOutputDescription,
 ) -> ExecuteStatus<LiveSpec> {
-    let mut status = attempt(1, 1, outcome);
-    status.output = ChildExecutionOutputDescription::Output {
-        result: None,
-        output,
-        errors: None,
-        highlight: None,
-    };
-    status
+    attempt(1, 1, outcome).with_output(output)
 }
 
 /// A test of one attempt, whose output is never shown.

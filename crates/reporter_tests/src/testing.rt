@@ -1,6 +1,9 @@
 //! What the tests share: a reporter that shows all at its end, attempts, and the end of a run.
 
-use console_reporter::imp::{DisplayReporterBuilder, DisplayerKind, ReportCall};
+use console_reporter::imp::{
+    DisplayReporter, DisplayReporterBuilder, DisplayerKind, ReportCall, WriteEventError,
+};
+use plain_text::write_str::WriteStr;
 use run_model::config::{CompiledDefaultFilter, CompiledDefaultFilterSection, NextestRunMode};
 use run_model::event::{TestEvent, TestEventKind};
 use run_model::level::{FinalStatusLevel, StatusLevel};
@@ -102,4 +105,19 @@ pub fn run_finished_event<'a>() -> TestEvent<'a> {
 /// The same as a call.
 pub fn run_finished<'a>() -> ReportCall<'a> {
     ReportCall::Event(run_finished_event())
+}
+
+/// Hands an event to a reporter. It has no clause: the proof of a test that makes several calls would hold the reporter's clauses for each.
+pub fn write_event<W: WriteStr, S: WriteStr>(
+    reporter: &mut DisplayReporter<'_, W, S>,
+    event: &TestEvent<'_>,
+) -> Result<(), WriteEventError> {
+    reporter.write_event(event)
+}
+
+/// Ends a reporter's report, likewise.
+pub fn finish<W: WriteStr, S: WriteStr>(
+    reporter: &mut DisplayReporter<'_, W, S>,
+) -> Result<(), WriteEventError> {
+    reporter.finish()
 }

@@ -2,6 +2,7 @@
 //! later call writes.
 
 use super::{ALL_OUTPUT, Names, RECORDS, REPORT, are_first, begin_next, line_builder};
+use crate::testing::{finish, write_event};
 use console_reporter::imp::{ReportCall, RunFault, WriteEventError, run_report_with_store};
 use plain_text::write_str::TextBuffer;
 use std::alloc::Global;
@@ -176,11 +177,11 @@ fn write_all_over<'a>(
         let ReportCall::Event(event) = call else {
             continue;
         };
-        let answer = reporter.write_event(event);
+        let answer = write_event(&mut reporter, event);
         is_silent = is_silent && (!has_failed || answer == Err(WriteEventError::Failed));
         has_failed = has_failed || answer.is_err();
     }
-    is_silent = is_silent && (!has_failed || reporter.finish() == Err(WriteEventError::Failed));
+    is_silent = is_silent && (!has_failed || finish(&mut reporter) == Err(WriteEventError::Failed));
     drop(reporter);
     Ok((taken_by(report, records), is_silent))
 }
