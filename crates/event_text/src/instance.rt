@@ -41,6 +41,7 @@ impl Settings {
 }
 
 /// Writes a test as its lines name it.
+#[inline(always)]
 pub fn write_instance<W: WriteStr>(
     w: &mut W,
     styles: &Styles,

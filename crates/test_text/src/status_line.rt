@@ -107,7 +107,7 @@ impl<'b> StatusLine<'b> {
 }
 
 /// Writes the line of a finished test.
-#[tactic(auto, unfolding(crate::specs::StatusLines::status_line))]
+#[inline(always)]
 pub fn write_status_line<W: WriteStr>(
     w: &mut W,
     styles: &Styles,
@@ -117,9 +117,23 @@ pub fn write_status_line<W: WriteStr>(
 ) -> Result<(), WriteFault>
     ensures { Puts W.meaning w.old (status_line styles.now kind test.entry (shown_summary line.entry)) result w.new }
 {
-    write_status_prefix(w, styles, kind, &line)?;
+    write_line(w, styles, kind, &test, &line)
+}
+
+// The same, of what it lends.
+#[tactic(auto, unfolding(crate::specs::StatusLines::status_line))]
+fn write_line<W: WriteStr>(
+    w: &mut W,
+    styles: &Styles,
+    kind: StatusLineKind,
+    test: &CountedInstance<'_>,
+    line: &StatusLine<'_>,
+) -> Result<(), WriteFault>
+    ensures { Puts W.meaning w.old (status_line styles.now kind test.now (shown_summary line.now)) result w.new }
+{
+    write_status_prefix(w, styles, kind, line)?;
     DisplayBracketedDuration(line.time_taken).write_to(w)?;
-    write_instance(w, styles, test)?;
+    write_instance(w, styles, *test)?;
     write_plain(w, "\n")?;
     write_abort_line(w, styles, line.result)?;
     write_flaky_failure_line(w, styles, kind, line.case)
