@@ -1,8 +1,8 @@
 pub mod Calls
 pub mod CalmRuns
-pub mod EntryTints
+pub mod EntryColourPairs
 pub mod Exactness
-pub mod Exchanges
+pub mod Independence
 pub mod Inserts
 pub mod Isolation
 pub mod KeptTests
@@ -14,10 +14,10 @@ pub mod Pasts
 pub mod Places
 pub mod Records
 pub mod Refusals
-pub mod ReportTints
+pub mod ReportColourPairs
 pub mod Rows
 pub mod Runs
 pub mod Same
 pub mod Stores
 pub mod Texts
-pub mod Whole
+pub mod WholeLines

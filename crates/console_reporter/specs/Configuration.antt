@@ -4,7 +4,7 @@ use Rattle.run_model.specs.Filters.{default_config_filter}
 use Rattle.run_model.specs.declared.config.NextestRunMode.TheVariants.{Test}
 use Rattle.run_model.specs.declared.level.FinalStatusLevel.TheVariants as final
 use Rattle.run_model.specs.declared.level.StatusLevel.TheVariants as status
-use Rattle.plain_text.specs.Styles.{styles_of}
+use Rattle.plain_text.specs.Style.{styles_of}
 use Rattle.unit_report.specs.Levels.{resolved_display}
 use Rattle.unit_report.specs.declared.config.ResolvedDisplay.{ResolvedDisplay}
 use Rattle.unit_report.specs.declared.config.ShowProgress.TheVariants.{Auto}

@@ -5,9 +5,9 @@ use Rattle.run_model.specs.Levels.{final_rank, reason_rank}
 use Rattle.run_model.specs.declared.event.TestEventKind.{TestEventKind}
 use Rattle.run_model.specs.declared.event.TestEventKind.TheVariants.{TestFinished, TestSkipped, RunBeginCancel, RunBeginKill}
 use Rattle.run_model.specs.declared.level.FinalStatusLevel.TheVariants as final
-use Rattle.test_text.specs.FinishedTests.{HasShownOutput, TestFinish, finish_of, test_finish}
-use Rattle.event_text.specs.Finishes.{is_final_wanted, row_at_end, row_listed}
-use Rattle.event_text.specs.Instances.{padded_instance}
+use Rattle.test_text.specs.TestFinished.{HasShownOutput, TestFinish, finish_of, test_finish}
+use Rattle.event_text.specs.Finish.{is_final_wanted, row_at_end, row_listed}
+use Rattle.event_text.specs.Instance.{padded_instance}
 use Rattle.event_text.specs.declared.instance.CountedInstance.{CountedInstance}
 use Rattle.event_text.specs.declared.settings.Settings.{Settings}
 use Rattle.console_reporter.specs.KeptTests.{kept_test}

@@ -16,12 +16,12 @@ use Rattle.run_model.specs.declared.stress.StressIndex.{StressIndex}
 use Rattle.plain_text.specs.Texts.{Text}
 use Rattle.report_text.specs.declared.helpers.instance.DisplayCounterIndex.{DisplayCounterIndex}
 use Rattle.report_text.specs.declared.helpers.instance.DisplayCounterIndex.TheVariants.{Counter, Padded}
-use Rattle.event_text.specs.AttemptOutputs.{attempt_output}
+use Rattle.event_text.specs.AttemptOutput.{attempt_output}
 use Rattle.console_reporter.specs.Effects.{effect_of, entry_of}
 use Rattle.console_reporter.specs.KeptTests.{borrowed_test}
 use Rattle.console_reporter.specs.Order.{key_cmp, ordered_by}
-use Rattle.test_text.specs.SkippedTests.{skip_line}
-use Rattle.test_text.specs.StatusLines.{status_line}
+use Rattle.test_text.specs.TestSkipped.{skip_line}
+use Rattle.test_text.specs.StatusLine.{status_line}
 use Rattle.run_model.specs.declared.call.ReportCall.{ReportCall}
 use Rattle.run_model.specs.declared.call.ReportCall.TheVariants.{Event, Header, Prefix}
 use Rattle.console_reporter.specs.declared.imp.final_output.FinalOutput.{FinalOutput}
@@ -68,14 +68,14 @@ counter_key (Some (Counter current total)) = 0 ∷ current ∷ total ∷ []
 counter_key (Some (Padded character width)) = 1 ∷ []
 
 -- the level of an entry
-abbrev pub final_level_in : FinalOutput → FinalStatusLevel
-final_level_in (Executed summary) = final_level_of summary
-final_level_in (ExecutedWithOutput summary output) = final_level_of summary
-final_level_in Skipped = final.Skip
+abbrev pub final_level_of_output : FinalOutput → FinalStatusLevel
+final_level_of_output (Executed summary) = final_level_of summary
+final_level_of_output (ExecutedWithOutput summary output) = final_level_of summary
+final_level_of_output Skipped = final.Skip
 
 -- how far it stands below all
 abbrev pub level_key : FinalOutputEntry → ℕ
-level_key e = 7 - final_rank (final_level_in e.output)
+level_key e = 7 - final_rank (final_level_of_output e.output)
 
 -- the key of an entry: the final level, the greatest first, then the iteration, then the counter where one is shown, then
 -- the bytes of the binary's id and of the test's name

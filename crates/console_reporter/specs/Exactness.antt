@@ -7,11 +7,11 @@ use Rattle.run_model.specs.declared.output.ChildExecutionOutputDescription.TheVa
 use Rattle.run_model.specs.declared.output.ChildOutputDescription.TheVariants.{Combined}
 use Rattle.run_model.specs.declared.output_event.LoadOutput.TheVariants.{Load}
 use Rattle.plain_text.specs.Texts.{Text}
-use Rattle.event_text.specs.AttemptOutputs.{Written}
+use Rattle.run_model.specs.Attempts.{Written}
 use Rattle.console_reporter.specs.Calm.{AreCalm, EndsRun}
 use Rattle.console_reporter.specs.Configuration.{Configuration}
 use Rattle.console_reporter.specs.Loads.{decision}
-use Rattle.console_reporter.specs.Report.{texts}
+use Rattle.console_reporter.specs.Report.{report_texts}
 use Rattle.console_reporter.specs.Stored.{records}
 use Rattle.run_model.specs.declared.call.ReportCall.{ReportCall}
 use Rattle.run_model.specs.declared.call.ReportCall.TheVariants.{Event}
@@ -36,7 +36,7 @@ writing t e = Event (record e { kind = with_output (combined t) e.kind })
 -- between these calls, the text of some position is another one where the event's output is "a" than where it is "b"
 abbrev pub IsSeen : Configuration → List ReportCall → TestEvent → List ReportCall → Type 0
 IsSeen config before event after =
-    texts config (reverse (before ++ writing (codes "a") event ∷ after)) ≢ texts config (reverse (before ++ writing (codes "b") event ∷ after))
+    report_texts config (reverse (before ++ writing (codes "a") event ∷ after)) ≢ report_texts config (reverse (before ++ writing (codes "b") event ∷ after))
 
 -- the same of the record of some position
 abbrev pub IsStoredThere : Configuration → List ReportCall → TestEvent → List ReportCall → Type 0

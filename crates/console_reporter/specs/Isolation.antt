@@ -2,7 +2,7 @@
 use Rattle.std.specs.Prelude.{◌≡◌, ℕ, List, reverse}
 use Rattle.console_reporter.specs.Accepted.{AreAcceptedBy, decider_of, first_refused, refusal_at_by}
 use Rattle.console_reporter.specs.Configuration.{Configuration}
-use Rattle.console_reporter.specs.Report.{report, texts}
+use Rattle.console_reporter.specs.Report.{report, report_texts}
 use Rattle.console_reporter.specs.Stored.{records, stored}
 use Rattle.run_model.specs.declared.call.ReportCall.{ReportCall}
 use Rattle.console_reporter.specs.declared.imp.decider.OutputLoadDecider.{OutputLoadDecider}
@@ -12,7 +12,7 @@ use Rattle.console_reporter.specs.declared.imp.decider.OutputLoadDecider.{Output
 -- refused is the same one; and each call is refused for the same reason.
 abbrev pub IsIsolated : OutputLoadDecider → List ReportCall → List ReportCall → Type 0
 IsIsolated decider calls left =
-    ((config : Configuration) → decider_of config ≡ decider → texts config (reverse left) ≡ texts config (reverse calls))
+    ((config : Configuration) → decider_of config ≡ decider → report_texts config (reverse left) ≡ report_texts config (reverse calls))
     × ((config : Configuration) → decider_of config ≡ decider → report config (reverse left) ≡ report config (reverse calls))
     × ((config : Configuration) → decider_of config ≡ decider → records config.store left ≡ records config.store calls)
     × ((config : Configuration) → decider_of config ≡ decider → stored config.store (reverse left) ≡ stored config.store (reverse calls))

@@ -21,9 +21,9 @@ use Rattle.run_model.specs.declared.status.ExecutionResultDescription.{Execution
 use Rattle.run_model.specs.declared.status.StatusCase.{StatusCase}
 use Rattle.run_model.specs.declared.status.StatusSummary.{StatusSummary}
 use Rattle.unit_report.specs.Overrides.{display_for}
-use Rattle.event_text.specs.AttemptOutputs.{Written}
-use Rattle.event_text.specs.Finishes.{is_ever_shown}
-use Rattle.store_text.specs.StoredOutputs.{is_switched_on}
+use Rattle.run_model.specs.Attempts.{Written}
+use Rattle.event_text.specs.Finish.{is_ever_shown}
+use Rattle.store_text.specs.StoredOutput.{is_switched_on}
 use Rattle.store_text.specs.declared.config.StoreConfig.{StoreConfig}
 use Rattle.console_reporter.specs.declared.imp.decider.OutputLoadDecider.{OutputLoadDecider}
 
@@ -42,11 +42,11 @@ abbrev pub is_asked_of : Option StoreConfig → Bool → Bool
 is_asked_of None is_success = false
 is_asked_of (Some store) is_success = is_switched_on store is_success
 
-abbrev pub is_kept_by : Option StoreConfig → StatusCase → Bool
-is_kept_by store case = is_asked_of store (is_success_case case)
+abbrev pub is_stored_by : Option StoreConfig → StatusCase → Bool
+is_stored_by store case = is_asked_of store (is_success_case case)
 
 abbrev pub loads_finish : OutputLoadDecider → TestOutputDisplay → TestOutputDisplay → StatusSummary → Bool
-loads_finish d success failure x = is_ever_shown (display_for d.overrides success failure x) || is_kept_by d.store x.case
+loads_finish d success failure x = is_ever_shown (display_for d.overrides success failure x) || is_stored_by d.store x.case
 
 -- of a decided event, wherever its output is held
 abbrev pub loads : {S O : Type 0} → OutputLoadDecider → OutputEventKind S O → Bool

@@ -10,7 +10,7 @@ use Rattle.plain_text.specs.Escapes.{HasNoEscape}
 use Rattle.report_text.specs.PlainTexts.{IsPlainInstance, IsPlainResult}
 use Rattle.plain_text.specs.Texts.{Text}
 use Rattle.unit_report.specs.PlainOutputs.{IsPlainWritten}
-use Rattle.event_text.specs.Scripts.{IsPlainScript}
+use Rattle.event_text.specs.Script.{IsPlainScript}
 use Rattle.run_text.specs.PlainRuns.{IsPlainHeader, IsPlainNotSeen, IsPlainPrefix, IsPlainScriptStatus}
 use Rattle.info_text.specs.PlainResponses.{IsPlainResponse}
 use Rattle.console_reporter.specs.Configuration.{Configuration}

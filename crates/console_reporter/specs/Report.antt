@@ -10,23 +10,23 @@ use Rattle.run_model.specs.declared.stats.RunFinishedStats.{RunFinishedStats}
 use Rattle.run_model.specs.declared.stress.StressIndex.{StressIndex}
 use Rattle.plain_text.specs.Texts.{Text}
 use Rattle.unit_report.specs.Warnings.{final_warnings}
-use Rattle.test_text.specs.FinishedTests.{test_finish, test_finished_text}
-use Rattle.test_text.specs.RetriedTests.{attempt_failed_text}
-use Rattle.test_text.specs.SkippedTests.{test_skipped_text}
-use Rattle.test_text.specs.SlowTests.{test_slow_text}
-use Rattle.test_text.specs.TestStarts.{test_retry_started_text, test_started_text}
-use Rattle.run_text.specs.Cancels.{begin_cancel_text, begin_kill_text}
-use Rattle.run_text.specs.Headers.{replay_header_text}
-use Rattle.run_text.specs.Inputs.{input_enter_text}
-use Rattle.run_text.specs.NotSeens.{not_seen_text}
-use Rattle.run_text.specs.Pauses.{run_continued_text, run_paused_text}
-use Rattle.run_text.specs.SetupScripts.{setup_script_finished_text, setup_script_slow_text, setup_script_started_text}
-use Rattle.run_text.specs.Starts.{run_started_text}
-use Rattle.run_text.specs.StressRuns.{stress_sub_run_finished_text, stress_sub_run_started_text}
-use Rattle.run_text.specs.Summaries.{run_finished_text}
-use Rattle.info_text.specs.Responses.{info_response_text}
-use Rattle.info_text.specs.Starts.{info_finished_text, info_started_text}
-use Rattle.event_text.specs.Scripts.{Script}
+use Rattle.test_text.specs.TestFinished.{test_finish, test_finished_text}
+use Rattle.test_text.specs.TestRetry.{attempt_failed_text}
+use Rattle.test_text.specs.TestSkipped.{test_skipped_text}
+use Rattle.test_text.specs.TestSlow.{test_slow_text}
+use Rattle.test_text.specs.TestStarted.{test_retry_started_text, test_started_text}
+use Rattle.run_text.specs.Cancel.{begin_cancel_text, begin_kill_text}
+use Rattle.run_text.specs.Header.{replay_header_text}
+use Rattle.run_text.specs.Input.{input_enter_text}
+use Rattle.run_text.specs.NotSeen.{not_seen_text}
+use Rattle.run_text.specs.Pause.{run_continued_text, run_paused_text}
+use Rattle.run_text.specs.SetupScript.{setup_script_finished_text, setup_script_slow_text, setup_script_started_text}
+use Rattle.run_text.specs.Start.{run_started_text}
+use Rattle.run_text.specs.Stress.{stress_sub_run_finished_text, stress_sub_run_started_text}
+use Rattle.run_text.specs.Summary.{run_finished_text}
+use Rattle.info_text.specs.Response.{info_response_text}
+use Rattle.info_text.specs.Start.{info_finished_text, info_started_text}
+use Rattle.event_text.specs.Script.{Script}
 use Rattle.event_text.specs.declared.settings.Settings.{Settings}
 use Rattle.console_reporter.specs.Configuration.{Configuration, settings_of}
 use Rattle.console_reporter.specs.Effects.{TestEnd}
@@ -105,9 +105,9 @@ text config past (Header h) = replay_header_text (settings_of config).styles h
 text config past (Prefix p) = []
 
 -- the texts of the calls of a past, in the order of the calls
-unfoldable pub texts : Configuration → List ReportCall → List Text
-texts config [] = []
-texts config (call ∷ past) = texts config past ++ text config past call ∷ []
+unfoldable pub report_texts : Configuration → List ReportCall → List Text
+report_texts config [] = []
+report_texts config (call ∷ past) = report_texts config past ++ text config past call ∷ []
 
 -- the report of a past: the texts of its calls, joined
 abbrev pub report : Configuration → List ReportCall → Text

@@ -5,7 +5,7 @@ use Rattle.run_model.specs.declared.event.TestEventKind.{TestEventKind}
 use Rattle.run_model.specs.declared.event.TestEventKind.TheVariants.{TestFinished}
 use Rattle.run_model.specs.declared.stats.RunStats.{RunStats}
 use Rattle.console_reporter.specs.Configuration.{Configuration, settings_of}
-use Rattle.console_reporter.specs.Report.{texts}
+use Rattle.console_reporter.specs.Report.{report_texts}
 use Rattle.run_model.specs.declared.call.ReportCall.{ReportCall}
 use Rattle.run_model.specs.declared.call.ReportCall.TheVariants.{Event}
 
@@ -19,4 +19,4 @@ abbrev pub IsStatsIndependent : Configuration → List ReportCall → Type 0
 IsStatsIndependent config calls =
     (before after : List ReportCall) (e : TestEvent) (stats : RunStats) →
     calls ≡ before ++ Event e ∷ after → (settings_of config).counter_width ≡ None →
-    texts config (reverse (before ++ Event (record e { kind = with_stats stats e.kind }) ∷ after)) ≡ texts config (reverse calls)
+    report_texts config (reverse (before ++ Event (record e { kind = with_stats stats e.kind }) ∷ after)) ≡ report_texts config (reverse calls)

@@ -4,7 +4,7 @@ use Rattle.std.specs.Option.{option_map_or}
 use Rattle.run_model.specs.declared.event.TestEventKind.{TestEventKind}
 use Rattle.run_model.specs.declared.event.TestEventKind.TheVariants.{TestFinished}
 use Rattle.plain_text.specs.Texts.{Text}
-use Rattle.store_text.specs.Records.{record_text}
+use Rattle.store_text.specs.Record.{record_text}
 use Rattle.store_text.specs.declared.config.StoreConfig.{StoreConfig}
 use Rattle.run_model.specs.declared.call.ReportCall.{ReportCall}
 use Rattle.run_model.specs.declared.call.ReportCall.TheVariants.{Event, Header, Prefix}

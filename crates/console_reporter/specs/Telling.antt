@@ -6,7 +6,7 @@ use Rattle.console_reporter.specs.Configuration.{Configuration}
 use Rattle.console_reporter.specs.Outcomes.{Stops, StopsAfter, StopsRecord, StopsRecordAfter}
 use Rattle.console_reporter.specs.Report.{past_at, report, text, text_at}
 use Rattle.console_reporter.specs.Slots.{IsSameStore, store_meaning}
-use Rattle.console_reporter.specs.Standing.{MayGrowIn, StandsAfter}
+use Rattle.console_reporter.specs.HeldState.{MayGrowIn, StandsAfter}
 use Rattle.console_reporter.specs.Stored.{stored, stored_at, stored_text}
 use Rattle.run_model.specs.declared.call.ReportCall.{ReportCall}
 use Rattle.console_reporter.specs.declared.imp.faults.WriteEventError.{WriteEventError}

@@ -1,5 +1,5 @@
 pub mod Finishes
-pub mod LineTints
-pub mod OutputTints
-pub mod ResultTints
-pub mod StatsTints
+pub mod LineColourPairs
+pub mod OutputColourPairs
+pub mod ResultColourPairs
+pub mod StatsColourPairs

@@ -1,10 +1,10 @@
 //! The line that follows the line of a test whose process was ended from outside, on Windows.
 
 ghost use Rattle.std.specs.Prelude.{◌≡◌};
-ghost use Rattle.report_text.specs.Failures.{nt_status_text};
-ghost use Rattle.plain_text.specs.Styles.{styled};
+ghost use Rattle.report_text.specs.Failure.{nt_status_text};
+ghost use Rattle.plain_text.specs.Style.{styled};
 ghost use Rattle.plain_text.specs.Writer.{Puts};
-ghost use Rattle.event_text.specs.AbortLines.{indented_message, nt_message, nt_line, job_object_line, line_of_abort, line_of_failure, abort_line};
+ghost use Rattle.event_text.specs.AbortLine.{indented_message, nt_message, nt_line, job_object_line, line_of_abort, line_of_failure, abort_line};
 
 use plain_text::indenter::indented;
 use plain_text::style::{Style, Styles, write_plain};
@@ -14,7 +14,7 @@ use run_model::abort::{AbortDescription, DescriptionText};
 use run_model::status::{ExecutionResultDescription, FailureDescription};
 
 /// Writes what is said of an abort after the line of its test. A signal is told by the line itself.
-#[tactic(auto, unfolding(crate::specs::AbortLines::abort_line))]
+#[tactic(auto, unfolding(crate::specs::AbortLine::abort_line))]
 #[inline(always)]
 pub fn write_abort_line<W: WriteStr>(
     w: &mut W,
@@ -66,7 +66,7 @@ fn write_line_of_abort<W: WriteStr>(
 }
 
 // Writes a status of Windows, and what the system says of it.
-#[tactic(auto, unfolding(crate::specs::AbortLines::nt_line))]
+#[tactic(auto, unfolding(crate::specs::AbortLine::nt_line))]
 fn write_nt_line<W: WriteStr>(
     w: &mut W,
     styles: &Styles,
@@ -84,7 +84,7 @@ fn write_nt_line<W: WriteStr>(
 }
 
 // Writes a status of Windows in a style.
-#[tactic(auto, unfolding(plain_text::specs::Styles::styled))]
+#[tactic(auto, unfolding(plain_text::specs::Style::styled))]
 fn write_styled_nt_status<W: WriteStr>(w: &mut W, style: Style, code: i32) -> Result<(), WriteFault>
     ensures { Puts W.meaning w.old (styled style (nt_status_text code)) result w.new }
 {
@@ -94,7 +94,7 @@ fn write_styled_nt_status<W: WriteStr>(w: &mut W, style: Style, code: i32) -> Re
 }
 
 // Writes what the system says of a status, if it is known.
-#[tactic(auto, unfolding(crate::specs::AbortLines::nt_message))]
+#[tactic(auto, unfolding(crate::specs::AbortLine::nt_message))]
 fn write_nt_message<W: WriteStr>(
     w: &mut W,
     message: &Option<DescriptionText>,
@@ -111,7 +111,7 @@ fn write_nt_message<W: WriteStr>(
 }
 
 // Writes a message so that its later lines begin as the first does.
-#[tactic(auto, unfolding(crate::specs::AbortLines::indented_message))]
+#[tactic(auto, unfolding(crate::specs::AbortLine::indented_message))]
 fn write_indented_message<W: WriteStr>(w: &mut W, message: &str) -> Result<(), WriteFault>
     ensures { Puts W.meaning w.old (indented_message message.now) result w.new }
 {
@@ -123,7 +123,7 @@ fn write_indented_message<W: WriteStr>(w: &mut W, message: &str) -> Result<(), W
 }
 
 // Writes that the job of the process was ended.
-#[tactic(auto, unfolding(crate::specs::AbortLines::job_object_line))]
+#[tactic(auto, unfolding(crate::specs::AbortLine::job_object_line))]
 fn write_job_object_line<W: WriteStr>(w: &mut W, styles: &Styles) -> Result<(), WriteFault>
     ensures { Puts W.meaning w.old (job_object_line styles.now) result w.new }
 {

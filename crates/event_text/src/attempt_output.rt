@@ -3,8 +3,8 @@
 ghost use Rattle.std.specs.Prelude.{◌≡◌, true};
 ghost use Rattle.run_model.specs.Outputs.{has_loaded_output};
 ghost use Rattle.plain_text.specs.Writer.{Puts};
-ghost use Rattle.unit_report.specs.UnitOutputs.{layout_of};
-ghost use Rattle.event_text.specs.AttemptOutputs.{attempt_output, exec_fail_header, finished_layout, has_info_after_failure, has_info_line, header_style, info_line, info_line_start, layout_in, output_margin, result_style, script_output, shown_info_line, stream_header, unit_output};
+ghost use Rattle.unit_report.specs.UnitOutput.{layout_of};
+ghost use Rattle.event_text.specs.AttemptOutput.{attempt_output, exec_fail_header, finished_layout, has_info_after_failure, has_info_line, header_style, info_line, info_line_start, layout_in, output_margin, result_style, script_output, shown_info_line, stream_header, unit_output};
 
 use crate::info_result::write_info_result;
 use crate::settings::Settings;
@@ -51,7 +51,7 @@ pub fn write_setup_script_execute_status<W: WriteStr>(
 }
 
 // Writes the same of either.
-#[tactic(auto, unfolding(crate::specs::AttemptOutputs::unit_output))]
+#[tactic(auto, unfolding(crate::specs::AttemptOutput::unit_output))]
 fn write_unit_execute_status<W: WriteStr>(
     w: &mut W,
     settings: &Settings,
@@ -71,7 +71,7 @@ fn write_unit_execute_status<W: WriteStr>(
 }
 
 // Writes how the unit ended, unless that is plain.
-#[tactic(auto, unfolding(crate::specs::AttemptOutputs::info_line))]
+#[tactic(auto, unfolding(crate::specs::AttemptOutput::info_line))]
 fn write_info_line<W: WriteStr>(
     w: &mut W,
     styles: &Styles,
@@ -88,7 +88,7 @@ fn write_info_line<W: WriteStr>(
 }
 
 // Writes how the unit ended, aligned with the output, and an empty line.
-#[tactic(auto, unfolding(crate::specs::AttemptOutputs::shown_info_line))]
+#[tactic(auto, unfolding(crate::specs::AttemptOutput::shown_info_line))]
 fn write_shown_info_line<W: WriteStr>(
     w: &mut W,
     styles: &Styles,
@@ -104,7 +104,7 @@ fn write_shown_info_line<W: WriteStr>(
 }
 
 // How that line begins. A benchmark is called a test there.
-#[tactic(auto, unfolding(crate::specs::AttemptOutputs::info_line_start))]
+#[tactic(auto, unfolding(crate::specs::AttemptOutput::info_line_start))]
 fn info_line_start(kind: UnitKind) -> &'static str
     ensures { result.now ≡ info_line_start kind }
 {

@@ -1,14 +1,14 @@
 //! The bar that parts a report.
 
 ghost use Rattle.plain_text.specs.Writer.{Puts};
-ghost use Rattle.event_text.specs.Bars.{bar_line};
+ghost use Rattle.event_text.specs.Bar.{bar_line};
 
 use plain_text::style::write_plain;
 use plain_text::write_str::{WriteFault, WriteStr};
 use report_text::helpers::ThemeCharacters;
 
 /// Writes the line of a bar of twelve characters.
-#[tactic(auto, unfolding(crate::specs::Bars::bar_line))]
+#[tactic(auto, unfolding(crate::specs::Bar::bar_line))]
 pub fn write_bar_line<W: WriteStr>(
     w: &mut W,
     theme_characters: ThemeCharacters,

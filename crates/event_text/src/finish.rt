@@ -3,7 +3,7 @@
 ghost use Rattle.std.specs.Prelude.{◌≡◌, true};
 ghost use Rattle.run_model.specs.Levels.{reason_rank};
 ghost use Rattle.run_model.specs.Statuses.{described_summary};
-ghost use Rattle.event_text.specs.Finishes.{IsOnlyHidden, IsSameBelowImmediate, display_of, finish_row, is_ever_shown, is_shown_at_end, is_shown_at_once, is_final_wanted, is_line_shown, is_terminated, is_terminated_abort, is_terminated_failure, row_at_end, row_at_once, row_listed};
+ghost use Rattle.event_text.specs.Finish.{IsOnlyHidden, IsSameBelowImmediate, display_of, finish_row, is_ever_shown, is_shown_at_end, is_shown_at_once, is_final_wanted, is_line_shown, is_terminated, is_terminated_abort, is_terminated_failure, row_at_end, row_at_once, row_listed};
 
 use crate::settings::Settings;
 use run_model::abort::AbortDescription;
@@ -25,7 +25,7 @@ pub enum FinishRow {
 
 impl FinishRow {
     /// The row of a test that ended so, where the run was cancelled for this reason before.
-    #[tactic(auto, unfolding(crate::specs::Finishes::finish_row))]
+    #[tactic(auto, unfolding(crate::specs::Finish::finish_row))]
     pub fn of_test(reason: Option<CancelReason>, outcome: &ExecutionResultDescription) -> FinishRow
         ensures { result ≡ finish_row (reason_rank reason) outcome.now }
     {
@@ -50,7 +50,7 @@ impl FinishRow {
     }
 
     /// Whether output with this display is shown at once.
-    #[tactic(auto, unfolding(crate::specs::Finishes::row_at_once))]
+    #[tactic(auto, unfolding(crate::specs::Finish::row_at_once))]
     pub fn is_shown_at_once(self, display: TestOutputDisplay) -> bool
         ensures row { result ≡ row_at_once self display }
         ensures shown { result ≡ true → is_ever_shown display ≡ true }
@@ -63,7 +63,7 @@ impl FinishRow {
     }
 
     /// Whether output with this display is shown at the end of the run.
-    #[tactic(auto, unfolding(crate::specs::Finishes::row_at_end))]
+    #[tactic(auto, unfolding(crate::specs::Finish::row_at_end))]
     pub fn is_shown_at_end(self, display: TestOutputDisplay) -> bool
         ensures row { result ≡ row_at_end self display }
         ensures shown { result ≡ true → is_ever_shown display ≡ true }
@@ -76,7 +76,7 @@ impl FinishRow {
     }
 
     /// Whether the summary lists a test that it is to list.
-    #[tactic(auto, unfolding(crate::specs::Finishes::row_listed))]
+    #[tactic(auto, unfolding(crate::specs::Finish::row_listed))]
     pub fn is_listed(self, is_wanted: bool) -> bool
         ensures { result ≡ row_listed self is_wanted }
     {
@@ -132,7 +132,7 @@ fn is_terminated_abort(abort: &AbortDescription) -> bool
 
 impl Settings {
     /// When the output of a finished test is shown, which asks for these settings in case of a success and of a failure.
-    #[tactic(auto, unfolding(crate::specs::Finishes::display_of))]
+    #[tactic(auto, unfolding(crate::specs::Finish::display_of))]
     pub fn display_of(
         &self,
         success_output: TestOutputDisplay,
@@ -147,7 +147,7 @@ impl Settings {
     }
 
     /// Whether the line of a finished test is shown at once.
-    #[tactic(auto, unfolding(crate::specs::Finishes::is_line_shown))]
+    #[tactic(auto, unfolding(crate::specs::Finish::is_line_shown))]
     pub fn is_line_shown(&self, describe: &ExecutionDescription<'_, LiveSpec>) -> bool
         ensures { result ≡ is_line_shown self.now (described_summary describe.now) }
     {
@@ -157,7 +157,7 @@ impl Settings {
     }
 
     /// Whether the summary is to list a finished test: for its output, or for its level.
-    #[tactic(auto, unfolding(crate::specs::Finishes::is_final_wanted))]
+    #[tactic(auto, unfolding(crate::specs::Finish::is_final_wanted))]
     pub fn is_final_wanted(
         &self,
         display: TestOutputDisplay,

@@ -1,7 +1,7 @@
 //! What an attempt came to, in words.
 
 ghost use Rattle.plain_text.specs.Writer.{Puts};
-ghost use Rattle.event_text.specs.InfoResults.{leaked_note, exit_code_info, signal_name, signal_info, aborted_info, abort_info, failure_info, leak_info, timeout_info, passed_info, exec_fail_info, info_text};
+ghost use Rattle.event_text.specs.InfoResult.{leaked_note, exit_code_info, signal_name, signal_info, aborted_info, abort_info, failure_info, leak_info, timeout_info, passed_info, exec_fail_info, info_text};
 
 use itoa::Buffer;
 use plain_text::style::{Styles, write_plain};
@@ -31,7 +31,7 @@ pub fn write_info_result<W: WriteStr>(
     }
 }
 
-#[tactic(auto, unfolding(crate::specs::InfoResults::passed_info))]
+#[tactic(auto, unfolding(crate::specs::InfoResult::passed_info))]
 fn write_passed_info<W: WriteStr>(
     w: &mut W,
     styles: &Styles,
@@ -43,7 +43,7 @@ fn write_passed_info<W: WriteStr>(
     style.write(w, "passed")
 }
 
-#[tactic(auto, unfolding(crate::specs::InfoResults::leak_info))]
+#[tactic(auto, unfolding(crate::specs::InfoResult::leak_info))]
 fn write_leak_info<W: WriteStr>(
     w: &mut W,
     styles: &Styles,
@@ -74,7 +74,7 @@ fn write_failure_info<W: WriteStr>(
     }
 }
 
-#[tactic(auto, unfolding(crate::specs::InfoResults::exit_code_info))]
+#[tactic(auto, unfolding(crate::specs::InfoResult::exit_code_info))]
 fn write_exit_code_info<W: WriteStr>(
     w: &mut W,
     styles: &Styles,
@@ -108,7 +108,7 @@ fn write_abort_info<W: WriteStr>(
     }
 }
 
-#[tactic(auto, unfolding(crate::specs::InfoResults::signal_info))]
+#[tactic(auto, unfolding(crate::specs::InfoResult::signal_info))]
 fn write_signal_info<W: WriteStr>(
     w: &mut W,
     styles: &Styles,
@@ -126,7 +126,7 @@ fn write_signal_info<W: WriteStr>(
     write_leaked_note(w, leaked)
 }
 
-#[tactic(auto, unfolding(crate::specs::InfoResults::signal_name))]
+#[tactic(auto, unfolding(crate::specs::InfoResult::signal_name))]
 fn write_signal_name<W: WriteStr>(
     w: &mut W,
     name: &Option<DescriptionText>,
@@ -142,7 +142,7 @@ fn write_signal_name<W: WriteStr>(
     }
 }
 
-#[tactic(auto, unfolding(crate::specs::InfoResults::aborted_info))]
+#[tactic(auto, unfolding(crate::specs::InfoResult::aborted_info))]
 fn write_aborted_info<W: WriteStr>(
     w: &mut W,
     styles: &Styles,
@@ -155,7 +155,7 @@ fn write_aborted_info<W: WriteStr>(
 }
 
 // Writes that handles were left open, where they were.
-#[tactic(auto, unfolding(crate::specs::InfoResults::leaked_note))]
+#[tactic(auto, unfolding(crate::specs::InfoResult::leaked_note))]
 fn write_leaked_note<W: WriteStr>(w: &mut W, leaked: bool) -> Result<(), WriteFault>
     ensures { Puts W.meaning w.old (leaked_note leaked) result w.new }
 {
@@ -166,7 +166,7 @@ fn write_leaked_note<W: WriteStr>(w: &mut W, leaked: bool) -> Result<(), WriteFa
     }
 }
 
-#[tactic(auto, unfolding(crate::specs::InfoResults::timeout_info))]
+#[tactic(auto, unfolding(crate::specs::InfoResult::timeout_info))]
 fn write_timeout_info<W: WriteStr>(
     w: &mut W,
     styles: &Styles,
@@ -180,7 +180,7 @@ fn write_timeout_info<W: WriteStr>(
     }
 }
 
-#[tactic(auto, unfolding(crate::specs::InfoResults::exec_fail_info))]
+#[tactic(auto, unfolding(crate::specs::InfoResult::exec_fail_info))]
 fn write_exec_fail_info<W: WriteStr>(w: &mut W, styles: &Styles) -> Result<(), WriteFault>
     ensures { Puts W.meaning w.old (exec_fail_info styles.now) result w.new }
 {

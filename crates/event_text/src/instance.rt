@@ -1,9 +1,9 @@
 //! Which test a line speaks of.
 
 ghost use Rattle.std.specs.Prelude.{◌≡◌};
-ghost use Rattle.report_text.specs.Instances.{instance_text};
+ghost use Rattle.report_text.specs.Instance.{instance_text};
 ghost use Rattle.plain_text.specs.Writer.{Puts};
-ghost use Rattle.event_text.specs.Instances.{instance_end, padded_instance, untimed_end};
+ghost use Rattle.event_text.specs.Instance.{instance_end, padded_instance, untimed_end};
 
 use crate::settings::Settings;
 use plain_text::style::{Styles, write_plain};
@@ -59,7 +59,7 @@ pub fn write_instance<W: WriteStr>(
 }
 
 /// Writes the end of a test's line: the test and a line feed.
-#[tactic(auto, unfolding(crate::specs::Instances::instance_end))]
+#[tactic(auto, unfolding(crate::specs::Instance::instance_end))]
 pub fn write_instance_end<W: WriteStr>(
     w: &mut W,
     styles: &Styles,
@@ -72,7 +72,7 @@ pub fn write_instance_end<W: WriteStr>(
 }
 
 /// Writes the end of a test's line that has no duration: the place of that is left empty.
-#[tactic(auto, unfolding(crate::specs::Instances::untimed_end))]
+#[tactic(auto, unfolding(crate::specs::Instance::untimed_end))]
 pub fn write_untimed_end<W: WriteStr>(
     w: &mut W,
     styles: &Styles,

@@ -2,7 +2,7 @@
 
 ghost use Rattle.std.specs.Prelude.{◌≡◌};
 ghost use Rattle.plain_text.specs.Writer.{Puts};
-ghost use Rattle.event_text.specs.Scripts.{script_of, shown_script};
+ghost use Rattle.event_text.specs.Script.{script_of, shown_script};
 
 use plain_text::style::Styles;
 use plain_text::write_str::{WriteFault, WriteStr};

@@ -1,7 +1,7 @@
 //! What a reporter goes by, from its configuration.
 
 ghost use Rattle.std.specs.Prelude.{◌≡◌};
-ghost use Rattle.plain_text.specs.Styles.{styles_of};
+ghost use Rattle.plain_text.specs.Style.{styles_of};
 ghost use Rattle.event_text.specs.Settings.{counter_width_of, finished_counter, is_level_shown, overrides_by, padded_counter, shows_starts, started_counter, theme_of};
 
 use plain_text::style::Styles;

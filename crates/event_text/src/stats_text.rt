@@ -2,7 +2,7 @@
 
 ghost use Rattle.std.specs.Prelude.{◌≡◌};
 ghost use Rattle.plain_text.specs.Writer.{Puts};
-ghost use Rattle.event_text.specs.StatsTexts.{failure_style, progress_message, summary_text, counted_text, passed_note, passed_notes, notes_end, leaky_failed_note, due_to_being, failed_count, failed_counts, exec_failed_count, timed_out_count, other_failed_count};
+ghost use Rattle.event_text.specs.StatsText.{failure_style, progress_message, summary_text, counted_text, passed_note, passed_notes, notes_end, leaky_failed_note, due_to_being, failed_count, failed_counts, exec_failed_count, timed_out_count, other_failed_count};
 
 use plain_text::style::{Style, Styles, write_plain};
 use plain_text::write_str::{WriteFault, WriteStr};
@@ -20,7 +20,7 @@ pub fn failure_style(styles: &Styles, stats: &RunStats) -> Style
 }
 
 /// Writes all counts: passed and skipped always, the others where they are not 0.
-#[tactic(auto, unfolding(crate::specs::StatsTexts::summary_text))]
+#[tactic(auto, unfolding(crate::specs::StatsText::summary_text))]
 pub fn write_summary_text<W: WriteStr>(
     w: &mut W,
     styles: &Styles,
@@ -36,7 +36,7 @@ pub fn write_summary_text<W: WriteStr>(
 }
 
 /// Writes how many units run, and all counts.
-#[tactic(auto, unfolding(crate::specs::StatsTexts::progress_message))]
+#[tactic(auto, unfolding(crate::specs::StatsText::progress_message))]
 pub fn write_progress_message<W: WriteStr>(
     w: &mut W,
     styles: &Styles,
@@ -51,7 +51,7 @@ pub fn write_progress_message<W: WriteStr>(
 }
 
 // Writes how many tests did not succeed.
-#[tactic(auto, unfolding(crate::specs::StatsTexts::failed_counts))]
+#[tactic(auto, unfolding(crate::specs::StatsText::failed_counts))]
 fn write_failed_counts<W: WriteStr>(
     w: &mut W,
     styles: &Styles,
@@ -65,7 +65,7 @@ fn write_failed_counts<W: WriteStr>(
 }
 
 // Writes how many tests could not be started.
-#[tactic(auto, unfolding(crate::specs::StatsTexts::exec_failed_count))]
+#[tactic(auto, unfolding(crate::specs::StatsText::exec_failed_count))]
 fn write_exec_failed_count<W: WriteStr>(
     w: &mut W,
     styles: &Styles,
@@ -77,7 +77,7 @@ fn write_exec_failed_count<W: WriteStr>(
 }
 
 // Writes how many tests timed out.
-#[tactic(auto, unfolding(crate::specs::StatsTexts::timed_out_count))]
+#[tactic(auto, unfolding(crate::specs::StatsText::timed_out_count))]
 fn write_timed_out_count<W: WriteStr>(
     w: &mut W,
     styles: &Styles,
@@ -89,7 +89,7 @@ fn write_timed_out_count<W: WriteStr>(
 }
 
 /// Writes how many there are, and of what.
-#[tactic(auto, unfolding(crate::specs::StatsTexts::counted_text))]
+#[tactic(auto, unfolding(crate::specs::StatsText::counted_text))]
 pub fn write_counted<W: WriteStr>(
     w: &mut W,
     styles: &Styles,
@@ -105,7 +105,7 @@ pub fn write_counted<W: WriteStr>(
 }
 
 // Writes which of the tests that passed were slow, flaky or leaked handles.
-#[tactic(auto, unfolding(crate::specs::StatsTexts::passed_notes))]
+#[tactic(auto, unfolding(crate::specs::StatsText::passed_notes))]
 fn write_passed_notes<W: WriteStr>(
     w: &mut W,
     styles: &Styles,
@@ -123,7 +123,7 @@ fn write_passed_notes<W: WriteStr>(
 }
 
 // Writes how many of the tests that passed are of a kind, where there is one.
-#[tactic(auto, unfolding(crate::specs::StatsTexts::passed_note))]
+#[tactic(auto, unfolding(crate::specs::StatsText::passed_note))]
 fn write_passed_note<W: WriteStr>(
     w: &mut W,
     styles: &Styles,
@@ -141,7 +141,7 @@ fn write_passed_note<W: WriteStr>(
 }
 
 // Closes the parentheses, where there are some.
-#[tactic(auto, unfolding(crate::specs::StatsTexts::notes_end))]
+#[tactic(auto, unfolding(crate::specs::StatsText::notes_end))]
 fn write_notes_end<W: WriteStr>(w: &mut W, has_none: bool) -> Result<(), WriteFault>
     ensures { Puts W.meaning w.old (notes_end has_none) result w.new }
 {
@@ -152,7 +152,7 @@ fn write_notes_end<W: WriteStr>(w: &mut W, has_none: bool) -> Result<(), WriteFa
 }
 
 // Writes how many tests failed, where there is one.
-#[tactic(auto, unfolding(crate::specs::StatsTexts::failed_count))]
+#[tactic(auto, unfolding(crate::specs::StatsText::failed_count))]
 fn write_failed_count<W: WriteStr>(
     w: &mut W,
     styles: &Styles,
@@ -169,7 +169,7 @@ fn write_failed_count<W: WriteStr>(
 }
 
 // Writes how many of the failed tests failed since they leaked handles, where there is one.
-#[tactic(auto, unfolding(crate::specs::StatsTexts::leaky_failed_note))]
+#[tactic(auto, unfolding(crate::specs::StatsText::leaky_failed_note))]
 fn write_leaky_failed_note<W: WriteStr>(
     w: &mut W,
     styles: &Styles,
@@ -188,7 +188,7 @@ fn write_leaky_failed_note<W: WriteStr>(
 }
 
 // Writes the words between that number and the reason.
-#[tactic(auto, unfolding(crate::specs::StatsTexts::due_to_being))]
+#[tactic(auto, unfolding(crate::specs::StatsText::due_to_being))]
 fn write_due_to_being<W: WriteStr>(w: &mut W) -> Result<(), WriteFault>
     ensures { Puts W.meaning w.old due_to_being result w.new }
 {
@@ -196,7 +196,7 @@ fn write_due_to_being<W: WriteStr>(w: &mut W) -> Result<(), WriteFault>
 }
 
 // Writes how many tests did not succeed in another way, where there is one.
-#[tactic(auto, unfolding(crate::specs::StatsTexts::other_failed_count))]
+#[tactic(auto, unfolding(crate::specs::StatsText::other_failed_count))]
 fn write_other_failed_count<W: WriteStr>(
     w: &mut W,
     styles: &Styles,

@@ -1,2 +1,2 @@
-pub mod ResponseTints
-pub mod StateTints
+pub mod ResponseColourPairs
+pub mod StateColourPairs

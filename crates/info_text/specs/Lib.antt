@@ -1,5 +1,5 @@
 pub mod PlainResponses
-pub mod Responses
+pub mod Response
 pub mod Seconds
-pub mod Starts
-pub mod States
+pub mod Start
+pub mod State

@@ -7,9 +7,9 @@ use Rattle.run_model.specs.declared.info.UnitState.TheVariants.{Running, Exiting
 use Rattle.plain_text.specs.Escapes.{HasNoEscape}
 use Rattle.report_text.specs.PlainTexts.{HoldsIf, IsPlainInstance, IsPlainResult}
 use Rattle.unit_report.specs.PlainOutputs.{IsPlainWritten}
-use Rattle.event_text.specs.Scripts.{IsPlainScript}
-use Rattle.info_text.specs.Responses.{answering_script}
-use Rattle.info_text.specs.States.{signal_of}
+use Rattle.event_text.specs.Script.{IsPlainScript}
+use Rattle.info_text.specs.Response.{answering_script}
+use Rattle.info_text.specs.State.{signal_of}
 
 -- what a unit came to and the signal that it was sent hold no escape character
 abbrev pub IsPlainState : UnitState → Type 0

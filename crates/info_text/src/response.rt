@@ -3,9 +3,9 @@
 ghost use Rattle.std.specs.Prelude.{◌≡◌, ◌+◌, codes, false};
 ghost use Rattle.plain_text.specs.Indent.{indent};
 ghost use Rattle.plain_text.specs.Writer.{Puts};
-ghost use Rattle.unit_report.specs.UnitOutputs.{layout_of};
-ghost use Rattle.event_text.specs.Scripts.{script_of};
-ghost use Rattle.info_text.specs.Responses.{HasAnswerOutput, HasValidOutput, answer, answering_script, answering_test, info_layout, info_response_text, is_delay, number_padding, response_number, script_answer, script_unit, separator, test_answer, test_unit, told_attempt, unit_answer, valid_output};
+ghost use Rattle.unit_report.specs.UnitOutput.{layout_of};
+ghost use Rattle.event_text.specs.Script.{script_of};
+ghost use Rattle.info_text.specs.Response.{HasAnswerOutput, HasValidOutput, answer, answering_script, answering_test, info_layout, info_response_text, is_delay, number_padding, response_number, script_answer, script_unit, separator, test_answer, test_unit, told_attempt, unit_answer, valid_output};
 
 use crate::state::{InfoUnit, write_state};
 use event_text::instance::{CountedInstance, write_instance_end};
@@ -24,7 +24,7 @@ use unit_report::unit_output::{ChildOutputSpec, OutputHeader, OutputName};
 
 /// Writes the answer of a unit. `index` is its place among all, from 0. Output of the unit must not have been left
 /// unread.
-#[tactic(auto, unfolding(crate::specs::Responses::info_response_text))]
+#[tactic(auto, unfolding(crate::specs::Response::info_response_text))]
 pub fn write_info_response<W: WriteStr>(
     w: &mut W,
     settings: &Settings,
@@ -42,7 +42,7 @@ pub fn write_info_response<W: WriteStr>(
 }
 
 // Writes a bar before each answer but the first. It is shorter than those round all answers.
-#[tactic(auto, unfolding(crate::specs::Responses::separator))]
+#[tactic(auto, unfolding(crate::specs::Response::separator))]
 fn write_separator<W: WriteStr>(
     w: &mut W,
     theme_characters: ThemeCharacters,
@@ -58,7 +58,7 @@ fn write_separator<W: WriteStr>(
 }
 
 // Writes which of the answers it is. The number is counted from 1, and may be above the greatest of its type.
-#[tactic(auto, unfolding(crate::specs::Responses::response_number))]
+#[tactic(auto, unfolding(crate::specs::Response::response_number))]
 fn write_response_number<W: WriteStr>(
     w: &mut W,
     styles: &Styles,
@@ -118,7 +118,7 @@ fn write_answer<W: WriteStr>(
 }
 
 // Writes the answer of a setup script.
-#[tactic(auto, unfolding(crate::specs::Responses::script_answer))]
+#[tactic(auto, unfolding(crate::specs::Response::script_answer))]
 fn write_script_answer<W: WriteStr>(
     w: &mut W,
     settings: &Settings,
@@ -162,7 +162,7 @@ fn script_unit(response: &SetupScriptInfoResponse) -> InfoUnit
 }
 
 // Writes the answer of a test.
-#[tactic(auto, unfolding(crate::specs::Responses::test_answer))]
+#[tactic(auto, unfolding(crate::specs::Response::test_answer))]
 fn write_test_answer<W: WriteStr>(
     w: &mut W,
     settings: &Settings,
@@ -222,7 +222,7 @@ fn is_delay(state: &UnitState) -> bool
 }
 
 // Writes what a unit is doing and what it has written.
-#[tactic(auto, unfolding(crate::specs::Responses::unit_answer))]
+#[tactic(auto, unfolding(crate::specs::Response::unit_answer))]
 fn write_unit_answer<W: WriteStr>(
     w: &mut W,
     settings: &Settings,
@@ -238,7 +238,7 @@ fn write_unit_answer<W: WriteStr>(
 }
 
 // Writes the output, where it is that of the unit.
-#[tactic(auto, unfolding(crate::specs::Responses::valid_output))]
+#[tactic(auto, unfolding(crate::specs::Response::valid_output))]
 fn write_valid_output<W: WriteStr>(
     w: &mut W,
     settings: &Settings,

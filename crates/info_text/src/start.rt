@@ -1,7 +1,7 @@
 //! That all units are asked what they are doing, and that no further answers are waited for.
 
 ghost use Rattle.plain_text.specs.Writer.{Puts};
-ghost use Rattle.info_text.specs.Starts.{info_finished_text, info_started_text, missing_line, missing_note};
+ghost use Rattle.info_text.specs.Start.{info_finished_text, info_started_text, missing_line, missing_note};
 
 use crate::seconds::write_seconds;
 use event_text::bar::write_bar_line;
@@ -13,7 +13,7 @@ use run_model::stats::RunStats;
 use run_model::time::Nanos;
 
 /// Writes how many units are asked, which are those that run, with the counts of the run.
-#[tactic(auto, unfolding(crate::specs::Starts::info_started_text))]
+#[tactic(auto, unfolding(crate::specs::Start::info_started_text))]
 pub fn write_info_started<W: WriteStr>(
     w: &mut W,
     settings: &Settings,
@@ -32,7 +32,7 @@ pub fn write_info_started<W: WriteStr>(
 }
 
 /// Writes that no further answers are waited for, and how many are missing.
-#[tactic(auto, unfolding(crate::specs::Starts::info_finished_text))]
+#[tactic(auto, unfolding(crate::specs::Start::info_finished_text))]
 pub fn write_info_finished<W: WriteStr>(
     w: &mut W,
     settings: &Settings,
@@ -45,7 +45,7 @@ pub fn write_info_finished<W: WriteStr>(
 }
 
 // Writes how many answers are missing, where there are some.
-#[tactic(auto, unfolding(crate::specs::Starts::missing_note))]
+#[tactic(auto, unfolding(crate::specs::Start::missing_note))]
 fn write_missing_note<W: WriteStr>(
     w: &mut W,
     styles: &Styles,
@@ -60,7 +60,7 @@ fn write_missing_note<W: WriteStr>(
 }
 
 // Writes how many answers are missing.
-#[tactic(auto, unfolding(crate::specs::Starts::missing_line))]
+#[tactic(auto, unfolding(crate::specs::Start::missing_line))]
 fn write_missing_line<W: WriteStr>(
     w: &mut W,
     styles: &Styles,

@@ -3,8 +3,8 @@
 ghost use Rattle.std.specs.Prelude.{◌≡◌};
 ghost use Rattle.std.specs.Option.{is_some};
 ghost use Rattle.plain_text.specs.Writer.{Puts};
-ghost use Rattle.info_text.specs.States.{attempt_text, delay_line, delay_note, exited_text, exiting_line, exiting_note, leak_note, nanos_of, note_start, process_of, running_style, running_text, signal_of, slow_end, state_text, status_start, taken_end, tentative_info, terminating_line, terminating_note, unit_start, unknown_info};
-ghost use Rattle.unit_report.specs.UnitKinds.{unit_word};
+ghost use Rattle.info_text.specs.State.{attempt_text, waiting_line, delay_note, exited_text, exiting_line, exiting_note, leak_note, nanos_of, note_start, process_of, running_style, running_line, signal_of, marked_slow_end, state_text, status_start, taken_end, tentative_info, terminating_line, terminating_note, unit_start, unknown_info};
+ghost use Rattle.unit_report.specs.UnitKind.{unit_word};
 
 use crate::seconds::write_seconds;
 use event_text::info_result::write_info_result;
@@ -30,7 +30,7 @@ pub struct InfoUnit {
 }
 
 /// Writes what a unit is doing.
-#[tactic(auto, unfolding(crate::specs::States::state_text))]
+#[tactic(auto, unfolding(crate::specs::State::state_text))]
 pub fn write_state<W: WriteStr>(
     w: &mut W,
     settings: &Settings,
@@ -44,7 +44,7 @@ pub fn write_state<W: WriteStr>(
             pid,
             time_taken,
             slow_after,
-        } => write_running(w, settings, unit, *pid, *time_taken, *slow_after),
+        } => write_running_line(w, settings, unit, *pid, *time_taken, *slow_after),
         UnitState::Exiting {
             pid,
             time_taken,
@@ -78,15 +78,15 @@ pub fn write_state<W: WriteStr>(
             waiting_duration,
             remaining,
         } => {
-            write_delay_line(w, settings, unit, previous_result, *previous_slow)?;
+            write_waiting_line(w, settings, unit, previous_result, *previous_slow)?;
             write_delay_note(w, settings, unit, *waiting_duration, *remaining)
         }
     }
 }
 
 // Writes that a process runs.
-#[tactic(auto, unfolding(crate::specs::States::running_text))]
-fn write_running<W: WriteStr>(
+#[tactic(auto, unfolding(crate::specs::State::running_line))]
+fn write_running_line<W: WriteStr>(
     w: &mut W,
     settings: &Settings,
     unit: InfoUnit,
@@ -94,14 +94,14 @@ fn write_running<W: WriteStr>(
     time_taken: Nanos,
     slow_after: Option<Nanos>,
 ) -> Result<(), WriteFault>
-    ensures { Puts W.meaning w.old (running_text settings.now unit pid time_taken.0 slow_after) result w.new }
+    ensures { Puts W.meaning w.old (running_line settings.now unit pid time_taken.0 slow_after) result w.new }
 {
     let styles = &settings.styles;
     write_unit_start(w, settings, unit)?;
     running_style(styles, unit.has_errors, slow_after.is_some()).write(w, "running")?;
     write_seconds(w, " for ", time_taken, "s as PID ")?;
     styles.count.write_number(w, pid as u128)?;
-    write_slow_end(w, slow_after)
+    write_marked_slow_end(w, slow_after)
 }
 
 // The style in which a unit runs: one with errors in that of failures, a slow one in that of skipped tests.
@@ -118,7 +118,7 @@ fn running_style(styles: &Styles, has_errors: bool, is_slow: bool) -> Style
 }
 
 // Writes that a process has ended whose handles are waited for, and how as far as that is known.
-#[tactic(auto, unfolding(crate::specs::States::exiting_line))]
+#[tactic(auto, unfolding(crate::specs::State::exiting_line))]
 fn write_exiting_line<W: WriteStr>(
     w: &mut W,
     settings: &Settings,
@@ -150,7 +150,7 @@ fn write_tentative_info<W: WriteStr>(
 }
 
 // Writes that it is not known how a unit ended.
-#[tactic(auto, unfolding(crate::specs::States::unknown_info))]
+#[tactic(auto, unfolding(crate::specs::State::unknown_info))]
 fn write_unknown_info<W: WriteStr>(w: &mut W, styles: &Styles) -> Result<(), WriteFault>
     ensures { Puts W.meaning w.old (unknown_info styles.now) result w.new }
 {
@@ -159,7 +159,7 @@ fn write_unknown_info<W: WriteStr>(w: &mut W, styles: &Styles) -> Result<(), Wri
 }
 
 // Writes how long the handles that a process left open have been waited for, from a second on.
-#[tactic(auto, unfolding(crate::specs::States::exiting_note))]
+#[tactic(auto, unfolding(crate::specs::State::exiting_note))]
 fn write_exiting_note<W: WriteStr>(
     w: &mut W,
     settings: &Settings,
@@ -177,7 +177,7 @@ fn write_exiting_note<W: WriteStr>(
 }
 
 // Writes how long they have been waited for.
-#[tactic(auto, unfolding(crate::specs::States::leak_note))]
+#[tactic(auto, unfolding(crate::specs::State::leak_note))]
 fn write_leak_note<W: WriteStr>(
     w: &mut W,
     settings: &Settings,
@@ -200,7 +200,7 @@ fn write_leak_note<W: WriteStr>(
 }
 
 // Writes that a process is being ended, and why.
-#[tactic(auto, unfolding(crate::specs::States::terminating_line))]
+#[tactic(auto, unfolding(crate::specs::State::terminating_line))]
 fn write_terminating_line<W: WriteStr>(
     w: &mut W,
     settings: &Settings,
@@ -222,7 +222,7 @@ fn write_terminating_line<W: WriteStr>(
 }
 
 // Writes how a process is being ended.
-#[tactic(auto, unfolding(crate::specs::States::terminating_note))]
+#[tactic(auto, unfolding(crate::specs::State::terminating_note))]
 fn write_terminating_note<W: WriteStr>(
     w: &mut W,
     settings: &Settings,
@@ -259,7 +259,7 @@ fn signal_of(method: &UnitTerminateMethod) -> &str
 }
 
 // Writes that a process has ended, and how.
-#[tactic(auto, unfolding(crate::specs::States::exited_text))]
+#[tactic(auto, unfolding(crate::specs::State::exited_text))]
 fn write_exited<W: WriteStr>(
     w: &mut W,
     settings: &Settings,
@@ -276,15 +276,15 @@ fn write_exited<W: WriteStr>(
 }
 
 // Writes that the next attempt waits, and how the one before ended.
-#[tactic(auto, unfolding(crate::specs::States::delay_line))]
-fn write_delay_line<W: WriteStr>(
+#[tactic(auto, unfolding(crate::specs::State::waiting_line))]
+fn write_waiting_line<W: WriteStr>(
     w: &mut W,
     settings: &Settings,
     unit: InfoUnit,
     previous: &ExecutionResultDescription,
     is_slow: bool,
 ) -> Result<(), WriteFault>
-    ensures { Puts W.meaning w.old (delay_line settings.now unit previous.now is_slow) result w.new }
+    ensures { Puts W.meaning w.old (waiting_line settings.now unit previous.now is_slow) result w.new }
 {
     write_unit_start(w, settings, unit)?;
     write_info_result(w, &settings.styles, is_slow, previous)?;
@@ -294,7 +294,7 @@ fn write_delay_line<W: WriteStr>(
 }
 
 // Writes how long the next attempt has waited, and how much longer it waits.
-#[tactic(auto, unfolding(crate::specs::States::delay_note))]
+#[tactic(auto, unfolding(crate::specs::State::delay_note))]
 fn write_delay_note<W: WriteStr>(
     w: &mut W,
     settings: &Settings,
@@ -312,7 +312,7 @@ fn write_delay_note<W: WriteStr>(
 }
 
 // Writes how the line of a state begins, with the word for the unit.
-#[tactic(auto, unfolding(crate::specs::States::unit_start))]
+#[tactic(auto, unfolding(crate::specs::State::unit_start))]
 fn write_unit_start<W: WriteStr>(
     w: &mut W,
     settings: &Settings,
@@ -326,7 +326,7 @@ fn write_unit_start<W: WriteStr>(
 }
 
 // Writes how the line of a state begins.
-#[tactic(auto, unfolding(crate::specs::States::status_start))]
+#[tactic(auto, unfolding(crate::specs::State::status_start))]
 fn write_status_start<W: WriteStr>(
     w: &mut W,
     settings: &Settings,
@@ -340,7 +340,7 @@ fn write_status_start<W: WriteStr>(
 }
 
 // Writes which attempt it is, where that is told.
-#[tactic(auto, unfolding(crate::specs::States::attempt_text))]
+#[tactic(auto, unfolding(crate::specs::State::attempt_text))]
 fn write_attempt<W: WriteStr>(w: &mut W, attempt: Option<RetryData>) -> Result<(), WriteFault>
     ensures { Puts W.meaning w.old (attempt_text attempt) result w.new }
 {
@@ -359,7 +359,7 @@ fn write_attempt<W: WriteStr>(w: &mut W, attempt: Option<RetryData>) -> Result<(
 }
 
 // Writes how a note begins.
-#[tactic(auto, unfolding(crate::specs::States::note_start))]
+#[tactic(auto, unfolding(crate::specs::State::note_start))]
 fn write_note_start<W: WriteStr>(w: &mut W, styles: &Styles) -> Result<(), WriteFault>
     ensures { Puts W.meaning w.old (note_start styles.now) result w.new }
 {
@@ -367,7 +367,7 @@ fn write_note_start<W: WriteStr>(w: &mut W, styles: &Styles) -> Result<(), Write
 }
 
 // Writes the word for a unit and its process's id.
-#[tactic(auto, unfolding(crate::specs::States::process_of))]
+#[tactic(auto, unfolding(crate::specs::State::process_of))]
 fn write_process<W: WriteStr>(
     w: &mut W,
     settings: &Settings,
@@ -382,7 +382,7 @@ fn write_process<W: WriteStr>(
 }
 
 // Writes how long a unit took, and the end of the line.
-#[tactic(auto, unfolding(crate::specs::States::taken_end))]
+#[tactic(auto, unfolding(crate::specs::State::taken_end))]
 fn write_taken_end<W: WriteStr>(
     w: &mut W,
     time_taken: Nanos,
@@ -391,13 +391,16 @@ fn write_taken_end<W: WriteStr>(
     ensures { Puts W.meaning w.old (taken_end time_taken.0 slow_after) result w.new }
 {
     write_seconds(w, " after ", time_taken, "s")?;
-    write_slow_end(w, slow_after)
+    write_marked_slow_end(w, slow_after)
 }
 
 // Writes when a unit was marked as slow, where it was, and the end of the line.
-#[tactic(auto, unfolding(crate::specs::States::slow_end))]
-fn write_slow_end<W: WriteStr>(w: &mut W, slow_after: Option<Nanos>) -> Result<(), WriteFault>
-    ensures { Puts W.meaning w.old (slow_end (nanos_of slow_after)) result w.new }
+#[tactic(auto, unfolding(crate::specs::State::marked_slow_end))]
+fn write_marked_slow_end<W: WriteStr>(
+    w: &mut W,
+    slow_after: Option<Nanos>,
+) -> Result<(), WriteFault>
+    ensures { Puts W.meaning w.old (marked_slow_end (nanos_of slow_after)) result w.new }
 {
     match slow_after {
         None => write_plain(w, "\n"),

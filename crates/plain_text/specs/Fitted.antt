@@ -9,7 +9,7 @@ use Rattle.plain_text.specs.Fitting.{char_columns}
 use Rattle.plain_text.specs.Writer.{Meaning, WriterLaws, Puts}
 use Rattle.plain_text.specs.declared.escapes.Mode.{Mode}
 use Rattle.plain_text.specs.declared.escapes.Mode.TheVariants as mode
-use Rattle.plain_text.specs.declared.fitting.standing.Standing.{Standing}
+use Rattle.plain_text.specs.declared.fitting.scan_state.ScanState.{ScanState}
 use Rattle.plain_text.specs.declared.fitting.fitted.Fitted.{Fitted}
 use Rattle.plain_text.specs.declared.write_str.WriteFault.{WriteFault}
 
@@ -18,67 +18,67 @@ abbrev pub next_place : ℕ → ℕ → ℕ → ℕ
 next_place end place width = if nat_lt end place then place else place + width
 
 -- where the scan stands after the character, which belongs to a sequence or to none
-abbrev pub moved_by : ℕ → Standing → ℕ → Option Mode → Standing
+abbrev pub moved_by : ℕ → ScanState → ℕ → Option Mode → ScanState
 moved_by end s c (Some m) = record { mode = m; place = s.place; is_open = false }
 moved_by end s c None = record { mode = mode.Text; place = next_place end s.place (char_columns c); is_open = s.is_open || nat_lt s.place end }
 
 -- the same at what the scan says of the character
-abbrev pub moved : ℕ → Standing → ℕ → Standing
+abbrev pub moved : ℕ → ScanState → ℕ → ScanState
 moved end s c = moved_by end s c (advanced s.mode c)
 
 -- whether the character is kept: one of a sequence always, and another where it fits
-abbrev pub is_kept_by : ℕ → ℕ → Standing → ℕ → Option Mode → Bool
-is_kept_by start end s c (Some m) = true
-is_kept_by start end s c None = (s.is_open || nat_lt s.place end) && (nat_le start s.place && nat_le (s.place + char_columns c) end)
+abbrev pub is_char_kept_by : ℕ → ℕ → ScanState → ℕ → Option Mode → Bool
+is_char_kept_by start end s c (Some m) = true
+is_char_kept_by start end s c None = (s.is_open || nat_lt s.place end) && (nat_le start s.place && nat_le (s.place + char_columns c) end)
 
 -- the same at what the scan says of the character
-abbrev pub is_kept : ℕ → ℕ → Standing → ℕ → Bool
-is_kept start end s c = is_kept_by start end s c (advanced s.mode c)
+abbrev pub is_char_kept : ℕ → ℕ → ScanState → ℕ → Bool
+is_char_kept start end s c = is_char_kept_by start end s c (advanced s.mode c)
 
 -- what is kept of the character
-abbrev pub kept_char : ℕ → ℕ → Standing → ℕ → Text
-kept_char start end s c = if is_kept start end s c then encode_utf8 c else []
+abbrev pub kept_char : ℕ → ℕ → ScanState → ℕ → Text
+kept_char start end s c = if is_char_kept start end s c then encode_utf8 c else []
 
 -- what is kept of the characters, from where the scan stands
-unfoldable pub kept_from : ℕ → ℕ → Standing → List ℕ → Text
+unfoldable pub kept_from : ℕ → ℕ → ScanState → List ℕ → Text
 kept_from start end s [] = []
 kept_from start end s (c ∷ cs) = kept_char start end s c ++ kept_from start end (moved end s c) cs
 
 -- where the scan stands after them
-unfoldable pub standing_after : ℕ → Standing → List ℕ → Standing
-standing_after end s [] = s
-standing_after end s (c ∷ cs) = standing_after end (moved end s c) cs
+unfoldable pub scan_after : ℕ → ScanState → List ℕ → ScanState
+scan_after end s [] = s
+scan_after end s (c ∷ cs) = scan_after end (moved end s c) cs
 
-kept_from-append : (start end : ℕ) (s : Standing) (cs ds : List ℕ) → kept_from start end s (cs ++ ds) ≡ kept_from start end s cs ++ kept_from start end (standing_after end s cs) ds
-unfolding kept_from standing_after
+kept_from-append : (start end : ℕ) (s : ScanState) (cs ds : List ℕ) → kept_from start end s (cs ++ ds) ≡ kept_from start end s cs ++ kept_from start end (scan_after end s cs) ds
+unfolding kept_from scan_after
 kept_from-append start end s [] ds = refl
 kept_from-append start end s (c ∷ cs) ds =
     ap (λ x. kept_char start end s c ++ x) (kept_from-append start end (moved end s c) cs ds)
-    ∙ sym (append_assoc (kept_char start end s c) (kept_from start end (moved end s c) cs) (kept_from start end (standing_after end (moved end s c) cs) ds))
+    ∙ sym (append_assoc (kept_char start end s c) (kept_from start end (moved end s c) cs) (kept_from start end (scan_after end (moved end s c) cs) ds))
 
-standing_after-append : (end : ℕ) (s : Standing) (cs ds : List ℕ) → standing_after end s (cs ++ ds) ≡ standing_after end (standing_after end s cs) ds
-unfolding standing_after
-standing_after-append end s [] ds = refl
-standing_after-append end s (c ∷ cs) ds = standing_after-append end (moved end s c) cs ds
+scan_after-append : (end : ℕ) (s : ScanState) (cs ds : List ℕ) → scan_after end s (cs ++ ds) ≡ scan_after end (scan_after end s cs) ds
+unfolding scan_after
+scan_after-append end s [] ds = refl
+scan_after-append end s (c ∷ cs) ds = scan_after-append end (moved end s c) cs ds
 
 -- what is kept of a text by such a writer
-abbrev pub kept_text : {W : Type 0} → Fitted W → Text → Text
-kept_text a t = kept_from a.start a.end a.standing (chars t)
+abbrev pub fitted_text : {W : Type 0} → Fitted W → Text → Text
+fitted_text a t = kept_from a.start a.end a.scan (chars t)
 
 -- a text in two pieces, of which the first is text
-pub kept_text-append : {W : Type 0} (a : Fitted W) (t u : Text) → IsUtf8 t → kept_text a (t ++ u) ≡ kept_text a t ++ kept_from a.start a.end (standing_after a.end a.standing (chars t)) (chars u)
-kept_text-append a t u h = ap (kept_from a.start a.end a.standing) (chars-append t u h) ∙ kept_from-append a.start a.end a.standing (chars t) (chars u)
+pub fitted_text-append : {W : Type 0} (a : Fitted W) (t u : Text) → IsUtf8 t → fitted_text a (t ++ u) ≡ fitted_text a t ++ kept_from a.start a.end (scan_after a.end a.scan (chars t)) (chars u)
+fitted_text-append a t u h = ap (kept_from a.start a.end a.scan) (chars-append t u h) ∙ kept_from-append a.start a.end a.scan (chars t) (chars u)
 
-pub kept_text-nil : {W : Type 0} (a : Fitted W) → kept_text a [] ≡ []
+pub fitted_text-nil : {W : Type 0} (a : Fitted W) → fitted_text a [] ≡ []
 unfolding kept_from
-kept_text-nil a = rw chars-nil refl
+fitted_text-nil a = rw chars-nil refl
 
 module _ {W : Type 0} (m : Meaning W) where
   -- the writer below accepts what is kept
   pub record FittedAccepts (a : Fitted W) (t : Text) (b : Fitted W) : Type 0 where
     pub utf8 : IsUtf8 t
-    pub below : m.accepts a.inner.now (kept_text a t) b.inner.now
-    pub standing : b.standing ≡ standing_after a.end a.standing (chars t)
+    pub below : m.accepts a.inner.now (fitted_text a t) b.inner.now
+    pub scan : b.scan ≡ scan_after a.end a.scan (chars t)
     pub start : b.start ≡ a.start
     pub end : b.end ≡ a.end
     pub same : b.inner.ghost_name ≡ a.inner.ghost_name
@@ -89,13 +89,13 @@ module _ {W : Type 0} (m : Meaning W) where
     pub rest : Text
     pub whole : t ≡ front ++ rest
     pub utf8 : IsUtf8 front
-    pub below : m.stops a.inner.now (kept_text a front) e b.inner.now
+    pub below : m.stops a.inner.now (fitted_text a front) e b.inner.now
     pub same : b.inner.ghost_name ≡ a.inner.ghost_name
 
   -- the writer below puts the character if it is kept
   pub record PutsChar (a : Fitted W) (c : ℕ) (r : Result (Unit {0}) WriteFault) (b : Fitted W) : Type 0 where
-    pub below : Puts m a.inner.now (kept_char a.start a.end a.standing c) r b.inner.now
-    pub standing : b.standing ≡ moved a.end a.standing c
+    pub below : Puts m a.inner.now (kept_char a.start a.end a.scan c) r b.inner.now
+    pub scan : b.scan ≡ moved a.end a.scan c
     pub start : b.start ≡ a.start
     pub end : b.end ≡ a.end
     pub same : b.inner.ghost_name ≡ a.inner.ghost_name
@@ -106,33 +106,33 @@ module _ {W : Type 0} (m : Meaning W) where
     accepts = FittedAccepts;
     stops = FittedStops;
     text = λ a. m.text a.inner.now;
-    adds = λ a t. m.adds a.inner.now (kept_text a t);
+    adds = λ a t. m.adds a.inner.now (fitted_text a t);
     is_delivered = λ a. m.is_delivered a.inner.now;
     may_refuse = λ a. m.may_refuse a.inner.now;
     failures = λ a. m.failures a.inner.now;
   }
 
 -- what stops within a beginning stops within the text
-pub stops_kept : {W : Type 0} (m : Meaning W) → WriterLaws m → (a b : Fitted W) (t : Text) (e : WriteFault) → FittedStops m a t e b → m.stops a.inner.now (kept_text a t) e b.inner.now
-stops_kept m laws a b t e p = rw (p.whole, kept_text-append a p.front p.rest p.utf8) (laws.stops_within _ _ _ _ e p.below)
+pub stops_kept : {W : Type 0} (m : Meaning W) → WriterLaws m → (a b : Fitted W) (t : Text) (e : WriteFault) → FittedStops m a t e b → m.stops a.inner.now (fitted_text a t) e b.inner.now
+stops_kept m laws a b t e p = rw (p.whole, fitted_text-append a p.front p.rest p.utf8) (laws.stops_within _ _ _ _ e p.below)
 
 pub fitted_laws : {W : Type 0} (m : Meaning W) → WriterLaws m → WriterLaws (fitted_meaning m)
-unfolding standing_after
+unfolding scan_after
 fitted_laws m laws = record {
   nothing = λ a. record {
     utf8 = IsUtf8-nil;
-    below = subst (λ x. m.accepts a.inner.now x a.inner.now) (sym (kept_text-nil a)) (laws.nothing a.inner.now);
-    standing = rw chars-nil refl;
+    below = subst (λ x. m.accepts a.inner.now x a.inner.now) (sym (fitted_text-nil a)) (laws.nothing a.inner.now);
+    scan = rw chars-nil refl;
     start = refl;
     end = refl;
     same = refl;
   };
   joins = λ a b c t u p q. record {
     utf8 = IsUtf8-append t u p.utf8 q.utf8;
-    below = subst (λ x. m.accepts a.inner.now x c.inner.now) (sym (kept_text-append a t u p.utf8))
+    below = subst (λ x. m.accepts a.inner.now x c.inner.now) (sym (fitted_text-append a t u p.utf8))
         (laws.joins a.inner.now b.inner.now c.inner.now _ _ p.below
-        (subst (λ x. m.accepts b.inner.now x c.inner.now) (rw (p.start, p.end, p.standing) refl) q.below));
-    standing = q.standing ∙ rw (p.end, p.standing) refl ∙ sym (standing_after-append a.end a.standing (chars t) (chars u)) ∙ ap (standing_after a.end a.standing) (sym (chars-append t u p.utf8));
+        (subst (λ x. m.accepts b.inner.now x c.inner.now) (rw (p.start, p.end, p.scan) refl) q.below));
+    scan = q.scan ∙ rw (p.end, p.scan) refl ∙ sym (scan_after-append a.end a.scan (chars t) (chars u)) ∙ ap (scan_after a.end a.scan) (sym (chars-append t u p.utf8));
     start = q.start ∙ p.start;
     end = q.end ∙ p.end;
     same = q.same ∙ p.same;
@@ -142,9 +142,9 @@ fitted_laws m laws = record {
     rest = q.rest;
     whole = ap (λ x. t ++ x) q.whole ∙ sym (append_assoc t q.front q.rest);
     utf8 = IsUtf8-append t q.front p.utf8 q.utf8;
-    below = subst (λ x. m.stops a.inner.now x e c.inner.now) (sym (kept_text-append a t q.front p.utf8))
+    below = subst (λ x. m.stops a.inner.now x e c.inner.now) (sym (fitted_text-append a t q.front p.utf8))
         (laws.goes_on a.inner.now b.inner.now c.inner.now _ _ e p.below
-        (subst (λ x. m.stops b.inner.now x e c.inner.now) (rw (p.start, p.end, p.standing) refl) q.below));
+        (subst (λ x. m.stops b.inner.now x e c.inner.now) (rw (p.start, p.end, p.scan) refl) q.below));
     same = q.same ∙ p.same;
   };
   stops_within = λ a b t u e p. record {

@@ -6,14 +6,14 @@
 
 ghost use Rattle.std.specs.Prelude.{◌≡◌, ℕ, ◌-◌, ◌^◌, ◌<◌, ◌≤◌, ◌++◌, List, false, true};
 ghost use Rattle.std.specs.Str.{IsUtf8};
-ghost use Rattle.plain_text.specs.Counted.{saturated};
+ghost use Rattle.plain_text.specs.ColumnCounter.{saturated};
 ghost use Rattle.plain_text.specs.Escapes.{HasNoEscape, pieces};
 ghost use Rattle.plain_text.specs.Fitting.{columns, fit, shrunk, shrunk_parts, sequences, part_sequences, IsPainted, ArePainted};
 ghost use Rattle.plain_text.specs.Writer.{Puts};
 
 mod column_counter;
 mod fitted;
-mod standing;
+mod scan_state;
 
 use crate::write_str::{WriteFault, WriteStr};
 use column_counter::ColumnCounter;

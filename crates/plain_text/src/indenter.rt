@@ -6,7 +6,7 @@
 ghost use Rattle.std.specs.Prelude.{◌≡◌, true, codes};
 ghost use Rattle.std.specs.Option.{option_map};
 ghost use Rattle.plain_text.specs.Indent.{indent, IndentsInPieces};
-ghost use Rattle.plain_text.specs.Indented.{IndentsByBytes};
+ghost use Rattle.plain_text.specs.Indentation.{IndentsByBytes};
 
 use std::fmt;
 use std::fmt::{Formatter, Write};

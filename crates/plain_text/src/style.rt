@@ -6,7 +6,7 @@
 ghost use Rattle.std.specs.Prelude.{◌≡◌, ◌++◌, ◌∷◌, [], true, false, codes};
 ghost use Rattle.std.specs.Fmt.{decimal};
 ghost use Rattle.plain_text.specs.Texts.{right_in};
-ghost use Rattle.plain_text.specs.Styles.{PartText, style_prefix, style_suffix, reset_color, plain, styled, part_text, part_of, painted, styles_of, list_styles_of};
+ghost use Rattle.plain_text.specs.Style.{PartText, style_prefix, style_suffix, reset_color, plain, styled, part_text, painted_part, painted, styles_of, list_styles_of};
 ghost use Rattle.plain_text.specs.Writer.{Puts};
 
 use crate::numbers::{write_right, write_right_joined};
@@ -77,20 +77,20 @@ impl Style {
 
     /// A text in this style, as a part.
     pub fn paint(self, text: &str) -> Part<'_>
-        ensures { part_of result ≡ PartText.Styled self text.now }
+        ensures { painted_part result ≡ PartText.Styled self text.now }
     {
         Part::Styled(self, text)
     }
 
     /// A text right-aligned in the given number of columns, as a part. A column holds a character, and the padding is inside the style.
     pub fn right(self, columns: usize, text: &str) -> Part<'_>
-        ensures { part_of result ≡ PartText.Styled self (right_in columns text.now) }
+        ensures { painted_part result ≡ PartText.Styled self (right_in columns text.now) }
     {
         Part::Right(self, columns, text)
     }
 
     /// Writes a text in this style.
-    #[tactic(auto, unfolding(crate::specs::Styles::styled))]
+    #[tactic(auto, unfolding(crate::specs::Style::styled))]
     #[inline(always)]
     pub fn write<W: WriteStr>(self, w: &mut W, text: &str) -> Result<(), WriteFault>
         ensures { Puts W.meaning w.old (styled self text.now) result w.new }
@@ -102,7 +102,7 @@ impl Style {
     }
 
     // The same of any style. A plain one has less to write.
-    #[tactic(auto, unfolding(crate::specs::Styles::styled))]
+    #[tactic(auto, unfolding(crate::specs::Style::styled))]
     fn write_coloured<W: WriteStr>(self, w: &mut W, text: &str) -> Result<(), WriteFault>
         ensures { Puts W.meaning w.old (styled self text.now) result w.new }
     {
@@ -112,7 +112,7 @@ impl Style {
     }
 
     /// Writes a number in decimal in this style.
-    #[tactic(auto, unfolding(crate::specs::Styles::styled))]
+    #[tactic(auto, unfolding(crate::specs::Style::styled))]
     pub fn write_number<W: WriteStr>(self, w: &mut W, number: u128) -> Result<(), WriteFault>
         ensures { Puts W.meaning w.old (styled self (decimal number)) result w.new }
     {
@@ -126,7 +126,7 @@ impl Style {
     }
 
     /// Writes a text right-aligned in the given number of columns.
-    #[tactic(auto, unfolding(crate::specs::Styles::styled))]
+    #[tactic(auto, unfolding(crate::specs::Style::styled))]
     pub fn write_right<W: WriteStr>(
         self,
         w: &mut W,
@@ -149,7 +149,7 @@ impl Style {
     /// Style::Bold.write_joined(&mut out, "profile.", "ci", ".overrides")?;
     /// assert_eq!(out.as_str(), "\x1b[1mprofile.ci.overrides\x1b[0m");
     /// ```
-    #[tactic(auto, unfolding(crate::specs::Styles::styled))]
+    #[tactic(auto, unfolding(crate::specs::Style::styled))]
     pub fn write_joined<W: WriteStr>(
         self,
         w: &mut W,
@@ -172,7 +172,7 @@ impl Style {
     /// Style::BoldRed.write_right_joined(&mut out, 12, "TRY ", "2", " ", "FAIL")?;
     /// assert_eq!(out.as_str(), "\x1b[31;1m  TRY 2 FAIL\x1b[0m");
     /// ```
-    #[tactic(auto, unfolding(crate::specs::Styles::styled))]
+    #[tactic(auto, unfolding(crate::specs::Style::styled))]
     pub fn write_right_joined<W: WriteStr>(
         self,
         w: &mut W,
@@ -206,13 +206,13 @@ pub enum Part<'a> {
 
 /// A text as it is, as a part.
 pub fn plain(text: &str) -> Part<'_>
-    ensures { part_of result ≡ PartText.Plain text.now }
+    ensures { painted_part result ≡ PartText.Plain text.now }
 {
     Part::Plain(text)
 }
 
 /// Writes a text as it is.
-#[tactic(auto, unfolding(crate::specs::Styles::plain))]
+#[tactic(auto, unfolding(crate::specs::Style::plain))]
 pub fn write_plain<W: WriteStr>(w: &mut W, text: &str) -> Result<(), WriteFault>
     ensures { Puts W.meaning w.old (plain text.now) result w.new }
 {
@@ -235,9 +235,9 @@ pub fn write_parts<W: WriteStr>(w: &mut W, parts: &[Part<'_>]) -> Result<(), Wri
 }
 
 /// Writes a part.
-#[tactic(auto, unfolding(crate::specs::Styles::plain))]
+#[tactic(auto, unfolding(crate::specs::Style::plain))]
 pub fn write_part<W: WriteStr>(w: &mut W, part: Part<'_>) -> Result<(), WriteFault>
-    ensures { Puts W.meaning w.old (part_text (part_of part.entry)) result w.new }
+    ensures { Puts W.meaning w.old (part_text (painted_part part.entry)) result w.new }
 {
     match part {
         Part::Plain(text) => w.write_str(text),

@@ -4,7 +4,7 @@
 //! or a file is always a beginning of the text that was meant.
 
 ghost use Rattle.std.specs.Prelude.{◌≡◌, ℕ, List, Bool, [], ◌++◌, take, MatchResult, OnOk, encode_utf8, string_bytes};
-ghost use Rattle.plain_text.specs.Accept.{string_meaning, string_laws};
+ghost use Rattle.plain_text.specs.StringWriter.{string_meaning, string_laws};
 ghost use Rattle.plain_text.specs.Texts.{strs};
 ghost use Rattle.plain_text.specs.Writer.{Meaning, WriterLaws, Puts};
 

@@ -13,8 +13,8 @@ use Rattle.scenes.specs.declared.words.Options.{Options}
 use Rattle.report_c.specs.declared.NorigullyOptions.{NorigullyOptions}
 
 -- The status level of a number, from none at 0 to all at 7.
-abbrev pub level_of : ℕ → Option StatusLevel
-level_of n =
+abbrev pub level_numbered : ℕ → Option StatusLevel
+level_numbered n =
     if n == 0 then Some level.None
     else (if n == 1 then Some level.Fail
     else (if n == 2 then Some level.Retry
@@ -31,7 +31,7 @@ pub record AsksFor (options : NorigullyOptions) (program : Options) : Type 0 whe
   pub show_counter : program.show_counter ≡ options.show_counter
   pub is_replay : program.is_replay ≡ options.is_replay
   pub unload_skipped : program.unload_skipped ≡ false
-  pub status_level : level_of options.status_level ≡ Some program.status_level
+  pub status_level : level_numbered options.status_level ≡ Some program.status_level
   pub store : program.store ≡ None
 
 -- The bytes are those that the program prints of exactly the run that the text spells.

@@ -4,7 +4,7 @@
 #![tactic(auto)]
 
 ghost use Rattle.std.specs.Prelude.{◌≡◌, ◌≢◌, ◌↔◌, ◌≤◌, None};
-ghost use Rattle.report_c.specs.Reported.{IsTooLong, IsWritten, IsWrongLine, level_of};
+ghost use Rattle.report_c.specs.Reported.{IsTooLong, IsWritten, IsWrongLine, level_numbered};
 
 mod report;
 
@@ -75,7 +75,7 @@ pub extern "C" fn norigully_report(
     // That line is the first of the text that is wrong, or that of the first event that a reporter refuses.
     ensures line { result.status ≡ 2 → IsWrongLine options.now scene.now result.line }
     // A status level that is none is told, and is told of no other.
-    ensures level { (result.status ≡ 4) ↔ (level_of options.now.status_level ≡ None) }
+    ensures level { (result.status ≡ 4) ↔ (level_numbered options.now.status_level ≡ None) }
     ensures fault { result.status ≤ 4 }
     ensures untouched { result.status ≢ 0 → out.new ≡ out.old }
     ensures no_line { result.status ≢ 2 → result.line ≡ 0 }

@@ -2,7 +2,7 @@
 
 ghost use Rattle.std.specs.Prelude.{◌≡◌, ◌↔◌, [], IfSome, IfOk, IfErr, None, Some};
 ghost use Rattle.scenes.specs.SpelledRuns.{PrintsRun};
-ghost use Rattle.report_c.specs.Reported.{AsksFor, IsUnreported, fault_told, level_of};
+ghost use Rattle.report_c.specs.Reported.{AsksFor, IsUnreported, fault_told, level_numbered};
 
 use crate::NorigullyOptions;
 use run_model::level::StatusLevel;
@@ -16,7 +16,7 @@ use std::io;
 /// The options of the program that ask for the same, or None where there is no such status level. They name no file.
 pub fn options_of(options: &NorigullyOptions) -> Option<Options<'static>>
     ensures asked { IfSome result (AsksFor options.now) }
-    ensures none { (result ≡ None) ↔ (level_of options.now.status_level ≡ None) }
+    ensures none { (result ≡ None) ↔ (level_numbered options.now.status_level ≡ None) }
 {
     match read_level(options.status_level) {
         None => None,
@@ -34,7 +34,7 @@ pub fn options_of(options: &NorigullyOptions) -> Option<Options<'static>>
 
 // The status level of a number.
 fn read_level(number: u32) -> Option<StatusLevel>
-    ensures { result ≡ level_of number }
+    ensures { result ≡ level_numbered number }
 {
     match number {
         0 => Some(StatusLevel::None),

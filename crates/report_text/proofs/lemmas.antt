@@ -1,10 +1,10 @@
 pub mod Clocks
-pub mod Colons
+pub mod ColourPairs
 pub mod Commands
 pub mod FreeWords
-pub mod InstanceTints
+pub mod InstanceColourPairs
 pub mod InstanceWidths
 pub mod NameWidths
 pub mod PlainNames
 pub mod Quotes
-pub mod Tints
+pub mod SplitPaths

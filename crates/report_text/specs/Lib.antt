@@ -1,10 +1,10 @@
 pub mod Durations
-pub mod Failures
-pub mod Instances
-pub mod Interceptors
+pub mod Failure
+pub mod Instance
+pub mod Interceptor
 pub mod Paths
 pub mod PlainTexts
 pub mod Plural
 pub mod Quoting
-pub mod RunIds
+pub mod RunId
 pub mod Theme

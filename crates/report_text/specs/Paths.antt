@@ -8,14 +8,14 @@ is_absolute [] = false
 is_absolute (c ∷ t) = c == 47
 
 -- a byte in front of the first path
-abbrev pub in_first : ℕ → List Text → List Text
-in_first c [] = (c ∷ []) ∷ []
-in_first c (path ∷ paths) = (c ∷ path) ∷ paths
+abbrev pub in_first_path : ℕ → List Text → List Text
+in_first_path c [] = (c ∷ []) ∷ []
+in_first_path c (path ∷ paths) = (c ∷ path) ∷ paths
 
 -- what stands between the colons of a text, also where that is nothing
 unfoldable pub between_colons : Text → List Text
 between_colons [] = [] ∷ []
-between_colons (c ∷ t) = if c == 58 then [] ∷ between_colons t else in_first c (between_colons t)
+between_colons (c ∷ t) = if c == 58 then [] ∷ between_colons t else in_first_path c (between_colons t)
 
 -- the paths of a list of them, if there is one
 abbrev pub search_paths : Option Text → List Text

@@ -5,8 +5,8 @@ use Rattle.run_model.specs.declared.config.NextestRunMode.TheVariants.{Test, Ben
 use Rattle.plain_text.specs.Texts.{Text}
 
 -- the first word for one, the second for any other number
-abbrev pub counted : Text → Text → ℕ → Text
-counted one other n = if n == 1 then one else other
+abbrev pub singular_or_plural : Text → Text → ℕ → Text
+singular_or_plural one other n = if n == 1 then one else other
 
 -- was, or were where it is said of several
 unfoldable pub were_word : Bool → Text
@@ -25,49 +25,49 @@ abbrev pub tests_word : NextestRunMode → ℕ → Text
 tests_word mode n = tests_word_if mode (not (n == 1))
 
 unfoldable pub setup_scripts_word : ℕ → Text
-setup_scripts_word = counted (codes "setup script") (codes "setup scripts")
+setup_scripts_word = singular_or_plural (codes "setup script") (codes "setup scripts")
 
 unfoldable pub binaries_word : ℕ → Text
-binaries_word = counted (codes "binary") (codes "binaries")
+binaries_word = singular_or_plural (codes "binary") (codes "binaries")
 
 unfoldable pub paths_word : ℕ → Text
-paths_word = counted (codes "path") (codes "paths")
+paths_word = singular_or_plural (codes "path") (codes "paths")
 
 unfoldable pub files_word : ℕ → Text
-files_word = counted (codes "file") (codes "files")
+files_word = singular_or_plural (codes "file") (codes "files")
 
 unfoldable pub directories_word : ℕ → Text
-directories_word = counted (codes "directory") (codes "directories")
+directories_word = singular_or_plural (codes "directory") (codes "directories")
 
 unfoldable pub this_crate_word : ℕ → Text
-this_crate_word = counted (codes "this crate") (codes "these crates")
+this_crate_word = singular_or_plural (codes "this crate") (codes "these crates")
 
 unfoldable pub libraries_word : ℕ → Text
-libraries_word = counted (codes "library") (codes "libraries")
+libraries_word = singular_or_plural (codes "library") (codes "libraries")
 
 unfoldable pub filters_word : ℕ → Text
-filters_word = counted (codes "filter") (codes "filters")
+filters_word = singular_or_plural (codes "filter") (codes "filters")
 
 unfoldable pub sections_word : ℕ → Text
-sections_word = counted (codes "section") (codes "sections")
+sections_word = singular_or_plural (codes "section") (codes "sections")
 
 unfoldable pub iterations_word : ℕ → Text
-iterations_word = counted (codes "iteration") (codes "iterations")
+iterations_word = singular_or_plural (codes "iteration") (codes "iterations")
 
 unfoldable pub runs_word : ℕ → Text
-runs_word = counted (codes "run") (codes "runs")
+runs_word = singular_or_plural (codes "run") (codes "runs")
 
 unfoldable pub orphans_word : ℕ → Text
-orphans_word = counted (codes "orphan") (codes "orphans")
+orphans_word = singular_or_plural (codes "orphan") (codes "orphans")
 
 unfoldable pub errors_word : ℕ → Text
-errors_word = counted (codes "error") (codes "errors")
+errors_word = singular_or_plural (codes "error") (codes "errors")
 
 unfoldable pub exist_word : ℕ → Text
-exist_word = counted (codes "exists") (codes "exist")
+exist_word = singular_or_plural (codes "exists") (codes "exist")
 
 unfoldable pub end_word : ℕ → Text
-end_word = counted (codes "ends") (codes "end")
+end_word = singular_or_plural (codes "ends") (codes "end")
 
 unfoldable pub remain_word : ℕ → Text
-remain_word = counted (codes "remains") (codes "remain")
+remain_word = singular_or_plural (codes "remains") (codes "remain")

@@ -13,6 +13,14 @@ use Rattle.run_model.specs.declared.time.Nanos.{Nanos}
 use Rattle.run_model.specs.declared.status.ExecuteStatus.{ExecuteStatus}
 use Rattle.run_model.specs.declared.status.FlakyResult.{FlakyResult}
 
+-- an attempt of a test
+abbrev pub Attempt : Type 0
+Attempt = ExecuteStatus LiveSpec ChildOutputDescription
+
+-- what a process wrote
+abbrev pub Written : Type 0
+Written = ChildExecutionOutputDescription LiveSpec ChildOutputDescription
+
 -- the earlier attempts, in order, the last one, and what a success after earlier attempts counts as
 pub record Attempts (S O : Type 0) : Type 0 where
   pub earlier : List (ExecuteStatus S O)

@@ -29,5 +29,5 @@ abbrev pub last_name_of : List ℕ → List ℕ
 last_name_of t = option_map_or (λ i. drop (i + 2) t) (last_colons t) t
 
 -- what the reference points to
-abbrev pub option_text : Option (Bor (List ℕ)) → Option (List ℕ)
-option_text o = option_map (λ (s : Bor (List ℕ)). s.now) o
+abbrev pub optional_text : Option (Bor (List ℕ)) → Option (List ℕ)
+optional_text o = option_map (λ (s : Bor (List ℕ)). s.now) o

@@ -21,24 +21,24 @@ pub record Part : Type 0 where
 abbrev pub subslice_value : Option ByteSubslice → Option Part
 subslice_value o = option_map (λ (s : ByteSubslice). record { start = s.start; bytes = s.slice.now }) o
 
-abbrev pub part_of : Highlight → Part
-part_of h = record { start = h.start; bytes = h.slice }
+abbrev pub highlighted_part : Highlight → Part
+highlighted_part h = record { start = h.start; bytes = h.slice }
 
 -- the part, where the highlight stands in the stream
 abbrev pub stdout_in : HighlightStream → Highlight → Option Part
-stdout_in Stdout h = Some (part_of h)
+stdout_in Stdout h = Some (highlighted_part h)
 stdout_in Stderr h = None
 stdout_in Combined h = None
 
 abbrev pub stderr_in : HighlightStream → Highlight → Option Part
 stderr_in Stdout h = None
-stderr_in Stderr h = Some (part_of h)
+stderr_in Stderr h = Some (highlighted_part h)
 stderr_in Combined h = None
 
 abbrev pub combined_in : HighlightStream → Highlight → Option Part
 combined_in Stdout h = None
 combined_in Stderr h = None
-combined_in Combined h = Some (part_of h)
+combined_in Combined h = Some (highlighted_part h)
 
 abbrev pub stdout_part : Highlight → Option Part
 stdout_part h = stdout_in h.stream h

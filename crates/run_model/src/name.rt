@@ -7,7 +7,7 @@ ghost use Rattle.std.specs.Cmp.Lexicographic.{pointwise, slice_cmp};
 ghost use Rattle.std.specs.Cmp.Rules.{comparing};
 ghost use Rattle.std.proofs.Common.{rules};
 ghost use Rattle.run_model.specs.Instances.{instance_cmp};
-ghost use Rattle.run_model.specs.Names.{module_path_of, last_name_of, option_text};
+ghost use Rattle.run_model.specs.Names.{module_path_of, last_name_of, optional_text};
 
 use crate::memory::OutOfMemory;
 use std::alloc::Global;
@@ -128,7 +128,7 @@ impl TestCaseName {
     /// assert_eq!(name.module_path_and_name(), (Some("a::b"), "c"));
     /// ```
     pub fn module_path_and_name(&self) -> (Option<&str>, &str)
-        ensures path { option_text result.0 ≡ module_path_of self.now }
+        ensures path { optional_text result.0 ≡ module_path_of self.now }
         ensures name { result.1.now ≡ last_name_of self.now }
     {
         cut_at_last_colons(self.as_str())
@@ -176,7 +176,7 @@ impl PartialOrd for TestCaseName {
 
 // The text cut at its last `::`.
 fn cut_at_last_colons(text: &str) -> (Option<&str>, &str)
-    ensures path { option_text result.0 ≡ module_path_of text.now }
+    ensures path { optional_text result.0 ≡ module_path_of text.now }
     ensures name { result.1.now ≡ last_name_of text.now }
 {
     match text.rsplit_once("::") {

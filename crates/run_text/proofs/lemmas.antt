@@ -1,5 +1,5 @@
-pub mod CancelTints
-pub mod NotSeenTints
-pub mod ScriptTints
-pub mod StartTints
-pub mod SummaryTints
+pub mod CancelColourPairs
+pub mod NotSeenColourPairs
+pub mod ScriptColourPairs
+pub mod StartColourPairs
+pub mod SummaryColourPairs

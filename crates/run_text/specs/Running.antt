@@ -3,7 +3,7 @@ use Rattle.std.specs.Prelude.{ℕ, Bool, ◌++◌, ◌&&◌, ◌==◌, codes, if
 use Rattle.std.specs.Fmt.{decimal}
 use Rattle.run_model.specs.declared.config.NextestRunMode.{NextestRunMode}
 use Rattle.report_text.specs.Plural.{setup_scripts_word, tests_word}
-use Rattle.plain_text.specs.Styles.{plain, styled}
+use Rattle.plain_text.specs.Style.{plain, styled}
 use Rattle.plain_text.specs.Texts.{Text}
 use Rattle.plain_text.specs.declared.style.Styles.{Styles}
 use Rattle.run_text.specs.declared.running.Running.{Running}

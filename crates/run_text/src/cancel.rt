@@ -2,7 +2,7 @@
 
 ghost use Rattle.std.specs.Prelude.{◌≡◌};
 ghost use Rattle.plain_text.specs.Writer.{Puts};
-ghost use Rattle.run_text.specs.Cancels.{begin_cancel_text, begin_kill_text, ends_at_once, reason_text, still_running, terminating_note, terminating_words};
+ghost use Rattle.run_text.specs.Cancel.{begin_cancel_text, begin_kill_text, ends_at_once, reason_text, still_running, terminating_at_once, terminating_words};
 
 use crate::running::Running;
 use event_text::settings::Settings;
@@ -16,7 +16,7 @@ use run_model::level::CancelReason;
 /// write_begin_cancel(&mut out, &settings, 0, Some(CancelReason::Interrupt), 2)?;
 /// assert_eq!(out.as_str(), "  Cancelling due to interrupt: 2 tests still running\n");
 /// ```
-#[tactic(auto, unfolding(crate::specs::Cancels::begin_cancel_text))]
+#[tactic(auto, unfolding(crate::specs::Cancel::begin_cancel_text))]
 pub fn write_begin_cancel<W: WriteStr>(
     w: &mut W,
     settings: &Settings,
@@ -37,7 +37,7 @@ pub fn write_begin_cancel<W: WriteStr>(
 }
 
 /// Writes that the run is about to be killed, why, and how many setup scripts or tests still run.
-#[tactic(auto, unfolding(crate::specs::Cancels::begin_kill_text))]
+#[tactic(auto, unfolding(crate::specs::Cancel::begin_kill_text))]
 pub fn write_begin_kill<W: WriteStr>(
     w: &mut W,
     settings: &Settings,
@@ -68,7 +68,7 @@ fn ends_at_once(reason: Option<CancelReason>) -> bool
 }
 
 // Writes why, where that is known.
-#[tactic(auto, unfolding(crate::specs::Cancels::reason_text))]
+#[tactic(auto, unfolding(crate::specs::Cancel::reason_text))]
 fn write_reason<W: WriteStr>(
     w: &mut W,
     styles: &Styles,
@@ -86,7 +86,7 @@ fn write_reason<W: WriteStr>(
 }
 
 // Writes how many still run, where anything does.
-#[tactic(auto, unfolding(crate::specs::Cancels::still_running))]
+#[tactic(auto, unfolding(crate::specs::Cancel::still_running))]
 fn write_still_running<W: WriteStr>(
     w: &mut W,
     settings: &Settings,
@@ -99,19 +99,19 @@ fn write_still_running<W: WriteStr>(
         return Ok(());
     }
     write_plain(w, ": ")?;
-    write_terminating_note(w, &settings.styles, is_terminating)?;
+    write_terminating_at_once(w, &settings.styles, is_terminating)?;
     running.write_to(w, settings.mode, &settings.styles)?;
     write_plain(w, " still running")
 }
 
 // Writes that what runs is ended, where it is.
-#[tactic(auto, unfolding(crate::specs::Cancels::terminating_note))]
-fn write_terminating_note<W: WriteStr>(
+#[tactic(auto, unfolding(crate::specs::Cancel::terminating_at_once))]
+fn write_terminating_at_once<W: WriteStr>(
     w: &mut W,
     styles: &Styles,
     is_terminating: bool,
 ) -> Result<(), WriteFault>
-    ensures { Puts W.meaning w.old (terminating_note styles.now is_terminating) result w.new }
+    ensures { Puts W.meaning w.old (terminating_at_once styles.now is_terminating) result w.new }
 {
     if is_terminating {
         write_terminating_words(w, styles)
@@ -120,7 +120,7 @@ fn write_terminating_note<W: WriteStr>(
     }
 }
 
-#[tactic(auto, unfolding(crate::specs::Cancels::terminating_words))]
+#[tactic(auto, unfolding(crate::specs::Cancel::terminating_words))]
 fn write_terminating_words<W: WriteStr>(w: &mut W, styles: &Styles) -> Result<(), WriteFault>
     ensures { Puts W.meaning w.old (terminating_words styles.now) result w.new }
 {

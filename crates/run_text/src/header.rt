@@ -2,7 +2,7 @@
 
 ghost use Rattle.std.specs.Prelude.{◌≡◌};
 ghost use Rattle.plain_text.specs.Writer.{Puts};
-ghost use Rattle.run_text.specs.Headers.{date_text, replay_header_text, replaying_line, started_line, started_text, time_text, year_sign};
+ghost use Rattle.run_text.specs.Header.{date_text, replay_header_text, replaying_line, started_line, started_text, time_text, year_sign};
 
 use crate::run_id::write_run_id;
 use jiff::civil::{Date, DateTime, Time};
@@ -19,7 +19,7 @@ use run_model::replay::ReplayHeader;
 /// let started = "     Started 2024-02-29 07:05:09  status: ok\n";
 /// assert_eq!(out.as_str(), format!(in alloc; "{replaying}{started}")?.as_str());
 /// ```
-#[tactic(auto, unfolding(crate::specs::Headers::replay_header_text))]
+#[tactic(auto, unfolding(crate::specs::Header::replay_header_text))]
 pub fn write_replay_header<W: WriteStr>(
     w: &mut W,
     styles: &Styles,
@@ -32,7 +32,7 @@ pub fn write_replay_header<W: WriteStr>(
 }
 
 // Writes which run is shown.
-#[tactic(auto, unfolding(crate::specs::Headers::replaying_line))]
+#[tactic(auto, unfolding(crate::specs::Header::replaying_line))]
 fn write_replaying_line<W: WriteStr>(
     w: &mut W,
     styles: &Styles,
@@ -47,7 +47,7 @@ fn write_replaying_line<W: WriteStr>(
 }
 
 // Writes when the run started, and how it ended.
-#[tactic(auto, unfolding(crate::specs::Headers::started_line))]
+#[tactic(auto, unfolding(crate::specs::Header::started_line))]
 fn write_started_line<W: WriteStr>(
     w: &mut W,
     styles: &Styles,
@@ -64,7 +64,7 @@ fn write_started_line<W: WriteStr>(
 }
 
 // Writes a date and a time of day. A part of a second is left out.
-#[tactic(auto, unfolding(crate::specs::Headers::started_text))]
+#[tactic(auto, unfolding(crate::specs::Header::started_text))]
 fn write_started_at<W: WriteStr>(w: &mut W, started_at: DateTime) -> Result<(), WriteFault>
     ensures { Puts W.meaning w.old (started_text started_at) result w.new }
 {
@@ -74,7 +74,7 @@ fn write_started_at<W: WriteStr>(w: &mut W, started_at: DateTime) -> Result<(), 
 }
 
 // Writes a date: the year in four digits, the month and the day in two.
-#[tactic(auto, unfolding(crate::specs::Headers::date_text))]
+#[tactic(auto, unfolding(crate::specs::Header::date_text))]
 fn write_date<W: WriteStr>(w: &mut W, date: Date) -> Result<(), WriteFault>
     ensures { Puts W.meaning w.old (date_text date) result w.new }
 {
@@ -107,7 +107,7 @@ fn year_sign(year: i16) -> &'static str
 }
 
 // Writes a time of day: hour, minute and second in two digits.
-#[tactic(auto, unfolding(crate::specs::Headers::time_text))]
+#[tactic(auto, unfolding(crate::specs::Header::time_text))]
 fn write_time<W: WriteStr>(w: &mut W, time: Time) -> Result<(), WriteFault>
     ensures { Puts W.meaning w.old (time_text time) result w.new }
 {

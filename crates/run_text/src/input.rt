@@ -1,7 +1,7 @@
 //! How a run stands, when it is asked for by a key.
 
 ghost use Rattle.plain_text.specs.Writer.{Puts};
-ghost use Rattle.run_text.specs.Inputs.{finished_of_initial, input_enter_text};
+ghost use Rattle.run_text.specs.Input.{finished_of_initial, input_enter_text};
 
 use event_text::stats_text::{failure_style, write_progress_message};
 use plain_text::style::{Styles, write_plain};
@@ -11,7 +11,7 @@ use run_model::time::Nanos;
 use unit_report::formatters::DisplayBracketedHhMmSs;
 
 /// Writes how long a run has taken, how many of its tests have finished, and its counts.
-#[tactic(auto, unfolding(crate::specs::Inputs::input_enter_text))]
+#[tactic(auto, unfolding(crate::specs::Input::input_enter_text))]
 pub fn write_input_enter<W: WriteStr>(
     w: &mut W,
     styles: &Styles,
@@ -30,7 +30,7 @@ pub fn write_input_enter<W: WriteStr>(
 }
 
 // Writes how many of how many tests have finished.
-#[tactic(auto, unfolding(crate::specs::Inputs::finished_of_initial))]
+#[tactic(auto, unfolding(crate::specs::Input::finished_of_initial))]
 fn write_finished_of_initial<W: WriteStr>(
     w: &mut W,
     styles: &Styles,

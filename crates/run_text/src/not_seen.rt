@@ -3,7 +3,7 @@
 ghost use Rattle.std.specs.Prelude.{◌≡◌, length};
 ghost use Rattle.std.specs.List.{flat_map};
 ghost use Rattle.plain_text.specs.Writer.{Puts};
-ghost use Rattle.run_text.specs.NotSeens.{more_line, more_not_seen, not_seen_end, not_seen_line, not_seen_note, not_seen_start, not_seen_text};
+ghost use Rattle.run_text.specs.NotSeen.{more_line, more_not_seen, not_seen_end, not_seen_line, not_seen_note, not_seen_start, not_seen_text};
 
 use event_text::settings::Settings;
 use plain_text::style::{ListStyles, Styles, write_plain};
@@ -34,7 +34,7 @@ pub fn write_not_seen<W: WriteStr>(
 }
 
 // Writes the note, where there are such tests.
-#[tactic(auto, unfolding(crate::specs::NotSeens::not_seen_note))]
+#[tactic(auto, unfolding(crate::specs::NotSeen::not_seen_note))]
 fn write_note<W: WriteStr>(
     w: &mut W,
     settings: &Settings,
@@ -52,7 +52,7 @@ fn write_note<W: WriteStr>(
 }
 
 // Writes how many tests there are.
-#[tactic(auto, unfolding(crate::specs::NotSeens::not_seen_start))]
+#[tactic(auto, unfolding(crate::specs::NotSeen::not_seen_start))]
 fn write_note_start<W: WriteStr>(
     w: &mut W,
     styles: &Styles,
@@ -69,7 +69,7 @@ fn write_note_start<W: WriteStr>(
     write_note_start_end(w)
 }
 
-#[tactic(auto, unfolding(crate::specs::NotSeens::not_seen_end))]
+#[tactic(auto, unfolding(crate::specs::NotSeen::not_seen_end))]
 fn write_note_start_end<W: WriteStr>(w: &mut W) -> Result<(), WriteFault>
     ensures { Puts W.meaning w.old not_seen_end result w.new }
 {
@@ -91,7 +91,7 @@ fn write_listed<W: WriteStr>(
 }
 
 // Writes a test, without a counter or an iteration.
-#[tactic(auto, unfolding(crate::specs::NotSeens::not_seen_line))]
+#[tactic(auto, unfolding(crate::specs::NotSeen::not_seen_line))]
 fn write_listed_test<W: WriteStr>(
     w: &mut W,
     list_styles: &ListStyles,
@@ -105,7 +105,7 @@ fn write_listed_test<W: WriteStr>(
 }
 
 // Writes how many tests are not listed, where there are such.
-#[tactic(auto, unfolding(crate::specs::NotSeens::more_not_seen))]
+#[tactic(auto, unfolding(crate::specs::NotSeen::more_not_seen))]
 fn write_more<W: WriteStr>(
     w: &mut W,
     settings: &Settings,
@@ -119,7 +119,7 @@ fn write_more<W: WriteStr>(
     write_more_line(w, &settings.styles, settings.mode, remaining)
 }
 
-#[tactic(auto, unfolding(crate::specs::NotSeens::more_line))]
+#[tactic(auto, unfolding(crate::specs::NotSeen::more_line))]
 fn write_more_line<W: WriteStr>(
     w: &mut W,
     styles: &Styles,

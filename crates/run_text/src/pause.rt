@@ -1,7 +1,7 @@
 //! A run that is stopped for a while, and goes on.
 
 ghost use Rattle.plain_text.specs.Writer.{Puts};
-ghost use Rattle.run_text.specs.Pauses.{now_running, pause_text, run_continued_text, run_paused_text};
+ghost use Rattle.run_text.specs.Pause.{now_running, pause_text, run_continued_text, run_paused_text};
 
 use crate::running::Running;
 use event_text::settings::Settings;
@@ -14,7 +14,7 @@ use plain_text::write_str::{WriteFault, WriteStr};
 /// write_run_paused(&mut out, &settings, 0, 2)?;
 /// assert_eq!(out.as_str(), "     Pausing due to signal: 2 tests running\n");
 /// ```
-#[tactic(auto, unfolding(crate::specs::Pauses::run_paused_text))]
+#[tactic(auto, unfolding(crate::specs::Pause::run_paused_text))]
 pub fn write_run_paused<W: WriteStr>(
     w: &mut W,
     settings: &Settings,
@@ -27,7 +27,7 @@ pub fn write_run_paused<W: WriteStr>(
 }
 
 /// Writes that the run goes on after it was stopped, and how many setup scripts or tests run.
-#[tactic(auto, unfolding(crate::specs::Pauses::run_continued_text))]
+#[tactic(auto, unfolding(crate::specs::Pause::run_continued_text))]
 pub fn write_run_continued<W: WriteStr>(
     w: &mut W,
     settings: &Settings,
@@ -40,7 +40,7 @@ pub fn write_run_continued<W: WriteStr>(
 }
 
 // Writes what the run does on a signal, and how many run.
-#[tactic(auto, unfolding(crate::specs::Pauses::pause_text))]
+#[tactic(auto, unfolding(crate::specs::Pause::pause_text))]
 fn write_pause<W: WriteStr>(
     w: &mut W,
     settings: &Settings,
@@ -62,7 +62,7 @@ fn write_pause<W: WriteStr>(
 }
 
 // Writes how many run, where anything does.
-#[tactic(auto, unfolding(crate::specs::Pauses::now_running))]
+#[tactic(auto, unfolding(crate::specs::Pause::now_running))]
 fn write_now_running<W: WriteStr>(
     w: &mut W,
     settings: &Settings,

@@ -2,7 +2,7 @@
 
 ghost use Rattle.std.specs.Prelude.{◌≡◌, ◌≤◌, length};
 ghost use Rattle.plain_text.specs.Writer.{Puts};
-ghost use Rattle.run_text.specs.RunIds.{run_id_text, id_text};
+ghost use Rattle.run_text.specs.RunId.{run_id_text, id_text};
 
 use plain_text::style::Styles;
 use plain_text::write_str::{WriteFault, WriteStr};
@@ -10,7 +10,7 @@ use run_model::run_id::ShortestRunIdPrefix;
 use uuid::Uuid;
 
 /// Writes a run's id, with its unique prefix where that is known.
-#[tactic(auto, unfolding(crate::specs::RunIds::id_text))]
+#[tactic(auto, unfolding(crate::specs::RunId::id_text))]
 pub fn write_run_id<W: WriteStr>(
     w: &mut W,
     styles: &Styles,
@@ -32,7 +32,7 @@ pub fn write_run_id<W: WriteStr>(
 }
 
 // The run's id, hyphenated in lower case.
-#[tactic(auto, unfolding(crate::specs::RunIds::run_id_text))]
+#[tactic(auto, unfolding(crate::specs::RunId::run_id_text))]
 fn run_id_str<'b>(run_id: &Uuid, buffer: &'b mut [u8]) -> &'b str
     requires { 36 ≤ length buffer.old }
     ensures { result.now ≡ run_id_text run_id.now }

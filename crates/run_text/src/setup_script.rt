@@ -1,11 +1,11 @@
 //! Setup scripts: that one has started, runs for long or has finished.
 
 ghost use Rattle.std.specs.Prelude.{◌≡◌, ◌++◌};
-ghost use Rattle.plain_text.specs.Styles.{styled};
+ghost use Rattle.plain_text.specs.Style.{styled};
 ghost use Rattle.plain_text.specs.Texts.{right_in};
 ghost use Rattle.plain_text.specs.Writer.{Puts};
-ghost use Rattle.event_text.specs.Scripts.{script_of};
-ghost use Rattle.run_text.specs.SetupScripts.{HasFailedOutput, failed_script_output, script_counter, script_status_style, script_status_words, setup_script_finished_text, setup_script_line, setup_script_slow_text, setup_script_started_text, shown_slow_script, slow_script_level, slow_script_words};
+ghost use Rattle.event_text.specs.Script.{script_of};
+ghost use Rattle.run_text.specs.SetupScript.{HasFailedScriptOutput, failed_script_output, script_counter, script_status_style, script_status_words, setup_script_finished_text, setup_script_line, setup_script_slow_text, setup_script_started_text, shown_slow_script, slow_script_level, slow_script_words};
 
 use event_text::attempt_output::write_setup_script_execute_status;
 use event_text::result_words::spaced_short_status_str;
@@ -22,7 +22,7 @@ use run_model::time::Nanos;
 use unit_report::formatters::{DisplayBracketedDuration, DisplaySlowDuration};
 
 /// Writes that a setup script has started. `index` is its place among all, from 0.
-#[tactic(auto, unfolding(crate::specs::SetupScripts::setup_script_started_text))]
+#[tactic(auto, unfolding(crate::specs::SetupScript::setup_script_started_text))]
 pub fn write_setup_script_started<W: WriteStr>(
     w: &mut W,
     styles: &Styles,
@@ -40,7 +40,7 @@ pub fn write_setup_script_started<W: WriteStr>(
 }
 
 // Writes which of the scripts it is, from 1. That number may be above the greatest of its type.
-#[tactic(auto, unfolding(crate::specs::SetupScripts::script_counter))]
+#[tactic(auto, unfolding(crate::specs::SetupScript::script_counter))]
 fn write_script_counter<W: WriteStr>(
     w: &mut W,
     index: usize,
@@ -57,7 +57,7 @@ fn write_script_counter<W: WriteStr>(
 }
 
 /// Writes that a setup script has run for so long, where its level is shown.
-#[tactic(auto, unfolding(crate::specs::SetupScripts::setup_script_slow_text))]
+#[tactic(auto, unfolding(crate::specs::SetupScript::setup_script_slow_text))]
 pub fn write_setup_script_slow<W: WriteStr>(
     w: &mut W,
     settings: &Settings,
@@ -86,7 +86,7 @@ fn slow_script_level(will_terminate: bool) -> StatusLevel
 }
 
 // Writes that a setup script has run for so long.
-#[tactic(auto, unfolding(crate::specs::SetupScripts::shown_slow_script))]
+#[tactic(auto, unfolding(crate::specs::SetupScript::shown_slow_script))]
 fn write_shown_slow_script<W: WriteStr>(
     w: &mut W,
     styles: &Styles,
@@ -104,7 +104,7 @@ fn write_shown_slow_script<W: WriteStr>(
 }
 
 // Writes that it is slow, or is ended for it.
-#[tactic(auto, unfolding(crate::specs::SetupScripts::slow_script_words))]
+#[tactic(auto, unfolding(crate::specs::SetupScript::slow_script_words))]
 fn write_slow_script_words<W: WriteStr>(
     w: &mut W,
     styles: &Styles,
@@ -121,14 +121,14 @@ fn write_slow_script_words<W: WriteStr>(
 
 /// Writes that a setup script has finished, and what it wrote unless it succeeded. What is shown must not have been left
 /// unread.
-#[tactic(auto, unfolding(crate::specs::SetupScripts::setup_script_finished_text))]
+#[tactic(auto, unfolding(crate::specs::SetupScript::setup_script_finished_text))]
 pub fn write_setup_script_finished<W: WriteStr>(
     w: &mut W,
     settings: &Settings,
     script: ScriptInstance<'_>,
     run_status: &SetupScriptExecuteStatus<LiveSpec>,
 ) -> Result<(), WriteFault>
-    requires { HasFailedOutput run_status.now }
+    requires { HasFailedScriptOutput run_status.now }
     ensures { Puts W.meaning w.old (setup_script_finished_text settings.now (script_of script.entry) run_status.now) result w.new }
 {
     let (outcome, time_taken) = (&run_status.result, run_status.time_taken);
@@ -137,7 +137,7 @@ pub fn write_setup_script_finished<W: WriteStr>(
 }
 
 // Writes the line of a setup script that ended so.
-#[tactic(auto, unfolding(crate::specs::SetupScripts::setup_script_line))]
+#[tactic(auto, unfolding(crate::specs::SetupScript::setup_script_line))]
 fn write_setup_script_line<W: WriteStr>(
     w: &mut W,
     styles: &Styles,
@@ -188,13 +188,13 @@ fn script_status_style(styles: &Styles, outcome: &ExecutionResultDescription) ->
 }
 
 // Writes what a setup script wrote, unless it succeeded.
-#[tactic(auto, unfolding(crate::specs::SetupScripts::failed_script_output))]
+#[tactic(auto, unfolding(crate::specs::SetupScript::failed_script_output))]
 fn write_failed_script_output<W: WriteStr>(
     w: &mut W,
     settings: &Settings,
     run_status: &SetupScriptExecuteStatus<LiveSpec>,
 ) -> Result<(), WriteFault>
-    requires { HasFailedOutput run_status.now }
+    requires { HasFailedScriptOutput run_status.now }
     ensures { Puts W.meaning w.old (failed_script_output settings.now run_status.now) result w.new }
 {
     let outcome = &run_status.result;

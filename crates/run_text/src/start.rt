@@ -1,7 +1,7 @@
 //! The start of a run: its id and profile, and what it is to run.
 
 ghost use Rattle.plain_text.specs.Writer.{Puts};
-ghost use Rattle.run_text.specs.Starts.{profile_text, run_id_line, test_counts_text, starting_line, run_started_text};
+ghost use Rattle.run_text.specs.Start.{profile_text, run_id_line, test_counts_text, starting_line, run_started_text};
 
 use crate::run_id::write_run_id;
 use event_text::bar::write_bar_line;
@@ -17,7 +17,7 @@ use unit_report::formatters::write_skip_counts;
 use uuid::Uuid;
 
 /// Writes the start of a run: its id and profile, and how many tests and binaries there are.
-#[tactic(auto, unfolding(crate::specs::Starts::run_started_text))]
+#[tactic(auto, unfolding(crate::specs::Start::run_started_text))]
 pub fn write_run_started<W: WriteStr>(
     w: &mut W,
     settings: &Settings,
@@ -34,7 +34,7 @@ pub fn write_run_started<W: WriteStr>(
 }
 
 // Writes the run's id and its profile.
-#[tactic(auto, unfolding(crate::specs::Starts::run_id_line))]
+#[tactic(auto, unfolding(crate::specs::Start::run_id_line))]
 fn write_run_id_line<W: WriteStr>(
     w: &mut W,
     styles: &Styles,
@@ -51,7 +51,7 @@ fn write_run_id_line<W: WriteStr>(
 }
 
 // Writes the profile, at the end of that line.
-#[tactic(auto, unfolding(crate::specs::Starts::profile_text))]
+#[tactic(auto, unfolding(crate::specs::Start::profile_text))]
 fn write_profile<W: WriteStr>(w: &mut W, styles: &Styles, name: &str) -> Result<(), WriteFault>
     ensures { Puts W.meaning w.old (profile_text styles.now name.now) result w.new }
 {
@@ -61,7 +61,7 @@ fn write_profile<W: WriteStr>(w: &mut W, styles: &Styles, name: &str) -> Result<
 }
 
 // Writes how many tests and binaries there are, and what is skipped.
-#[tactic(auto, unfolding(crate::specs::Starts::starting_line))]
+#[tactic(auto, unfolding(crate::specs::Start::starting_line))]
 fn write_starting_line<W: WriteStr>(
     w: &mut W,
     settings: &Settings,
@@ -84,7 +84,7 @@ fn write_starting_line<W: WriteStr>(
 }
 
 // Writes how many tests and binaries there are.
-#[tactic(auto, unfolding(crate::specs::Starts::test_counts_text))]
+#[tactic(auto, unfolding(crate::specs::Start::test_counts_text))]
 fn write_test_counts<W: WriteStr>(
     w: &mut W,
     styles: &Styles,

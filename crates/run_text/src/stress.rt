@@ -5,9 +5,9 @@ ghost use Rattle.std.specs.Option.{option_map};
 ghost use Rattle.std.specs.Int.NonZero.{non_zero_u32_get};
 ghost use Rattle.run_model.specs.Stress.{remaining_value};
 ghost use Rattle.report_text.specs.Durations.{clock_text, whole_seconds};
-ghost use Rattle.plain_text.specs.Styles.{styled};
+ghost use Rattle.plain_text.specs.Style.{styled};
 ghost use Rattle.plain_text.specs.Writer.{Puts};
-ghost use Rattle.run_text.specs.StressRuns.{count_left_text, elapsed_text, elapsed_words, iteration_text, of_iterations, of_time, remaining_text, stress_sub_run_finished_text, stress_sub_run_line, stress_sub_run_started_text, time_left_text};
+ghost use Rattle.run_text.specs.Stress.{count_left_text, elapsed_text, elapsed_words, iteration_text, of_iterations, of_time, remaining_text, stress_sub_run_finished_text, stress_sub_run_line, stress_sub_run_started_text, time_left_text};
 
 use crate::summary::{outcome_style, write_run_counts};
 use event_text::bar::write_bar_line;
@@ -23,7 +23,7 @@ use std::num::NonZeroU32;
 use unit_report::formatters::DisplayBracketedDuration;
 
 /// Writes that an iteration of a stress run has started, and what of the run has passed and remains.
-#[tactic(auto, unfolding(crate::specs::StressRuns::stress_sub_run_started_text))]
+#[tactic(auto, unfolding(crate::specs::Stress::stress_sub_run_started_text))]
 pub fn write_stress_sub_run_started<W: WriteStr>(
     w: &mut W,
     settings: &Settings,
@@ -36,7 +36,7 @@ pub fn write_stress_sub_run_started<W: WriteStr>(
 }
 
 // Writes the line after its bar.
-#[tactic(auto, unfolding(crate::specs::StressRuns::stress_sub_run_line))]
+#[tactic(auto, unfolding(crate::specs::Stress::stress_sub_run_line))]
 fn write_started_line<W: WriteStr>(
     w: &mut W,
     styles: &Styles,
@@ -53,7 +53,7 @@ fn write_started_line<W: WriteStr>(
 }
 
 // Writes the number of an iteration, and how many there are to be where that is known.
-#[tactic(auto, unfolding(crate::specs::StressRuns::iteration_text))]
+#[tactic(auto, unfolding(crate::specs::Stress::iteration_text))]
 fn write_iteration<W: WriteStr>(
     w: &mut W,
     styles: &Styles,
@@ -67,7 +67,7 @@ fn write_iteration<W: WriteStr>(
     write_of_iterations(w, styles, progress)
 }
 
-#[tactic(auto, unfolding(crate::specs::StressRuns::of_iterations))]
+#[tactic(auto, unfolding(crate::specs::Stress::of_iterations))]
 fn write_of_iterations<W: WriteStr>(
     w: &mut W,
     styles: &Styles,
@@ -92,7 +92,7 @@ fn write_of_iterations<W: WriteStr>(
 }
 
 // Writes how long the run has taken, and of how long where that is known.
-#[tactic(auto, unfolding(crate::specs::StressRuns::elapsed_text))]
+#[tactic(auto, unfolding(crate::specs::Stress::elapsed_text))]
 fn write_elapsed<W: WriteStr>(
     w: &mut W,
     styles: &Styles,
@@ -106,14 +106,14 @@ fn write_elapsed<W: WriteStr>(
     write_elapsed_words(w)
 }
 
-#[tactic(auto, unfolding(crate::specs::StressRuns::elapsed_words))]
+#[tactic(auto, unfolding(crate::specs::Stress::elapsed_words))]
 fn write_elapsed_words<W: WriteStr>(w: &mut W) -> Result<(), WriteFault>
     ensures { Puts W.meaning w.old elapsed_words result w.new }
 {
     write_plain(w, " elapsed so far")
 }
 
-#[tactic(auto, unfolding(crate::specs::StressRuns::of_time))]
+#[tactic(auto, unfolding(crate::specs::Stress::of_time))]
 fn write_of_time<W: WriteStr>(
     w: &mut W,
     styles: &Styles,
@@ -131,7 +131,7 @@ fn write_of_time<W: WriteStr>(
 }
 
 // Writes hours, minutes and seconds as a number.
-#[tactic(auto, unfolding(plain_text::specs::Styles::styled))]
+#[tactic(auto, unfolding(plain_text::specs::Style::styled))]
 fn write_hh_mm_ss<W: WriteStr>(
     w: &mut W,
     styles: &Styles,
@@ -160,7 +160,7 @@ fn write_remaining<W: WriteStr>(
     }
 }
 
-#[tactic(auto, unfolding(crate::specs::StressRuns::count_left_text))]
+#[tactic(auto, unfolding(crate::specs::Stress::count_left_text))]
 fn write_count_left<W: WriteStr>(
     w: &mut W,
     styles: &Styles,
@@ -177,7 +177,7 @@ fn write_count_left<W: WriteStr>(
 
 // Writes the time that remains. A part of a second counts as one, so that it and the time that has passed do not seem to
 // make less than the whole.
-#[tactic(auto, unfolding(crate::specs::StressRuns::time_left_text))]
+#[tactic(auto, unfolding(crate::specs::Stress::time_left_text))]
 fn write_time_left<W: WriteStr>(w: &mut W, styles: &Styles, time: Nanos) -> Result<(), WriteFault>
     ensures { Puts W.meaning w.old (time_left_text styles.now time.0) result w.new }
 {
@@ -187,7 +187,7 @@ fn write_time_left<W: WriteStr>(w: &mut W, styles: &Styles, time: Nanos) -> Resu
 }
 
 /// Writes that an iteration of a stress run has finished, how long it took, and its counts.
-#[tactic(auto, unfolding(crate::specs::StressRuns::stress_sub_run_finished_text))]
+#[tactic(auto, unfolding(crate::specs::Stress::stress_sub_run_finished_text))]
 pub fn write_stress_sub_run_finished<W: WriteStr>(
     w: &mut W,
     settings: &Settings,

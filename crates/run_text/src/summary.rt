@@ -2,7 +2,7 @@
 
 ghost use Rattle.std.specs.Prelude.{◌≡◌};
 ghost use Rattle.plain_text.specs.Writer.{Puts};
-ghost use Rattle.run_text.specs.Summaries.{cancel_reason_text, cancelled_due_to, cancelled_words, failed_iterations, initial_count_text, iterations_run_text, last_number, of_total, outcome_style, run_counts_text, run_finished_text, stress_counts_text, stress_outcome_style, stress_run_words, summary_counts, summary_line, summary_style};
+ghost use Rattle.run_text.specs.Summary.{cancel_reason_text, cancelled_due_to, cancelled_words, failed_iterations, initial_count_text, iterations_run_text, last_number, of_total, outcome_style, run_counts_text, run_finished_text, stress_counts_text, stress_outcome_style, stress_run_words, summary_counts, summary_line, summary_style};
 
 use event_text::bar::write_bar_line;
 use event_text::settings::Settings;
@@ -21,7 +21,7 @@ use std::num::NonZeroU32;
 use unit_report::formatters::DisplayBracketedDuration;
 
 /// Writes the end of a run before its entries: how long it took and its counts.
-#[tactic(auto, unfolding(crate::specs::Summaries::run_finished_text))]
+#[tactic(auto, unfolding(crate::specs::Summary::run_finished_text))]
 pub fn write_run_finished<W: WriteStr>(
     w: &mut W,
     settings: &Settings,
@@ -35,7 +35,7 @@ pub fn write_run_finished<W: WriteStr>(
 }
 
 // Writes the statistics that end a run, after its bar.
-#[tactic(auto, unfolding(crate::specs::Summaries::summary_line))]
+#[tactic(auto, unfolding(crate::specs::Summary::summary_line))]
 fn write_summary_line<W: WriteStr>(
     w: &mut W,
     settings: &Settings,
@@ -89,7 +89,7 @@ fn stress_outcome_style(styles: &Styles, outcome: StressFinalRunStats) -> Style
 }
 
 // Writes how many iterations ran, how many of them succeeded and failed, and why the last was cancelled.
-#[tactic(auto, unfolding(crate::specs::Summaries::stress_counts_text))]
+#[tactic(auto, unfolding(crate::specs::Summary::stress_counts_text))]
 fn write_stress_counts<W: WriteStr>(
     w: &mut W,
     styles: &Styles,
@@ -111,7 +111,7 @@ fn write_stress_counts<W: WriteStr>(
 }
 
 // Writes how many iterations have finished, of how many where that is known. The word goes by the last number.
-#[tactic(auto, unfolding(crate::specs::Summaries::iterations_run_text))]
+#[tactic(auto, unfolding(crate::specs::Summary::iterations_run_text))]
 fn write_iterations_run<W: WriteStr>(
     w: &mut W,
     styles: &Styles,
@@ -126,7 +126,7 @@ fn write_iterations_run<W: WriteStr>(
     write_plain(w, ": ")
 }
 
-#[tactic(auto, unfolding(crate::specs::Summaries::of_total))]
+#[tactic(auto, unfolding(crate::specs::Summary::of_total))]
 fn write_of_total<W: WriteStr>(
     w: &mut W,
     styles: &Styles,
@@ -143,7 +143,7 @@ fn write_of_total<W: WriteStr>(
     }
 }
 
-#[tactic(auto, unfolding(crate::specs::Summaries::stress_run_words))]
+#[tactic(auto, unfolding(crate::specs::Summary::stress_run_words))]
 fn write_stress_run<W: WriteStr>(w: &mut W) -> Result<(), WriteFault>
     ensures { Puts W.meaning w.old stress_run_words result w.new }
 {
@@ -161,7 +161,7 @@ fn last_number(completed: &StressIndex) -> u32
 }
 
 // Writes how many iterations failed, where there is one.
-#[tactic(auto, unfolding(crate::specs::Summaries::failed_iterations))]
+#[tactic(auto, unfolding(crate::specs::Summary::failed_iterations))]
 fn write_failed_iterations<W: WriteStr>(
     w: &mut W,
     styles: &Styles,
@@ -190,7 +190,7 @@ fn write_cancelled_due_to<W: WriteStr>(
     }
 }
 
-#[tactic(auto, unfolding(crate::specs::Summaries::cancel_reason_text))]
+#[tactic(auto, unfolding(crate::specs::Summary::cancel_reason_text))]
 fn write_cancel_reason<W: WriteStr>(
     w: &mut W,
     styles: &Styles,
@@ -207,7 +207,7 @@ fn write_cancel_reason<W: WriteStr>(
     }
 }
 
-#[tactic(auto, unfolding(crate::specs::Summaries::cancelled_words))]
+#[tactic(auto, unfolding(crate::specs::Summary::cancelled_words))]
 fn write_cancelled_words<W: WriteStr>(w: &mut W) -> Result<(), WriteFault>
     ensures { Puts W.meaning w.old cancelled_words result w.new }
 {
@@ -227,7 +227,7 @@ pub fn outcome_style(styles: &Styles, outcome: FinalRunStats) -> Style
 }
 
 /// Writes how many tests ran, and the counts.
-#[tactic(auto, unfolding(crate::specs::Summaries::run_counts_text))]
+#[tactic(auto, unfolding(crate::specs::Summary::run_counts_text))]
 pub fn write_run_counts<W: WriteStr>(
     w: &mut W,
     styles: &Styles,
@@ -247,7 +247,7 @@ pub fn write_run_counts<W: WriteStr>(
 }
 
 // Writes `/N`, the planned number of tests, where it differs from how many ran.
-#[tactic(auto, unfolding(crate::specs::Summaries::initial_count_text))]
+#[tactic(auto, unfolding(crate::specs::Summary::initial_count_text))]
 fn write_initial_count<W: WriteStr>(
     w: &mut W,
     styles: &Styles,

@@ -15,14 +15,14 @@ use Rattle.scene_text.specs.declared.reader.counts.SkipsKey.TheVariants as skips
 use Rattle.scene_text.specs.declared.reader.counts.SkipsRead.{SkipsRead}
 
 -- what is known after pairs, where there is something
-abbrev pub go_on : {S : Type 0} → (S → Option S) → Option S → Option S
-go_on next None = None
-go_on next (Some after) = next after
+abbrev pub counts_after : {S : Type 0} → (S → Option S) → Option S → Option S
+counts_after next None = None
+counts_after next (Some after) = next after
 
 -- each pair in turn, by what one says
 unfoldable pub in_turn : {S : Type 0} → (S → List ℕ → Option S) → S → List (List ℕ) → Option S
 in_turn pair_in before [] = Some before
-in_turn pair_in before (t ∷ ts) = go_on (λ after. in_turn pair_in after ts) (pair_in before t)
+in_turn pair_in before (t ∷ ts) = counts_after (λ after. in_turn pair_in after ts) (pair_in before t)
 
 abbrev pub stats_key_word : StatsKey → List ℕ
 stats_key_word stats.Initial = codes "initial"

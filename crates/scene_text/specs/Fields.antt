@@ -23,8 +23,8 @@ infixl 10 ◌>>=◌
 abbrev pub ◌>>=◌ : {A B : Type 0} → Line A → (A → Line B) → Line B
 l >>= f = λ p. goes_on f (l p)
 
-abbrev pub said : {X : Type 0} → X → Line X
-said x p = Ok (x, p)
+abbrev pub says : {X : Type 0} → X → Line X
+says x p = Ok (x, p)
 
 -- the next field
 abbrev pub taken : ℕ → List (List ℕ) → Result (List ℕ × Place) LineFault

@@ -1,6 +1,6 @@
 -- What the fields of the lines say that tell what the units of a run are doing.
 use Rattle.scene_text.specs.Counts.{stats_in}
-use Rattle.scene_text.specs.Fields.{◌>>=◌, Line, said, field}
+use Rattle.scene_text.specs.Fields.{◌>>=◌, Line, says, field}
 use Rattle.scene_text.specs.Numbers.{nanos_in, number_in}
 use Rattle.scene_text.specs.Outputs.{output_fields}
 use Rattle.scene_text.specs.ScriptLines.{script_fields}
@@ -12,18 +12,18 @@ use Rattle.scene_text.specs.declared.scene.event.SceneEvent.TheVariants as event
 use Rattle.scene_text.specs.declared.scene.info_events.UnitAnswer.{UnitAnswer}
 
 -- `info`: how long the run has taken, how many units were asked, and statistics
-unfoldable pub info_line : Line SceneEvent
-info_line = do
+unfoldable pub info_line_fields : Line SceneEvent
+info_line_fields = do
   elapsed ← field nanos_in
   total ← field (number_in 64)
   stats ← field stats_in
-  said (event.InfoStarted (record { elapsed = elapsed; total = total; run_stats = stats }))
+  says (event.InfoStarted (record { elapsed = elapsed; total = total; run_stats = stats }))
 
 -- `infoend`: how many units have not answered
-unfoldable pub info_end_line : Line SceneEvent
-info_end_line = do
+unfoldable pub info_end_line_fields : Line SceneEvent
+info_end_line_fields = do
   missing ← field (number_in 64)
-  said (event.InfoFinished (record { missing = missing }))
+  says (event.InfoFinished (record { missing = missing }))
 
 -- what a unit is doing, how the attempt ended, and what it has written
 unfoldable pub answer_fields : Line UnitAnswer
@@ -31,24 +31,24 @@ answer_fields = do
   told ← field state_parts_in
   state ← field (state_in told)
   output ← output_fields (result_of state)
-  said (record { state = state; output = output })
+  says (record { state = state; output = output })
 
 -- `answer-script`: which answer of how many, the iteration, the script, and its answer
-unfoldable pub answer_script_line : Line SceneEvent
-answer_script_line = do
+unfoldable pub answer_script_line_fields : Line SceneEvent
+answer_script_line_fields = do
   index ← field (number_in 64)
   total ← field (number_in 64)
   stress_index ← field stress_in
   script ← script_fields
   answer ← answer_fields
-  said (event.ScriptAnswered (record { index = index; total = total; stress_index = stress_index; script = script; answer = answer }))
+  says (event.ScriptAnswered (record { index = index; total = total; stress_index = stress_index; script = script; answer = answer }))
 
 -- `answer-test`: which answer of how many, the test, the attempt, and its answer
-unfoldable pub answer_test_line : Line SceneEvent
-answer_test_line = do
+unfoldable pub answer_test_line_fields : Line SceneEvent
+answer_test_line_fields = do
   index ← field (number_in 64)
   total ← field (number_in 64)
   test ← test_fields
   retry_data ← retry_fields
   answer ← answer_fields
-  said (event.TestAnswered (record { index = index; total = total; test = test; retry_data = retry_data; answer = answer }))
+  says (event.TestAnswered (record { index = index; total = total; test = test; retry_data = retry_data; answer = answer }))

@@ -1,6 +1,6 @@
 -- The kinds of line that a scene has, and what the fields of a `config` line say.
 use Rattle.std.specs.Prelude.{ℕ, ◌%◌, List, [], ◌∷◌, Bool, codes, ◌==◌, ◌&&◌, nat_le, Option, Some}
-use Rattle.scene_text.specs.Fields.{◌>>=◌, Line, said, field}
+use Rattle.scene_text.specs.Fields.{◌>>=◌, Line, says, field}
 use Rattle.scene_text.specs.Numbers.{number_in}
 use Rattle.scene_text.specs.Values.{of_word, config_key_in, display_in, final_level_in, flag_in, mode_in}
 use Rattle.scene_text.specs.declared.reader.lines.LineKind.{LineKind}
@@ -75,39 +75,39 @@ takes line.End n = n == 4
 takes line.EndStress n = n == 7
 
 -- `config`: a key and its value
-abbrev pub set_line : SceneConfig → ConfigKey → Line SceneConfig
-set_line config key.Final = do
+abbrev pub set_field : SceneConfig → ConfigKey → Line SceneConfig
+set_field config key.Final = do
   level ← field final_level_in
-  said (record config { final_status_level = level })
-set_line config key.Runs = do
+  says (record config { final_status_level = level })
+set_field config key.Runs = do
   count ← field (number_in 64)
-  said (record config { run_count = count })
-set_line config key.Bench = do
+  says (record config { run_count = count })
+set_field config key.Bench = do
   mode ← field mode_in
-  said (record config { mode = mode })
-set_line config key.Success = do
+  says (record config { mode = mode })
+set_field config key.Success = do
   display ← field display_in
-  said (record config { success_output = Some display })
-set_line config key.Failure = do
+  says (record config { success_output = Some display })
+set_field config key.Failure = do
   display ← field display_in
-  said (record config { failure_output = Some display })
-set_line config key.NoCapture = do
+  says (record config { failure_output = Some display })
+set_field config key.NoCapture = do
   flag ← field flag_in
-  said (record config { no_capture = flag })
-set_line config key.Verbose = do
+  says (record config { no_capture = flag })
+set_field config key.Verbose = do
   flag ← field flag_in
-  said (record config { verbose = flag })
-set_line config key.NoIndent = do
+  says (record config { verbose = flag })
+set_field config key.NoIndent = do
   flag ← field flag_in
-  said (record config { no_output_indent = flag })
-set_line config key.Unicode = do
+  says (record config { no_output_indent = flag })
+set_field config key.Unicode = do
   flag ← field flag_in
-  said (record config { use_unicode = flag })
-set_line config key.Empty = do
+  says (record config { use_unicode = flag })
+set_field config key.Empty = do
   flag ← field flag_in
-  said (record config { display_empty_outputs = flag })
+  says (record config { display_empty_outputs = flag })
 
-unfoldable pub config_line : SceneConfig → Line SceneConfig
-config_line config = do
+unfoldable pub config_line_fields : SceneConfig → Line SceneConfig
+config_line_fields config = do
   key ← field config_key_in
-  set_line config key
+  set_field config key

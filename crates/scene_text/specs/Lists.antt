@@ -21,16 +21,16 @@ glued t (Some []) = Some []
 glued t (Some (w ∷ ws)) = Some ((t ++ w) ∷ ws)
 
 -- a byte in front of the first word
-abbrev pub in_first : Option ℕ → Option Words → Option Words
-in_first None ws = None
-in_first (Some b) ws = glued (b ∷ []) ws
+abbrev pub in_first_word : Option ℕ → Option Words → Option Words
+in_first_word None ws = None
+in_first_word (Some b) ws = glued (b ∷ []) ws
 
 -- the words of a list once so many bytes are passed over
 unfoldable pub words_after : ℕ → List ℕ → Option Words
 words_after skip [] = Some ([] ∷ [])
 words_after zero (c ∷ t) =
-    if c == 92 then (if begins_with_comma t then option_map (λ ws. [] ∷ ws) (words_after 1 t) else in_first (escape_byte 127 t) (words_after (escape_len t) t))
-    else in_first (Some c) (words_after 0 t)
+    if c == 92 then (if begins_with_comma t then option_map (λ ws. [] ∷ ws) (words_after 1 t) else in_first_word (escape_byte 127 t) (words_after (escape_len t) t))
+    else in_first_word (Some c) (words_after 0 t)
 words_after (suc skip) (c ∷ t) = words_after skip t
 
 -- the words of a list that has some, if its escapes are good ones

@@ -9,10 +9,11 @@ use Rattle.run_model.specs.declared.output.HighlightStream.{HighlightStream}
 use Rattle.run_model.specs.declared.output.HighlightStream.TheVariants as stream
 use Rattle.run_model.specs.declared.status.ExecutionResultDescription.{ExecutionResultDescription}
 use Rattle.scene_text.specs.Split.{cut}
-use Rattle.scene_text.specs.Fields.{◌>>=◌, Line, Place, said, field}
+use Rattle.scene_text.specs.Fields.{◌>>=◌, Line, Place, says, field}
 use Rattle.scene_text.specs.Lists.{chain_in, errors_in}
 use Rattle.scene_text.specs.Numbers.{number_in}
-use Rattle.scene_text.specs.SceneAttempts.{Written, silence}
+use Rattle.scene_text.specs.SceneAttempts.{silence}
+use Rattle.run_model.specs.Attempts.{Written}
 use Rattle.scene_text.specs.Texts.{bytes_in}
 use Rattle.scene_text.specs.Values.{of_word, absent_in}
 use Rattle.scene_text.specs.declared.reader.outputs.OutputForm.{OutputForm}
@@ -60,7 +61,7 @@ unfoldable pub after_streams : Option ExecutionResultDescription → ChildOutput
 after_streams result output = do
   errors ← field errors_in
   highlight ← field highlight_in
-  said (written.Output result output errors highlight)
+  says (written.Output result output errors highlight)
 
 -- the fields after the form
 abbrev pub formed : Option ExecutionResultDescription → OutputForm → Line Written
@@ -81,7 +82,7 @@ formed result form.StartError = do
   second ← field absent_in
   errors ← field absent_in
   highlight ← field absent_in
-  said (written.StartError error)
+  says (written.StartError error)
 
 -- an output: its form, what that takes first and second, errors, and a highlight
 unfoldable pub output_fields : Option ExecutionResultDescription → Line Written

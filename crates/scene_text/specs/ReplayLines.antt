@@ -3,7 +3,7 @@ use Rattle.std.specs.Prelude.{ℕ, List, if◌then◌else◌, Option, None, Some
 use Rattle.std.specs.Option.{option_map}
 use Rattle.uuid.specs.Text.{parsed}
 use Rattle.run_model.specs.UniquePrefixes.{UniquePrefix}
-use Rattle.scene_text.specs.Fields.{◌>>=◌, Line, said, field}
+use Rattle.scene_text.specs.Fields.{◌>>=◌, Line, says, field}
 use Rattle.scene_text.specs.Moments.{moment_in}
 use Rattle.scene_text.specs.Texts.{text_in}
 use Rattle.scene_text.specs.Values.{absent_in}
@@ -11,11 +11,11 @@ use Rattle.scene_text.specs.declared.scene.event.SceneEvent.{SceneEvent}
 use Rattle.scene_text.specs.declared.scene.event.SceneEvent.TheVariants as event
 
 -- `prefix`: the part of the run's id that no other run has, and the rest
-unfoldable pub prefix_line : Line SceneEvent
-prefix_line = do
+unfoldable pub prefix_line_fields : Line SceneEvent
+prefix_line_fields = do
   prefix ← field text_in
   rest ← field text_in
-  said (event.Prefix (record { prefix = prefix; rest = rest }))
+  says (event.Prefix (record { prefix = prefix; rest = rest }))
 
 -- a text, where `-` is none
 abbrev pub text_or_none_in : List ℕ → Option (Option (List ℕ))
@@ -29,10 +29,10 @@ some_text_in t = if bytes_eq t (codes "-") then None else text_in t
 abbrev pub rest_fields : Option (List ℕ) → Line (Option UniquePrefix)
 rest_fields None = do
   none ← field absent_in
-  said None
+  says None
 rest_fields (Some prefix) = do
   rest ← field some_text_in
-  said (Some (record { prefix = prefix; rest = rest }))
+  says (Some (record { prefix = prefix; rest = rest }))
 
 -- a prefix and the rest, or twice `-`
 unfoldable pub unique_prefix_fields : Line (Option UniquePrefix)
@@ -41,10 +41,10 @@ unique_prefix_fields = do
   rest_fields prefix
 
 -- `header`: the run's id, its prefix and the rest, when it started, and how it ended
-unfoldable pub header_line : Line SceneEvent
-header_line = do
+unfoldable pub header_line_fields : Line SceneEvent
+header_line_fields = do
   run_id ← field parsed
   unique_prefix ← unique_prefix_fields
   started_at ← field moment_in
   status ← field text_in
-  said (event.Header (record { run_id = run_id; unique_prefix = unique_prefix; started_at = started_at; status = status }))
+  says (event.Header (record { run_id = run_id; unique_prefix = unique_prefix; started_at = started_at; status = status }))

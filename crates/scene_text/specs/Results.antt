@@ -36,19 +36,19 @@ plain_in t =
     else None))))))
 
 -- a number and a text
-abbrev pub numbered : (ℤ → List ℕ → ExecutionResultDescription) → Option ℤ → Option (List ℕ) → Option ExecutionResultDescription
-numbered make (Some n) (Some text) = Some (make n text)
-numbered make n text = None
+abbrev pub with_number_and_text : (ℤ → List ℕ → ExecutionResultDescription) → Option ℤ → Option (List ℕ) → Option ExecutionResultDescription
+with_number_and_text make (Some n) (Some text) = Some (make n text)
+with_number_and_text make n text = None
 
 -- what follows `sig:`: the number, and perhaps a colon and the name
 abbrev pub signal_cut : List ℕ → Option (List ℕ × List ℕ) → Option ExecutionResultDescription
 signal_cut t None = option_map (nameless_signal false) (code_in t)
-signal_cut t (Some x) = numbered (λ n name. aborted false (abort.UnixSignal n (Some name))) (code_in x.0) (unescaped 127 x.1)
+signal_cut t (Some x) = with_number_and_text (λ n name. aborted false (abort.UnixSignal n (Some name))) (code_in x.0) (unescaped 127 x.1)
 
 -- what follows `nt:`: the number, a colon and the message
 abbrev pub status_cut : Option (List ℕ × List ℕ) → Option ExecutionResultDescription
 status_cut None = None
-status_cut (Some x) = numbered (λ n message. aborted false (abort.WindowsNtStatus n (Some message))) (code_in x.0) (unescaped 127 x.1)
+status_cut (Some x) = with_number_and_text (λ n message. aborted false (abort.WindowsNtStatus n (Some message))) (code_in x.0) (unescaped 127 x.1)
 
 -- a word, and what follows its colon
 abbrev pub told_in : List ℕ → List ℕ → Option ExecutionResultDescription

@@ -5,7 +5,7 @@ use Rattle.run_model.specs.declared.name.OwnedTestInstanceId.{OwnedTestInstanceI
 use Rattle.run_model.specs.declared.not_seen.NotSeen.{NotSeen}
 use Rattle.run_model.specs.declared.stats.RunFinishedStats.TheVariants.{Single}
 use Rattle.scene_text.specs.Counts.{skips_in, stats_in}
-use Rattle.scene_text.specs.Fields.{◌>>=◌, Line, said, field}
+use Rattle.scene_text.specs.Fields.{◌>>=◌, Line, says, field}
 use Rattle.scene_text.specs.Lists.{instances_in}
 use Rattle.scene_text.specs.Numbers.{nanos_in, number_in}
 use Rattle.scene_text.specs.Texts.{text_in}
@@ -16,37 +16,37 @@ use Rattle.scene_text.specs.declared.scene.run_events.RunCancel.{RunCancel}
 use Rattle.scene_text.specs.declared.scene.run_events.RunPause.{RunPause}
 
 -- `run`: run id, profile, how many tests and binaries, and what is skipped
-unfoldable pub run_line : Line SceneEvent
-run_line = do
+unfoldable pub run_line_fields : Line SceneEvent
+run_line_fields = do
   run_id ← field parsed
   profile ← field text_in
   tests ← field (number_in 64)
   binaries ← field (number_in 64)
   skips ← field skips_in
-  said (event.RunStarted (record { run_id = run_id; profile_name = profile; test_list = record { run_count = tests; listed_binary_count = binaries; skip_counts = skips } }))
+  says (event.RunStarted (record { run_id = run_id; profile_name = profile; test_list = record { run_count = tests; listed_binary_count = binaries; skip_counts = skips } }))
 
 -- `cancel` and `kill`: how many setup scripts and tests run, and the reason
-unfoldable pub cancel_line : Line RunCancel
-cancel_line = do
+unfoldable pub cancel_line_fields : Line RunCancel
+cancel_line_fields = do
   scripts ← field (number_in 64)
   tests ← field (number_in 64)
   reason ← field reason_or_none_in
-  said (record { setup_scripts_running = scripts; running = tests; reason = reason })
+  says (record { setup_scripts_running = scripts; running = tests; reason = reason })
 
 -- `pause` and `continue`: how many setup scripts and tests run
-unfoldable pub pause_line : Line RunPause
-pause_line = do
+unfoldable pub pause_line_fields : Line RunPause
+pause_line_fields = do
   scripts ← field (number_in 64)
   tests ← field (number_in 64)
-  said (record { setup_scripts_running = scripts; running = tests })
+  says (record { setup_scripts_running = scripts; running = tests })
 
 -- `input`: how long the run has taken, statistics, and how many units run
-unfoldable pub input_line : Line SceneEvent
-input_line = do
+unfoldable pub input_line_fields : Line SceneEvent
+input_line_fields = do
   elapsed ← field nanos_in
   stats ← field stats_in
   running ← field (number_in 64)
-  said (event.InputEnter (record { elapsed = elapsed; current_stats = stats; running = running }))
+  says (event.InputEnter (record { elapsed = elapsed; current_stats = stats; running = running }))
 
 -- tests that were not seen, where there are some or some are listed
 abbrev pub outstanding : ℕ → List OwnedTestInstanceId → Option NotSeen
@@ -57,12 +57,12 @@ unfoldable pub not_seen_fields : Line (Option NotSeen)
 not_seen_fields = do
   count ← field (number_in 64)
   listed ← field instances_in
-  said (outstanding count listed)
+  says (outstanding count listed)
 
 -- `end`: how long it took, statistics, and the tests that were not seen
-unfoldable pub end_line : Line SceneEvent
-end_line = do
+unfoldable pub end_line_fields : Line SceneEvent
+end_line_fields = do
   elapsed ← field nanos_in
   stats ← field stats_in
   not_seen ← not_seen_fields
-  said (event.RunFinished (record { elapsed = elapsed; run_stats = Single stats; outstanding_not_seen = not_seen }))
+  says (event.RunFinished (record { elapsed = elapsed; run_stats = Single stats; outstanding_not_seen = not_seen }))

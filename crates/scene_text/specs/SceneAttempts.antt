@@ -1,6 +1,6 @@
 -- What the short form of an attempt leaves out.
 use Rattle.std.specs.Prelude.{[], None, Some}
-use Rattle.run_model.specs.declared.output.ChildExecutionOutputDescription.{ChildExecutionOutputDescription}
+use Rattle.run_model.specs.Attempts.{Written}
 use Rattle.run_model.specs.declared.output.ChildExecutionOutputDescription.TheVariants.{Output}
 use Rattle.run_model.specs.declared.output.ChildOutputDescription.{ChildOutputDescription}
 use Rattle.run_model.specs.declared.output.ChildOutputDescription.TheVariants.{Split}
@@ -10,10 +10,6 @@ use Rattle.run_model.specs.declared.status.ExecutionResultDescription.{Execution
 use Rattle.run_model.specs.declared.status.SetupScriptExecuteStatus.{SetupScriptExecuteStatus}
 use Rattle.scene_text.specs.declared.scene.attempts.SceneOutput.{SceneOutput}
 use Rattle.scene_text.specs.declared.scene.attempts.SceneOutput.TheVariants as scene
-
--- what a process wrote
-abbrev pub Written : Type 0
-Written = ChildExecutionOutputDescription LiveSpec ChildOutputDescription
 
 -- both streams were captured, and hold nothing
 abbrev pub silence : ExecutionResultDescription → Written

@@ -4,13 +4,13 @@ use Rattle.std.specs.Str.{is_utf8}
 use Rattle.scene_text.specs.Configs.{unconfigured}
 use Rattle.scene_text.specs.Split.{parted}
 use Rattle.scene_text.specs.Fields.{Fails, Place}
-use Rattle.scene_text.specs.InfoLines.{answer_script_line, answer_test_line, info_end_line, info_line}
-use Rattle.scene_text.specs.Lines.{config_line, line_in, takes}
-use Rattle.scene_text.specs.ReplayLines.{header_line, prefix_line}
-use Rattle.scene_text.specs.RunLines.{cancel_line, end_line, input_line, pause_line, run_line}
-use Rattle.scene_text.specs.ScriptLines.{setup_done_line, setup_line, setup_slow_line}
-use Rattle.scene_text.specs.StressLines.{end_stress_line, sub_end_line, sub_start_line}
-use Rattle.scene_text.specs.TestLines.{done_line, retry_line, retry_start_line, skip_line, slow_line, start_line}
+use Rattle.scene_text.specs.InfoLines.{answer_script_line_fields, answer_test_line_fields, info_end_line_fields, info_line_fields}
+use Rattle.scene_text.specs.Lines.{config_line_fields, line_in, takes}
+use Rattle.scene_text.specs.ReplayLines.{header_line_fields, prefix_line_fields}
+use Rattle.scene_text.specs.RunLines.{cancel_line_fields, end_line_fields, input_line_fields, pause_line_fields, run_line_fields}
+use Rattle.scene_text.specs.ScriptLines.{setup_done_line_fields, setup_line_fields, setup_slow_line_fields}
+use Rattle.scene_text.specs.StressLines.{end_stress_line_fields, sub_end_line_fields, sub_start_line_fields}
+use Rattle.scene_text.specs.TestLines.{done_line_fields, retry_line_fields, retry_start_line_fields, skip_line_fields, slow_line_fields, start_line_fields}
 use Rattle.scene_text.specs.declared.fault.LineError.{LineError}
 use Rattle.scene_text.specs.declared.fault.LineError.TheVariants as error
 use Rattle.scene_text.specs.declared.fault.LineFault.{LineFault}
@@ -63,32 +63,32 @@ says_made make (Err f) = Err f
 
 -- what the fields after the first say, of which there are enough
 unfoldable pub fields_said : SceneConfig → LineKind → Place → Result LineSaid LineFault
-fields_said config line.Config fields = says_config (config_line config fields)
-fields_said config line.Prefix fields = says_event (prefix_line fields)
-fields_said config line.Header fields = says_event (header_line fields)
-fields_said config line.Run fields = says_event (run_line fields)
-fields_said config line.SubStart fields = says_event (sub_start_line fields)
-fields_said config line.Setup fields = says_event (setup_line fields)
-fields_said config line.SetupSlow fields = says_event (setup_slow_line fields)
-fields_said config line.SetupDone fields = says_event (setup_done_line fields)
-fields_said config line.Start fields = says_event (start_line fields)
-fields_said config line.RetryStart fields = says_event (retry_start_line fields)
-fields_said config line.Slow fields = says_event (slow_line fields)
-fields_said config line.Retry fields = says_event (retry_line fields)
-fields_said config line.Done fields = says_event (done_line fields)
-fields_said config line.Skip fields = says_event (skip_line fields)
-fields_said config line.Cancel fields = says_made event.RunBeginCancel (cancel_line fields)
-fields_said config line.Kill fields = says_made event.RunBeginKill (cancel_line fields)
-fields_said config line.Pause fields = says_made event.RunPaused (pause_line fields)
-fields_said config line.Continue fields = says_made event.RunContinued (pause_line fields)
-fields_said config line.Info fields = says_event (info_line fields)
-fields_said config line.AnswerScript fields = says_event (answer_script_line fields)
-fields_said config line.AnswerTest fields = says_event (answer_test_line fields)
-fields_said config line.InfoEnd fields = says_event (info_end_line fields)
-fields_said config line.Input fields = says_event (input_line fields)
-fields_said config line.SubEnd fields = says_event (sub_end_line fields)
-fields_said config line.End fields = says_event (end_line fields)
-fields_said config line.EndStress fields = says_event (end_stress_line fields)
+fields_said config line.Config fields = says_config (config_line_fields config fields)
+fields_said config line.Prefix fields = says_event (prefix_line_fields fields)
+fields_said config line.Header fields = says_event (header_line_fields fields)
+fields_said config line.Run fields = says_event (run_line_fields fields)
+fields_said config line.SubStart fields = says_event (sub_start_line_fields fields)
+fields_said config line.Setup fields = says_event (setup_line_fields fields)
+fields_said config line.SetupSlow fields = says_event (setup_slow_line_fields fields)
+fields_said config line.SetupDone fields = says_event (setup_done_line_fields fields)
+fields_said config line.Start fields = says_event (start_line_fields fields)
+fields_said config line.RetryStart fields = says_event (retry_start_line_fields fields)
+fields_said config line.Slow fields = says_event (slow_line_fields fields)
+fields_said config line.Retry fields = says_event (retry_line_fields fields)
+fields_said config line.Done fields = says_event (done_line_fields fields)
+fields_said config line.Skip fields = says_event (skip_line_fields fields)
+fields_said config line.Cancel fields = says_made event.RunBeginCancel (cancel_line_fields fields)
+fields_said config line.Kill fields = says_made event.RunBeginKill (cancel_line_fields fields)
+fields_said config line.Pause fields = says_made event.RunPaused (pause_line_fields fields)
+fields_said config line.Continue fields = says_made event.RunContinued (pause_line_fields fields)
+fields_said config line.Info fields = says_event (info_line_fields fields)
+fields_said config line.AnswerScript fields = says_event (answer_script_line_fields fields)
+fields_said config line.AnswerTest fields = says_event (answer_test_line_fields fields)
+fields_said config line.InfoEnd fields = says_event (info_end_line_fields fields)
+fields_said config line.Input fields = says_event (input_line_fields fields)
+fields_said config line.SubEnd fields = says_event (sub_end_line_fields fields)
+fields_said config line.End fields = says_event (end_line_fields fields)
+fields_said config line.EndStress fields = says_event (end_stress_line_fields fields)
 
 -- such a line may not stand after an event
 unfoldable pub comes_late : LineKind → Bool → Bool
@@ -130,14 +130,14 @@ told_with before (Err f) = Err f
 unfoldable pub line_told : Told → List ℕ → Result Told LineFault
 line_told before t = told_with before (line_said (lines_before before) t)
 
-abbrev pub go_on : (Told → Result Told (ℕ × LineFault)) → ℕ → Result Told LineFault → Result Told (ℕ × LineFault)
-go_on next n (Ok after) = next after
-go_on next n (Err f) = Err (n, f)
+abbrev pub lines_told_after : (Told → Result Told (ℕ × LineFault)) → ℕ → Result Told LineFault → Result Told (ℕ × LineFault)
+lines_told_after next n (Ok after) = next after
+lines_told_after next n (Err f) = Err (n, f)
 
 -- what is told after these lines, of which the first has this number, or the number and the fault of the first that has one
 unfoldable pub lines_told : ℕ → Told → List (List ℕ) → Result Told (ℕ × LineFault)
 lines_told n before [] = Ok before
-lines_told n before (t ∷ ts) = go_on (λ after. lines_told (n + 1) after ts) n (line_told before t)
+lines_told n before (t ∷ ts) = lines_told_after (λ after. lines_told (n + 1) after ts) n (line_told before t)
 
 -- what a text tells
 abbrev pub text_told : List ℕ → Result Told (ℕ × LineFault)

@@ -11,7 +11,8 @@ use Rattle.run_model.specs.declared.call.ReportCall.{ReportCall}
 use Rattle.run_model.specs.declared.call.ReportCall.TheVariants as call
 use Rattle.scene_text.specs.Counts.{nothing_counted}
 use Rattle.scene_text.specs.Moments.{moment_of}
-use Rattle.scene_text.specs.SceneAttempts.{Written, script_status}
+use Rattle.scene_text.specs.SceneAttempts.{script_status}
+use Rattle.run_model.specs.Attempts.{Written}
 use Rattle.scene_text.specs.States.{unit_state}
 use Rattle.scene_text.specs.declared.scene.event.SceneEvent.{SceneEvent}
 use Rattle.scene_text.specs.declared.scene.event.SceneEvent.TheVariants as scene

@@ -1,8 +1,8 @@
 -- What the fields of the lines of setup scripts say.
-use Rattle.scene_text.specs.Fields.{◌>>=◌, Line, said, field}
+use Rattle.scene_text.specs.Fields.{◌>>=◌, Line, says, field}
 use Rattle.scene_text.specs.Lists.{words_of}
 use Rattle.scene_text.specs.Numbers.{nanos_in, number_in}
-use Rattle.scene_text.specs.TestLines.{attempt_fields, numbered}
+use Rattle.scene_text.specs.TestLines.{attempt_fields, retry_numbered}
 use Rattle.scene_text.specs.Texts.{text_in}
 use Rattle.scene_text.specs.Values.{flag_in, stress_in}
 use Rattle.scene_text.specs.declared.scene.event.SceneEvent.{SceneEvent}
@@ -15,30 +15,30 @@ script_fields = do
   script_id ← field text_in
   program ← field text_in
   args ← field words_of
-  said (record { script_id = script_id; program = program; args = args })
+  says (record { script_id = script_id; program = program; args = args })
 
 -- `setup`: the iteration, which script of how many, and the script
-unfoldable pub setup_line : Line SceneEvent
-setup_line = do
+unfoldable pub setup_line_fields : Line SceneEvent
+setup_line_fields = do
   stress_index ← field stress_in
   index ← field (number_in 64)
   total ← field (number_in 64)
   script ← script_fields
-  said (event.SetupScriptStarted (record { stress_index = stress_index; index = index; total = total; script = script }))
+  says (event.SetupScriptStarted (record { stress_index = stress_index; index = index; total = total; script = script }))
 
 -- `setupslow`: the iteration, the script, how long it has taken, and whether it is ended
-unfoldable pub setup_slow_line : Line SceneEvent
-setup_slow_line = do
+unfoldable pub setup_slow_line_fields : Line SceneEvent
+setup_slow_line_fields = do
   stress_index ← field stress_in
   script ← script_fields
   elapsed ← field nanos_in
   will_terminate ← field flag_in
-  said (event.SetupScriptSlow (record { elapsed = elapsed; stress_index = stress_index; script = script; will_terminate = will_terminate }))
+  says (event.SetupScriptSlow (record { elapsed = elapsed; stress_index = stress_index; script = script; will_terminate = will_terminate }))
 
 -- `setupdone`: the iteration, the script, and its only attempt
-unfoldable pub setup_done_line : Line SceneEvent
-setup_done_line = do
+unfoldable pub setup_done_line_fields : Line SceneEvent
+setup_done_line_fields = do
   stress_index ← field stress_in
   script ← script_fields
-  attempt ← attempt_fields (numbered 1 1)
-  said (event.SetupScriptFinished (record { attempt = attempt; stress_index = stress_index; script = script }))
+  attempt ← attempt_fields (retry_numbered 1 1)
+  says (event.SetupScriptFinished (record { attempt = attempt; stress_index = stress_index; script = script }))

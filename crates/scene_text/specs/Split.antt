@@ -32,5 +32,5 @@ cut b (c ∷ t) = if c == b then Some ([], t) else option_map (λ x. (c ∷ x.0,
 abbrev pub cut_texts : Option (Bor (List ℕ) × Bor (List ℕ)) → Option (List ℕ × List ℕ)
 cut_texts o = option_map (λ x. (x.0.now, x.1.now)) o
 
-abbrev pub texts : List (Bor (List ℕ)) → List (List ℕ)
-texts ts = map (λ t. t.now) ts
+abbrev pub field_texts : List (Bor (List ℕ)) → List (List ℕ)
+field_texts ts = map (λ t. t.now) ts

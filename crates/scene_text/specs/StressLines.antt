@@ -10,7 +10,7 @@ use Rattle.run_model.specs.declared.stress.StressProgress.{StressProgress}
 use Rattle.run_model.specs.declared.stress.StressProgress.TheVariants as progress
 use Rattle.run_model.specs.declared.time.Nanos.{Nanos}
 use Rattle.scene_text.specs.Counts.{stats_in}
-use Rattle.scene_text.specs.Fields.{◌>>=◌, Line, said, field}
+use Rattle.scene_text.specs.Fields.{◌>>=◌, Line, says, field}
 use Rattle.scene_text.specs.Numbers.{nanos_in, number_in}
 use Rattle.scene_text.specs.RunLines.{not_seen_fields}
 use Rattle.scene_text.specs.Split.{cut}
@@ -32,16 +32,16 @@ time_progress (Some total) (Some elapsed) (Some completed) = Some (progress.Time
 time_progress total elapsed completed = None
 
 -- the parts after the word: the total, the time that was taken, and the iterations that have finished
-abbrev pub progress_of : List ℕ → List ℕ → Option (List ℕ × List ℕ) → Option StressProgress
-progress_of word total None = None
-progress_of word total (Some x) =
+abbrev pub stress_progress_of : List ℕ → List ℕ → Option (List ℕ × List ℕ) → Option StressProgress
+stress_progress_of word total None = None
+stress_progress_of word total (Some x) =
     if bytes_eq word (codes "count") then count_progress (stress_count_in total) (nanos_in x.0) (number_in 32 x.1)
     else (if bytes_eq word (codes "time") then time_progress (nanos_in total) (nanos_in x.0) (number_in 32 x.1)
     else None)
 
 abbrev pub progress_after : List ℕ → Option (List ℕ × List ℕ) → Option StressProgress
 progress_after word None = None
-progress_after word (Some x) = progress_of word x.0 (cut 58 x.1)
+progress_after word (Some x) = stress_progress_of word x.0 (cut 58 x.1)
 
 abbrev pub progress_cut : Option (List ℕ × List ℕ) → Option StressProgress
 progress_cut None = None
@@ -60,30 +60,30 @@ abbrev pub completed_in : List ℕ → Option StressIndex
 completed_in t = there (stress_in t)
 
 -- `substart`: how far the stress run has come
-unfoldable pub sub_start_line : Line SceneEvent
-sub_start_line = do
+unfoldable pub sub_start_line_fields : Line SceneEvent
+sub_start_line_fields = do
   progress ← field progress_in
-  said (event.StressSubRunStarted (record { progress = progress }))
+  says (event.StressSubRunStarted (record { progress = progress }))
 
 -- `subend`: how far the stress run has come, how long the iteration took, and its statistics
-unfoldable pub sub_end_line : Line SceneEvent
-sub_end_line = do
+unfoldable pub sub_end_line_fields : Line SceneEvent
+sub_end_line_fields = do
   progress ← field progress_in
   elapsed ← field nanos_in
   stats ← field stats_in
-  said (event.StressSubRunFinished (record { progress = progress; sub_elapsed = elapsed; sub_stats = stats }))
+  says (event.StressSubRunFinished (record { progress = progress; sub_elapsed = elapsed; sub_stats = stats }))
 
 -- `endstress`: how long the run took, how many iterations have finished, succeeded and failed, the statistics of the
 -- last one, and the tests that were not seen
-unfoldable pub end_stress_line : Line SceneEvent
-end_stress_line = do
+unfoldable pub end_stress_line_fields : Line SceneEvent
+end_stress_line_fields = do
   elapsed ← field nanos_in
   completed ← field completed_in
   succeeded ← field (number_in 32)
   failed ← field (number_in 32)
   stats ← field stats_in
   outstanding ← not_seen_fields
-  said (event.RunFinished (record {
+  says (event.RunFinished (record {
     elapsed = elapsed;
     run_stats = Stress (record { completed = completed; success_count = succeeded; failed_count = failed; last_final_stats = final_stats_of stats });
     outstanding_not_seen = outstanding;

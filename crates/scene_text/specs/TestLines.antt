@@ -1,13 +1,12 @@
 -- What the fields of the lines of tests say.
 use Rattle.std.specs.Prelude.{ℕ, zero, suc, ◌/◌, ◌^◌, [], ◌∷◌, length, if◌then◌else◌, nat_lt, Some, Err}
-use Rattle.run_model.specs.Attempts.{Attempts}
+use Rattle.run_model.specs.Attempts.{Attempt, Attempts}
 use Rattle.run_model.specs.declared.output.ChildOutputDescription.{ChildOutputDescription}
 use Rattle.run_model.specs.declared.output.LiveSpec.{LiveSpec}
-use Rattle.run_model.specs.declared.status.ExecuteStatus.{ExecuteStatus}
 use Rattle.run_model.specs.declared.status.FlakyResult.{FlakyResult}
 use Rattle.run_model.specs.declared.status.RetryData.{RetryData}
 use Rattle.scene_text.specs.Counts.{stats_in}
-use Rattle.scene_text.specs.Fields.{◌>>=◌, Line, said, field}
+use Rattle.scene_text.specs.Fields.{◌>>=◌, Line, says, field}
 use Rattle.scene_text.specs.Lists.{words_of}
 use Rattle.scene_text.specs.Numbers.{nanos_in, number_in}
 use Rattle.scene_text.specs.Outputs.{output_fields}
@@ -25,17 +24,14 @@ test_fields = do
   stress_index ← field stress_in
   binary_id ← field text_in
   test_name ← field text_in
-  said (record { stress_index = stress_index; binary_id = binary_id; test_name = test_name })
+  says (record { stress_index = stress_index; binary_id = binary_id; test_name = test_name })
 
 -- which attempt it is, and how many there can be
 unfoldable pub retry_fields : Line RetryData
 retry_fields = do
   attempt ← field (number_in 32)
   total ← field (number_in 32)
-  said (record { attempt = attempt; total_attempts = total })
-
-abbrev pub Attempt : Type 0
-Attempt = ExecuteStatus LiveSpec ChildOutputDescription
+  says (record { attempt = attempt; total_attempts = total })
 
 -- an attempt: result, duration, whether it was slow, and its output
 unfoldable pub attempt_fields : RetryData → Line Attempt
@@ -44,73 +40,73 @@ attempt_fields retry_data = do
   time_taken ← field nanos_in
   is_slow ← field flag_in
   output ← output_fields (Some result)
-  said (record { retry_data = retry_data; output = output; result = result; time_taken = time_taken; is_slow = is_slow })
+  says (record { retry_data = retry_data; output = output; result = result; time_taken = time_taken; is_slow = is_slow })
 
 -- the attempt of this number, of so many that there can be
-abbrev pub numbered : ℕ → ℕ → RetryData
-numbered total number = record { attempt = number; total_attempts = total }
+abbrev pub retry_numbered : ℕ → ℕ → RetryData
+retry_numbered total number = record { attempt = number; total_attempts = total }
 
 -- the number of an attempt has 32 bits; a line has no fields for one more
-abbrev pub counted : ℕ → Line ℕ
-counted n = λ p. if nat_lt n (2 ^ 32) then said n p else Err WrongNumberOfFields
+abbrev pub attempt_number : ℕ → Line ℕ
+attempt_number n = λ p. if nat_lt n (2 ^ 32) then says n p else Err WrongNumberOfFields
 
 abbrev pub preceded : Attempt → Attempts LiveSpec ChildOutputDescription → Attempts LiveSpec ChildOutputDescription
 preceded first others = record others { earlier = first ∷ others.earlier }
 
 -- an attempt that was read, and so many more, the first of which has this number
 unfoldable pub attempts_from : FlakyResult → ℕ → ℕ → ℕ → Attempt → Line (Attempts LiveSpec ChildOutputDescription)
-attempts_from flaky total number zero last = said (record { earlier = []; last = last; flaky_result = flaky })
+attempts_from flaky total number zero last = says (record { earlier = []; last = last; flaky_result = flaky })
 attempts_from flaky total number (suc more) first = do
-  attempt ← counted number
-  second ← attempt_fields (numbered total attempt)
+  attempt ← attempt_number number
+  second ← attempt_fields (retry_numbered total attempt)
   others ← attempts_from flaky total (suc number) more second
-  said (preceded first others)
+  says (preceded first others)
 
 -- attempts up to the end of the line, eight fields each
 unfoldable pub all_attempts : FlakyResult → ℕ → Line (Attempts LiveSpec ChildOutputDescription)
 all_attempts flaky total = do
-  first ← attempt_fields (numbered total 1)
+  first ← attempt_fields (retry_numbered total 1)
   λ p. attempts_from flaky total 2 (length p.left / 8) first p
 
 -- `start`: the test, statistics, and the command
-unfoldable pub start_line : Line SceneEvent
-start_line = do
+unfoldable pub start_line_fields : Line SceneEvent
+start_line_fields = do
   test ← test_fields
   stats ← field stats_in
   command ← field words_of
-  said (event.TestStarted (record { test = test; current_stats = stats; command_line = command }))
+  says (event.TestStarted (record { test = test; current_stats = stats; command_line = command }))
 
 -- `retrystart`: the test, the attempt, and the command
-unfoldable pub retry_start_line : Line SceneEvent
-retry_start_line = do
+unfoldable pub retry_start_line_fields : Line SceneEvent
+retry_start_line_fields = do
   test ← test_fields
   retry_data ← retry_fields
   command ← field words_of
-  said (event.TestRetryStarted (record { test = test; retry_data = retry_data; command_line = command }))
+  says (event.TestRetryStarted (record { test = test; retry_data = retry_data; command_line = command }))
 
 -- `slow`: the test, the attempt, how long it has taken, and whether it is ended
-unfoldable pub slow_line : Line SceneEvent
-slow_line = do
+unfoldable pub slow_line_fields : Line SceneEvent
+slow_line_fields = do
   test ← test_fields
   retry_data ← retry_fields
   elapsed ← field nanos_in
   will_terminate ← field flag_in
-  said (event.TestSlow (record { elapsed = elapsed; test = test; retry_data = retry_data; will_terminate = will_terminate }))
+  says (event.TestSlow (record { elapsed = elapsed; test = test; retry_data = retry_data; will_terminate = will_terminate }))
 
 -- `retry`: the test, which attempt failed, how long the next one waits, when the output is shown, and the attempt
-unfoldable pub retry_line : Line SceneEvent
-retry_line = do
+unfoldable pub retry_line_fields : Line SceneEvent
+retry_line_fields = do
   test ← test_fields
   retry_data ← retry_fields
   delay ← field nanos_in
   on_failure ← field display_in
   attempt ← attempt_fields retry_data
-  said (event.TestAttemptFailedWillRetry (record { attempt = attempt; delay_before_next_attempt = delay; test = test; failure_output = on_failure }))
+  says (event.TestAttemptFailedWillRetry (record { attempt = attempt; delay_before_next_attempt = delay; test = test; failure_output = on_failure }))
 
 -- `done`: the test, when its output is shown, what a flaky test counts as, statistics, how many attempts
 -- there can be, and the attempts
-unfoldable pub done_line : Line SceneEvent
-done_line = do
+unfoldable pub done_line_fields : Line SceneEvent
+done_line_fields = do
   test ← test_fields
   on_success ← field display_in
   on_failure ← field display_in
@@ -118,10 +114,10 @@ done_line = do
   stats ← field stats_in
   total ← field (number_in 32)
   attempts ← all_attempts flaky total
-  said (event.TestFinished (record { attempts = attempts; current_stats = stats; test = test; success_output = on_success; failure_output = on_failure }))
+  says (event.TestFinished (record { attempts = attempts; current_stats = stats; test = test; success_output = on_success; failure_output = on_failure }))
 
 -- `skip`: the test
-unfoldable pub skip_line : Line SceneEvent
-skip_line = do
+unfoldable pub skip_line_fields : Line SceneEvent
+skip_line_fields = do
   test ← test_fields
-  said (event.TestSkipped test)
+  says (event.TestSkipped test)

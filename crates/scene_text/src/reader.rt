@@ -9,7 +9,7 @@
 //! stand, and `split`, `texts` and `numbers` how those are written.
 
 ghost use Rattle.std.specs.Prelude.{◌≡◌, ◌++◌, IfOk, IfErr, OnOk, Ok};
-ghost use Rattle.scene_text.specs.Split.{parted, texts};
+ghost use Rattle.scene_text.specs.Split.{parted, field_texts};
 ghost use Rattle.scene_text.specs.SceneTexts.{AllTell, IsAnswer, IsFaultOf, IsFaultHere, IsSaid, comes_late, event_lines, fault_at, fields_said, is_begun, is_passed_over, line_here, line_said, line_told, nothing_told, text_told, told, words_said};
 
 mod counts;
@@ -204,7 +204,7 @@ fn is_passed_over(line: &[u8]) -> bool
 
 // Reads a line that was split into its fields.
 fn read_words(alloc: Global, words: &[&str], before: LinesBefore) -> Result<LineSaid, LineError>
-    ensures { IsSaid result (words_said before (texts words.now)) }
+    ensures { IsSaid result (words_said before (field_texts words.now)) }
 {
     let mut fields = Fields::new(words);
     let name = fields.take()?;

@@ -9,7 +9,7 @@ use Rattle.unit_report.specs.declared.config.ShowProgress.TheVariants as progres
 use Rattle.unit_report.specs.declared.unit_output.DisplayerKind.{DisplayerKind}
 use Rattle.unit_report.specs.declared.unit_output.DisplayerKind.TheVariants as displayer
 use Rattle.plain_text.specs.Texts.{Text}
-use Rattle.plain_text.specs.Buffer.{GrowsWithin}
+use Rattle.plain_text.specs.TextBuffer.{GrowsWithin}
 use Rattle.plain_text.specs.Writer.{Meaning}
 use Rattle.store_text.specs.declared.config.StoreConfig.{StoreConfig}
 use Rattle.console_reporter.specs.Configuration.{Configuration, configured_in}

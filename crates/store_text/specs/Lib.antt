@@ -1,3 +1,3 @@
-pub mod Netstrings
-pub mod Records
-pub mod StoredOutputs
+pub mod Netstring
+pub mod Record
+pub mod StoredOutput

@@ -1,7 +1,7 @@
 //! What a store is asked to keep.
 
 ghost use Rattle.std.specs.Prelude.{◌≡◌};
-ghost use Rattle.store_text.specs.StoredOutputs.{is_switched_on};
+ghost use Rattle.store_text.specs.StoredOutput.{is_switched_on};
 
 /// What a store is asked to keep of finished tests beside their names and how they ended.
 ///

@@ -2,7 +2,7 @@
 
 ghost use Rattle.std.specs.Prelude.{◌≡◌, ◌++◌};
 ghost use Rattle.plain_text.specs.Writer.{Puts};
-ghost use Rattle.store_text.specs.Netstrings.{joined_netstring, netstring, netstring_head};
+ghost use Rattle.store_text.specs.Netstring.{joined_netstring, netstring, netstring_head};
 
 use itoa::Buffer;
 use plain_text::write_str::{WriteFault, WriteStr, write_strs};
@@ -14,7 +14,7 @@ use plain_text::write_str::{WriteFault, WriteStr, write_strs};
 /// write_netstring(&mut out, "é")?;
 /// assert_eq!(out.as_str(), "2:t1,2:é,");
 /// ```
-#[tactic(auto, unfolding(crate::specs::Netstrings::netstring, crate::specs::Netstrings::netstring_head))]
+#[tactic(auto, unfolding(crate::specs::Netstring::netstring, crate::specs::Netstring::netstring_head))]
 pub fn write_netstring<W: WriteStr>(w: &mut W, text: &str) -> Result<(), WriteFault>
     ensures { Puts W.meaning w.old (netstring text.now) result w.new }
 {
@@ -28,7 +28,7 @@ pub fn write_netstring<W: WriteStr>(w: &mut W, text: &str) -> Result<(), WriteFa
 /// write_joined_netstring(&mut out, "SIG ", "6")?;
 /// assert_eq!(out.as_str(), "5:SIG 6,");
 /// ```
-#[tactic(auto, unfolding(crate::specs::Netstrings::joined_netstring))]
+#[tactic(auto, unfolding(crate::specs::Netstring::joined_netstring))]
 pub fn write_joined_netstring<W: WriteStr>(
     w: &mut W,
     front: &str,
@@ -41,7 +41,7 @@ pub fn write_joined_netstring<W: WriteStr>(
 }
 
 /// Writes what stands before a text of the given number of bytes in a netstring. The text and a comma are to follow.
-#[tactic(auto, unfolding(crate::specs::Netstrings::netstring_head))]
+#[tactic(auto, unfolding(crate::specs::Netstring::netstring_head))]
 pub(super) fn write_netstring_head<W: WriteStr>(w: &mut W, length: u128) -> Result<(), WriteFault>
     ensures { Puts W.meaning w.old (netstring_head length) result w.new }
 {

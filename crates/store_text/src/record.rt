@@ -3,8 +3,8 @@
 ghost use Rattle.std.specs.Prelude.{◌≡◌, ◌++◌};
 ghost use Rattle.event_text.specs.ResultWords.{short_word};
 ghost use Rattle.plain_text.specs.Writer.{Puts};
-ghost use Rattle.store_text.specs.Netstrings.{netstring};
-ghost use Rattle.store_text.specs.Records.{record_text};
+ghost use Rattle.store_text.specs.Netstring.{netstring};
+ghost use Rattle.store_text.specs.Record.{record_text};
 
 use crate::config::StoreConfig;
 use crate::netstring::{write_joined_netstring, write_netstring};
@@ -25,7 +25,7 @@ use run_model::status::{ExecutionResultDescription, ExecutionStatuses};
 /// write_record(&mut out, store, test.as_ref(), &statuses)?;
 /// assert_eq!(out.as_str(), "5:alpha,2:t1,4:PASS,0:,\n");
 /// ```
-#[tactic(auto, unfolding(crate::specs::Records::record_text))]
+#[tactic(auto, unfolding(crate::specs::Record::record_text))]
 pub fn write_record<W: WriteStr>(
     w: &mut W,
     store: StoreConfig,

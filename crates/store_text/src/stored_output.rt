@@ -2,8 +2,8 @@
 
 ghost use Rattle.std.specs.Prelude.{◌≡◌, ◌++◌, []};
 ghost use Rattle.plain_text.specs.Writer.{Puts};
-ghost use Rattle.store_text.specs.Netstrings.{joined_netstring, netstring};
-ghost use Rattle.store_text.specs.StoredOutputs.{captured_text, stored_output, stream_text, written_text};
+ghost use Rattle.store_text.specs.Netstring.{joined_netstring, netstring};
+ghost use Rattle.store_text.specs.StoredOutput.{captured_text, stored_output, stored_stream, written_text};
 
 use crate::config::StoreConfig;
 use crate::netstring::write_netstring_head;
@@ -23,7 +23,7 @@ struct OutputTexts<'o> {
 
 impl<'o> OutputTexts<'o> {
     // What is kept of what the attempts of a test wrote: of the last one, if it is asked for.
-    #[tactic(auto, unfolding(crate::specs::StoredOutputs::stored_output))]
+    #[tactic(auto, unfolding(crate::specs::StoredOutput::stored_output))]
     fn of_test(store: StoreConfig, statuses: &'o ExecutionStatuses<LiveSpec>) -> OutputTexts<'o>
         ensures { result.front ++ result.back ≡ stored_output store statuses.now }
     {
@@ -76,7 +76,7 @@ impl<'o> OutputTexts<'o> {
     }
 
     // Writes both as one netstring.
-    #[tactic(auto, unfolding(crate::specs::Netstrings::joined_netstring))]
+    #[tactic(auto, unfolding(crate::specs::Netstring::joined_netstring))]
     fn write_netstring<W: WriteStr>(&self, w: &mut W) -> Result<(), WriteFault>
         ensures { Puts W.meaning w.old (joined_netstring self.now.front self.now.back) result w.new }
     {
@@ -111,7 +111,7 @@ pub fn write_stored_output<W: WriteStr>(
 // The text of a stream, if it was captured.
 #[tactic(auto, using(crate::proofs::lemmas::Netstrings::decoded_nothing))]
 fn text_of(stream: &Option<ChildSingleOutput>) -> LossyText<'_>
-    ensures { result ≡ stream_text stream.now }
+    ensures { result ≡ stored_stream stream.now }
 {
     match stream {
         Some(stream) => LossyText::new(stream.as_bytes()),

@@ -9,9 +9,9 @@ use Rattle.strip.specs.declared.filter.FilterError.{FilterError}
 use Rattle.strip.specs.declared.filter.FilterError.TheVariants.{Read, Write, OutOfMemory}
 
 -- the error for a fault of the writer
-abbrev pub error_of_write : WriteFault → FilterError
-error_of_write Device = Write
-error_of_write Memory = OutOfMemory
+abbrev pub filter_error_of_write : WriteFault → FilterError
+filter_error_of_write Device = Write
+filter_error_of_write Memory = OutOfMemory
 
 -- the error for one of the reader
 abbrev pub error_of_read : ErrorKind → FilterError

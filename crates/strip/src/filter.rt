@@ -41,9 +41,9 @@ impl From<OutOfMemory> for FilterError {
 
 impl From<WriteFault> for FilterError {
     ghost use Rattle.std.specs.Prelude.{◌≡◌};
-    ghost use Rattle.strip.specs.Filters.{error_of_write};
+    ghost use Rattle.strip.specs.Filters.{filter_error_of_write};
 
-    ghost from_gives = { λ fault error. error ≡ error_of_write fault };
+    ghost from_gives = { λ fault error. error ≡ filter_error_of_write fault };
 
     fn from(fault: WriteFault) -> FilterError {
         match fault {

@@ -1,3 +1,3 @@
 pub mod PassWords
-pub mod StatusTints
-pub mod TestTints
+pub mod StatusColourPairs
+pub mod TestColourPairs

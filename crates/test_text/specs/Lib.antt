@@ -1,6 +1,6 @@
-pub mod FinishedTests
-pub mod RetriedTests
-pub mod SkippedTests
-pub mod SlowTests
-pub mod StatusLines
-pub mod TestStarts
+pub mod StatusLine
+pub mod TestFinished
+pub mod TestRetry
+pub mod TestSkipped
+pub mod TestSlow
+pub mod TestStarted

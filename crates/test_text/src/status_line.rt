@@ -4,10 +4,10 @@ ghost use Rattle.std.specs.Prelude.{◌≡◌, ◌++◌, IfOk, IsOk, codes, fals
 ghost use Rattle.std.specs.Bool.{OnTrue};
 ghost use Rattle.run_model.specs.Statuses.{described_summary, is_aborted};
 ghost use Rattle.plain_text.specs.Writer.{Puts};
-ghost use Rattle.plain_text.specs.Styles.{plain, styled};
+ghost use Rattle.plain_text.specs.Style.{plain, styled};
 ghost use Rattle.plain_text.specs.Texts.{right_in};
 ghost use Rattle.event_text.specs.ResultWords.{long_failure_word, long_word};
-ghost use Rattle.test_text.specs.StatusLines.{is_final, shown_summary, flaky_style, flaky_words, failure_words, success_text, is_flaky_failure, status_prefix, flaky_note, flaky_failure_line, status_line};
+ghost use Rattle.test_text.specs.StatusLine.{is_final_line, shown_summary, flaky_style, flaky_words, failure_words, success_text, is_flaky_failure, status_prefix, flaky_note, flaky_failure_line, status_line};
 
 use event_text::abort_line::write_abort_line;
 use event_text::instance::{CountedInstance, write_instance};
@@ -38,8 +38,8 @@ pub enum StatusLineKind {
 
 impl StatusLineKind {
     /// Whether it stands in the summary.
-    pub fn is_final(self) -> bool
-        ensures { result ≡ is_final self }
+    pub fn is_final_line(self) -> bool
+        ensures { result ≡ is_final_line self }
     {
         match self {
             StatusLineKind::Intermediate => false,
@@ -121,7 +121,7 @@ pub fn write_status_line<W: WriteStr>(
 }
 
 // The same, of what it lends.
-#[tactic(auto, unfolding(crate::specs::StatusLines::status_line))]
+#[tactic(auto, unfolding(crate::specs::StatusLine::status_line))]
 fn write_line<W: WriteStr>(
     w: &mut W,
     styles: &Styles,
@@ -140,7 +140,7 @@ fn write_line<W: WriteStr>(
 }
 
 // Writes the word that begins the line, and a space.
-#[tactic(auto, unfolding(crate::specs::StatusLines::status_prefix))]
+#[tactic(auto, unfolding(crate::specs::StatusLine::status_prefix))]
 fn write_status_prefix<W: WriteStr>(
     w: &mut W,
     styles: &Styles,
@@ -151,7 +151,7 @@ fn write_status_prefix<W: WriteStr>(
 {
     match line.case {
         StatusCase::Success => {
-            write_success_word(w, styles, kind.is_final() && line.is_slow, line.result)
+            write_success_word(w, styles, kind.is_final_line() && line.is_slow, line.result)
         }
         StatusCase::Flaky { result } => {
             write_flaky_word(w, styles, kind, result, line.retry_data)?;
@@ -190,7 +190,7 @@ fn write_success_word<W: WriteStr>(
 }
 
 // Writes a word that stands in its columns, and a space. Without colour they are one text.
-#[tactic(auto, unfolding(plain_text::specs::Styles::styled, plain_text::specs::Styles::plain))]
+#[tactic(auto, unfolding(plain_text::specs::Style::styled, plain_text::specs::Style::plain))]
 fn write_word<W: WriteStr>(
     w: &mut W,
     style: Style,
@@ -303,7 +303,7 @@ fn write_other_failure<W: WriteStr>(
 }
 
 // Writes that a success counts as a failure, where it does and the line is shown at once.
-#[tactic(auto, unfolding(crate::specs::StatusLines::flaky_failure_line))]
+#[tactic(auto, unfolding(crate::specs::StatusLine::flaky_failure_line))]
 #[inline(always)]
 fn write_flaky_failure_line<W: WriteStr>(
     w: &mut W,
@@ -326,7 +326,7 @@ fn write_flaky_failure_line<W: WriteStr>(
 }
 
 // Writes that a success counts as a failure.
-#[tactic(auto, unfolding(crate::specs::StatusLines::flaky_note))]
+#[tactic(auto, unfolding(crate::specs::StatusLine::flaky_note))]
 fn write_flaky_note<W: WriteStr>(w: &mut W, styles: &Styles) -> Result<(), WriteFault>
     ensures { Puts W.meaning w.old (flaky_note styles.now) result w.new }
 {

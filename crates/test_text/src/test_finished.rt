@@ -3,7 +3,7 @@
 ghost use Rattle.std.specs.Prelude.{◌≡◌};
 ghost use Rattle.run_model.specs.Levels.{reason_rank};
 ghost use Rattle.plain_text.specs.Writer.{Puts};
-ghost use Rattle.test_text.specs.FinishedTests.{HasShownOutput, finish_of, line_at_once, output_at_once, test_finish, test_finished_text};
+ghost use Rattle.test_text.specs.TestFinished.{HasShownOutput, finish_of, line_at_once, output_at_once, test_finish, test_finished_text};
 
 use crate::status_line::{StatusLine, StatusLineKind, write_status_line};
 use event_text::attempt_output::write_test_execute_status;
@@ -62,7 +62,7 @@ impl<'e, 'a> FinishedTest<'e, 'a> {
 
 /// Writes the line of a finished test where its level is shown, and the output of its last attempt where that is
 /// shown at once. That output must not have been left unread.
-#[tactic(auto, unfolding(crate::specs::FinishedTests::test_finished_text))]
+#[tactic(auto, unfolding(crate::specs::TestFinished::test_finished_text))]
 pub fn write_test_finished<W: WriteStr>(
     w: &mut W,
     settings: &Settings,
@@ -76,7 +76,7 @@ pub fn write_test_finished<W: WriteStr>(
 }
 
 // Writes the line of a finished test, where its level is shown.
-#[tactic(auto, unfolding(crate::specs::FinishedTests::line_at_once))]
+#[tactic(auto, unfolding(crate::specs::TestFinished::line_at_once))]
 fn write_line_at_once<W: WriteStr>(
     w: &mut W,
     settings: &Settings,
@@ -99,7 +99,7 @@ fn write_line_at_once<W: WriteStr>(
 }
 
 // Writes the output of the last attempt where that is shown at once, whatever the status level.
-#[tactic(auto, unfolding(crate::specs::FinishedTests::output_at_once))]
+#[tactic(auto, unfolding(crate::specs::TestFinished::output_at_once))]
 fn write_output_at_once<W: WriteStr>(
     w: &mut W,
     settings: &Settings,

@@ -1,12 +1,12 @@
 //! An attempt that failed where another one follows.
 
 ghost use Rattle.std.specs.Prelude.{◌≡◌, true};
-ghost use Rattle.plain_text.specs.Styles.{styled};
+ghost use Rattle.plain_text.specs.Style.{styled};
 ghost use Rattle.plain_text.specs.Texts.{right_in};
 ghost use Rattle.plain_text.specs.Writer.{Puts};
-ghost use Rattle.test_text.specs.RetriedTests.{HasFailedOutput, attempt_failed_line, attempt_failed_text, delay_line, delay_words, failed_output, is_failed_output_shown};
+ghost use Rattle.test_text.specs.TestRetry.{HasFailedAttemptOutput, attempt_failed_line, attempt_failed_text, delay_line, delay_words, failed_output, is_failed_output_shown};
 ghost use Rattle.event_text.specs.Settings.{is_level_shown};
-ghost use Rattle.test_text.specs.StatusLines.{attempt_words};
+ghost use Rattle.test_text.specs.StatusLine.{attempt_words};
 ghost use Rattle.run_model.specs.declared.level.StatusLevel.TheVariants.{Retry};
 ghost use Rattle.event_text.specs.ResultWords.{short_word};
 
@@ -35,7 +35,7 @@ use unit_report::formatters::{DisplayBracketedDuration, DisplayDurationBy};
 /// write_attempt_failed(&mut out, &settings, None, test.as_ref(), &attempt, delay, display)?;
 /// assert_eq!(out.as_str(), "  TRY 1 FAIL [   0.500s] alpha t1\n   DELAY 2/3 by   1.000s alpha t1\n");
 /// ```
-#[tactic(auto, unfolding(crate::specs::RetriedTests::attempt_failed_text))]
+#[tactic(auto, unfolding(crate::specs::TestRetry::attempt_failed_text))]
 pub fn write_attempt_failed<W: WriteStr>(
     w: &mut W,
     settings: &Settings,
@@ -45,7 +45,7 @@ pub fn write_attempt_failed<W: WriteStr>(
     delay_before_next_attempt: Nanos,
     failure_output: TestOutputDisplay,
 ) -> Result<(), WriteFault>
-    requires { is_level_shown settings.now Retry ≡ true → HasFailedOutput settings.now run_status.now failure_output }
+    requires { is_level_shown settings.now Retry ≡ true → HasFailedAttemptOutput settings.now run_status.now failure_output }
     ensures { Puts W.meaning w.old (attempt_failed_text settings.now stress_index instance.entry run_status.now delay_before_next_attempt.0 failure_output) result w.new }
 {
     if !settings.is_level_shown(StatusLevel::Retry) {
@@ -64,7 +64,7 @@ pub fn write_attempt_failed<W: WriteStr>(
 }
 
 // Writes the line of an attempt that failed.
-#[tactic(auto, unfolding(crate::specs::RetriedTests::attempt_failed_line))]
+#[tactic(auto, unfolding(crate::specs::TestRetry::attempt_failed_line))]
 fn write_attempt_failed_line<W: WriteStr>(
     w: &mut W,
     styles: &Styles,
@@ -100,14 +100,14 @@ fn write_attempt_word<W: WriteStr>(
 }
 
 // Writes the output of an attempt that failed, where that is shown at once.
-#[tactic(auto, unfolding(crate::specs::RetriedTests::failed_output))]
+#[tactic(auto, unfolding(crate::specs::TestRetry::failed_output))]
 fn write_failed_output<W: WriteStr>(
     w: &mut W,
     settings: &Settings,
     run_status: &ExecuteStatus<LiveSpec>,
     failure_output: TestOutputDisplay,
 ) -> Result<(), WriteFault>
-    requires { HasFailedOutput settings.now run_status.now failure_output }
+    requires { HasFailedAttemptOutput settings.now run_status.now failure_output }
     ensures { Puts W.meaning w.old (failed_output settings.now run_status.now failure_output) result w.new }
 {
     if !shows_failed_output(settings, failure_output) {
@@ -118,7 +118,7 @@ fn write_failed_output<W: WriteStr>(
 
 // Whether the output of an attempt that failed is shown at once: by the setting of failures, also where the test could
 // not be started.
-#[tactic(auto, unfolding(crate::specs::RetriedTests::is_failed_output_shown))]
+#[tactic(auto, unfolding(crate::specs::TestRetry::is_failed_output_shown))]
 fn shows_failed_output(settings: &Settings, failure_output: TestOutputDisplay) -> bool
     ensures { result ≡ is_failed_output_shown settings.now failure_output }
 {
@@ -130,7 +130,7 @@ fn shows_failed_output(settings: &Settings, failure_output: TestOutputDisplay) -
 }
 
 // Writes how long the next attempt waits, where it does.
-#[tactic(auto, unfolding(crate::specs::RetriedTests::delay_line))]
+#[tactic(auto, unfolding(crate::specs::TestRetry::delay_line))]
 fn write_delay_line<W: WriteStr>(
     w: &mut W,
     styles: &Styles,

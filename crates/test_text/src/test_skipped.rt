@@ -1,7 +1,7 @@
 //! A test that is not run.
 
 ghost use Rattle.plain_text.specs.Writer.{Puts};
-ghost use Rattle.test_text.specs.SkippedTests.{skip_line, test_skipped_text};
+ghost use Rattle.test_text.specs.TestSkipped.{skip_line, test_skipped_text};
 
 use event_text::instance::{CountedInstance, write_untimed_end};
 use event_text::settings::Settings;
@@ -11,7 +11,7 @@ use run_model::name::TestInstanceId;
 use run_model::stress::StressIndex;
 
 /// Writes that a test is not run, where skipped tests are shown.
-#[tactic(auto, unfolding(crate::specs::SkippedTests::test_skipped_text))]
+#[tactic(auto, unfolding(crate::specs::TestSkipped::test_skipped_text))]
 pub fn write_test_skipped<W: WriteStr>(
     w: &mut W,
     settings: &Settings,
@@ -33,7 +33,7 @@ pub fn write_test_skipped<W: WriteStr>(
 /// write_skip_line(&mut out, &settings, settings.padded_instance(None, test.as_ref()))?;
 /// assert_eq!(out.as_str(), "        SKIP [         ] alpha t1\n");
 /// ```
-#[tactic(auto, unfolding(crate::specs::SkippedTests::skip_line))]
+#[tactic(auto, unfolding(crate::specs::TestSkipped::skip_line))]
 pub fn write_skip_line<W: WriteStr>(
     w: &mut W,
     settings: &Settings,

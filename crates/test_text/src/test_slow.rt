@@ -1,10 +1,10 @@
 //! A test that runs longer than it should.
 
 ghost use Rattle.std.specs.Prelude.{◌≡◌};
-ghost use Rattle.plain_text.specs.Styles.{styled};
+ghost use Rattle.plain_text.specs.Style.{styled};
 ghost use Rattle.plain_text.specs.Texts.{right_in};
 ghost use Rattle.plain_text.specs.Writer.{Puts};
-ghost use Rattle.test_text.specs.SlowTests.{has_number, is_last_attempt, is_level_exceeded, slow_end, slow_text, slow_word, terminating_level, terminating_style, terminating_text, terminating_word, test_slow_text};
+ghost use Rattle.test_text.specs.TestSlow.{has_number, is_last_attempt, is_level_exceeded, slow_end, slow_text, slow_word, terminating_level, terminating_style, terminating_text, terminating_word, test_slow_text};
 
 use event_text::instance::{CountedInstance, write_instance_end};
 use event_text::settings::Settings;
@@ -24,7 +24,7 @@ use unit_report::formatters::DisplaySlowDuration;
 /// write_test_slow(&mut out, &settings, None, test.as_ref(), RetryData::only(), Nanos::from_secs(60), false)?;
 /// assert_eq!(out.as_str(), "        SLOW [> 60.000s] alpha t1\n");
 /// ```
-#[tactic(auto, unfolding(crate::specs::SlowTests::test_slow_text))]
+#[tactic(auto, unfolding(crate::specs::TestSlow::test_slow_text))]
 pub fn write_test_slow<W: WriteStr>(
     w: &mut W,
     settings: &Settings,
@@ -45,7 +45,7 @@ pub fn write_test_slow<W: WriteStr>(
 }
 
 // Writes that an attempt is slow, where slow tests are shown.
-#[tactic(auto, unfolding(crate::specs::SlowTests::slow_text))]
+#[tactic(auto, unfolding(crate::specs::TestSlow::slow_text))]
 fn write_slow<W: WriteStr>(
     w: &mut W,
     settings: &Settings,
@@ -63,7 +63,7 @@ fn write_slow<W: WriteStr>(
 }
 
 // Writes the word of a slow attempt, with its number unless it is the first.
-#[tactic(auto, unfolding(crate::specs::SlowTests::slow_word))]
+#[tactic(auto, unfolding(crate::specs::TestSlow::slow_word))]
 fn write_slow_word<W: WriteStr>(w: &mut W, style: Style, attempt: u32) -> Result<(), WriteFault>
     ensures { Puts W.meaning w.old (styled style (right_in 12 (slow_word attempt))) result w.new }
 {
@@ -76,7 +76,7 @@ fn write_slow_word<W: WriteStr>(w: &mut W, style: Style, attempt: u32) -> Result
 }
 
 // Writes that an attempt is ended since it is slow, where that is shown.
-#[tactic(auto, unfolding(crate::specs::SlowTests::terminating_text))]
+#[tactic(auto, unfolding(crate::specs::TestSlow::terminating_text))]
 fn write_terminating<W: WriteStr>(
     w: &mut W,
     settings: &Settings,
@@ -94,7 +94,7 @@ fn write_terminating<W: WriteStr>(
 }
 
 // Writes the word of an attempt that is ended, with its number where more is shown than such lines.
-#[tactic(auto, unfolding(crate::specs::SlowTests::terminating_word))]
+#[tactic(auto, unfolding(crate::specs::TestSlow::terminating_word))]
 fn write_terminating_word<W: WriteStr>(
     w: &mut W,
     settings: &Settings,
@@ -113,7 +113,7 @@ fn write_terminating_word<W: WriteStr>(
 }
 
 // Writes the end of a slow test's line: how long the attempt has taken, and the test.
-#[tactic(auto, unfolding(crate::specs::SlowTests::slow_end))]
+#[tactic(auto, unfolding(crate::specs::TestSlow::slow_end))]
 fn write_slow_end<W: WriteStr>(
     w: &mut W,
     styles: &Styles,
@@ -128,7 +128,7 @@ fn write_slow_end<W: WriteStr>(
 }
 
 // The level of an attempt that is ended: it is a failure, unless another attempt follows.
-#[tactic(auto, unfolding(crate::specs::SlowTests::is_last_attempt))]
+#[tactic(auto, unfolding(crate::specs::TestSlow::is_last_attempt))]
 fn terminating_level(retry_data: RetryData) -> StatusLevel
     ensures { result ≡ terminating_level retry_data }
 {
@@ -140,7 +140,7 @@ fn terminating_level(retry_data: RetryData) -> StatusLevel
 }
 
 // The style of the same.
-#[tactic(auto, unfolding(crate::specs::SlowTests::is_last_attempt))]
+#[tactic(auto, unfolding(crate::specs::TestSlow::is_last_attempt))]
 fn terminating_style(styles: &Styles, retry_data: RetryData) -> Style
     ensures { result ≡ terminating_style styles.now retry_data }
 {
@@ -152,7 +152,7 @@ fn terminating_style(styles: &Styles, retry_data: RetryData) -> Style
 }
 
 // Whether its number is said: there are other attempts, and more is shown than the lines of its level.
-#[tactic(auto, unfolding(crate::specs::SlowTests::has_number))]
+#[tactic(auto, unfolding(crate::specs::TestSlow::has_number))]
 fn has_number(settings: &Settings, retry_data: RetryData) -> bool
     ensures { result ≡ has_number settings.now retry_data }
 {
@@ -160,7 +160,7 @@ fn has_number(settings: &Settings, retry_data: RetryData) -> bool
 }
 
 // Whether more is shown at once than what has this level.
-#[tactic(auto, unfolding(crate::specs::SlowTests::is_level_exceeded))]
+#[tactic(auto, unfolding(crate::specs::TestSlow::is_level_exceeded))]
 fn shows_more_than(settings: &Settings, level: StatusLevel) -> bool
     ensures { result ≡ is_level_exceeded settings.now level }
 {

@@ -2,8 +2,8 @@
 
 ghost use Rattle.std.specs.Prelude.{◌≡◌};
 ghost use Rattle.plain_text.specs.Writer.{Puts};
-ghost use Rattle.event_text.specs.Instances.{padded_instance};
-ghost use Rattle.test_text.specs.TestStarts.{command_text, retry_start_line, start_line, started_instance, test_retry_started_text, test_started_text};
+ghost use Rattle.event_text.specs.Instance.{padded_instance};
+ghost use Rattle.test_text.specs.TestStarted.{command_text, retry_start_line, start_line, started_instance, test_retry_started_text, test_started_text};
 
 use event_text::instance::{CountedInstance, write_untimed_end};
 use event_text::settings::Settings;
@@ -24,7 +24,7 @@ use run_model::stress::StressIndex;
 /// write_test_started(&mut out, &settings, None, test.as_ref(), &stats, &command)?;
 /// assert_eq!(out.as_str(), "       START [         ] alpha t1\n             command: cargo test t1\n");
 /// ```
-#[tactic(auto, unfolding(crate::specs::TestStarts::test_started_text))]
+#[tactic(auto, unfolding(crate::specs::TestStarted::test_started_text))]
 pub fn write_test_started<W: WriteStr>(
     w: &mut W,
     settings: &Settings,
@@ -45,7 +45,7 @@ pub fn write_test_started<W: WriteStr>(
 }
 
 /// Writes that another attempt of a test has started, and the command that runs it.
-#[tactic(auto, unfolding(crate::specs::TestStarts::test_retry_started_text))]
+#[tactic(auto, unfolding(crate::specs::TestStarted::test_retry_started_text))]
 pub fn write_test_retry_started<W: WriteStr>(
     w: &mut W,
     settings: &Settings,
@@ -62,7 +62,7 @@ pub fn write_test_retry_started<W: WriteStr>(
 }
 
 // Writes the line of a test that starts, where starts are shown.
-#[tactic(auto, unfolding(crate::specs::TestStarts::start_line))]
+#[tactic(auto, unfolding(crate::specs::TestStarted::start_line))]
 fn write_start_line<W: WriteStr>(
     w: &mut W,
     settings: &Settings,
@@ -78,7 +78,7 @@ fn write_start_line<W: WriteStr>(
 }
 
 // Writes the line of another attempt that starts, where starts are shown.
-#[tactic(auto, unfolding(crate::specs::TestStarts::retry_start_line))]
+#[tactic(auto, unfolding(crate::specs::TestStarted::retry_start_line))]
 fn write_retry_start_line<W: WriteStr>(
     w: &mut W,
     settings: &Settings,
@@ -100,7 +100,7 @@ fn write_retry_start_line<W: WriteStr>(
 }
 
 // Writes the command that runs a test, where commands are shown.
-#[tactic(auto, unfolding(crate::specs::TestStarts::command_text))]
+#[tactic(auto, unfolding(crate::specs::TestStarted::command_text))]
 fn write_command_line<W: WriteStr>(
     w: &mut W,
     settings: &Settings,

@@ -1,6 +1,6 @@
-pub mod CapturedTints
-pub mod DurationTints
-pub mod Highlights
+pub mod CapturedColourPairs
+pub mod DurationColourPairs
 pub mod HighlightedLines
-pub mod SkipTints
-pub mod UnitTints
+pub mod Highlights
+pub mod SkipColourPairs
+pub mod UnitColourPairs

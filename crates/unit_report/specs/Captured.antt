@@ -6,7 +6,7 @@ use Rattle.plain_text.specs.EndLine.{without_end_line}
 use Rattle.plain_text.specs.Escapes.{visible}
 use Rattle.plain_text.specs.Highlights.{highlight_end}
 use Rattle.plain_text.specs.Lossy.{ends_character}
-use Rattle.plain_text.specs.Styles.{plain, reset_color}
+use Rattle.plain_text.specs.Style.{plain, reset_color}
 use Rattle.plain_text.specs.Texts.{Text}
 use Rattle.plain_text.specs.declared.style.Style.{Style}
 use Rattle.plain_text.specs.declared.style.Styles.{Styles}

@@ -3,7 +3,7 @@ use Rattle.std.specs.Prelude.{ℕ, suc, Bool, true, ◌&&◌, ◌||◌, ◌==◌
 use Rattle.std.specs.List.{flat_map}
 use Rattle.plain_text.specs.Escapes.{visible}
 use Rattle.plain_text.specs.Lines.{whole_lines}
-use Rattle.plain_text.specs.Styles.{style_prefix, style_suffix}
+use Rattle.plain_text.specs.Style.{style_prefix, style_suffix}
 use Rattle.plain_text.specs.Texts.{Text}
 use Rattle.plain_text.specs.declared.style.Style.{Style}
 

@@ -29,13 +29,13 @@ abbrev pub can_show_bar : DisplayConfig → Bool → Bool → Bool
 can_show_bar c is_terminal is_ci = not c.no_capture && (is_terminal && not is_ci)
 
 -- how progress is shown, where there can be a bar and where there can be none
-abbrev pub progress_of : ShowProgress → Bool → ProgressDisplay
-progress_of (asked.Auto suppress_success) true = shown.Bar
-progress_of (asked.Auto suppress_success) false = shown.Counter
-progress_of asked.Running true = shown.Bar
-progress_of asked.Running false = shown.None
-progress_of asked.Counter can_bar = shown.Counter
-progress_of asked.None can_bar = shown.None
+abbrev pub progress_display_of : ShowProgress → Bool → ProgressDisplay
+progress_display_of (asked.Auto suppress_success) true = shown.Bar
+progress_display_of (asked.Auto suppress_success) false = shown.Counter
+progress_display_of asked.Running true = shown.Bar
+progress_display_of asked.Running false = shown.None
+progress_display_of asked.Counter can_bar = shown.Counter
+progress_display_of asked.None can_bar = shown.None
 
 -- whether a bar stands in the place of the lines of tests that passed
 abbrev pub suppresses : ShowProgress → Bool → Bool
@@ -57,7 +57,7 @@ resolved_levels c suppressed = record {
 
 abbrev pub display_where : DisplayConfig → Bool → ResolvedDisplay
 display_where c can_bar = record {
-  progress_display = progress_of c.show_progress can_bar;
+  progress_display = progress_display_of c.show_progress can_bar;
   status_levels = resolved_levels c (suppresses c.show_progress can_bar);
 }
 

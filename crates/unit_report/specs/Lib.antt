@@ -1,12 +1,12 @@
 pub mod Captured
 pub mod Durations
-pub mod ErrorChains
+pub mod ErrorChain
+pub mod Header
 pub mod HighlightedLines
 pub mod Levels
-pub mod OutputHeaders
 pub mod Overrides
 pub mod PlainOutputs
 pub mod SkipCounts
-pub mod UnitKinds
-pub mod UnitOutputs
+pub mod UnitKind
+pub mod UnitOutput
 pub mod Warnings

@@ -2,7 +2,7 @@
 
 ghost use Rattle.std.specs.Prelude.{◌≡◌, ◌≤◌, IsTrue, true, false};
 ghost use Rattle.run_model.specs.Levels.{status_rank};
-ghost use Rattle.unit_report.specs.Levels.{progress_of, suppresses, raised, resolved_levels, resolved_display, overridden};
+ghost use Rattle.unit_report.specs.Levels.{progress_display_of, suppresses, raised, resolved_levels, resolved_display, overridden};
 
 use run_model::level::{FinalStatusLevel, StatusLevel};
 
@@ -143,7 +143,7 @@ fn raised_level(no_capture: bool, level: StatusLevel) -> StatusLevel
 impl ShowProgress {
     // How progress is shown, where there can be a bar or none.
     fn display(self, can_bar: bool) -> ProgressDisplay
-        ensures { result ≡ progress_of self can_bar }
+        ensures { result ≡ progress_display_of self can_bar }
     {
         match self {
             ShowProgress::Auto { .. } => {

@@ -17,7 +17,7 @@ use Rattle.run_model.specs.declared.call.ReportCall.{ReportCall}
 use Rattle.plain_text.specs.declared.write_str.WriteFault.TheVariants.{Device, Memory as RefusedMemory}
 use Rattle.console_reporter.specs.Outcomes.{IsOfConsole, Stops, StopsAfter, StopsRecord, error_for, store_error_for}
 use Rattle.console_reporter.specs.Slots.{store_may_refuse}
-use Rattle.console_reporter.specs.Standing.{StandsAfter, MayGrowAt, MayGrowIn, may_grow_in}
+use Rattle.console_reporter.specs.HeldState.{StandsAfter, MayGrowAt, MayGrowIn, may_grow_in}
 use Rattle.console_reporter.specs.declared.imp.reporter.DisplayReporter.{DisplayReporter}
 
 -- one call more is accepted

@@ -7,7 +7,7 @@ use Rattle.std.proofs.lemmas.Str.{IsUtf8-from_ascii}
 use Rattle.std.proofs.lemmas.Bool.{false≢true, and_parts, not-true, or_cases}
 use Rattle.std.proofs.lemmas.Grind.{flat_map-append}
 use Rattle.std.proofs.lemmas.List.{append_cancel_left, append_cancel_right, reverse-append, same_from_push}
-use Rattle.run_model.specs.Attempts.{Attempts}
+use Rattle.run_model.specs.Attempts.{Attempt, Attempts, Written}
 use Rattle.run_model.specs.Displays.{is_final, is_immediate}
 use Rattle.run_model.specs.Statuses.{case_of, is_success, summary_of}
 use Rattle.run_model.specs.Unloaded.{unloaded_event, unloaded_kind}
@@ -29,27 +29,26 @@ use Rattle.run_model.specs.declared.time.Nanos.{Nanos}
 use Rattle.run_model.specs.declared.unit.UnitKind.TheVariants as unit
 use Rattle.plain_text.specs.Texts.{Text}
 use Rattle.plain_text.proofs.lemmas.Decoded.{decoded-same}
-use Rattle.store_text.specs.Netstrings.{netstring, netstring_head}
-use Rattle.store_text.specs.Records.{record_text}
-use Rattle.store_text.specs.StoredOutputs.{is_stored, stored_output}
+use Rattle.store_text.specs.Netstring.{netstring, netstring_head}
+use Rattle.store_text.specs.Record.{record_text}
+use Rattle.store_text.specs.StoredOutput.{is_stored, stored_output}
 use Rattle.store_text.specs.declared.config.StoreConfig.{StoreConfig}
-use Rattle.event_text.specs.AttemptOutputs.{Written}
 use Rattle.event_text.specs.ResultWords.{short_word}
-use Rattle.test_text.specs.FinishedTests.{line_at_once, output_at_once, test_finished_text}
-use Rattle.event_text.specs.Finishes.{display_of, is_final_wanted, row_at_end, row_at_once, row_listed}
-use Rattle.event_text.specs.Instances.{padded_instance}
-use Rattle.test_text.specs.RetriedTests.{Attempt, attempt_failed_line, attempt_failed_text, delay_line, failed_output, is_failed_output_shown}
-use Rattle.event_text.specs.Scripts.{Script}
+use Rattle.test_text.specs.TestFinished.{line_at_once, output_at_once, test_finished_text}
+use Rattle.event_text.specs.Finish.{display_of, is_final_wanted, row_at_end, row_at_once, row_listed}
+use Rattle.event_text.specs.Instance.{padded_instance}
+use Rattle.test_text.specs.TestRetry.{attempt_failed_line, attempt_failed_text, delay_line, failed_output, is_failed_output_shown}
+use Rattle.event_text.specs.Script.{Script}
 use Rattle.event_text.specs.Settings.{finished_counter, is_level_shown}
-use Rattle.test_text.specs.StatusLines.{status_line}
+use Rattle.test_text.specs.StatusLine.{status_line}
 use Rattle.event_text.proofs.lemmas.Finishes.{row_below}
 use Rattle.event_text.specs.declared.settings.Settings.{Settings}
 use Rattle.test_text.specs.declared.status_line.StatusLineKind.TheVariants.{Final}
 use Rattle.run_model.specs.Stats.{final_stats_of_run}
 use Rattle.unit_report.specs.Warnings.{final_warnings}
-use Rattle.run_text.specs.NotSeens.{not_seen_text}
-use Rattle.run_text.specs.Summaries.{run_finished_text}
-use Rattle.run_text.specs.SetupScripts.{failed_script_output, setup_script_finished_text, setup_script_line}
+use Rattle.run_text.specs.NotSeen.{not_seen_text}
+use Rattle.run_text.specs.Summary.{run_finished_text}
+use Rattle.run_text.specs.SetupScript.{failed_script_output, setup_script_finished_text, setup_script_line}
 use Rattle.console_reporter.specs.Accepted.{decider_by, decider_of}
 use Rattle.console_reporter.specs.Calm.{AreCalm, is_end_of_run}
 use Rattle.console_reporter.specs.Configuration.{Configuration, settings_of}
@@ -57,8 +56,8 @@ use Rattle.console_reporter.specs.Effects.{entry_of, final_output}
 use Rattle.console_reporter.specs.Entries.{cancel, final_order, final_text}
 use Rattle.console_reporter.specs.Exactness.{IsExact, IsObserved, IsSeen, IsStoredThere, combined, with_output, writing}
 use Rattle.console_reporter.specs.KeptTests.{borrowed_test, kept_test}
-use Rattle.console_reporter.specs.Loads.{decision, is_kept_by, load_if, loads_attempt, loads_script}
-use Rattle.console_reporter.specs.Report.{event_text, listed_text, script_by, text, texts}
+use Rattle.console_reporter.specs.Loads.{decision, is_stored_by, load_if, loads_attempt, loads_script}
+use Rattle.console_reporter.specs.Report.{event_text, listed_text, script_by, text, report_texts}
 use Rattle.console_reporter.specs.Stored.{record_of, records, stored_text}
 use Rattle.console_reporter.specs.Unread.{is_skip}
 use Rattle.run_model.specs.declared.call.ReportCall.{ReportCall}
@@ -111,9 +110,9 @@ record_of_one store (call ∷ before) after x y is =
 
 module _ (config : Configuration) (before after : List ReportCall) (event : TestEvent) where
   -- what the decider skips can be left unread
-  unread-texts : (t : Text) → decision (decider_of config) event.kind ≡ Some Skip →
-      texts config (reverse (before ++ Event (unloaded_event (record event { kind = with_output (combined t) event.kind })) ∷ after)) ≡ texts config (reverse (before ++ writing t event ∷ after))
-  unread-texts t skips =
+  unread-report_texts : (t : Text) → decision (decider_of config) event.kind ≡ Some Skip →
+      report_texts config (reverse (before ++ Event (unloaded_event (record event { kind = with_output (combined t) event.kind })) ∷ after)) ≡ report_texts config (reverse (before ++ writing t event ∷ after))
+  unread-report_texts t skips =
       same-but-one config before after (record event { kind = with_output (combined t) event.kind }) _
       (same-unloaded (settings_of config) config.store event.elapsed (with_output (combined t) event.kind) (ap is_skip (same-decision (decider_of config) (combined t) event.kind ∙ skips)))
 
@@ -127,21 +126,21 @@ module _ (config : Configuration) (before after : List ReportCall) (event : Test
   observed_is_loaded : (answer : Option LoadOutput) → decision (decider_of config) event.kind ≡ answer → IsObserved config before event after → answer ≡ Some Load
   observed_is_loaded (Some Load) is observed = refl
   observed_is_loaded (Some Skip) is (inl seen) = absurd (seen
-      (sym (unread-texts (codes "a") is)
-      ∙ ap (λ kind. texts config (reverse (before ++ Event (record event { kind = kind }) ∷ after))) (same-unread (codes "a") (codes "b") event.kind)
-      ∙ unread-texts (codes "b") is))
+      (sym (unread-report_texts (codes "a") is)
+      ∙ ap (λ kind. report_texts config (reverse (before ++ Event (record event { kind = kind }) ∷ after))) (same-unread (codes "a") (codes "b") event.kind)
+      ∙ unread-report_texts (codes "b") is))
   observed_is_loaded (Some Skip) is (inr kept) = absurd (kept
       (sym (unread-records (codes "a") is)
       ∙ ap (λ kind. records config.store (before ++ Event (record event { kind = kind }) ∷ after)) (same-unread (codes "a") (codes "b") event.kind)
       ∙ unread-records (codes "b") is))
-  observed_is_loaded None is (inl seen) = absurd (seen (ap (λ kind. texts config (reverse (before ++ Event (record event { kind = kind }) ∷ after)))
+  observed_is_loaded None is (inl seen) = absurd (seen (ap (λ kind. report_texts config (reverse (before ++ Event (record event { kind = kind }) ∷ after)))
       (undecided (decider_of config) (codes "a") event.kind is ∙ sym (undecided (decider_of config) (codes "b") event.kind is))))
   observed_is_loaded None is (inr kept) = absurd (kept (ap (λ kind. records config.store (before ++ Event (record event { kind = kind }) ∷ after))
       (undecided (decider_of config) (codes "a") event.kind is ∙ sym (undecided (decider_of config) (codes "b") event.kind is))))
 
 -- one text where one call stands
-text_of_one : (config : Configuration) (later past : List ReportCall) (x y : ReportCall) → texts config (later ++ x ∷ past) ≡ texts config (later ++ y ∷ past) → text config past x ≡ text config past y
-unfolding texts
+text_of_one : (config : Configuration) (later past : List ReportCall) (x y : ReportCall) → report_texts config (later ++ x ∷ past) ≡ report_texts config (later ++ y ∷ past) → text config past x ≡ text config past y
+unfolding report_texts
 text_of_one config [] past x y is = (same_from_push _ _ _ _ is).1
 text_of_one config (call ∷ later) past x y is = text_of_one config later past x y (same_from_push _ _ _ _ is).0
 
@@ -156,12 +155,12 @@ observed_at_once config before after event differ same =
 observed_at_end : (config : Configuration) (before after : List ReportCall) (event end : TestEvent) →
     text config (reverse (before ++ writing (codes "a") event ∷ after)) (Event end) ≢ text config (reverse (before ++ writing (codes "b") event ∷ after)) (Event end) →
     IsSeen config before event (after ++ Event end ∷ [])
-unfolding texts
+unfolding report_texts
 observed_at_end config before after event end differ same =
     let last : (x : ReportCall) → reverse (before ++ x ∷ (after ++ Event end ∷ [])) ≡ Event end ∷ reverse (before ++ x ∷ after) =
     λ x. ap reverse (sym (append_assoc before (x ∷ after) (Event end ∷ []))) ∙ reverse-append (before ++ x ∷ after) (Event end ∷ []) in
-    let ends : texts config (Event end ∷ reverse (before ++ writing (codes "a") event ∷ after)) ≡ texts config (Event end ∷ reverse (before ++ writing (codes "b") event ∷ after)) =
-    ap (texts config) (sym (last (writing (codes "a") event))) ∙ same ∙ ap (texts config) (last (writing (codes "b") event)) in
+    let ends : report_texts config (Event end ∷ reverse (before ++ writing (codes "a") event ∷ after)) ≡ report_texts config (Event end ∷ reverse (before ++ writing (codes "b") event ∷ after)) =
+    ap (report_texts config) (sym (last (writing (codes "a") event))) ∙ same ∙ ap (report_texts config) (last (writing (codes "b") event)) in
     differ (same_from_push _ _ _ _ ends).1
 
 -- a setup script that did not succeed
@@ -243,7 +242,7 @@ unfolding stored_output
 kept_output store statuses b within kept = rw kept (decoded-same (b ∷ []) (IsUtf8-from_ascii (b ∷ []) (ascii b within)))
 
 kept_differ : (store : Option StoreConfig) (stress : Option StressIndex) (test : TestInstanceId) (success failure : TestOutputDisplay) (statuses : Attempts LiveSpec ChildOutputDescription) (stats : RunStats) →
-    is_kept_by store (case_of statuses) ≡ true →
+    is_stored_by store (case_of statuses) ≡ true →
     record_of store (with_output wrote_a (TestFinished stress test success failure statuses stats)) ≢ record_of store (with_output wrote_b (TestFinished stress test success failure statuses stats))
 unfolding record_text
 kept_differ None stress test success failure statuses stats kept e = absurd (false≢true kept)
@@ -252,7 +251,7 @@ kept_differ (Some store) stress test success failure statuses stats kept e =
     letters_differ (ap (λ o. netstring o ++ codes "\n") (sym (kept_output store statuses 97 (lit< tt) kept)) ∙ same ∙ ap (λ o. netstring o ++ codes "\n") (kept_output store statuses 98 (lit< tt) kept))
 
 finish_kept : (config : Configuration) (before rest : List ReportCall) (elapsed : Nanos) (stress : Option StressIndex) (test : TestInstanceId) (success failure : TestOutputDisplay)
-    (statuses : Attempts LiveSpec ChildOutputDescription) (stats : RunStats) → is_kept_by config.store (summary_of statuses).case ≡ true →
+    (statuses : Attempts LiveSpec ChildOutputDescription) (stats : RunStats) → is_stored_by config.store (summary_of statuses).case ≡ true →
     IsStoredThere config before (record { elapsed = elapsed; kind = TestFinished stress test success failure statuses stats }) rest
 finish_kept config before rest elapsed stress test success failure statuses stats kept same =
     kept_differ config.store stress test success failure statuses stats kept (record_of_one config.store before rest _ _ same)
@@ -272,7 +271,7 @@ loaded_is_observed config before after elapsed (TestAttemptFailedWillRetry stres
     (attempt_differs (settings_of config) stress test status delay.0 failure (is_loaded _ loads)))
 loaded_is_observed config before after elapsed (TestFinished stress test success failure statuses stats) end ends front back loads =
     let display = display_of (settings_of config) success failure (summary_of statuses) in
-    elim (or_cases (is_immediate display || is_final display) (is_kept_by config.store (summary_of statuses).case) (is_loaded _ loads)) [
+    elim (or_cases (is_immediate display || is_final display) (is_stored_by config.store (summary_of statuses).case) (is_loaded _ loads)) [
       | inl shown ↦ inl (elim (or_cases (is_immediate display) (is_final display) shown) [
         | inl now ↦ finish_at_once config before after elapsed stress test success failure statuses stats front (after ++ Event end ∷ []) now
         | inr final ↦ finish_at_end config before after elapsed stress test success failure statuses stats front end ends back final

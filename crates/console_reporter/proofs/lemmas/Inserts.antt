@@ -4,7 +4,7 @@ use Rattle.std.specs.Ordering.{ordering_then}
 use Rattle.std.specs.BTreeMap.{insert_entry}
 use Rattle.run_model.specs.declared.level.FinalStatusLevel.{FinalStatusLevel}
 use Rattle.console_reporter.specs.Order.{key_cmp}
-use Rattle.console_reporter.specs.Entries.{entry_cmp, entry_key, final_level_in, final_order, is_before}
+use Rattle.console_reporter.specs.Entries.{entry_cmp, entry_key, final_level_of_output, final_order, is_before}
 use Rattle.console_reporter.specs.Keys.{AreKeyed, entries_at, entry_at, order_key, placed_cmp}
 use Rattle.console_reporter.specs.declared.imp.entry_key.EntryKey.{EntryKey}
 use Rattle.console_reporter.specs.declared.imp.final_output.FinalOutput.{FinalOutput}
@@ -44,7 +44,7 @@ inserts k x (p ∷ ps) h all = by_first k x p ps h (keyed-more k.place (p ∷ ps
 abbrev pub key_of : FinalStatusLevel → KeptTest → ℕ → EntryKey
 key_of level test place = record { level = level; test = test; place = place }
 
-module _ (level : FinalStatusLevel) (e : FinalOutputEntry) (place : ℕ) (ps : List (EntryKey × FinalOutput)) (is_level : level ≡ final_level_in e.output) (at_end : place ≡ length ps) (all : AreKeyed (length ps) ps) where
+module _ (level : FinalStatusLevel) (e : FinalOutputEntry) (place : ℕ) (ps : List (EntryKey × FinalOutput)) (is_level : level ≡ final_level_of_output e.output) (at_end : place ≡ length ps) (all : AreKeyed (length ps) ps) where
   ordered : order_key (key_of level e.test place) ≡ entry_key e
   ordered = rw is_level refl
 

@@ -5,7 +5,7 @@ use Rattle.std.specs.Option.{is_some, option_and_then, option_map, option_map_or
 use Rattle.std.proofs.lemmas.Bool.{cases_Bool, false≢true}
 use Rattle.std.proofs.lemmas.List.{length-map, map-append, reverse-append}
 use Rattle.std.proofs.lemmas.Option.{slice_get-map}
-use Rattle.run_model.specs.Attempts.{Attempts}
+use Rattle.run_model.specs.Attempts.{Attempt, Attempts, Written}
 use Rattle.run_model.specs.Displays.{is_immediate, is_final}
 use Rattle.run_model.specs.Outputs.{has_loaded_output}
 use Rattle.run_model.specs.Statuses.{case_of, is_success, summary_of}
@@ -22,21 +22,20 @@ use Rattle.run_model.specs.declared.status.SetupScriptExecuteStatus.{SetupScript
 use Rattle.run_model.specs.declared.stress.StressIndex.{StressIndex}
 use Rattle.run_model.specs.declared.time.Nanos.{Nanos}
 use Rattle.unit_report.specs.Overrides.{display_for}
-use Rattle.event_text.specs.AttemptOutputs.{Written}
 use Rattle.event_text.specs.ResultWords.{short_word}
-use Rattle.store_text.specs.Netstrings.{netstring}
-use Rattle.store_text.specs.Records.{record_text}
-use Rattle.store_text.specs.StoredOutputs.{is_stored, stored_output}
+use Rattle.store_text.specs.Netstring.{netstring}
+use Rattle.store_text.specs.Record.{record_text}
+use Rattle.store_text.specs.StoredOutput.{is_stored, stored_output}
 use Rattle.store_text.specs.declared.config.StoreConfig.{StoreConfig}
-use Rattle.test_text.specs.FinishedTests.{TestFinish, line_at_once, output_at_once, test_finish, test_finished_text}
-use Rattle.event_text.specs.Finishes.{display_of, is_ever_shown, row_at_end, row_at_once}
-use Rattle.test_text.specs.RetriedTests.{Attempt, attempt_failed_text, attempt_failed_line, failed_output, is_failed_output_shown}
+use Rattle.test_text.specs.TestFinished.{TestFinish, line_at_once, output_at_once, test_finish, test_finished_text}
+use Rattle.event_text.specs.Finish.{display_of, is_ever_shown, row_at_end, row_at_once}
+use Rattle.test_text.specs.TestRetry.{attempt_failed_text, attempt_failed_line, failed_output, is_failed_output_shown}
 use Rattle.event_text.specs.Settings.{is_level_shown}
 use Rattle.event_text.specs.declared.finish.FinishRow.{FinishRow}
 use Rattle.event_text.specs.declared.finish.FinishRow.TheVariants.{Hidden, Shown, ShownOnce}
 use Rattle.event_text.specs.declared.settings.Settings.{Settings}
-use Rattle.run_text.specs.SetupScripts.{failed_script_output, setup_script_finished_text}
-use Rattle.event_text.specs.Scripts.{Script}
+use Rattle.run_text.specs.SetupScript.{failed_script_output, setup_script_finished_text}
+use Rattle.event_text.specs.Script.{Script}
 use Rattle.console_reporter.specs.Accepted.{AreAcceptedBy, decider_by, decider_of, event_refusal, first_refused, refusal_at_by, refusal_by}
 use Rattle.console_reporter.specs.Configuration.{Configuration, settings_of}
 use Rattle.console_reporter.specs.Effects.{final_output, is_kept, kept_entry}

@@ -2,7 +2,7 @@
 use Rattle.std.proofs.Common.{◌≡◌, ℕ, Bool, true, false, not, Option, None, Some, if◌then◌else◌, refl, sym, inl, inr, List}
 use Rattle.std.specs.Option.{option_map_or}
 use Rattle.std.proofs.lemmas.Bool.{cases_Bool, false≢true}
-use Rattle.run_model.specs.Attempts.{Attempts}
+use Rattle.run_model.specs.Attempts.{Attempt, Attempts, Written}
 use Rattle.run_model.specs.Infos.{has_valid_output}
 use Rattle.run_model.specs.Outputs.{has_loaded_output}
 use Rattle.run_model.specs.Statuses.{summary_of}
@@ -22,14 +22,13 @@ use Rattle.run_model.specs.declared.time.Nanos.{Nanos}
 use Rattle.plain_text.specs.Texts.{Text}
 use Rattle.unit_report.specs.Overrides.{display_for}
 use Rattle.store_text.specs.declared.config.StoreConfig.{StoreConfig}
-use Rattle.event_text.specs.AttemptOutputs.{Written}
-use Rattle.test_text.specs.FinishedTests.{HasShownOutput, test_finish}
-use Rattle.event_text.specs.Finishes.{display_of, is_ever_shown}
-use Rattle.test_text.specs.RetriedTests.{Attempt, HasFailedOutput, is_failed_output_shown}
+use Rattle.test_text.specs.TestFinished.{HasShownOutput, test_finish}
+use Rattle.event_text.specs.Finish.{display_of, is_ever_shown}
+use Rattle.test_text.specs.TestRetry.{HasFailedAttemptOutput, is_failed_output_shown}
 use Rattle.event_text.specs.Settings.{is_level_shown}
 use Rattle.event_text.specs.declared.settings.Settings.{Settings}
-use Rattle.run_text.specs.SetupScripts.{HasFailedOutput as HasFailedScriptOutput}
-use Rattle.info_text.specs.Responses.{HasAnswerOutput}
+use Rattle.run_text.specs.SetupScript.{HasFailedScriptOutput}
+use Rattle.info_text.specs.Response.{HasAnswerOutput}
 use Rattle.console_reporter.specs.Accepted.{decider_by}
 use Rattle.console_reporter.specs.Loads.{lacks_output, loads_attempt, loads_finish, loads_script}
 use Rattle.console_reporter.specs.declared.imp.decider.OutputLoadDecider.{OutputLoadDecider}
@@ -45,7 +44,7 @@ pub script_loaded : (d : OutputLoadDecider) (stress : Option StressIndex) (id pr
 script_loaded d stress id program args status lacks failed = loaded_where (loads_script status.result) status.output lacks (rw failed refl)
 
 pub attempt_loaded : (s : Settings) (stress : Option StressIndex) (test : TestInstanceId) (status : Attempt) (delay : Nanos) (failure : TestOutputDisplay) →
-    lacks_output (decider_by s None) (TestAttemptFailedWillRetry stress test status delay failure) ≡ false → is_level_shown s level.Retry ≡ true → HasFailedOutput s status failure
+    lacks_output (decider_by s None) (TestAttemptFailedWillRetry stress test status delay failure) ≡ false → is_level_shown s level.Retry ≡ true → HasFailedAttemptOutput s status failure
 unfolding is_level_shown is_failed_output_shown
 attempt_loaded s stress test status delay failure lacks shown at_once =
     loaded_where (loads_attempt (decider_by s None) failure) status.output lacks (rw (shown, at_once) refl)

@@ -9,14 +9,14 @@ use Rattle.run_model.specs.declared.unit.UnitKind.{UnitKind}
 use Rattle.plain_text.specs.EndLine.{without_end_line}
 use Rattle.plain_text.specs.Escapes.{visible_after}
 use Rattle.plain_text.specs.Indent.{indent}
-use Rattle.plain_text.specs.Styles.{plain}
+use Rattle.plain_text.specs.Style.{plain}
 use Rattle.plain_text.specs.Texts.{Text}
 use Rattle.plain_text.specs.declared.style.Styles.{Styles}
 use Rattle.plain_text.proofs.lemmas.Decoded.{decoded-same}
 use Rattle.unit_report.specs.Captured.{captured, coloured_output, plain_output, reset_output}
-use Rattle.unit_report.specs.OutputHeaders.{header_text}
-use Rattle.unit_report.specs.UnitOutputs.{child_output, errors_text, execution_output, present_stream, shown_stream}
-use Rattle.event_text.specs.AttemptOutputs.{finished_layout, info_line, output_margin, unit_output}
+use Rattle.unit_report.specs.Header.{header_text}
+use Rattle.unit_report.specs.UnitOutput.{child_output, errors_text, execution_output, present_stream, shown_stream}
+use Rattle.event_text.specs.AttemptOutput.{finished_layout, info_line, output_margin, unit_output}
 use Rattle.event_text.specs.declared.settings.Settings.{Settings}
 use Rattle.console_reporter.specs.Exactness.{combined}
 

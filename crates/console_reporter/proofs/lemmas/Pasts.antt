@@ -8,7 +8,7 @@ use Rattle.console_reporter.specs.Configuration.{Configuration, settings_of}
 use Rattle.console_reporter.specs.Effects.{TestEnd, effect_of, entry_of, kept_entry}
 use Rattle.console_reporter.specs.Entries.{cancel, kept, entry_cmp, is_before, final_order, IsFinalOrder}
 use Rattle.console_reporter.specs.Report.{event_text, text}
-use Rattle.console_reporter.specs.Standing.{StandsAfter, known_by}
+use Rattle.console_reporter.specs.HeldState.{StandsAfter, known_by}
 use Rattle.run_model.specs.declared.call.ReportCall.{ReportCall}
 use Rattle.run_model.specs.declared.call.ReportCall.TheVariants.{Event}
 use Rattle.console_reporter.specs.declared.imp.final_output.FinalOutputEntry.{FinalOutputEntry}

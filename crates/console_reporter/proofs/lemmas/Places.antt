@@ -4,7 +4,7 @@ use Rattle.std.proofs.lemmas.Bool.{cases_Bool}
 use Rattle.std.proofs.lemmas.Grind.{flat_map-append}
 use Rattle.run_model.specs.declared.status.StatusSummary.{StatusSummary}
 use Rattle.plain_text.specs.Texts.{Text}
-use Rattle.event_text.specs.AttemptOutputs.{Written}
+use Rattle.run_model.specs.Attempts.{Written}
 use Rattle.event_text.specs.declared.settings.Settings.{Settings}
 use Rattle.console_reporter.specs.Entries.{entries_text, entry_text, final_order, is_before}
 use Rattle.console_reporter.specs.Order.{ordered_by, put_in}

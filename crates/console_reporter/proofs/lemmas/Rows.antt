@@ -29,34 +29,33 @@ use Rattle.run_model.specs.declared.config.TestOutputDisplay.TheVariants.{Never}
 use Rattle.run_model.specs.declared.stress.StressIndex.{StressIndex}
 use Rattle.run_model.specs.declared.time.Nanos.{Nanos}
 use Rattle.run_model.specs.Names.{last_colons}
-use Rattle.run_model.specs.Attempts.{Attempts}
+use Rattle.run_model.specs.Attempts.{Attempts, Written}
 use Rattle.run_model.specs.Statuses.{summary_of}
 use Rattle.report_text.specs.Plural.{tests_word_if, binaries_word}
-use Rattle.plain_text.specs.Styles.{plain, styled, styles_of}
+use Rattle.plain_text.specs.Style.{plain, styled, styles_of}
 use Rattle.plain_text.specs.Texts.{Text, right_in}
 use Rattle.report_text.specs.Theme.{hbar_text}
-use Rattle.event_text.specs.AbortLines.{abort_line}
-use Rattle.event_text.specs.AttemptOutputs.{Written}
+use Rattle.event_text.specs.AbortLine.{abort_line}
 use Rattle.event_text.specs.Settings.{theme_of}
 use Rattle.event_text.specs.ResultWords.{long_word}
 use Rattle.console_reporter.specs.Order.{ordered_by, put_in}
 use Rattle.console_reporter.specs.Entries.{cancel, kept, final_order}
-use Rattle.test_text.specs.FinishedTests.{test_finish}
+use Rattle.test_text.specs.TestFinished.{test_finish}
 use Rattle.console_reporter.specs.Effects.{finished_entry}
-use Rattle.event_text.specs.Finishes.{display_of, finish_row, row_listed, is_final_wanted}
-use Rattle.event_text.specs.Bars.{bar_line}
-use Rattle.run_text.specs.RunIds.{id_text, run_id_text}
-use Rattle.run_text.specs.Starts.{profile_text, run_id_line, test_counts_text, starting_line, run_started_text}
-use Rattle.run_text.specs.Summaries.{initial_count_text, run_counts_text, summary_line, run_finished_text}
-use Rattle.test_text.specs.StatusLines.{status_prefix, flaky_failure_line, status_line}
+use Rattle.event_text.specs.Finish.{display_of, finish_row, row_listed, is_final_wanted}
+use Rattle.event_text.specs.Bar.{bar_line}
+use Rattle.run_text.specs.RunId.{id_text, run_id_text}
+use Rattle.run_text.specs.Start.{profile_text, run_id_line, test_counts_text, starting_line, run_started_text}
+use Rattle.run_text.specs.Summary.{initial_count_text, run_counts_text, summary_line, run_finished_text}
+use Rattle.test_text.specs.StatusLine.{status_prefix, flaky_failure_line, status_line}
 use Rattle.run_model.specs.declared.call.ReportCall.TheVariants.{Event}
 use Rattle.event_text.specs.declared.finish.FinishRow.TheVariants as row
 use Rattle.event_text.specs.declared.settings.Settings.{Settings}
 use Rattle.test_text.specs.declared.status_line.StatusLineKind.{StatusLineKind}
 use Rattle.test_text.specs.declared.status_line.StatusLineKind.TheVariants.{Intermediate, Final}
-use Rattle.event_text.specs.StatsTexts.{summary_text, counted_text, passed_notes, passed_note, notes_end, failed_counts, failed_count, leaky_failed_note, due_to_being, exec_failed_count, timed_out_count, other_failed_count}
+use Rattle.event_text.specs.StatsText.{summary_text, counted_text, passed_notes, passed_note, notes_end, failed_counts, failed_count, leaky_failed_note, due_to_being, exec_failed_count, timed_out_count, other_failed_count}
 use Rattle.plain_text.specs.Numbers.{seconds, with_point}
-use Rattle.report_text.specs.Instances.{test_text, stress_prefix, counter_prefix, name_text}
+use Rattle.report_text.specs.Instance.{test_text, stress_prefix, counter_prefix, test_name_text}
 use Rattle.unit_report.specs.Durations.{bracketed_duration}
 
 -- level Pass, final level Fail, and no colour
@@ -141,7 +140,7 @@ unfolding bracketed_duration seconds with_point plain styled right_in chars digi
 lasted = refl
 
 named : test_text settings.styles.list_styles None None (codes "alpha") (codes "mod::t2") ≡ codes "alpha mod::t2"
-unfolding test_text stress_prefix counter_prefix name_text plain styled last_colons
+unfolding test_text stress_prefix counter_prefix test_name_text plain styled last_colons
 named = refl
 
 -- its line, at once and in the summary

@@ -5,7 +5,7 @@ use Rattle.plain_text.specs.Writer.{Meaning, WriterLaws}
 use Rattle.console_reporter.specs.Configuration.{Configuration}
 use Rattle.console_reporter.specs.Report.{past_at, report, text_at}
 use Rattle.console_reporter.specs.Slots.{store_meaning}
-use Rattle.console_reporter.specs.Standing.{StandsAfter}
+use Rattle.console_reporter.specs.HeldState.{StandsAfter}
 use Rattle.console_reporter.specs.Stored.{stored}
 use Rattle.console_reporter.specs.Telling.{IsSameReporter, Breaks, BreaksRun, Tells, TellsRun}
 use Rattle.run_model.specs.declared.call.ReportCall.{ReportCall}

@@ -8,7 +8,7 @@ use Rattle.event_text.specs.declared.settings.Settings.{Settings}
 use Rattle.console_reporter.specs.Configuration.{Configuration, settings_of}
 use Rattle.console_reporter.specs.Effects.{effect_of, entry_of}
 use Rattle.console_reporter.specs.Entries.{cancel, kept, prefix}
-use Rattle.console_reporter.specs.Report.{Known, event_text, known_after, report, text, texts}
+use Rattle.console_reporter.specs.Report.{Known, event_text, known_after, report, text, report_texts}
 use Rattle.run_model.specs.declared.call.ReportCall.{ReportCall}
 use Rattle.run_model.specs.declared.call.ReportCall.TheVariants.{Event, Header, Prefix}
 use Rattle.console_reporter.proofs.lemmas.Texts.{report-joined}
@@ -24,7 +24,7 @@ pub record AreSame (config : Configuration) (xs ys : List ReportCall) : Type 0 w
   pub prefix : prefix ys ≡ prefix xs
   pub cancel : cancel ys ≡ cancel xs
   pub kept : kept (settings_of config) ys ≡ kept (settings_of config) xs
-  pub texts : texts config ys ≡ texts config xs
+  pub texts : report_texts config ys ≡ report_texts config xs
 
 module _ (config : Configuration) where
   pub same-itself : (xs : List ReportCall) → AreSame config xs xs
@@ -34,9 +34,9 @@ module _ (config : Configuration) where
     same-known : known_after config ys ≡ known_after config xs
     same-known = rw (all.prefix, all.cancel, all.kept) refl
 
-    same-texts : (x y : ReportCall) → text config ys y ≡ text config xs x → texts config (y ∷ ys) ≡ texts config (x ∷ xs)
-    unfolding texts
-    same-texts x y here = ap₂ (λ (before : List Text) (t : Text). before ++ t ∷ []) all.texts here
+    same-report_texts : (x y : ReportCall) → text config ys y ≡ text config xs x → report_texts config (y ∷ ys) ≡ report_texts config (x ∷ xs)
+    unfolding report_texts
+    same-report_texts x y here = ap₂ (λ (before : List Text) (t : Text). before ++ t ∷ []) all.texts here
 
     -- the same event after them
     pub same-event : (e f : TestEvent) → IsSameEvent (settings_of config) e f → AreSame config (Event e ∷ xs) (Event f ∷ ys)
@@ -45,15 +45,15 @@ module _ (config : Configuration) where
       prefix = all.prefix;
       cancel = ap₂ max one.reason all.cancel;
       kept = rw (all.kept, all.cancel, one.entry (cancel xs)) refl;
-      texts = same-texts (Event e) (Event f) (ap (λ known. event_text (settings_of config) known f.elapsed.0 f.kind) same-known ∙ one.text (known_after config xs));
+      texts = same-report_texts (Event e) (Event f) (ap (λ known. event_text (settings_of config) known f.elapsed.0 f.kind) same-known ∙ one.text (known_after config xs));
     }
 
     -- one call after them
     pub same-call : (call : ReportCall) → AreSame config (call ∷ xs) (call ∷ ys)
     unfolding prefix cancel kept
     same-call (Event e) = same-event e e (record { reason = refl; entry = λ before. refl; text = λ known. refl })
-    same-call (Header h) = record { prefix = all.prefix; cancel = all.cancel; kept = all.kept; texts = same-texts (Header h) (Header h) refl }
-    same-call (Prefix p) = record { prefix = refl; cancel = all.cancel; kept = all.kept; texts = same-texts (Prefix p) (Prefix p) refl }
+    same-call (Header h) = record { prefix = all.prefix; cancel = all.cancel; kept = all.kept; texts = same-report_texts (Header h) (Header h) refl }
+    same-call (Prefix p) = record { prefix = refl; cancel = all.cancel; kept = all.kept; texts = same-report_texts (Prefix p) (Prefix p) refl }
 
     pub same-report : report config ys ≡ report config xs
     same-report = report-joined config ys ∙ ap (flat_map (λ t. t)) all.texts ∙ sym (report-joined config xs)
@@ -70,7 +70,7 @@ reverse-middle front x back =
 
 -- one event in the place of another that is the same
 pub same-but-one : (config : Configuration) (front back : List ReportCall) (e f : TestEvent) → IsSameEvent (settings_of config) e f →
-    texts config (reverse (front ++ Event f ∷ back)) ≡ texts config (reverse (front ++ Event e ∷ back))
+    report_texts config (reverse (front ++ Event f ∷ back)) ≡ report_texts config (reverse (front ++ Event e ∷ back))
 same-but-one config front back e f one =
     let past = reverse front in
     let all = same-onto config (Event e ∷ past) (Event f ∷ past) (same-event config past past (same-itself config past) e f one) (reverse back) in

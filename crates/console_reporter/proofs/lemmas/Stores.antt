@@ -4,7 +4,7 @@ use Rattle.std.specs.Io.KnownBytes.{Appends}
 use Rattle.plain_text.specs.Writer.{AppendsFront, Meaning, WriterLaws, one_further}
 use Rattle.plain_text.specs.declared.write_str.WriteFault.TheVariants.{Device, Memory as RefusedMemory}
 use Rattle.console_reporter.specs.Outcomes.{StopsRecord, StopsRecordAfter}
-use Rattle.console_reporter.specs.Standing.{MayGrowAt, StandsAfter}
+use Rattle.console_reporter.specs.HeldState.{MayGrowAt, StandsAfter}
 use Rattle.console_reporter.specs.Configuration.{Configuration}
 use Rattle.console_reporter.specs.declared.imp.reporter.DisplayReporter.{DisplayReporter}
 use Rattle.run_model.specs.declared.call.ReportCall.{ReportCall}

@@ -3,7 +3,7 @@
 ghost use Rattle.std.specs.Prelude.{◌≡◌, IfOk, [], None, Some};
 ghost use Rattle.console_reporter.specs.Accepted.{decider_of};
 ghost use Rattle.console_reporter.specs.Configuration.{configured, configured_in, configured_with_store, default_builder, settings_of};
-ghost use Rattle.console_reporter.specs.Standing.{StandsAfter};
+ghost use Rattle.console_reporter.specs.HeldState.{StandsAfter};
 ghost use Rattle.event_text.specs.Settings.{overrides_by};
 
 use super::decider::OutputLoadDecider;

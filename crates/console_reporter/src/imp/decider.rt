@@ -134,11 +134,11 @@ impl OutputLoadDecider {
             .resolve_for_describe(success_output, failure_output, &describe);
         display.is_immediate()
             || display.is_final()
-            || self.is_kept(describe.is_success_for_output())
+            || self.stores_output(describe.is_success_for_output())
     }
 
     // Whether a store is asked to keep the output of such a test.
-    fn is_kept(&self, is_success: bool) -> bool
+    fn stores_output(&self, is_success: bool) -> bool
         ensures { result ≡ is_asked_of self.now.store is_success }
     {
         match self.store {

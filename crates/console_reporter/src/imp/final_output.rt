@@ -2,10 +2,10 @@
 
 ghost use Rattle.std.specs.Prelude.{◌≡◌, IfOk, IsOk, false};
 ghost use Rattle.run_model.specs.Statuses.{is_aborted};
-ghost use Rattle.test_text.specs.FinishedTests.{HasShownOutput, finish_of};
+ghost use Rattle.test_text.specs.TestFinished.{HasShownOutput, finish_of};
 ghost use Rattle.console_reporter.specs.Effects.{final_output, finished_entry, skipped_entry};
-ghost use Rattle.console_reporter.specs.Entries.{final_level_in};
-ghost use Rattle.event_text.specs.Finishes.{row_at_end};
+ghost use Rattle.console_reporter.specs.Entries.{final_level_of_output};
+ghost use Rattle.event_text.specs.Finish.{row_at_end};
 
 use super::kept_test::KeptTest;
 use super::loaded_output::LoadedOutput;
@@ -48,7 +48,7 @@ pub enum FinalOutput {
 impl FinalOutput {
     /// The level from which on the summary lists the test.
     pub fn final_status_level(&self) -> FinalStatusLevel
-        ensures { result ≡ final_level_in self.now }
+        ensures { result ≡ final_level_of_output self.now }
     {
         match self {
             FinalOutput::Executed { summary } => summary.final_status_level(),

@@ -2,7 +2,7 @@
 
 ghost use Rattle.std.specs.Prelude.{◌≡◌, List, [], ◌∷◌, ◌++◌, OnOk, OnErr};
 ghost use Rattle.plain_text.specs.Writer.{Puts};
-ghost use Rattle.test_text.specs.StatusLines.{status_line};
+ghost use Rattle.test_text.specs.StatusLine.{status_line};
 ghost use Rattle.test_text.specs.declared.status_line.StatusLineKind.{StatusLineKind};
 ghost use Rattle.console_reporter.specs.Entries.{final_text, entries_text, final_order, IsFinalOrder};
 ghost use Rattle.console_reporter.specs.KeptTests.{borrowed_test};

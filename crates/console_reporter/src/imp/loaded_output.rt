@@ -18,7 +18,7 @@ pub struct LoadedOutput {
 impl Model for LoadedOutput {
     ghost use Rattle.std.specs.Prelude.{◌≡◌, true};
     ghost use Rattle.run_model.specs.Outputs.{has_loaded_output};
-    ghost use Rattle.event_text.specs.AttemptOutputs.{Written};
+    ghost use Rattle.run_model.specs.Attempts.{Written};
 
     ghost Value = { Written };
 

@@ -4,7 +4,7 @@ ghost use Rattle.std.specs.Prelude.{◌≡◌, ◌⊎◌, List, [], ◌∷◌, O
 ghost use Rattle.std.specs.Option.{is_some, option_map};
 ghost use Rattle.run_model.specs.Levels.{reason_rank};
 ghost use Rattle.plain_text.specs.Writer.{Puts, one_further};
-ghost use Rattle.run_text.specs.Headers.{replay_header_text};
+ghost use Rattle.run_text.specs.Header.{replay_header_text};
 ghost use Rattle.run_model.specs.declared.call.ReportCall.{ReportCall};
 ghost use Rattle.console_reporter.specs.declared.imp.faults.WriteEventError.{WriteEventError};
 ghost use Rattle.console_reporter.specs.Configuration.{Configuration, settings_of};
@@ -19,7 +19,7 @@ ghost use Rattle.console_reporter.specs.Slots.{config_of, store_accepts, store_d
 ghost use Rattle.console_reporter.specs.Stored.{record_of, stored};
 ghost use Rattle.console_reporter.specs.Telling.{AreDelivered, IsSameReporter, Breaks, BreaksRun, Tells, TellsRun};
 ghost use Rattle.console_reporter.specs.Topics.{is_of_run};
-ghost use Rattle.console_reporter.specs.Standing.{StandsAfter, HasFailed, IsSameWriter, MayGrow, MayGrowAt, known_by};
+ghost use Rattle.console_reporter.specs.HeldState.{StandsAfter, HasFailed, IsSameWriter, MayGrow, MayGrowAt, known_by};
 
 use super::decider::OutputLoadDecider;
 use super::effect::{EndedTest, EventEffect};

@@ -8,11 +8,11 @@ ghost use Rattle.console_reporter.specs.declared.imp.faults.WriteEventError.{Wri
 ghost use Rattle.console_reporter.specs.Accepted.{AreAccepted, refusal_at};
 ghost use Rattle.console_reporter.specs.ColourLaw.{ColourLaw, IsSameStoredInColour};
 ghost use Rattle.console_reporter.specs.Configuration.{Configuration, configured, configured_with_store};
-ghost use Rattle.console_reporter.specs.Exchanges.{IsOrderIndependent};
+ghost use Rattle.console_reporter.specs.OrderIndependence.{IsOrderIndependent};
 ghost use Rattle.console_reporter.specs.Outcomes.{StopsAfter, StopsRecordAfter, refusal_in};
 ghost use Rattle.console_reporter.specs.PlainLaw.{PlainLaw};
-ghost use Rattle.console_reporter.specs.Report.{past_at, report, text, text_at, texts};
-ghost use Rattle.console_reporter.specs.Standing.{MayGrowAt};
+ghost use Rattle.console_reporter.specs.Report.{past_at, report, text, text_at, report_texts};
+ghost use Rattle.console_reporter.specs.HeldState.{MayGrowAt};
 ghost use Rattle.console_reporter.specs.Statistics.{IsStatsIndependent};
 ghost use Rattle.console_reporter.specs.Stored.{stored, stored_at};
 
@@ -27,8 +27,8 @@ use store_text::config::StoreConfig;
 
 /// A report is the texts of its calls, one after another, and the text of each call stands at the call's place.
 pub fn texts_make_the_report()
-    ensures joined { (config : Configuration) (past : List ReportCall) → report config past ≡ flat_map (λ t. t) (texts config past) }
-    ensures placed { (config : Configuration) (later : List ReportCall) (call : ReportCall) (past : List ReportCall) → slice_get (texts config (later ++ call ∷ past)) (length past) ≡ Some (text config past call) }
+    ensures joined { (config : Configuration) (past : List ReportCall) → report config past ≡ flat_map (λ t. t) (report_texts config past) }
+    ensures placed { (config : Configuration) (later : List ReportCall) (call : ReportCall) (past : List ReportCall) → slice_get (report_texts config (later ++ call ∷ past)) (length past) ≡ Some (text config past call) }
 {}
 
 /// Makes the calls in order on a reporter of its own, ends the report, and stops at the first fault.

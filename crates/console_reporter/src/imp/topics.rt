@@ -2,7 +2,7 @@
 
 ghost use Rattle.std.specs.Prelude.{◌≡◌, ℕ, None, false, true};
 ghost use Rattle.plain_text.specs.Writer.{Puts};
-ghost use Rattle.event_text.specs.Scripts.{script_of};
+ghost use Rattle.event_text.specs.Script.{script_of};
 ghost use Rattle.console_reporter.specs.Accepted.{decider_by};
 ghost use Rattle.console_reporter.specs.Loads.{lacks_output};
 ghost use Rattle.console_reporter.specs.Report.{Known, event_text, script_by};

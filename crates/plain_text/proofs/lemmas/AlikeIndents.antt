@@ -1,4 +1,4 @@
--- Indentation, and texts that are alike (for `tinted-indent`).
+-- Indentation, and texts that are alike (for `colour_pair-indent`).
 use Rattle.std.proofs.Common.{append_assoc, ap₂, ◌≢◌, ◌≡◌, ℕ, zero, suc, Bool, true, false, cond, ◌&&◌, ◌==◌, List, [], ◌∷◌, ◌++◌, map, refl, sym, ◌∙◌, ap, inl, inr, append-nil}
 use Rattle.std.specs.List.{AllByRecursion, onto_first, join_with_byte}
 use Rattle.std.proofs.lemmas.Bool.{cases_Bool}

@@ -8,7 +8,7 @@ use Rattle.std.specs.List.{repeat}
 use Rattle.plain_text.specs.Texts.{Text, spaces, right_in}
 use Rattle.plain_text.specs.Escapes.{pieces, pieces_after, sequence_len, HasNoEscape}
 use Rattle.plain_text.specs.Fitting.{sequences, AreClosed}
-use Rattle.plain_text.specs.Styles.{part_text, plain, styled, style_prefix, style_suffix, reset_color, PartText, Plain, Styled, paint}
+use Rattle.plain_text.specs.Style.{part_text, plain, styled, style_prefix, style_suffix, reset_color, PartText, Plain, Styled, paint}
 use Rattle.plain_text.proofs.lemmas.Marks.{AreHigh, encode-high}
 use Rattle.plain_text.proofs.lemmas.Widths.{free_both, sequences-joined, free_after, sequences-free, closed_both}
 use Rattle.plain_text.proofs.lemmas.Pieces.{joined-pieces}

@@ -1,7 +1,7 @@
 -- What a device took of what a `TextBuffer` accepted (for `delivery_law`).
 use Rattle.std.proofs.Common.{◌≡◌, ℕ, List, [], ◌++◌, Option, Some, sym, ap, ◌∙◌, append_assoc}
 use Rattle.std.proofs.lemmas.List.{append_cancel_left}
-use Rattle.plain_text.specs.Buffer.{BufferAccepts, BufferStops, Delivers, DeliversWithin, GrowsWithin}
+use Rattle.plain_text.specs.TextBuffer.{BufferAccepts, BufferStops, Delivers, DeliversWithin, GrowsWithin}
 use Rattle.plain_text.specs.declared.write_str.WriteFault.{WriteFault}
 use Rattle.plain_text.specs.declared.write_str.text_buffer.TextBuffer.{TextBuffer}
 

@@ -7,15 +7,15 @@ use Rattle.std.specs.Str.{IsUtf8}
 use Rattle.plain_text.specs.Texts.{Text}
 use Rattle.plain_text.specs.Escapes.{is_visible, front_len, sequence_len, PieceText, pieces, pieces_after}
 use Rattle.plain_text.specs.Escapes.PieceText.{SequenceText, StretchText}
-use Rattle.plain_text.specs.Counted.{counted, columns_from}
+use Rattle.plain_text.specs.ColumnCounter.{columns_counted, columns_from}
 use Rattle.plain_text.specs.Scanner.{advanced, mode_after}
 use Rattle.plain_text.specs.Fitting.{char_columns, columns_of, columns, kept_chars, kept_stretch, fit_pieces, fit, stretch_columns}
-use Rattle.plain_text.specs.Fitted.{next_place, is_kept_by, moved_by, kept_from}
+use Rattle.plain_text.specs.Fitted.{next_place, is_char_kept_by, moved_by, kept_from}
 use Rattle.plain_text.proofs.lemmas.Fits.{columns_of-cons, kept_stretch-before, kept_stretch-past, AreTexts, texts, stretch_columns-pieces}
 use Rattle.plain_text.proofs.lemmas.Marks.{Mark, marks, tagged, piece_marks, marks-pieces, chars_past}
 use Rattle.plain_text.specs.declared.escapes.Mode.{Mode}
 use Rattle.plain_text.specs.declared.escapes.Mode.TheVariants as mode
-use Rattle.plain_text.specs.declared.fitting.standing.Standing.{Standing}
+use Rattle.plain_text.specs.declared.fitting.scan_state.ScanState.{ScanState}
 
 module _ (start end : ℕ) where
   -- what is kept of the marks from a place on
@@ -25,15 +25,15 @@ module _ (start end : ℕ) where
       cond x.0 (encode_utf8 x.1 ++ kept_marks place false ms)
       (cond ((is_open || nat_lt place end) && (nat_le start place && nat_le (place + char_columns x.1) end)) (encode_utf8 x.1) [] ++ kept_marks (next_place end place (char_columns x.1)) (is_open || nat_lt place end) ms)
 
-  kept-marks : (s : Standing) (cs : List ℕ) → kept_from start end s cs ≡ kept_marks s.place s.is_open (marks s.mode cs)
+  kept-marks : (s : ScanState) (cs : List ℕ) → kept_from start end s cs ≡ kept_marks s.place s.is_open (marks s.mode cs)
   unfolding kept_from
   kept-marks s [] = refl
   kept-marks s (c ∷ cs) = go (λ r. kept-marks r cs) (advanced s.mode c)
     where
-      go : ((r : Standing) → kept_from start end r cs ≡ kept_marks r.place r.is_open (marks r.mode cs)) → (o : Option Mode)
-          → cond (is_kept_by start end s c o) (encode_utf8 c) [] ++ kept_from start end (moved_by end s c o) cs ≡ kept_marks s.place s.is_open ((is_some o, c) ∷ marks (unwrap_or o mode.Text) cs)
+      go : ((r : ScanState) → kept_from start end r cs ≡ kept_marks r.place r.is_open (marks r.mode cs)) → (o : Option Mode)
+          → cond (is_char_kept_by start end s c o) (encode_utf8 c) [] ++ kept_from start end (moved_by end s c o) cs ≡ kept_marks s.place s.is_open ((is_some o, c) ∷ marks (unwrap_or o mode.Text) cs)
       go more (Some m) = ap (λ x. encode_utf8 c ++ x) (more (moved_by end s c (Some m)))
-      go more None = ap (λ x. cond (is_kept_by start end s c None) (encode_utf8 c) [] ++ x) (more (moved_by end s c None))
+      go more None = ap (λ x. cond (is_char_kept_by start end s c None) (encode_utf8 c) [] ++ x) (more (moved_by end s c None))
 
   -- the place of the writer is the true one, or both are past the end
   abbrev IsPlace : ℕ → ℕ → Type 0
@@ -163,7 +163,7 @@ module _ (start end : ℕ) where
   kept_pieces place pos (StretchText s ∷ ps) h u a = stretch_kept place pos s ps h a.0 (λ next is. kept_pieces next (pos + columns_of (chars s)) ps is u.1 a.1)
 
   -- the whole text, from the first place on
-  pub kept-fit : (s : Standing) (t : Text) → IsUtf8 t → s.mode ≡ mode.Text → s.place ≡ 0 → s.is_open ≡ false → kept_from start end s (chars t) ≡ fit t start end
+  pub kept-fit : (s : ScanState) (t : Text) → IsUtf8 t → s.mode ≡ mode.Text → s.place ≡ 0 → s.is_open ≡ false → kept_from start end s (chars t) ≡ fit t start end
   unfolding fit
   kept-fit s t u m p o = kept-marks start end s (chars t) ∙ rw (m, p, o, marks-pieces t u) (kept_pieces 0 0 (pieces t) (inl refl) (texts t u) (apart_after 0 t))
 
@@ -178,7 +178,7 @@ columns-marks m [] = refl
 columns-marks m (c ∷ cs) = go (columns-marks (mode_after m c) cs) (advanced m c) refl
   where
     go : columns_from (mode_after m c) cs ≡ mark_columns (marks (mode_after m c) cs) → (o : Option Mode) → advanced m c ≡ o
-        → counted c o + columns_from (mode_after m c) cs ≡ cond (is_some o) 0 (char_columns c) + mark_columns (marks (mode_after m c) cs)
+        → columns_counted c o + columns_from (mode_after m c) cs ≡ cond (is_some o) 0 (char_columns c) + mark_columns (marks (mode_after m c) cs)
     go more (Some n) e = ap (λ k. 0 + k) more
     go more None e = ap (λ k. char_columns c + k) more
 
@@ -200,5 +200,5 @@ piece_columns (SequenceText s ∷ ps) = omega (arith, mark_columns-append (tagge
 piece_columns (StretchText s ∷ ps) = omega (arith, mark_columns-append (tagged false (chars s)) (piece_marks ps), mark_columns-stretch (chars s), piece_columns ps)
 
 -- the columns that the scan counts are those of the text
-pub counted-columns : (t : Text) → IsUtf8 t → columns_from mode.Text (chars t) ≡ columns t
-counted-columns t u = columns-marks mode.Text (chars t) ∙ ap mark_columns (marks-pieces t u) ∙ piece_columns (pieces t) ∙ stretch_columns-pieces t u
+pub columns_counted-columns : (t : Text) → IsUtf8 t → columns_from mode.Text (chars t) ≡ columns t
+columns_counted-columns t u = columns-marks mode.Text (chars t) ∙ ap mark_columns (marks-pieces t u) ∙ piece_columns (pieces t) ∙ stretch_columns-pieces t u

@@ -5,7 +5,7 @@ use Rattle.std.proofs.lemmas.Str.{chars-encodes, chars-nil, IsUtf8-nil, cons_fro
 use Rattle.std.specs.Str.{IsUtf8, all_scalars}
 use lib.Utf8.{scalar}
 use Rattle.plain_text.specs.Texts.{Text}
-use Rattle.plain_text.specs.Fitted.{FittedAccepts, FittedStops, kept_char, kept_from, kept_text, kept_text-nil, standing_after, PutsChar, fitted_meaning}
+use Rattle.plain_text.specs.Fitted.{FittedAccepts, FittedStops, kept_char, kept_from, fitted_text, fitted_text-nil, scan_after, PutsChar, fitted_meaning}
 use Rattle.plain_text.specs.Writer.{Meaning, Puts}
 use Rattle.plain_text.specs.declared.fitting.fitted.Fitted.{Fitted}
 use Rattle.plain_text.specs.declared.write_str.WriteFault.{WriteFault}
@@ -24,16 +24,16 @@ pub one_char : (c : ℕ) → scalar c ≡ true → chars (encode_utf8 c) ≡ c �
 one_char c h = ap chars (sym (append-nil (encode_utf8 c))) ∙ chars-encodes (c ∷ []) (rw h refl)
 
 module _ {W : Type 0} (m : Meaning W) where
-  kept_one : (a : Fitted W) (c : ℕ) → scalar c ≡ true → kept_text a (encode_utf8 c) ≡ kept_char a.start a.end a.standing c
+  kept_one : (a : Fitted W) (c : ℕ) → scalar c ≡ true → fitted_text a (encode_utf8 c) ≡ kept_char a.start a.end a.scan c
   unfolding kept_from
-  kept_one a c h = rw (one_char c h) (append-nil (kept_char a.start a.end a.standing c))
+  kept_one a c h = rw (one_char c h) (append-nil (kept_char a.start a.end a.scan c))
 
   char_put : (a b : Fitted W) (c : ℕ) (r : Result (Unit {0}) WriteFault) → scalar c ≡ true → PutsChar m a c r b → Puts (fitted_meaning m) a (encode_utf8 c) r b
-  unfolding standing_after
+  unfolding scan_after
   char_put a b c (Ok x) h p = record {
     utf8 = one_utf8 c h;
     below = rw (kept_one a c h) p.below;
-    standing = rw (one_char c h) p.standing;
+    scan = rw (one_char c h) p.scan;
     start = p.start;
     end = p.end;
     same = p.same;
@@ -55,7 +55,7 @@ module _ {W : Type 0} (m : Meaning W) where
   next_stopped a b t rest c f u e p = char_put a b c (Err f) (first_scalar t rest c u e) p
 
   -- nothing is written, as by a flush
-  pub nothing_put : (a b : Fitted W) (r : Result (Unit {0}) WriteFault) → Puts m a.inner.now [] r b.inner.now → b.standing ≡ a.standing → b.start ≡ a.start → b.end ≡ a.end → b.inner.ghost_name ≡ a.inner.ghost_name → Puts (fitted_meaning m) a [] r b
-  unfolding standing_after
-  nothing_put a b (Ok x) p s i j o = record { utf8 = IsUtf8-nil; below = rw (kept_text-nil a) p; standing = rw chars-nil s; start = i; end = j; same = o }
-  nothing_put a b (Err e) p s i j o = record { front = []; rest = []; whole = refl; utf8 = IsUtf8-nil; below = rw (kept_text-nil a) p; same = o }
+  pub nothing_put : (a b : Fitted W) (r : Result (Unit {0}) WriteFault) → Puts m a.inner.now [] r b.inner.now → b.scan ≡ a.scan → b.start ≡ a.start → b.end ≡ a.end → b.inner.ghost_name ≡ a.inner.ghost_name → Puts (fitted_meaning m) a [] r b
+  unfolding scan_after
+  nothing_put a b (Ok x) p s i j o = record { utf8 = IsUtf8-nil; below = rw (fitted_text-nil a) p; scan = rw chars-nil s; start = i; end = j; same = o }
+  nothing_put a b (Err e) p s i j o = record { front = []; rest = []; whole = refl; utf8 = IsUtf8-nil; below = rw (fitted_text-nil a) p; same = o }

@@ -11,8 +11,8 @@ use Rattle.std.specs.declared.fmt.Error.{Error}
 use Rattle.plain_text.specs.Texts.{Text}
 use Rattle.plain_text.specs.Lines.{IsOneLine}
 use Rattle.plain_text.specs.Indent.{margin, indent, after}
-use Rattle.plain_text.specs.Indented.{IndentedTakes, TakesMargin, indent-append, after-append, indent-none, after-none}
-use Rattle.plain_text.specs.Formatters.{folds_append, concat_append, written_twice}
+use Rattle.plain_text.specs.Indentation.{IndentedTakes, TakesMargin, indent-append, after-append, indent-none, after-none}
+use Rattle.plain_text.specs.OnFormatter.{folds_append, concat_append, written_twice}
 use Rattle.plain_text.proofs.lemmas.Indents.{indent-line}
 use Rattle.plain_text.specs.declared.indenter.indentation.Indented.{Indented}
 

@@ -1,4 +1,4 @@
--- No sequence goes past a line feed (for `tinted-line`).
+-- No sequence goes past a line feed (for `colour_pair-line`).
 use Rattle.std.proofs.Common.{◌≡◌, ℕ, zero, suc, ◌≤◌, Bool, false, ◌&&◌, ◌==◌, [], ◌∷◌, ◌++◌, refl, arith, length, drop, inl, inr, length-drop}
 use Rattle.std.proofs.lemmas.Bool.{cases_Bool, and_right}
 use Rattle.std.proofs.lemmas.List.{drop-append-le}

@@ -14,7 +14,7 @@ use Rattle.plain_text.proofs.lemmas.Steps.{owes_all, owes_accepted, owes_stopped
 use Rattle.plain_text.specs.Escapes.{front_len, is_visible, PieceText, pieces, stretches, visible, HasNoEscape}
 use Rattle.plain_text.specs.Escapes.PieceText.{SequenceText, StretchText}
 use Rattle.plain_text.specs.Scanner.{begun, mode_after_step, step_of, advanced, mode_after, modes_after}
-use Rattle.plain_text.specs.Counted.{modes_after-append}
+use Rattle.plain_text.specs.ColumnCounter.{modes_after-append}
 use Rattle.plain_text.specs.Stripped.{visible_char, visible_from, Takes}
 use Rattle.plain_text.specs.declared.escapes.Mode.{Mode}
 use Rattle.plain_text.specs.declared.escapes.Mode.TheVariants as mode

@@ -2,7 +2,7 @@
 
 ghost use Rattle.std.specs.Prelude.{◌≡◌, ◌<◌, ◌^◌};
 
-use super::standing::char_columns;
+use super::scan_state::char_columns;
 use crate::escapes::{Mode, advance};
 use crate::write_str::{WriteFault, WriteStr};
 
@@ -16,7 +16,7 @@ pub(super) struct ColumnCounter {
 
 impl ColumnCounter {
     ghost use Rattle.std.specs.Prelude.{◌≡◌, ◌+◌};
-    ghost use Rattle.plain_text.specs.Counted.{saturated, counted};
+    ghost use Rattle.plain_text.specs.ColumnCounter.{saturated, columns_counted};
     ghost use Rattle.plain_text.specs.Scanner.{advanced, mode_after};
 
     /// Begins to count.
@@ -40,7 +40,7 @@ impl ColumnCounter {
     // Counts a character.
     fn count(&mut self, c: char)
         ensures mode { self.new.mode ≡ mode_after self.old.mode c }
-        ensures columns { self.new.columns ≡ saturated (self.old.columns + counted c (advanced self.old.mode c)) }
+        ensures columns { self.new.columns ≡ saturated (self.old.columns + columns_counted c (advanced self.old.mode c)) }
     {
         let columns = self.columns;
         match advance(self.mode, c) {
@@ -54,7 +54,7 @@ impl ColumnCounter {
 }
 
 impl WriteStr for ColumnCounter {
-    ghost use Rattle.plain_text.specs.Counted.{counter_meaning, counter_laws};
+    ghost use Rattle.plain_text.specs.ColumnCounter.{counter_meaning, counter_laws};
 
     ghost meaning = { counter_meaning };
 

@@ -2,7 +2,7 @@
 
 ghost use Rattle.std.specs.Prelude.{◌≡◌, ◌<◌, ◌^◌, false};
 
-use super::standing::Standing;
+use super::scan_state::ScanState;
 use crate::escapes::Mode;
 use crate::write_str::{WriteFault, WriteStr};
 
@@ -12,7 +12,7 @@ pub(super) struct Fitted<'a, W> {
     inner: &'a mut W,
     start: u128,
     end: u128,
-    standing: Standing,
+    scan: ScanState,
     ghost bounded: { end < 2 ^ 127 },
 }
 
@@ -24,11 +24,11 @@ impl<'a, W> Fitted<'a, W> {
         ensures now { result.inner.now ≡ inner.old }
         ensures start { result.start ≡ start }
         ensures end { result.end ≡ end }
-        ensures mode { result.standing.mode ≡ Mode.Text }
-        ensures place { result.standing.place ≡ 0 }
-        ensures closed { result.standing.is_open ≡ false }
+        ensures mode { result.scan.mode ≡ Mode.Text }
+        ensures place { result.scan.place ≡ 0 }
+        ensures closed { result.scan.is_open ≡ false }
     {
-        let standing = Standing {
+        let scan = ScanState {
             mode: Mode::Text,
             place: 0,
             is_open: false,
@@ -37,7 +37,7 @@ impl<'a, W> Fitted<'a, W> {
             inner,
             start,
             end,
-            standing,
+            scan,
         }
     }
 
@@ -57,8 +57,8 @@ impl<W: WriteStr> Fitted<'_, W> {
     fn put(&mut self, c: char) -> Result<(), WriteFault>
         ensures { PutsChar W.meaning self.old c result self.new }
     {
-        let (next, is_kept) = self.standing.step(self.start, self.end, c);
-        self.standing = next;
+        let (next, is_kept) = self.scan.step(self.start, self.end, c);
+        self.scan = next;
         if !is_kept {
             return Ok(());
         }

@@ -3,7 +3,7 @@
 //! It stands in a module of its own, since its name and that of the function `indented` differ only in case.
 
 ghost use Rattle.std.specs.Prelude.{◌≡◌, false, OnOk};
-ghost use Rattle.plain_text.specs.Indented.{PutsMargin, TakesMargin, IndentedTakes, indented_meaning, indented_laws};
+ghost use Rattle.plain_text.specs.Indentation.{PutsMargin, TakesMargin, IndentedTakes, indented_meaning, indented_laws};
 ghost use Rattle.plain_text.specs.Lines.{IsOneLine};
 ghost use Rattle.plain_text.specs.Writer.{Puts};
 

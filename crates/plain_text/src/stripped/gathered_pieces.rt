@@ -1,7 +1,7 @@
 //! Pieces of a text that are written together, without one line feed that closes the text.
 
 ghost use Rattle.std.specs.Prelude.{◌≡◌, [], false, OnOk};
-ghost use Rattle.plain_text.specs.Gathered.{unwritten, Carries};
+ghost use Rattle.plain_text.specs.GatheredPieces.{unwritten, Carries};
 
 use super::piece_buffer::PieceBuffer;
 use crate::end_line::EndLine;

@@ -1,7 +1,7 @@
 //! What a device holds of what a `TextBuffer` accepted.
 
 ghost use Rattle.std.specs.Prelude.{◌≡◌, ℕ, [], List, Some};
-ghost use Rattle.plain_text.specs.Buffer.{buffer_meaning, Delivers, DeliversWithin, GrowsWithin};
+ghost use Rattle.plain_text.specs.TextBuffer.{buffer_meaning, Delivers, DeliversWithin, GrowsWithin};
 ghost use Rattle.plain_text.specs.declared.write_str.WriteFault.{WriteFault};
 ghost use Rattle.plain_text.specs.declared.write_str.text_buffer.TextBuffer.{TextBuffer};
 

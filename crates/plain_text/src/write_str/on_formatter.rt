@@ -1,7 +1,7 @@
 //! A formatter as a writer, so that `Display` and a report have one text.
 
 ghost use Rattle.std.specs.Prelude.{◌≡◌};
-ghost use Rattle.plain_text.specs.Formatters.{formatter_meaning, formatter_laws};
+ghost use Rattle.plain_text.specs.OnFormatter.{formatter_meaning, formatter_laws};
 
 use super::{WriteFault, WriteStr};
 use std::fmt;

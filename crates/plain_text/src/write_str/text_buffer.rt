@@ -36,7 +36,7 @@ pub struct TextBuffer<W> {
 
 impl<W: Write> TextBuffer<W> {
     ghost use Rattle.std.specs.Prelude.{◌≡◌, ◌≤◌, [], IfErr, IfOk, OnOk, length};
-    ghost use Rattle.plain_text.specs.Buffer.{buffer_meaning};
+    ghost use Rattle.plain_text.specs.TextBuffer.{buffer_meaning};
     ghost use Rattle.plain_text.specs.Writer.{Puts};
 
     /// Reserves the memory, 8,192 bytes, once. Where that is refused, the device is given back.
@@ -118,7 +118,7 @@ impl<W: Write> TextBuffer<W> {
 }
 
 impl<W: Write> WriteStr for TextBuffer<W> {
-    ghost use Rattle.plain_text.specs.Buffer.{buffer_meaning, buffer_laws};
+    ghost use Rattle.plain_text.specs.TextBuffer.{buffer_meaning, buffer_laws};
 
     ghost meaning = { buffer_meaning W.contents };
 

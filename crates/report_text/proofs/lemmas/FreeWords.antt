@@ -1,4 +1,4 @@
--- Words without escape characters (for `tints`).
+-- Words without escape characters (for `colour_pairs`).
 use Rattle.std.proofs.Common.{◌≡◌, ℕ, ℤ, pos, negsuc, zero, suc, ◌+◌, ◌-◌, Bool, true, false, cond, ◌==◌, nat_lt, inl, inr, List, [], ◌∷◌, ◌++◌, codes, refl, arith, take, drop, encode_utf8, ◌/◌, ◌%◌}
 use Rattle.std.proofs.lemmas.Bool.{cases_Bool}
 use Rattle.std.proofs.lemmas.Bool.Decides.{nat_tests}
@@ -10,13 +10,13 @@ use Rattle.run_model.specs.declared.config.NextestRunMode.TheVariants.{Test, Ben
 use Rattle.plain_text.specs.Texts.{Text}
 use Rattle.plain_text.specs.Escapes.{visible, HasNoEscape}
 use Rattle.plain_text.specs.Indent.{indent}
-use Rattle.report_text.specs.Failures.{hex_digit, last_hex_digits, hex_text}
-use Rattle.plain_text.specs.Indented.{indent_onward, indent-onward}
+use Rattle.report_text.specs.Failure.{hex_digit, last_hex_digits, hex_text}
+use Rattle.plain_text.specs.Indentation.{indent_onward, indent-onward}
 use Rattle.plain_text.specs.Numbers.{last_digits, with_point, seconds}
 use Rattle.report_text.specs.Durations.{clock_text}
 use Rattle.report_text.specs.Plural.{were_word, tests_word_if, setup_scripts_word, binaries_word, iterations_word}
 use Rattle.report_text.specs.Quoting.{is_unquoted, quoted_byte, quoted_text, shell_word, shell_words}
-use Rattle.plain_text.specs.Styles.{plain}
+use Rattle.plain_text.specs.Style.{plain}
 use Rattle.report_text.specs.Theme.{hbar_text}
 use Rattle.plain_text.proofs.lemmas.Closed.{decimal_free, right_free, repeat_free, char_free}
 use Rattle.plain_text.proofs.lemmas.Pieces.{free_parts, visible_after-free}

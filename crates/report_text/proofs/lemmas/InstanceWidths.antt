@@ -10,13 +10,13 @@ use Rattle.run_model.specs.Names.{last_colons}
 use Rattle.run_model.specs.declared.stress.StressIndex.{StressIndex}
 use Rattle.plain_text.specs.Texts.{Text, right_in}
 use Rattle.plain_text.specs.Escapes.{HasNoEscape}
-use Rattle.plain_text.specs.Counted.{saturated}
+use Rattle.plain_text.specs.ColumnCounter.{saturated}
 use Rattle.plain_text.specs.Fitting.{FitsWidth, IsPainted, ArePainted, columns, shrunk, shrunk_parts}
 use Rattle.plain_text.specs.Writer.{Meaning, WriterLaws, Puts}
 use Rattle.plain_text.specs.declared.write_str.WriteFault.{WriteFault}
 use Rattle.plain_text.proofs.lemmas.Steps.{puts_then}
-use Rattle.plain_text.specs.Styles.{Plain, Styled, paint}
-use Rattle.report_text.specs.Instances.{stress_parts, stress_text, stress_prefix, counter_text, counter_prefix, id_prefix, name_parts, name_text, HasPlainCounter, HasPlainWords}
+use Rattle.plain_text.specs.Style.{Plain, Styled, paint}
+use Rattle.report_text.specs.Instance.{stress_parts, stress_text, stress_prefix, counter_text, counter_prefix, id_prefix, name_parts, test_name_text, HasPlainCounter, HasPlainWords}
 use Rattle.plain_text.proofs.lemmas.Closed.{IsClosedText, closed-append, closed-free, closed-none, paint_closed, decimal_free, right_free, char_free, repeat_free}
 use Rattle.plain_text.proofs.lemmas.Widths.{free_front, free_back, parts-columns, parts-sequences}
 use Rattle.plain_text.specs.declared.style.Style.{Style}
@@ -54,8 +54,8 @@ counter_closed (Some (Padded character width)) h =
 id_closed : (s : Style) (id : Text) → HasNoEscape id → IsClosedText (id_prefix s id)
 id_closed s id h = paint_closed (Styled s id ∷ Plain (codes " ") ∷ []) (h, (refl, tt))
 
-name_closed : (s : ListStyles) (name : Text) → HasNoEscape name → IsClosedText (name_text s name)
-unfolding name_text
+name_closed : (s : ListStyles) (name : Text) → HasNoEscape name → IsClosedText (test_name_text s name)
+unfolding test_name_text
 name_closed s name h = go (last_colons name)
   where
     front : (i : ℕ) → HasNoEscape (take i name)
@@ -70,14 +70,14 @@ name_closed s name h = go (last_colons name)
 
 -- such a test is within its width
 pub fits_width : (width : ℕ) (count_style id_style : Style) (s : ListStyles) (stress : Option StressIndex) (counter : Option DisplayCounterIndex) (id name : Text)
-    → IsUtf8 (stress_prefix count_style stress) → IsUtf8 (counter_prefix counter) → IsUtf8 (id_prefix id_style id) → IsUtf8 (name_text s name)
-    → HasPlainWords counter id name → FitsWidth width (stress_prefix count_style stress ∷ counter_prefix counter ∷ id_prefix id_style id ∷ []) (name_text s name)
+    → IsUtf8 (stress_prefix count_style stress) → IsUtf8 (counter_prefix counter) → IsUtf8 (id_prefix id_style id) → IsUtf8 (test_name_text s name)
+    → HasPlainWords counter id name → FitsWidth width (stress_prefix count_style stress ∷ counter_prefix counter ∷ id_prefix id_style id ∷ []) (test_name_text s name)
 fits_width width count_style id_style s stress counter id name a b c d h =
     let fronts : ArePainted (stress_prefix count_style stress ∷ counter_prefix counter ∷ id_prefix id_style id ∷ []) = ((a, stress_closed count_style stress), ((b, counter_closed counter h.0), ((c, id_closed id_style id h.1), tt))) in
-    let last : IsPainted (name_text s name) = (d, name_closed s name h.2) in
+    let last : IsPainted (test_name_text s name) = (d, name_closed s name h.2) in
     record {
-      narrow = parts-columns (stress_prefix count_style stress ∷ counter_prefix counter ∷ id_prefix id_style id ∷ []) (name_text s name) width fronts last;
-      complete = parts-sequences (stress_prefix count_style stress ∷ counter_prefix counter ∷ id_prefix id_style id ∷ []) (name_text s name) width fronts last;
+      narrow = parts-columns (stress_prefix count_style stress ∷ counter_prefix counter ∷ id_prefix id_style id ∷ []) (test_name_text s name) width fronts last;
+      complete = parts-sequences (stress_prefix count_style stress ∷ counter_prefix counter ∷ id_prefix id_style id ∷ []) (test_name_text s name) width fronts last;
     }
 
 -- what is left of a room by a width that was counted

@@ -7,8 +7,8 @@ use Rattle.run_model.specs.Names.{last_colons}
 use Rattle.plain_text.specs.Texts.{Text}
 use Rattle.plain_text.specs.Escapes.{visible, visible_after, sequence_len}
 use Rattle.plain_text.specs.Fitting.{columns}
-use Rattle.plain_text.specs.Styles.{part_text, styled, style_prefix, style_suffix, Styled, paint}
-use Rattle.report_text.specs.Instances.{name_parts, name_text}
+use Rattle.plain_text.specs.Style.{part_text, styled, style_prefix, style_suffix, Styled, paint}
+use Rattle.report_text.specs.Instance.{name_parts, test_name_text}
 use Rattle.plain_text.specs.declared.style.Style.{Style}
 use Rattle.plain_text.specs.declared.style.Style.TheVariants as style
 use Rattle.plain_text.specs.declared.style.ListStyles.{ListStyles}
@@ -65,8 +65,8 @@ paint-le s r path last n h k = omega (
   styled-le r last,
 )
 
-name-le : (s : ListStyles) (name : Text) → length (name_text s name) ≤ 2 * length name + 35
-unfolding name_text
+name-le : (s : ListStyles) (name : Text) → length (test_name_text s name) ≤ 2 * length name + 35
+unfolding test_name_text
 name-le s name = go (last_colons name)
   where
     go : (o : Option ℕ) → length (paint (name_parts s (option_map (λ i. take i name) o) (option_map_or (λ i. drop (i + 2) name) o name))) ≤ 2 * length name + 35
@@ -74,5 +74,5 @@ name-le s name = go (last_colons name)
     go (Some i) = paint-le s.module_path s.test_name (take i name) (drop (i + 2) name) (length name) (omega (arith, length-take i name)) (omega (arith, length-drop (i + 2) name))
 
 -- a name in memory is not so wide
-pub name_columns : (s : ListStyles) (name : Text) → length name < 2 ^ 64 → columns (name_text s name) < 2 ^ 127
-name_columns s name h = omega (arith, columns-le (name_text s name), name-le s name)
+pub name_columns : (s : ListStyles) (name : Text) → length name < 2 ^ 64 → columns (test_name_text s name) < 2 ^ 127
+name_columns s name h = omega (arith, columns-le (test_name_text s name), name-le s name)

@@ -3,11 +3,11 @@ use Rattle.std.proofs.Common.{◌≡◌, ℕ, zero, suc, ◌+◌, ◌==◌, ◌&
 use Rattle.std.specs.Option.{option_map, option_map_or}
 use Rattle.std.proofs.lemmas.Bool.Decides.{eqb_tells}
 use Rattle.run_model.specs.Names.{begins_with_colons, last_colons, place_after}
-use Rattle.plain_text.specs.Styles.{paint, styled}
+use Rattle.plain_text.specs.Style.{paint, styled}
 use Rattle.plain_text.specs.Texts.{Text}
 use Rattle.plain_text.specs.declared.style.ListStyles.{ListStyles}
 use Rattle.plain_text.specs.declared.style.Style.TheVariants as style
-use Rattle.report_text.specs.Instances.{name_parts, name_text}
+use Rattle.report_text.specs.Instance.{name_parts, test_name_text}
 
 -- the first two bytes of a text that begins so
 two_colons : (t : Text) → begins_with_colons t ≡ true → codes "::" ++ drop 2 t ≡ t
@@ -46,6 +46,6 @@ unfolding styled
 joined_parts s name None p q o = rw q (simp append-nil)
 joined_parts s name (Some i) p q o = simp (p, q, append-nil) (rejoined name i o)
 
-pub plain_name : (s : ListStyles) (name : Text) → s.module_path ≡ style.Plain → s.test_name ≡ style.Plain → name_text s name ≡ name
-unfolding name_text
+pub plain_name : (s : ListStyles) (name : Text) → s.module_path ≡ style.Plain → s.test_name ≡ style.Plain → test_name_text s name ≡ name
+unfolding test_name_text
 plain_name s name p q = joined_parts s name (last_colons name) p q refl

@@ -1,8 +1,8 @@
 //! How a process ended, as a message says it.
 
 ghost use Rattle.std.specs.Prelude.{◌≡◌, ◌<◌, ◌∷◌, [], IfOk, string_bytes};
-ghost use Rattle.run_model.specs.Names.{option_text};
-ghost use Rattle.report_text.specs.Failures.{abort_details, abort_text, abort_words, exit_details, exit_text, exit_words, hex_digit, last_hex_digits, message_text, nt_status_text, signal_name_text};
+ghost use Rattle.run_model.specs.Names.{optional_text};
+ghost use Rattle.report_text.specs.Failure.{abort_details, abort_text, abort_words, exit_details, exit_text, exit_words, hex_digit, last_hex_digits, message_text, nt_status_text, signal_name_text};
 ghost use Rattle.plain_text.specs.Writer.{Puts};
 
 use itoa::Buffer;
@@ -44,7 +44,7 @@ pub fn display_exited_with(alloc: Global, exit: &ExitDescription) -> Result<Stri
 }
 
 /// Writes how a process ended.
-#[tactic(auto, unfolding(crate::specs::Failures::exit_text))]
+#[tactic(auto, unfolding(crate::specs::Failure::exit_text))]
 pub fn write_exited_with<W: WriteStr>(w: &mut W, exit: &ExitDescription) -> Result<(), WriteFault>
     ensures { Puts W.meaning w.old (exit_text exit.now) result w.new }
 {
@@ -53,7 +53,7 @@ pub fn write_exited_with<W: WriteStr>(w: &mut W, exit: &ExitDescription) -> Resu
 }
 
 // What is said first of how a process ended.
-#[tactic(auto, unfolding(crate::specs::Failures::exit_words))]
+#[tactic(auto, unfolding(crate::specs::Failure::exit_words))]
 fn exit_words(exit: &ExitDescription) -> &'static str
     ensures { result.now ≡ exit_words exit.now }
 {
@@ -65,7 +65,7 @@ fn exit_words(exit: &ExitDescription) -> &'static str
 }
 
 // Writes what is said then: the code, or how the process was ended.
-#[tactic(auto, unfolding(crate::specs::Failures::exit_details))]
+#[tactic(auto, unfolding(crate::specs::Failure::exit_details))]
 fn write_exit_details<W: WriteStr>(w: &mut W, exit: &ExitDescription) -> Result<(), WriteFault>
     ensures { Puts W.meaning w.old (exit_details exit.now) result w.new }
 {
@@ -102,7 +102,7 @@ pub fn display_abort_status(alloc: Global, abort: &AbortDescription) -> Result<S
 }
 
 /// Writes how a process was ended from outside.
-#[tactic(auto, unfolding(crate::specs::Failures::abort_text))]
+#[tactic(auto, unfolding(crate::specs::Failure::abort_text))]
 pub fn write_abort_status<W: WriteStr>(
     w: &mut W,
     abort: &AbortDescription,
@@ -114,7 +114,7 @@ pub fn write_abort_status<W: WriteStr>(
 }
 
 // What is said first of a process that was ended from outside.
-#[tactic(auto, unfolding(crate::specs::Failures::abort_words))]
+#[tactic(auto, unfolding(crate::specs::Failure::abort_words))]
 fn abort_words(abort: &AbortDescription) -> &'static str
     ensures { result.now ≡ abort_words abort.now }
 {
@@ -126,7 +126,7 @@ fn abort_words(abort: &AbortDescription) -> &'static str
 }
 
 // Writes what is said then: the signal or the status.
-#[tactic(auto, unfolding(crate::specs::Failures::abort_details))]
+#[tactic(auto, unfolding(crate::specs::Failure::abort_details))]
 fn write_abort_details<W: WriteStr>(w: &mut W, abort: &AbortDescription) -> Result<(), WriteFault>
     ensures { Puts W.meaning w.old (abort_details abort.now) result w.new }
 {
@@ -146,7 +146,7 @@ fn write_abort_details<W: WriteStr>(w: &mut W, abort: &AbortDescription) -> Resu
 
 // The text, if there is one.
 fn text_of(text: &Option<DescriptionText>) -> Option<&str>
-    ensures { option_text result ≡ text.now }
+    ensures { optional_text result ≡ text.now }
 {
     match text {
         None => None,
@@ -155,9 +155,9 @@ fn text_of(text: &Option<DescriptionText>) -> Option<&str>
 }
 
 // Writes the signal's name between parentheses, if it is known.
-#[tactic(auto, unfolding(crate::specs::Failures::signal_name_text))]
+#[tactic(auto, unfolding(crate::specs::Failure::signal_name_text))]
 fn write_signal_name<W: WriteStr>(w: &mut W, name: Option<&str>) -> Result<(), WriteFault>
-    ensures { Puts W.meaning w.old (signal_name_text (option_text name.entry)) result w.new }
+    ensures { Puts W.meaning w.old (signal_name_text (optional_text name.entry)) result w.new }
 {
     match name {
         None => Ok(()),
@@ -166,9 +166,9 @@ fn write_signal_name<W: WriteStr>(w: &mut W, name: Option<&str>) -> Result<(), W
 }
 
 // Writes what the system says of a status, if it is known.
-#[tactic(auto, unfolding(crate::specs::Failures::message_text))]
+#[tactic(auto, unfolding(crate::specs::Failure::message_text))]
 fn write_message<W: WriteStr>(w: &mut W, message: Option<&str>) -> Result<(), WriteFault>
-    ensures { Puts W.meaning w.old (message_text (option_text message.entry)) result w.new }
+    ensures { Puts W.meaning w.old (message_text (optional_text message.entry)) result w.new }
 {
     match message {
         None => Ok(()),
@@ -182,7 +182,7 @@ fn write_message<W: WriteStr>(w: &mut W, message: Option<&str>) -> Result<(), Wr
 /// write_nt_status(&mut out, -1073741819)?;
 /// assert_eq!(out.as_str(), "0xc0000005");
 /// ```
-#[tactic(auto, unfolding(crate::specs::Failures::hex_text))]
+#[tactic(auto, unfolding(crate::specs::Failure::hex_text))]
 pub fn write_nt_status<W: WriteStr>(w: &mut W, code: i32) -> Result<(), WriteFault>
     ensures { Puts W.meaning w.old (nt_status_text code) result w.new }
 {
@@ -191,7 +191,7 @@ pub fn write_nt_status<W: WriteStr>(w: &mut W, code: i32) -> Result<(), WriteFau
 }
 
 // Writes the given number of last digits in base 16.
-#[tactic(auto, unfolding(crate::specs::Failures::last_hex_digits))]
+#[tactic(auto, unfolding(crate::specs::Failure::last_hex_digits))]
 fn write_hex_digits<W: WriteStr>(w: &mut W, count: usize, n: u32) -> Result<(), WriteFault>
     ensures { Puts W.meaning w.old (last_hex_digits count n) result w.new }
 {

@@ -3,7 +3,7 @@
 ghost use Rattle.std.specs.Prelude.{◌≡◌, ℕ, None, Some};
 ghost use Rattle.std.specs.Fmt.{DisplaysOnOk, DisplaysStyledOnOk};
 ghost use Rattle.plain_text.specs.Fitting.{FitsWidth};
-ghost use Rattle.report_text.specs.Instances.{HasPlainWords, counter_prefix, counter_text, front_parts, id_prefix, instance_text, name_text, shown_instance, stress_prefix, stress_text};
+ghost use Rattle.report_text.specs.Instance.{HasPlainWords, counter_prefix, counter_text, front_parts, id_prefix, instance_text, test_name_text, shown_instance, stress_prefix, stress_text};
 ghost use Rattle.plain_text.specs.Writer.{Puts};
 
 use crate::helpers::max_width::{CounterPart, IdPart, StressPart, write_within};
@@ -73,7 +73,7 @@ impl<'a> DisplayTestInstance<'a> {
     /// Writes what it shows.
     pub fn write_to<W: WriteStr>(&self, w: &mut W) -> Result<(), WriteFault>
         ensures text { Puts W.meaning w.old (shown_instance self.now.max_width self.now.styles self.now.stress_index self.now.counter_index self.now.instance) result w.new }
-        ensures law { (width : ℕ) → self.now.max_width ≡ Some width → HasPlainWords self.now.counter_index self.now.instance.binary_id.now self.now.instance.test_name.now → FitsWidth width (front_parts self.now.styles self.now.stress_index self.now.counter_index self.now.instance.binary_id.now) (name_text self.now.styles self.now.instance.test_name.now) }
+        ensures law { (width : ℕ) → self.now.max_width ≡ Some width → HasPlainWords self.now.counter_index self.now.instance.binary_id.now self.now.instance.test_name.now → FitsWidth width (front_parts self.now.styles self.now.stress_index self.now.counter_index self.now.instance.binary_id.now) (test_name_text self.now.styles self.now.instance.test_name.now) }
     {
         match self.max_width {
             None => self.write_whole(w),
@@ -84,7 +84,7 @@ impl<'a> DisplayTestInstance<'a> {
     // Writes it cut to the given number of columns.
     fn write_within<W: WriteStr>(&self, w: &mut W, width: usize) -> Result<(), WriteFault>
         ensures text { Puts W.meaning w.old (shown_instance (Some width) self.now.styles self.now.stress_index self.now.counter_index self.now.instance) result w.new }
-        ensures law { HasPlainWords self.now.counter_index self.now.instance.binary_id.now self.now.instance.test_name.now → FitsWidth width (front_parts self.now.styles self.now.stress_index self.now.counter_index self.now.instance.binary_id.now) (name_text self.now.styles self.now.instance.test_name.now) }
+        ensures law { HasPlainWords self.now.counter_index self.now.instance.binary_id.now self.now.instance.test_name.now → FitsWidth width (front_parts self.now.styles self.now.stress_index self.now.counter_index self.now.instance.binary_id.now) (test_name_text self.now.styles self.now.instance.test_name.now) }
     {
         let stress = StressPart {
             count_style: self.styles.count,
@@ -124,7 +124,7 @@ impl<'a> DisplayTestInstance<'a> {
 /// write_test_instance(&mut out, &styles.list_styles, None, &counter, test.as_ref())?;
 /// assert_eq!(out.as_str(), "(1/2) alpha t1");
 /// ```
-#[tactic(auto, unfolding(crate::specs::Instances::test_text))]
+#[tactic(auto, unfolding(crate::specs::Instance::test_text))]
 pub fn write_test_instance<W: WriteStr>(
     w: &mut W,
     styles: &ListStyles,
@@ -147,7 +147,7 @@ impl fmt::Display for DisplayTestInstance<'_> {
     fn fmt<W: fmt::Write>(&self, f: &mut Formatter<W>) -> fmt::Result
         ensures writes { DisplaysOnOk W.write_str_gives f.old result (Some (shown_instance self.now.max_width self.now.styles self.now.stress_index self.now.counter_index self.now.instance)) f.new }
         ensures styled { DisplaysStyledOnOk W.write_str_gives f.old result None f.new }
-        ensures law { (width : ℕ) → self.now.max_width ≡ Some width → HasPlainWords self.now.counter_index self.now.instance.binary_id.now self.now.instance.test_name.now → FitsWidth width (front_parts self.now.styles self.now.stress_index self.now.counter_index self.now.instance.binary_id.now) (name_text self.now.styles self.now.instance.test_name.now) }
+        ensures law { (width : ℕ) → self.now.max_width ≡ Some width → HasPlainWords self.now.counter_index self.now.instance.binary_id.now self.now.instance.test_name.now → FitsWidth width (front_parts self.now.styles self.now.stress_index self.now.counter_index self.now.instance.binary_id.now) (test_name_text self.now.styles self.now.instance.test_name.now) }
     {
         show_written!(self, f)
     }
@@ -172,7 +172,7 @@ pub struct DisplayStressIndex {
 
 impl DisplayStressIndex {
     /// Writes what it shows.
-    #[tactic(auto, unfolding(crate::specs::Instances::stress_text))]
+    #[tactic(auto, unfolding(crate::specs::Instance::stress_text))]
     pub fn write_to<W: WriteStr>(&self, w: &mut W) -> Result<(), WriteFault>
         ensures { Puts W.meaning w.old (stress_text self.now.count_style self.now.stress_index) result w.new }
     {
@@ -205,7 +205,7 @@ impl fmt::Display for DisplayStressIndex {
 }
 
 /// Writes the iteration between brackets and a space, if there is one.
-#[tactic(auto, unfolding(crate::specs::Instances::stress_prefix))]
+#[tactic(auto, unfolding(crate::specs::Instance::stress_prefix))]
 #[inline(always)]
 pub fn write_stress_prefix<W: WriteStr>(
     w: &mut W,
@@ -221,7 +221,7 @@ pub fn write_stress_prefix<W: WriteStr>(
 }
 
 // Writes the iteration between brackets and a space.
-#[tactic(auto, unfolding(crate::specs::Instances::stress_prefix))]
+#[tactic(auto, unfolding(crate::specs::Instance::stress_prefix))]
 fn write_iteration<W: WriteStr>(
     w: &mut W,
     count_style: Style,
@@ -293,7 +293,7 @@ impl DisplayCounterIndex {
     }
 
     /// Writes what it shows.
-    #[tactic(auto, unfolding(crate::specs::Instances::counter_text))]
+    #[tactic(auto, unfolding(crate::specs::Instance::counter_text))]
     pub fn write_to<W: WriteStr>(&self, w: &mut W) -> Result<(), WriteFault>
         ensures { Puts W.meaning w.old (counter_text self.now) result w.new }
     {
@@ -334,7 +334,7 @@ impl fmt::Display for DisplayCounterIndex {
 }
 
 /// Writes the counter and a space, if there is one.
-#[tactic(auto, unfolding(crate::specs::Instances::counter_prefix))]
+#[tactic(auto, unfolding(crate::specs::Instance::counter_prefix))]
 #[inline(always)]
 pub(super) fn write_counter_prefix<W: WriteStr>(
     w: &mut W,
@@ -349,7 +349,7 @@ pub(super) fn write_counter_prefix<W: WriteStr>(
 }
 
 // Writes the counter and a space.
-#[tactic(auto, unfolding(crate::specs::Instances::counter_prefix))]
+#[tactic(auto, unfolding(crate::specs::Instance::counter_prefix))]
 fn write_counter<W: WriteStr>(
     w: &mut W,
     counter_index: &DisplayCounterIndex,
@@ -387,14 +387,14 @@ impl<'a> DisplayTestName<'a> {
 
     /// Writes what it shows.
     pub fn write_to<W: WriteStr>(&self, w: &mut W) -> Result<(), WriteFault>
-        ensures { Puts W.meaning w.old (name_text self.now.styles self.now.name.now) result w.new }
+        ensures { Puts W.meaning w.old (test_name_text self.now.styles self.now.name.now) result w.new }
     {
         write_test_name(self.name, &self.styles, w)
     }
 }
 
 impl fmt::Display for DisplayTestName<'_> {
-    ghost output = { λ t. Some (name_text t.styles t.name.now) };
+    ghost output = { λ t. Some (test_name_text t.styles t.name.now) };
 
     fn fmt<W: fmt::Write>(&self, f: &mut Formatter<W>) -> fmt::Result {
         show_written!(self, f)
@@ -402,13 +402,13 @@ impl fmt::Display for DisplayTestName<'_> {
 }
 
 /// Writes a test's name: the module path and its `::`, if there is one, and the name in it.
-#[tactic(auto, unfolding(crate::specs::Instances::name_text))]
+#[tactic(auto, unfolding(crate::specs::Instance::test_name_text))]
 pub fn write_test_name<W: WriteStr>(
     name: &TestCaseName,
     styles: &ListStyles,
     w: &mut W,
 ) -> Result<(), WriteFault>
-    ensures { Puts W.meaning w.old (name_text styles.now name.now) result w.new }
+    ensures { Puts W.meaning w.old (test_name_text styles.now name.now) result w.new }
 {
     // Where neither style is a colour, the two and what joins them are the name as it is.
     if styles.module_path == Style::Plain && styles.test_name == Style::Plain {

@@ -2,7 +2,7 @@
 
 ghost use Rattle.std.specs.Prelude.{◌≡◌, IfOk, string_bytes};
 ghost use Rattle.std.specs.List.{flat_map};
-ghost use Rattle.report_text.specs.Interceptors.{and_words, listed_text, option_text, requires_words, rest_text, selected_text, selected_words, too_many_tests_text, unlisted_text};
+ghost use Rattle.report_text.specs.Interceptor.{and_words, listed_test, interceptor_option, requires_words, rest_text, selected_text, selected_words, too_many_tests_text, unlisted_text};
 ghost use Rattle.plain_text.specs.Writer.{Puts};
 
 use crate::helpers::instance::DisplayTestInstance;
@@ -55,7 +55,7 @@ pub fn format_interceptor_too_many_tests(
 }
 
 /// Writes what [`format_interceptor_too_many_tests`] says.
-#[tactic(auto, unfolding(crate::specs::Interceptors::too_many_tests_text))]
+#[tactic(auto, unfolding(crate::specs::Interceptor::too_many_tests_text))]
 pub fn write_interceptor_too_many_tests<W: WriteStr>(
     w: &mut W,
     cli_opt_name: &str,
@@ -67,20 +67,20 @@ pub fn write_interceptor_too_many_tests<W: WriteStr>(
 ) -> Result<(), WriteFault>
     ensures { Puts W.meaning w.old (too_many_tests_text cli_opt_name.now mode test_count test_instances.now list_styles.now count_style) result w.new }
 {
-    write_option(w, cli_opt_name, mode)?;
+    write_interceptor_option(w, cli_opt_name, mode)?;
     write_selected(w, mode, test_count, count_style)?;
     write_listed(w, test_instances, list_styles)?;
     write_unlisted(w, mode, test_count, test_instances.len(), count_style)
 }
 
 // Writes the option, and that it takes one test.
-#[tactic(auto, unfolding(crate::specs::Interceptors::option_text))]
-fn write_option<W: WriteStr>(
+#[tactic(auto, unfolding(crate::specs::Interceptor::interceptor_option))]
+fn write_interceptor_option<W: WriteStr>(
     w: &mut W,
     cli_opt_name: &str,
     mode: NextestRunMode,
 ) -> Result<(), WriteFault>
-    ensures { Puts W.meaning w.old (option_text cli_opt_name.now mode) result w.new }
+    ensures { Puts W.meaning w.old (interceptor_option cli_opt_name.now mode) result w.new }
 {
     write_plain(w, "--")?;
     write_plain(w, cli_opt_name)?;
@@ -88,7 +88,7 @@ fn write_option<W: WriteStr>(
     write_plain(w, tests_plural_if(mode, false))
 }
 
-#[tactic(auto, unfolding(crate::specs::Interceptors::requires_words))]
+#[tactic(auto, unfolding(crate::specs::Interceptor::requires_words))]
 fn requires_words() -> &'static str
     ensures { result.now ≡ requires_words }
 {
@@ -96,7 +96,7 @@ fn requires_words() -> &'static str
 }
 
 // Writes how many tests there are.
-#[tactic(auto, unfolding(crate::specs::Interceptors::selected_text))]
+#[tactic(auto, unfolding(crate::specs::Interceptor::selected_text))]
 fn write_selected<W: WriteStr>(
     w: &mut W,
     mode: NextestRunMode,
@@ -112,7 +112,7 @@ fn write_selected<W: WriteStr>(
     write_plain(w, selected_words())
 }
 
-#[tactic(auto, unfolding(crate::specs::Interceptors::selected_words))]
+#[tactic(auto, unfolding(crate::specs::Interceptor::selected_words))]
 fn selected_words() -> &'static str
     ensures { result.now ≡ selected_words }
 {
@@ -125,7 +125,7 @@ fn write_listed<W: WriteStr>(
     test_instances: &[OwnedTestInstanceId],
     list_styles: &ListStyles,
 ) -> Result<(), WriteFault>
-    ensures { Puts W.meaning w.old (flat_map (listed_text list_styles.now) test_instances.now) result w.new }
+    ensures { Puts W.meaning w.old (flat_map (listed_test list_styles.now) test_instances.now) result w.new }
 {
     for test_instance in test_instances {
         write_listed_test(w, test_instance, list_styles)?;
@@ -134,20 +134,20 @@ fn write_listed<W: WriteStr>(
 }
 
 // Writes a test on a line of its own, after two spaces.
-#[tactic(auto, unfolding(crate::specs::Interceptors::listed_text))]
+#[tactic(auto, unfolding(crate::specs::Interceptor::listed_test))]
 fn write_listed_test<W: WriteStr>(
     w: &mut W,
     test_instance: &OwnedTestInstanceId,
     list_styles: &ListStyles,
 ) -> Result<(), WriteFault>
-    ensures { Puts W.meaning w.old (listed_text list_styles.now test_instance.now) result w.new }
+    ensures { Puts W.meaning w.old (listed_test list_styles.now test_instance.now) result w.new }
 {
     write_plain(w, "\n  ")?;
     DisplayTestInstance::new(None, None, test_instance.as_ref(), list_styles).write_to(w)
 }
 
 // Writes how many tests are not listed, if there are any.
-#[tactic(auto, using(std::proofs::lemmas::Bool::Decides::nat_tests), unfolding(crate::specs::Interceptors::unlisted_text))]
+#[tactic(auto, using(std::proofs::lemmas::Bool::Decides::nat_tests), unfolding(crate::specs::Interceptor::unlisted_text))]
 fn write_unlisted<W: WriteStr>(
     w: &mut W,
     mode: NextestRunMode,
@@ -164,7 +164,7 @@ fn write_unlisted<W: WriteStr>(
 }
 
 // Writes how many tests are not listed.
-#[tactic(auto, unfolding(crate::specs::Interceptors::rest_text))]
+#[tactic(auto, unfolding(crate::specs::Interceptor::rest_text))]
 fn write_rest<W: WriteStr>(
     w: &mut W,
     mode: NextestRunMode,
@@ -179,7 +179,7 @@ fn write_rest<W: WriteStr>(
     write_plain(w, tests_str(mode, rest_count))
 }
 
-#[tactic(auto, unfolding(crate::specs::Interceptors::and_words))]
+#[tactic(auto, unfolding(crate::specs::Interceptor::and_words))]
 fn and_words() -> &'static str
     ensures { result.now ≡ and_words }
 {

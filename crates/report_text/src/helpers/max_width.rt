@@ -5,7 +5,7 @@
 
 ghost use Rattle.std.specs.Prelude.{◌≡◌, ◌<◌, ◌^◌, ◌∷◌, [], List};
 ghost use Rattle.plain_text.specs.Fitting.{FitsWidth, columns, shrunk_parts};
-ghost use Rattle.report_text.specs.Instances.{HasPlainWords, counter_prefix, id_prefix, name_text, stress_prefix};
+ghost use Rattle.report_text.specs.Instance.{HasPlainWords, counter_prefix, id_prefix, test_name_text, stress_prefix};
 ghost use Rattle.plain_text.specs.Writer.{Puts};
 
 use crate::helpers::instance::{
@@ -67,7 +67,7 @@ impl WriteText for IdPart<'_> {
 }
 
 impl WriteText for DisplayTestName<'_> {
-    ghost text = { λ p. name_text p.styles p.name.now };
+    ghost text = { λ p. test_name_text p.styles p.name.now };
 
     fn write_to<W: WriteStr>(&self, w: &mut W) -> Result<(), WriteFault> {
         DisplayTestName::write_to(self, w)
@@ -83,9 +83,9 @@ pub(super) fn write_within<W: WriteStr>(
     name: &DisplayTestName<'_>,
     width: usize,
 ) -> Result<(), WriteFault>
-    requires { columns (name_text name.now.styles name.now.name.now) < 2 ^ 127 }
-    ensures text { Puts W.meaning w.old (shrunk_parts (stress_prefix stress.now.count_style stress.now.stress_index ∷ counter_prefix counter.now.counter_index ∷ id_prefix id.now.id_style id.now.binary_id.now ∷ []) (name_text name.now.styles name.now.name.now) width) result w.new }
-    ensures law { HasPlainWords counter.now.counter_index id.now.binary_id.now name.now.name.now → FitsWidth width (stress_prefix stress.now.count_style stress.now.stress_index ∷ counter_prefix counter.now.counter_index ∷ id_prefix id.now.id_style id.now.binary_id.now ∷ []) (name_text name.now.styles name.now.name.now) }
+    requires { columns (test_name_text name.now.styles name.now.name.now) < 2 ^ 127 }
+    ensures text { Puts W.meaning w.old (shrunk_parts (stress_prefix stress.now.count_style stress.now.stress_index ∷ counter_prefix counter.now.counter_index ∷ id_prefix id.now.id_style id.now.binary_id.now ∷ []) (test_name_text name.now.styles name.now.name.now) width) result w.new }
+    ensures law { HasPlainWords counter.now.counter_index id.now.binary_id.now name.now.name.now → FitsWidth width (stress_prefix stress.now.count_style stress.now.stress_index ∷ counter_prefix counter.now.counter_index ∷ id_prefix id.now.id_style id.now.binary_id.now ∷ []) (test_name_text name.now.styles name.now.name.now) }
 {
     let room = width as u128;
     let stress_width = count_columns(stress);

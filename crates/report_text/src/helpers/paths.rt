@@ -1,7 +1,7 @@
 //! Paths of files and of the directories that dynamic libraries are searched in.
 
 ghost use Rattle.std.specs.Prelude.{◌≡◌, ◌<◌, ◌∷◌, [], IfOk, IfSome, MatchOption, codes, false, length, map, not, string_bytes};
-ghost use Rattle.run_model.specs.Names.{option_text};
+ghost use Rattle.run_model.specs.Names.{optional_text};
 ghost use Rattle.report_text.specs.Paths.{between_colons, is_absolute, joined_path, search_paths};
 
 use run_model::memory::OutOfMemory;
@@ -26,7 +26,7 @@ pub fn dylib_path_envvar() -> &'static str
 ///
 /// Memory was refused.
 pub fn dylib_path(alloc: Global, value: Option<&str>) -> Result<Vec<&str>, OutOfMemory>
-    ensures { IfOk result (λ paths. map (λ path. path.now) paths.items ≡ search_paths (option_text value.entry)) }
+    ensures { IfOk result (λ paths. map (λ path. path.now) paths.items ≡ search_paths (optional_text value.entry)) }
 {
     match value {
         None => Ok(Vec::new(alloc)),

@@ -1,9 +1,9 @@
 //! The id of a run, which can be forced for tests.
 
 ghost use Rattle.std.specs.Prelude.{◌≡◌};
-ghost use Rattle.run_model.specs.Names.{option_text};
+ghost use Rattle.run_model.specs.Names.{optional_text};
 ghost use Rattle.uuid.specs.Text.{parsed};
-ghost use Rattle.report_text.specs.RunIds.{random_id, run_id, run_id_warning};
+ghost use Rattle.report_text.specs.RunId.{random_id, run_id, run_id_warning};
 
 use uuid::{Builder, Uuid};
 
@@ -25,8 +25,8 @@ const INVALID_RUN_ID: &str =
 /// assert_eq!(refused, None);
 /// ```
 pub fn force_or_new_run_id(value: Option<&str>, random: [u8; 16]) -> (Uuid, Option<&'static str>)
-    ensures id { result.0 ≡ run_id (option_text value.entry) random }
-    ensures warning { option_text result.1 ≡ run_id_warning (option_text value.entry) }
+    ensures id { result.0 ≡ run_id (optional_text value.entry) random }
+    ensures warning { optional_text result.1 ≡ run_id_warning (optional_text value.entry) }
 {
     match value {
         None => (random_id(random), None),

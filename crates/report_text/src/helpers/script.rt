@@ -1,7 +1,7 @@
 //! Setup scripts as a report shows them.
 
 ghost use Rattle.std.specs.Prelude.{◌≡◌, ◌∷◌, IfOk, Some, map, string_bytes};
-ghost use Rattle.report_text.specs.Instances.{script_text};
+ghost use Rattle.report_text.specs.Instance.{script_text};
 ghost use Rattle.report_text.specs.Quoting.{shell_words};
 ghost use Rattle.plain_text.specs.Writer.{Puts};
 
@@ -73,7 +73,7 @@ impl DisplayScriptInstance {
     }
 
     /// Writes what it shows.
-    #[tactic(auto, unfolding(crate::specs::Instances::script_text))]
+    #[tactic(auto, unfolding(crate::specs::Instance::script_text))]
     pub fn write_to<W: WriteStr>(&self, w: &mut W) -> Result<(), WriteFault>
         ensures { Puts W.meaning w.old (script_text self.now.script_id_style self.now.count_style self.now.stress_index self.now.script_id (string_bytes self.now.full_command)) result w.new }
     {
@@ -98,7 +98,7 @@ impl fmt::Display for DisplayScriptInstance {
 }
 
 /// Writes a setup script as [`DisplayScriptInstance`] shows it.
-#[tactic(auto, unfolding(crate::specs::Instances::script_text))]
+#[tactic(auto, unfolding(crate::specs::Instance::script_text))]
 pub fn write_script_instance<W: WriteStr, T: CommandWord>(
     w: &mut W,
     stress_index: Option<StressIndex>,

@@ -2,12 +2,12 @@
 use Rattle.std.proofs.Common.{◌≡◌, ℕ, suc, ◌-◌, ◌+◌, ◌/◌, ◌^◌, ◌≤◌, ◌<◌, List, [], ◌∷◌, ◌++◌, true, false, Result, Ok, Err, nat_lt, length, refl, sym, ap, ◌∙◌, append_assoc, arith}
 use Rattle.std.proofs.lemmas.Bool.Decides.{nat_tests}
 use Rattle.std.proofs.lemmas.List.{append-nil}
-use Rattle.run_model.specs.Attempts.{Attempts}
+use Rattle.run_model.specs.Attempts.{Attempt, Attempts}
 use Rattle.run_model.specs.declared.output.ChildOutputDescription.{ChildOutputDescription}
 use Rattle.run_model.specs.declared.output.LiveSpec.{LiveSpec}
 use Rattle.run_model.specs.declared.status.FlakyResult.{FlakyResult}
-use Rattle.scene_text.specs.Fields.{Place, Fails, goes_on, said}
-use Rattle.scene_text.specs.TestLines.{Attempt, all_attempts, attempt_fields, attempts_from, numbered}
+use Rattle.scene_text.specs.Fields.{Place, Fails, goes_on, says}
+use Rattle.scene_text.specs.TestLines.{all_attempts, attempt_fields, attempts_from, retry_numbered}
 use Rattle.scene_text.specs.declared.fault.LineError.{LineError}
 use Rattle.scene_text.specs.declared.fault.LineError.TheVariants as error
 use Rattle.scene_text.specs.declared.fault.LineFault.{LineFault}
@@ -28,9 +28,9 @@ after front others = record others { earlier = front ++ others.earlier }
 
 -- what was read before, and what is still read
 abbrev pub with_front : List Attempt → Answer → Answer
-with_front front read = goes_on (λ others. said (after front others)) read
+with_front front read = goes_on (λ others. says (after front others)) read
 
-regroup : (front : List Attempt) (first : Attempt) (read : Answer) → with_front front (goes_on (λ others. said (record others { earlier = first ∷ others.earlier })) read) ≡ with_front (front ++ first ∷ []) read
+regroup : (front : List Attempt) (first : Attempt) (read : Answer) → with_front front (goes_on (λ others. says (record others { earlier = first ∷ others.earlier })) read) ≡ with_front (front ++ first ∷ []) read
 regroup front first (Ok x) = ap (λ (a : List Attempt). Ok (record x.0 { earlier = a }, x.1)) (simp append_assoc)
 regroup front first (Err f) = refl
 
@@ -41,7 +41,7 @@ no_front (Err f) = refl
 
 module _ (flaky : FlakyResult) (total : ℕ) (front : List Attempt) (number end : ℕ) (last : Attempt) (p : Place) (whole : Answer)
     (so_far : with_front front (attempts_from flaky total number (end - number) last p) ≡ whole) where
-  pub next_attempt : (q : Place) (next : Attempt) → number < end → number < 2 ^ 32 → attempt_fields (numbered total number) p ≡ Ok (next, q)
+  pub next_attempt : (q : Place) (next : Attempt) → number < end → number < 2 ^ 32 → attempt_fields (retry_numbered total number) p ≡ Ok (next, q)
       → with_front (front ++ last ∷ []) (attempts_from flaky total (number + 1) (end - (number + 1)) next q) ≡ whole
   unfolding attempts_from
   next_attempt q next lt small h =
@@ -52,7 +52,7 @@ module _ (flaky : FlakyResult) (total : ℕ) (front : List Attempt) (number end 
       rw (k, b, h, n) (regroup front last (attempts_from flaky total (number + 1) (end - (number + 1)) next q)) in
       sym one ∙ so_far
 
-  pub bad_attempt : (e : LineError) → number < end → number < 2 ^ 32 → Fails e (attempt_fields (numbered total number) p) → Fails e whole
+  pub bad_attempt : (e : LineError) → number < end → number < 2 ^ 32 → Fails e (attempt_fields (retry_numbered total number) p) → Fails e whole
   unfolding attempts_from
   bad_attempt error.OutOfMemory lt small h = tt
   bad_attempt (error.Fault f) lt small h =
@@ -79,11 +79,11 @@ module _ (flaky : FlakyResult) (total : ℕ) (front : List Attempt) (number end 
 
 -- the first attempt was read, or it is wrong
 module _ (flaky : FlakyResult) (total : ℕ) (p : Place) where
-  pub first_read : (q : Place) (first : Attempt) → attempt_fields (numbered total 1) p ≡ Ok (first, q) → all_attempts flaky total p ≡ attempts_from flaky total 2 (length q.left / 8) first q
+  pub first_read : (q : Place) (first : Attempt) → attempt_fields (retry_numbered total 1) p ≡ Ok (first, q) → all_attempts flaky total p ≡ attempts_from flaky total 2 (length q.left / 8) first q
   unfolding all_attempts
   first_read q first h = rw h refl
 
-  pub first_fails : (e : LineError) → Fails e (attempt_fields (numbered total 1) p) → Fails e (all_attempts flaky total p)
+  pub first_fails : (e : LineError) → Fails e (attempt_fields (retry_numbered total 1) p) → Fails e (all_attempts flaky total p)
   unfolding all_attempts
   first_fails error.OutOfMemory h = tt
   first_fails (error.Fault f) h = rw h refl

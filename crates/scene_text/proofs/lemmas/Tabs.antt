@@ -3,7 +3,7 @@ use Rattle.std.proofs.Common.{◌≡◌, ℕ, ◌+◌, ◌-◌, ◌<◌, ◌≤�
 use Rattle.std.proofs.lemmas.List.{get_or-drop, drop-drop, map-append}
 use Rattle.memchr.specs.Find.{is_byte, Nowhere, NoneBefore, Passes}
 use Rattle.std.specs.Borrow.{Bor}
-use Rattle.scene_text.specs.Split.{parted, texts}
+use Rattle.scene_text.specs.Split.{parted, field_texts}
 use Rattle.scene_text.proofs.lemmas.Cuts.{Lacks-from_each, cut_at, parted-lacks, parted-parts}
 
 -- from place i on, the first of n places that passes the test is k
@@ -43,12 +43,12 @@ module _ (b : ℕ) (t : List ℕ) (start : ℕ) (within : start ≤ length t) wh
 
 -- one more piece was found
 module _ (front : List (Bor (List ℕ))) (piece : Bor (List ℕ)) (rest : List (List ℕ)) (whole : List (List ℕ)) where
-  pub one_more : (later : List (List ℕ)) → texts front ++ rest ≡ whole → rest ≡ piece.now ∷ later → texts (front ++ piece ∷ []) ++ later ≡ whole
+  pub one_more : (later : List (List ℕ)) → field_texts front ++ rest ≡ whole → rest ≡ piece.now ∷ later → field_texts (front ++ piece ∷ []) ++ later ≡ whole
   one_more later so_far cut =
       ap (λ us. us ++ later) (map-append (λ (u : Bor (List ℕ)). u.now) front (piece ∷ []))
-      ∙ append_assoc (texts front) (piece.now ∷ []) later
-      ∙ ap (λ us. texts front ++ us) (sym cut)
+      ∙ append_assoc (field_texts front) (piece.now ∷ []) later
+      ∙ ap (λ us. field_texts front ++ us) (sym cut)
       ∙ so_far
 
-  pub one_last : texts front ++ rest ≡ whole → rest ≡ piece.now ∷ [] → texts (front ++ piece ∷ []) ≡ whole
-  one_last so_far cut = map-append (λ (u : Bor (List ℕ)). u.now) front (piece ∷ []) ∙ ap (λ us. texts front ++ us) (sym cut) ∙ so_far
+  pub one_last : field_texts front ++ rest ≡ whole → rest ≡ piece.now ∷ [] → field_texts (front ++ piece ∷ []) ≡ whole
+  one_last so_far cut = map-append (λ (u : Bor (List ℕ)). u.now) front (piece ∷ []) ∙ ap (λ us. field_texts front ++ us) (sym cut) ∙ so_far

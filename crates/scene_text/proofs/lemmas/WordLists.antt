@@ -3,7 +3,7 @@ use Rattle.std.proofs.Common.{◌≡◌, ℕ, zero, suc, ◌≤◌, ◌<◌, Lis
 use Rattle.std.proofs.lemmas.Bool.Decides.{nat_tests}
 use Rattle.std.specs.Borrow.{Bor}
 use Rattle.std.specs.Option.{option_map}
-use Rattle.scene_text.specs.Lists.{Words, begins_with_comma, glued, in_first, words_after, list_words}
+use Rattle.scene_text.specs.Lists.{Words, begins_with_comma, glued, in_first_word, words_after, list_words}
 use Rattle.scene_text.specs.Texts.{IsPlain, escape_byte, escape_len, AddsStretch}
 
 glued-nothing : (o : Option Words) → o ≡ glued [] o
@@ -40,9 +40,9 @@ plain-alone [] h = refl
 plain-alone (c ∷ p) h = let e = plain-alone p h.1 in rw h.0 (ap (λ o. glued (c ∷ []) o) e)
 
 -- and so does what an escape stands for
-escape-first : (t : List ℕ) → begins_with_comma t ≡ false → list_words (92 ∷ t) ≡ in_first (escape_byte 127 t) (list_words (drop (escape_len t) t))
+escape-first : (t : List ℕ) → begins_with_comma t ≡ false → list_words (92 ∷ t) ≡ in_first_word (escape_byte 127 t) (list_words (drop (escape_len t) t))
 unfolding words_after
-escape-first t h = rw h (ap (λ o. in_first (escape_byte 127 t) o) (skipped (escape_len t) t))
+escape-first t h = rw h (ap (λ o. in_first_word (escape_byte 127 t) o) (skipped (escape_len t) t))
 
 -- a separator ends the first word
 separator-first : (t : List ℕ) → list_words (92 ∷ (44 ∷ t)) ≡ option_map (λ ws. [] ∷ ws) (list_words t)
@@ -59,7 +59,7 @@ module _ (whole : Option Words) (word rest : List ℕ) (so_far : whole ≡ glued
 
   module _ (no_comma : begins_with_comma escape ≡ false) where
     pub word-bad : escape_byte 127 escape ≡ None → whole ≡ None
-    word-bad e = before ∙ ap (λ o. glued (word ++ plain) o) (escape-first escape no_comma ∙ ap (λ b. in_first b (list_words (drop (escape_len escape) escape))) e)
+    word-bad e = before ∙ ap (λ o. glued (word ++ plain) o) (escape-first escape no_comma ∙ ap (λ b. in_first_word b (list_words (drop (escape_len escape) escape))) e)
 
     pub word-goes-on : (new : List ℕ) (after : Bor (List ℕ)) → AddsStretch word plain escape new after → whole ≡ glued new (list_words after.now)
     word-goes-on new after f =

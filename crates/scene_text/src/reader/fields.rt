@@ -1,7 +1,7 @@
 //! A line of a scene, taken apart from left to right.
 
 ghost use Rattle.std.specs.Prelude.{◌≡◌, ◌+◌, ◌≤◌, ◌^◌, OnOk, drop, length, Ok};
-ghost use Rattle.scene_text.specs.Split.{parted, texts};
+ghost use Rattle.scene_text.specs.Split.{parted, field_texts};
 ghost use Rattle.scene_text.specs.Fields.{Place, ReadsBy, TriesBy, answered, next, taken_text};
 
 use super::tabs::{first_place, tabs_from, without_place};
@@ -11,7 +11,7 @@ use std::marker::Model;
 
 /// Splits a line into its fields, which tabs separate. They take the place of what the list held.
 pub fn split_fields<'a>(line: &'a str, fields: &mut Vec<&'a str>) -> Result<(), OutOfMemory>
-    ensures { OnOk result (texts fields.new.items ≡ parted 9 line.now) }
+    ensures { OnOk result (field_texts fields.new.items ≡ parted 9 line.now) }
 {
     fields.clear();
     let bytes = line.as_bytes();
@@ -43,13 +43,13 @@ pub struct Fields<'a> {
 impl<'a> Model for Fields<'a> {
     ghost Value = { Place };
 
-    ghost view = { λ f. record { number = f.number; left = texts f.left.now } };
+    ghost view = { λ f. record { number = f.number; left = field_texts f.left.now } };
 }
 
 impl<'a> Fields<'a> {
     /// The fields of a line, none of them taken.
     pub fn new(fields: &'a [&'a str]) -> Fields<'a>
-        ensures { result ≡ record { number = 0; left = texts fields.now } }
+        ensures { result ≡ record { number = 0; left = field_texts fields.now } }
     {
         Fields {
             left: fields,
@@ -66,7 +66,7 @@ impl<'a> Fields<'a> {
 
     /// The fields that are left to take.
     pub fn left(&self) -> &'a [&'a str]
-        ensures { texts result.now ≡ self.now.left }
+        ensures { field_texts result.now ≡ self.now.left }
     {
         self.left
     }

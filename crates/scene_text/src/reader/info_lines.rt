@@ -2,7 +2,7 @@
 
 ghost use Rattle.std.specs.Prelude.{◌≡◌};
 ghost use Rattle.scene_text.specs.Fields.{Gives, answered};
-ghost use Rattle.scene_text.specs.InfoLines.{answer_fields, answer_script_line, answer_test_line, info_end_line, info_line};
+ghost use Rattle.scene_text.specs.InfoLines.{answer_fields, answer_script_line_fields, answer_test_line_fields, info_end_line_fields, info_line_fields};
 
 use super::counts::read_stats;
 use super::fields::Fields;
@@ -19,9 +19,9 @@ use run_model::boxed::Boxed;
 use std::alloc::Global;
 
 /// Reads an `info` line: how long the run has taken, how many units were asked, and its statistics.
-#[tactic(auto, unfolding(crate::specs::InfoLines::info_line))]
+#[tactic(auto, unfolding(crate::specs::InfoLines::info_line_fields))]
 pub fn read_info(fields: &mut Fields<'_>) -> Result<SceneEvent, LineFault>
-    ensures { info_line fields.old ≡ answered result fields.new }
+    ensures { info_line_fields fields.old ≡ answered result fields.new }
 {
     let elapsed = fields.read(read_nanos)?;
     let total = fields.read(read_count)?;
@@ -34,18 +34,18 @@ pub fn read_info(fields: &mut Fields<'_>) -> Result<SceneEvent, LineFault>
 }
 
 /// Reads an `infoend` line: how many units have not answered.
-#[tactic(auto, unfolding(crate::specs::InfoLines::info_end_line))]
+#[tactic(auto, unfolding(crate::specs::InfoLines::info_end_line_fields))]
 pub fn read_info_end(fields: &mut Fields<'_>) -> Result<SceneEvent, LineFault>
-    ensures { info_end_line fields.old ≡ answered result fields.new }
+    ensures { info_end_line_fields fields.old ≡ answered result fields.new }
 {
     let missing = fields.read(read_count)?;
     Ok(SceneEvent::InfoFinished(InfoFinish { missing }))
 }
 
 /// Reads an `answer-script` line: which answer it is of how many, the iteration, the script, and its answer.
-#[tactic(auto, unfolding(crate::specs::InfoLines::answer_script_line))]
+#[tactic(auto, unfolding(crate::specs::InfoLines::answer_script_line_fields))]
 pub fn read_answer_script(alloc: Global, fields: &mut Fields<'_>) -> Result<SceneEvent, LineError>
-    ensures { Gives (λ e. e) fields.old result fields.new answer_script_line }
+    ensures { Gives (λ e. e) fields.old result fields.new answer_script_line_fields }
 {
     let index = fields.read(read_count)?;
     let total = fields.read(read_count)?;
@@ -62,9 +62,9 @@ pub fn read_answer_script(alloc: Global, fields: &mut Fields<'_>) -> Result<Scen
 }
 
 /// Reads an `answer-test` line: which answer it is of how many, the test, the attempt, and its answer.
-#[tactic(auto, unfolding(crate::specs::InfoLines::answer_test_line))]
+#[tactic(auto, unfolding(crate::specs::InfoLines::answer_test_line_fields))]
 pub fn read_answer_test(alloc: Global, fields: &mut Fields<'_>) -> Result<SceneEvent, LineError>
-    ensures { Gives (λ e. e) fields.old result fields.new answer_test_line }
+    ensures { Gives (λ e. e) fields.old result fields.new answer_test_line_fields }
 {
     let index = fields.read(read_count)?;
     let total = fields.read(read_count)?;

@@ -2,7 +2,7 @@
 
 ghost use Rattle.std.specs.Prelude.{◌≡◌};
 ghost use Rattle.scene_text.specs.Fields.{answered};
-ghost use Rattle.scene_text.specs.Lines.{config_line, line_in, takes};
+ghost use Rattle.scene_text.specs.Lines.{config_line_fields, line_in, takes};
 
 use super::fields::Fields;
 use super::numbers::read_count;
@@ -138,9 +138,9 @@ impl LineKind {
 }
 
 /// Reads a `config` line: a key and its value. The last line of a key counts.
-#[tactic(auto, unfolding(crate::specs::Lines::config_line))]
+#[tactic(auto, unfolding(crate::specs::Lines::config_line_fields))]
 pub fn read_config(fields: &mut Fields<'_>, config: SceneConfig) -> Result<SceneConfig, LineFault>
-    ensures { config_line config fields.old ≡ answered result fields.new }
+    ensures { config_line_fields config fields.old ≡ answered result fields.new }
 {
     let mut config = config;
     match fields.read(read_config_key)? {

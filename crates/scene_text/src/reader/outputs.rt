@@ -5,7 +5,7 @@
 
 ghost use Rattle.std.specs.Prelude.{◌≡◌, ◌++◌, drop, IsTrue, IfOk};
 ghost use Rattle.std.specs.Option.{option_copied};
-ghost use Rattle.scene_text.specs.Split.{texts};
+ghost use Rattle.scene_text.specs.Split.{field_texts};
 ghost use Rattle.scene_text.specs.Fields.{Gives};
 ghost use Rattle.scene_text.specs.Lists.{errors_in};
 ghost use Rattle.scene_text.specs.Outputs.{after_streams, highlight_in, highlight_stream_in, output_fields, output_form_in, silent_fields, stream_in, TakesSilence};
@@ -104,7 +104,7 @@ pub fn take_silence(fields: &mut Fields<'_>) -> bool
 
 // Whether an output that holds nothing comes first.
 fn is_silence(fields: &[&str]) -> bool
-    ensures { IsTrue result → texts fields.now ≡ silent_fields ++ drop 5 (texts fields.now) }
+    ensures { IsTrue result → field_texts fields.now ≡ silent_fields ++ drop 5 (field_texts fields.now) }
 {
     match fields {
         [form, stdout, stderr, errors, highlight, ..] => matches!(

@@ -2,7 +2,7 @@
 
 ghost use Rattle.std.specs.Prelude.{◌≡◌, IfOk};
 ghost use Rattle.scene_text.specs.Fields.{Gives};
-ghost use Rattle.scene_text.specs.ReplayLines.{header_line, prefix_line, some_text_in, text_or_none_in, unique_prefix_fields};
+ghost use Rattle.scene_text.specs.ReplayLines.{header_line_fields, prefix_line_fields, some_text_in, text_or_none_in, unique_prefix_fields};
 ghost use Rattle.scene_text.specs.Texts.{text_in};
 
 use super::fields::Fields;
@@ -18,9 +18,9 @@ use run_model::run_id::ShortestRunIdPrefix;
 use std::alloc::Global;
 
 /// Reads a `prefix` line: the part of the run's id that no other run has, and the rest.
-#[tactic(auto, unfolding(crate::specs::ReplayLines::prefix_line))]
+#[tactic(auto, unfolding(crate::specs::ReplayLines::prefix_line_fields))]
 pub fn read_prefix(alloc: Global, fields: &mut Fields<'_>) -> Result<SceneEvent, LineError>
-    ensures { Gives (λ e. e) fields.old result fields.new prefix_line }
+    ensures { Gives (λ e. e) fields.old result fields.new prefix_line_fields }
 {
     let prefix = fields.try_read(|field| read_description(alloc, field))?;
     let rest = fields.try_read(|field| read_description(alloc, field))?;
@@ -28,9 +28,9 @@ pub fn read_prefix(alloc: Global, fields: &mut Fields<'_>) -> Result<SceneEvent,
 }
 
 /// Reads a `header` line: the run's id, its prefix and the rest, when it started, and how it ended.
-#[tactic(auto, unfolding(crate::specs::ReplayLines::header_line))]
+#[tactic(auto, unfolding(crate::specs::ReplayLines::header_line_fields))]
 pub fn read_header(alloc: Global, fields: &mut Fields<'_>) -> Result<SceneEvent, LineError>
-    ensures { Gives (λ e. e) fields.old result fields.new header_line }
+    ensures { Gives (λ e. e) fields.old result fields.new header_line_fields }
 {
     let run_id = fields.read(read_run_id)?;
     let unique_prefix = read_unique_prefix(alloc, fields)?;

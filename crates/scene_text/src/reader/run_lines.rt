@@ -2,7 +2,7 @@
 
 ghost use Rattle.std.specs.Prelude.{◌≡◌};
 ghost use Rattle.scene_text.specs.Fields.{Gives, answered};
-ghost use Rattle.scene_text.specs.RunLines.{cancel_line, end_line, input_line, not_seen_fields, pause_line, run_line};
+ghost use Rattle.scene_text.specs.RunLines.{cancel_line_fields, end_line_fields, input_line_fields, not_seen_fields, pause_line_fields, run_line_fields};
 
 use super::counts::{read_skips, read_stats};
 use super::fields::Fields;
@@ -19,9 +19,9 @@ use run_model::stats::RunFinishedStats;
 use std::alloc::Global;
 
 /// Reads a `run` line: run id, profile, how many tests and binaries, and what is skipped.
-#[tactic(auto, unfolding(crate::specs::RunLines::run_line))]
+#[tactic(auto, unfolding(crate::specs::RunLines::run_line_fields))]
 pub fn read_run(alloc: Global, fields: &mut Fields<'_>) -> Result<SceneEvent, LineError>
-    ensures { Gives (λ e. e) fields.old result fields.new run_line }
+    ensures { Gives (λ e. e) fields.old result fields.new run_line_fields }
 {
     let run_id = fields.read(read_run_id)?;
     let profile_name = fields.try_read(|field| read_profile_name(alloc, field))?;
@@ -40,9 +40,9 @@ pub fn read_run(alloc: Global, fields: &mut Fields<'_>) -> Result<SceneEvent, Li
 }
 
 /// Reads a `cancel` or `kill` line: how many setup scripts and tests run, and the reason.
-#[tactic(auto, unfolding(crate::specs::RunLines::cancel_line))]
+#[tactic(auto, unfolding(crate::specs::RunLines::cancel_line_fields))]
 pub fn read_cancel(fields: &mut Fields<'_>) -> Result<RunCancel, LineFault>
-    ensures { cancel_line fields.old ≡ answered result fields.new }
+    ensures { cancel_line_fields fields.old ≡ answered result fields.new }
 {
     let setup_scripts_running = fields.read(read_count)?;
     let running = fields.read(read_count)?;
@@ -55,9 +55,9 @@ pub fn read_cancel(fields: &mut Fields<'_>) -> Result<RunCancel, LineFault>
 }
 
 /// Reads a `pause` or `continue` line: how many setup scripts and tests run.
-#[tactic(auto, unfolding(crate::specs::RunLines::pause_line))]
+#[tactic(auto, unfolding(crate::specs::RunLines::pause_line_fields))]
 pub fn read_pause(fields: &mut Fields<'_>) -> Result<RunPause, LineFault>
-    ensures { pause_line fields.old ≡ answered result fields.new }
+    ensures { pause_line_fields fields.old ≡ answered result fields.new }
 {
     let setup_scripts_running = fields.read(read_count)?;
     let running = fields.read(read_count)?;
@@ -68,9 +68,9 @@ pub fn read_pause(fields: &mut Fields<'_>) -> Result<RunPause, LineFault>
 }
 
 /// Reads an `input` line: how long the run has taken, its statistics, and how many units run.
-#[tactic(auto, unfolding(crate::specs::RunLines::input_line))]
+#[tactic(auto, unfolding(crate::specs::RunLines::input_line_fields))]
 pub fn read_input(fields: &mut Fields<'_>) -> Result<SceneEvent, LineFault>
-    ensures { input_line fields.old ≡ answered result fields.new }
+    ensures { input_line_fields fields.old ≡ answered result fields.new }
 {
     let elapsed = fields.read(read_nanos)?;
     let current_stats = fields.read(read_stats)?;
@@ -83,9 +83,9 @@ pub fn read_input(fields: &mut Fields<'_>) -> Result<SceneEvent, LineFault>
 }
 
 /// Reads an `end` line: how long the run took, its statistics, and the tests that were not seen.
-#[tactic(auto, unfolding(crate::specs::RunLines::end_line))]
+#[tactic(auto, unfolding(crate::specs::RunLines::end_line_fields))]
 pub fn read_end(alloc: Global, fields: &mut Fields<'_>) -> Result<SceneEvent, LineError>
-    ensures { Gives (λ e. e) fields.old result fields.new end_line }
+    ensures { Gives (λ e. e) fields.old result fields.new end_line_fields }
 {
     let elapsed = fields.read(read_nanos)?;
     let run_stats = fields.read(read_stats)?;

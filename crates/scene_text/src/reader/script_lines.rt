@@ -1,7 +1,7 @@
 //! The lines of setup scripts.
 
 ghost use Rattle.scene_text.specs.Fields.{Gives};
-ghost use Rattle.scene_text.specs.ScriptLines.{script_fields, setup_done_line, setup_line, setup_slow_line};
+ghost use Rattle.scene_text.specs.ScriptLines.{script_fields, setup_done_line_fields, setup_line_fields, setup_slow_line_fields};
 
 use super::fields::Fields;
 use super::lists::read_command_line;
@@ -22,9 +22,9 @@ const ONLY_ATTEMPT: RetryData = RetryData {
 };
 
 /// Reads a `setup` line: the iteration, which script it is of how many, and the script.
-#[tactic(auto, unfolding(crate::specs::ScriptLines::setup_line))]
+#[tactic(auto, unfolding(crate::specs::ScriptLines::setup_line_fields))]
 pub fn read_setup(alloc: Global, fields: &mut Fields<'_>) -> Result<SceneEvent, LineError>
-    ensures { Gives (λ e. e) fields.old result fields.new setup_line }
+    ensures { Gives (λ e. e) fields.old result fields.new setup_line_fields }
 {
     let stress_index = fields.read(read_stress_index)?;
     let index = fields.read(read_count)?;
@@ -39,9 +39,9 @@ pub fn read_setup(alloc: Global, fields: &mut Fields<'_>) -> Result<SceneEvent, 
 }
 
 /// Reads a `setupslow` line: the iteration, the script, how long it has taken, and whether it is ended.
-#[tactic(auto, unfolding(crate::specs::ScriptLines::setup_slow_line))]
+#[tactic(auto, unfolding(crate::specs::ScriptLines::setup_slow_line_fields))]
 pub fn read_setup_slow(alloc: Global, fields: &mut Fields<'_>) -> Result<SceneEvent, LineError>
-    ensures { Gives (λ e. e) fields.old result fields.new setup_slow_line }
+    ensures { Gives (λ e. e) fields.old result fields.new setup_slow_line_fields }
 {
     let stress_index = fields.read(read_stress_index)?;
     let script = read_script(alloc, fields)?;
@@ -56,9 +56,9 @@ pub fn read_setup_slow(alloc: Global, fields: &mut Fields<'_>) -> Result<SceneEv
 }
 
 /// Reads a `setupdone` line: the iteration, the script, and its only attempt.
-#[tactic(auto, unfolding(crate::specs::ScriptLines::setup_done_line))]
+#[tactic(auto, unfolding(crate::specs::ScriptLines::setup_done_line_fields))]
 pub fn read_setup_done(alloc: Global, fields: &mut Fields<'_>) -> Result<SceneEvent, LineError>
-    ensures { Gives (λ e. e) fields.old result fields.new setup_done_line }
+    ensures { Gives (λ e. e) fields.old result fields.new setup_done_line_fields }
 {
     let stress_index = fields.read(read_stress_index)?;
     let script = read_script(alloc, fields)?;

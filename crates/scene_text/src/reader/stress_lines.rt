@@ -2,7 +2,7 @@
 
 ghost use Rattle.std.specs.Prelude.{◌≡◌};
 ghost use Rattle.scene_text.specs.Fields.{Gives, answered};
-ghost use Rattle.scene_text.specs.StressLines.{completed_in, end_stress_line, progress_in, stress_count_in, sub_end_line, sub_start_line};
+ghost use Rattle.scene_text.specs.StressLines.{completed_in, end_stress_line_fields, progress_in, stress_count_in, sub_end_line_fields, sub_start_line_fields};
 
 use super::counts::read_stats;
 use super::fields::Fields;
@@ -19,18 +19,18 @@ use run_model::stress::{StressCount, StressIndex, StressProgress};
 use std::alloc::Global;
 
 /// Reads a `substart` line: how far the stress run has come.
-#[tactic(auto, unfolding(crate::specs::StressLines::sub_start_line))]
+#[tactic(auto, unfolding(crate::specs::StressLines::sub_start_line_fields))]
 pub fn read_sub_start(fields: &mut Fields<'_>) -> Result<SceneEvent, LineFault>
-    ensures { sub_start_line fields.old ≡ answered result fields.new }
+    ensures { sub_start_line_fields fields.old ≡ answered result fields.new }
 {
     let progress = fields.read(read_progress)?;
     Ok(SceneEvent::StressSubRunStarted(SubRunStart { progress }))
 }
 
 /// Reads a `subend` line: how far the stress run has come, how long the iteration took, and its statistics.
-#[tactic(auto, unfolding(crate::specs::StressLines::sub_end_line))]
+#[tactic(auto, unfolding(crate::specs::StressLines::sub_end_line_fields))]
 pub fn read_sub_end(fields: &mut Fields<'_>) -> Result<SceneEvent, LineFault>
-    ensures { sub_end_line fields.old ≡ answered result fields.new }
+    ensures { sub_end_line_fields fields.old ≡ answered result fields.new }
 {
     let progress = fields.read(read_progress)?;
     let sub_elapsed = fields.read(read_nanos)?;
@@ -44,9 +44,9 @@ pub fn read_sub_end(fields: &mut Fields<'_>) -> Result<SceneEvent, LineFault>
 
 /// Reads an `endstress` line: how long the run took, how many iterations have finished, succeeded and failed, the
 /// statistics of the last one, and the tests that were not seen.
-#[tactic(auto, unfolding(crate::specs::StressLines::end_stress_line))]
+#[tactic(auto, unfolding(crate::specs::StressLines::end_stress_line_fields))]
 pub fn read_end_stress(alloc: Global, fields: &mut Fields<'_>) -> Result<SceneEvent, LineError>
-    ensures { Gives (λ e. e) fields.old result fields.new end_stress_line }
+    ensures { Gives (λ e. e) fields.old result fields.new end_stress_line_fields }
 {
     let elapsed = fields.read(read_nanos)?;
     let completed = fields.read(read_completed)?;

@@ -2,7 +2,7 @@
 
 ghost use Rattle.std.specs.Prelude.{◌≡◌};
 ghost use Rattle.scene_text.specs.Fields.{Gives, answered};
-ghost use Rattle.scene_text.specs.TestLines.{all_attempts, attempt_fields, done_line, retry_fields, retry_line, retry_start_line, skip_line, slow_line, start_line, test_fields};
+ghost use Rattle.scene_text.specs.TestLines.{all_attempts, attempt_fields, done_line_fields, retry_fields, retry_line_fields, retry_start_line_fields, skip_line_fields, slow_line_fields, start_line_fields, test_fields};
 
 use super::counts::read_stats;
 use super::fields::Fields;
@@ -23,9 +23,9 @@ use std::alloc::Global;
 use std::mem;
 
 /// Reads a `start` line: the test, the statistics, and the command.
-#[tactic(auto, unfolding(crate::specs::TestLines::start_line))]
+#[tactic(auto, unfolding(crate::specs::TestLines::start_line_fields))]
 pub fn read_start(alloc: Global, fields: &mut Fields<'_>) -> Result<SceneEvent, LineError>
-    ensures { Gives (λ e. e) fields.old result fields.new start_line }
+    ensures { Gives (λ e. e) fields.old result fields.new start_line_fields }
 {
     let test = read_test(alloc, fields)?;
     let current_stats = fields.read(read_stats)?;
@@ -38,9 +38,9 @@ pub fn read_start(alloc: Global, fields: &mut Fields<'_>) -> Result<SceneEvent, 
 }
 
 /// Reads a `retrystart` line: the test, the attempt, and the command.
-#[tactic(auto, unfolding(crate::specs::TestLines::retry_start_line))]
+#[tactic(auto, unfolding(crate::specs::TestLines::retry_start_line_fields))]
 pub fn read_retry_start(alloc: Global, fields: &mut Fields<'_>) -> Result<SceneEvent, LineError>
-    ensures { Gives (λ e. e) fields.old result fields.new retry_start_line }
+    ensures { Gives (λ e. e) fields.old result fields.new retry_start_line_fields }
 {
     let test = read_test(alloc, fields)?;
     let retry_data = read_retry_data(fields)?;
@@ -53,9 +53,9 @@ pub fn read_retry_start(alloc: Global, fields: &mut Fields<'_>) -> Result<SceneE
 }
 
 /// Reads a `slow` line: the test, the attempt, how long it has taken, and whether it is ended.
-#[tactic(auto, unfolding(crate::specs::TestLines::slow_line))]
+#[tactic(auto, unfolding(crate::specs::TestLines::slow_line_fields))]
 pub fn read_slow(alloc: Global, fields: &mut Fields<'_>) -> Result<SceneEvent, LineError>
-    ensures { Gives (λ e. e) fields.old result fields.new slow_line }
+    ensures { Gives (λ e. e) fields.old result fields.new slow_line_fields }
 {
     let test = read_test(alloc, fields)?;
     let retry_data = read_retry_data(fields)?;
@@ -71,9 +71,9 @@ pub fn read_slow(alloc: Global, fields: &mut Fields<'_>) -> Result<SceneEvent, L
 
 /// Reads a `retry` line: the test, which attempt failed, how long the next one waits, when the output is shown, and the
 /// attempt.
-#[tactic(auto, unfolding(crate::specs::TestLines::retry_line))]
+#[tactic(auto, unfolding(crate::specs::TestLines::retry_line_fields))]
 pub fn read_retry(alloc: Global, fields: &mut Fields<'_>) -> Result<SceneEvent, LineError>
-    ensures { Gives (λ e. e) fields.old result fields.new retry_line }
+    ensures { Gives (λ e. e) fields.old result fields.new retry_line_fields }
 {
     let test = read_test(alloc, fields)?;
     let retry_data = read_retry_data(fields)?;
@@ -90,9 +90,9 @@ pub fn read_retry(alloc: Global, fields: &mut Fields<'_>) -> Result<SceneEvent, 
 
 /// Reads a `done` line: the test, when the output of a success and of a failure is shown, what a
 /// flaky test counts as, the statistics, how many attempts there can be, and the attempts.
-#[tactic(auto, unfolding(crate::specs::TestLines::done_line))]
+#[tactic(auto, unfolding(crate::specs::TestLines::done_line_fields))]
 pub fn read_done(alloc: Global, fields: &mut Fields<'_>) -> Result<SceneEvent, LineError>
-    ensures { Gives (λ e. e) fields.old result fields.new done_line }
+    ensures { Gives (λ e. e) fields.old result fields.new done_line_fields }
 {
     let test = read_test(alloc, fields)?;
     let success_output = fields.read(read_display)?;
@@ -111,9 +111,9 @@ pub fn read_done(alloc: Global, fields: &mut Fields<'_>) -> Result<SceneEvent, L
 }
 
 /// Reads a `skip` line: the test.
-#[tactic(auto, unfolding(crate::specs::TestLines::skip_line))]
+#[tactic(auto, unfolding(crate::specs::TestLines::skip_line_fields))]
 pub fn read_skip(alloc: Global, fields: &mut Fields<'_>) -> Result<SceneEvent, LineError>
-    ensures { Gives (λ e. e) fields.old result fields.new skip_line }
+    ensures { Gives (λ e. e) fields.old result fields.new skip_line_fields }
 {
     let test = read_test(alloc, fields)?;
     Ok(SceneEvent::TestSkipped(test))

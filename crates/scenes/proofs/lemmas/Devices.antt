@@ -1,7 +1,7 @@
 -- What a device holds of a report that stopped (for `report_alone`, `report_both`, `report_judged`).
 use Rattle.std.proofs.Common.{◌≡◌, ℕ, List, [], ◌∷◌, Option, None, Some, Result, Ok, Err, IfErr, refl, sym, ap, ◌∙◌, append-nil, inl, inr}
 use Rattle.std.specs.Option.{option_map_or}
-use Rattle.plain_text.specs.Buffer.{buffer_meaning}
+use Rattle.plain_text.specs.TextBuffer.{buffer_meaning}
 use Rattle.plain_text.specs.Writer.{Meaning}
 use Rattle.plain_text.specs.declared.write_str.text_buffer.TextBuffer.{TextBuffer}
 use Rattle.plain_text.proofs.lemmas.Deliveries.{accepted_delivers, begins_of, stopped_begins}

@@ -3,7 +3,7 @@ use Rattle.std.proofs.Common.{◌≡◌, [], ◌++◌, ap₂, append_assoc, code
 use Rattle.plain_text.specs.Lossy.{decoded_text}
 use Rattle.plain_text.specs.Texts.{Text}
 use Rattle.plain_text.proofs.lemmas.Decoded.{decoded-none}
-use Rattle.store_text.specs.Netstrings.{joined_netstring, netstring, netstring_head}
+use Rattle.store_text.specs.Netstring.{joined_netstring, netstring, netstring_head}
 
 pub joined-netstring : (front back : Text) → joined_netstring front back ≡ netstring (front ++ back)
 unfolding joined_netstring netstring

@@ -17,9 +17,9 @@ use Rattle.plain_text.specs.Lossy.{decoded_text}
 use Rattle.plain_text.specs.Texts.{Text}
 use Rattle.plain_text.proofs.lemmas.Decoded.{decoded-same}
 use Rattle.event_text.specs.ResultWords.{short_word}
-use Rattle.store_text.specs.Netstrings.{netstring, netstring_head}
-use Rattle.store_text.specs.Records.{record_text}
-use Rattle.store_text.specs.StoredOutputs.{stored_output}
+use Rattle.store_text.specs.Netstring.{netstring, netstring_head}
+use Rattle.store_text.specs.Record.{record_text}
+use Rattle.store_text.specs.StoredOutput.{stored_output}
 use Rattle.store_text.specs.declared.config.StoreConfig.{StoreConfig}
 
 -- one attempt that ended so and wrote this to the two streams

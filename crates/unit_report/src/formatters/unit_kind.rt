@@ -2,7 +2,7 @@
 
 ghost use Rattle.std.specs.Prelude.{◌≡◌, Some};
 ghost use Rattle.plain_text.specs.Writer.{Puts};
-ghost use Rattle.unit_report.specs.UnitKinds.{unit_word};
+ghost use Rattle.unit_report.specs.UnitKind.{unit_word};
 
 use plain_text::show_written;
 use plain_text::write_str::{WriteFault, WriteStr};
@@ -41,7 +41,7 @@ impl DisplayUnitKind {
     }
 
     // The word.
-    #[tactic(auto, unfolding(crate::specs::UnitKinds::unit_word))]
+    #[tactic(auto, unfolding(crate::specs::UnitKind::unit_word))]
     fn word(&self) -> &'static str
         ensures { result.now ≡ unit_word self.now.mode self.now.kind }
     {

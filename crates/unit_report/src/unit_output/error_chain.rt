@@ -4,7 +4,7 @@ ghost use Rattle.std.specs.Prelude.{◌≡◌, false, codes};
 ghost use Rattle.std.specs.List.{flat_map};
 ghost use Rattle.plain_text.specs.Indent.{indent};
 ghost use Rattle.plain_text.specs.Writer.{Puts};
-ghost use Rattle.unit_report.specs.ErrorChains.{cause_text, caused_by, causes_text, error_chain_text};
+ghost use Rattle.unit_report.specs.ErrorChain.{cause_text, caused_by, causes_text, error_chain_text};
 
 use plain_text::indenter::indented;
 use plain_text::style::write_plain;
@@ -20,7 +20,7 @@ use run_model::output::ErrorChain;
 /// write_error_chain(&mut out, &chain)?;
 /// assert_eq!(out.as_str(), "cannot spawn\n  caused by:\n  - no such file");
 /// ```
-#[tactic(auto, unfolding(crate::specs::ErrorChains::error_chain_text))]
+#[tactic(auto, unfolding(crate::specs::ErrorChain::error_chain_text))]
 pub fn write_error_chain<W: WriteStr>(w: &mut W, chain: &ErrorChain) -> Result<(), WriteFault>
     ensures { Puts W.meaning w.old (error_chain_text chain.now) result w.new }
 {
@@ -29,7 +29,7 @@ pub fn write_error_chain<W: WriteStr>(w: &mut W, chain: &ErrorChain) -> Result<(
 }
 
 // Writes the causes, if there are any.
-#[tactic(auto, unfolding(crate::specs::ErrorChains::causes_text))]
+#[tactic(auto, unfolding(crate::specs::ErrorChain::causes_text))]
 fn write_causes<W: WriteStr>(w: &mut W, causes: &[DescriptionText]) -> Result<(), WriteFault>
     ensures { Puts W.meaning w.old (causes_text causes.now) result w.new }
 {
@@ -40,7 +40,7 @@ fn write_causes<W: WriteStr>(w: &mut W, causes: &[DescriptionText]) -> Result<()
     write_each_cause(w, causes)
 }
 
-#[tactic(auto, unfolding(crate::specs::ErrorChains::caused_by))]
+#[tactic(auto, unfolding(crate::specs::ErrorChain::caused_by))]
 fn write_caused_by<W: WriteStr>(w: &mut W) -> Result<(), WriteFault>
     ensures { Puts W.meaning w.old caused_by result w.new }
 {
@@ -57,7 +57,7 @@ fn write_each_cause<W: WriteStr>(w: &mut W, causes: &[DescriptionText]) -> Resul
 }
 
 // Writes a cause on a line of its own. Its later lines stand under its first.
-#[tactic(auto, unfolding(crate::specs::ErrorChains::cause_text))]
+#[tactic(auto, unfolding(crate::specs::ErrorChain::cause_text))]
 fn write_cause<W: WriteStr>(w: &mut W, cause: &str) -> Result<(), WriteFault>
     ensures { Puts W.meaning w.old (cause_text cause.now) result w.new }
 {

@@ -1,9 +1,9 @@
 //! The line before a stream.
 
 ghost use Rattle.std.specs.Prelude.{◌≡◌, Some};
-ghost use Rattle.plain_text.specs.Styles.{styled};
+ghost use Rattle.plain_text.specs.Style.{styled};
 ghost use Rattle.plain_text.specs.Writer.{Puts};
-ghost use Rattle.unit_report.specs.OutputHeaders.{bar_text, header_text, name_text};
+ghost use Rattle.unit_report.specs.Header.{bar_text, header_text, output_name_text};
 
 use plain_text::style::{Style, write_plain};
 use plain_text::write_str::{WriteFault, WriteStr};
@@ -27,7 +27,7 @@ pub enum OutputName {
 impl OutputName {
     /// The word.
     pub fn as_str(self) -> &'static str
-        ensures { result.now ≡ name_text self }
+        ensures { result.now ≡ output_name_text self }
     {
         match self {
             OutputName::Stdout => "stdout",
@@ -66,7 +66,7 @@ pub enum OutputHeader {
 
 impl OutputHeader {
     /// Writes the header.
-    #[tactic(auto, unfolding(crate::specs::OutputHeaders::header_text))]
+    #[tactic(auto, unfolding(crate::specs::Header::header_text))]
     pub fn write_to<W: WriteStr>(&self, w: &mut W) -> Result<(), WriteFault>
         ensures { Puts W.meaning w.old (header_text self.now) result w.new }
     {
@@ -108,7 +108,7 @@ fn write_bar<W: WriteStr>(
 }
 
 // Writes a bar of the given number of characters in this style.
-#[tactic(auto, unfolding(plain_text::specs::Styles::styled))]
+#[tactic(auto, unfolding(plain_text::specs::Style::styled))]
 fn write_hbar<W: WriteStr>(
     w: &mut W,
     style: Style,

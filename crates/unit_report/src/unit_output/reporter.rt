@@ -7,8 +7,8 @@ ghost use Rattle.plain_text.specs.Indent.{indent};
 ghost use Rattle.plain_text.specs.Lossy.{decoded_text};
 ghost use Rattle.plain_text.specs.Writer.{Puts};
 ghost use Rattle.unit_report.specs.Captured.{captured};
-ghost use Rattle.unit_report.specs.ErrorChains.{error_chain_text};
-ghost use Rattle.unit_report.specs.UnitOutputs.{both_streams, child_output, errors_block, errors_text, execution_output, is_replay, layout_of, not_captured_text, present_stream, shown_stream, split_text, stream_text};
+ghost use Rattle.unit_report.specs.ErrorChain.{error_chain_text};
+ghost use Rattle.unit_report.specs.UnitOutput.{both_streams, child_output, errors_block, errors_text, execution_output, is_replay, layout_of, not_captured_text, present_stream, shown_stream, split_text, stream_text};
 
 use super::DisplayerKind;
 use super::captured::write_captured;
@@ -81,7 +81,7 @@ impl UnitOutputReporter {
     /// # Errors
     ///
     /// What the writer answered. A beginning of the text was accepted.
-    #[tactic(auto, unfolding(crate::specs::UnitOutputs::execution_output))]
+    #[tactic(auto, unfolding(crate::specs::UnitOutput::execution_output))]
     pub fn write_child_execution_output<W: WriteStr>(
         &self,
         styles: &Styles,
@@ -115,7 +115,7 @@ impl UnitOutputReporter {
     /// # Errors
     ///
     /// What the writer answered. A beginning of the text was accepted.
-    #[tactic(auto, unfolding(crate::specs::UnitOutputs::child_output))]
+    #[tactic(auto, unfolding(crate::specs::UnitOutput::child_output))]
     pub fn write_child_output<W: WriteStr>(
         &self,
         styles: &Styles,
@@ -155,7 +155,7 @@ struct StreamWriter<'a> {
 
 impl StreamWriter<'_> {
     // Writes two streams. A record says in one line that neither was captured.
-    #[tactic(auto, unfolding(crate::specs::UnitOutputs::split_text))]
+    #[tactic(auto, unfolding(crate::specs::UnitOutput::split_text))]
     fn write_split<W: WriteStr>(
         &self,
         w: &mut W,
@@ -174,7 +174,7 @@ impl StreamWriter<'_> {
     }
 
     // Writes two streams, one after the other.
-    #[tactic(auto, unfolding(crate::specs::UnitOutputs::both_streams))]
+    #[tactic(auto, unfolding(crate::specs::UnitOutput::both_streams))]
     fn write_both<W: WriteStr>(
         &self,
         w: &mut W,
@@ -191,7 +191,7 @@ impl StreamWriter<'_> {
     }
 
     // Writes one of two streams. A record says where it was not captured.
-    #[tactic(auto, unfolding(crate::specs::UnitOutputs::stream_text))]
+    #[tactic(auto, unfolding(crate::specs::UnitOutput::stream_text))]
     fn write_stream<W: WriteStr>(
         &self,
         w: &mut W,
@@ -212,7 +212,7 @@ impl StreamWriter<'_> {
     }
 
     // Writes a stream that is there, unless it is empty and empty ones are not shown.
-    #[tactic(auto, unfolding(crate::specs::UnitOutputs::present_stream))]
+    #[tactic(auto, unfolding(crate::specs::UnitOutput::present_stream))]
     fn write_present<W: WriteStr>(
         &self,
         w: &mut W,
@@ -230,7 +230,7 @@ impl StreamWriter<'_> {
     }
 
     // Writes the header of a stream, and the stream below it, indented.
-    #[tactic(auto, unfolding(crate::specs::UnitOutputs::shown_stream))]
+    #[tactic(auto, unfolding(crate::specs::UnitOutput::shown_stream))]
     fn write_shown<W: WriteStr>(
         &self,
         w: &mut W,
@@ -264,7 +264,7 @@ fn write_captured_indented<W: WriteStr>(
 }
 
 // Writes that an output was not captured.
-#[tactic(auto, unfolding(crate::specs::UnitOutputs::not_captured_text))]
+#[tactic(auto, unfolding(crate::specs::UnitOutput::not_captured_text))]
 fn write_not_captured<W: WriteStr>(
     w: &mut W,
     styles: &Styles,
@@ -285,7 +285,7 @@ fn write_not_captured<W: WriteStr>(
 }
 
 // Writes errors, if there are any.
-#[tactic(auto, unfolding(crate::specs::UnitOutputs::errors_text))]
+#[tactic(auto, unfolding(crate::specs::UnitOutput::errors_text))]
 fn write_errors<W: WriteStr>(
     w: &mut W,
     spec: &ChildOutputSpec,
@@ -300,7 +300,7 @@ fn write_errors<W: WriteStr>(
 }
 
 // Writes an error with its causes, indented below its header.
-#[tactic(auto, unfolding(crate::specs::UnitOutputs::errors_block))]
+#[tactic(auto, unfolding(crate::specs::UnitOutput::errors_block))]
 fn write_errors_block<W: WriteStr>(
     w: &mut W,
     spec: &ChildOutputSpec,

@@ -1,5 +1,5 @@
 use Rattle.plain_text.proofs.lemmas.Steps.{puts_then}
-use Rattle.info_text.specs.Starts.{missing_line}
+use Rattle.info_text.specs.Start.{missing_line}
 use Rattle.info_text.proofs.start.write_missing_line.Goals as goal
 
 pub returns : goal.returns

@@ -1,5 +1,5 @@
 use Rattle.plain_text.proofs.lemmas.Steps.{puts_then, at_exit}
-use Rattle.info_text.specs.States.{leak_note}
+use Rattle.info_text.specs.State.{leak_note}
 use Rattle.info_text.proofs.state.write_leak_note.Goals as goal
 
 pub returns-in_err-write_seconds : goal.returns-in_err-write_seconds

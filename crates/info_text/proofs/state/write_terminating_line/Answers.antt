@@ -1,5 +1,5 @@
 use Rattle.plain_text.proofs.lemmas.Steps.{puts_then, at_exit}
-use Rattle.info_text.specs.States.{terminating_line}
+use Rattle.info_text.specs.State.{terminating_line}
 use Rattle.info_text.proofs.state.write_terminating_line.Goals as goal
 
 pub returns-in_err-write : goal.returns-in_err-write

@@ -1,5 +1,5 @@
 use Rattle.plain_text.proofs.lemmas.Steps.{puts_then}
-use Rattle.info_text.specs.States.{unknown_info}
+use Rattle.info_text.specs.State.{unknown_info}
 use Rattle.info_text.proofs.state.write_unknown_info.Goals as goal
 
 pub returns : goal.returns

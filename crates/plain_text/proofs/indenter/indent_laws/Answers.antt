@@ -1,4 +1,4 @@
-use Rattle.plain_text.specs.Indented.{indent-append, indent-onward, after-onward}
+use Rattle.plain_text.specs.Indentation.{indent-append, indent-onward, after-onward}
 use Rattle.plain_text.proofs.indenter.indent_laws.Goals as goal
 
 pub returns-clause-pieces : goal.returns-clause-pieces

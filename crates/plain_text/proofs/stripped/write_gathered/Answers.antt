@@ -1,6 +1,6 @@
 use Rattle.std.proofs.Common.{[], ap, rules, refl}
 use Rattle.plain_text.specs.Escapes.{visible}
-use Rattle.plain_text.specs.Gathered.{unwritten}
+use Rattle.plain_text.specs.GatheredPieces.{unwritten}
 use Rattle.plain_text.proofs.lemmas.Gathered.{none_gathered, carried_off, carried, flushed}
 use Rattle.plain_text.proofs.lemmas.Pieces.{visible-empty}
 use Rattle.plain_text.proofs.stripped.write_gathered.Goals as goal

@@ -3,7 +3,7 @@ use denote.Text.{Utf8}
 use denote.Shadow.{shadow}
 use Rattle.plain_text.specs.EndLine.{without_end_line}
 use Rattle.plain_text.specs.Escapes.{visible}
-use Rattle.plain_text.specs.Gathered.{unwritten}
+use Rattle.plain_text.specs.GatheredPieces.{unwritten}
 use Rattle.plain_text.specs.Writer.{Owes}
 use Rattle.plain_text.proofs.stripped.write_gathered.Given as goal
 

@@ -1,5 +1,5 @@
 use Rattle.std.proofs.Common.{drop}
-use Rattle.plain_text.specs.Styles.{painted}
+use Rattle.plain_text.specs.Style.{painted}
 use Rattle.plain_text.specs.Writer.{Owes}
 use Rattle.plain_text.proofs.style.write_parts.Given as goal
 

@@ -1,4 +1,4 @@
-use Rattle.run_model.proofs.lemmas.Colons.{split_found, split_missed}
+use Rattle.run_model.proofs.lemmas.LastColons.{split_found, split_missed}
 use Rattle.run_model.proofs.name.cut_at_last_colons.Goals as goal
 
 pub returns-in-Some : goal.returns-in-Some

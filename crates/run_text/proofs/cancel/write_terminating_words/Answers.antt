@@ -1,5 +1,5 @@
 use Rattle.plain_text.proofs.lemmas.Steps.{puts_then, at_exit}
-use Rattle.run_text.specs.Cancels.{terminating_words}
+use Rattle.run_text.specs.Cancel.{terminating_words}
 use Rattle.run_text.proofs.cancel.write_terminating_words.Goals as goal
 
 pub returns-in_err-write : goal.returns-in_err-write

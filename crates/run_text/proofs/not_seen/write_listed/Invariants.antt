@@ -1,7 +1,7 @@
 use Rattle.std.proofs.Common.{drop}
 use Rattle.std.specs.List.{flat_map}
 use Rattle.plain_text.specs.Writer.{Owes}
-use Rattle.run_text.specs.NotSeens.{not_seen_line}
+use Rattle.run_text.specs.NotSeen.{not_seen_line}
 use Rattle.run_text.proofs.not_seen.write_listed.Given as goal
 
 -- the tests that are left are owed

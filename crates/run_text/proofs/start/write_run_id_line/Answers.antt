@@ -1,5 +1,5 @@
 use Rattle.plain_text.proofs.lemmas.Steps.{puts_then, at_exit}
-use Rattle.run_text.specs.Starts.{run_id_line}
+use Rattle.run_text.specs.Start.{run_id_line}
 use Rattle.run_text.proofs.start.write_run_id_line.Goals as goal
 
 pub returns-in_err-write_plain : goal.returns-in_err-write_plain

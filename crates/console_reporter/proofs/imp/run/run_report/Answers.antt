@@ -2,11 +2,11 @@ use Rattle.std.proofs.Common.{rules, take, ◌≡◌}
 use Rattle.std.proofs.lemmas.Result.{on_ok_weaker, IfErr-weaker}
 use Rattle.console_reporter.specs.Configuration.{configured}
 use Rattle.console_reporter.specs.Accepted.{AreAccepted, refusal_at}
-use Rattle.plain_text.specs.Accept.{string_meaning}
+use Rattle.plain_text.specs.StringWriter.{string_meaning}
 use Rattle.console_reporter.specs.Outcomes.{refusal_in}
 use Rattle.console_reporter.proofs.lemmas.Calls.{err_here, ok_here, refused_from, stopped_io, stopped_known}
-use Rattle.console_reporter.proofs.lemmas.ReportTints.{colour_holds, plain_holds}
-use Rattle.console_reporter.proofs.lemmas.Exchanges.{order_independent, stats_independent}
+use Rattle.console_reporter.proofs.lemmas.ReportColourPairs.{colour_holds, plain_holds}
+use Rattle.console_reporter.proofs.lemmas.Independence.{order_independent, stats_independent}
 use Rattle.console_reporter.proofs.lemmas.Stores.{absent_here}
 use Rattle.console_reporter.proofs.imp.run.run_report.Goals as goal
 

@@ -4,9 +4,9 @@ use Rattle.console_reporter.specs.Configuration.{configured_with_store}
 use Rattle.console_reporter.specs.Outcomes.{refusal_in}
 use Rattle.std.proofs.lemmas.Result.{on_ok_weaker, IfErr-weaker}
 use Rattle.console_reporter.proofs.lemmas.Calls.{err_here, ok_here, stopped_io, stopped_known}
-use Rattle.console_reporter.proofs.lemmas.Exchanges.{order_independent, stats_independent}
+use Rattle.console_reporter.proofs.lemmas.Independence.{order_independent, stats_independent}
 use Rattle.console_reporter.proofs.lemmas.Records.{stopped_store_io}
-use Rattle.console_reporter.proofs.lemmas.ReportTints.{colour_holds, plain_holds}
+use Rattle.console_reporter.proofs.lemmas.ReportColourPairs.{colour_holds, plain_holds}
 use Rattle.console_reporter.proofs.lemmas.Stores.{ok_there, err_there, first_there, refused_there}
 use Rattle.console_reporter.proofs.imp.run.run_report_with_store.Goals as goal
 

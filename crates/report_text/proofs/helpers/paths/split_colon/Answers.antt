@@ -1,4 +1,4 @@
-use Rattle.report_text.proofs.lemmas.Colons.{after_shorter, colon_parts}
+use Rattle.report_text.proofs.lemmas.SplitPaths.{after_shorter, colon_parts}
 use Rattle.report_text.proofs.helpers.paths.split_colon.Goals as goal
 
 pub returns : goal.returns

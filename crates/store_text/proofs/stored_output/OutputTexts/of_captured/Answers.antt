@@ -1,6 +1,6 @@
 use Rattle.std.proofs.Common.{◌++◌, ◌∙◌, ap, ap₂, append-nil, sym}
 use Rattle.plain_text.specs.Lossy.{decoded_text}
-use Rattle.store_text.specs.StoredOutputs.{captured_text}
+use Rattle.store_text.specs.StoredOutput.{captured_text}
 use Rattle.store_text.proofs.lemmas.Netstrings.{decoded_nothing}
 use Rattle.store_text.proofs.stored_output.OutputTexts.of_captured.Goals as goal
 

@@ -1,4 +1,4 @@
-use Rattle.unit_report.specs.UnitOutputs.{not_captured_text}
+use Rattle.unit_report.specs.UnitOutput.{not_captured_text}
 use Rattle.unit_report.proofs.unit_output.reporter.write_not_captured.Goals as goal
 
 pub returns : goal.returns

@@ -1,6 +1,6 @@
 use Rattle.std.proofs.Common.{subst, sym}
 use Rattle.run_model.specs.Levels.{reason_rank}
-use Rattle.test_text.specs.FinishedTests.{HasShownOutput}
+use Rattle.test_text.specs.TestFinished.{HasShownOutput}
 use Rattle.console_reporter.proofs.lemmas.Loads.{finish_loaded}
 use Rattle.console_reporter.proofs.imp.effect.EventEffect.of_event.Goals as goal
 

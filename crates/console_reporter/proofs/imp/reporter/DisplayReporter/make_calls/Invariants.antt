@@ -2,7 +2,7 @@ use Rattle.std.proofs.Common.{[], take}
 use Rattle.console_reporter.specs.Accepted.{AreAccepted}
 use Rattle.console_reporter.specs.Configuration.{Configuration}
 use Rattle.console_reporter.specs.Report.{past_at}
-use Rattle.console_reporter.specs.Standing.{StandsAfter}
+use Rattle.console_reporter.specs.HeldState.{StandsAfter}
 use Rattle.console_reporter.specs.Telling.{IsSameReporter, TellsRun}
 use Rattle.console_reporter.proofs.imp.reporter.DisplayReporter.make_calls.Given as goal
 

@@ -4,7 +4,7 @@ use Rattle.console_reporter.specs.Loads.{lacks_output}
 use Rattle.run_model.specs.declared.call.ReportCall.TheVariants.{Event}
 use Rattle.console_reporter.proofs.lemmas.Loads.{lacks_less}
 use Rattle.console_reporter.proofs.lemmas.Refusals.{breaks_refused, none_where_not_some, not_refused, told_is_some}
-use Rattle.console_reporter.proofs.lemmas.Whole.{of_lines-text}
+use Rattle.console_reporter.proofs.lemmas.WholeLines.{of_lines-text}
 use Rattle.console_reporter.proofs.imp.reporter.DisplayReporter.write_event.Goals as goal
 
 pub returns-then-self-clause-lines : goal.returns-then-self-clause-lines

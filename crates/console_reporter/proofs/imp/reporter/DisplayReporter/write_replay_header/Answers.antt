@@ -3,7 +3,7 @@ use Rattle.run_model.specs.Levels.{reason_rank}
 use Rattle.console_reporter.specs.declared.imp.state.ReporterState.{ReporterState}
 use Rattle.console_reporter.proofs.lemmas.Stores.{config-same}
 use Rattle.console_reporter.proofs.lemmas.Calls.{stops_error}
-use Rattle.console_reporter.proofs.lemmas.Whole.{of_lines-text}
+use Rattle.console_reporter.proofs.lemmas.WholeLines.{of_lines-text}
 use Rattle.console_reporter.specs.Entries.{cancel, kept, prefix}
 use Rattle.console_reporter.specs.Report.{text}
 use Rattle.run_model.specs.declared.call.ReportCall.TheVariants.{Header}

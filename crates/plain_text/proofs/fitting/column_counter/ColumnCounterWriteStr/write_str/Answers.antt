@@ -3,7 +3,7 @@ use Rattle.std.proofs.lemmas.List.{nil_from_length}
 use Rattle.plain_text.proofs.lemmas.CounterPuts.{next_counted}
 use Rattle.plain_text.proofs.lemmas.Fits.{step_utf8}
 use Rattle.plain_text.proofs.lemmas.Steps.{owes_accepted, owes_nothing}
-use Rattle.plain_text.specs.Counted.{counter_laws}
+use Rattle.plain_text.specs.ColumnCounter.{counter_laws}
 use Rattle.plain_text.proofs.fitting.column_counter.ColumnCounterWriteStr.write_str.Goals as goal
 
 pub loop-c-preserved : goal.loop-c-preserved

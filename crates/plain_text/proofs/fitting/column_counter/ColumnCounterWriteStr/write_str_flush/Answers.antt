@@ -1,4 +1,4 @@
-use Rattle.plain_text.specs.Counted.{counter_laws}
+use Rattle.plain_text.specs.ColumnCounter.{counter_laws}
 use Rattle.plain_text.proofs.fitting.column_counter.ColumnCounterWriteStr.write_str_flush.Goals as goal
 
 pub returns-clause-text : goal.returns-clause-text

@@ -1,7 +1,7 @@
 use Rattle.std.proofs.Common.{length}
 use denote.Text.{Utf8}
 use denote.Shadow.{shadow}
-use Rattle.plain_text.specs.Indented.{IndentedTakes}
+use Rattle.plain_text.specs.Indentation.{IndentedTakes}
 use Rattle.plain_text.proofs.indenter.indentation.IndentedWrite.write_str.Given as goal
 
 -- to take what is left is to take the whole text

@@ -1,7 +1,7 @@
 use Rattle.std.proofs.Common.{length}
 use denote.Text.{Utf8}
 use denote.Shadow.{shadow}
-use Rattle.plain_text.specs.Indented.{indented_meaning}
+use Rattle.plain_text.specs.Indentation.{indented_meaning}
 use Rattle.plain_text.specs.Writer.{Owes}
 use Rattle.plain_text.proofs.indenter.indentation.IndentedWriteStr.write_str.Given as goal
 

@@ -1,5 +1,5 @@
 use Rattle.plain_text.proofs.lemmas.Steps.{owes_accepted, owes_stopped, owes_done, split_parts}
-use Rattle.plain_text.specs.Buffer.{buffer_laws}
+use Rattle.plain_text.specs.TextBuffer.{buffer_laws}
 use Rattle.plain_text.proofs.write_str.text_buffer.TextBuffer.write_long.Goals as goal
 
 pub returns-in_err-write_piece : goal.returns-in_err-write_piece

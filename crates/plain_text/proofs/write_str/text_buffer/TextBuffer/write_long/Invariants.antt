@@ -1,5 +1,5 @@
 use Rattle.std.proofs.Common.{length}
-use Rattle.plain_text.specs.Buffer.{buffer_meaning}
+use Rattle.plain_text.specs.TextBuffer.{buffer_meaning}
 use Rattle.plain_text.specs.Writer.{Owes}
 use Rattle.plain_text.proofs.write_str.text_buffer.TextBuffer.write_long.Given as goal
 

@@ -1,0 +1,85 @@
+-- An exchange of neighbours, and other statistics, leave texts as they are (for `run_report`).
+use Rattle.std.proofs.Common.{◌≡◌, ◌<◌, List, [], ◌∷◌, ◌++◌, Option, None, Some, refl, sym, ap, ◌∙◌, subst, reverse, Ordering, Less, Equal, Greater}
+use Rattle.std.specs.FinMap.{nat_cmp-IsAntisymmetric, slice_cmp-IsAntisymmetric}
+use Rattle.std.specs.List.{flat_map}
+use Rattle.std.specs.Cmp.Lexicographic.{lists_total, nat_list_cmp_total}
+use Rattle.std.specs.Option.{option_to_list}
+use Rattle.std.specs.Ordering.{is_lt, ordering_reverse}
+use Rattle.std.proofs.lemmas.Grind.{flat_map-append}
+use Rattle.run_model.specs.declared.event.TestEventKind.{TestEventKind}
+use Rattle.run_model.specs.declared.event.TestEventKind.TheVariants.{TestFinished}
+use Rattle.run_model.specs.declared.stats.RunStats.{RunStats}
+use Rattle.run_model.specs.declared.time.Nanos.{Nanos}
+use Rattle.event_text.specs.declared.settings.Settings.{Settings}
+use Rattle.console_reporter.specs.Calm.{AreCalm}
+use Rattle.console_reporter.specs.Configuration.{Configuration, settings_of}
+use Rattle.console_reporter.specs.Entries.{cancel, entry_cmp, entry_key, final_order, is_before}
+use Rattle.console_reporter.specs.OrderIndependence.{AreOfOneKey, IsOrderIndependent, entry_after}
+use Rattle.console_reporter.specs.Report.{event_text, report_texts}
+use Rattle.console_reporter.specs.Statistics.{IsStatsIndependent, with_stats}
+use Rattle.run_model.specs.declared.call.ReportCall.{ReportCall}
+use Rattle.run_model.specs.declared.call.ReportCall.TheVariants.{Event, Header, Prefix}
+use Rattle.console_reporter.specs.declared.imp.final_output.FinalOutputEntry.{FinalOutputEntry}
+use Rattle.console_reporter.proofs.lemmas.CalmRuns.{calm_back, calm_both, calm_end, calm_entries, calm_entry, calm_front, calm_more, calm_past, listing}
+use Rattle.console_reporter.proofs.lemmas.Keys.{is_before-ranks}
+use Rattle.console_reporter.proofs.lemmas.Orders.{order-swap}
+use Rattle.console_reporter.proofs.lemmas.Same.{IsSameEvent, same-but-one}
+
+-- entries of two keys may be exchanged
+swapped : (front back : List FinalOutputEntry) (x y : FinalOutputEntry) (c : Ordering) → entry_cmp x y ≡ c → (entry_key x ≡ entry_key y → ⊥) →
+    final_order (front ++ y ∷ x ∷ back) ≡ final_order (front ++ x ∷ y ∷ back)
+swapped front back x y Less is h = sym (order-swap is_before is_before-ranks front back x y (ap is_lt is))
+swapped front back x y Equal is h = absurd (h (slice_cmp-IsAntisymmetric (slice_cmp-IsAntisymmetric nat_cmp-IsAntisymmetric) (entry_key x) (entry_key y) is))
+swapped front back x y Greater is h =
+    let other : entry_cmp y x ≡ Less = (lists_total nat_list_cmp_total).antisymm (entry_key y) (entry_key x) ∙ ap ordering_reverse is in
+    order-swap is_before is_before-ranks front back y x (ap is_lt other)
+
+apart : (front back : List FinalOutputEntry) (x y : Option FinalOutputEntry) → (AreOfOneKey x y → ⊥) →
+    final_order (front ++ (option_to_list y ++ (option_to_list x ++ back))) ≡ final_order (front ++ (option_to_list x ++ (option_to_list y ++ back)))
+apart front back None y h = refl
+apart front back (Some x) None h = refl
+apart front back (Some x) (Some y) h = swapped front back x y (entry_cmp x y) refl h
+
+-- what is kept of a call is the same under each calm reason
+calm_after : (config : Configuration) (past : List ReportCall) (call : ReportCall) → cancel past < 5 → calm_entries (settings_of config) call ≡ option_to_list (entry_after config past call)
+calm_after config past (Event e) h = ap option_to_list (sym (calm_entry (settings_of config) (cancel past) e.kind h))
+calm_after config past (Header k) h = refl
+calm_after config past (Prefix p) h = refl
+
+-- the order of all that is kept
+exchanged : (s : Settings) (before after : List ReportCall) (first second : ReportCall) (x y : Option FinalOutputEntry) →
+    calm_entries s first ≡ option_to_list x → calm_entries s second ≡ option_to_list y → (AreOfOneKey x y → ⊥) →
+    final_order (flat_map (calm_entries s) (before ++ second ∷ first ∷ after)) ≡ final_order (flat_map (calm_entries s) (before ++ first ∷ second ∷ after))
+exchanged s before after first second x y is_first is_second h =
+    let f = calm_entries s in
+    ap final_order (flat_map-append f before (second ∷ first ∷ after))
+    ∙ rw (is_first, is_second) (apart (flat_map f before) (flat_map f after) x y h)
+    ∙ ap final_order (sym (flat_map-append f before (first ∷ second ∷ after)))
+
+pub order_independent : (config : Configuration) (calls : List ReportCall) → IsOrderIndependent config calls
+order_independent config calls before after first second end is ends calm differ =
+    let s = settings_of config in
+    let whole : AreCalm (before ++ first ∷ second ∷ (after ++ Event end ∷ [])) = subst AreCalm is calm in
+    let front = calm_front before (first ∷ second ∷ (after ++ Event end ∷ [])) whole in
+    let rest = calm_back before (first ∷ second ∷ (after ++ Event end ∷ [])) whole in
+    let back = calm_front after (Event end ∷ []) rest.1.1 in
+    let one = calm_both before (first ∷ second ∷ after) front (rest.0, (rest.1.0, back)) in
+    let other = calm_both before (second ∷ first ∷ after) front (rest.1.0, (rest.0, back)) in
+    let past = calm_past before front in
+    let kept_first = calm_after config (reverse before) first past in
+    let kept_second = calm_after config (first ∷ reverse before) second (calm_more first (reverse before) rest.0 past) in
+    calm_end config (before ++ second ∷ first ∷ after) end other ends
+    ∙ ap (λ entries. event_text s (listing entries) end.elapsed.0 end.kind) (exchanged s before after first second _ _ kept_first kept_second differ)
+    ∙ sym (calm_end config (before ++ first ∷ second ∷ after) end one ends)
+
+-- a finished test without a counter is the same event, whatever the statistics
+same-finished : (s : Settings) (elapsed : Nanos) (e : TestEventKind) (stats : RunStats) → s.counter_width ≡ None →
+    IsSameEvent s (record { elapsed = elapsed; kind = e }) (record { elapsed = elapsed; kind = with_stats stats e })
+unfolding event_text
+same-finished s elapsed (TestFinished stress test success failure statuses old) stats none =
+    record { reason = refl; entry = λ before. rw none refl; text = λ known. rw none refl }
+same-finished s elapsed other stats none = record { reason = refl; entry = λ before. refl; text = λ known. refl }
+
+pub stats_independent : (config : Configuration) (calls : List ReportCall) → IsStatsIndependent config calls
+stats_independent config calls before after e stats is none =
+    same-but-one config before after e _ (same-finished (settings_of config) e.elapsed e.kind stats none) ∙ ap (λ l. report_texts config (reverse l)) (sym is)

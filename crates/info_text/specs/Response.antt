@@ -1,0 +1,120 @@
+-- The answer of a unit that is asked what it is doing.
+use Rattle.std.specs.Prelude.{◌≡◌, ℕ, ◌+◌, ◌-◌, ◌==◌, Bool, true, false, ◌&&◌, ◌||◌, Option, None, Some, [], ◌++◌, length, codes, nat_lt, if◌then◌else◌}
+use Rattle.std.specs.Fmt.{decimal}
+use Rattle.run_model.specs.Infos.{has_valid_output}
+use Rattle.run_model.specs.Outputs.{has_errors, has_loaded_output}
+use Rattle.run_model.specs.declared.info.InfoResponse.{InfoResponse}
+use Rattle.run_model.specs.declared.info.InfoResponse.TheVariants.{SetupScript, Test}
+use Rattle.run_model.specs.declared.info.SetupScriptInfoResponse.{SetupScriptInfoResponse}
+use Rattle.run_model.specs.declared.info.TestInfoResponse.{TestInfoResponse}
+use Rattle.run_model.specs.declared.info.UnitState.{UnitState}
+use Rattle.run_model.specs.declared.info.UnitState.TheVariants.{Running, Exiting, Terminating, Exited, DelayBeforeNextAttempt}
+use Rattle.run_model.specs.declared.status.RetryData.{RetryData}
+use Rattle.run_model.specs.declared.unit.UnitKind.{UnitKind}
+use Rattle.run_model.specs.declared.unit.UnitKind.TheVariants as unit
+use Rattle.plain_text.specs.Indent.{indent}
+use Rattle.plain_text.specs.Style.{plain, styled}
+use Rattle.plain_text.specs.Texts.{Text, spaces}
+use Rattle.report_text.specs.Theme.{hbar_text}
+use Rattle.report_text.specs.declared.helpers.theme.ThemeCharacters.{ThemeCharacters}
+use Rattle.plain_text.specs.declared.style.Styles.{Styles}
+use Rattle.unit_report.specs.UnitOutput.{OutputLayout, execution_output}
+use Rattle.unit_report.specs.declared.unit_output.header.OutputHeader.TheVariants.{Label}
+use Rattle.unit_report.specs.declared.unit_output.header.OutputName.TheVariants as name
+use Rattle.run_model.specs.Attempts.{Written}
+use Rattle.event_text.specs.Instance.{instance_end}
+use Rattle.event_text.specs.Script.{Script, shown_script}
+use Rattle.event_text.specs.declared.instance.CountedInstance.{CountedInstance}
+use Rattle.event_text.specs.declared.settings.Settings.{Settings}
+use Rattle.info_text.specs.State.{state_text}
+use Rattle.info_text.specs.declared.state.InfoUnit.{InfoUnit}
+
+-- a bar of eight characters before each answer but the first
+unfoldable pub separator : ThemeCharacters → ℕ → Text
+separator theme index = if index == 0 then [] else hbar_text theme.is_unicode 8 ++ plain (codes "\n")
+
+-- the spaces after the number of an answer, which stands as wide as the word before a state, where it has room
+abbrev pub number_padding : ℕ → ℕ → Text
+number_padding number total = spaces (8 - (length (decimal number) + length (decimal total) + 3))
+
+-- which of so many answers it is, counted from 1
+unfoldable pub response_number : Styles → ℕ → ℕ → Text
+response_number s number total =
+    plain (codes "\n* ")
+    ++ (styled s.count (decimal number)
+    ++ (plain (codes "/") ++ (styled s.count (decimal total) ++ (plain (codes ": ") ++ plain (number_padding number total)))))
+
+-- how the output within an answer is laid out: names without bars, and two spaces before each line
+abbrev pub info_layout : Styles → UnitKind → OutputLayout
+info_layout s kind = record {
+  kind = kind;
+  stdout_header = Label s.count name.Stdout;
+  stderr_header = Label s.count name.Stderr;
+  combined_header = Label s.count name.Output;
+  exec_fail_header = Label s.count name.Errors;
+  output_indent = codes "  ";
+}
+
+-- the output is there, if it is that of the unit
+abbrev pub HasValidOutput : UnitState → Written → Type 0
+HasValidOutput state output = has_valid_output state ≡ true → has_loaded_output output ≡ true
+
+-- the output, where it is that of the unit
+unfoldable pub valid_output : Settings → UnitKind → UnitState → Written → Text
+valid_output s kind state output =
+    if has_valid_output state then execution_output s.unit_output s.styles (info_layout s.styles kind) output else []
+
+-- what a unit is doing and what it has written
+unfoldable pub unit_answer : Settings → InfoUnit → UnitState → Written → Text
+unit_answer s u state output = state_text s u state ++ valid_output s u.kind state output
+
+-- a setup script as its answer names it, and as its state is told of it
+abbrev pub answering_script : SetupScriptInfoResponse → Script
+answering_script x = record { stress_index = x.stress_index; script_id = x.script_id; program = x.program; args = x.args }
+
+abbrev pub script_unit : SetupScriptInfoResponse → InfoUnit
+script_unit x = record { kind = unit.Script; attempt = None; has_errors = has_errors x.output }
+
+-- the answer of a setup script
+unfoldable pub script_answer : Settings → SetupScriptInfoResponse → Text
+script_answer s x =
+    shown_script s.styles (answering_script x) ++ (plain (codes "\n") ++ unit_answer s (script_unit x) x.state x.output)
+
+-- the next attempt waits
+abbrev pub is_delay : UnitState → Bool
+is_delay (Running pid taken slow_after) = false
+is_delay (Exiting pid taken slow_after result waiting remaining) = false
+is_delay (Terminating state) = false
+is_delay (Exited result taken slow_after) = false
+is_delay (DelayBeforeNextAttempt result is_slow waiting remaining) = true
+
+-- the attempt is told of a later one of several, and where the next one waits
+abbrev pub told_attempt : RetryData → UnitState → Option RetryData
+told_attempt r state = if (nat_lt 1 r.attempt && nat_lt 1 r.total_attempts) || is_delay state then Some r else None
+
+-- a test as its answer names it, and as its state is told of it
+abbrev pub answering_test : TestInfoResponse → CountedInstance
+answering_test x = record { stress_index = x.stress_index; counter = None; instance = x.test_instance }
+
+abbrev pub test_unit : TestInfoResponse → InfoUnit
+test_unit x = record { kind = unit.Test; attempt = told_attempt x.retry_data x.state; has_errors = has_errors x.output }
+
+-- the answer of a test
+unfoldable pub test_answer : Settings → TestInfoResponse → Text
+test_answer s x = instance_end s.styles (answering_test x) ++ unit_answer s (test_unit x) x.state x.output
+
+-- the output of an answer is there, if it is that of its unit
+abbrev pub HasAnswerOutput : InfoResponse → Type 0
+HasAnswerOutput (SetupScript x) = HasValidOutput x.state x.output
+HasAnswerOutput (Test x) = HasValidOutput x.state x.output
+
+-- what stands after the number of an answer
+abbrev pub answer : Settings → InfoResponse → Text
+answer s (SetupScript x) = script_answer s x
+answer s (Test x) = test_answer s x
+
+-- the answer of a unit, from its place. All lines but that of its number are indented, and an empty line follows
+unfoldable pub info_response_text : Settings → ℕ → ℕ → InfoResponse → Text
+info_response_text s index total response =
+    separator s.theme_characters index
+    ++ (response_number s.styles (index + 1) total ++ (indent (codes "  ") false (answer s response) ++ plain (codes "\n")))

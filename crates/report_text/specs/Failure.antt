@@ -1,0 +1,69 @@
+-- How a process ended, as text.
+use Rattle.std.specs.Prelude.{ℕ, zero, suc, ◌+◌, ◌/◌, ◌%◌, ℤ, [], ◌∷◌, ◌++◌, Option, None, Some, nat_lt, if◌then◌else◌, codes}
+use Rattle.std.specs.Fmt.{signed_decimal}
+use Rattle.std.specs.Int.{cast_unsigned, w32}
+use Rattle.run_model.specs.declared.abort.AbortDescription.{AbortDescription}
+use Rattle.run_model.specs.declared.abort.AbortDescription.TheVariants.{UnixSignal, WindowsNtStatus, WindowsJobObject}
+use Rattle.plain_text.specs.Texts.{Text}
+use Rattle.plain_text.specs.Style.{Plain, paint, plain}
+use Rattle.report_text.specs.declared.helpers.failure.ExitDescription.{ExitDescription}
+use Rattle.report_text.specs.declared.helpers.failure.ExitDescription.TheVariants as ended
+
+-- a digit in base 16, in lower case
+abbrev pub hex_digit : ℕ → ℕ
+hex_digit d = if nat_lt d 10 then 48 + d else 87 + d
+
+-- the last k digits in base 16, zeros where there are none
+unfoldable pub last_hex_digits : ℕ → ℕ → Text
+last_hex_digits zero n = []
+last_hex_digits (suc k) n = last_hex_digits k (n / 16) ++ hex_digit (n % 16) ∷ []
+
+-- a status of 32 bits as 0x and eight digits
+unfoldable pub hex_text : ℕ → Text
+hex_text n = plain (codes "0x") ++ last_hex_digits 8 n
+
+-- a status of Windows, the bits of its signed number
+abbrev pub nt_status_text : ℤ → Text
+nt_status_text code = hex_text (cast_unsigned w32 code)
+
+-- a signal's name between parentheses, if it is known
+unfoldable pub signal_name_text : Option Text → Text
+signal_name_text None = []
+signal_name_text (Some name) = paint (Plain (codes " (SIG") ∷ Plain name ∷ Plain (codes ")") ∷ [])
+
+-- what a system says of a status, if it is known
+unfoldable pub message_text : Option Text → Text
+message_text None = []
+message_text (Some message) = paint (Plain (codes ": ") ∷ Plain message ∷ [])
+
+-- what is said first of a process that was ended from outside
+unfoldable pub abort_words : AbortDescription → Text
+abort_words (UnixSignal signal name) = codes "aborted with signal "
+abort_words (WindowsNtStatus code message) = codes "aborted with code "
+abort_words WindowsJobObject = codes "terminated via job object"
+
+-- and what is then said of the signal or the status
+unfoldable pub abort_details : AbortDescription → Text
+abort_details (UnixSignal signal name) = plain (signed_decimal signal) ++ signal_name_text name
+abort_details (WindowsNtStatus code message) = nt_status_text code ++ message_text message
+abort_details WindowsJobObject = []
+
+-- how a process was ended from outside
+unfoldable pub abort_text : AbortDescription → Text
+abort_text abort = plain (abort_words abort) ++ abort_details abort
+
+-- what is said first of how a process ended
+unfoldable pub exit_words : ExitDescription → Text
+exit_words (ended.Code code) = codes "exited with exit code "
+exit_words (ended.Abort abort) = []
+exit_words ended.Unknown = codes "exited with an unknown error"
+
+-- and what is said then
+unfoldable pub exit_details : ExitDescription → Text
+exit_details (ended.Code code) = plain (signed_decimal code)
+exit_details (ended.Abort abort) = abort_text abort
+exit_details ended.Unknown = []
+
+-- how a process ended
+unfoldable pub exit_text : ExitDescription → Text
+exit_text exit = plain (exit_words exit) ++ exit_details exit

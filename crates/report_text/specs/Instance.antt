@@ -1,0 +1,93 @@
+-- Names, iterations and counters as a report shows them.
+use Rattle.std.specs.Prelude.{◌≢◌, ℕ, ◌+◌, List, [], ◌∷◌, ◌++◌, Option, None, Some, length, codes, encode_utf8}
+use Rattle.std.specs.Fmt.{decimal}
+use Rattle.std.specs.declared.num.NonZeroU32.{NonZeroU32}
+use Rattle.std.specs.Int.NonZero.{non_zero_u32_get}
+use Rattle.run_model.specs.Names.{module_path_of, last_name_of}
+use Rattle.run_model.specs.declared.name.TestInstanceId.{TestInstanceId}
+use Rattle.run_model.specs.declared.stress.StressIndex.{StressIndex}
+use Rattle.std.specs.List.{repeat}
+use Rattle.plain_text.specs.Texts.{Text, right_in}
+use Rattle.plain_text.specs.Escapes.{HasNoEscape}
+use Rattle.plain_text.specs.Fitting.{shrunk_parts}
+use Rattle.plain_text.specs.Style.{PartText, Plain, Styled, paint}
+use Rattle.plain_text.specs.declared.style.Style.{Style}
+use Rattle.plain_text.specs.declared.style.Style.TheVariants as style
+use Rattle.plain_text.specs.declared.style.ListStyles.{ListStyles}
+use Rattle.report_text.specs.declared.helpers.instance.DisplayCounterIndex.{DisplayCounterIndex}
+use Rattle.report_text.specs.declared.helpers.instance.DisplayCounterIndex.TheVariants.{Counter, Padded}
+
+-- a name of which the module path and the last part are known
+abbrev pub name_parts : ListStyles → Option Text → Text → List PartText
+name_parts s None last = Styled s.test_name last ∷ []
+name_parts s (Some path) last = Styled s.module_path path ∷ Styled s.module_path (codes "::") ∷ Styled s.test_name last ∷ []
+
+-- a test's name
+unfoldable pub test_name_text : ListStyles → Text → Text
+test_name_text s name = paint (name_parts s (module_path_of name) (last_name_of name))
+
+-- an iteration's number from 1, and with a total right in its width, before a slash and the total
+abbrev pub stress_parts : Style → ℕ → Option NonZeroU32 → List PartText
+stress_parts s number None = Styled s (decimal number) ∷ []
+stress_parts s number (Some total) =
+    Styled s (right_in (length (decimal (non_zero_u32_get total))) (decimal number)) ∷ Plain (codes "/") ∷ Styled s (decimal (non_zero_u32_get total)) ∷ []
+
+-- an iteration of a stress run
+unfoldable pub stress_text : Style → StressIndex → Text
+stress_text s i = paint (stress_parts s (i.current + 1) i.total)
+
+-- what stands before the rest of a line: the iteration between brackets and a space, if there is one
+unfoldable pub stress_prefix : Style → Option StressIndex → Text
+stress_prefix s None = []
+stress_prefix s (Some i) = paint (Plain (codes "[") ∷ []) ++ (stress_text s i ++ paint (Plain (codes "] ") ∷ []))
+
+-- a number right in the width of its total, or one character for each column of that
+unfoldable pub counter_text : DisplayCounterIndex → Text
+counter_text (Counter current total) =
+    paint (Plain (codes "(") ∷ Styled style.Plain (right_in (length (decimal total)) (decimal current)) ∷ Plain (codes "/") ∷ Plain (decimal total) ∷ Plain (codes ")") ∷ [])
+counter_text (Padded character width) =
+    paint (Plain (codes "(") ∷ []) ++ (repeat width (encode_utf8 character) ++ (repeat width (encode_utf8 character) ++ (encode_utf8 character ++ paint (Plain (codes ")") ∷ []))))
+
+-- the counter and a space, if there is one
+unfoldable pub counter_prefix : Option DisplayCounterIndex → Text
+counter_prefix None = []
+counter_prefix (Some c) = counter_text c ++ paint (Plain (codes " ") ∷ [])
+
+-- a binary's id and a space
+abbrev pub id_prefix : Style → Text → Text
+id_prefix s id = paint (Styled s id ∷ Plain (codes " ") ∷ [])
+
+-- a test: its iteration, its counter, its binary's id with a space and its name
+unfoldable pub test_text : ListStyles → Option StressIndex → Option DisplayCounterIndex → Text → Text → Text
+test_text s stress counter binary_id name =
+    stress_prefix s.count stress ++ (counter_prefix counter ++ (id_prefix s.binary_id binary_id ++ test_name_text s name))
+
+-- what stands before its name, in parts
+abbrev pub front_parts : ListStyles → Option StressIndex → Option DisplayCounterIndex → Text → List Text
+front_parts s stress counter binary_id = stress_prefix s.count stress ∷ counter_prefix counter ∷ id_prefix s.binary_id binary_id ∷ []
+
+-- a test, cut to a greatest width if there is one: each part takes what those before it left of it
+abbrev pub shown_text : Option ℕ → ListStyles → Option StressIndex → Option DisplayCounterIndex → Text → Text → Text
+shown_text None s stress counter binary_id name = test_text s stress counter binary_id name
+shown_text (Some width) s stress counter binary_id name = shrunk_parts (front_parts s stress counter binary_id) (test_name_text s name) width
+
+-- the same of a test whose names are borrowed
+abbrev pub instance_text : ListStyles → Option StressIndex → Option DisplayCounterIndex → TestInstanceId → Text
+instance_text s stress counter i = test_text s stress counter i.binary_id.now i.test_name.now
+
+abbrev pub shown_instance : Option ℕ → ListStyles → Option StressIndex → Option DisplayCounterIndex → TestInstanceId → Text
+shown_instance width s stress counter i = shown_text width s stress counter i.binary_id.now i.test_name.now
+
+-- no escape character is in the counter's character, the binary's id and the name
+abbrev pub HasPlainCounter : Option DisplayCounterIndex → Type 0
+HasPlainCounter None = Unit {0}
+HasPlainCounter (Some (Counter current total)) = Unit {0}
+HasPlainCounter (Some (Padded character width)) = character ≢ 27
+
+abbrev pub HasPlainWords : Option DisplayCounterIndex → Text → Text → Type 0
+HasPlainWords counter binary_id name = HasPlainCounter counter × HasNoEscape binary_id × HasNoEscape name
+
+-- a setup script: its iteration, its id and its command
+unfoldable pub script_text : Style → Style → Option StressIndex → Text → Text → Text
+script_text id_style count_style stress id command =
+    stress_prefix count_style stress ++ (paint (Styled id_style id ∷ Plain (codes ": ") ∷ []) ++ command)

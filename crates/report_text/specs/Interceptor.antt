@@ -1,0 +1,46 @@
+-- What is said where an interceptor would get more than one test.
+use Rattle.std.specs.Prelude.{ℕ, ◌-◌, false, List, [], ◌++◌, None, length, nat_lt, if◌then◌else◌, codes}
+use Rattle.std.specs.Fmt.{decimal}
+use Rattle.std.specs.List.{flat_map}
+use Rattle.run_model.specs.declared.config.NextestRunMode.{NextestRunMode}
+use Rattle.run_model.specs.declared.name.OwnedTestInstanceId.{OwnedTestInstanceId}
+use Rattle.report_text.specs.Instance.{test_text}
+use Rattle.report_text.specs.Plural.{tests_word, tests_word_if}
+use Rattle.plain_text.specs.Style.{plain, styled}
+use Rattle.plain_text.specs.Texts.{Text}
+use Rattle.plain_text.specs.declared.style.Style.{Style}
+use Rattle.plain_text.specs.declared.style.ListStyles.{ListStyles}
+
+unfoldable pub requires_words : Text
+requires_words = codes " requires exactly one "
+
+unfoldable pub selected_words : Text
+selected_words = codes " were selected:"
+
+-- the option, and that it takes one test
+unfoldable pub interceptor_option : Text → NextestRunMode → Text
+interceptor_option name mode = plain (codes "--") ++ (plain name ++ (plain requires_words ++ plain (tests_word_if mode false)))
+
+-- how many tests there are
+unfoldable pub selected_text : NextestRunMode → ℕ → Style → Text
+selected_text mode count s = plain (codes ", but ") ++ (styled s (decimal count) ++ (plain (codes " ") ++ (plain (tests_word mode count) ++ plain selected_words)))
+
+-- a test on a line of its own, after two spaces
+unfoldable pub listed_test : ListStyles → OwnedTestInstanceId → Text
+listed_test s i = plain (codes "\n  ") ++ test_text s None None i.binary_id i.test_name
+
+unfoldable pub and_words : Text
+and_words = codes "\n  ... and "
+
+-- how many tests are not listed
+unfoldable pub rest_text : NextestRunMode → ℕ → Style → Text
+rest_text mode count s = plain and_words ++ (styled s (decimal count) ++ (plain (codes " more ") ++ plain (tests_word mode count)))
+
+-- the same where there are such tests
+unfoldable pub unlisted_text : NextestRunMode → ℕ → ℕ → Style → Text
+unlisted_text mode count listed s = if nat_lt listed count then rest_text mode (count - listed) s else []
+
+-- the whole message
+unfoldable pub too_many_tests_text : Text → NextestRunMode → ℕ → List OwnedTestInstanceId → ListStyles → Style → Text
+too_many_tests_text name mode count instances s count_style =
+    interceptor_option name mode ++ (selected_text mode count count_style ++ (flat_map (listed_test s) instances ++ unlisted_text mode count (length instances) count_style))

@@ -1,0 +1,45 @@
+-- What a replay says before it.
+use Rattle.std.specs.Prelude.{ℤ, pos, [], ◌++◌, codes, int_lt, unsigned_abs, if◌then◌else◌}
+use Rattle.jiff_core.specs.declared.civil.date.Date.{Date}
+use Rattle.jiff_core.specs.declared.civil.datetime.DateTime.{DateTime}
+use Rattle.jiff_core.specs.declared.civil.time.Time.{Time}
+use Rattle.run_model.specs.declared.replay.ReplayHeader.{ReplayHeader}
+use Rattle.plain_text.specs.Texts.{Text, right_in}
+use Rattle.plain_text.specs.Numbers.{last_digits}
+use Rattle.plain_text.specs.Style.{plain, styled}
+use Rattle.plain_text.specs.declared.style.Styles.{Styles}
+use Rattle.run_text.specs.RunId.{id_text}
+
+-- a minus before the year, where that is before the year 0
+abbrev pub year_sign : ℤ → Text
+year_sign year = if int_lt year (pos 0) then codes "-" else []
+
+-- a date: the year in four digits, the month and the day in two
+unfoldable pub date_text : Date → Text
+date_text d =
+    year_sign d.year
+    ++ (last_digits 4 (unsigned_abs d.year) ++ (codes "-" ++ (last_digits 2 d.month ++ (codes "-" ++ last_digits 2 d.day))))
+
+-- a time of day: hour, minute and second in two digits
+unfoldable pub time_text : Time → Text
+time_text t = last_digits 2 t.hour ++ (codes ":" ++ (last_digits 2 t.minute ++ (codes ":" ++ last_digits 2 t.second)))
+
+-- when the run started
+unfoldable pub started_text : DateTime → Text
+started_text d = date_text d.date ++ (plain (codes " ") ++ time_text d.time)
+
+-- the line that says which run is shown
+unfoldable pub replaying_line : Styles → ReplayHeader → Text
+replaying_line s h =
+    styled s.pass (right_in 12 (codes "Replaying"))
+    ++ (plain (codes " recorded run ") ++ (id_text s h.unique_prefix h.run_id ++ plain (codes "\n")))
+
+-- the line that says when it started, and how it ended
+unfoldable pub started_line : Styles → ReplayHeader → Text
+started_line s h =
+    styled s.pass (right_in 12 (codes "Started"))
+    ++ (plain (codes " ") ++ (started_text h.started_at ++ (plain (codes "  status: ") ++ (styled s.count h.status ++ plain (codes "\n")))))
+
+-- both
+unfoldable pub replay_header_text : Styles → ReplayHeader → Text
+replay_header_text s h = replaying_line s h ++ started_line s h

@@ -1,0 +1,17 @@
+-- The record of a finished test.
+use Rattle.std.specs.Prelude.{◌++◌, codes}
+use Rattle.run_model.specs.Attempts.{Attempts}
+use Rattle.run_model.specs.declared.name.TestInstanceId.{TestInstanceId}
+use Rattle.run_model.specs.declared.output.ChildOutputDescription.{ChildOutputDescription}
+use Rattle.run_model.specs.declared.output.LiveSpec.{LiveSpec}
+use Rattle.plain_text.specs.Texts.{Text}
+use Rattle.event_text.specs.ResultWords.{short_word}
+use Rattle.store_text.specs.Netstring.{netstring}
+use Rattle.store_text.specs.StoredOutput.{stored_output}
+use Rattle.store_text.specs.declared.config.StoreConfig.{StoreConfig}
+
+-- its binary's id, its name, the word of its last attempt and its output, each as a netstring, on a line
+unfoldable pub record_text : StoreConfig → TestInstanceId → Attempts LiveSpec ChildOutputDescription → Text
+record_text store test statuses =
+    netstring test.binary_id.now
+    ++ (netstring test.test_name.now ++ (netstring (short_word statuses.last.result) ++ (netstring (stored_output store statuses) ++ codes "\n")))

@@ -1,0 +1,68 @@
+-- A finished test, and its text.
+use Rattle.std.specs.Prelude.{◌≡◌, ℕ, true, false, Option, [], ◌++◌, if◌then◌else◌}
+use Rattle.run_model.specs.Attempts.{Attempts}
+use Rattle.run_model.specs.Outputs.{has_loaded_output}
+use Rattle.run_model.specs.Statuses.{described_last, described_summary, summary_of}
+use Rattle.run_model.specs.declared.config.TestOutputDisplay.{TestOutputDisplay}
+use Rattle.run_model.specs.declared.name.TestInstanceId.{TestInstanceId}
+use Rattle.run_model.specs.declared.output.ChildOutputDescription.{ChildOutputDescription}
+use Rattle.run_model.specs.declared.output.LiveSpec.{LiveSpec}
+use Rattle.run_model.specs.declared.stats.RunStats.{RunStats}
+use Rattle.run_model.specs.declared.status.ExecuteStatus.{ExecuteStatus}
+use Rattle.run_model.specs.declared.status.StatusSummary.{StatusSummary}
+use Rattle.run_model.specs.declared.stress.StressIndex.{StressIndex}
+use Rattle.plain_text.specs.Texts.{Text}
+use Rattle.event_text.specs.AttemptOutput.{attempt_output}
+use Rattle.event_text.specs.Finish.{display_of, finish_row, is_ever_shown, is_line_shown, row_at_once}
+use Rattle.event_text.specs.Settings.{finished_counter}
+use Rattle.test_text.specs.StatusLine.{status_line}
+use Rattle.event_text.specs.declared.finish.FinishRow.{FinishRow}
+use Rattle.event_text.specs.declared.instance.CountedInstance.{CountedInstance}
+use Rattle.event_text.specs.declared.settings.Settings.{Settings}
+use Rattle.test_text.specs.declared.status_line.StatusLineKind.TheVariants.{Intermediate}
+use Rattle.test_text.specs.declared.test_finished.FinishedTest.{FinishedTest}
+
+-- a finished test under a reason: as its line names it, when its output is shown, what becomes of it, what its attempts came
+-- to, and the last of them
+pub record TestFinish : Type 0 where
+  pub test : CountedInstance
+  pub display : TestOutputDisplay
+  pub row : FinishRow
+  pub summary : StatusSummary
+  pub last : ExecuteStatus LiveSpec ChildOutputDescription
+
+abbrev pub test_finish : Settings → ℕ → Option StressIndex → TestInstanceId → TestOutputDisplay → TestOutputDisplay → Attempts LiveSpec ChildOutputDescription → RunStats → TestFinish
+test_finish s reason stress instance success failure statuses stats = record {
+  test = record { stress_index = stress; counter = finished_counter s stats; instance = instance };
+  display = display_of s success failure (summary_of statuses);
+  row = finish_row reason statuses.last.result;
+  summary = summary_of statuses;
+  last = statuses.last;
+}
+
+-- what the code hands on of it
+abbrev pub finish_of : FinishedTest → TestFinish
+finish_of f = record {
+  test = f.test;
+  display = f.display;
+  row = f.row;
+  summary = described_summary f.describe;
+  last = described_last f.describe;
+}
+
+-- the output of its last attempt is there, if it is shown, at once or at the end of the run
+abbrev pub HasShownOutput : TestFinish → Type 0
+HasShownOutput f = is_ever_shown f.display ≡ true → has_loaded_output f.last.output ≡ true
+
+-- the line of a finished test, where the status level is at least the test's
+unfoldable pub line_at_once : Settings → TestFinish → Text
+line_at_once s f = if is_line_shown s f.summary then status_line s.styles Intermediate f.test f.summary else []
+
+-- the output of its last attempt, where that is shown at once, whatever the status level
+unfoldable pub output_at_once : Settings → TestFinish → Text
+output_at_once s f =
+    if row_at_once f.row f.display then attempt_output s false f.last.result f.last.output else []
+
+-- a finished test: its line and its output
+unfoldable pub test_finished_text : Settings → TestFinish → Text
+test_finished_text s f = line_at_once s f ++ output_at_once s f

@@ -1,0 +1,69 @@
+-- A test that runs longer than it should.
+use Rattle.std.specs.Prelude.{ℕ, Bool, true, false, ◌&&◌, Option, [], ◌++◌, codes, nat_le, nat_lt, if◌then◌else◌}
+use Rattle.run_model.specs.Levels.{status_rank}
+use Rattle.run_model.specs.declared.level.StatusLevel.{StatusLevel}
+use Rattle.run_model.specs.declared.level.StatusLevel.TheVariants as status
+use Rattle.run_model.specs.declared.name.TestInstanceId.{TestInstanceId}
+use Rattle.run_model.specs.declared.status.RetryData.{RetryData}
+use Rattle.run_model.specs.declared.stress.StressIndex.{StressIndex}
+use Rattle.plain_text.specs.Style.{plain, styled}
+use Rattle.plain_text.specs.Texts.{Text, right_in}
+use Rattle.plain_text.specs.declared.style.Style.{Style}
+use Rattle.plain_text.specs.declared.style.Styles.{Styles}
+use Rattle.unit_report.specs.Durations.{slow_duration}
+use Rattle.event_text.specs.Instance.{instance_end, padded_instance}
+use Rattle.event_text.specs.Settings.{is_level_shown}
+use Rattle.test_text.specs.StatusLine.{attempt_words}
+use Rattle.event_text.specs.declared.instance.CountedInstance.{CountedInstance}
+use Rattle.event_text.specs.declared.settings.Settings.{Settings}
+
+-- the end of a slow test's line: how long the attempt has taken, and the test
+unfoldable pub slow_end : Styles → CountedInstance → ℕ → Text
+slow_end s test elapsed = plain (codes " ") ++ (slow_duration elapsed ++ instance_end s test)
+
+-- the word of a slow attempt, with its number unless it is the first
+unfoldable pub slow_word : ℕ → Text
+slow_word attempt = if nat_lt 1 attempt then attempt_words attempt (codes "SLOW") else codes "SLOW"
+
+-- an attempt is slow: the line, where slow tests are shown
+unfoldable pub slow_text : Settings → CountedInstance → ℕ → ℕ → Text
+slow_text s test attempt elapsed =
+    if is_level_shown s status.Slow then styled s.styles.skip (right_in 12 (slow_word attempt)) ++ slow_end s.styles test elapsed else []
+
+-- no attempt follows
+unfoldable pub is_last_attempt : RetryData → Bool
+is_last_attempt r = nat_le r.total_attempts r.attempt
+
+-- an attempt that is ended counts as a failure, unless another one follows
+abbrev pub terminating_level : RetryData → StatusLevel
+terminating_level r = if is_last_attempt r then status.Fail else status.Retry
+
+abbrev pub terminating_style : Styles → RetryData → Style
+terminating_style s r = if is_last_attempt r then s.fail else s.retry
+
+-- more is shown at once than what has this level
+unfoldable pub is_level_exceeded : Settings → StatusLevel → Bool
+is_level_exceeded s level = nat_lt (status_rank level) (status_rank s.status_levels.status_level)
+
+-- its number is said: there are other attempts, and more is shown than the lines of its level
+unfoldable pub has_number : Settings → RetryData → Bool
+has_number s r = nat_lt 1 r.total_attempts && is_level_exceeded s (terminating_level r)
+
+-- the word of an attempt that is ended; beside a number there is room for a short one only
+unfoldable pub terminating_word : Settings → RetryData → Text
+terminating_word s r = if has_number s r then attempt_words r.attempt (codes "TRMNTG") else codes "TERMINATING"
+
+-- an attempt is ended since it is slow: the line, where its level is shown
+unfoldable pub terminating_text : Settings → CountedInstance → RetryData → ℕ → Text
+terminating_text s test r elapsed =
+    if is_level_shown s (terminating_level r)
+    then styled (terminating_style s.styles r) (right_in 12 (terminating_word s r)) ++ slow_end s.styles test elapsed
+    else []
+
+-- a test is slow, and goes on or is ended for that
+abbrev pub slow_or_terminating : Settings → CountedInstance → RetryData → ℕ → Bool → Text
+slow_or_terminating s test r elapsed true = terminating_text s test r elapsed
+slow_or_terminating s test r elapsed false = slow_text s test r.attempt elapsed
+
+unfoldable pub test_slow_text : Settings → Option StressIndex → TestInstanceId → RetryData → ℕ → Bool → Text
+test_slow_text s stress instance r elapsed will_terminate = slow_or_terminating s (padded_instance s stress instance) r elapsed will_terminate

@@ -1,0 +1,23 @@
+-- An error and its causes, as text.
+use Rattle.std.specs.Prelude.{false, List, [], ◌∷◌, ◌++◌, codes}
+use Rattle.std.specs.List.{flat_map}
+use Rattle.run_model.specs.ErrorChains.{MessageAndCauses}
+use Rattle.plain_text.specs.Indent.{indent}
+use Rattle.plain_text.specs.Style.{plain}
+use Rattle.plain_text.specs.Texts.{Text}
+
+-- a cause on a line of its own; its later lines stand under its first
+unfoldable pub cause_text : Text → Text
+cause_text cause = plain (codes "\n  - ") ++ indent (codes "    ") false cause
+
+unfoldable pub caused_by : Text
+caused_by = plain (codes "\n  caused by:")
+
+-- the causes, if there are any
+unfoldable pub causes_text : List Text → Text
+causes_text [] = []
+causes_text (cause ∷ causes) = caused_by ++ flat_map cause_text (cause ∷ causes)
+
+-- the message, and the causes below it
+unfoldable pub error_chain_text : MessageAndCauses → Text
+error_chain_text chain = chain.message ++ causes_text chain.causes
