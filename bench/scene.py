@@ -1,10 +1,11 @@
 #!/usr/bin/env python3
-"""bench/scene.py [--outputs] [--events] [--kept=ORDER] COUNT: writes a scene of so many finished tests to standard output, always the same one.
+"""bench/scene.py [--outputs] [--events] [--skips] [--kept=ORDER] COUNT: writes a scene of so many finished tests to standard output, always the same one.
 
 Nine in ten pass; names have the lengths of a large workspace's, and each line carries the whole statistics, as in a run.
 With --outputs each test has written some lines, coloured as cargo's are; a test that failed shows them at once.
 With --kept every test passes and the summary lists it; tests finish in the order of the summary (`ordered`), in the opposite
 one (`reversed`) or in none (`shuffled`).
+With --skips all tests are skipped, and the report says nothing of them.
 With --events the run is told as it goes: a setup script, each test's start, slow ones, attempts that are tried again, skipped
 tests, the state on request, what a test is doing, and a pause.
 """
@@ -73,6 +74,14 @@ def event_lines(count):
     yield f"end\t99000000000\tinitial={count} finished={count} passed={count}\t0\t-"
 
 
+def skip_lines(count):
+    yield "config\tfinal\tfail"
+    yield f"run\t{RUN_ID}\tdefault\t{count}\t{len(BINARIES)}\t-"
+    for i in range(count):
+        yield f"skip\t-\t{BINARIES[i % len(BINARIES)]}\t{MODULES[i % len(MODULES)]}::case_{i:07}_of_the_table"
+    yield f"end\t99000000000\tinitial={count} skipped={count}\t0\t-"
+
+
 def lines(count, has_outputs):
     yield "config\tfinal\tfail"
     yield f"run\t{RUN_ID}\tdefault\t{count}\t{len(BINARIES)}\t-"
@@ -101,6 +110,8 @@ if __name__ == "__main__":
         scene = kept_lines(count, orders[0])
     elif "--events" in sys.argv:
         scene = event_lines(count)
+    elif "--skips" in sys.argv:
+        scene = skip_lines(count)
     else:
         scene = lines(count, "--outputs" in sys.argv)
     sys.stdout.write("\n".join(scene) + "\n")

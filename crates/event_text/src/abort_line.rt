@@ -15,6 +15,7 @@ use run_model::status::{ExecutionResultDescription, FailureDescription};
 
 /// Writes what is said of an abort after the line of its test. A signal is told by the line itself.
 #[tactic(auto, unfolding(crate::specs::AbortLine::abort_line))]
+#[inline(always)]
 pub fn write_abort_line<W: WriteStr>(
     w: &mut W,
     styles: &Styles,

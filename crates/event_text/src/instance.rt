@@ -8,7 +8,7 @@ ghost use Rattle.event_text.specs.Instance.{instance_end, padded_instance, untim
 use crate::settings::Settings;
 use plain_text::style::{Styles, write_plain};
 use plain_text::write_str::{WriteFault, WriteStr};
-use report_text::helpers::{DisplayCounterIndex, DisplayTestInstance};
+use report_text::helpers::{DisplayCounterIndex, write_test_instance};
 use run_model::name::TestInstanceId;
 use run_model::stress::StressIndex;
 
@@ -41,6 +41,7 @@ impl Settings {
 }
 
 /// Writes a test as its lines name it.
+#[inline(always)]
 pub fn write_instance<W: WriteStr>(
     w: &mut W,
     styles: &Styles,
@@ -48,13 +49,13 @@ pub fn write_instance<W: WriteStr>(
 ) -> Result<(), WriteFault>
     ensures { Puts W.meaning w.old (instance_text styles.now.list_styles test.entry.stress_index test.entry.counter test.entry.instance) result w.new }
 {
-    DisplayTestInstance::new(
-        test.stress_index,
-        test.counter,
-        test.instance,
+    write_test_instance(
+        w,
         &styles.list_styles,
+        test.stress_index,
+        &test.counter,
+        test.instance,
     )
-    .write_to(w)
 }
 
 /// Writes the end of a test's line: the test and a line feed.

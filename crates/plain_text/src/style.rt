@@ -91,12 +91,21 @@ impl Style {
 
     /// Writes a text in this style.
     #[tactic(auto, unfolding(crate::specs::Style::styled))]
+    #[inline(always)]
     pub fn write<W: WriteStr>(self, w: &mut W, text: &str) -> Result<(), WriteFault>
         ensures { Puts W.meaning w.old (styled self text.now) result w.new }
     {
         if self == Style::Plain {
             return w.write_str(text);
         }
+        self.write_coloured(w, text)
+    }
+
+    // The same of any style. A plain one has less to write.
+    #[tactic(auto, unfolding(crate::specs::Style::styled))]
+    fn write_coloured<W: WriteStr>(self, w: &mut W, text: &str) -> Result<(), WriteFault>
+        ensures { Puts W.meaning w.old (styled self text.now) result w.new }
+    {
         w.write_str(self.prefix())?;
         w.write_str(text)?;
         w.write_str(self.suffix())
@@ -108,6 +117,9 @@ impl Style {
         ensures { Puts W.meaning w.old (styled self (decimal number)) result w.new }
     {
         let mut buffer = Buffer::new();
+        if self == Style::Plain {
+            return w.write_str(buffer.format(number));
+        }
         w.write_str(self.prefix())?;
         w.write_str(buffer.format(number))?;
         w.write_str(self.suffix())
@@ -172,6 +184,9 @@ impl Style {
     ) -> Result<(), WriteFault>
         ensures { Puts W.meaning w.old (styled self (right_in columns (first.now ++ (second.now ++ (third.now ++ fourth.now))))) result w.new }
     {
+        if self == Style::Plain {
+            return write_right_joined(w, columns, first, second, third, fourth);
+        }
         w.write_str(self.prefix())?;
         write_right_joined(w, columns, first, second, third, fourth)?;
         w.write_str(self.suffix())

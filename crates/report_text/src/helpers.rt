@@ -20,7 +20,8 @@ pub use durations::{
 };
 pub use failure::{ExitDescription, display_abort_status, display_exited_with, write_nt_status};
 pub use instance::{
-    DisplayCounterIndex, DisplayStressIndex, DisplayTestInstance, DisplayTestName, write_test_name,
+    DisplayCounterIndex, DisplayStressIndex, DisplayTestInstance, DisplayTestName,
+    write_test_instance, write_test_name,
 };
 pub use interceptor::format_interceptor_too_many_tests;
 pub use paths::{

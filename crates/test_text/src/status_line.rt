@@ -1,10 +1,12 @@
 //! The line of a finished test, as it is shown at once and in the summary.
 
-ghost use Rattle.std.specs.Prelude.{◌≡◌, IfOk, IsOk, false};
+ghost use Rattle.std.specs.Prelude.{◌≡◌, ◌++◌, IfOk, IsOk, codes, false};
+ghost use Rattle.std.specs.Bool.{OnTrue};
 ghost use Rattle.run_model.specs.Statuses.{described_summary, is_aborted};
 ghost use Rattle.plain_text.specs.Writer.{Puts};
-ghost use Rattle.plain_text.specs.Style.{styled};
+ghost use Rattle.plain_text.specs.Style.{plain, styled};
 ghost use Rattle.plain_text.specs.Texts.{right_in};
+ghost use Rattle.event_text.specs.ResultWords.{long_failure_word, long_word};
 ghost use Rattle.test_text.specs.StatusLine.{is_final_line, shown_summary, flaky_style, flaky_words, failure_words, success_text, is_flaky_failure, status_prefix, flaky_note, flaky_failure_line, status_line};
 
 use event_text::abort_line::write_abort_line;
@@ -13,13 +15,13 @@ use event_text::result_words::{
     is_plain_success, spaced_short_status_str, status_str, success_str,
 };
 use itoa::Buffer;
-use plain_text::style::{Styles, write_plain};
+use plain_text::style::{Style, Styles, write_plain};
 use plain_text::write_str::{WriteFault, WriteStr};
 use run_model::memory::OutOfMemory;
 use run_model::output::OutputSpec;
 use run_model::status::{
-    ExecutionDescription, ExecutionResultDescription, FlakyResult, RetryData, StatusCase,
-    StatusSummary,
+    ExecutionDescription, ExecutionResultDescription, FailureDescription, FlakyResult, RetryData,
+    StatusCase, StatusSummary,
 };
 use run_model::time::Nanos;
 use std::alloc::Global;
@@ -105,7 +107,7 @@ impl<'b> StatusLine<'b> {
 }
 
 /// Writes the line of a finished test.
-#[tactic(auto, unfolding(crate::specs::StatusLine::status_line))]
+#[inline(always)]
 pub fn write_status_line<W: WriteStr>(
     w: &mut W,
     styles: &Styles,
@@ -115,9 +117,23 @@ pub fn write_status_line<W: WriteStr>(
 ) -> Result<(), WriteFault>
     ensures { Puts W.meaning w.old (status_line styles.now kind test.entry (shown_summary line.entry)) result w.new }
 {
+    write_line(w, styles, kind, &test, &line)
+}
+
+// The same, of what it lends.
+#[tactic(auto, unfolding(crate::specs::StatusLine::status_line))]
+fn write_line<W: WriteStr>(
+    w: &mut W,
+    styles: &Styles,
+    kind: StatusLineKind,
+    test: &CountedInstance<'_>,
+    line: &StatusLine<'_>,
+) -> Result<(), WriteFault>
+    ensures { Puts W.meaning w.old (status_line styles.now kind test.now (shown_summary line.now)) result w.new }
+{
     write_status_prefix(w, styles, kind, line)?;
     DisplayBracketedDuration(line.time_taken).write_to(w)?;
-    write_instance(w, styles, test)?;
+    write_instance(w, styles, *test)?;
     write_plain(w, "\n")?;
     write_abort_line(w, styles, line.result)?;
     write_flaky_failure_line(w, styles, kind, line.case)
@@ -129,47 +145,66 @@ fn write_status_prefix<W: WriteStr>(
     w: &mut W,
     styles: &Styles,
     kind: StatusLineKind,
-    line: StatusLine<'_>,
+    line: &StatusLine<'_>,
 ) -> Result<(), WriteFault>
-    ensures { Puts W.meaning w.old (status_prefix styles.now kind (shown_summary line.entry)) result w.new }
+    ensures { Puts W.meaning w.old (status_prefix styles.now kind (shown_summary line.now)) result w.new }
 {
     match line.case {
         StatusCase::Success => {
-            write_success_word(w, styles, kind.is_final_line() && line.is_slow, line.result)?;
-            write_plain(w, " ")
+            write_success_word(w, styles, kind.is_final_line() && line.is_slow, line.result)
         }
         StatusCase::Flaky { result } => {
             write_flaky_word(w, styles, kind, result, line.retry_data)?;
             write_plain(w, " ")
         }
         StatusCase::Failure => {
-            write_failure_word(w, styles, line.retry_data.attempt, line.result)?;
-            write_plain(w, " ")
+            write_failure_word(w, styles, line.retry_data.attempt, line.result)
         }
     }
 }
 
-// Writes the word of a success, right in twelve columns.
+// Writes the word of a success, right in twelve columns, and a space.
 fn write_success_word<W: WriteStr>(
     w: &mut W,
     styles: &Styles,
     is_slow: bool,
     outcome: &ExecutionResultDescription,
 ) -> Result<(), WriteFault>
-    ensures { Puts W.meaning w.old (success_text styles.now is_slow outcome.now) result w.new }
+    ensures { Puts W.meaning w.old (success_text styles.now is_slow outcome.now ++ plain (codes " ")) result w.new }
 {
     match outcome {
         // Most tests pass: their word is there in its columns.
-        ExecutionResultDescription::Pass if !is_slow => styles.pass.write(w, "        PASS"),
+        ExecutionResultDescription::Pass if !is_slow => {
+            write_word(w, styles.pass, "        PASS", "        PASS ")
+        }
         _ => {
             let word = success_str(is_slow, outcome);
             if is_plain_success(is_slow, outcome) {
-                styles.pass.write_right(w, 12, word)
+                styles.pass.write_right(w, 12, word)?;
             } else {
-                styles.skip.write_right(w, 12, word)
+                styles.skip.write_right(w, 12, word)?;
             }
+            write_plain(w, " ")
         }
     }
+}
+
+// Writes a word that stands in its columns, and a space. Without colour they are one text.
+#[tactic(auto, unfolding(plain_text::specs::Style::styled, plain_text::specs::Style::plain))]
+fn write_word<W: WriteStr>(
+    w: &mut W,
+    style: Style,
+    word: &str,
+    spaced_word: &str,
+) -> Result<(), WriteFault>
+    requires { spaced_word.now ≡ word.now ++ codes " " }
+    ensures { Puts W.meaning w.old (styled style word.now ++ plain (codes " ")) result w.new }
+{
+    if style == Style::Plain {
+        return w.write_str(spaced_word);
+    }
+    style.write(w, word)?;
+    write_plain(w, " ")
 }
 
 // Writes the words of a success after earlier attempts, right in twelve columns.
@@ -204,8 +239,50 @@ fn write_flaky_word<W: WriteStr>(
     }
 }
 
-// Writes the words of a failure, right in twelve columns.
+// Writes the words of a failure, right in twelve columns, and a space.
 fn write_failure_word<W: WriteStr>(
+    w: &mut W,
+    styles: &Styles,
+    attempt: u32,
+    failed: &ExecutionResultDescription,
+) -> Result<(), WriteFault>
+    ensures { Puts W.meaning w.old (styled styles.now.fail (right_in 12 (failure_words attempt failed.now)) ++ plain (codes " ")) result w.new }
+{
+    if is_plain_failure(attempt, failed) {
+        return write_word(w, styles.fail, "        FAIL", "        FAIL ");
+    }
+    write_other_failure(w, styles, attempt, failed)?;
+    write_plain(w, " ")
+}
+
+// Whether this is said of a failure, as it is of most: their word is there in its columns.
+fn is_plain_failure(attempt: u32, failed: &ExecutionResultDescription) -> bool
+    ensures { OnTrue result (failure_words attempt failed.now ≡ codes "FAIL") }
+{
+    attempt == 1 && is_plain_fail(failed)
+}
+
+#[tactic(auto, unfolding(event_text::specs::ResultWords::long_word))]
+fn is_plain_fail(failed: &ExecutionResultDescription) -> bool
+    ensures { OnTrue result (long_word failed.now ≡ codes "FAIL") }
+{
+    match failed {
+        ExecutionResultDescription::Fail { failure, leaked } => is_plain_exit(failure, *leaked),
+        _ => false,
+    }
+}
+
+fn is_plain_exit(failure: &FailureDescription, leaked: bool) -> bool
+    ensures { OnTrue result (long_failure_word failure.now leaked ≡ codes "FAIL") }
+{
+    match failure {
+        FailureDescription::ExitCode { .. } => !leaked,
+        FailureDescription::Abort { .. } => false,
+    }
+}
+
+// Writes the words of any failure, right in twelve columns.
+fn write_other_failure<W: WriteStr>(
     w: &mut W,
     styles: &Styles,
     attempt: u32,
@@ -227,6 +304,7 @@ fn write_failure_word<W: WriteStr>(
 
 // Writes that a success counts as a failure, where it does and the line is shown at once.
 #[tactic(auto, unfolding(crate::specs::StatusLine::flaky_failure_line))]
+#[inline(always)]
 fn write_flaky_failure_line<W: WriteStr>(
     w: &mut W,
     styles: &Styles,
@@ -258,6 +336,7 @@ fn write_flaky_note<W: WriteStr>(w: &mut W, styles: &Styles) -> Result<(), Write
 }
 
 // Whether a success counts as a failure since it came after earlier attempts.
+#[inline(always)]
 fn is_flaky_failure(case: StatusCase) -> bool
     ensures { result ≡ is_flaky_failure case }
 {

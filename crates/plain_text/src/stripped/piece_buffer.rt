@@ -6,7 +6,7 @@ use std::marker::Model;
 use std::str;
 
 // How many bytes of pieces are gathered.
-const CAPACITY: usize = 2048;
+const CAPACITY: usize = 1024;
 
 /// Pieces of a text that are gathered, joined.
 ///
@@ -25,7 +25,7 @@ impl Model for PieceBuffer {
 
     ghost view = { λ b. take b.len b.bytes };
 
-    ghost invariant = { λ b. (b.len ≤ 2048) × IsUtf8 (take b.len b.bytes) };
+    ghost invariant = { λ b. (b.len ≤ 1024) × IsUtf8 (take b.len b.bytes) };
 }
 
 impl PieceBuffer {
@@ -49,14 +49,14 @@ impl PieceBuffer {
 
     /// Whether a piece has room.
     pub(super) fn has_room(&self, piece: &str) -> bool
-        ensures { IsTrue result ↔ (length self.now + length piece.now ≤ 2048) }
+        ensures { IsTrue result ↔ (length self.now + length piece.now ≤ 1024) }
     {
         piece.len() <= CAPACITY - self.len
     }
 
     /// Gathers a piece.
     pub(super) fn push(&mut self, piece: &str)
-        requires { length self.old + length piece.now ≤ 2048 }
+        requires { length self.old + length piece.now ≤ 1024 }
         ensures { self.new ≡ self.old ++ piece.now }
     {
         let end = self.len + piece.len();

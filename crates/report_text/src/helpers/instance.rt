@@ -104,15 +104,40 @@ impl<'a> DisplayTestInstance<'a> {
     }
 
     // Writes all of it, however wide it is.
-    #[tactic(auto, unfolding(crate::specs::Instance::test_text))]
     fn write_whole<W: WriteStr>(&self, w: &mut W) -> Result<(), WriteFault>
         ensures { Puts W.meaning w.old (instance_text self.now.styles self.now.stress_index self.now.counter_index self.now.instance) result w.new }
     {
-        write_stress_prefix(w, self.styles.count, self.stress_index)?;
-        write_counter_prefix(w, self.counter_index)?;
-        write_id_prefix(w, self.styles.binary_id, self.instance.binary_id.as_str())?;
-        write_test_name(self.instance.test_name, &self.styles, w)
+        write_test_instance(
+            w,
+            &self.styles,
+            self.stress_index,
+            &self.counter_index,
+            self.instance,
+        )
     }
+}
+
+/// Writes all of a test, as [`DisplayTestInstance`] shows it.
+///
+/// ```
+/// let counter = Some(DisplayCounterIndex::new_counter(1, 2));
+/// write_test_instance(&mut out, &styles.list_styles, None, &counter, test.as_ref())?;
+/// assert_eq!(out.as_str(), "(1/2) alpha t1");
+/// ```
+#[tactic(auto, unfolding(crate::specs::Instance::test_text))]
+pub fn write_test_instance<W: WriteStr>(
+    w: &mut W,
+    styles: &ListStyles,
+    stress_index: Option<StressIndex>,
+    counter_index: &Option<DisplayCounterIndex>,
+    instance: TestInstanceId<'_>,
+) -> Result<(), WriteFault>
+    ensures { Puts W.meaning w.old (instance_text styles.now stress_index counter_index.now instance.entry) result w.new }
+{
+    write_stress_prefix(w, styles.count, stress_index)?;
+    write_counter_prefix(w, counter_index)?;
+    write_id_prefix(w, styles.binary_id, instance.binary_id.as_str())?;
+    write_test_name(instance.test_name, styles, w)
 }
 
 impl fmt::Display for DisplayTestInstance<'_> {
@@ -181,6 +206,7 @@ impl fmt::Display for DisplayStressIndex {
 
 /// Writes the iteration between brackets and a space, if there is one.
 #[tactic(auto, unfolding(crate::specs::Instance::stress_prefix))]
+#[inline(always)]
 pub fn write_stress_prefix<W: WriteStr>(
     w: &mut W,
     count_style: Style,
@@ -190,16 +216,26 @@ pub fn write_stress_prefix<W: WriteStr>(
 {
     match stress_index {
         None => Ok(()),
-        Some(stress_index) => {
-            write_parts(w, &[plain("[")])?;
-            DisplayStressIndex {
-                stress_index,
-                count_style,
-            }
-            .write_to(w)?;
-            write_parts(w, &[plain("] ")])
-        }
+        Some(stress_index) => write_iteration(w, count_style, stress_index),
     }
+}
+
+// Writes the iteration between brackets and a space.
+#[tactic(auto, unfolding(crate::specs::Instance::stress_prefix))]
+fn write_iteration<W: WriteStr>(
+    w: &mut W,
+    count_style: Style,
+    stress_index: StressIndex,
+) -> Result<(), WriteFault>
+    ensures { Puts W.meaning w.old (stress_prefix count_style (Some stress_index)) result w.new }
+{
+    write_parts(w, &[plain("[")])?;
+    DisplayStressIndex {
+        stress_index,
+        count_style,
+    }
+    .write_to(w)?;
+    write_parts(w, &[plain("] ")])
 }
 
 /// Writes a binary's id and a space.
@@ -299,19 +335,29 @@ impl fmt::Display for DisplayCounterIndex {
 
 /// Writes the counter and a space, if there is one.
 #[tactic(auto, unfolding(crate::specs::Instance::counter_prefix))]
+#[inline(always)]
 pub(super) fn write_counter_prefix<W: WriteStr>(
     w: &mut W,
-    counter_index: Option<DisplayCounterIndex>,
+    counter_index: &Option<DisplayCounterIndex>,
 ) -> Result<(), WriteFault>
-    ensures { Puts W.meaning w.old (counter_prefix counter_index) result w.new }
+    ensures { Puts W.meaning w.old (counter_prefix counter_index.now) result w.new }
 {
     match counter_index {
         None => Ok(()),
-        Some(counter_index) => {
-            counter_index.write_to(w)?;
-            write_parts(w, &[plain(" ")])
-        }
+        Some(counter_index) => write_counter(w, counter_index),
     }
+}
+
+// Writes the counter and a space.
+#[tactic(auto, unfolding(crate::specs::Instance::counter_prefix))]
+fn write_counter<W: WriteStr>(
+    w: &mut W,
+    counter_index: &DisplayCounterIndex,
+) -> Result<(), WriteFault>
+    ensures { Puts W.meaning w.old (counter_prefix (Some counter_index.now)) result w.new }
+{
+    counter_index.write_to(w)?;
+    write_parts(w, &[plain(" ")])
 }
 
 /// A test's name in these styles.

@@ -45,7 +45,7 @@ impl WriteText for CounterPart {
     ghost text = { λ p. counter_prefix p.counter_index };
 
     fn write_to<W: WriteStr>(&self, w: &mut W) -> Result<(), WriteFault> {
-        write_counter_prefix(w, self.counter_index)
+        write_counter_prefix(w, &self.counter_index)
     }
 }
 

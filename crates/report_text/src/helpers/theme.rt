@@ -50,7 +50,19 @@ impl ThemeCharacters {
     pub fn write_hbar<W: WriteStr>(&self, w: &mut W, width: usize) -> Result<(), WriteFault>
         ensures { Puts W.meaning w.old (hbar_text self.now.is_unicode width) result w.new }
     {
+        // The bars of headers have three characters.
+        if width == 3 {
+            return w.write_str(self.short_bar());
+        }
         write_repeated(w, width, self.hbar_char())
+    }
+
+    // A bar of three characters.
+    #[tactic(auto, unfolding(crate::specs::Theme::hbar_text))]
+    fn short_bar(&self) -> &'static str
+        ensures { result.now ≡ hbar_text self.now.is_unicode 3 }
+    {
+        if self.is_unicode { "───" } else { "---" }
     }
 
     /// The characters of a progress bar, from done to not begun: `█▉▊▋▌▍▎▏ ` or `=> `.

@@ -1,5 +1,5 @@
--- The word of a test that passed, in its columns (for `write_success_word`).
-use Rattle.std.proofs.Common.{◌≡◌, [], ◌∷◌, false, codes, lit<, refl}
+-- The words of most tests, in their columns (for `write_success_word`, `write_failure_word`).
+use Rattle.std.proofs.Common.{ℕ, ◌≡◌, ◌<◌, [], ◌∷◌, false, codes, lit<, refl}
 use Rattle.std.specs.Str.{chars}
 use Rattle.std.proofs.lemmas.Str.{chars-IsAscii}
 use Rattle.run_model.specs.declared.status.ExecutionResultDescription.TheVariants as outcome
@@ -7,9 +7,18 @@ use Rattle.plain_text.specs.Texts.{right_in}
 use Rattle.plain_text.proofs.lemmas.Decimals.{IsAscii-cons, IsAscii-none}
 use Rattle.event_text.specs.ResultWords.{success_word}
 
-pub pass_columns : right_in 12 (success_word false outcome.Pass) ≡ codes "        PASS"
-unfolding right_in success_word
-pass_columns =
-    let ascii = IsAscii-cons 80 (65 ∷ 83 ∷ 83 ∷ []) (lit< tt) (IsAscii-cons 65 (83 ∷ 83 ∷ []) (lit< tt) (IsAscii-cons 83 (83 ∷ []) (lit< tt) (IsAscii-cons 83 [] (lit< tt) IsAscii-none))) in
-    let bytes : chars (codes "PASS") ≡ codes "PASS" = chars-IsAscii (codes "PASS") ascii in
+-- four characters of ASCII in twelve columns
+four_columns : (a b c d : ℕ) → a < 128 → b < 128 → c < 128 → d < 128
+    → right_in 12 (a ∷ b ∷ c ∷ d ∷ []) ≡ 32 ∷ 32 ∷ 32 ∷ 32 ∷ 32 ∷ 32 ∷ 32 ∷ 32 ∷ a ∷ b ∷ c ∷ d ∷ []
+unfolding right_in
+four_columns a b c d p q r s =
+    let ascii = IsAscii-cons a (b ∷ c ∷ d ∷ []) p (IsAscii-cons b (c ∷ d ∷ []) q (IsAscii-cons c (d ∷ []) r (IsAscii-cons d [] s IsAscii-none))) in
+    let bytes : chars (a ∷ b ∷ c ∷ d ∷ []) ≡ a ∷ b ∷ c ∷ d ∷ [] = chars-IsAscii (a ∷ b ∷ c ∷ d ∷ []) ascii in
     rw bytes refl
+
+pub pass_columns : right_in 12 (success_word false outcome.Pass) ≡ codes "        PASS"
+unfolding success_word
+pass_columns = four_columns 80 65 83 83 (lit< tt) (lit< tt) (lit< tt) (lit< tt)
+
+pub fail_columns : right_in 12 (codes "FAIL") ≡ codes "        FAIL"
+fail_columns = four_columns 70 65 73 76 (lit< tt) (lit< tt) (lit< tt) (lit< tt)
