@@ -25,7 +25,7 @@ mod replay_lines;
 mod results;
 mod run_lines;
 mod script_lines;
-mod split;
+pub mod split;
 mod states;
 mod stress_lines;
 mod tabs;
@@ -164,9 +164,10 @@ fn fault_at(line: u64, error: LineError) -> ReadFault
 /// Reads one line, without the line feed that ends it, behind lines that tell this.
 ///
 /// ```
-/// let before = LinesBefore { config: SceneConfig::new(), is_begun: false };
-/// let said = read_line(alloc, b"config\tfinal\tall", before)?;
-/// assert!(matches!(said, LineSaid::Config(config) if config.final_status_level == FinalStatusLevel::All));
+/// use scene_text::scene::SceneConfig;
+/// let before = LinesBefore { config: SceneConfig::new(), is_begun: true };
+/// assert!(matches!(read_line(alloc, b"# no event", before), Ok(LineSaid::Nothing)));
+/// assert!(read_line(alloc, b"config\tfinal\tall", before).is_err()); // it comes too late
 /// ```
 pub fn read_line(alloc: Global, line: &[u8], before: LinesBefore) -> Result<LineSaid, LineError>
     ensures { IsSaid result (line_said before line.now) }

@@ -332,6 +332,26 @@ impl<'a, W: WriteStr, S: WriteStr> DisplayReporter<'a, W, S> {
         }
     }
 
+    /// Gives the writers back as they are: that of the report, and that of the store, if there is one.
+    ///
+    /// ```
+    /// reporter.write_event(&event)?;
+    /// let (writer, _) = reporter.into_writers();
+    /// writer.write_str("done\n")?;
+    /// ```
+    pub fn into_writers(self) -> (&'a mut W, Option<&'a mut S>)
+        ensures writer { result.0 ≡ self.entry.writer }
+        ensures store { result.1 ≡ option_map (λ s. s.writer) self.entry.store }
+    {
+        let DisplayReporter {
+            writer,
+            store,
+            state,
+        } = self;
+        drop(state);
+        (writer, store.map(|store| store.writer))
+    }
+
     // Makes the calls, and stops at the first fault.
     pub(super) fn make_calls(
         &mut self,
@@ -363,12 +383,21 @@ impl<'a, W: WriteStr, S: WriteStr> DisplayReporter<'a, W, S> {
         }
     }
 
-    // Makes one call. A prefix is copied.
-    fn make_call(&mut self, alloc: Global, call: &ReportCall<'_>) -> Result<(), WriteEventError>
+    /// Makes one call: it writes an event or the header of a replay and delivers it, or takes a prefix, which is copied. A call that is
+    /// refused changes nothing.
+    ///
+    /// ```
+    /// reporter.make_call(alloc, &ReportCall::Event(event))?;
+    /// drop(reporter);
+    /// assert_eq!(out.as_str(), "        PASS [   0.020s] (1/1) alpha t1\n");
+    /// ```
+    pub fn make_call(&mut self, alloc: Global, call: &ReportCall<'_>) -> Result<(), WriteEventError>
         ensures same { IsSameReporter self.old self.new }
         ensures ok { OnOk result (Tells W.meaning S.meaning self.old (Some call.now) self.new) }
+        ensures delivered { AreDelivered W.meaning S.meaning self.old → OnOk result (AreDelivered W.meaning S.meaning self.new) }
         ensures err { IfErr result (λ e. Breaks W.meaning S.meaning self.old (Some call.now) e self.new) }
         ensures refused { (config : Configuration) (past : List ReportCall) → StandsAfter config past self.old → answered_refusal result ≡ refusal config call.now }
+        ensures untouched { is_some (answered_refusal result) ≡ true → self.new ≡ self.old }
     {
         match call {
             ReportCall::Event(event) => self.write_event(event),

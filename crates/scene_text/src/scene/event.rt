@@ -74,7 +74,8 @@ pub enum SceneEvent {
 const _: () = prove!(size_of::<SceneEvent>() == 320);
 
 impl SceneEvent {
-    ghost use Rattle.scene_text.specs.Scenes.{AddsCallOf};
+    ghost use Rattle.std.specs.Prelude.{IfOk};
+    ghost use Rattle.scene_text.specs.Scenes.{AddsCallOf, IsCallOf};
 
     /// Pushes this event as a `ReportCall`, which is built in place: it is large.
     pub fn push_call<'a>(
@@ -110,6 +111,24 @@ impl SceneEvent {
             SceneEvent::InputEnter(request) => request.push_call(calls),
             SceneEvent::StressSubRunFinished(finish) => finish.push_call(calls),
             SceneEvent::RunFinished(finish) => finish.push_call(alloc, calls),
+        }
+    }
+
+    /// The call that this event is. It borrows the event's names.
+    ///
+    /// ```
+    /// use scene_text::scene::run_events::RunPause;
+    /// let paused = SceneEvent::RunPaused(RunPause { setup_scripts_running: 0, running: 2 });
+    /// assert!(matches!(paused.call(alloc)?, ReportCall::Event(_)));
+    /// ```
+    pub fn call(&self, alloc: Global) -> Result<ReportCall<'_>, OutOfMemory>
+        ensures { IfOk result (IsCallOf self.now) }
+    {
+        let mut calls = Vec::new(alloc);
+        self.push_call(alloc, &mut calls)?;
+        match calls.pop() {
+            Some(call) => Ok(call),
+            None => unreachable!(),
         }
     }
 }
