@@ -4,7 +4,7 @@
 //! status, and nothing stands on standard output unless the whole scene was accepted and PATH was made or emptied.
 #![tactic(auto)]
 
-use scenes::fault::Fault;
+use scenes::fault::{Fault, FaultLine, Program};
 use scenes::program::{judge_scene, read_whole, report_judged};
 use scenes::words::words;
 use std::fs::File;
@@ -37,7 +37,8 @@ fn command_line(rt: &HostRuntime) -> Result<Vec<String>, Fault<'static>> {
 
 // Prints the line of a fault, and answers the status to end with.
 fn tell(rt: &HostRuntime, fault: Fault<'_>) -> u8 {
-    let _ = rt.eprintln(fault);
+    let program = Program::Report;
+    let _ = rt.eprintln(FaultLine { program, fault });
     fault.status()
 }
 

@@ -3,7 +3,7 @@
 use console_reporter::imp::ReportCall;
 use run_model::event::TestEvent;
 use run_model::level::StatusLevel;
-use scenes::fault::{Fault, LineFault, ReadFault};
+use scenes::fault::{Fault, FaultLine, LineFault, Program, ReadFault};
 use scenes::program::{judge, report_scene, write_report};
 use scenes::words::{Options, StoreOptions, words};
 use std::alloc::Global;
@@ -112,7 +112,7 @@ fn stops_where_the_device_fails(rt: HostRuntime) -> Result<(), Fail> {
     let Err(fault) = write_report(alloc, &OPTIONS, &scene, &mut device, io::sink()) else {
         return Err(Fail::from("the device failed"));
     };
-    assert_eq!(rt; fault.to_string(alloc)?.as_str(), "report: write failed");
+    assert_eq!(rt; fault.to_string(alloc)?.as_str(), "write failed");
     assert_eq!(rt; fault.status(), 3);
     assert_eq!(rt; device.taken.as_slice(), b"----------".as_slice());
     Ok(())
@@ -153,8 +153,8 @@ fn tells_why_a_file_is_not_read(rt: HostRuntime) -> Result<(), Fail> {
     let alloc = rt.alloc();
     let text = END.as_bytes();
     let kinds = [
-        (ErrorKind::Other, "report: cannot read FILE", 2),
-        (ErrorKind::OutOfMemory, "report: out of memory", 3),
+        (ErrorKind::Other, "cannot read FILE", 2),
+        (ErrorKind::OutOfMemory, "out of memory", 3),
     ];
     for (kind, line, status) in kinds {
         for reads_before in 0..12 {
@@ -312,9 +312,21 @@ fn tells_each_fault(rt: HostRuntime) -> Result<(), Fail> {
         (Fault::OutOfMemory, 3, "report: out of memory"),
     ];
     for (fault, status, line) in faults {
-        assert_eq!(rt; fault.to_string(rt.alloc())?.as_str(), line);
+        let program = Program::Report;
+        assert_eq!(rt;
+            FaultLine { program, fault }.to_string(rt.alloc())?.as_str(),
+            line
+        );
         assert_eq!(rt; fault.status(), status);
     }
+    let follow = FaultLine {
+        program: Program::Follow,
+        fault: Fault::Usage,
+    };
+    assert_eq!(rt;
+        follow.to_string(rt.alloc())?.as_str(),
+        "follow: usage: follow [--color] [--counter] [--replay] [--unload] [--level L] [--store PATH] [--store-success] [--store-failure] [FILE]"
+    );
     Ok(())
 }
 
@@ -338,11 +350,7 @@ fn tells_what_is_wrong_with_a_line(rt: HostRuntime) -> Result<(), Fail> {
     for (fault, line) in faults {
         let read = ReadFault::Line { line: 3, fault };
         assert_eq!(rt; read.to_string(rt.alloc())?.as_str(), line);
-        let told = format!(in rt.alloc(); "report: {read}")?;
-        assert_eq!(rt;
-            Fault::from(read).to_string(rt.alloc())?.as_str(),
-            told.as_str()
-        );
+        assert_eq!(rt; Fault::from(read).to_string(rt.alloc())?.as_str(), line);
     }
     assert_eq!(rt;
         ReadFault::OutOfMemory.to_string(rt.alloc())?.as_str(),

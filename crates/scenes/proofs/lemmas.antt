@@ -1,5 +1,10 @@
 pub mod Devices
+pub mod Followed
+pub mod FollowedDevices
+pub mod Heads
+pub mod NoConfig
 pub mod Options
+pub mod ReadLines
 pub mod Refusals
 pub mod Reports
 pub mod SpelledRuns

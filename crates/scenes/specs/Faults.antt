@@ -7,16 +7,36 @@ use Rattle.scene_text.specs.declared.fault.ReadFault.{ReadFault}
 use Rattle.scene_text.specs.declared.fault.ReadFault.TheVariants as read
 use Rattle.scenes.specs.declared.fault.Fault.{Fault}
 use Rattle.scenes.specs.declared.fault.Fault.TheVariants as fault
+use Rattle.scenes.specs.declared.fault.FaultLine.{FaultLine}
+use Rattle.scenes.specs.declared.fault.Program.{Program}
+use Rattle.scenes.specs.declared.fault.Program.TheVariants as program
+
+-- what is said of a fault
+abbrev pub fault_text : Fault → List ℕ
+fault_text fault.Usage = codes "the command line is wrong"
+fault_text (fault.CannotRead file) = codes "cannot read " ++ file.now
+fault_text (fault.CannotWrite file) = codes "cannot write " ++ file.now
+fault_text (fault.Line n f) = codes "line " ++ (decimal n ++ (codes ": " ++ line_fault_text f))
+fault_text fault.WriteFailed = codes "write failed"
+fault_text fault.StoreFailed = codes "store write failed"
+fault_text fault.OutOfMemory = codes "out of memory"
+
+abbrev pub program_name : Program → List ℕ
+program_name program.Report = codes "report"
+program_name program.Follow = codes "follow"
+
+-- the words that a program takes
+abbrev pub usage_of : Program → List ℕ
+usage_of program.Report = codes "usage: report [--color] [--counter] [--replay] [--unload] [--level L] [--store PATH] [--store-success] [--store-failure] FILE"
+usage_of program.Follow = codes "usage: follow [--color] [--counter] [--replay] [--unload] [--level L] [--store PATH] [--store-success] [--store-failure] [FILE]"
+
+abbrev pub said_by : Program → Fault → List ℕ
+said_by by fault.Usage = usage_of by
+said_by by other = fault_text other
 
 -- the line on standard error
-abbrev pub fault_text : Fault → List ℕ
-fault_text fault.Usage = codes "report: usage: report [--color] [--counter] [--replay] [--unload] [--level L] [--store PATH] [--store-success] [--store-failure] FILE"
-fault_text (fault.CannotRead file) = codes "report: cannot read " ++ file.now
-fault_text (fault.CannotWrite file) = codes "report: cannot write " ++ file.now
-fault_text (fault.Line n f) = codes "report: line " ++ (decimal n ++ (codes ": " ++ line_fault_text f))
-fault_text fault.WriteFailed = codes "report: write failed"
-fault_text fault.StoreFailed = codes "report: store write failed"
-fault_text fault.OutOfMemory = codes "report: out of memory"
+abbrev pub fault_line : FaultLine → List ℕ
+fault_line it = program_name it.program ++ (codes ": " ++ said_by it.program it.fault)
 
 -- 2 where nothing was printed, 3 where a beginning of the report was
 abbrev pub status_of : Fault → ℕ

@@ -21,7 +21,7 @@ use Rattle.scenes.specs.declared.words.Options.{Options}
 pub record IsSceneAccepted (options : Options) (scene : Scene) : Type 0 where
   pub calls : List ReportCall
   pub of_scene : AreCallsOf scene calls
-  pub accepted : first_refused (decider_for options scene) calls ≡ None
+  pub accepted : first_refused (decider_for options scene.config) calls ≡ None
 
 -- a scene that was judged: by what options, and the calls that its reporter gets
 pub record Judged : Type 0 where
@@ -32,7 +32,7 @@ pub record Judged : Type 0 where
 -- the calls are the scene's, and none is refused
 pub record IsJudgedScene (judged : Judged) : Type 0 where
   pub ready : AreReadyCallsOf judged.options judged.scene judged.calls
-  pub accepted : first_refused (decider_for judged.options judged.scene) judged.calls ≡ None
+  pub accepted : first_refused (decider_for judged.options judged.scene.config) judged.calls ≡ None
 
 -- what the line of a call says that is refused so
 abbrev pub line_fault_for : WriteEventError → Option LineFault
@@ -51,9 +51,9 @@ fault_of_refusal _ = line.OutputNotLoaded
 -- the line is that of the first call that is refused, and it says why
 pub record IsRefusedLine (options : Options) (scene : Scene) (calls : List ReportCall) (n : ℕ) (f : LineFault) : Type 0 where
   pub place : ℕ
-  pub refused : first_refused (decider_for options scene) calls ≡ Some place
+  pub refused : first_refused (decider_for options scene.config) calls ≡ Some place
   pub number : n ≡ get_or scene.lines.items place 0
-  pub says : option_and_then line_fault_for (refusal_at_by (decider_for options scene) calls place) ≡ Some f
+  pub says : option_and_then line_fault_for (refusal_at_by (decider_for options scene.config) calls place) ≡ Some f
 
 -- the same of the scene's calls
 pub record IsRefusedThere (options : Options) (scene : Scene) (n : ℕ) (f : LineFault) : Type 0 where

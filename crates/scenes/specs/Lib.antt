@@ -1,4 +1,5 @@
 pub mod Faults
+pub mod Follow
 pub mod Judged
 pub mod Reports
 pub mod SpelledRuns

@@ -41,17 +41,17 @@ abbrev pub kind_for : Options → DisplayerKind
 kind_for options = if options.is_replay then displayer.Replay else displayer.Live
 
 -- what a scene's reporter is built from; the default filter is the default profile's own
-abbrev pub builder_for : Options → Scene → DisplayReporterBuilder
-builder_for options scene = record {
-  mode = scene.config.mode;
+abbrev pub builder_for : Options → SceneConfig → DisplayReporterBuilder
+builder_for options config = record {
+  mode = config.mode;
   default_filter = default_config_filter;
-  display_config = overridden (progress_for options) scene.config.no_capture options.status_level scene.config.final_status_level;
-  run_count = scene.config.run_count;
-  success_output = scene.config.success_output;
-  failure_output = scene.config.failure_output;
+  display_config = overridden (progress_for options) config.no_capture options.status_level config.final_status_level;
+  run_count = config.run_count;
+  success_output = config.success_output;
+  failure_output = config.failure_output;
   should_colorize = options.should_colorize;
-  verbose = scene.config.verbose;
-  no_output_indent = scene.config.no_output_indent;
+  verbose = config.verbose;
+  no_output_indent = config.no_output_indent;
   displayer_kind = kind_for options;
 }
 
@@ -64,12 +64,12 @@ abbrev pub surroundings_of : SceneConfig → Surroundings
 surroundings_of config = record { use_unicode = config.use_unicode; is_terminal = false; is_ci = false; display_empty_outputs = config.display_empty_outputs }
 
 -- the configuration of its reporter
-abbrev pub configuration_for : Options → Scene → Configuration
-configuration_for options scene = configured_in (builder_for options scene) (surroundings_of scene.config) (store_for options)
+abbrev pub configuration_for : Options → SceneConfig → Configuration
+configuration_for options config = configured_in (builder_for options config) (surroundings_of config) (store_for options)
 
--- the report of a scene whose calls are these
-abbrev pub report_of : Options → Scene → List ReportCall → Text
-report_of options scene calls = report (configuration_for options scene) (reverse calls)
+-- the report of a scene that is configured so and whose calls are these
+abbrev pub report_of : Options → SceneConfig → List ReportCall → Text
+report_of options config calls = report (configuration_for options config) (reverse calls)
 
 -- what is stored of them: nothing where there is no store
 abbrev pub stored_of : Options → List ReportCall → Text

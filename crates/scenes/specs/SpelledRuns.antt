@@ -1,47 +1,56 @@
 -- From a scene that was judged, and from its text, to the bytes of its report and to those that are stored.
 use Rattle.std.specs.Prelude.{◌≡◌, ℕ, List, Option, None, Ok, Err}
 use Rattle.std.specs.Io.KnownBytes.{Appends}
+use Rattle.std.specs.List.{AllZip}
 use Rattle.reporter_state.specs.Refusals.{first_refused}
 use Rattle.run_model.specs.declared.call.ReportCall.{ReportCall}
 use Rattle.scenes.specs.Faults.{IsJudgeFault}
 use Rattle.scenes.specs.Judged.{IsJudged}
-use Rattle.scenes.specs.Reports.{AreCallsOf, Begins, IsStop, report_of, stored_of}
+use Rattle.scenes.specs.Reports.{Begins, IsStop, report_of, stored_of}
 use Rattle.scenes.specs.ToldScenes.{scene_told}
-use Rattle.scene_text.specs.SceneTexts.{text_told}
+use Rattle.scene_text.specs.SceneTexts.{Told, text_told}
+use Rattle.scene_text.specs.Scenes.{IsCallOf}
 use Rattle.scenes.specs.Unloads.{decider_for}
 use Rattle.scenes.specs.declared.fault.Fault.{Fault}
 use Rattle.scenes.specs.declared.scene.Scene.{Scene}
 use Rattle.scenes.specs.declared.words.Options.{Options}
 
--- The scene's calls are all accepted; the first device's bytes grew by their report, and the second's by what is stored of them,
--- which is nothing without a store.
-pub record PrintsReport (options : Options) (scene : Scene) (old new store_old store_new : Option (List ℕ)) : Type 0 where
+-- The calls of what lines tell are all accepted; the first device's bytes grew by their report, and the second's by what is stored of
+-- them, which is nothing without a store.
+pub record PrintsTold (options : Options) (run : Told) (old new store_old store_new : Option (List ℕ)) : Type 0 where
   pub calls : List ReportCall
-  pub of_scene : AreCallsOf scene calls
-  pub accepted : first_refused (decider_for options scene) calls ≡ None
-  pub printed : Appends old new (report_of options scene calls)
+  pub of_run : AllZip IsCallOf run.events calls
+  pub accepted : first_refused (decider_for options run.config) calls ≡ None
+  pub printed : Appends old new (report_of options run.config calls)
   pub kept : Appends store_old store_new (stored_of options calls)
 
--- The scene's calls are all accepted; this fault stopped their report, and each device holds a beginning of its text.
-pub record BeginsReport (options : Options) (scene : Scene) (fault : Fault) (old new store_old store_new : Option (List ℕ)) : Type 0 where
+-- Those calls are all accepted; this fault stopped their report, and each device holds a beginning of its text.
+pub record BeginsTold (options : Options) (run : Told) (fault : Fault) (old new store_old store_new : Option (List ℕ)) : Type 0 where
   pub calls : List ReportCall
-  pub of_scene : AreCallsOf scene calls
-  pub accepted : first_refused (decider_for options scene) calls ≡ None
+  pub of_run : AllZip IsCallOf run.events calls
+  pub accepted : first_refused (decider_for options run.config) calls ≡ None
   pub stopped : IsStop options fault
-  pub begun : Begins old new (report_of options scene calls)
+  pub begun : Begins old new (report_of options run.config calls)
   pub kept : Begins store_old store_new (stored_of options calls)
+
+-- the same of a scene
+abbrev pub PrintsReport : Options → Scene → (old new store_old store_new : Option (List ℕ)) → Type 0
+PrintsReport options scene = PrintsTold options (scene_told scene)
+
+abbrev pub BeginsReport : Options → Scene → Fault → (old new store_old store_new : Option (List ℕ)) → Type 0
+BeginsReport options scene = BeginsTold options (scene_told scene)
 
 -- the bytes grew by the report of the run that the text spells, and by what is stored of it
 pub record PrintsRun (options : Options) (text : List ℕ) (old new store_old store_new : Option (List ℕ)) : Type 0 where
-  pub scene : Scene
-  pub spelled : text_told text ≡ Ok (scene_told scene)
-  pub printed : PrintsReport options scene old new store_old store_new
+  pub run : Told
+  pub spelled : text_told text ≡ Ok run
+  pub printed : PrintsTold options run old new store_old store_new
 
 -- the report of the run that the text spells stopped by this fault, and each device holds a beginning
 pub record BeginsRun (options : Options) (text : List ℕ) (fault : Fault) (old new store_old store_new : Option (List ℕ)) : Type 0 where
-  pub scene : Scene
-  pub spelled : text_told text ≡ Ok (scene_told scene)
-  pub begun : BeginsReport options scene fault old new store_old store_new
+  pub run : Told
+  pub spelled : text_told text ≡ Ok run
+  pub begun : BeginsTold options run fault old new store_old store_new
 
 -- the fault is the text's own, or that it was not read whole, and nothing was written
 pub record IsRejected {W S : Type 0} (options : Options) (text : List ℕ) (fault : Fault) (old new : W) (store_old store_new : S) : Type 0 where

@@ -6,21 +6,22 @@ use Rattle.console_reporter.specs.Isolation.{IsIsolated}
 use Rattle.reporter_state.specs.Unread.{unread}
 use Rattle.run_model.specs.declared.call.ReportCall.{ReportCall}
 use Rattle.reporter_state.specs.declared.decider.OutputLoadDecider.{OutputLoadDecider}
+use Rattle.scene_text.specs.declared.scene.SceneConfig.{SceneConfig}
 use Rattle.scenes.specs.Reports.{AreCallsOf, configuration_for}
 use Rattle.scenes.specs.declared.scene.Scene.{Scene}
 use Rattle.scenes.specs.declared.words.Options.{Options}
 
 -- what the scene's reporter decides by
-abbrev pub decider_for : Options → Scene → OutputLoadDecider
-decider_for options scene = decider_of (configuration_for options scene)
+abbrev pub decider_for : Options → SceneConfig → OutputLoadDecider
+decider_for options config = decider_of (configuration_for options config)
 
 -- the calls of the scene, or the same with the output left unread that the decider skips
 abbrev pub unloaded_for : Options → Scene → List ReportCall → List ReportCall
-unloaded_for options scene made = if options.unload_skipped then unread (decider_for options scene) made else made
+unloaded_for options scene made = if options.unload_skipped then unread (decider_for options scene.config) made else made
 
 -- the calls are those, and so they have the report of the scene's calls, and the first that is refused is the same
 pub record AreReadyCallsOf (options : Options) (scene : Scene) (calls : List ReportCall) : Type 0 where
   pub made : List ReportCall
   pub of_scene : AreCallsOf scene made
   pub ready : calls ≡ unloaded_for options scene made
-  pub isolated : IsIsolated (decider_for options scene) made calls
+  pub isolated : IsIsolated (decider_for options scene.config) made calls

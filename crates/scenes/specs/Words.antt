@@ -1,5 +1,5 @@
 -- What the words of a command line ask for.
-use Rattle.std.specs.Prelude.{ℕ, List, [], ◌∷◌, map, Bool, true, false, not, ◌&&◌, ◌||◌, if◌then◌else◌, Option, None, Some, is_some, unwrap_or, String, string_bytes, codes, bytes_eq}
+use Rattle.std.specs.Prelude.{ℕ, List, [], ◌∷◌, ◌++◌, map, Bool, true, false, not, ◌&&◌, ◌||◌, if◌then◌else◌, Option, None, Some, is_some, unwrap_or, String, string_bytes, codes, bytes_eq}
 use Rattle.std.specs.Option.{option_map, option_and_then}
 use Rattle.std.specs.declared.alloc.Global.{Global}
 use Rattle.run_model.specs.declared.level.StatusLevel.{StatusLevel}
@@ -137,6 +137,14 @@ options_after options (option ∷ word ∷ rest) =
 -- what these words ask for, if they are used rightly
 abbrev pub options_of : List Text → Option Asked
 options_of words = options_after nothing_said words
+
+-- the same where standard input is the file `-`, and is read if no file is named
+abbrev pub or_else : Option Asked → Option Asked → Option Asked
+or_else None other = other
+or_else (Some asked) other = Some asked
+
+abbrev pub options_or_input : List Text → Option Asked
+options_or_input words = or_else (options_of (words ++ codes "-" ∷ [])) (options_of words)
 
 -- the records that the program took them to ask for
 abbrev pub store_asked_for : StoreOptions → AskedStore

@@ -2,7 +2,7 @@
 
 ghost use Rattle.std.specs.Prelude.{◌≡◌, Some};
 ghost use Rattle.scenes.specs.declared.fault.Fault.TheVariants.{OutOfMemory};
-ghost use Rattle.scenes.specs.Faults.{fault_by_kind, fault_of_read, fault_text, status_of};
+ghost use Rattle.scenes.specs.Faults.{fault_by_kind, fault_line, fault_of_read, fault_text, program_name, status_of, usage_of};
 
 use run_model::memory::OutOfMemory;
 pub use scene_text::fault::{LineFault, ReadFault};
@@ -11,12 +11,12 @@ use std::fmt;
 use std::fmt::Formatter;
 use std::io::ErrorKind;
 
-/// What can go wrong. It is shown as the line that the program prints on standard error.
+/// What can go wrong, as it is said behind a program's name.
 ///
 /// ```
 /// use scene_text::fault::LineFault;
 /// let fault = Fault::Line { line: 2, fault: LineFault::UnknownEvent };
-/// assert_eq!(fault.to_string(alloc)?.as_str(), "report: line 2: unknown event");
+/// assert_eq!(fault.to_string(alloc)?.as_str(), "line 2: unknown event");
 /// ```
 #[derive(Clone, Copy, Debug)]
 pub enum Fault<'a> {
@@ -79,20 +79,79 @@ impl fmt::Display for Fault<'_> {
 
     fn fmt<W: fmt::Write>(&self, f: &mut Formatter<W>) -> fmt::Result {
         match self {
-            Fault::Usage => f.write_str(
-                "report: usage: report [--color] [--counter] [--replay] [--unload] [--level L] [--store PATH] [--store-success] [--store-failure] FILE",
-            ),
-            Fault::CannotRead { file } => write!(f, "report: cannot read {file}"),
-            Fault::CannotWrite { file } => write!(f, "report: cannot write {file}"),
-            Fault::Line { line, fault } => write!(f, "report: line {line}: {fault}"),
-            Fault::WriteFailed => f.write_str("report: write failed"),
-            Fault::StoreFailed => f.write_str("report: store write failed"),
-            Fault::OutOfMemory => f.write_str("report: out of memory"),
+            Fault::Usage => f.write_str("the command line is wrong"),
+            Fault::CannotRead { file } => write!(f, "cannot read {file}"),
+            Fault::CannotWrite { file } => write!(f, "cannot write {file}"),
+            Fault::Line { line, fault } => write!(f, "line {line}: {fault}"),
+            Fault::WriteFailed => f.write_str("write failed"),
+            Fault::StoreFailed => f.write_str("store write failed"),
+            Fault::OutOfMemory => f.write_str("out of memory"),
         }
     }
 }
 
 impl Error for Fault<'_> {}
+
+/// The line that a program prints on standard error: its name and its fault. Of words that are used wrongly it shows the right ones.
+///
+/// ```
+/// let line = FaultLine { program: Program::Report, fault: Fault::WriteFailed };
+/// assert_eq!(line.to_string(alloc)?.as_str(), "report: write failed");
+/// ```
+#[derive(Clone, Copy, Debug)]
+pub struct FaultLine<'a> {
+    /// Whose line it is.
+    pub program: Program,
+    /// What went wrong.
+    pub fault: Fault<'a>,
+}
+
+/// A program that reports scenes.
+#[derive(Clone, Copy, Debug, PartialEq, Eq)]
+pub enum Program {
+    /// It reports a scene that it has read to its end.
+    Report,
+    /// It reports each line as it comes.
+    Follow,
+}
+
+impl Program {
+    // Its name.
+    fn name(self) -> &'static str
+        ensures { result.now ≡ program_name self }
+    {
+        match self {
+            Program::Report => "report",
+            Program::Follow => "follow",
+        }
+    }
+
+    // The words that it takes.
+    fn usage(self) -> &'static str
+        ensures { result.now ≡ usage_of self }
+    {
+        match self {
+            Program::Report => {
+                "usage: report [--color] [--counter] [--replay] [--unload] [--level L] [--store PATH] [--store-success] [--store-failure] FILE"
+            }
+            Program::Follow => {
+                "usage: follow [--color] [--counter] [--replay] [--unload] [--level L] [--store PATH] [--store-success] [--store-failure] [FILE]"
+            }
+        }
+    }
+}
+
+impl fmt::Display for FaultLine<'_> {
+    ghost output = { λ line. Some (fault_line line) };
+
+    fn fmt<W: fmt::Write>(&self, f: &mut Formatter<W>) -> fmt::Result {
+        let name = self.program.name();
+        match self.fault {
+            Fault::Usage => write!(f, "{}: {}", name, self.program.usage()),
+            fault => write!(f, "{name}: {fault}"),
+        }
+    }
+}
 
 impl From<OutOfMemory> for Fault<'_> {
     ghost from_gives = { λ _ fault. fault ≡ OutOfMemory };

@@ -1,12 +1,13 @@
-//! Scenes: runs written as text, one event a line. They are read, judged and reported.
+//! Scenes: runs written as text, one event a line. They are read, judged and reported, or followed line by line.
 //!
 //! One module a concern: `words` are the words of a command line, `scene` is a run that was read and makes the calls of a reporter,
-//! `reporter` is what that is built from, `program` the whole way from a file's bytes to those of its report and its records, and `fault`
-//! what can go wrong on it. How a text tells a run stands in the crate `scene_text`. The program `report` does the rest: files and the
-//! line of a fault.
+//! `reporter` is what that is built from, `program` the whole way from a file's bytes to those of its report and its records, `follow`
+//! the same line by line, and `fault` what can go wrong. How a text tells a run stands in the crate `scene_text`. The programs `report`
+//! and `follow` do the rest: files and the line of a fault.
 #![tactic(auto)]
 
 pub mod fault;
+pub mod follow;
 pub mod program;
 pub mod reporter;
 pub mod scene;

@@ -133,10 +133,10 @@ fn judge_calls(
 ) -> Result<(), Fault<'static>>
     requires { AreReadyCallsOf options.now scene.now calls.now }
     ensures ok { OnOk result (IsSceneAccepted options.now scene.now) }
-    ensures none_refused { OnOk result (first_refused (decider_for options.now scene.now) calls.now ≡ None) }
+    ensures none_refused { OnOk result (first_refused (decider_for options.now scene.now.config) calls.now ≡ None) }
     ensures err { IfErr result (IsSceneRefused options.now scene.now) }
 {
-    let decider = decider_of(alloc, options, scene)?;
+    let decider = decider_of(alloc, options, &scene.config)?;
     match first_refused(&decider, calls) {
         None => Ok(()),
         Some(place) => Err(Fault::Line {
@@ -247,8 +247,8 @@ fn report_alone<W: Write>(
     writer: W,
 ) -> (Result<(), Fault<'static>>, W)
     requires { store_for judged.now.options ≡ None }
-    ensures ok { OnOk result.0 (Appends (W.contents writer) (W.contents result.1) (report_of judged.now.options judged.now.scene judged.now.calls)) }
-    ensures err { IfErr result.0 (λ fault. IsStop judged.now.options fault × Begins (W.contents writer) (W.contents result.1) (report_of judged.now.options judged.now.scene judged.now.calls)) }
+    ensures ok { OnOk result.0 (Appends (W.contents writer) (W.contents result.1) (report_of judged.now.options judged.now.scene.config judged.now.calls)) }
+    ensures err { IfErr result.0 (λ fault. IsStop judged.now.options fault × Begins (W.contents writer) (W.contents result.1) (report_of judged.now.options judged.now.scene.config judged.now.calls)) }
 {
     let mut out = match TextBuffer::new(alloc, writer) {
         Ok(out) => out,
@@ -268,10 +268,10 @@ fn report_both<W: Write, S: Write>(
     store_writer: S,
 ) -> (Result<(), Fault<'static>>, W, S)
     requires { store_for judged.now.options ≡ Some store }
-    ensures ok { OnOk result.0 (Appends (W.contents writer) (W.contents result.1) (report_of judged.now.options judged.now.scene judged.now.calls)) }
+    ensures ok { OnOk result.0 (Appends (W.contents writer) (W.contents result.1) (report_of judged.now.options judged.now.scene.config judged.now.calls)) }
     ensures kept { OnOk result.0 (Appends (S.contents store_writer) (S.contents result.2) (stored_of judged.now.options judged.now.calls)) }
     ensures err { IfErr result.0 (λ fault. IsStop judged.now.options fault
-        × Begins (W.contents writer) (W.contents result.1) (report_of judged.now.options judged.now.scene judged.now.calls)
+        × Begins (W.contents writer) (W.contents result.1) (report_of judged.now.options judged.now.scene.config judged.now.calls)
         × Begins (S.contents store_writer) (S.contents result.2) (stored_of judged.now.options judged.now.calls)) }
 {
     let mut out = match TextBuffer::new(alloc, writer) {
@@ -298,13 +298,13 @@ fn report_to<W: WriteStr>(
     writer: &mut W,
 ) -> Result<(), Fault<'static>>
     requires { store_for judged.now.options ≡ None }
-    ensures ok { OnOk result (W.meaning.accepts writer.old (report_of judged.now.options judged.now.scene judged.now.calls) writer.new) }
+    ensures ok { OnOk result (W.meaning.accepts writer.old (report_of judged.now.options judged.now.scene.config judged.now.calls) writer.new) }
     ensures delivered { OnOk result (W.meaning.is_delivered writer.new) }
-    ensures err { IfErr result (λ fault. StopsText W.meaning writer.old (report_of judged.now.options judged.now.scene judged.now.calls) fault writer.new) }
+    ensures err { IfErr result (λ fault. StopsText W.meaning writer.old (report_of judged.now.options judged.now.scene.config judged.now.calls) fault writer.new) }
     ensures no_store { IfErr result (λ fault. fault ≡ Fault.StoreFailed → ⊥) }
 {
     let scene = judged.scene;
-    let builder = match builder_of(alloc, judged.options, scene) {
+    let builder = match builder_of(alloc, judged.options, &scene.config) {
         Ok(builder) => builder,
         Err(fault) => return Err(fault),
     };
@@ -333,15 +333,15 @@ fn report_and_store_to<W: WriteStr, S: WriteStr>(
     store_writer: &mut S,
 ) -> Result<(), Fault<'static>>
     requires { store_for judged.now.options ≡ Some store }
-    ensures ok { OnOk result (W.meaning.accepts writer.old (report_of judged.now.options judged.now.scene judged.now.calls) writer.new) }
+    ensures ok { OnOk result (W.meaning.accepts writer.old (report_of judged.now.options judged.now.scene.config judged.now.calls) writer.new) }
     ensures kept { OnOk result (S.meaning.accepts store_writer.old (stored_of judged.now.options judged.now.calls) store_writer.new) }
     ensures delivered { OnOk result (W.meaning.is_delivered writer.new) }
     ensures store_delivered { OnOk result (S.meaning.is_delivered store_writer.new) }
-    ensures err { IfErr result (λ fault. StopsText W.meaning writer.old (report_of judged.now.options judged.now.scene judged.now.calls) fault writer.new) }
+    ensures err { IfErr result (λ fault. StopsText W.meaning writer.old (report_of judged.now.options judged.now.scene.config judged.now.calls) fault writer.new) }
     ensures store_err { IfErr result (λ fault. StopsStore S.meaning store_writer.old (stored_of judged.now.options judged.now.calls) fault store_writer.new) }
 {
     let scene = judged.scene;
-    let builder = match builder_of(alloc, judged.options, scene) {
+    let builder = match builder_of(alloc, judged.options, &scene.config) {
         Ok(builder) => builder,
         Err(fault) => return Err(fault),
     };

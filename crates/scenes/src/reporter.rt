@@ -6,7 +6,7 @@ ghost use Rattle.scenes.specs.Unloads.{decider_for};
 ghost use Rattle.scenes.specs.declared.fault.Fault.{Fault};
 
 use crate::fault::Fault;
-use crate::scene::{Scene, SceneConfig};
+use crate::scene::SceneConfig;
 use crate::words::Options;
 use console_reporter::config::{DisplayConfig, ShowProgress};
 use console_reporter::imp::{
@@ -19,18 +19,18 @@ use std::alloc::Global;
 pub fn decider_of(
     alloc: Global,
     options: &Options<'_>,
-    scene: &Scene,
+    config: &SceneConfig,
 ) -> Result<OutputLoadDecider, Fault<'static>>
-    ensures ok { IfOk result (λ decider. decider ≡ decider_for options.now scene.now) }
+    ensures ok { IfOk result (λ decider. decider ≡ decider_for options.now config.now) }
     ensures err { IfErr result (λ fault. fault ≡ Fault.OutOfMemory) }
 {
-    let builder = builder_of(alloc, options, scene)?;
+    let builder = builder_of(alloc, options, config)?;
     let store = options.store.map(|store| store.config);
-    Ok(builder.output_load_decider(surroundings_of(&scene.config), store))
+    Ok(builder.output_load_decider(surroundings_of(config), store))
 }
 
-// What the scene says of where its report goes: to no terminal, and from no build machine.
-fn surroundings_of(config: &SceneConfig) -> Surroundings
+/// What the scene says of where its report goes: to no terminal, and from no build machine.
+pub fn surroundings_of(config: &SceneConfig) -> Surroundings
     ensures { result ≡ surroundings_of config.now }
 {
     Surroundings {
@@ -44,26 +44,26 @@ fn surroundings_of(config: &SceneConfig) -> Surroundings
 pub fn builder_of(
     alloc: Global,
     options: &Options<'_>,
-    scene: &Scene,
+    config: &SceneConfig,
 ) -> Result<DisplayReporterBuilder, Fault<'static>>
-    ensures ok { IfOk result (λ builder. builder ≡ builder_for options.now scene.now) }
+    ensures ok { IfOk result (λ builder. builder ≡ builder_for options.now config.now) }
     ensures err { IfErr result (λ fault. fault ≡ Fault.OutOfMemory) }
 {
     Ok(DisplayReporterBuilder {
-        mode: scene.config.mode,
+        mode: config.mode,
         default_filter: CompiledDefaultFilter::for_default_config(alloc)?,
         display_config: DisplayConfig::with_overrides(
             progress_for(options),
-            scene.config.no_capture,
+            config.no_capture,
             options.status_level,
-            scene.config.final_status_level,
+            config.final_status_level,
         ),
-        run_count: scene.config.run_count,
-        success_output: scene.config.success_output,
-        failure_output: scene.config.failure_output,
+        run_count: config.run_count,
+        success_output: config.success_output,
+        failure_output: config.failure_output,
         should_colorize: options.should_colorize,
-        verbose: scene.config.verbose,
-        no_output_indent: scene.config.no_output_indent,
+        verbose: config.verbose,
+        no_output_indent: config.no_output_indent,
         displayer_kind: kind_for(options),
     })
 }

@@ -53,7 +53,7 @@ impl Scene {
         if !options.unload_skipped {
             return Ok(calls);
         }
-        let decider = decider_of(alloc, options, self)?;
+        let decider = decider_of(alloc, options, &self.config)?;
         unload_skipped(&decider, calls.as_mut_slice());
         Ok(calls)
     }

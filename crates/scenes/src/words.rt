@@ -2,11 +2,13 @@
 //!
 //! Options stand before the file, which is the last word whatever it looks like.
 
-ghost use Rattle.std.specs.Prelude.{◌≡◌};
+ghost use Rattle.std.specs.Prelude.{◌≡◌, IfOk};
 ghost use Rattle.std.specs.Option.{option_map};
-ghost use Rattle.scenes.specs.Words.{options_after, options_of, asked, asked_of, said, texts, with_flag, with_level, with_store, level_of};
+ghost use Rattle.scenes.specs.Words.{options_after, options_of, options_or_input, asked, asked_of, said, texts, with_flag, with_level, with_store, level_of};
 
 use run_model::level::StatusLevel;
+use run_model::memory::OutOfMemory;
+use std::alloc::Global;
 use store_text::config::StoreConfig;
 
 /// What the words of a command line ask for. It borrows the words.
@@ -53,6 +55,27 @@ pub fn words(words: &[String]) -> Option<Options<'_>>
     ensures { asked result ≡ options_of (texts words.now) }
 {
     Given::default().followed_by(words)
+}
+
+/// The same for a program that reads standard input, which is the file `-`, where no file is named: that word is pushed, and counts
+/// where the words before it are options alone.
+///
+/// ```
+/// let given = CommandLine::from_words(alloc, &["--level", "fail"])?;
+/// assert_eq!(words_or_input(alloc, &mut given)?.map(|options| options.file), Some("-"));
+/// ```
+pub fn words_or_input<'a>(
+    alloc: Global,
+    given: &'a mut Vec<String>,
+) -> Result<Option<Options<'a>>, OutOfMemory>
+    ensures { IfOk result (λ options. asked options ≡ options_or_input (texts given.old.items)) }
+{
+    let input = String::from_str(alloc, "-")?;
+    given.push(input)?;
+    match words(given.as_slice()) {
+        Some(options) => Ok(Some(options)),
+        None => Ok(words(&given[..given.len() - 1])),
+    }
 }
 
 // The options that were read so far.

@@ -121,7 +121,7 @@ pub fn run_to<'a, W: WriteStr>(
     calls: &'a [ReportCall<'a>],
     writer: &mut W,
 ) -> Result<Result<(), RunFault>, Fault<'static>> {
-    let builder = builder_of(alloc, &OPTIONS, scene)?;
+    let builder = builder_of(alloc, &OPTIONS, &scene.config)?;
     Ok(run_report(alloc, builder, writer, false, false, false, false, calls))
 }
 
@@ -163,7 +163,7 @@ fn call_all_over<'a>(
     let Ok(mut writer) = TextBuffer::new(alloc, device) else {
         return Err(Fail::from("there is memory"));
     };
-    let builder = builder_of(alloc, &OPTIONS, scene)?;
+    let builder = builder_of(alloc, &OPTIONS, &scene.config)?;
     let mut reporter = builder.build(alloc, &mut writer, false, false, false, false);
     let (mut has_failed, mut is_silent) = (false, true);
     for call in calls {

@@ -21,7 +21,7 @@ use Rattle.scenes.specs.declared.scene.Scene.{Scene}
 use Rattle.scenes.specs.declared.words.Options.{Options}
 
 -- where no item passes, each fails
-position-None : {X : Type 0} (p : X → Bool) (xs : List X) (i : ℕ) (d : X) → position p xs ≡ None → i < length xs → p (get_or xs i d) ≡ false
+pub position-None : {X : Type 0} (p : X → Bool) (xs : List X) (i : ℕ) (d : X) → position p xs ≡ None → i < length xs → p (get_or xs i d) ≡ false
 position-None p xs i d e within =
     let all : length xs ≤ position_or_len p xs = grind (arith, common_steps) in
     fails_before_first p xs i d (omega (arith, within, all))
@@ -44,13 +44,13 @@ refused-says d calls i x h =
 
 -- the scene's reporter accepts the calls that it gets, or refuses one
 module _ (options : Options) (scene : Scene) (calls : List ReportCall) (r : AreReadyCallsOf options scene calls) where
-  pub ready_accepted : first_refused (decider_for options scene) calls ≡ None → IsSceneAccepted options scene
+  pub ready_accepted : first_refused (decider_for options scene.config) calls ≡ None → IsSceneAccepted options scene
   ready_accepted none = record { calls = r.made; of_scene = r.of_scene; accepted = sym r.isolated.5 ∙ none }
 
-  pub ready_refused : (i n : ℕ) (x : ReportCall) (f : LineFault) → first_refused (decider_for options scene) calls ≡ Some i → n ≡ get_or scene.lines.items i 0 → x ≡ get_or calls i x →
-      f ≡ fault_of_refusal (refusal_by (decider_for options scene) x) → IsSceneRefused options scene (fault.Line n f)
+  pub ready_refused : (i n : ℕ) (x : ReportCall) (f : LineFault) → first_refused (decider_for options scene.config) calls ≡ Some i → n ≡ get_or scene.lines.items i 0 → x ≡ get_or calls i x →
+      f ≡ fault_of_refusal (refusal_by (decider_for options scene.config) x) → IsSceneRefused options scene (fault.Line n f)
   ready_refused i n x f first number there says =
-      let d = decider_for options scene in
+      let d = decider_for options scene.config in
       let same : f ≡ fault_of_refusal (refusal_by d (get_or calls i x)) = says ∙ ap (λ c. fault_of_refusal (refusal_by d c)) there in
       record {
         calls = r.made;

@@ -90,7 +90,7 @@ module _ {S : Type 0} {m : Meaning S} (laws : WriterLaws m) where
   ends_longer a b t u StoreIo f = front_longer a b t u f
 
   -- what stopped a text ended the text with what was accepted before
-  ends_joined : (a b c : S) (t u : Text) (e : WriteEventError) → m.accepts a t b → Stops m b u e c → Ends m a (t ++ u) e c
+  pub ends_joined : (a b c : S) (t u : Text) (e : WriteEventError) → m.accepts a t b → Stops m b u e c → Ends m a (t ++ u) e c
   ends_joined a b c t u RetriedSuccess p h = record { front = t; rest = u; whole = refl; accepted = subst (λ x. m.accepts a t x) (sym h) p }
   ends_joined a b c t u OutputNotLoaded p h = record { front = t; rest = u; whole = refl; accepted = subst (λ x. m.accepts a t x) (sym h) p }
   ends_joined a b c t u Io p h = laws.goes_on a b c t u _ p h
@@ -109,7 +109,7 @@ module _ {S : Type 0} {m : Meaning S} (laws : WriterLaws m) where
   store_longer a b t u Failed h = absurd h
   store_longer a b t u StoreIo h = laws.stops_within a b t u _ h
 
-  store_joined : (a b c : S) (t u : Text) (e : WriteEventError) → m.accepts a t b → StopsRecord m b u e c → EndsStore m a (t ++ u) e c
+  pub store_joined : (a b c : S) (t u : Text) (e : WriteEventError) → m.accepts a t b → StopsRecord m b u e c → EndsStore m a (t ++ u) e c
   store_joined a b c t u RetriedSuccess p h = record { front = t; rest = u; whole = refl; accepted = subst (λ x. m.accepts a t x) (sym h) p }
   store_joined a b c t u OutputNotLoaded p h = record { front = t; rest = u; whole = refl; accepted = subst (λ x. m.accepts a t x) (sym h) p }
   store_joined a b c t u Io p h = record { front = t; rest = u; whole = refl; accepted = subst (λ x. m.accepts a t x) (sym h) p }
@@ -131,7 +131,7 @@ module _ {S : Type 0} {m : Meaning S} (laws : WriterLaws m) where
       subst (λ t. EndsStore m a t e c) (sym b.is) (store_longer a c _ b.rest e (store_joined a h.mid c _ _ e h.accepted h.stopped))
 
   -- where no call is refused, that is a fault of the program
-  told_text : (a c : S) (t : Text) (e : WriteEventError) → refusal_in e ≡ None → Ends m a t e c → StopsText m a t (fault_for e) c
+  pub told_text : (a c : S) (t : Text) (e : WriteEventError) → refusal_in e ≡ None → Ends m a t e c → StopsText m a t (fault_for e) c
   told_text a c t RetriedSuccess none h = absurd (not_refused RetriedSuccess none refl)
   told_text a c t OutputNotLoaded none h = absurd (not_refused OutputNotLoaded none refl)
   told_text a c t Io none h = h
@@ -139,7 +139,7 @@ module _ {S : Type 0} {m : Meaning S} (laws : WriterLaws m) where
   told_text a c t Failed none h = absurd h
   told_text a c t StoreIo none h = h
 
-  told_store : (a c : S) (t : Text) (e : WriteEventError) → refusal_in e ≡ None → EndsStore m a t e c → StopsStore m a t (fault_for e) c
+  pub told_store : (a c : S) (t : Text) (e : WriteEventError) → refusal_in e ≡ None → EndsStore m a t e c → StopsStore m a t (fault_for e) c
   told_store a c t RetriedSuccess none h = absurd (not_refused RetriedSuccess none refl)
   told_store a c t OutputNotLoaded none h = absurd (not_refused OutputNotLoaded none refl)
   told_store a c t Io none h = h
@@ -164,16 +164,16 @@ module _ {S : Type 0} {m : Meaning S} (laws : WriterLaws m) where
   store_before a t f is = subst (λ x. StopsStore m a t x a) (sym is) (inr (record { front = []; rest = t; whole = refl; accepted = laws.nothing a }))
 
   -- of a scene that was judged, whatever names the configuration and the calls
-  module _ (inside judged : Judged) (same : inside ≡ judged) (j : IsJudgedScene inside) (calls : List ReportCall) (all : calls ≡ inside.calls) (config : Configuration) (is : config ≡ configuration_for inside.options inside.scene)
+  module _ (inside judged : Judged) (same : inside ≡ judged) (j : IsJudgedScene inside) (calls : List ReportCall) (all : calls ≡ inside.calls) (config : Configuration) (is : config ≡ configuration_for inside.options inside.scene.config)
       (i : ℕ) (a c : S) (e : WriteEventError) (f : Fault) (told : f ≡ fault_for e) (refused : refusal_at config calls i ≡ refusal_in e) where
     accepted_here : first_refused (decider_of config) calls ≡ None
     accepted_here = rw (is, all) j.accepted
 
-    pub judged_stops : StopsAfter m a (report config (past_at calls i)) (text_at config calls i) e c → StopsText m a (report_of judged.options judged.scene judged.calls) f c
+    pub judged_stops : StopsAfter m a (report config (past_at calls i)) (text_at config calls i) e c → StopsText m a (report_of judged.options judged.scene.config judged.calls) f c
     judged_stops h =
         let stopped : StopsText m a (report config (reverse calls)) (fault_for e) c = stops_text config calls i a c e accepted_here refused h in
-        subst (λ (x : Judged). StopsText m a (report_of x.options x.scene x.calls) f c) same
-        (subst (λ g. StopsText m a (report_of inside.options inside.scene inside.calls) g c) (sym told)
+        subst (λ (x : Judged). StopsText m a (report_of x.options x.scene.config x.calls) f c) same
+        (subst (λ g. StopsText m a (report_of inside.options inside.scene.config inside.calls) g c) (sym told)
         (subst (λ k. StopsText m a (report k (reverse inside.calls)) (fault_for e) c) is
         (subst (λ cs. StopsText m a (report config (reverse cs)) (fault_for e) c) all stopped)))
 
@@ -186,13 +186,13 @@ module _ {S : Type 0} {m : Meaning S} (laws : WriterLaws m) where
         (subst (λ cs. StopsStore m a (stored config.store (reverse cs)) (fault_for e) c) all stopped)))
 
 -- the configuration of a reporter without a store, and of one with it
-module _ (inside judged : Judged) (same : inside ≡ judged) (b : DisplayReporterBuilder) (is : b ≡ builder_for inside.options inside.scene) where
-  pub alone_config : store_for judged.options ≡ None → configured b inside.scene.config.use_unicode false false inside.scene.config.display_empty_outputs ≡ configuration_for inside.options inside.scene
+module _ (inside judged : Judged) (same : inside ≡ judged) (b : DisplayReporterBuilder) (is : b ≡ builder_for inside.options inside.scene.config) where
+  pub alone_config : store_for judged.options ≡ None → configured b inside.scene.config.use_unicode false false inside.scene.config.display_empty_outputs ≡ configuration_for inside.options inside.scene.config
   alone_config none =
       let here : store_for inside.options ≡ None = subst (λ (x : Judged). store_for x.options ≡ None) (sym same) none in
       rw (is, here) refl
 
-  pub both_config : (store : StoreConfig) → store_for judged.options ≡ Some store → configured_with_store store b inside.scene.config.use_unicode false false inside.scene.config.display_empty_outputs ≡ configuration_for inside.options inside.scene
+  pub both_config : (store : StoreConfig) → store_for judged.options ≡ Some store → configured_with_store store b inside.scene.config.use_unicode false false inside.scene.config.display_empty_outputs ≡ configuration_for inside.options inside.scene.config
   both_config store has =
       let here : store_for inside.options ≡ Some store = subst (λ (x : Judged). store_for x.options ≡ Some store) (sym same) has in
       rw (is, here) refl

@@ -45,21 +45,21 @@ no_store_there inside judged same is = subst (λ (x : Judged). store_for x.optio
 
 -- what is written of the calls that a reporter gets, is written of the scene's
 module _ (judged : Judged) (j : IsJudgedScene judged) (old new store_old store_new : Option (List ℕ)) where
-  pub prints_judged : Appends old new (report_of judged.options judged.scene judged.calls) → Appends store_old store_new (stored_of judged.options judged.calls)
+  pub prints_judged : Appends old new (report_of judged.options judged.scene.config judged.calls) → Appends store_old store_new (stored_of judged.options judged.calls)
       → PrintsReport judged.options judged.scene old new store_old store_new
   prints_judged printed kept = record {
     calls = j.ready.made;
-    of_scene = j.ready.of_scene;
+    of_run = j.ready.of_scene;
     accepted = sym (ready_first judged.options judged.scene judged.calls j.ready) ∙ j.accepted;
     printed = subst (λ t. Appends old new t) (ready_report judged.options judged.scene judged.calls j.ready) printed;
     kept = subst (λ t. Appends store_old store_new t) (ready_stored judged.options judged.scene judged.calls j.ready) kept;
   }
 
-  pub begins_judged : (fault : Fault) → IsStop judged.options fault → Begins old new (report_of judged.options judged.scene judged.calls) → Begins store_old store_new (stored_of judged.options judged.calls)
+  pub begins_judged : (fault : Fault) → IsStop judged.options fault → Begins old new (report_of judged.options judged.scene.config judged.calls) → Begins store_old store_new (stored_of judged.options judged.calls)
       → BeginsReport judged.options judged.scene fault old new store_old store_new
   begins_judged fault stopped begun kept = record {
     calls = j.ready.made;
-    of_scene = j.ready.of_scene;
+    of_run = j.ready.of_scene;
     accepted = sym (ready_first judged.options judged.scene judged.calls j.ready) ∙ j.accepted;
     stopped = stopped;
     begun = subst (λ t. Begins old new t) (ready_report judged.options judged.scene judged.calls j.ready) begun;
@@ -68,11 +68,11 @@ module _ (judged : Judged) (j : IsJudgedScene judged) (old new store_old store_n
 
 -- the same of what was returned
 module _ (judged : Judged) (j : IsJudgedScene judged) (outcome : Result (Unit {0}) Fault) (old new store_old store_new : Option (List ℕ)) where
-  pub prints_both : OnOk outcome (Appends old new (report_of judged.options judged.scene judged.calls)) → OnOk outcome (Appends store_old store_new (stored_of judged.options judged.calls))
+  pub prints_both : OnOk outcome (Appends old new (report_of judged.options judged.scene.config judged.calls)) → OnOk outcome (Appends store_old store_new (stored_of judged.options judged.calls))
       → OnOk outcome (PrintsReport judged.options judged.scene old new store_old store_new)
   prints_both = on_both outcome (prints_judged judged j old new store_old store_new)
 
-  pub begins_both : IfErr outcome (λ fault. IsStop judged.options fault × Begins old new (report_of judged.options judged.scene judged.calls) × Begins store_old store_new (stored_of judged.options judged.calls))
+  pub begins_both : IfErr outcome (λ fault. IsStop judged.options fault × Begins old new (report_of judged.options judged.scene.config judged.calls) × Begins store_old store_new (stored_of judged.options judged.calls))
       → IfErr outcome (λ fault. BeginsReport judged.options judged.scene fault old new store_old store_new)
   begins_both h = if_err outcome _ _ (λ fault x. begins_judged judged j old new store_old store_new fault x.0 x.1 x.2) h
 
@@ -82,16 +82,16 @@ module _ (judged : Judged) (j : IsJudgedScene judged) (outcome : Result (Unit {0
         let empty = nothing_stored (store_for judged.options) (reverse judged.calls) none in
         subst (λ t. Appends store_old store_new t) (sym empty) (subst (λ x. Appends store_old x []) (sym untouched) (Appends-nil store_old))
 
-    pub prints_alone : OnOk outcome (Appends old new (report_of judged.options judged.scene judged.calls)) → OnOk outcome (PrintsReport judged.options judged.scene old new store_old store_new)
+    pub prints_alone : OnOk outcome (Appends old new (report_of judged.options judged.scene.config judged.calls)) → OnOk outcome (PrintsReport judged.options judged.scene old new store_old store_new)
     prints_alone h = on_ok outcome (λ printed. prints_judged judged j old new store_old store_new printed nothing_kept) h
 
-    pub begins_alone : IfErr outcome (λ fault. IsStop judged.options fault × Begins old new (report_of judged.options judged.scene judged.calls))
+    pub begins_alone : IfErr outcome (λ fault. IsStop judged.options fault × Begins old new (report_of judged.options judged.scene.config judged.calls))
         → IfErr outcome (λ fault. BeginsReport judged.options judged.scene fault old new store_old store_new)
     begins_alone h = if_err outcome _ _ (λ fault x. begins_judged judged j old new store_old store_new fault x.0 x.1 (untouched_begins store_old store_new _ untouched)) h
 
 module _ (options : Options) (scene : Scene) (text : List ℕ) (old new store_old store_new : Option (List ℕ)) (spelled : text_told text ≡ Ok (scene_told scene)) where
   pub prints_run : (outcome : Result (Unit {0}) Fault) → OnOk outcome (PrintsReport options scene old new store_old store_new) → OnOk outcome (PrintsRun options text old new store_old store_new)
-  prints_run (Ok done) printed = record { scene = scene; spelled = spelled; printed = printed }
+  prints_run (Ok done) printed = record { run = scene_told scene; spelled = spelled; printed = printed }
   prints_run (Err fault) printed = tt
 
   pub ends_run : scene.lines.items ≡ event_lines 1 nothing_told (parted 10 text) → {W S : Type 0} (before after : W) (store_before store_after : S) (outcome : Result (Unit {0}) Fault)
@@ -104,7 +104,7 @@ module _ (options : Options) (scene : Scene) (text : List ℕ) (old new store_ol
     untouched = refused.1;
     store_untouched = refused.2;
   })
-  ends_run lines before after store_before store_after (Err fault) (inr begun) = inr (record { scene = scene; spelled = spelled; begun = begun })
+  ends_run lines before after store_before store_after (Err fault) (inr begun) = inr (record { run = scene_told scene; spelled = spelled; begun = begun })
 
 -- a scene that was spelled has a refused call
 pub refused_text : (options : Options) (scene : Scene) (text : List ℕ) → text_told text ≡ Ok (scene_told scene) → scene.lines.items ≡ event_lines 1 nothing_told (parted 10 text)

@@ -12,7 +12,7 @@ pub returns-clause-calls : goal.returns-clause-calls
 returns-clause-calls c =
     let left = c.unload_skipped.new.calls in
     let made = c.in_ok-calls.calls.items in
-    let decider = decider_for c.args.options.now c.args.self.now in
+    let decider = decider_for c.args.options.now c.args.self.now.config in
     let on : c.args.options.now.unload_skipped ≡ true = search rules in
     let of_scene : AreCallsOf c.args.self.now made = search rules in
     let unread_left : left ≡ unread decider made = search rules in

@@ -1,0 +1,84 @@
+//! The program `follow`: it reads a scene line by line, and prints nextest's console report of each line before it reads the next.
+//!
+//! Its status is that of the run: 0 for a success, 100 for a failure, 4 where no test ran, and 3 for a run that did not end, since a
+//! producer that died must not look like a success. What goes wrong is one line on standard error and the status.
+#![tactic(auto)]
+
+use scenes::fault::{Fault, FaultLine, Program};
+use scenes::follow::{RunOutcome, follow_scene};
+use scenes::words::{Options, words_or_input};
+use std::fs::File;
+use std::io::{BufReader, Read};
+use std::process::ExitCode;
+use std::{env, io};
+
+fn main(rt: HostRuntime) -> ExitCode {
+    let status = match command_line(&rt) {
+        Ok(mut args) => match run(&rt, &mut args) {
+            Ok(outcome) => end(&rt, outcome),
+            Err(fault) => tell(&rt, fault),
+        },
+        Err(fault) => tell(&rt, fault),
+    };
+    ExitCode::from(status)
+}
+
+// The words that follow the program's name.
+fn command_line(rt: &HostRuntime) -> Result<Vec<String>, Fault<'static>> {
+    match env::args(rt) {
+        Ok(args) => args
+            .skip(1)
+            .collect(rt.alloc())
+            .map_err(|_| Fault::OutOfMemory),
+        Err(e) if e.kind() == io::ErrorKind::OutOfMemory => Err(Fault::OutOfMemory),
+        Err(_) => Err(Fault::Usage),
+    }
+}
+
+// Prints the line of a fault, and answers the status to end with.
+fn tell(rt: &HostRuntime, fault: Fault<'_>) -> u8 {
+    let program = Program::Follow;
+    let _ = rt.eprintln(FaultLine { program, fault });
+    fault.status()
+}
+
+// Answers the status of the run. Of a run that did not end it prints a line.
+fn end(rt: &HostRuntime, outcome: RunOutcome) -> u8 {
+    if outcome == RunOutcome::NotEnded {
+        let _ = rt.eprintln("follow: the run did not end");
+    }
+    outcome.status()
+}
+
+// Runs the program on its words.
+fn run<'a>(rt: &HostRuntime, args: &'a mut Vec<String>) -> Result<RunOutcome, Fault<'a>> {
+    let Some(options) = words_or_input(rt.alloc(), args)? else {
+        return Err(Fault::Usage);
+    };
+    if options.file == "-" {
+        return follow(rt, &options, rt.stdin());
+    }
+    match File::open(rt, options.file) {
+        Ok(file) => follow(rt, &options, file),
+        Err(error) => Err(Fault::CannotRead { file: options.file }.by_kind(error.kind())),
+    }
+}
+
+// Follows the lines of a reader. The file of the records is made or emptied before a line is read.
+fn follow<'a, R: Read + Drop>(
+    rt: &HostRuntime,
+    options: &Options<'a>,
+    reader: R,
+) -> Result<RunOutcome, Fault<'a>> {
+    let alloc = rt.alloc();
+    let Ok(mut reader) = BufReader::new(alloc, reader) else {
+        return Err(Fault::OutOfMemory);
+    };
+    let Some(store) = options.store else {
+        return follow_scene(alloc, options, &mut reader, io::writer(rt), io::sink()).0;
+    };
+    match File::create(rt, store.file) {
+        Ok(records) => follow_scene(alloc, options, &mut reader, io::writer(rt), records).0,
+        Err(error) => Err(Fault::CannotWrite { file: store.file }.by_kind(error.kind())),
+    }
+}

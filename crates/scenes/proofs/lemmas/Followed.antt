@@ -1,0 +1,279 @@
+-- A follower tells one event more, or leaves one (for `follow_first`, `follow_rest`, `tell_line`).
+use Rattle.std.proofs.Common.{◌≡◌, ◌⊎◌, ℕ, ◌+◌, ◌<◌, ◌≤◌, Bool, true, false, List, [], ◌∷◌, ◌++◌, Option, None, Some, Result, Ok, Err, length, reverse, get_or, refl, sym, ap, ◌∙◌, subst, arith, append-nil, inl, inr}
+use Rattle.std.specs.List.{AllZip, position, position_or_len}
+use Rattle.std.specs.Option.{is_some, option_and_then}
+use Rattle.std.proofs.lemmas.Bool.{cases_lt}
+use Rattle.std.proofs.lemmas.Grind.{common_steps}
+use Rattle.std.proofs.lemmas.List.{length-append, reverse-append}
+use Rattle.std.proofs.lemmas.List.Sums.{position_or_len_is}
+use Rattle.plain_text.specs.Texts.{Text}
+use Rattle.plain_text.specs.Writer.{Meaning, WriterLaws}
+use Rattle.run_model.specs.declared.call.ReportCall.{ReportCall}
+use Rattle.console_reporter.specs.Accepted.{decider_of, refusal}
+use Rattle.reporter_state.specs.Refusals.{first_refused, refusal_by}
+use Rattle.console_reporter.specs.Configuration.{Configuration}
+use Rattle.console_reporter.specs.Outcomes.{HasFront}
+use Rattle.reporter_state.specs.Refusals.{refusal_in}
+use Rattle.console_reporter.specs.Report.{report, text}
+use Rattle.console_reporter.specs.Slots.{store_meaning}
+use Rattle.console_reporter.specs.HeldState.{StandsAfter}
+use Rattle.console_reporter.specs.Stored.{stored, stored_text}
+use Rattle.console_reporter.specs.Telling.{AreDelivered, Breaks, Tells, TellsRun}
+use Rattle.reporter_state.specs.declared.decider.OutputLoadDecider.{OutputLoadDecider}
+use Rattle.console_reporter.specs.declared.imp.reporter.DisplayReporter.{DisplayReporter}
+use Rattle.reporter_state.specs.declared.faults.WriteEventError.{WriteEventError}
+use Rattle.reporter_state.specs.declared.faults.WriteEventError.TheVariants.{RetriedSuccess, OutputNotLoaded, Io, Memory, Failed, StoreIo}
+use Rattle.console_reporter.proofs.lemmas.Stores.{store-laws}
+use Rattle.scene_text.specs.SceneTexts.{AllTell, Told, is_begun, line_said, line_told, lines_before, nothing_told, text_told, with_said}
+use Rattle.scene_text.specs.Scenes.{IsCallOf}
+use Rattle.scene_text.specs.declared.fault.LineFault.{LineFault}
+use Rattle.scene_text.specs.declared.fault.LineFault.TheVariants as line
+use Rattle.scene_text.specs.declared.reader.LineSaid.{LineSaid}
+use Rattle.scene_text.specs.declared.reader.LineSaid.TheVariants as said
+use Rattle.scene_text.specs.declared.reader.LinesBefore.{LinesBefore}
+use Rattle.scene_text.specs.declared.scene.SceneConfig.{SceneConfig}
+use Rattle.scene_text.specs.declared.scene.event.SceneEvent.{SceneEvent}
+use Rattle.scenes.specs.Follow.{AtLine, BreaksEvent, BreaksOff, BreaksTold, Follows, HasTold, IsReaderFault, LeavesEvent, LeavesLine, LeavesSaid, OfText, RefusesEvent, ReportsTold, StopsAtLine, StopsBehind, StopsBy, TellsEvent, TellsLine, TellsSaid, behind, fault_at_call, run_outcome}
+use Rattle.scenes.specs.Judged.{line_fault_for}
+use Rattle.scenes.specs.Reports.{StopsStore, StopsText, configuration_for, fault_for, store_for}
+use Rattle.scenes.specs.Unloads.{decider_for}
+use Rattle.scenes.specs.declared.fault.Fault.{Fault}
+use Rattle.scenes.specs.declared.fault.Fault.TheVariants as fault
+use Rattle.scenes.specs.declared.follow.Follower.{Follower}
+use Rattle.scenes.specs.declared.words.Options.{Options}
+use Rattle.scenes.proofs.lemmas.ReadLines.{at_more, line_tells}
+use Rattle.scenes.proofs.lemmas.Refusals.{position-None}
+use Rattle.scenes.proofs.lemmas.Reports.{ends_joined, store_joined, told_store, told_text}
+
+-- one call more is accepted
+first_refused_more : (d : OutputLoadDecider) (calls : List ReportCall) (call : ReportCall) → first_refused d calls ≡ None → refusal_by d call ≡ None → first_refused d (calls ++ call ∷ []) ≡ None
+first_refused_more d calls call none one =
+    let p : ReportCall → Bool = λ c. is_some (refusal_by d c) in
+    let here : p call ≡ false = rw one refl in
+    let size : length (calls ++ call ∷ []) ≡ length calls + 1 = length-append calls (call ∷ []) in
+    let each : (k : ℕ) → k < length (calls ++ call ∷ []) → p (get_or (calls ++ call ∷ []) k call) ≡ false = λ k within. elim (cases_lt k (length calls)) [
+      | inl l ↦ (let q : p (get_or calls k call) ≡ false = position-None p calls k call none l in grind (arith, common_steps, l, q))
+      | inr g ↦ (let last : k ≡ length calls = omega (arith, size, within, g) in grind (arith, common_steps, last, here))
+    ] in
+    let e = position_or_len_is p (calls ++ call ∷ []) (length (calls ++ call ∷ [])) call (omega arith) each (λ l. absurd (omega (arith, l))) in
+    grind (arith, common_steps, e)
+
+-- an event more has begun the run
+begun_more : (es : List SceneEvent) (e : SceneEvent) → is_begun (es ++ e ∷ []) ≡ true
+begun_more [] e = refl
+begun_more (x ∷ es) e = refl
+
+-- a follower with this reporter
+abbrev pub with_reporter : {W S : Type 0} → Follower W S → DisplayReporter W S → Follower W S
+with_reporter old r = record { config = old.config; outcome = old.outcome; reporter = r }
+
+-- a call that was refused, or broke off (for `tell_event`)
+module _ {W S : Type 0} (m : Meaning W) (n : Meaning S) (number : ℕ) (event : SceneEvent) (old : Follower W S) (call : ReportCall) (of_event : IsCallOf event call) where
+  says_refused : (f : LineFault) (e : WriteEventError) → line_fault_for e ≡ Some f → ((config : Configuration) (past : List ReportCall) → StandsAfter config past old.reporter → Some e ≡ refusal config call) → RefusesEvent m n event f old
+  says_refused f e is refused = record { call = call; of_event = of_event; refused = λ config past stands. ap (option_and_then line_fault_for) (sym (refused config past stands)) ∙ is }
+
+  module _ (r : DisplayReporter W S) where
+    breaks_by : (e : WriteEventError) → Breaks m n old.reporter (Some call) e r → refusal_in e ≡ None → ((config : Configuration) (past : List ReportCall) → StandsAfter config past old.reporter → None ≡ refusal config call) →
+        BreaksEvent m n event (fault_for e) old (with_reporter old r)
+    breaks_by e breaks none refused =
+        record { call = call; of_event = of_event; error = e; breaks = breaks; unrefused = none; accepted = λ config past stands. sym (refused config past stands); is = refl }
+
+    pub left_by : (e : WriteEventError) → Breaks m n old.reporter (Some call) e r →
+        ((config : Configuration) (past : List ReportCall) → StandsAfter config past old.reporter → refusal_in e ≡ refusal config call) → (is_some (refusal_in e) ≡ true → r ≡ old.reporter) →
+        LeavesEvent m n number event (fault_at_call number e) old (with_reporter old r)
+    left_by RetriedSuccess breaks refused same = (refl, ap (with_reporter old) (same refl), says_refused line.RetriedSuccess RetriedSuccess refl refused)
+    left_by OutputNotLoaded breaks refused same = (refl, ap (with_reporter old) (same refl), says_refused line.OutputNotLoaded OutputNotLoaded refl refused)
+    left_by Io breaks refused same = breaks_by Io breaks refl refused
+    left_by Memory breaks refused same = inr (breaks_by Memory breaks refl refused)
+    left_by Failed breaks refused same = breaks_by Failed breaks refl refused
+    left_by StoreIo breaks refused same = breaks_by StoreIo breaks refl refused
+
+-- one event more is one call more
+zip_more : (es : List SceneEvent) (calls : List ReportCall) (e : SceneEvent) (call : ReportCall) → AllZip IsCallOf es calls → IsCallOf e call → AllZip IsCallOf (es ++ e ∷ []) (calls ++ call ∷ [])
+zip_more [] [] e call h is = (is, tt)
+zip_more [] (c ∷ calls) e call h is = absurd h
+zip_more (x ∷ es) [] e call h is = absurd h
+zip_more (x ∷ es) (c ∷ calls) e call h is = (h.0, zip_more es calls e call h.1 is)
+
+reverse_more : (past : List ReportCall) (call : ReportCall) → reverse (call ∷ past) ≡ reverse past ++ call ∷ []
+reverse_more past call = reverse-append (call ∷ []) past
+
+module _ {W S : Type 0} {m : Meaning W} {n : Meaning S} (laws : WriterLaws m) (others : WriterLaws n) where
+  -- one call more was made
+  told_more : (a b c : DisplayReporter W S) (past : List ReportCall) (call : ReportCall) → TellsRun m n a past b → Tells m n b (Some call) c → TellsRun m n a (call ∷ past) c
+  told_more a b c past call before here = record {
+    accepted = λ config stands. laws.joins _ _ _ _ _ (before.accepted config stands) (here.accepted config past (before.stands config stands));
+    stored = λ config stands. (store-laws others).joins _ _ _ _ _ (before.stored config stands) (here.stored config past (before.stands config stands));
+    stands = λ config stands. here.stands config past (before.stands config stands);
+  }
+
+  module _ (options : Options) (start now next : Follower W S) (run : Told) (past : List ReportCall) (of_run : AllZip IsCallOf run.events (reverse past))
+      (stands : StandsAfter (configuration_for options run.config) [] start.reporter) (tells : TellsRun m n start.reporter past now.reporter)
+      (accepted : first_refused (decider_for options run.config) (reverse past) ≡ None) where
+    here_stands : StandsAfter (configuration_for options run.config) past now.reporter
+    here_stands = tells.stands (configuration_for options run.config) stands
+
+    calls_more : (e : SceneEvent) (call : ReportCall) → IsCallOf e call → AllZip IsCallOf (run.events ++ e ∷ []) (reverse (call ∷ past))
+    calls_more e call is = subst (λ calls. AllZip IsCallOf (run.events ++ e ∷ []) calls) (sym (reverse_more past call)) (zip_more run.events (reverse past) e call of_run is)
+
+    accepted_more : (call : ReportCall) → refusal (configuration_for options run.config) call ≡ None → first_refused (decider_for options run.config) (reverse (call ∷ past)) ≡ None
+    accepted_more call none = subst (λ calls. first_refused (decider_for options run.config) calls ≡ None) (sym (reverse_more past call)) (first_refused_more (decider_for options run.config) (reverse past) call accepted none)
+
+    -- an event more was told
+    pub told_event : (e : SceneEvent) → run.config ≡ now.config → next.config ≡ now.config → now.outcome ≡ run_outcome past → TellsEvent m n e now next → AreDelivered m n next.reporter →
+        Follows m n options start next (with_said run (said.Event e))
+    unfolding run_outcome
+    told_event e configured same outcome told delivered = record {
+      past = told.call ∷ past;
+      of_run = calls_more e told.call told.of_event;
+      begun = rw (configured, same, begun_more run.events e) refl;
+      stands = stands;
+      tells = told_more start.reporter now.reporter next.reporter past told.call tells told.tells;
+      accepted = accepted_more told.call (told.accepted (configuration_for options run.config) past here_stands);
+      delivered = delivered;
+      outcome = told.outcome ∙ rw outcome refl;
+    }
+
+    -- an event's call broke off
+    pub broke_event : (e : SceneEvent) (fault : Fault) → BreaksEvent m n e fault now next → BreaksOff m n options start next (with_said run (said.Event e)) fault
+    broke_event e fault broke =
+        let config = configuration_for options run.config in
+        let a = start.reporter.writer.now in
+        let b = now.reporter.writer.now in
+        let c = next.reporter.writer.now in
+        let t = report config past in
+        let u = text config past broke.call in
+        let records = stored config.store past in
+        let entry = stored_text config.store broke.call in
+        let ended = ends_joined laws a b c t u broke.error (tells.accepted config stands) (broke.breaks.stopped config past here_stands) in
+        let store_ended = store_joined (store-laws others) start.reporter.store now.reporter.store next.reporter.store records entry broke.error (tells.stored config stands) (broke.breaks.store_stopped config past here_stands) in
+        record {
+          past = broke.call ∷ past;
+          of_run = calls_more e broke.call broke.of_event;
+          accepted = accepted_more broke.call (broke.accepted config past here_stands);
+          stopped = subst (λ f. StopsText m a (t ++ u) f c) (sym broke.is) (told_text laws a c (t ++ u) broke.error broke.unrefused ended);
+          store_stopped = subst (λ f. StopsStore (store_meaning n) start.reporter.store (records ++ entry) f next.reporter.store) (sym broke.is) (told_store (store-laws others) start.reporter.store next.reporter.store (records ++ entry) broke.error broke.unrefused store_ended);
+        }
+
+    -- memory was refused before another call
+    pub broke_before : next ≡ now → BreaksOff m n options start next run fault.OutOfMemory
+    broke_before same =
+        let config = configuration_for options run.config in
+        subst (λ x. BreaksOff m n options start x run fault.OutOfMemory) (sym same) (record {
+          past = past;
+          of_run = of_run;
+          accepted = accepted;
+          stopped = inr (record { front = report config past; rest = []; whole = sym (append-nil (report config past)); accepted = tells.accepted config stands });
+          store_stopped = inr (record { front = stored config.store past; rest = []; whole = sym (append-nil (stored config.store past)); accepted = tells.stored config stands });
+        })
+
+    -- what was told stands
+    pub has_told : next ≡ now → AreDelivered m n now.reporter → now.outcome ≡ run_outcome past → HasTold m n options start next run
+    has_told same delivered outcome =
+        let config = configuration_for options run.config in
+        subst (λ x. HasTold m n options start x run) (sym same) (record {
+          past = past;
+          of_run = of_run;
+          accepted = accepted;
+          reported = tells.accepted config stands;
+          kept = tells.stored config stands;
+          delivered = delivered.writer;
+          store_delivered = delivered.store;
+          outcome = outcome;
+        })
+
+    -- the event of a line was left
+    module _ (whole t : List ℕ) (more : List (List ℕ)) (number : ℕ) (at : AtLine whole run (t ∷ more) number) (e : SceneEvent) (says : line_said (lines_before run) t ≡ Ok (said.Event e))
+        (delivered : AreDelivered m n now.reporter) (outcome : now.outcome ≡ run_outcome past) where
+      left_event : (fault : Fault) → BreaksEvent m n e fault now next → StopsBehind whole (λ r. BreaksOff m n options start next r fault)
+      left_event fault broke = record {
+        run = with_said run (said.Event e);
+        lines = more;
+        number = number + 1;
+        at = at_more whole run t more number (with_said run (said.Event e)) at (line_tells run t (said.Event e) says);
+        holds = broke_event e fault broke;
+      }
+
+      pub leaves_event : (f : Fault) → LeavesEvent m n number e f now next → StopsBy options whole (HasTold m n options start next) (BreaksOff m n options start next) f
+      leaves_event fault.Usage h = absurd h
+      leaves_event (fault.CannotRead file) h = absurd h
+      leaves_event (fault.CannotWrite file) h = absurd h
+      leaves_event (fault.Line j f) h = record {
+        run = run;
+        t = t;
+        more = more;
+        at = record { front = at.front; whole = at.whole; place = h.0 ∙ at.place; tells = at.tells };
+        wrong = inr (record { event = e; says = says; call = h.2.call; of_event = h.2.of_event; refused = h.2.refused (configuration_for options run.config) past here_stands });
+        holds = has_told h.1 delivered outcome;
+      }
+      leaves_event fault.WriteFailed h = left_event fault.WriteFailed h
+      leaves_event fault.StoreFailed h = left_event fault.StoreFailed h
+      leaves_event fault.OutOfMemory (inl same) = record { run = run; lines = t ∷ more; number = number; at = at; holds = broke_before same }
+      leaves_event fault.OutOfMemory (inr broke) = left_event fault.OutOfMemory broke
+
+  -- of a follower that keeps up
+  module _ (options : Options) (start now next : Follower W S) (run : Told) (follows : Follows m n options start now run) where
+    configured : run.config ≡ now.config
+    configured = ap (λ (b : LinesBefore). b.config) follows.begun
+
+    -- it has told what it has
+    pub now_told : next ≡ now → HasTold m n options start next run
+    now_told same = has_told options start now next run follows.past follows.of_run follows.stands follows.tells follows.accepted same follows.delivered follows.outcome
+
+    told_said : (t : List ℕ) (s : LineSaid) → line_said (lines_before run) t ≡ Ok s → next.config ≡ now.config → TellsSaid m n s now next → AreDelivered m n next.reporter →
+        (after : Told) × (line_told run t ≡ Ok after) × Follows m n options start next after
+    told_said t said.Nothing says same tells delivered = (run, line_tells run t said.Nothing says, subst (λ x. Follows m n options start x run) (sym tells) follows)
+    told_said t (said.Config c) says same tells delivered = absurd tells
+    told_said t (said.Event e) says same tells delivered = (
+      with_said run (said.Event e),
+      line_tells run t (said.Event e) says,
+      told_event options start now next run follows.past follows.of_run follows.stands follows.tells follows.accepted e configured same follows.outcome tells delivered,
+    )
+
+    -- a line more was told
+    pub told_line : (t : List ℕ) → next.config ≡ now.config → TellsLine m n t now next → AreDelivered m n next.reporter → (after : Told) × (line_told run t ≡ Ok after) × Follows m n options start next after
+    told_line t same told delivered = told_said t told.said (subst (λ b. line_said b t ≡ Ok told.said) (sym follows.begun) told.says) same told.tells delivered
+
+    -- the next line was left, or could not be read
+    module _ (whole : List ℕ) (lines : List (List ℕ)) (number : ℕ) (at : AtLine whole run lines number) where
+      stopped_before : next ≡ now → StopsBy options whole (HasTold m n options start next) (BreaksOff m n options start next) fault.OutOfMemory
+      stopped_before same = record {
+        run = run;
+        lines = lines;
+        number = number;
+        at = at;
+        holds = broke_before options start now next run follows.past follows.of_run follows.stands follows.tells follows.accepted same;
+      }
+
+      pub left_reader : next ≡ now → (f : Fault) → IsReaderFault f → StopsBy options whole (HasTold m n options start next) (BreaksOff m n options start next) f
+      left_reader same fault.Usage h = absurd h
+      left_reader same (fault.CannotRead file) h = record { run = run; lines = lines; number = number; at = at; holds = now_told same }
+      left_reader same (fault.CannotWrite file) h = absurd h
+      left_reader same (fault.Line j f) h = absurd h
+      left_reader same fault.WriteFailed h = absurd h
+      left_reader same fault.StoreFailed h = absurd h
+      left_reader same fault.OutOfMemory h = stopped_before same
+
+    module _ (whole t : List ℕ) (more : List (List ℕ)) (number : ℕ) (at : AtLine whole run (t ∷ more) number) where
+      left_said : (f : Fault) → LeavesSaid m n number t f now next → StopsBy options whole (HasTold m n options start next) (BreaksOff m n options start next) f
+      left_said f h =
+          leaves_event options start now next run follows.past follows.of_run follows.stands follows.tells follows.accepted whole t more number at h.event
+          (subst (λ b. line_said b t ≡ Ok (said.Event h.event)) (sym follows.begun) h.says) follows.delivered follows.outcome f h.leaves
+
+      pub left_line : (f : Fault) → LeavesLine m n number t f now next → StopsBy options whole (HasTold m n options start next) (BreaksOff m n options start next) f
+      left_line fault.Usage h = absurd h
+      left_line (fault.CannotRead file) h = absurd h
+      left_line (fault.CannotWrite file) h = absurd h
+      left_line (fault.Line j f) (inl h) = record {
+        run = run;
+        t = t;
+        more = more;
+        at = record { front = at.front; whole = at.whole; place = h.0 ∙ at.place; tells = at.tells };
+        wrong = inl (subst (λ b. line_said b t ≡ Err f) (sym follows.begun) h.2);
+        holds = now_told h.1;
+      }
+      left_line (fault.Line j f) (inr h) = left_said (fault.Line j f) h
+      left_line fault.WriteFailed h = left_said fault.WriteFailed h
+      left_line fault.StoreFailed h = left_said fault.StoreFailed h
+      left_line fault.OutOfMemory (inl same) = stopped_before whole (t ∷ more) number at same
+      left_line fault.OutOfMemory (inr h) = left_said fault.OutOfMemory h

@@ -1,0 +1,334 @@
+-- A report that keeps up with its lines: what a line does, what stops one, and what the run came to.
+use Rattle.std.specs.Prelude.{◌≡◌, ◌⊎◌, ℕ, ◌+◌, ◌-◌, ◌<◌, ◌^◌, List, [], ◌∷◌, ◌++◌, length, reverse, Bool, true, false, Option, None, Some, Result, Ok, Err, ⊤}
+use Rattle.std.specs.Io.BufRead.{drop_through, take_through}
+use Rattle.std.specs.List.{AllZip}
+use Rattle.std.specs.Option.{option_and_then}
+use Rattle.plain_text.specs.Writer.{Meaning}
+use Rattle.run_model.specs.Stats.{final_stats_of, stress_stats_of}
+use Rattle.run_model.specs.declared.call.ReportCall.{ReportCall}
+use Rattle.run_model.specs.declared.call.ReportCall.TheVariants as call
+use Rattle.run_model.specs.declared.event.TestEventKind.{TestEventKind}
+use Rattle.run_model.specs.declared.event.TestEventKind.TheVariants as kind
+use Rattle.run_model.specs.declared.stats.FinalRunStats.{FinalRunStats}
+use Rattle.run_model.specs.declared.stats.FinalRunStats.TheVariants as final
+use Rattle.run_model.specs.declared.stats.RunFinishedStats.{RunFinishedStats}
+use Rattle.run_model.specs.declared.stats.RunFinishedStats.TheVariants as finished
+use Rattle.run_model.specs.declared.stats.StressFinalRunStats.{StressFinalRunStats}
+use Rattle.run_model.specs.declared.stats.StressFinalRunStats.TheVariants as stress
+use Rattle.reporter_state.specs.Refusals.{first_refused, refusal_by}
+use Rattle.console_reporter.specs.Accepted.{refusal}
+use Rattle.console_reporter.specs.Configuration.{Configuration}
+use Rattle.reporter_state.specs.Refusals.{refusal_in}
+use Rattle.console_reporter.specs.Report.{report}
+use Rattle.console_reporter.specs.Slots.{store_meaning}
+use Rattle.console_reporter.specs.HeldState.{StandsAfter}
+use Rattle.console_reporter.specs.Stored.{stored}
+use Rattle.console_reporter.specs.Telling.{AreDelivered, Breaks, Tells, TellsRun}
+use Rattle.reporter_state.specs.declared.faults.WriteEventError.{WriteEventError}
+use Rattle.reporter_state.specs.declared.faults.WriteEventError.TheVariants.{RetriedSuccess, OutputNotLoaded, Io, Memory, Failed, StoreIo}
+use Rattle.scene_text.specs.Configs.{unconfigured}
+use Rattle.scene_text.specs.SceneTexts.{AllTell, Told, line_said, lines_before, nothing_told, text_told}
+use Rattle.scene_text.specs.Scenes.{IsCallOf}
+use Rattle.scene_text.specs.Split.{parted}
+use Rattle.scene_text.specs.declared.fault.LineFault.{LineFault}
+use Rattle.scene_text.specs.declared.fault.LineFault.TheVariants as line
+use Rattle.scene_text.specs.declared.reader.LineSaid.{LineSaid}
+use Rattle.scene_text.specs.declared.reader.LineSaid.TheVariants as said
+use Rattle.scene_text.specs.declared.reader.LinesBefore.{LinesBefore}
+use Rattle.scene_text.specs.declared.scene.SceneConfig.{SceneConfig}
+use Rattle.scene_text.specs.declared.scene.event.SceneEvent.{SceneEvent}
+use Rattle.scenes.specs.Judged.{line_fault_for}
+use Rattle.scenes.specs.Reports.{StopsStore, StopsText, configuration_for, fault_for, report_of, store_for, stored_of}
+use Rattle.scenes.specs.SpelledRuns.{BeginsTold, PrintsTold}
+use Rattle.scenes.specs.Unloads.{decider_for}
+use Rattle.scenes.specs.declared.fault.Fault.{Fault}
+use Rattle.scenes.specs.declared.fault.Fault.TheVariants as fault
+use Rattle.scenes.specs.declared.follow.Follower.{Follower}
+use Rattle.scenes.specs.declared.follow.RunOutcome.{RunOutcome}
+use Rattle.scenes.specs.declared.follow.RunOutcome.TheVariants as outcome
+use Rattle.scenes.specs.declared.words.Options.{Options}
+
+-- what a run came to by its statistics: one that was cancelled has failed
+abbrev pub outcome_of_single : FinalRunStats → RunOutcome
+outcome_of_single final.Success = outcome.Success
+outcome_of_single final.NoTestsRun = outcome.NoTestsRun
+outcome_of_single (final.Cancelled reason kind) = outcome.Failed
+outcome_of_single (final.Failed kind) = outcome.Failed
+
+abbrev pub outcome_of_stress : StressFinalRunStats → RunOutcome
+outcome_of_stress stress.Success = outcome.Success
+outcome_of_stress stress.NoTestsRun = outcome.NoTestsRun
+outcome_of_stress stress.Cancelled = outcome.Failed
+outcome_of_stress stress.Failed = outcome.Failed
+
+abbrev pub outcome_of : RunFinishedStats → RunOutcome
+outcome_of (finished.Single stats) = outcome_of_single (final_stats_of stats)
+outcome_of (finished.Stress stats) = outcome_of_stress (stress_stats_of stats)
+
+-- what it has come to after an event: a start takes back an end
+abbrev pub outcome_after_event : RunOutcome → TestEventKind → RunOutcome
+outcome_after_event before (kind.RunStarted tests id profile) = outcome.NotEnded
+outcome_after_event before (kind.RunFinished elapsed stats outstanding) = outcome_of stats
+outcome_after_event before _ = before
+
+abbrev pub outcome_after : RunOutcome → ReportCall → RunOutcome
+outcome_after before (call.Event e) = outcome_after_event before e.kind
+outcome_after before (call.Header h) = before
+outcome_after before (call.Prefix p) = before
+
+-- what a run has come to whose calls are these, the latest first
+unfoldable pub run_outcome : List ReportCall → RunOutcome
+run_outcome [] = outcome.NotEnded
+run_outcome (call ∷ past) = outcome_after (run_outcome past) call
+
+-- the status that the program ends with
+abbrev pub status_of_outcome : RunOutcome → ℕ
+status_of_outcome outcome.NotEnded = 3
+status_of_outcome outcome.Success = 0
+status_of_outcome outcome.NoTestsRun = 4
+status_of_outcome outcome.Failed = 100
+
+-- what the program tells where the call of the line of this number stopped
+abbrev pub fault_at_call : ℕ → WriteEventError → Fault
+fault_at_call n RetriedSuccess = fault.Line n line.RetriedSuccess
+fault_at_call n OutputNotLoaded = fault.Line n line.OutputNotLoaded
+fault_at_call n Io = fault.WriteFailed
+fault_at_call n Memory = fault.OutOfMemory
+fault_at_call n Failed = fault.WriteFailed
+fault_at_call n StoreIo = fault.StoreFailed
+
+-- what a line is read by that stands behind an event
+abbrev pub behind : SceneConfig → LinesBefore
+behind config = record { config = config; is_begun = true }
+
+module _ {W S : Type 0} (m : Meaning W) (n : Meaning S) where
+  -- An event was told: its call is none that is refused, and was made; it decides what the run has come to.
+  pub record TellsEvent (event : SceneEvent) (old new : Follower W S) : Type 0 where
+    pub call : ReportCall
+    pub of_event : IsCallOf event call
+    pub tells : Tells m n old.reporter (Some call) new.reporter
+    pub accepted : (config : Configuration) (past : List ReportCall) → StandsAfter config past old.reporter → refusal config call ≡ None
+    pub outcome : new.outcome ≡ outcome_after old.outcome call
+
+  -- what a line does that says this
+  abbrev pub TellsSaid : LineSaid → Follower W S → Follower W S → Type 0
+  TellsSaid said.Nothing old new = new ≡ old
+  TellsSaid (said.Config config) old new = ⊥
+  TellsSaid (said.Event e) old new = TellsEvent e old new
+
+  -- a line was told: it has no fault, and its event was told, if it says one
+  pub record TellsLine (t : List ℕ) (old new : Follower W S) : Type 0 where
+    pub said : LineSaid
+    pub says : line_said (behind old.config) t ≡ Ok said
+    pub tells : TellsSaid said old new
+
+  -- the event's call is refused, and this is why
+  pub record RefusesEvent (event : SceneEvent) (f : LineFault) (old : Follower W S) : Type 0 where
+    pub call : ReportCall
+    pub of_event : IsCallOf event call
+    pub refused : (config : Configuration) (past : List ReportCall) → StandsAfter config past old.reporter → option_and_then line_fault_for (refusal config call) ≡ Some f
+
+  -- the event's call was begun, and this fault stopped it, which is no refusal
+  pub record BreaksEvent (event : SceneEvent) (fault : Fault) (old new : Follower W S) : Type 0 where
+    pub call : ReportCall
+    pub of_event : IsCallOf event call
+    pub error : WriteEventError
+    pub breaks : Breaks m n old.reporter (Some call) error new.reporter
+    pub unrefused : refusal_in error ≡ None
+    pub accepted : (config : Configuration) (past : List ReportCall) → StandsAfter config past old.reporter → refusal config call ≡ None
+    pub is : fault ≡ fault_for error
+
+  -- the event of the line of this number was not told: it is refused and nothing was done, memory was refused before anything was
+  -- done, or its call was begun
+  abbrev pub LeavesEvent : ℕ → SceneEvent → Fault → Follower W S → Follower W S → Type 0
+  LeavesEvent k event fault.Usage old new = ⊥
+  LeavesEvent k event (fault.CannotRead file) old new = ⊥
+  LeavesEvent k event (fault.CannotWrite file) old new = ⊥
+  LeavesEvent k event (fault.Line j f) old new = (j ≡ k) × (new ≡ old) × RefusesEvent event f old
+  LeavesEvent k event fault.WriteFailed old new = BreaksEvent event fault.WriteFailed old new
+  LeavesEvent k event fault.StoreFailed old new = BreaksEvent event fault.StoreFailed old new
+  LeavesEvent k event fault.OutOfMemory old new = (new ≡ old) ⊎ BreaksEvent event fault.OutOfMemory old new
+
+  -- a line says an event that was not told
+  pub record LeavesSaid (k : ℕ) (t : List ℕ) (fault : Fault) (old new : Follower W S) : Type 0 where
+    pub event : SceneEvent
+    pub says : line_said (behind old.config) t ≡ Ok (said.Event event)
+    pub leaves : LeavesEvent k event fault old new
+
+  -- the same of the line of this number: it has this fault of its own and nothing was done, or says an event that was not told; or memory
+  -- was refused before anything was done
+  abbrev pub LeavesLine : ℕ → List ℕ → Fault → Follower W S → Follower W S → Type 0
+  LeavesLine k t fault.Usage old new = ⊥
+  LeavesLine k t (fault.CannotRead file) old new = ⊥
+  LeavesLine k t (fault.CannotWrite file) old new = ⊥
+  LeavesLine k t (fault.Line j f) old new = ((j ≡ k) × (new ≡ old) × (line_said (behind old.config) t ≡ Err f)) ⊎ LeavesSaid k t (fault.Line j f) old new
+  LeavesLine k t fault.WriteFailed old new = LeavesSaid k t fault.WriteFailed old new
+  LeavesLine k t fault.StoreFailed old new = LeavesSaid k t fault.StoreFailed old new
+  LeavesLine k t fault.OutOfMemory old new = (new ≡ old) ⊎ LeavesSaid k t fault.OutOfMemory old new
+
+-- what was read of a reader: no line, where it had nothing left, or a line with what ends it
+abbrev pub IsNextLine : List ℕ → Bool → List ℕ → Option (List ℕ) → Type 0
+IsNextLine text false buffer rest = text ≡ []
+IsNextLine text true buffer rest = (0 < length buffer) × (buffer ≡ take_through 10 text) × (rest ≡ Some (drop_through 10 text))
+
+-- a reader cannot be read, or memory was refused
+abbrev pub IsReaderFault : Fault → Type 0
+IsReaderFault fault.Usage = ⊥
+IsReaderFault (fault.CannotRead file) = ⊤
+IsReaderFault (fault.CannotWrite file) = ⊥
+IsReaderFault (fault.Line n f) = ⊥
+IsReaderFault fault.WriteFailed = ⊥
+IsReaderFault fault.StoreFailed = ⊥
+IsReaderFault fault.OutOfMemory = ⊤
+
+-- lines that are left of a text: its pieces, or none where it ended with the line before
+abbrev pub AreLeft : List (List ℕ) → List ℕ → Type 0
+AreLeft lines text = (lines ≡ parted 10 text) ⊎ ((lines ≡ []) × (text ≡ []))
+
+-- a text's first lines tell this, and these lines follow, of which the first has this number
+pub record AtLine (text : List ℕ) (run : Told) (lines : List (List ℕ)) (number : ℕ) : Type 0 where
+  pub front : List (List ℕ)
+  pub whole : parted 10 text ≡ front ++ lines
+  pub place : number ≡ length front + 1
+  pub tells : AllTell nothing_told front run
+
+-- the same of a reader that has the lines that follow
+pub record IsReadTo (text : List ℕ) (run : Told) (number : ℕ) (remaining : Option (List ℕ)) : Type 0 where
+  pub lines : List (List ℕ)
+  pub at : AtLine text run lines number
+  pub rest : List ℕ
+  pub remains : remaining ≡ Some rest
+  pub left : AreLeft lines rest
+
+-- a line behind these says an event whose call is refused, and this is why
+pub record IsRefusedEvent (options : Options) (run : Told) (t : List ℕ) (f : LineFault) : Type 0 where
+  pub event : SceneEvent
+  pub says : line_said (lines_before run) t ≡ Ok (said.Event event)
+  pub call : ReportCall
+  pub of_event : IsCallOf event call
+  pub refused : option_and_then line_fault_for (refusal_by (decider_for options run.config) call) ≡ Some f
+
+-- the line of this number has this fault behind those before it, of which P holds
+pub record StopsAtLine (options : Options) (text : List ℕ) (P : Told → Type 0) (number : ℕ) (f : LineFault) : Type 0 where
+  pub run : Told
+  pub t : List ℕ
+  pub more : List (List ℕ)
+  pub at : AtLine text run (t ∷ more) number
+  pub wrong : (line_said (lines_before run) t ≡ Err f) ⊎ IsRefusedEvent options run t f
+  pub holds : P run
+
+-- P holds of what some first lines of a text tell
+pub record StopsBehind (text : List ℕ) (P : Told → Type 0) : Type 0 where
+  pub run : Told
+  pub lines : List (List ℕ)
+  pub number : ℕ
+  pub at : AtLine text run lines number
+  pub holds : P run
+
+-- What a fault leaves of a text that is followed: P holds of the lines before a line that is wrong, and of those before the reader failed;
+-- Q of those that were begun where a device failed or memory was refused.
+abbrev pub StopsBy : Options → List ℕ → (Told → Type 0) → (Told → Fault → Type 0) → Fault → Type 0
+StopsBy options text P Q fault.Usage = ⊥
+StopsBy options text P Q (fault.CannotRead file) = StopsBehind text P
+StopsBy options text P Q (fault.CannotWrite file) = ⊥
+StopsBy options text P Q (fault.Line n f) = StopsAtLine options text P n f
+StopsBy options text P Q fault.WriteFailed = StopsBehind text (λ run. Q run fault.WriteFailed)
+StopsBy options text P Q fault.StoreFailed = StopsBehind text (λ run. Q run fault.StoreFailed)
+StopsBy options text P Q fault.OutOfMemory = StopsBehind text (λ run. Q run fault.OutOfMemory)
+
+-- P holds of the run that the text tells
+pub record OfText (text : List ℕ) (P : Told → Type 0) : Type 0 where
+  pub run : Told
+  pub spelled : text_told text ≡ Ok run
+  pub holds : P run
+
+module _ {W T : Type 0} (m : Meaning W) (k : Meaning T) (options : Options) where
+  -- The calls of what lines tell are all accepted; the writer accepted their report, and the second one what is stored of them.
+  pub record ReportsTold (old new : W) (store_old store_new : T) (come_to : RunOutcome) (run : Told) : Type 0 where
+    pub past : List ReportCall
+    pub of_run : AllZip IsCallOf run.events (reverse past)
+    pub accepted : first_refused (decider_for options run.config) (reverse past) ≡ None
+    pub reported : m.accepts old (report (configuration_for options run.config) past) new
+    pub kept : k.accepts store_old (stored (store_for options) past) store_new
+    pub delivered : m.is_delivered new
+    pub store_delivered : k.is_delivered store_new
+    pub outcome : come_to ≡ run_outcome past
+
+  -- the same, whatever the run has come to
+  abbrev pub HasToldTo : W → W → T → T → Told → Type 0
+  HasToldTo old new store_old store_new run = (come_to : RunOutcome) × ReportsTold old new store_old store_new come_to run
+
+  -- Those calls are all accepted; this fault stopped their report, of which a beginning was accepted.
+  pub record BreaksTold (old new : W) (store_old store_new : T) (run : Told) (fault : Fault) : Type 0 where
+    pub past : List ReportCall
+    pub of_run : AllZip IsCallOf run.events (reverse past)
+    pub accepted : first_refused (decider_for options run.config) (reverse past) ≡ None
+    pub stopped : StopsText m old (report (configuration_for options run.config) past) fault new
+    pub store_stopped : StopsStore k store_old (stored (store_for options) past) fault store_new
+
+module _ {W S : Type 0} (m : Meaning W) (n : Meaning S) (options : Options) where
+  -- a follower that has told nothing yet
+  pub record IsStart (start : Follower W S) : Type 0 where
+    pub stands : StandsAfter (configuration_for options start.config) [] start.reporter
+    pub delivered : AreDelivered m n start.reporter
+    pub outcome : start.outcome ≡ outcome.NotEnded
+
+  -- since its start, a follower has told this
+  pub record Follows (start now : Follower W S) (run : Told) : Type 0 where
+    pub past : List ReportCall
+    pub of_run : AllZip IsCallOf run.events (reverse past)
+    pub begun : lines_before run ≡ behind now.config
+    pub stands : StandsAfter (configuration_for options run.config) [] start.reporter
+    pub tells : TellsRun m n start.reporter past now.reporter
+    pub accepted : first_refused (decider_for options run.config) (reverse past) ≡ None
+    pub delivered : AreDelivered m n now.reporter
+    pub outcome : now.outcome ≡ run_outcome past
+
+  -- the same, and a reader stands behind the lines of a text that tell it
+  pub record KeepsUp (text : List ℕ) (start now : Follower W S) (number : ℕ) (remaining : Option (List ℕ)) : Type 0 where
+    pub run : Told
+    pub read : IsReadTo text run number remaining
+    pub follows : Follows start now run
+
+  -- what a follower has told, by its two writers
+  abbrev pub HasTold : Follower W S → Follower W S → Told → Type 0
+  HasTold start now run =
+      ReportsTold m (store_meaning n) options start.reporter.writer.now now.reporter.writer.now start.reporter.store now.reporter.store now.outcome run
+
+  -- a call of the last line broke off
+  abbrev pub BreaksOff : Follower W S → Follower W S → Told → Fault → Type 0
+  BreaksOff start now run fault =
+      BreaksTold m (store_meaning n) options start.reporter.writer.now now.reporter.writer.now start.reporter.store now.reporter.store run fault
+
+-- lines tell no event
+abbrev pub HasNoEvent : Told → Type 0
+HasNoEvent run = run.events ≡ []
+
+-- and memory was refused behind them
+abbrev pub IsRefusedMemory : Told → Fault → Type 0
+IsRefusedMemory run f = HasNoEvent run × (f ≡ fault.OutOfMemory)
+
+-- the first event stands in the line of this number, behind lines that make this configuration
+pub record IsFirstEvent (text : List ℕ) (config : SceneConfig) (number : ℕ) (event : SceneEvent) (remaining : Option (List ℕ)) : Type 0 where
+  pub t : List ℕ
+  pub more : List (List ℕ)
+  pub at : AtLine text (record { config = config; events = [] }) (t ∷ more) number
+  pub says : line_said (record { config = config; is_begun = false }) t ≡ Ok (said.Event event)
+  pub rest : List ℕ
+  pub remains : remaining ≡ Some rest
+  pub left : AreLeft more rest
+
+-- the lines before the first event make this configuration, and the text ends with them, or that event follows
+abbrev pub HasFirst : List ℕ → SceneConfig → Option (ℕ × SceneEvent) → Option (List ℕ) → Type 0
+HasFirst text config None remaining = text_told text ≡ Ok (record { config = config; events = [] })
+HasFirst text config (Some x) remaining = IsFirstEvent text config x.0 x.1 remaining
+
+-- the first event stands in a line that is not the last that can be counted
+abbrev pub IsCountable : Option (ℕ × SceneEvent) → Type 0
+IsCountable None = ⊤
+IsCountable (Some x) = x.0 < 2 ^ 64 - 1
+
+-- the bytes grew by the report of the run that the text tells, and the outcome is that of its calls
+pub record PrintsFollowed (options : Options) (come_to : RunOutcome) (old new store_old store_new : Option (List ℕ)) (run : Told) : Type 0 where
+  pub printed : PrintsTold options run old new store_old store_new
+  pub outcome : come_to ≡ run_outcome (reverse printed.calls)
