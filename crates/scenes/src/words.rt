@@ -61,7 +61,8 @@ pub fn words(words: &[String]) -> Option<Options<'_>>
 /// where the words before it are options alone.
 ///
 /// ```
-/// let given = CommandLine::from_words(alloc, &["--level", "fail"])?;
+/// let mut given = Vec::new(alloc);
+/// given.push(String::from_str(alloc, "--color")?)?;
 /// assert_eq!(words_or_input(alloc, &mut given)?.map(|options| options.file), Some("-"));
 /// ```
 pub fn words_or_input<'a>(
