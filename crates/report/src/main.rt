@@ -52,10 +52,10 @@ fn run<'a>(rt: &HostRuntime, args: &'a [String]) -> Result<(), Fault<'a>> {
         Err(error) => return Err(Fault::CannotRead { file: options.file }.by_kind(error.kind())),
     };
     let alloc = rt.alloc();
-    // The memory of the scene and of its calls goes with the process.
+    // The memory of the scene goes with the process.
     let scene = ManuallyDrop::new(read_whole(alloc, &options, file)?);
     let judged = match judge_scene(alloc, &options, &scene) {
-        Ok(judged) => ManuallyDrop::new(judged),
+        Ok(judged) => judged,
         Err(fault) => return Err(fault),
     };
     let Some(store) = options.store else {

@@ -14,6 +14,7 @@ use store_text::config::StoreConfig;
 
 mod faults;
 mod growths;
+mod pieces;
 mod stores;
 mod unload;
 mod unshown;
@@ -157,7 +158,7 @@ fn tells_why_a_file_is_not_read(rt: HostRuntime) -> Result<(), Fail> {
         (ErrorKind::OutOfMemory, "out of memory", 3),
     ];
     for (kind, line, status) in kinds {
-        for reads_before in 0..12 {
+        for reads_before in 0..14 {
             let reader = Failing {
                 text,
                 reads_before,
@@ -170,7 +171,8 @@ fn tells_why_a_file_is_not_read(rt: HostRuntime) -> Result<(), Fail> {
                 Vec::new(alloc),
                 Vec::new(alloc),
             );
-            let is_read = reads_before > text.len().div_ceil(7);
+            // It says once behind the last byte, and once more, that nothing is left.
+            let is_read = reads_before > text.len().div_ceil(7) + 1;
             assert_eq!(rt; outcome.is_ok(), is_read);
             if let Err(fault) = outcome {
                 assert_eq!(rt; fault.to_string(alloc)?.as_str(), line);

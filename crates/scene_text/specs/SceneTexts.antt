@@ -176,6 +176,11 @@ abbrev pub IsFaultHere : ℕ → Result Told LineFault → ReadFault → Type 0
 IsFaultHere n told (fault.Line m f) = (m ≡ n) × (told ≡ Err f)
 IsFaultHere n told fault.OutOfMemory = ⊤
 
+-- the fault is that of lines that tell this, or memory was refused
+abbrev pub IsFaultThere : Result Told (ℕ × LineFault) → ReadFault → Type 0
+IsFaultThere read (fault.Line n f) = read ≡ Err (n, f)
+IsFaultThere read fault.OutOfMemory = ⊤
+
 -- each line tells, one after the other
 abbrev pub AllTell : Told → List (List ℕ) → Told → Type 0
 AllTell before [] after = before ≡ after

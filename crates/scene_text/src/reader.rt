@@ -8,9 +8,9 @@
 //! unit is doing, `outputs` what it wrote, `lists` lists of words, `fields` how a line is taken apart, `tabs` where its tabs
 //! stand, and `split`, `texts` and `numbers` how those are written.
 
-ghost use Rattle.std.specs.Prelude.{◌≡◌, ◌++◌, IfOk, IfErr, OnOk, Ok};
+ghost use Rattle.std.specs.Prelude.{◌≡◌, ◌+◌, ◌++◌, [], length, IfOk, IfErr, OnOk, Ok};
 ghost use Rattle.scene_text.specs.Split.{parted, field_texts};
-ghost use Rattle.scene_text.specs.SceneTexts.{AllTell, IsAnswer, IsFaultOf, IsFaultHere, IsSaid, comes_late, event_lines, fault_at, fields_said, is_begun, is_passed_over, line_here, line_said, line_told, nothing_told, text_told, told, words_said};
+ghost use Rattle.scene_text.specs.SceneTexts.{AllTell, IsAnswer, IsFaultOf, IsFaultHere, IsFaultThere, IsSaid, comes_late, event_lines, fault_at, fields_said, is_begun, is_passed_over, line_here, line_said, line_told, lines_told, nothing_told, text_told, told, words_said};
 
 mod counts;
 mod fields;
@@ -84,34 +84,70 @@ pub fn read_scene(alloc: Global, text: &[u8]) -> Result<ToldRun, ReadFault>
     // It is what the text tells, unless memory is refused.
     ensures answer { IsAnswer result (text_told text.now) }
 {
-    read_lines(alloc, text)
+    match LinesRead::none(alloc).read_more(alloc, text) {
+        Ok(read) => Ok(read.run),
+        Err(fault) => Err(fault),
+    }
 }
 
-// Reads a scene line by line.
-fn read_lines(alloc: Global, text: &[u8]) -> Result<ToldRun, ReadFault>
-    ensures answer { IsAnswer result (text_told text.now) }
-    ensures lines { IfOk result (λ scene. scene.lines.items ≡ event_lines 1 nothing_told (parted 10 text.now)) }
-{
-    let mut scene = ToldRun {
-        config: SceneConfig::new(),
-        events: Vec::new(alloc),
-        lines: Vec::new(alloc),
-    };
-    let mut lines = Vec::new(alloc);
-    let mut fields = Vec::new(alloc);
-    let mut rest = Some(text);
-    let mut number = 1;
-    while let Some(left) = rest {
-        let (line, after) = first_line(left);
-        let told = read_numbered(alloc, number, line, &mut fields, &mut scene, &mut lines);
-        if let Err(fault) = told {
-            return Err(fault);
+/// The first lines of a scene, which were read: a scene that comes in pieces is read with no more than one of them in memory.
+///
+/// ```
+/// let read = LinesRead::none(alloc).read_more(alloc, b"config\tfinal\tall\n# a comment")?;
+/// assert_eq!(read.next, 3);
+/// assert_eq!(read.run.config.final_status_level, FinalStatusLevel::All);
+/// ```
+#[derive(Debug, Drop)]
+pub struct LinesRead {
+    /// What they tell.
+    pub run: ToldRun,
+    /// The number of the line that follows.
+    pub next: u64,
+}
+
+impl LinesRead {
+    /// No line.
+    pub fn none(alloc: Global) -> LinesRead
+        ensures told { told result.run ≡ nothing_told }
+        ensures lines { result.run.lines.items ≡ [] }
+        ensures next { result.next ≡ 1 }
+    {
+        LinesRead {
+            run: ToldRun {
+                config: SceneConfig::new(),
+                events: Vec::new(alloc),
+                lines: Vec::new(alloc),
+            },
+            next: 1,
         }
-        number += 1;
-        rest = after;
     }
-    scene.lines = lines;
-    Ok(scene)
+
+    /// Reads the lines of a text that follow these. A text that ends in a line feed ends in an empty line: what follows it is another
+    /// line. The error is that of the first line that is wrong.
+    pub fn read_more(self, alloc: Global, text: &[u8]) -> Result<LinesRead, ReadFault>
+        // These lines tell, one after the other, behind those before them.
+        ensures told { IfOk result (λ read. lines_told self.next (told self.run) (parted 10 text.now) ≡ Ok (told read.run)) }
+        ensures lines { IfOk result (λ read. read.run.lines.items ≡ self.run.lines.items ++ event_lines self.next (told self.run) (parted 10 text.now)) }
+        ensures next { IfOk result (λ read. read.next ≡ self.next + length (parted 10 text.now)) }
+        ensures fault { IfErr result (IsFaultThere (lines_told self.next (told self.run) (parted 10 text.now))) }
+    {
+        let LinesRead { mut run, next } = self;
+        let mut fields = Vec::new(alloc);
+        let mut rest = Some(text);
+        for number in next..u64::MAX {
+            let left = match rest {
+                Some(left) => left,
+                None => return Ok(LinesRead { run, next: number }),
+            };
+            let (line, after) = first_line(left);
+            match read_numbered(alloc, number, line, &mut fields, &mut run) {
+                Ok(()) => rest = after,
+                Err(fault) => return Err(fault),
+            }
+        }
+        // No text has so many lines.
+        Err(ReadFault::OutOfMemory)
+    }
 }
 
 // Reads the line of this number into the scene, and notes the number where the line tells an event.
@@ -122,10 +158,9 @@ fn read_numbered<'a>(
     line: &'a [u8],
     fields: &mut Vec<&'a str>,
     scene: &mut ToldRun,
-    lines: &mut Vec<u64>,
 ) -> Result<(), ReadFault>
     ensures ok { OnOk result (line_told (told scene.old) line.now ≡ Ok (told scene.new)) }
-    ensures lines { OnOk result (lines.new.items ≡ lines.old.items ++ line_here number (told scene.old) (told scene.new)) }
+    ensures lines { OnOk result (scene.new.lines.items ≡ scene.old.lines.items ++ line_here number (told scene.old) (told scene.new)) }
     ensures err { IfErr result (IsFaultHere number (line_told (told scene.old) line.now)) }
 {
     let before = LinesBefore {
@@ -137,7 +172,7 @@ fn read_numbered<'a>(
         Ok(LineSaid::Config(config)) => scene.config = config,
         Ok(LineSaid::Event(event)) => {
             scene.events.push(event)?;
-            lines.push(number)?;
+            scene.lines.push(number)?;
         }
         Err(error) => return Err(fault_at(number, error)),
     }

@@ -1,9 +1,11 @@
 pub mod Devices
+pub mod EventCalls
 pub mod Followed
 pub mod FollowedDevices
 pub mod Heads
 pub mod NoConfig
 pub mod Options
+pub mod Pieces
 pub mod ReadLines
 pub mod Refusals
 pub mod Reports

@@ -1,5 +1,5 @@
 -- A report that keeps up with its lines: what a line does, what stops one, and what the run came to.
-use Rattle.std.specs.Prelude.{◌≡◌, ◌⊎◌, ℕ, ◌+◌, ◌-◌, ◌<◌, ◌^◌, List, [], ◌∷◌, ◌++◌, length, reverse, Bool, true, false, Option, None, Some, Result, Ok, Err, ⊤}
+use Rattle.std.specs.Prelude.{◌≡◌, ◌⊎◌, ℕ, ◌+◌, ◌-◌, ◌<◌, ◌^◌, List, [], ◌∷◌, ◌++◌, length, reverse, Bool, true, false, Option, None, Some, Ok, Err, ⊤}
 use Rattle.std.specs.Io.BufRead.{drop_through, take_through}
 use Rattle.std.specs.List.{AllZip}
 use Rattle.std.specs.Option.{option_and_then}
@@ -26,7 +26,6 @@ use Rattle.console_reporter.specs.Stored.{stored}
 use Rattle.console_reporter.specs.Telling.{AreDelivered, Breaks, Tells, TellsRun}
 use Rattle.reporter_state.specs.declared.faults.WriteEventError.{WriteEventError}
 use Rattle.reporter_state.specs.declared.faults.WriteEventError.TheVariants.{RetriedSuccess, OutputNotLoaded, Io, Memory, Failed, StoreIo}
-use Rattle.scene_text.specs.Configs.{unconfigured}
 use Rattle.scene_text.specs.SceneTexts.{AllTell, Told, line_said, lines_before, nothing_told, text_told}
 use Rattle.scene_text.specs.Scenes.{IsCallOf}
 use Rattle.scene_text.specs.Split.{parted}
@@ -38,8 +37,8 @@ use Rattle.scene_text.specs.declared.reader.LinesBefore.{LinesBefore}
 use Rattle.scene_text.specs.declared.scene.SceneConfig.{SceneConfig}
 use Rattle.scene_text.specs.declared.scene.event.SceneEvent.{SceneEvent}
 use Rattle.scenes.specs.Judged.{line_fault_for}
-use Rattle.scenes.specs.Reports.{StopsStore, StopsText, configuration_for, fault_for, report_of, store_for, stored_of}
-use Rattle.scenes.specs.SpelledRuns.{BeginsTold, PrintsTold}
+use Rattle.scenes.specs.Reports.{StopsStore, StopsText, configuration_for, fault_for, store_for}
+use Rattle.scenes.specs.SpelledRuns.{PrintsTold}
 use Rattle.scenes.specs.Unloads.{decider_for}
 use Rattle.scenes.specs.declared.fault.Fault.{Fault}
 use Rattle.scenes.specs.declared.fault.Fault.TheVariants as fault

@@ -1,14 +1,17 @@
 -- Scenes that are judged: each line by itself, and then whether the scene's reporter would refuse an event.
 use Rattle.std.specs.Prelude.{◌≡◌, ◌⊎◌, ℕ, List, get_or, Option, None, Some, Result, Ok, Err, ⊤}
-use Rattle.std.specs.Option.{option_and_then}
-use Rattle.reporter_state.specs.Refusals.{first_refused, refusal_at_by}
+use Rattle.std.specs.Option.{option_and_then, option_map}
+use Rattle.reporter_state.specs.Refusals.{first_refused, refusal_at_by, refusal_by}
+use Rattle.reporter_state.specs.declared.decider.OutputLoadDecider.{OutputLoadDecider}
 use Rattle.run_model.specs.declared.call.ReportCall.{ReportCall}
 use Rattle.reporter_state.specs.declared.faults.WriteEventError.{WriteEventError}
 use Rattle.reporter_state.specs.declared.faults.WriteEventError.TheVariants.{RetriedSuccess, OutputNotLoaded, Io, Memory, Failed, StoreIo}
 use Rattle.scenes.specs.Reports.{AreCallsOf}
 use Rattle.scene_text.specs.SceneTexts.{event_lines, nothing_told, text_told}
 use Rattle.scene_text.specs.Split.{parted}
-use Rattle.scenes.specs.Unloads.{AreReadyCallsOf, decider_for}
+use Rattle.scene_text.specs.Scenes.{IsCallOf}
+use Rattle.scene_text.specs.declared.scene.event.SceneEvent.{SceneEvent}
+use Rattle.scenes.specs.Unloads.{decider_for}
 use Rattle.scenes.specs.declared.fault.Fault.{Fault}
 use Rattle.scenes.specs.declared.fault.Fault.TheVariants as fault
 use Rattle.scene_text.specs.declared.fault.LineFault.{LineFault}
@@ -23,16 +26,10 @@ pub record IsSceneAccepted (options : Options) (scene : Scene) : Type 0 where
   pub of_scene : AreCallsOf scene calls
   pub accepted : first_refused (decider_for options scene.config) calls ≡ None
 
--- a scene that was judged: by what options, and the calls that its reporter gets
+-- a scene that was judged, and by what options
 pub record Judged : Type 0 where
   pub options : Options
   pub scene : Scene
-  pub calls : List ReportCall
-
--- the calls are the scene's, and none is refused
-pub record IsJudgedScene (judged : Judged) : Type 0 where
-  pub ready : AreReadyCallsOf judged.options judged.scene judged.calls
-  pub accepted : first_refused (decider_for judged.options judged.scene.config) judged.calls ≡ None
 
 -- what the line of a call says that is refused so
 abbrev pub line_fault_for : WriteEventError → Option LineFault
@@ -43,10 +40,16 @@ line_fault_for Memory = None
 line_fault_for Failed = None
 line_fault_for StoreIo = None
 
--- the same of a call that is refused
-abbrev pub fault_of_refusal : Option WriteEventError → LineFault
-fault_of_refusal (Some RetriedSuccess) = line.RetriedSuccess
+-- the same of an error that is a refusal
+abbrev pub fault_of_refusal : WriteEventError → LineFault
+fault_of_refusal RetriedSuccess = line.RetriedSuccess
 fault_of_refusal _ = line.OutputNotLoaded
+
+-- an event was judged by its call: this is what its line says, if the call is refused
+pub record JudgesEvent (d : OutputLoadDecider) (event : SceneEvent) (fault : Option LineFault) : Type 0 where
+  pub call : ReportCall
+  pub of_event : IsCallOf event call
+  pub is : fault ≡ option_map fault_of_refusal (refusal_by d call)
 
 -- the line is that of the first call that is refused, and it says why
 pub record IsRefusedLine (options : Options) (scene : Scene) (calls : List ReportCall) (n : ℕ) (f : LineFault) : Type 0 where

@@ -1,6 +1,7 @@
 pub mod Faults
 pub mod Follow
 pub mod Judged
+pub mod Pieces
 pub mod Reports
 pub mod SpelledRuns
 pub mod ToldScenes

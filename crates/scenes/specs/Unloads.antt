@@ -3,10 +3,12 @@
 use Rattle.std.specs.Prelude.{◌≡◌, List, if◌then◌else◌}
 use Rattle.console_reporter.specs.Accepted.{decider_of}
 use Rattle.console_reporter.specs.Isolation.{IsIsolated}
-use Rattle.reporter_state.specs.Unread.{unread}
+use Rattle.reporter_state.specs.Unread.{unread, unread_call}
 use Rattle.run_model.specs.declared.call.ReportCall.{ReportCall}
 use Rattle.reporter_state.specs.declared.decider.OutputLoadDecider.{OutputLoadDecider}
+use Rattle.scene_text.specs.Scenes.{IsCallOf}
 use Rattle.scene_text.specs.declared.scene.SceneConfig.{SceneConfig}
+use Rattle.scene_text.specs.declared.scene.event.SceneEvent.{SceneEvent}
 use Rattle.scenes.specs.Reports.{AreCallsOf, configuration_for}
 use Rattle.scenes.specs.declared.scene.Scene.{Scene}
 use Rattle.scenes.specs.declared.words.Options.{Options}
@@ -18,6 +20,12 @@ decider_for options config = decider_of (configuration_for options config)
 -- the calls of the scene, or the same with the output left unread that the decider skips
 abbrev pub unloaded_for : Options → Scene → List ReportCall → List ReportCall
 unloaded_for options scene made = if options.unload_skipped then unread (decider_for options scene.config) made else made
+
+-- the call is one of the event, or the same with its output left unread, where that is asked for and the decider skips it
+pub record IsReadyCall (options : Options) (d : OutputLoadDecider) (event : SceneEvent) (call : ReportCall) : Type 0 where
+  pub made : ReportCall
+  pub of_event : IsCallOf event made
+  pub ready : call ≡ (if options.unload_skipped then unread_call d made else made)
 
 -- the calls are those, and so they have the report of the scene's calls, and the first that is refused is the same
 pub record AreReadyCallsOf (options : Options) (scene : Scene) (calls : List ReportCall) : Type 0 where

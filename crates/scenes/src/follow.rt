@@ -12,7 +12,7 @@ ghost use Rattle.scenes.specs.Follow.{BreaksOff, BreaksTold, HasFirst, HasNoEven
 ghost use Rattle.scenes.specs.SpelledRuns.{BeginsTold, PrintsTold};
 
 use crate::fault::{Fault, LineFault};
-use crate::reporter::{builder_of, surroundings_of};
+use crate::reporter::{builder_of, give_back, give_both_back, surroundings_of};
 use crate::scene::SceneConfig;
 use crate::scene::event::SceneEvent;
 use crate::words::Options;
@@ -393,22 +393,6 @@ fn follow_both<'a, R: BufRead, W: WriteStr, S: WriteStr>(
         Ok(()) => Ok(come_to),
         Err(fault) => Err(fault),
     }
-}
-
-// A writer ends as it is.
-fn give_back<W>(writer: &mut W)
-    ensures { writer.new ≡ writer.old }
-{
-    let _writer = writer;
-}
-
-// The same of two.
-fn give_both_back<W, S>(writer: &mut W, store_writer: &mut S)
-    ensures writer { writer.new ≡ writer.old }
-    ensures store_writer { store_writer.new ≡ store_writer.old }
-{
-    let _store_writer = store_writer;
-    let _writer = writer;
 }
 
 // Tells the first event, if there is one, and then follows the lines that are left.

@@ -3,49 +3,56 @@
 //! A scene is read, then judged, and then reported. Judging has no device in its hands, and a report takes what judging gives, so no byte
 //! comes out before a scene is judged, and none of a scene that is refused.
 
-ghost use Rattle.std.specs.Prelude.{◌≡◌, ◌⊎◌, ℕ, List, None, Some, IfOk, IfErr, OnErr, OnOk};
-ghost use Rattle.std.specs.Io.KnownBytes.{Appends};
+ghost use Rattle.std.specs.Prelude.{◌≡◌, ◌⊎◌, ℕ, List, [], Option, None, Some, IfOk, IfErr, OnErr, OnOk};
 ghost use Rattle.scenes.specs.declared.fault.Fault.{Fault};
 ghost use Rattle.scene_text.specs.Split.{parted};
 ghost use Rattle.scenes.specs.Faults.{IsJudgeFault};
-ghost use Rattle.reporter_state.specs.Refusals.{first_refused};
-ghost use Rattle.scenes.specs.Judged.{IsJudged, IsJudgedFault, IsSceneAccepted, IsSceneRefused, fault_of_refusal};
-ghost use Rattle.scenes.specs.Reports.{Begins, IsStop, StopsStore, StopsText, fault_for, report_of, store_for, stored_of};
+ghost use Rattle.console_reporter.specs.HeldState.{StandsAfter};
+ghost use Rattle.console_reporter.specs.Slots.{store_meaning};
+ghost use Rattle.console_reporter.specs.Telling.{IsSameReporter};
+ghost use Rattle.plain_text.specs.StringWriter.{string_meaning};
+ghost use Rattle.scenes.specs.Follow.{BreaksTold, HasToldTo};
+ghost use Rattle.scenes.specs.Judged.{IsJudged, IsJudgedFault, IsSceneAccepted, IsSceneRefused, JudgesEvent, fault_of_refusal};
+ghost use Rattle.scenes.specs.Reports.{configuration_for, fault_for, store_for};
 ghost use Rattle.scene_text.specs.SceneTexts.{AllTell, event_lines, nothing_told, text_told};
 ghost use Rattle.scenes.specs.SpelledRuns.{BeginsReport, BeginsRun, IsRejected, PrintsReport, PrintsRun};
-ghost use Rattle.scenes.specs.Unloads.{AreReadyCallsOf, decider_for};
+ghost use Rattle.scene_text.specs.Scenes.{IsCallOf};
+ghost use Rattle.scenes.specs.Unloads.{IsReadyCall};
 ghost use Rattle.scenes.specs.ToldScenes.{IsReadFault, IsSceneRead, scene_told};
 
 use crate::fault::{Fault, LineFault};
-use crate::reporter::{builder_of, decider_of};
+use crate::pieces::next_piece;
+use crate::reporter::{builder_of, decider_of, give_back, give_both_back, surroundings_of};
 use crate::scene::Scene;
+use crate::scene::event::SceneEvent;
 use crate::words::Options;
-use console_reporter::imp::{
-    ReportCall, WriteEventError, first_refused, run_report, run_report_with_store,
-};
+use console_reporter::imp::{DisplayReporter, OutputLoadDecider, ReportCall, WriteEventError};
 use console_reporter::write_str::{TextBuffer, WriteStr};
-use scene_text::reader::read_scene;
+use run_model::memory::OutOfMemory;
+use scene_text::reader::LinesRead;
 use std::alloc::{AllocError, Global};
-use std::io::{Read, Write};
+use std::io::{BufReader, Read, Write};
 use std::marker::Model;
 use store_text::config::StoreConfig;
 
-/// A scene that was judged: what its reporter gets, of which it refuses nothing.
+// How many bytes are read of a file at once.
+const BYTES_AT_ONCE: usize = 16_384;
+
+/// A scene that was judged: its reporter refuses no call of it.
 #[derive(Drop)]
 pub struct JudgedScene<'a> {
     options: &'a Options<'a>,
     scene: &'a Scene,
-    calls: Vec<ReportCall<'a>>,
 }
 
 impl<'a> Model for JudgedScene<'a> {
-    ghost use Rattle.scenes.specs.Judged.{IsJudgedScene, Judged};
+    ghost use Rattle.scenes.specs.Judged.{IsSceneAccepted, Judged};
 
     ghost Value = { Judged };
 
-    ghost view = { λ j. record { options = j.options.now; scene = j.scene.now; calls = j.calls.items } };
+    ghost view = { λ j. record { options = j.options.now; scene = j.scene.now } };
 
-    ghost invariant = { λ j. IsJudgedScene (record { options = j.options.now; scene = j.scene.now; calls = j.calls.items }) };
+    ghost invariant = { λ j. IsSceneAccepted j.options.now j.scene.now };
 }
 
 /// Reads a scene to its end, and judges it whole: each line by itself, and then whether its reporter would refuse an event.
@@ -84,19 +91,30 @@ pub fn read_whole<'a, R: Read + Drop>(
     ensures first_fault { (bytes : List ℕ) → R.remaining reader ≡ Some bytes → IfErr result (IsReadFault bytes) }
     ensures answer { (bytes : List ℕ) → R.remaining reader ≡ Some bytes → IsSceneRead result (text_told bytes) }
 {
-    let mut reader = reader;
-    let mut text = Vec::new(alloc);
-    if let Err(error) = reader.read_to_end(&mut text) {
-        return Err(Fault::CannotRead { file: options.file }.by_kind(error.kind()));
+    let mut buffered = match BufReader::with_capacity(alloc, BYTES_AT_ONCE, reader) {
+        Ok(buffered) => buffered,
+        Err(_) => return Err(Fault::OutOfMemory),
+    };
+    let mut piece = Vec::new(alloc);
+    let mut read = LinesRead::none(alloc);
+    for _turn in 0..u64::MAX {
+        match next_piece(options.file, &mut buffered, &mut piece) {
+            Ok(true) => {}
+            Ok(false) => {
+                return Ok(Scene {
+                    config: read.run.config,
+                    events: read.run.events,
+                    lines: read.run.lines,
+                });
+            }
+            Err(fault) => return Err(fault),
+        }
+        read = match read.read_more(alloc, piece.as_slice()) {
+            Ok(more) => more,
+            Err(fault) => return Err(Fault::from(fault)),
+        };
     }
-    match read_scene(alloc, text.as_slice()) {
-        Ok(run) => Ok(Scene {
-            config: run.config,
-            events: run.events,
-            lines: run.lines,
-        }),
-        Err(fault) => Err(Fault::from(fault)),
-    }
+    Err(Fault::CannotRead { file: options.file })
 }
 
 /// Judges a scene that was read by what its reporter would refuse: what can be reported is a scene that was judged so.
@@ -110,48 +128,70 @@ pub fn judge_scene<'a>(
     ensures accepted { IfOk result (λ _. IsSceneAccepted options.now scene.now) }
     ensures err { IfErr result (IsSceneRefused options.now scene.now) }
 {
-    let calls = match scene.calls(alloc, options) {
-        Ok(calls) => calls,
-        Err(fault) => return Err(fault),
-    };
-    match judge_calls(alloc, options, scene, calls.as_slice()) {
-        Ok(()) => Ok(JudgedScene {
-            options,
-            scene,
-            calls,
-        }),
+    match judge_events(alloc, options, scene) {
+        Ok(()) => Ok(JudgedScene { options, scene }),
         Err(fault) => Err(fault),
     }
 }
 
-// Judges the calls of a scene: the first that its reporter would refuse is the fault of its line.
-fn judge_calls(
-    alloc: Global,
-    options: &Options<'_>,
-    scene: &Scene,
-    calls: &[ReportCall<'_>],
-) -> Result<(), Fault<'static>>
-    requires { AreReadyCallsOf options.now scene.now calls.now }
+// Judges the events of a scene: the first whose call its reporter would refuse is the fault of its line. Those behind it are judged too,
+// so that what is told is told of a scene that has all its calls.
+fn judge_events(alloc: Global, options: &Options<'_>, scene: &Scene) -> Result<(), Fault<'static>>
     ensures ok { OnOk result (IsSceneAccepted options.now scene.now) }
-    ensures none_refused { OnOk result (first_refused (decider_for options.now scene.now.config) calls.now ≡ None) }
     ensures err { IfErr result (IsSceneRefused options.now scene.now) }
 {
     let decider = decider_of(alloc, options, &scene.config)?;
-    match first_refused(&decider, calls) {
+    let mut room = Vec::new(alloc);
+    let mut refused = None;
+    for place in 0..scene.events.len() {
+        let line = scene.line_of(place);
+        let fault = judge_event(alloc, &decider, &scene.events[place], &mut room)?;
+        refused = refused.or(fault.map(|fault| (line, fault)));
+    }
+    match refused {
         None => Ok(()),
-        Some(place) => Err(Fault::Line {
-            line: scene.line_of(place),
-            fault: fault_of_refusal(decider.refusal(&calls[place])),
-        }),
+        Some((line, fault)) => Err(Fault::Line { line, fault }),
+    }
+}
+
+// What the line of an event says whose call is refused. The call is made in this room for this alone.
+fn judge_event<'a>(
+    alloc: Global,
+    decider: &OutputLoadDecider,
+    event: &'a SceneEvent,
+    room: &mut Vec<ReportCall<'a>>,
+) -> Result<Option<LineFault>, OutOfMemory>
+    ensures { IfOk result (JudgesEvent decider.now event.now) }
+{
+    let call = call_in(alloc, event, room)?;
+    match decider.refusal(call) {
+        Some(error) => Ok(Some(fault_of_refusal(error))),
+        None => Ok(None),
+    }
+}
+
+// Makes the call of an event in a room, in place of what stood there: calls are large, and no room is allocated for each.
+fn call_in<'r, 'a>(
+    alloc: Global,
+    event: &'a SceneEvent,
+    room: &'r mut Vec<ReportCall<'a>>,
+) -> Result<&'r mut ReportCall<'a>, OutOfMemory>
+    ensures { IfOk result (λ call. IsCallOf event.now call.now) }
+{
+    room.clear();
+    event.push_call(alloc, room)?;
+    match room.as_mut_slice().first_mut() {
+        Some(call) => Ok(call),
+        None => unreachable!(),
     }
 }
 
 // What the line of a call says that is refused so.
-fn fault_of_refusal(refusal: Option<WriteEventError>) -> LineFault
-    ensures { result ≡ fault_of_refusal refusal }
+fn fault_of_refusal(error: WriteEventError) -> LineFault
+    ensures { result ≡ fault_of_refusal error }
 {
-    match refusal {
-        Some(WriteEventError::RetriedSuccess) => LineFault::RetriedSuccess,
+    match error {
+        WriteEventError::RetriedSuccess => LineFault::RetriedSuccess,
         _ => LineFault::OutputNotLoaded,
     }
 }
@@ -231,30 +271,33 @@ pub fn report_judged<W: Write, S: Write>(
     ensures err { IfErr result.0 (λ fault. BeginsReport judged.now.options judged.now.scene fault (W.contents writer) (W.contents result.1) (S.contents store_writer) (S.contents result.2)) }
     ensures no_store { judged.now.options.store ≡ None → result.2 ≡ store_writer }
 {
-    match judged.options.store {
+    let (options, scene) = (judged.options, judged.scene);
+    match options.store {
         None => {
-            let (outcome, writer) = report_alone(alloc, judged, writer);
+            let (outcome, writer) = report_alone(alloc, options, scene, writer);
             (outcome, writer, store_writer)
         }
-        Some(store) => report_both(alloc, judged, store.config, writer, store_writer),
+        Some(store) => report_both(alloc, options, scene, store.config, writer, store_writer),
     }
 }
 
-// The same where the options ask for no records.
+// The same where the options ask for no records. What a second device holds, it still holds.
 fn report_alone<W: Write>(
     alloc: Global,
-    judged: &JudgedScene<'_>,
+    options: &Options<'_>,
+    scene: &Scene,
     writer: W,
 ) -> (Result<(), Fault<'static>>, W)
-    requires { store_for judged.now.options ≡ None }
-    ensures ok { OnOk result.0 (Appends (W.contents writer) (W.contents result.1) (report_of judged.now.options judged.now.scene.config judged.now.calls)) }
-    ensures err { IfErr result.0 (λ fault. IsStop judged.now.options fault × Begins (W.contents writer) (W.contents result.1) (report_of judged.now.options judged.now.scene.config judged.now.calls)) }
+    requires store_asked { store_for options.now ≡ None }
+    requires accepted { IsSceneAccepted options.now scene.now }
+    ensures ok { (held : Option (List ℕ)) → OnOk result.0 (PrintsReport options.now scene.now (W.contents writer) (W.contents result.1) held held) }
+    ensures err { (held : Option (List ℕ)) → IfErr result.0 (λ fault. BeginsReport options.now scene.now fault (W.contents writer) (W.contents result.1) held held) }
 {
     let mut out = match TextBuffer::new(alloc, writer) {
         Ok(out) => out,
         Err((AllocError, writer)) => return (Err(Fault::OutOfMemory), writer),
     };
-    let outcome = report_to(alloc, judged, &mut out);
+    let outcome = report_to(alloc, options, scene, &mut out);
     let (writer, _pending) = out.into_inner();
     (outcome, writer)
 }
@@ -262,17 +305,16 @@ fn report_alone<W: Write>(
 // The same where they ask for records. Both buffers are made before any byte.
 fn report_both<W: Write, S: Write>(
     alloc: Global,
-    judged: &JudgedScene<'_>,
+    options: &Options<'_>,
+    scene: &Scene,
     store: StoreConfig,
     writer: W,
     store_writer: S,
 ) -> (Result<(), Fault<'static>>, W, S)
-    requires { store_for judged.now.options ≡ Some store }
-    ensures ok { OnOk result.0 (Appends (W.contents writer) (W.contents result.1) (report_of judged.now.options judged.now.scene.config judged.now.calls)) }
-    ensures kept { OnOk result.0 (Appends (S.contents store_writer) (S.contents result.2) (stored_of judged.now.options judged.now.calls)) }
-    ensures err { IfErr result.0 (λ fault. IsStop judged.now.options fault
-        × Begins (W.contents writer) (W.contents result.1) (report_of judged.now.options judged.now.scene.config judged.now.calls)
-        × Begins (S.contents store_writer) (S.contents result.2) (stored_of judged.now.options judged.now.calls)) }
+    requires store_asked { store_for options.now ≡ Some store }
+    requires accepted { IsSceneAccepted options.now scene.now }
+    ensures ok { OnOk result.0 (PrintsReport options.now scene.now (W.contents writer) (W.contents result.1) (S.contents store_writer) (S.contents result.2)) }
+    ensures err { IfErr result.0 (λ fault. BeginsReport options.now scene.now fault (W.contents writer) (W.contents result.1) (S.contents store_writer) (S.contents result.2)) }
 {
     let mut out = match TextBuffer::new(alloc, writer) {
         Ok(out) => out,
@@ -285,82 +327,119 @@ fn report_both<W: Write, S: Write>(
             return (Err(Fault::OutOfMemory), writer, store_writer);
         }
     };
-    let outcome = report_and_store_to(alloc, judged, store, &mut out, &mut records);
+    let outcome = report_and_store_to(alloc, options, scene, store, &mut out, &mut records);
     let (writer, _pending) = out.into_inner();
     let (store_writer, _unstored) = records.into_inner();
     (outcome, writer, store_writer)
 }
 
-// Writes the report of a scene that was judged, and delivers it. On a fault the writer has accepted a beginning of it.
+// Writes the report of a scene that is accepted, and delivers it. On a fault the writer has accepted a beginning of it.
 fn report_to<W: WriteStr>(
     alloc: Global,
-    judged: &JudgedScene<'_>,
+    options: &Options<'_>,
+    scene: &Scene,
     writer: &mut W,
 ) -> Result<(), Fault<'static>>
-    requires { store_for judged.now.options ≡ None }
-    ensures ok { OnOk result (W.meaning.accepts writer.old (report_of judged.now.options judged.now.scene.config judged.now.calls) writer.new) }
-    ensures delivered { OnOk result (W.meaning.is_delivered writer.new) }
-    ensures err { IfErr result (λ fault. StopsText W.meaning writer.old (report_of judged.now.options judged.now.scene.config judged.now.calls) fault writer.new) }
-    ensures no_store { IfErr result (λ fault. fault ≡ Fault.StoreFailed → ⊥) }
+    requires store_asked { store_for options.now ≡ None }
+    requires accepted { IsSceneAccepted options.now scene.now }
+    ensures ok { OnOk result (HasToldTo W.meaning (store_meaning string_meaning) options.now writer.old writer.new None None (scene_told scene.now)) }
+    ensures err { IfErr result (BreaksTold W.meaning (store_meaning string_meaning) options.now writer.old writer.new None None (scene_told scene.now)) }
 {
-    let scene = judged.scene;
-    let builder = match builder_of(alloc, judged.options, &scene.config) {
+    let builder = match builder_of(alloc, options, &scene.config) {
         Ok(builder) => builder,
         Err(fault) => return Err(fault),
     };
-    let (is_terminal, is_ci) = (false, false);
-    match run_report(
-        alloc,
-        builder,
-        writer,
-        scene.config.use_unicode,
-        is_terminal,
-        is_ci,
-        scene.config.display_empty_outputs,
-        judged.calls.as_slice(),
-    ) {
-        Ok(()) => Ok(()),
-        Err(stopped) => Err(fault_of(stopped.fault)),
-    }
+    let mut reporter = builder.build_for(alloc, writer, surroundings_of(&scene.config));
+    let outcome = report_events(alloc, options, scene, &mut reporter);
+    let (writer, _store_writer) = reporter.into_writers();
+    give_back(writer);
+    outcome
 }
 
 // The same, and the records to a second writer.
 fn report_and_store_to<W: WriteStr, S: WriteStr>(
     alloc: Global,
-    judged: &JudgedScene<'_>,
+    options: &Options<'_>,
+    scene: &Scene,
     store: StoreConfig,
     writer: &mut W,
     store_writer: &mut S,
 ) -> Result<(), Fault<'static>>
-    requires { store_for judged.now.options ≡ Some store }
-    ensures ok { OnOk result (W.meaning.accepts writer.old (report_of judged.now.options judged.now.scene.config judged.now.calls) writer.new) }
-    ensures kept { OnOk result (S.meaning.accepts store_writer.old (stored_of judged.now.options judged.now.calls) store_writer.new) }
-    ensures delivered { OnOk result (W.meaning.is_delivered writer.new) }
-    ensures store_delivered { OnOk result (S.meaning.is_delivered store_writer.new) }
-    ensures err { IfErr result (λ fault. StopsText W.meaning writer.old (report_of judged.now.options judged.now.scene.config judged.now.calls) fault writer.new) }
-    ensures store_err { IfErr result (λ fault. StopsStore S.meaning store_writer.old (stored_of judged.now.options judged.now.calls) fault store_writer.new) }
+    requires store_asked { store_for options.now ≡ Some store }
+    requires accepted { IsSceneAccepted options.now scene.now }
+    ensures ok { OnOk result (HasToldTo W.meaning S.meaning options.now writer.old writer.new store_writer.old store_writer.new (scene_told scene.now)) }
+    ensures err { IfErr result (BreaksTold W.meaning S.meaning options.now writer.old writer.new store_writer.old store_writer.new (scene_told scene.now)) }
 {
-    let scene = judged.scene;
-    let builder = match builder_of(alloc, judged.options, &scene.config) {
+    let config = &scene.config;
+    let builder = match builder_of(alloc, options, config) {
         Ok(builder) => builder,
         Err(fault) => return Err(fault),
     };
     let (is_terminal, is_ci) = (false, false);
-    match run_report_with_store(
+    let mut reporter = builder.build_with_store(
         alloc,
-        builder,
         writer,
         store_writer,
         store,
-        scene.config.use_unicode,
+        config.use_unicode,
         is_terminal,
         is_ci,
-        scene.config.display_empty_outputs,
-        judged.calls.as_slice(),
-    ) {
-        Ok(()) => Ok(()),
-        Err(stopped) => Err(fault_of(stopped.fault)),
+        config.display_empty_outputs,
+    );
+    let outcome = report_events(alloc, options, scene, &mut reporter);
+    let (writer, store_writer) = reporter.into_writers();
+    match store_writer {
+        Some(store_writer) => give_both_back(writer, store_writer),
+        None => unreachable!(),
     }
+    outcome
+}
+
+// Makes the calls of a scene that is accepted, each when its turn comes, and ends the report.
+fn report_events<W: WriteStr, S: WriteStr>(
+    alloc: Global,
+    options: &Options<'_>,
+    scene: &Scene,
+    reporter: &mut DisplayReporter<'_, W, S>,
+) -> Result<(), Fault<'static>>
+    requires stands { StandsAfter (configuration_for options.now scene.now.config) [] reporter.old }
+    requires accepted { IsSceneAccepted options.now scene.now }
+    ensures same { IsSameReporter reporter.old reporter.new }
+    ensures ok { OnOk result (HasToldTo W.meaning (store_meaning S.meaning) options.now reporter.old.writer.now reporter.new.writer.now reporter.old.store reporter.new.store (scene_told scene.now)) }
+    ensures err { IfErr result (BreaksTold W.meaning (store_meaning S.meaning) options.now reporter.old.writer.now reporter.new.writer.now reporter.old.store reporter.new.store (scene_told scene.now)) }
+{
+    let decider = reporter.output_load_decider();
+    let mut room = Vec::new(alloc);
+    for place in 0..scene.events.len() {
+        let call = match ready_call(alloc, options, &decider, &scene.events[place], &mut room) {
+            Ok(call) => call,
+            Err(OutOfMemory) => return Err(Fault::OutOfMemory),
+        };
+        if let Err(error) = reporter.make_call(alloc, call) {
+            return Err(fault_of(error));
+        }
+    }
+    if let Err(error) = reporter.finish() {
+        return Err(fault_of(error));
+    }
+    Ok(())
+}
+
+// The call of an event in a room, with its output left unread where that is asked for and the report does not show it.
+fn ready_call<'r, 'a>(
+    alloc: Global,
+    options: &Options<'_>,
+    decider: &OutputLoadDecider,
+    event: &'a SceneEvent,
+    room: &'r mut Vec<ReportCall<'a>>,
+) -> Result<&'r ReportCall<'a>, OutOfMemory>
+    ensures { IfOk result (λ call. IsReadyCall options.now decider.now event.now call.now) }
+{
+    let call = call_in(alloc, event, room)?;
+    if options.unload_skipped {
+        decider.unload(call);
+    }
+    Ok(call)
 }
 
 // The program's fault where its report stopped. A scene that was judged has no event that is refused.

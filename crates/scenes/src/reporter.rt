@@ -89,3 +89,19 @@ fn kind_for(options: &Options<'_>) -> DisplayerKind
         DisplayerKind::Live
     }
 }
+
+/// Takes a writer back that a reporter wrote to: it ends as it is.
+pub(crate) fn give_back<W>(writer: &mut W)
+    ensures { writer.new ≡ writer.old }
+{
+    let _writer = writer;
+}
+
+/// The same of two.
+pub(crate) fn give_both_back<W, S>(writer: &mut W, store_writer: &mut S)
+    ensures writer { writer.new ≡ writer.old }
+    ensures store_writer { store_writer.new ≡ store_writer.old }
+{
+    let _store_writer = store_writer;
+    let _writer = writer;
+}

@@ -1,7 +1,7 @@
 -- The first fault is the one that is told (for `read_scene`).
 use Rattle.std.proofs.Common.{◌≡◌, ℕ, ◌+◌, List, [], ◌∷◌, ◌++◌, Result, Ok, Err, IfOk, IfErr, length, refl, sym, ap, ◌∙◌, arith, inl, inr, ◌⊎◌}
 use Rattle.scene_text.specs.Split.{parted}
-use Rattle.scene_text.specs.SceneTexts.{Told, told, nothing_told, line_told, lines_told, text_told, AllTell, IsFaultOf, IsAnswer}
+use Rattle.scene_text.specs.SceneTexts.{Told, told, nothing_told, line_told, lines_told, text_told, AllTell, IsFaultOf, IsFaultThere, IsAnswer}
 use Rattle.scene_text.specs.declared.fault.LineFault.{LineFault}
 use Rattle.scene_text.specs.declared.fault.ReadFault.{ReadFault}
 use Rattle.scene_text.specs.declared.fault.ReadFault.TheVariants as fault
@@ -78,3 +78,8 @@ tells_fault (Err fault.OutOfMemory) text h = tt
 tells_fault (Err (fault.Line n f)) text h =
     let r = first_fault 1 nothing_told (parted 10 text) n f h in
     record { front = r.front; line = r.line; rest = r.rest; whole = r.whole; place = r.place; before = r.last; told_so_far = r.told_so_far; wrong = r.wrong }
+
+-- the same of the fault that lines have
+pub fault_tells : (text : List ℕ) (f : ReadFault) → IsFaultThere (text_told text) f → IsFaultOf text f
+fault_tells text (fault.Line n f) h = tells_fault (Err (fault.Line n f)) text h
+fault_tells text fault.OutOfMemory h = tt

@@ -1,6 +1,6 @@
--- Telling line by line, as a loop does (for `read_lines`).
+-- Telling line by line, as a loop does (for `LinesRead::read_more`).
 use Rattle.std.proofs.Common.{◌≡◌, ℕ, ◌+◌, List, [], ◌∷◌, ◌++◌, Result, Ok, Err, sym, ap, ◌∙◌, append_assoc, append-nil}
-use Rattle.scene_text.specs.SceneTexts.{Told, event_lines, line_here, line_told, lines_told, IsAnswer, IsFaultHere}
+use Rattle.scene_text.specs.SceneTexts.{Told, event_lines, line_here, line_told, lines_told, IsFaultHere, IsFaultThere}
 use Rattle.scene_text.specs.declared.fault.LineFault.{LineFault}
 use Rattle.scene_text.specs.declared.fault.ReadFault.{ReadFault}
 use Rattle.scene_text.specs.declared.fault.ReadFault.TheVariants as fault
@@ -13,7 +13,7 @@ module _ (n : ℕ) (before : Told) (lines : List (List ℕ)) (all : Result Told 
   goes_on after told = rw (cut, told) at so_far
 
   -- the line is wrong
-  pub ends : (fault : ReadFault) → IsFaultHere n (line_told before line) fault → IsAnswer (Err fault) all
+  pub ends : (fault : ReadFault) → IsFaultHere n (line_told before line) fault → IsFaultThere all fault
   unfolding lines_told
   ends (fault.Line m f) h = sym (rw (cut, h.1) at so_far) ∙ ap (λ k. Err (k, f)) (sym h.0)
   ends fault.OutOfMemory h = tt

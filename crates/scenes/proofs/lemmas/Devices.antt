@@ -1,5 +1,5 @@
--- What a device holds of a report that stopped (for `report_alone`, `report_both`, `report_judged`).
-use Rattle.std.proofs.Common.{◌≡◌, ℕ, List, [], ◌∷◌, Option, None, Some, Result, Ok, Err, IfErr, refl, sym, ap, ◌∙◌, append-nil, inl, inr}
+-- What a device holds of a report that stopped (for `report_alone`, `report_both`, `follow_scene`).
+use Rattle.std.proofs.Common.{◌≡◌, ℕ, List, [], ◌∷◌, Option, None, Some, refl, sym, ap, ◌∙◌, append-nil, inl, inr}
 use Rattle.std.specs.Option.{option_map_or}
 use Rattle.plain_text.specs.TextBuffer.{buffer_meaning}
 use Rattle.plain_text.specs.Writer.{Meaning}
@@ -82,18 +82,3 @@ no_record (Prefix p ∷ past) = append-nil _ ∙ no_record past
 
 pub nothing_stored : (store : Option StoreConfig) (past : List ReportCall) → store ≡ None → stored store past ≡ []
 nothing_stored store past none = rw none (no_record past)
-
--- what a fault leaves on the devices, where nothing was pending before
-pub alone_left : {W : Type 0} (contents : W → Option (List ℕ)) (options : Options) (outcome : Result (Unit {0}) Fault) (a b : TextBuffer W) (text : List ℕ) → a.pending.items ≡ []
-    → IfErr outcome (λ fault. StopsText (buffer_meaning contents) a text fault b) → IfErr outcome (λ fault. fault ≡ StoreFailed → ⊥)
-    → IfErr outcome (λ fault. IsStop options fault × Begins (contents a.writer) (contents b.writer) text)
-alone_left contents options (Ok done) a b text none h known = tt
-alone_left contents options (Err fault) a b text none h known = (stop_alone (buffer_meaning contents) options a b text fault h known, text_begins contents a b none text fault h)
-
-pub both_left : {W S : Type 0} (contents : W → Option (List ℕ)) (store_contents : S → Option (List ℕ)) (options : Options) (store : StoreConfig) → store_for options ≡ Some store → (outcome : Result (Unit {0}) Fault)
-    (a b : TextBuffer W) (text : List ℕ) (c d : TextBuffer S) (records : List ℕ) → a.pending.items ≡ [] → c.pending.items ≡ []
-    → IfErr outcome (λ fault. StopsText (buffer_meaning contents) a text fault b) → IfErr outcome (λ fault. StopsStore (buffer_meaning store_contents) c records fault d)
-    → IfErr outcome (λ fault. IsStop options fault × Begins (contents a.writer) (contents b.writer) text × Begins (store_contents c.writer) (store_contents d.writer) records)
-both_left contents store_contents options store has (Ok done) a b text c d records none also h k = tt
-both_left contents store_contents options store has (Err fault) a b text c d records none also h k =
-    (stop_both (buffer_meaning contents) options store has a b text fault h, text_begins contents a b none text fault h, store_begins store_contents c d also records fault k)

@@ -1,62 +1,43 @@
 -- A follower tells one event more, or leaves one (for `follow_first`, `follow_rest`, `tell_line`).
-use Rattle.std.proofs.Common.{◌≡◌, ◌⊎◌, ℕ, ◌+◌, ◌<◌, ◌≤◌, Bool, true, false, List, [], ◌∷◌, ◌++◌, Option, None, Some, Result, Ok, Err, length, reverse, get_or, refl, sym, ap, ◌∙◌, subst, arith, append-nil, inl, inr}
-use Rattle.std.specs.List.{AllZip, position, position_or_len}
+use Rattle.std.proofs.Common.{◌≡◌, ℕ, ◌+◌, true, List, [], ◌∷◌, ◌++◌, None, Some, Ok, Err, reverse, refl, sym, ap, ◌∙◌, subst, append-nil, inl, inr}
+use Rattle.std.specs.List.{AllZip}
 use Rattle.std.specs.Option.{is_some, option_and_then}
-use Rattle.std.proofs.lemmas.Bool.{cases_lt}
-use Rattle.std.proofs.lemmas.Grind.{common_steps}
-use Rattle.std.proofs.lemmas.List.{length-append, reverse-append}
-use Rattle.std.proofs.lemmas.List.Sums.{position_or_len_is}
-use Rattle.plain_text.specs.Texts.{Text}
+use Rattle.std.proofs.lemmas.List.{reverse-append}
 use Rattle.plain_text.specs.Writer.{Meaning, WriterLaws}
 use Rattle.run_model.specs.declared.call.ReportCall.{ReportCall}
-use Rattle.console_reporter.specs.Accepted.{decider_of, refusal}
+use Rattle.console_reporter.specs.Accepted.{refusal}
 use Rattle.reporter_state.specs.Refusals.{first_refused, refusal_by}
 use Rattle.console_reporter.specs.Configuration.{Configuration}
-use Rattle.console_reporter.specs.Outcomes.{HasFront}
 use Rattle.reporter_state.specs.Refusals.{refusal_in}
 use Rattle.console_reporter.specs.Report.{report, text}
 use Rattle.console_reporter.specs.Slots.{store_meaning}
 use Rattle.console_reporter.specs.HeldState.{StandsAfter}
 use Rattle.console_reporter.specs.Stored.{stored, stored_text}
-use Rattle.console_reporter.specs.Telling.{AreDelivered, Breaks, Tells, TellsRun}
-use Rattle.reporter_state.specs.declared.decider.OutputLoadDecider.{OutputLoadDecider}
+use Rattle.console_reporter.specs.Telling.{AreDelivered, Breaks, TellsRun}
 use Rattle.console_reporter.specs.declared.imp.reporter.DisplayReporter.{DisplayReporter}
 use Rattle.reporter_state.specs.declared.faults.WriteEventError.{WriteEventError}
 use Rattle.reporter_state.specs.declared.faults.WriteEventError.TheVariants.{RetriedSuccess, OutputNotLoaded, Io, Memory, Failed, StoreIo}
 use Rattle.console_reporter.proofs.lemmas.Stores.{store-laws}
-use Rattle.scene_text.specs.SceneTexts.{AllTell, Told, is_begun, line_said, line_told, lines_before, nothing_told, text_told, with_said}
+use Rattle.scene_text.specs.SceneTexts.{Told, is_begun, line_said, line_told, lines_before, with_said}
 use Rattle.scene_text.specs.Scenes.{IsCallOf}
 use Rattle.scene_text.specs.declared.fault.LineFault.{LineFault}
 use Rattle.scene_text.specs.declared.fault.LineFault.TheVariants as line
 use Rattle.scene_text.specs.declared.reader.LineSaid.{LineSaid}
 use Rattle.scene_text.specs.declared.reader.LineSaid.TheVariants as said
 use Rattle.scene_text.specs.declared.reader.LinesBefore.{LinesBefore}
-use Rattle.scene_text.specs.declared.scene.SceneConfig.{SceneConfig}
 use Rattle.scene_text.specs.declared.scene.event.SceneEvent.{SceneEvent}
-use Rattle.scenes.specs.Follow.{AtLine, BreaksEvent, BreaksOff, BreaksTold, Follows, HasTold, IsReaderFault, LeavesEvent, LeavesLine, LeavesSaid, OfText, RefusesEvent, ReportsTold, StopsAtLine, StopsBehind, StopsBy, TellsEvent, TellsLine, TellsSaid, behind, fault_at_call, run_outcome}
+use Rattle.scenes.specs.Follow.{AtLine, BreaksEvent, BreaksOff, Follows, HasTold, IsReaderFault, LeavesEvent, LeavesLine, LeavesSaid, RefusesEvent, StopsBehind, StopsBy, TellsEvent, TellsLine, TellsSaid, fault_at_call, run_outcome}
 use Rattle.scenes.specs.Judged.{line_fault_for}
-use Rattle.scenes.specs.Reports.{StopsStore, StopsText, configuration_for, fault_for, store_for}
+use Rattle.scenes.specs.Reports.{StopsStore, StopsText, configuration_for, fault_for}
 use Rattle.scenes.specs.Unloads.{decider_for}
 use Rattle.scenes.specs.declared.fault.Fault.{Fault}
 use Rattle.scenes.specs.declared.fault.Fault.TheVariants as fault
 use Rattle.scenes.specs.declared.follow.Follower.{Follower}
 use Rattle.scenes.specs.declared.words.Options.{Options}
 use Rattle.scenes.proofs.lemmas.ReadLines.{at_more, line_tells}
-use Rattle.scenes.proofs.lemmas.Refusals.{position-None}
-use Rattle.scenes.proofs.lemmas.Reports.{ends_joined, store_joined, told_store, told_text}
-
--- one call more is accepted
-first_refused_more : (d : OutputLoadDecider) (calls : List ReportCall) (call : ReportCall) → first_refused d calls ≡ None → refusal_by d call ≡ None → first_refused d (calls ++ call ∷ []) ≡ None
-first_refused_more d calls call none one =
-    let p : ReportCall → Bool = λ c. is_some (refusal_by d c) in
-    let here : p call ≡ false = rw one refl in
-    let size : length (calls ++ call ∷ []) ≡ length calls + 1 = length-append calls (call ∷ []) in
-    let each : (k : ℕ) → k < length (calls ++ call ∷ []) → p (get_or (calls ++ call ∷ []) k call) ≡ false = λ k within. elim (cases_lt k (length calls)) [
-      | inl l ↦ (let q : p (get_or calls k call) ≡ false = position-None p calls k call none l in grind (arith, common_steps, l, q))
-      | inr g ↦ (let last : k ≡ length calls = omega (arith, size, within, g) in grind (arith, common_steps, last, here))
-    ] in
-    let e = position_or_len_is p (calls ++ call ∷ []) (length (calls ++ call ∷ [])) call (omega arith) each (λ l. absurd (omega (arith, l))) in
-    grind (arith, common_steps, e)
+use Rattle.scenes.proofs.lemmas.EventCalls.{zip_more}
+use Rattle.scenes.proofs.lemmas.Refusals.{none_more}
+use Rattle.scenes.proofs.lemmas.Reports.{ends_joined, store_joined, told_more, told_store, told_text}
 
 -- an event more has begun the run
 begun_more : (es : List SceneEvent) (e : SceneEvent) → is_begun (es ++ e ∷ []) ≡ true
@@ -88,25 +69,11 @@ module _ {W S : Type 0} (m : Meaning W) (n : Meaning S) (number : ℕ) (event : 
     left_by Failed breaks refused same = breaks_by Failed breaks refl refused
     left_by StoreIo breaks refused same = breaks_by StoreIo breaks refl refused
 
--- one event more is one call more
-zip_more : (es : List SceneEvent) (calls : List ReportCall) (e : SceneEvent) (call : ReportCall) → AllZip IsCallOf es calls → IsCallOf e call → AllZip IsCallOf (es ++ e ∷ []) (calls ++ call ∷ [])
-zip_more [] [] e call h is = (is, tt)
-zip_more [] (c ∷ calls) e call h is = absurd h
-zip_more (x ∷ es) [] e call h is = absurd h
-zip_more (x ∷ es) (c ∷ calls) e call h is = (h.0, zip_more es calls e call h.1 is)
-
+-- a call more of a past is the last of its calls
 reverse_more : (past : List ReportCall) (call : ReportCall) → reverse (call ∷ past) ≡ reverse past ++ call ∷ []
 reverse_more past call = reverse-append (call ∷ []) past
 
 module _ {W S : Type 0} {m : Meaning W} {n : Meaning S} (laws : WriterLaws m) (others : WriterLaws n) where
-  -- one call more was made
-  told_more : (a b c : DisplayReporter W S) (past : List ReportCall) (call : ReportCall) → TellsRun m n a past b → Tells m n b (Some call) c → TellsRun m n a (call ∷ past) c
-  told_more a b c past call before here = record {
-    accepted = λ config stands. laws.joins _ _ _ _ _ (before.accepted config stands) (here.accepted config past (before.stands config stands));
-    stored = λ config stands. (store-laws others).joins _ _ _ _ _ (before.stored config stands) (here.stored config past (before.stands config stands));
-    stands = λ config stands. here.stands config past (before.stands config stands);
-  }
-
   module _ (options : Options) (start now next : Follower W S) (run : Told) (past : List ReportCall) (of_run : AllZip IsCallOf run.events (reverse past))
       (stands : StandsAfter (configuration_for options run.config) [] start.reporter) (tells : TellsRun m n start.reporter past now.reporter)
       (accepted : first_refused (decider_for options run.config) (reverse past) ≡ None) where
@@ -117,7 +84,7 @@ module _ {W S : Type 0} {m : Meaning W} {n : Meaning S} (laws : WriterLaws m) (o
     calls_more e call is = subst (λ calls. AllZip IsCallOf (run.events ++ e ∷ []) calls) (sym (reverse_more past call)) (zip_more run.events (reverse past) e call of_run is)
 
     accepted_more : (call : ReportCall) → refusal (configuration_for options run.config) call ≡ None → first_refused (decider_for options run.config) (reverse (call ∷ past)) ≡ None
-    accepted_more call none = subst (λ calls. first_refused (decider_for options run.config) calls ≡ None) (sym (reverse_more past call)) (first_refused_more (decider_for options run.config) (reverse past) call accepted none)
+    accepted_more call none = subst (λ calls. first_refused (decider_for options run.config) calls ≡ None) (sym (reverse_more past call)) (none_more (λ c. is_some (refusal_by (decider_for options run.config) c)) (reverse past) call accepted (ap is_some none))
 
     -- an event more was told
     pub told_event : (e : SceneEvent) → run.config ≡ now.config → next.config ≡ now.config → now.outcome ≡ run_outcome past → TellsEvent m n e now next → AreDelivered m n next.reporter →
@@ -128,7 +95,7 @@ module _ {W S : Type 0} {m : Meaning W} {n : Meaning S} (laws : WriterLaws m) (o
       of_run = calls_more e told.call told.of_event;
       begun = rw (configured, same, begun_more run.events e) refl;
       stands = stands;
-      tells = told_more start.reporter now.reporter next.reporter past told.call tells told.tells;
+      tells = told_more laws others start.reporter now.reporter next.reporter past told.call tells told.tells;
       accepted = accepted_more told.call (told.accepted (configuration_for options run.config) past here_stands);
       delivered = delivered;
       outcome = told.outcome ∙ rw outcome refl;

@@ -1,5 +1,5 @@
 -- What devices hold of lines that were followed (for `follow_alone`, `follow_both`, `follow_scene`).
-use Rattle.std.proofs.Common.{◌≡◌, ℕ, List, [], ◌∷◌, ◌++◌, Option, None, Some, reverse, String, refl, sym, ap, ◌∙◌, subst, append-nil, Result, Ok, Err, IfErr, IfOk, OnOk, false, inl, inr, MutBor, unwrap_or}
+use Rattle.std.proofs.Common.{◌≡◌, ℕ, List, [], ◌++◌, Option, None, Some, reverse, String, refl, sym, ap, ◌∙◌, subst, append-nil, Result, Ok, Err, IfErr, IfOk, OnOk, false, inl, inr, MutBor, unwrap_or}
 use Rattle.std.specs.Io.KnownBytes.{Appends, append_known}
 use Rattle.std.specs.declared.alloc.Global.{Global}
 use Rattle.std.proofs.KnownBytes.{Appends-nil}
@@ -22,12 +22,12 @@ use Rattle.console_reporter.specs.declared.imp.builder.DisplayReporterBuilder.{D
 use Rattle.console_reporter.specs.declared.imp.builder.Surroundings.{Surroundings}
 use Rattle.console_reporter.specs.declared.imp.reporter.DisplayReporter.{DisplayReporter}
 use Rattle.console_reporter.specs.declared.imp.store.Store.{Store}
-use Rattle.scene_text.specs.SceneTexts.{AllTell, Told, nothing_told}
+use Rattle.scene_text.specs.SceneTexts.{Told, nothing_told}
 use Rattle.scene_text.specs.Scenes.{IsCallOf}
 use Rattle.scene_text.specs.Split.{parted}
 use Rattle.scene_text.specs.declared.scene.SceneConfig.{SceneConfig}
-use Rattle.scenes.specs.Follow.{AtLine, BreaksOff, BreaksTold, HasNoEvent, HasTold, HasToldTo, IsRefusedMemory, IsStart, OfText, PrintsFollowed, ReportsTold, StopsBy, run_outcome}
-use Rattle.scenes.specs.Reports.{Begins, IsStop, StopsStore, StopsText, builder_for, configuration_for, store_for, surroundings_of}
+use Rattle.scenes.specs.Follow.{BreaksOff, BreaksTold, HasNoEvent, HasTold, HasToldTo, IsRefusedMemory, IsStart, OfText, PrintsFollowed, ReportsTold, StopsBy, run_outcome}
+use Rattle.scenes.specs.Reports.{Begins, StopsStore, builder_for, configuration_for, store_for, surroundings_of}
 use Rattle.scenes.specs.SpelledRuns.{BeginsTold, PrintsTold}
 use Rattle.scenes.specs.declared.fault.Fault.{Fault}
 use Rattle.scenes.specs.declared.fault.Fault.TheVariants as fault
@@ -101,6 +101,15 @@ module _ {W : Type 0} (contents : W → Option (List ℕ)) (options : Options) (
           kept = untouched_begins store_old store_new _ untouched;
         }
 
+    -- of what was returned
+    pub printed_alone : (run : Told) (r : Result (Unit {0}) Fault) → OnOk r (HasToldTo (buffer_meaning contents) (store_meaning string_meaning) options a b None None run) →
+        OnOk r (PrintsTold options run (contents a.writer) (contents b.writer) store_old store_new)
+    printed_alone run r h = from_ok r (λ k. (prints_alone k.0 run k.1).printed) h
+
+    pub begun_alone : (run : Told) (r : Result (Unit {0}) Fault) → IfErr r (BreaksTold (buffer_meaning contents) (store_meaning string_meaning) options a b None None run) →
+        IfErr r (λ f. BeginsTold options run f (contents a.writer) (contents b.writer) store_old store_new)
+    begun_alone run r h = from_err r (begins_alone run) h
+
   -- with one
   module _ {S : Type 0} (store_contents : S → Option (List ℕ)) (store : StoreConfig) (on : store_for options ≡ Some store) (c d : TextBuffer S) (also : c.pending.items ≡ []) where
     pub prints_both : (come_to : RunOutcome) (run : Told) → ReportsTold (buffer_meaning contents) (buffer_meaning store_contents) options a b c d come_to run →
@@ -129,37 +138,60 @@ module _ {W : Type 0} (contents : W → Option (List ℕ)) (options : Options) (
           kept = by_past (λ p. Begins (store_contents c.writer) (store_contents d.writer) (stored (store_for options) p)) h.past (store_begins store_contents c d also (stored (store_for options) h.past) f h.store_stopped);
         }
 
--- what a follower has told by its writers, is told by those that it was lent
-module _ {W : Type 0} (m : Meaning W) (options : Options) (text : List ℕ) (start now : Follower W (String Global)) (old new : W) (old_is : start.reporter.writer.now ≡ old) (new_is : now.reporter.writer.now ≡ new)
-    (no_store : start.reporter.store ≡ None) (same : IsSameStore start.reporter.store now.reporter.store) where
+    pub printed_both : (run : Told) (r : Result (Unit {0}) Fault) → OnOk r (HasToldTo (buffer_meaning contents) (buffer_meaning store_contents) options a b c d run) →
+        OnOk r (PrintsTold options run (contents a.writer) (contents b.writer) (store_contents c.writer) (store_contents d.writer))
+    printed_both run r h = from_ok r (λ k. (prints_both k.0 run k.1).printed) h
+
+    pub begun_both : (run : Told) (r : Result (Unit {0}) Fault) → IfErr r (BreaksTold (buffer_meaning contents) (buffer_meaning store_contents) options a b c d run) →
+        IfErr r (λ f. BeginsTold options run f (contents a.writer) (contents b.writer) (store_contents c.writer) (store_contents d.writer))
+    begun_both run r h = from_err r (begins_both run) h
+
+-- what a reporter has told by its writer, is told by that which it was lent
+module _ {W : Type 0} (m : Meaning W) (options : Options) (start now : DisplayReporter W (String Global)) (old new : W) (old_is : start.writer.now ≡ old) (new_is : now.writer.now ≡ new)
+    (no_store : start.store ≡ None) (same : IsSameStore start.store now.store) where
   none_still : (a b : Option (Store (String Global))) → a ≡ None → IsSameStore a b → b ≡ None
   none_still None None e h = refl
   none_still None (Some b) e h = absurd h
   none_still (Some a) b e h = absurd (cc)
 
-  has_none : now.reporter.store ≡ None
-  has_none = none_still start.reporter.store now.reporter.store no_store same
+  has_none : now.store ≡ None
+  has_none = none_still start.store now.store no_store same
 
-  told_alone : (run : Told) → HasTold m string_meaning options start now run → ReportsTold m (store_meaning string_meaning) options old new None None now.outcome run
-  told_alone run h =
-      subst (λ a. ReportsTold m (store_meaning string_meaning) options a new None None now.outcome run) old_is
-      (subst (λ b. ReportsTold m (store_meaning string_meaning) options start.reporter.writer.now b None None now.outcome run) new_is
-      (subst (λ c. ReportsTold m (store_meaning string_meaning) options start.reporter.writer.now now.reporter.writer.now c None now.outcome run) no_store
-      (subst (λ d. ReportsTold m (store_meaning string_meaning) options start.reporter.writer.now now.reporter.writer.now start.reporter.store d now.outcome run) has_none h)))
+  pub told_alone : (come_to : RunOutcome) (run : Told) → ReportsTold m (store_meaning string_meaning) options start.writer.now now.writer.now start.store now.store come_to run →
+      ReportsTold m (store_meaning string_meaning) options old new None None come_to run
+  told_alone come_to run h =
+      subst (λ a. ReportsTold m (store_meaning string_meaning) options a new None None come_to run) old_is
+      (subst (λ b. ReportsTold m (store_meaning string_meaning) options start.writer.now b None None come_to run) new_is
+      (subst (λ c. ReportsTold m (store_meaning string_meaning) options start.writer.now now.writer.now c None come_to run) no_store
+      (subst (λ d. ReportsTold m (store_meaning string_meaning) options start.writer.now now.writer.now start.store d come_to run) has_none h)))
 
-  broke_alone : (run : Told) (f : Fault) → BreaksOff m string_meaning options start now run f → BreaksTold m (store_meaning string_meaning) options old new None None run f
+  pub broke_alone : (run : Told) (f : Fault) → BreaksTold m (store_meaning string_meaning) options start.writer.now now.writer.now start.store now.store run f →
+      BreaksTold m (store_meaning string_meaning) options old new None None run f
   broke_alone run f h =
       subst (λ a. BreaksTold m (store_meaning string_meaning) options a new None None run f) old_is
-      (subst (λ b. BreaksTold m (store_meaning string_meaning) options start.reporter.writer.now b None None run f) new_is
-      (subst (λ c. BreaksTold m (store_meaning string_meaning) options start.reporter.writer.now now.reporter.writer.now c None run f) no_store
-      (subst (λ d. BreaksTold m (store_meaning string_meaning) options start.reporter.writer.now now.reporter.writer.now start.reporter.store d run f) has_none h)))
+      (subst (λ b. BreaksTold m (store_meaning string_meaning) options start.writer.now b None None run f) new_is
+      (subst (λ c. BreaksTold m (store_meaning string_meaning) options start.writer.now now.writer.now c None run f) no_store
+      (subst (λ d. BreaksTold m (store_meaning string_meaning) options start.writer.now now.writer.now start.store d run f) has_none h)))
 
+  -- of what was returned
+  pub alone_told : (run : Told) (r : Result (Unit {0}) Fault) → OnOk r (HasToldTo m (store_meaning string_meaning) options start.writer.now now.writer.now start.store now.store run) →
+      OnOk r (HasToldTo m (store_meaning string_meaning) options old new None None run)
+  alone_told run r h = from_ok r (λ k. (k.0, told_alone k.0 run k.1)) h
+
+  pub alone_broke : (run : Told) (r : Result (Unit {0}) Fault) → IfErr r (BreaksTold m (store_meaning string_meaning) options start.writer.now now.writer.now start.store now.store run) →
+      IfErr r (BreaksTold m (store_meaning string_meaning) options old new None None run)
+  alone_broke run r h = from_err r (broke_alone run) h
+
+-- the same of a follower
+module _ {W : Type 0} (m : Meaning W) (options : Options) (text : List ℕ) (start now : Follower W (String Global)) (old new : W) (old_is : start.reporter.writer.now ≡ old) (new_is : now.reporter.writer.now ≡ new)
+    (no_store : start.reporter.store ≡ None) (same : IsSameStore start.reporter.store now.reporter.store) where
   pub alone_ok : OfText text (HasTold m string_meaning options start now) → OfText text (ReportsTold m (store_meaning string_meaning) options old new None None now.outcome)
-  alone_ok h = record { run = h.run; spelled = h.spelled; holds = told_alone h.run h.holds }
+  alone_ok h = record { run = h.run; spelled = h.spelled; holds = told_alone m options start.reporter now.reporter old new old_is new_is no_store same now.outcome h.run h.holds }
 
   pub alone_err : (f : Fault) → StopsBy options text (HasTold m string_meaning options start now) (BreaksOff m string_meaning options start now) f →
       StopsBy options text (HasToldTo m (store_meaning string_meaning) options old new None None) (BreaksTold m (store_meaning string_meaning) options old new None None) f
-  alone_err f h = stops_so options text _ _ _ _ (λ run k. (now.outcome, told_alone run k)) broke_alone f h
+  alone_err f h = stops_so options text _ _ _ _ (λ run k. (now.outcome, told_alone m options start.reporter now.reporter old new old_is new_is no_store same now.outcome run k))
+      (broke_alone m options start.reporter now.reporter old new old_is new_is no_store same) f h
 
 -- what is not begun
 module _ {W T : Type 0} (m : Meaning W) (k : Meaning T) (laws : WriterLaws m) (others : WriterLaws k) (options : Options) (text : List ℕ) (old : W) (store_old : T) where
@@ -206,6 +238,19 @@ module _ {W T : Type 0} (m : Meaning W) (k : Meaning T) (laws : WriterLaws m) (o
     pub head_stops : (f : Fault) → StopsBy options text HasNoEvent IsRefusedMemory f → StopsBy options text (HasToldTo m k options old old store_old store_old) (BreaksTold m k options old old store_old store_old) f
     head_stops f h = stops_so options text _ _ _ _ told_nothing broke_nothing f h
 
+-- a reporter that was built goes by the options and the scene's configuration
+pub built_alone : {W S : Type 0} (options : Options) (config : SceneConfig) (b : DisplayReporterBuilder) → b ≡ builder_for options config → (r : DisplayReporter W S) (s : Surroundings) → s ≡ surroundings_of config → store_for options ≡ None →
+    StandsAfter (configured b s.use_unicode s.is_terminal s.is_ci s.display_empty_outputs) [] r → StandsAfter (configuration_for options config) [] r
+built_alone options config b is_built r s around off stands =
+    let same : configured b s.use_unicode s.is_terminal s.is_ci s.display_empty_outputs ≡ configuration_for options config = rw (is_built, around, off) refl in
+    subst (λ k. StandsAfter k [] r) same stands
+
+pub built_both : {W S : Type 0} (options : Options) (config : SceneConfig) (b : DisplayReporterBuilder) → b ≡ builder_for options config → (r : DisplayReporter W S) (store : StoreConfig) → store_for options ≡ Some store →
+    StandsAfter (configured_with_store store b config.use_unicode false false config.display_empty_outputs) [] r → StandsAfter (configuration_for options config) [] r
+built_both options config b is_built r store on stands =
+    let same : configured_with_store store b config.use_unicode false false config.display_empty_outputs ≡ configuration_for options config = rw (is_built, on) refl in
+    subst (λ k. StandsAfter k [] r) same stands
+
 -- a follower that was made
 module _ {W S : Type 0} (m : Meaning W) (n : Meaning S) (options : Options) (config : SceneConfig) (b : DisplayReporterBuilder) (is_built : b ≡ builder_for options config) (r : DisplayReporter W S) (start : Follower W S)
     (configured_so : start.config ≡ config) (not_ended : start.outcome ≡ outcome.NotEnded) (reports : start.reporter ≡ r) where
@@ -219,14 +264,12 @@ module _ {W S : Type 0} (m : Meaning W) (n : Meaning S) (options : Options) (con
   pub starts_alone : (s : Surroundings) → s ≡ surroundings_of config → store_for options ≡ None → StandsAfter (configured b s.use_unicode s.is_terminal s.is_ci s.display_empty_outputs) [] r → (old : W) → r.writer.now ≡ old → r.store ≡ None →
       m.is_delivered old → IsStart m n options start
   starts_alone s around off stands old untouched none delivered =
-      let same : configured b s.use_unicode s.is_terminal s.is_ci s.display_empty_outputs ≡ configuration_for options config = rw (is_built, around, off) refl in
-      starts (subst (λ k. StandsAfter k [] r) same stands) (record { writer = rw untouched delivered; store = rw none tt })
+      starts (built_alone options config b is_built r s around off stands) (record { writer = rw untouched delivered; store = rw none tt })
 
   pub starts_both : (store : StoreConfig) → store_for options ≡ Some store → StandsAfter (configured_with_store store b config.use_unicode false false config.display_empty_outputs) [] r → (old : W) → r.writer.now ≡ old → (a : Store S) → r.store ≡ Some a →
       m.is_delivered old → n.is_delivered a.writer.now → IsStart m n options start
   starts_both store on stands old untouched a has delivered also =
-      let same : configured_with_store store b config.use_unicode false false config.display_empty_outputs ≡ configuration_for options config = rw (is_built, on) refl in
-      starts (subst (λ k. StandsAfter k [] r) same stands) (record { writer = rw untouched delivered; store = rw has also })
+      starts (built_both options config b is_built r store on stands) (record { writer = rw untouched delivered; store = rw has also })
 
 -- the writer of a store that was handed on
 pub lent_name : {S : Type 0} (s x : Option (Store S)) (a : Store S) (w : MutBor S) → s ≡ Some a → IsSameStore s x → Some w ≡ option_map (λ (t : Store S). t.writer) x → w.ghost_name ≡ a.writer.ghost_name
@@ -248,13 +291,13 @@ stops_there n a b t fault.StoreFailed h = h
 stops_there n a b t fault.OutOfMemory (inl h) = inl h
 stops_there n a b t fault.OutOfMemory (inr h) = inr (record { front = h.front; rest = h.rest; whole = h.whole; accepted = h.accepted })
 
--- what a follower has told by its writers, is told by the two that it was lent
-module _ {W S : Type 0} (m : Meaning W) (n : Meaning S) (options : Options) (text : List ℕ) (start now : Follower W S) (old new : W) (old_is : start.reporter.writer.now ≡ old) (new_is : now.reporter.writer.now ≡ new)
-    (a : Store S) (has : start.reporter.store ≡ Some a) (w : MutBor S) (lent : Some w ≡ option_map (λ (s : Store S). s.writer) now.reporter.store) (store_new : S) (store_is : w.now ≡ store_new) where
-  told_with : (x : Option (Store S)) (run : Told) → Some w ≡ option_map (λ (s : Store S). s.writer) x →
-      ReportsTold m (store_meaning n) options start.reporter.writer.now now.reporter.writer.now (Some a) x now.outcome run → ReportsTold m n options old new a.writer.now store_new now.outcome run
-  told_with None run is h = absurd (cc)
-  told_with (Some b) run is h =
+-- what a reporter has told by its writers, is told by the two that it was lent
+module _ {W S : Type 0} (m : Meaning W) (n : Meaning S) (options : Options) (start now : DisplayReporter W S) (old new : W) (old_is : start.writer.now ≡ old) (new_is : now.writer.now ≡ new)
+    (a : Store S) (has : start.store ≡ Some a) (w : MutBor S) (lent : Some w ≡ option_map (λ (s : Store S). s.writer) now.store) (store_new : S) (store_is : w.now ≡ store_new) where
+  told_with : (x : Option (Store S)) (come_to : RunOutcome) (run : Told) → Some w ≡ option_map (λ (s : Store S). s.writer) x →
+      ReportsTold m (store_meaning n) options start.writer.now now.writer.now (Some a) x come_to run → ReportsTold m n options old new a.writer.now store_new come_to run
+  told_with None come_to run is h = absurd (cc)
+  told_with (Some b) come_to run is h =
       let same : b.writer ≡ w = ap (λ (o : Option (MutBor S)). unwrap_or o w) (sym is) in
       let store_same : b.writer.now ≡ store_new = ap (λ (x : MutBor S). x.now) same ∙ store_is in
       record {
@@ -269,7 +312,7 @@ module _ {W S : Type 0} (m : Meaning W) (n : Meaning S) (options : Options) (tex
       }
 
   broke_with : (x : Option (Store S)) (run : Told) (f : Fault) → Some w ≡ option_map (λ (s : Store S). s.writer) x →
-      BreaksTold m (store_meaning n) options start.reporter.writer.now now.reporter.writer.now (Some a) x run f → BreaksTold m n options old new a.writer.now store_new run f
+      BreaksTold m (store_meaning n) options start.writer.now now.writer.now (Some a) x run f → BreaksTold m n options old new a.writer.now store_new run f
   broke_with None run f is h = absurd (cc)
   broke_with (Some b) run f is h =
       let same : b.writer ≡ w = ap (λ (o : Option (MutBor S)). unwrap_or o w) (sym is) in
@@ -282,13 +325,32 @@ module _ {W S : Type 0} (m : Meaning W) (n : Meaning S) (options : Options) (tex
         store_stopped = rw (← store_same) (stops_there n a b (stored (store_for options) h.past) f h.store_stopped);
       }
 
+  pub told_both : (come_to : RunOutcome) (run : Told) → ReportsTold m (store_meaning n) options start.writer.now now.writer.now start.store now.store come_to run → ReportsTold m n options old new a.writer.now store_new come_to run
+  told_both come_to run h = told_with now.store come_to run lent (rw has at h)
+
+  pub broke_both : (run : Told) (f : Fault) → BreaksTold m (store_meaning n) options start.writer.now now.writer.now start.store now.store run f → BreaksTold m n options old new a.writer.now store_new run f
+  broke_both run f h = broke_with now.store run f lent (rw has at h)
+
+  -- of what was returned
+  pub both_told : (run : Told) (r : Result (Unit {0}) Fault) → OnOk r (HasToldTo m (store_meaning n) options start.writer.now now.writer.now start.store now.store run) →
+      OnOk r (HasToldTo m n options old new a.writer.now store_new run)
+  both_told run r h = from_ok r (λ k. (k.0, told_both k.0 run k.1)) h
+
+  pub both_broke : (run : Told) (r : Result (Unit {0}) Fault) → IfErr r (BreaksTold m (store_meaning n) options start.writer.now now.writer.now start.store now.store run) →
+      IfErr r (BreaksTold m n options old new a.writer.now store_new run)
+  both_broke run r h = from_err r (broke_both run) h
+
+-- the same of a follower
+module _ {W S : Type 0} (m : Meaning W) (n : Meaning S) (options : Options) (text : List ℕ) (start now : Follower W S) (old new : W) (old_is : start.reporter.writer.now ≡ old) (new_is : now.reporter.writer.now ≡ new)
+    (a : Store S) (has : start.reporter.store ≡ Some a) (w : MutBor S) (lent : Some w ≡ option_map (λ (s : Store S). s.writer) now.reporter.store) (store_new : S) (store_is : w.now ≡ store_new) where
   pub both_ok : OfText text (HasTold m n options start now) → OfText text (ReportsTold m n options old new a.writer.now store_new now.outcome)
-  both_ok h = record { run = h.run; spelled = h.spelled; holds = told_with now.reporter.store h.run lent (rw has at h.holds) }
+  both_ok h = record { run = h.run; spelled = h.spelled; holds = told_both m n options start.reporter now.reporter old new old_is new_is a has w lent store_new store_is now.outcome h.run h.holds }
 
   pub both_err : (f : Fault) → StopsBy options text (HasTold m n options start now) (BreaksOff m n options start now) f →
       StopsBy options text (HasToldTo m n options old new a.writer.now store_new) (BreaksTold m n options old new a.writer.now store_new) f
   both_err f h = stops_so options text (HasTold m n options start now) (HasToldTo m n options old new a.writer.now store_new) (BreaksOff m n options start now) (BreaksTold m n options old new a.writer.now store_new)
-      (λ run k. (now.outcome, told_with now.reporter.store run lent (rw has at k))) (λ run g k. broke_with now.reporter.store run g lent (rw has at k)) f h
+      (λ run k. (now.outcome, told_both m n options start.reporter now.reporter old new old_is new_is a has w lent store_new store_is now.outcome run k))
+      (broke_both m n options start.reporter now.reporter old new old_is new_is a has w lent store_new store_is) f h
 
 -- memory was refused before anything was written
 pub nothing_held : (options : Options) (text : List ℕ) (P : Told → Type 0) (before after store_before store_after : Option (List ℕ)) → after ≡ before → store_after ≡ store_before →

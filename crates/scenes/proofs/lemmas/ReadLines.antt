@@ -1,12 +1,11 @@
 -- Lines that a reader gives one after the other, and what they tell (for `follow_rest`, `read_head`).
-use Rattle.std.proofs.Common.{◌≡◌, ◌⊎◌, ℕ, ◌+◌, ◌<◌, Bool, true, false, List, [], ◌∷◌, ◌++◌, Option, None, Some, Result, Ok, Err, length, refl, sym, ap, ◌∙◌, subst, arith, append-nil, append_assoc, inl, inr, ◌==◌}
+use Rattle.std.proofs.Common.{◌≡◌, ℕ, ◌+◌, Bool, true, false, List, [], ◌∷◌, ◌++◌, Option, Some, Ok, length, refl, sym, ap, ◌∙◌, subst, arith, append-nil, append_assoc, inl, inr, ◌==◌}
 use Rattle.std.specs.Io.BufRead.{drop_through, take_through}
 use Rattle.std.specs.List.{onto_first}
 use Rattle.std.proofs.lemmas.Bool.{cases_Bool, false≢true}
 use Rattle.std.proofs.lemmas.List.{length-append}
 use Rattle.scene_text.specs.SceneTexts.{AllTell, Told, line_said, line_told, lines_before, lines_told, nothing_told, text_told, with_said}
 use Rattle.scene_text.specs.Split.{parted}
-use Rattle.scene_text.specs.declared.fault.LineFault.{LineFault}
 use Rattle.scene_text.specs.declared.reader.LineSaid.{LineSaid}
 use Rattle.scenes.specs.Follow.{AreLeft, AtLine, IsNextLine, IsReadTo}
 
@@ -21,12 +20,12 @@ same_head : (t u : Text) (ts us : List Text) → t ∷ ts ≡ u ∷ us → t ≡
 same_head t u ts us e = ap (head t) e
 
 -- a text has a first piece
-record HasFirst (text : Text) : Type 0 where
+pub record HasPiece (text : Text) : Type 0 where
   pub first : Text
   pub more : List Text
   pub is : parted 10 text ≡ first ∷ more
 
-has_first : (text : Text) → HasFirst text
+pub has_first : (text : Text) → HasPiece text
 unfolding parted
 has_first [] = record { first = []; more = []; is = refl }
 has_first (c ∷ t) = elim (cases_Bool (c == 10)) [

@@ -1,31 +1,41 @@
--- A report that stopped at a call is a report that stopped, and so with what is stored (for `report_to`, `report_and_store_to`).
-use Rattle.std.proofs.Common.{◌≡◌, ℕ, ◌+◌, ◌<◌, ◌≤◌, get_or, List, [], ◌∷◌, ◌++◌, length, reverse, take, drop, refl, sym, ap, ◌∙◌, subst, Option, None, Some, false, append-nil, append_assoc, arith, inl, inr}
-use Rattle.std.specs.Option.{option_map_or}
-use Rattle.std.proofs.lemmas.Bool.{cases_lt}
-use Rattle.std.proofs.lemmas.List.{take-append-drop, reverse-append}
-use Rattle.std.specs.Prelude.{slice_get}
-use Rattle.std.proofs.lemmas.Option.{slice_get-get_or, slice_get_past}
+-- A report that is made call by call is that of the scene's calls, and stops as one (for `report_events`).
+use Rattle.std.proofs.Common.{◌≡◌, ℕ, ◌+◌, ◌<◌, ◌≤◌, get_or, Bool, true, false, if◌then◌else◌, List, [], ◌∷◌, ◌++◌, length, map, reverse, take, drop, refl, sym, ap, ◌∙◌, subst, None, Some, append-nil, append_assoc, inl, inr}
+use Rattle.std.specs.List.{AllZip, slice_get}
+use Rattle.std.specs.Option.{option_and_then}
+use Rattle.std.proofs.lemmas.List.{drop_more, map-append, map-id, reverse-append, reverse-reverse, take-append-drop, take_all}
 use Rattle.plain_text.specs.Texts.{Text}
 use Rattle.plain_text.specs.Writer.{Meaning, WriterLaws}
-use Rattle.console_reporter.specs.Configuration.{Configuration, configured, configured_with_store}
-use Rattle.reporter_state.specs.Refusals.{refusal_in}
-use Rattle.console_reporter.specs.Outcomes.{HasFront, Stops, StopsAfter, StopsRecord, StopsRecordAfter}
-use Rattle.reporter_state.specs.Refusals.{first_refused}
-use Rattle.console_reporter.specs.Accepted.{decider_of, refusal_at}
-use Rattle.console_reporter.specs.Stored.{stored, stored_at, stored_text}
+use Rattle.console_reporter.specs.Accepted.{refusal}
+use Rattle.console_reporter.specs.Configuration.{Configuration}
+use Rattle.console_reporter.specs.HeldState.{StandsAfter}
+use Rattle.console_reporter.specs.Outcomes.{HasFront, Stops, StopsRecord}
+use Rattle.console_reporter.specs.Report.{report, text}
+use Rattle.console_reporter.specs.Slots.{store_meaning}
+use Rattle.console_reporter.specs.Stored.{stored, stored_text}
+use Rattle.console_reporter.specs.Telling.{AreDelivered, Breaks, Tells, TellsRun}
+use Rattle.console_reporter.specs.declared.imp.reporter.DisplayReporter.{DisplayReporter}
+use Rattle.console_reporter.proofs.lemmas.Isolation.{isolated}
 use Rattle.console_reporter.proofs.lemmas.Refusals.{not_refused}
-use Rattle.store_text.specs.declared.config.StoreConfig.{StoreConfig}
-use Rattle.scenes.proofs.lemmas.Refusals.{none_refused_at}
-use Rattle.scenes.specs.declared.fault.Fault.TheVariants.{OutOfMemory, StoreFailed}
-use Rattle.console_reporter.specs.Report.{text, text_at, past_at, report}
-use Rattle.run_model.specs.declared.call.ReportCall.{ReportCall}
+use Rattle.console_reporter.proofs.lemmas.Stores.{store-laws}
+use Rattle.reporter_state.specs.Refusals.{first_refused, refusal_by, refusal_in}
+use Rattle.reporter_state.specs.Unread.{unread_call}
+use Rattle.reporter_state.specs.declared.decider.OutputLoadDecider.{OutputLoadDecider}
 use Rattle.reporter_state.specs.declared.faults.WriteEventError.{WriteEventError}
 use Rattle.reporter_state.specs.declared.faults.WriteEventError.TheVariants.{RetriedSuccess, OutputNotLoaded, Io, Memory, Failed, StoreIo}
-use Rattle.scenes.specs.Reports.{Ends, EndsStore, StopsStore, StopsText, builder_for, configuration_for, fault_for, report_of, store_for, stored_of}
-use Rattle.scenes.specs.Judged.{IsJudgedScene, Judged}
+use Rattle.run_model.specs.declared.call.ReportCall.{ReportCall}
+use Rattle.scene_text.specs.Scenes.{IsCallOf}
+use Rattle.scene_text.specs.declared.scene.event.SceneEvent.{SceneEvent}
+use Rattle.scenes.specs.Follow.{BreaksTold, HasToldTo, run_outcome}
+use Rattle.scenes.specs.Judged.{IsSceneAccepted}
+use Rattle.scenes.specs.Reports.{AreCallsOf, Ends, EndsStore, StopsStore, StopsText, configuration_for, fault_for}
+use Rattle.scenes.specs.ToldScenes.{scene_told}
+use Rattle.scenes.specs.Unloads.{IsReadyCall, decider_for}
 use Rattle.scenes.specs.declared.fault.Fault.{Fault}
-use Rattle.console_reporter.specs.declared.imp.builder.DisplayReporterBuilder.{DisplayReporterBuilder}
-use Rattle.console_reporter.proofs.lemmas.Calls.{past_more, past_all}
+use Rattle.scenes.specs.declared.fault.Fault.TheVariants.{OutOfMemory}
+use Rattle.scenes.specs.declared.scene.Scene.{Scene}
+use Rattle.scenes.specs.declared.words.Options.{Options}
+use Rattle.scenes.proofs.lemmas.EventCalls.{behind_there, same_first, zip_both, zip_place}
+use Rattle.scenes.proofs.lemmas.Refusals.{none_refused_at}
 
 -- the text begins so
 record Begins (front whole : Text) : Type 0 where
@@ -41,38 +51,6 @@ module _ (whole : List ReportCall → Text) (part : List ReportCall → ReportCa
       let b = begins_earlier later past in
       let next : Text = part (later ++ past) call in
       record { rest = b.rest ++ next; is = more call (later ++ past) ∙ ap (λ t. t ++ next) b.is ∙ append_assoc (whole past) b.rest next }
-
-  -- so that of all calls begins with that of the first ones
-  begins_with_first : (calls : List ReportCall) (i : ℕ) → Begins (whole (past_at calls i)) (whole (reverse calls))
-  begins_with_first calls i =
-      let cut : reverse calls ≡ reverse (drop i calls) ++ past_at calls i = ap reverse (sym (take-append-drop i calls)) ∙ reverse-append (take i calls) (drop i calls) in
-      let b = begins_earlier (reverse (drop i calls)) (past_at calls i) in
-      record { rest = b.rest; is = ap whole cut ∙ b.is }
-
-  -- the part at a place
-  abbrev part_at : List ReportCall → ℕ → Text
-  part_at calls i = option_map_or (part (past_at calls i)) (slice_get calls i) []
-
-  -- that of the calls before a place, and the part there
-  upto : (calls : List ReportCall) (i : ℕ) (d : ReportCall) → i < length calls → whole (past_at calls (i + 1)) ≡ whole (past_at calls i) ++ part_at calls i
-  upto calls i d within =
-      ap whole (past_more calls i d within)
-      ∙ more (get_or calls i d) (past_at calls i)
-      ∙ ap (λ o. whole (past_at calls i) ++ option_map_or (part (past_at calls i)) o []) (sym (slice_get-get_or calls i d within))
-
-  -- past the end there is no part
-  no_part : (calls : List ReportCall) (i : ℕ) → length calls ≤ i → Begins (whole (past_at calls i) ++ part_at calls i) (whole (reverse calls))
-  no_part calls i past = record {
-    rest = [];
-    is = sym (append-nil _ ∙ ap (λ o. whole (past_at calls i) ++ option_map_or (part (past_at calls i)) o []) (slice_get_past calls i past) ∙ append-nil _ ∙ ap whole (past_all calls i past));
-  }
-
-  begins_here : (calls : List ReportCall) (i : ℕ) → Begins (whole (past_at calls i) ++ part_at calls i) (whole (reverse calls))
-  begins_here [] i = no_part [] i (omega arith)
-  begins_here (call ∷ calls) i = elim (cases_lt i (length (call ∷ calls))) [
-    | inl within ↦ (let b = begins_with_first (call ∷ calls) (i + 1) in record { rest = b.rest; is = b.is ∙ ap (λ t. t ++ b.rest) (upto (call ∷ calls) i call within) })
-    | inr past ↦ no_part (call ∷ calls) i past
-  ]
 
 module _ {S : Type 0} {m : Meaning S} (laws : WriterLaws m) where
   -- a beginning of a text is one of a longer text
@@ -118,18 +96,6 @@ module _ {S : Type 0} {m : Meaning S} (laws : WriterLaws m) where
   store_joined a b c t u Failed p h = absurd h
   store_joined a b c t u StoreIo p h = laws.goes_on a b c t u _ p h
 
-  -- what stopped the text at a place ended the report
-  stopped_report : (config : Configuration) (calls : List ReportCall) (i : ℕ) (a c : S) (e : WriteEventError) → StopsAfter m a (report config (past_at calls i)) (text_at config calls i) e c → Ends m a (report config (reverse calls)) e c
-  stopped_report config calls i a c e h =
-      let b = begins_here (report config) (text config) refl (λ call past. refl) calls i in
-      subst (λ t. Ends m a t e c) (sym b.is) (ends_longer a c _ b.rest e (ends_joined a h.mid c _ _ e h.accepted h.stopped))
-
-  -- what stopped the record at a place ended what is stored
-  stopped_store : (store : Option StoreConfig) (calls : List ReportCall) (i : ℕ) (a c : S) (e : WriteEventError) → StopsRecordAfter m a (stored store (past_at calls i)) (stored_at store calls i) e c → EndsStore m a (stored store (reverse calls)) e c
-  stopped_store store calls i a c e h =
-      let b = begins_here (stored store) (λ past. stored_text store) refl (λ call past. refl) calls i in
-      subst (λ t. EndsStore m a t e c) (sym b.is) (store_longer a c _ b.rest e (store_joined a h.mid c _ _ e h.accepted h.stopped))
-
   -- where no call is refused, that is a fault of the program
   pub told_text : (a c : S) (t : Text) (e : WriteEventError) → refusal_in e ≡ None → Ends m a t e c → StopsText m a t (fault_for e) c
   told_text a c t RetriedSuccess none h = absurd (not_refused RetriedSuccess none refl)
@@ -147,61 +113,198 @@ module _ {S : Type 0} {m : Meaning S} (laws : WriterLaws m) where
   told_store a c t Failed none h = absurd h
   told_store a c t StoreIo none h = h
 
-  -- the report of calls that are accepted stopped by that fault, and so did what is stored
-  pub stops_text : (config : Configuration) (calls : List ReportCall) (i : ℕ) (a c : S) (e : WriteEventError) → first_refused (decider_of config) calls ≡ None → refusal_at config calls i ≡ refusal_in e
-      → StopsAfter m a (report config (past_at calls i)) (text_at config calls i) e c → StopsText m a (report config (reverse calls)) (fault_for e) c
-  stops_text config calls i a c e none refused h = told_text a c _ e (sym refused ∙ none_refused_at (decider_of config) calls i none) (stopped_report config calls i a c e h)
+  -- what stopped a part of a text stopped the whole
+  pub stops_in : (a b c : S) (t u rest whole : Text) (e : WriteEventError) → whole ≡ (t ++ u) ++ rest → refusal_in e ≡ None → m.accepts a t b → Stops m b u e c → StopsText m a whole (fault_for e) c
+  stops_in a b c t u rest whole e is none p h =
+      subst (λ x. StopsText m a x (fault_for e) c) (sym is) (told_text a c ((t ++ u) ++ rest) e none (ends_longer a c (t ++ u) rest e (ends_joined a b c t u e p h)))
 
-  pub stops_store : (config : Configuration) (calls : List ReportCall) (i : ℕ) (a c : S) (e : WriteEventError) → first_refused (decider_of config) calls ≡ None → refusal_at config calls i ≡ refusal_in e
-      → StopsRecordAfter m a (stored config.store (past_at calls i)) (stored_at config.store calls i) e c → StopsStore m a (stored config.store (reverse calls)) (fault_for e) c
-  stops_store config calls i a c e none refused h = told_store a c _ e (sym refused ∙ none_refused_at (decider_of config) calls i none) (stopped_store config.store calls i a c e h)
+  pub stores_in : (a b c : S) (t u rest whole : Text) (e : WriteEventError) → whole ≡ (t ++ u) ++ rest → refusal_in e ≡ None → m.accepts a t b → StopsRecord m b u e c → StopsStore m a whole (fault_for e) c
+  stores_in a b c t u rest whole e is none p h =
+      subst (λ x. StopsStore m a x (fault_for e) c) (sym is) (told_store a c ((t ++ u) ++ rest) e none (store_longer a c (t ++ u) rest e (store_joined a b c t u e p h)))
 
-  -- memory was refused before anything was written
-  pub text_before : (a : S) (t : Text) (f : Fault) → f ≡ OutOfMemory → StopsText m a t f a
-  text_before a t f is = subst (λ x. StopsText m a t x a) (sym is) (inr (record { front = []; rest = t; whole = refl; accepted = laws.nothing a }))
+  -- memory was refused behind a beginning
+  text_before : (a b : S) (t rest whole : Text) → whole ≡ t ++ rest → m.accepts a t b → StopsText m a whole OutOfMemory b
+  text_before a b t rest whole is p = inr (record { front = t; rest = rest; whole = is; accepted = p })
 
-  pub store_before : (a : S) (t : Text) (f : Fault) → f ≡ OutOfMemory → StopsStore m a t f a
-  store_before a t f is = subst (λ x. StopsStore m a t x a) (sym is) (inr (record { front = []; rest = t; whole = refl; accepted = laws.nothing a }))
+  store_before : (a b : S) (t rest whole : Text) → whole ≡ t ++ rest → m.accepts a t b → StopsStore m a whole OutOfMemory b
+  store_before a b t rest whole is p = inr (record { front = t; rest = rest; whole = is; accepted = p })
 
-  -- of a scene that was judged, whatever names the configuration and the calls
-  module _ (inside judged : Judged) (same : inside ≡ judged) (j : IsJudgedScene inside) (calls : List ReportCall) (all : calls ≡ inside.calls) (config : Configuration) (is : config ≡ configuration_for inside.options inside.scene.config)
-      (i : ℕ) (a c : S) (e : WriteEventError) (f : Fault) (told : f ≡ fault_for e) (refused : refusal_at config calls i ≡ refusal_in e) where
-    accepted_here : first_refused (decider_of config) calls ≡ None
-    accepted_here = rw (is, all) j.accepted
+-- one call more was made
+pub told_more : {W S : Type 0} {m : Meaning W} {n : Meaning S} (laws : WriterLaws m) (others : WriterLaws n) (a b c : DisplayReporter W S) (past : List ReportCall) (call : ReportCall) →
+    TellsRun m n a past b → Tells m n b (Some call) c → TellsRun m n a (call ∷ past) c
+told_more laws others a b c past call before here = record {
+  accepted = λ config stands. laws.joins _ _ _ _ _ (before.accepted config stands) (here.accepted config past (before.stands config stands));
+  stored = λ config stands. (store-laws others).joins _ _ _ _ _ (before.stored config stands) (here.stored config past (before.stands config stands));
+  stands = λ config stands. here.stands config past (before.stands config stands);
+}
 
-    pub judged_stops : StopsAfter m a (report config (past_at calls i)) (text_at config calls i) e c → StopsText m a (report_of judged.options judged.scene.config judged.calls) f c
-    judged_stops h =
-        let stopped : StopsText m a (report config (reverse calls)) (fault_for e) c = stops_text config calls i a c e accepted_here refused h in
-        subst (λ (x : Judged). StopsText m a (report_of x.options x.scene.config x.calls) f c) same
-        (subst (λ g. StopsText m a (report_of inside.options inside.scene.config inside.calls) g c) (sym told)
-        (subst (λ k. StopsText m a (report k (reverse inside.calls)) (fault_for e) c) is
-        (subst (λ cs. StopsText m a (report config (reverse cs)) (fault_for e) c) all stopped)))
+-- the calls that a reporter gets of these
+module _ (options : Options) (scene : Scene) where
+  abbrev pub decider : OutputLoadDecider
+  decider = decider_for options scene.config
 
-    pub judged_stores : StopsRecordAfter m a (stored config.store (past_at calls i)) (stored_at config.store calls i) e c → StopsStore m a (stored_of judged.options judged.calls) f c
-    judged_stores h =
-        let stopped : StopsStore m a (stored config.store (reverse calls)) (fault_for e) c = stops_store config calls i a c e accepted_here refused h in
-        subst (λ (x : Judged). StopsStore m a (stored_of x.options x.calls) f c) same
-        (subst (λ g. StopsStore m a (stored_of inside.options inside.calls) g c) (sym told)
-        (subst (λ (k : Configuration). StopsStore m a (stored k.store (reverse inside.calls)) (fault_for e) c) is
-        (subst (λ cs. StopsStore m a (stored config.store (reverse cs)) (fault_for e) c) all stopped)))
+  abbrev pub config : Configuration
+  config = configuration_for options scene.config
 
--- the configuration of a reporter without a store, and of one with it
-module _ (inside judged : Judged) (same : inside ≡ judged) (b : DisplayReporterBuilder) (is : b ≡ builder_for inside.options inside.scene.config) where
-  pub alone_config : store_for judged.options ≡ None → configured b inside.scene.config.use_unicode false false inside.scene.config.display_empty_outputs ≡ configuration_for inside.options inside.scene.config
-  alone_config none =
-      let here : store_for inside.options ≡ None = subst (λ (x : Judged). store_for x.options ≡ None) (sym same) none in
-      rw (is, here) refl
+  abbrev pub ready_by : Bool → ReportCall → ReportCall
+  ready_by unloads call = if unloads then unread_call decider call else call
 
-  pub both_config : (store : StoreConfig) → store_for judged.options ≡ Some store → configured_with_store store b inside.scene.config.use_unicode false false inside.scene.config.display_empty_outputs ≡ configuration_for inside.options inside.scene.config
-  both_config store has =
-      let here : store_for inside.options ≡ Some store = subst (λ (x : Judged). store_for x.options ≡ Some store) (sym same) has in
-      rw (is, here) refl
+  abbrev pub ready : ReportCall → ReportCall
+  ready = ready_by options.unload_skipped
 
--- only a store's fault is told as one
-pub not_of_store : (e : WriteEventError) → (e ≡ StoreIo → ⊥) → fault_for e ≡ StoreFailed → ⊥
-not_of_store RetriedSuccess known p = cc
-not_of_store OutputNotLoaded known p = cc
-not_of_store Io known p = cc
-not_of_store Memory known p = cc
-not_of_store Failed known p = cc
-not_of_store StoreIo known p = known refl
+  -- the latest first
+  abbrev pub handed : List ReportCall → List ReportCall
+  handed calls = reverse (map ready calls)
+
+  handed_behind : (calls more : List ReportCall) → handed (calls ++ more) ≡ reverse (map ready more) ++ handed calls
+  handed_behind calls more = ap reverse (map-append ready calls more) ∙ reverse-append (map ready calls) (map ready more)
+
+  handed_more : (calls : List ReportCall) (call : ReportCall) → handed (calls ++ call ∷ []) ≡ ready call ∷ handed calls
+  handed_more calls call = handed_behind calls (call ∷ [])
+
+  -- they have the same report, records and refusals
+  same_by : (unloads : Bool) (calls : List ReportCall) → report config (reverse (map (ready_by unloads) calls)) ≡ report config (reverse calls)
+  same_by true calls = (isolated decider calls).1 config refl
+  same_by false calls = ap (λ cs. report config (reverse cs)) (map-id calls)
+
+  same_stored_by : (unloads : Bool) (calls : List ReportCall) → stored config.store (reverse (map (ready_by unloads) calls)) ≡ stored config.store (reverse calls)
+  same_stored_by true calls = (isolated decider calls).3 config refl
+  same_stored_by false calls = ap (λ cs. stored config.store (reverse cs)) (map-id calls)
+
+  same_refusal_by : (unloads : Bool) (call : ReportCall) → refusal_by decider (ready_by unloads call) ≡ refusal_by decider call
+  same_refusal_by true call = (isolated decider (call ∷ [])).6 0
+  same_refusal_by false call = refl
+
+  -- of a scene that is accepted all calls are
+  all_accepted : (accepted : IsSceneAccepted options scene) (calls : List ReportCall) → AreCallsOf scene calls → first_refused decider calls ≡ None
+  all_accepted accepted calls of_scene = same_first decider scene.events.items calls accepted.calls of_scene accepted.of_scene ∙ accepted.accepted
+
+  here_accepted : (calls more : List ReportCall) (call : ReportCall) → first_refused decider ((calls ++ call ∷ []) ++ more) ≡ None → refusal_by decider call ≡ None
+  here_accepted calls more call none =
+      let there : slice_get ((calls ++ call ∷ []) ++ more) (length calls) ≡ Some call = ap (λ cs. slice_get cs (length calls)) (append_assoc calls (call ∷ []) more) ∙ behind_there calls more call in
+      sym (ap (option_and_then (refusal_by decider)) there) ∙ none_refused_at decider ((calls ++ call ∷ []) ++ more) (length calls) none
+
+  -- the report of all calls begins with that of the first ones, and so with what is stored
+  report_begins : (calls more : List ReportCall) → Begins (report config (handed calls)) (report config (reverse (calls ++ more)))
+  report_begins calls more =
+      let b = begins_earlier (report config) (text config) refl (λ call past. refl) (reverse (map ready more)) (handed calls) in
+      record { rest = b.rest; is = sym (same_by options.unload_skipped (calls ++ more)) ∙ ap (report config) (handed_behind calls more) ∙ b.is }
+
+  stored_begins : (calls more : List ReportCall) → Begins (stored config.store (handed calls)) (stored config.store (reverse (calls ++ more)))
+  stored_begins calls more =
+      let b = begins_earlier (stored config.store) (λ past. stored_text config.store) refl (λ call past. refl) (reverse (map ready more)) (handed calls) in
+      record { rest = b.rest; is = sym (same_stored_by options.unload_skipped (calls ++ more)) ∙ ap (stored config.store) (handed_behind calls more) ∙ b.is }
+
+  -- the first of the calls that are left
+  first_left : (e : SceneEvent) (es : List SceneEvent) (calls : List ReportCall) → AllZip IsCallOf (e ∷ es) calls → (more : List ReportCall) × AllZip IsCallOf es more
+  first_left e es [] h = absurd h
+  first_left e es (call ∷ calls) h = (calls, h.1)
+
+  others_left : (i : ℕ) (e : SceneEvent) → i < length scene.events.items → e ≡ get_or scene.events.items i e → (left : List ReportCall) → AllZip IsCallOf (drop i scene.events.items) left →
+      (more : List ReportCall) × AllZip IsCallOf (drop (i + 1) scene.events.items) more
+  others_left i e within is left h = first_left (get_or scene.events.items i e) (drop (i + 1) scene.events.items) left (subst (λ es. AllZip IsCallOf es left) (drop_more scene.events.items i e within) h)
+
+  of_both : (i : ℕ) (calls more : List ReportCall) → AllZip IsCallOf (take i scene.events.items) calls → AllZip IsCallOf (drop i scene.events.items) more → AreCallsOf scene (calls ++ more)
+  of_both i calls more h k = subst (λ es. AllZip IsCallOf es (calls ++ more)) (take-append-drop i scene.events.items) (zip_both (take i scene.events.items) (drop i scene.events.items) calls more h k)
+
+  module _ {W S : Type 0} (m : Meaning W) (n : Meaning S) where
+    -- of the events before a place the calls were made, and those behind it have calls
+    pub record HasReported (i : ℕ) (old now : DisplayReporter W S) : Type 0 where
+      pub made : List ReportCall
+      pub left : List ReportCall
+      pub of_first : AllZip IsCallOf (take i scene.events.items) made
+      pub of_others : AllZip IsCallOf (drop i scene.events.items) left
+      pub tells : TellsRun m n old (handed made) now
+
+  module _ {W S : Type 0} {m : Meaning W} {n : Meaning S} (laws : WriterLaws m) (others : WriterLaws n) (old : DisplayReporter W S) (accepted : IsSceneAccepted options scene) where
+    -- one call more was made
+    pub one_reported : (i : ℕ) (now next : DisplayReporter W S) (e : SceneEvent) → i < length scene.events.items → e ≡ get_or scene.events.items i e → (call : ReportCall) → IsReadyCall options decider e call →
+        HasReported m n i old now → Tells m n now (Some call) next → HasReported m n (i + 1) old next
+    one_reported i now next e within is call r h told =
+        let more = others_left i e within is h.left h.of_others in
+        record {
+          made = h.made ++ r.made ∷ [];
+          left = more.0;
+          of_first = zip_place scene.events.items h.made i e r.made within is h.of_first r.of_event;
+          of_others = more.1;
+          tells = subst (λ past. TellsRun m n old past next) (sym (handed_more h.made r.made)) (told_more laws others old now next (handed h.made) (ready r.made) h.tells (subst (λ c. Tells m n now (Some c) next) r.ready told));
+        }
+
+    module _ (stands : StandsAfter config [] old) where
+      -- what stopped is told of all calls of the scene
+      stopped_at : (calls : List ReportCall) → AreCallsOf scene calls → (f : Fault) (next : DisplayReporter W S) →
+          StopsText m old.writer.now (report config (reverse calls)) f next.writer.now → StopsStore (store_meaning n) old.store (stored config.store (reverse calls)) f next.store →
+          BreaksTold m (store_meaning n) options old.writer.now next.writer.now old.store next.store (scene_told scene) f
+      stopped_at calls of_scene f next told kept = record {
+        past = reverse calls;
+        of_run = subst (λ cs. AllZip IsCallOf scene.events.items cs) (sym (reverse-reverse calls)) of_scene;
+        accepted = subst (λ cs. first_refused decider cs ≡ None) (sym (reverse-reverse calls)) (all_accepted accepted calls of_scene);
+        stopped = told;
+        store_stopped = kept;
+      }
+
+      -- memory was refused before another call
+      pub unmade : (i : ℕ) (now : DisplayReporter W S) → HasReported m n i old now → BreaksTold m (store_meaning n) options old.writer.now now.writer.now old.store now.store (scene_told scene) OutOfMemory
+      unmade i now h =
+          let b = report_begins h.made h.left in
+          let k = stored_begins h.made h.left in
+          stopped_at (h.made ++ h.left) (of_both i h.made h.left h.of_first h.of_others) OutOfMemory now
+          (text_before laws old.writer.now now.writer.now _ b.rest _ b.is (h.tells.accepted config stands))
+          (store_before (store-laws others) old.store now.store _ k.rest _ k.is (h.tells.stored config stands))
+
+      -- a call broke off
+      pub broke_reported : (i : ℕ) (now next : DisplayReporter W S) (e : SceneEvent) → i < length scene.events.items → e ≡ get_or scene.events.items i e → (call : ReportCall) → IsReadyCall options decider e call →
+          HasReported m n i old now → (error : WriteEventError) → Breaks m n now (Some call) error next → refusal_in error ≡ refusal config call →
+          BreaksTold m (store_meaning n) options old.writer.now next.writer.now old.store next.store (scene_told scene) (fault_for error)
+      broke_reported i now next e within is call r h error broke refused =
+          let more = others_left i e within is h.left h.of_others in
+          let made : List ReportCall = h.made ++ r.made ∷ [] in
+          let calls : List ReportCall = made ++ more.0 in
+          let of_scene : AreCallsOf scene calls = of_both (i + 1) made more.0 (zip_place scene.events.items h.made i e r.made within is h.of_first r.of_event) more.1 in
+          let none = here_accepted h.made more.0 r.made (all_accepted accepted calls of_scene) in
+          let unrefused : refusal_in error ≡ None = refused ∙ ap (refusal_by decider) r.ready ∙ same_refusal_by options.unload_skipped r.made ∙ none in
+          let here : Breaks m n now (Some (ready r.made)) error next = subst (λ c. Breaks m n now (Some c) error next) r.ready broke in
+          let b = report_begins made more.0 in
+          let k = stored_begins made more.0 in
+          stopped_at calls of_scene (fault_for error) next
+          (stops_in laws old.writer.now now.writer.now next.writer.now (report config (handed h.made)) (text config (handed h.made) (ready r.made)) b.rest _ error
+          (b.is ∙ ap (λ past. report config past ++ b.rest) (handed_more h.made r.made)) unrefused (h.tells.accepted config stands) (here.stopped config (handed h.made) (h.tells.stands config stands)))
+          (stores_in (store-laws others) old.store now.store next.store (stored config.store (handed h.made)) (stored_text config.store (ready r.made)) k.rest _ error
+          (k.is ∙ ap (λ past. stored config.store past ++ k.rest) (handed_more h.made r.made)) unrefused (h.tells.stored config stands) (here.store_stopped config (handed h.made) (h.tells.stands config stands)))
+
+      -- all calls were made
+      module _ (i : ℕ) (past : length scene.events.items ≤ i) (now next : DisplayReporter W S) (h : HasReported m n i old now) where
+        of_all : AreCallsOf scene h.made
+        of_all = subst (λ es. AllZip IsCallOf es h.made) (take_all i scene.events.items past) h.of_first
+
+        whole : report config (reverse h.made) ≡ report config (handed h.made)
+        whole = sym (same_by options.unload_skipped h.made)
+
+        whole_stored : stored config.store (reverse h.made) ≡ stored config.store (handed h.made)
+        whole_stored = sym (same_stored_by options.unload_skipped h.made)
+
+        pub all_reported : Tells m n now None next → AreDelivered m n next → HasToldTo m (store_meaning n) options old.writer.now next.writer.now old.store next.store (scene_told scene)
+        all_reported ended delivered = (
+          run_outcome (reverse h.made),
+          record {
+            past = reverse h.made;
+            of_run = subst (λ cs. AllZip IsCallOf scene.events.items cs) (sym (reverse-reverse h.made)) of_all;
+            accepted = subst (λ cs. first_refused decider cs ≡ None) (sym (reverse-reverse h.made)) (all_accepted accepted h.made of_all);
+            reported = subst (λ t. m.accepts old.writer.now t next.writer.now) (append-nil _ ∙ sym whole)
+                (laws.joins _ _ _ _ _ (h.tells.accepted config stands) (ended.accepted config (handed h.made) (h.tells.stands config stands)));
+            kept = subst (λ t. (store_meaning n).accepts old.store t next.store) (append-nil _ ∙ sym whole_stored)
+                ((store-laws others).joins _ _ _ _ _ (h.tells.stored config stands) (ended.stored config (handed h.made) (h.tells.stands config stands)));
+            delivered = delivered.writer;
+            store_delivered = delivered.store;
+            outcome = refl;
+          },
+        )
+
+        -- and the report could not be ended
+        pub unended : (error : WriteEventError) → Breaks m n now None error next → refusal_in error ≡ None →
+            BreaksTold m (store_meaning n) options old.writer.now next.writer.now old.store next.store (scene_told scene) (fault_for error)
+        unended error broke unrefused = stopped_at h.made of_all (fault_for error) next
+            (stops_in laws old.writer.now now.writer.now next.writer.now (report config (handed h.made)) [] [] _ error (whole ∙ sym (append-nil _) ∙ sym (append-nil _)) unrefused
+            (h.tells.accepted config stands) (broke.stopped config (handed h.made) (h.tells.stands config stands)))
+            (stores_in (store-laws others) old.store now.store next.store (stored config.store (handed h.made)) [] [] _ error (whole_stored ∙ sym (append-nil _) ∙ sym (append-nil _)) unrefused
+            (h.tells.stored config stands) (broke.store_stopped config (handed h.made) (h.tells.stands config stands)))

@@ -1,8 +1,9 @@
-use Rattle.scene_text.proofs.lemmas.FirstFaults.{tells_scene, tells_fault}
+use Rattle.std.proofs.Common.{Ok}
+use Rattle.scene_text.proofs.lemmas.FirstFaults.{fault_tells, tells_scene}
 use Rattle.scene_text.proofs.reader.read_scene.Goals as goal
 
-pub returns-clause-scene : goal.returns-clause-scene
-returns-clause-scene c = tells_scene _ _ c.read_lines.ensures.answer
+pub returns-in-Ok-clause-scene : goal.returns-in-Ok-clause-scene
+returns-in-Ok-clause-scene c = tells_scene (Ok c.in-Ok.read.run) _ (rw (c.none.ensures.told, c.none.ensures.next) at c.in-Ok.ensures.told)
 
-pub returns-clause-fault : goal.returns-clause-fault
-returns-clause-fault c = tells_fault _ _ c.read_lines.ensures.answer
+pub returns-in-Err-clause-fault : goal.returns-in-Err-clause-fault
+returns-in-Err-clause-fault c = fault_tells c.args.text.now c.in-Err.fault (rw (c.none.ensures.told, c.none.ensures.next) at c.in-Err.ensures.fault)
