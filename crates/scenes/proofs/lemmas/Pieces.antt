@@ -48,10 +48,7 @@ through_ends (c ∷ t) = elim (cases_Bool (c == 10)) [
   ]
 ]
 
--- where a first line ends in a line feed, that parts it from what follows; where it ends otherwise, it is the text
-pub feed_parts : (text front : List ℕ) → take_through 10 text ≡ front ++ 10 ∷ [] → text ≡ front ++ 10 ∷ drop_through 10 text
-feed_parts text front is = sym (through_all text) ∙ ap (λ u. u ++ drop_through 10 text) is ∙ append_assoc front (10 ∷ []) (drop_through 10 text)
-
+-- a first line that ends in no line feed is the text
 pub no_feed_ends : (text front : List ℕ) (last : ℕ) → last ≢ 10 → take_through 10 text ≡ front ++ last ∷ [] → drop_through 10 text ≡ []
 no_feed_ends text front last other is = elim (through_ends text) [
   | inl feed ↦ absurd (other (sym ((same_from_push feed.0 front 10 last (sym feed.1 ∙ is)).1)))
@@ -61,9 +58,6 @@ no_feed_ends text front last other is = elim (through_ends text) [
 pub no_feed_whole : (text front : List ℕ) (last : ℕ) → last ≢ 10 → take_through 10 text ≡ front ++ last ∷ [] → text ≡ front ++ last ∷ []
 no_feed_whole text front last other is =
     sym (through_all text) ∙ ap (λ u. take_through 10 text ++ u) (no_feed_ends text front last other is) ∙ append-nil (take_through 10 text) ∙ is
-
-onto_joined : (c : ℕ) (first : List ℕ) (more others : List (List ℕ)) → onto_first c ((first ∷ more) ++ others) ≡ onto_first c (first ∷ more) ++ others
-onto_joined c first more others = refl
 
 -- the lines of two texts that a line feed parts
 pub parted_joined : (front back : List ℕ) → parted 10 (front ++ 10 ∷ back) ≡ parted 10 front ++ parted 10 back
