@@ -1,5 +1,7 @@
 -- What a scene asks of a reporter.
-use Rattle.std.specs.Prelude.{◌≡◌, ℕ, List, [], ◌∷◌, ◌++◌}
+use Rattle.std.specs.Prelude.{◌≡◌, ℕ, List, [], ◌∷◌, ◌++◌, Bool, true, false, not, ◌||◌}
+use Rattle.run_model.specs.Outputs.{has_loaded_output}
+use Rattle.run_model.specs.Statuses.{is_success}
 use Rattle.run_model.specs.declared.event.TestEventKind.{TestEventKind}
 use Rattle.run_model.specs.declared.event.TestEventKind.TheVariants as kind
 use Rattle.run_model.specs.declared.info.InfoResponse.{InfoResponse}
@@ -104,6 +106,17 @@ IsCallOf event (call.Event e) = (e.elapsed.0 ≡ told_elapsed event) × SaysSame
 IsCallOf (scene.Prefix prefix) (call.Prefix p) = p ≡ prefix
 IsCallOf (scene.Header header) (call.Header h) = SaysSameRun header h
 IsCallOf event other = ⊥
+
+-- a reporter may refuse a call of the event: what a unit wrote was left unread, or an attempt that succeeded is told as one that is
+-- tried again. A header counts among them, though none is refused
+abbrev pub needs_judging : SceneEvent → Bool
+needs_judging (scene.TestFinished e) = not (has_loaded_output e.attempts.last.output)
+needs_judging (scene.TestAttemptFailedWillRetry e) = is_success e.attempt.result || not (has_loaded_output e.attempt.output)
+needs_judging (scene.SetupScriptFinished e) = not (has_loaded_output e.attempt.output)
+needs_judging (scene.ScriptAnswered e) = not (has_loaded_output e.answer.output)
+needs_judging (scene.TestAnswered e) = not (has_loaded_output e.answer.output)
+needs_judging (scene.Header header) = true
+needs_judging other = false
 
 -- the list has one call more, which is the event
 pub record AddsCallOf (event : SceneEvent) (old new : List ReportCall) : Type 0 where

@@ -10,4 +10,5 @@ pub mod ReadLines
 pub mod Refusals
 pub mod Reports
 pub mod SpelledRuns
+pub mod UnmadeCalls
 pub mod Unloads

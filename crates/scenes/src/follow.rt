@@ -196,7 +196,7 @@ fn next_line<'a, R: BufRead>(
     reader: &mut R,
     buffer: &mut Vec<u8>,
 ) -> Result<bool, Fault<'a>>
-    ensures line { IfOk result (λ is_one. (text : List ℕ) → R.remaining reader.old ≡ Some text → IsNextLine text is_one buffer.new.items (R.remaining reader.new)) }
+    ensures line { IfOk result (λ has_line. (text : List ℕ) → R.remaining reader.old ≡ Some text → IsNextLine text has_line buffer.new.items (R.remaining reader.new)) }
     ensures err { IfErr result IsReaderFault }
 {
     buffer.clear();
@@ -226,11 +226,11 @@ fn read_head<'a, R: BufRead>(
     let mut config = SceneConfig::new();
     let mut buffer = Vec::new(alloc);
     for number in 1..u64::MAX {
-        let is_one = match next_line(file, reader, &mut buffer) {
-            Ok(is_one) => is_one,
+        let has_line = match next_line(file, reader, &mut buffer) {
+            Ok(has_line) => has_line,
             Err(fault) => return Err(fault),
         };
-        if !is_one {
+        if !has_line {
             return Ok(Head {
                 config,
                 first: None,
@@ -439,11 +439,11 @@ fn follow_rest<'a, R: BufRead, W: WriteStr, S: WriteStr>(
 {
     let mut buffer = Vec::new(alloc);
     for number in number..u64::MAX {
-        let is_one = match next_line(options.file, reader, &mut buffer) {
-            Ok(is_one) => is_one,
+        let has_line = match next_line(options.file, reader, &mut buffer) {
+            Ok(has_line) => has_line,
             Err(fault) => return Err(fault),
         };
-        if !is_one {
+        if !has_line {
             return Ok(());
         }
         let (line, _) = first_line(buffer.as_slice());

@@ -16,7 +16,7 @@ pub fn next_piece<'a, R: Read>(
     reader: &mut BufReader<R>,
     piece: &mut Vec<u8>,
 ) -> Result<bool, Fault<'a>>
-    ensures piece { IfOk result (λ is_one. (text : List ℕ) → reader_remaining R.remaining reader.old ≡ Some text → IsNextPiece text is_one piece.new.items (reader_remaining R.remaining reader.new)) }
+    ensures piece { IfOk result (λ has_line. (text : List ℕ) → reader_remaining R.remaining reader.old ≡ Some text → IsNextPiece text has_line piece.new.items (reader_remaining R.remaining reader.new)) }
     ensures err { IfErr result (IsUnread file.now) }
 {
     piece.clear();

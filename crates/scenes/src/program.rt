@@ -141,11 +141,11 @@ fn judge_events(alloc: Global, options: &Options<'_>, scene: &Scene) -> Result<(
     ensures err { IfErr result (IsSceneRefused options.now scene.now) }
 {
     let decider = decider_of(alloc, options, &scene.config)?;
-    let mut room = Vec::new(alloc);
+    let mut buffer = Vec::new(alloc);
     let mut refused = None;
     for place in 0..scene.events.len() {
         let line = scene.line_of(place);
-        let fault = judge_event(alloc, &decider, &scene.events[place], &mut room)?;
+        let fault = judge_event(alloc, &decider, &scene.events[place], &mut buffer)?;
         refused = refused.or(fault.map(|fault| (line, fault)));
     }
     match refused {
@@ -154,33 +154,37 @@ fn judge_events(alloc: Global, options: &Options<'_>, scene: &Scene) -> Result<(
     }
 }
 
-// What the line of an event says whose call is refused. The call is made in this room for this alone.
+// What the line of an event says whose call is refused. Where a reporter may refuse it, its call is made for this alone, in this buffer.
+#[tactic(auto, using(crate::proofs::lemmas::UnmadeCalls::judged_unmade))]
 fn judge_event<'a>(
     alloc: Global,
     decider: &OutputLoadDecider,
     event: &'a SceneEvent,
-    room: &mut Vec<ReportCall<'a>>,
+    buffer: &mut Vec<ReportCall<'a>>,
 ) -> Result<Option<LineFault>, OutOfMemory>
     ensures { IfOk result (JudgesEvent decider.now event.now) }
 {
-    let call = call_in(alloc, event, room)?;
+    if !event.needs_judging() {
+        return Ok(None);
+    }
+    let call = call_in(alloc, event, buffer)?;
     match decider.refusal(call) {
         Some(error) => Ok(Some(fault_of_refusal(error))),
         None => Ok(None),
     }
 }
 
-// Makes the call of an event in a room, in place of what stood there: calls are large, and no room is allocated for each.
+// Makes the call of an event in a buffer, in place of what stood there: calls are large, and nothing is allocated for each.
 fn call_in<'r, 'a>(
     alloc: Global,
     event: &'a SceneEvent,
-    room: &'r mut Vec<ReportCall<'a>>,
+    buffer: &'r mut Vec<ReportCall<'a>>,
 ) -> Result<&'r mut ReportCall<'a>, OutOfMemory>
     ensures { IfOk result (λ call. IsCallOf event.now call.now) }
 {
-    room.clear();
-    event.push_call(alloc, room)?;
-    match room.as_mut_slice().first_mut() {
+    buffer.clear();
+    event.push_call(alloc, buffer)?;
+    match buffer.as_mut_slice().first_mut() {
         Some(call) => Ok(call),
         None => unreachable!(),
     }
@@ -409,9 +413,9 @@ fn report_events<W: WriteStr, S: WriteStr>(
     ensures err { IfErr result (BreaksTold W.meaning (store_meaning S.meaning) options.now reporter.old.writer.now reporter.new.writer.now reporter.old.store reporter.new.store (scene_told scene.now)) }
 {
     let decider = reporter.output_load_decider();
-    let mut room = Vec::new(alloc);
+    let mut buffer = Vec::new(alloc);
     for place in 0..scene.events.len() {
-        let call = match ready_call(alloc, options, &decider, &scene.events[place], &mut room) {
+        let call = match ready_call(alloc, options, &decider, &scene.events[place], &mut buffer) {
             Ok(call) => call,
             Err(OutOfMemory) => return Err(Fault::OutOfMemory),
         };
@@ -425,17 +429,17 @@ fn report_events<W: WriteStr, S: WriteStr>(
     Ok(())
 }
 
-// The call of an event in a room, with its output left unread where that is asked for and the report does not show it.
+// The call of an event in a buffer, with its output left unread where that is asked for and the report does not show it.
 fn ready_call<'r, 'a>(
     alloc: Global,
     options: &Options<'_>,
     decider: &OutputLoadDecider,
     event: &'a SceneEvent,
-    room: &'r mut Vec<ReportCall<'a>>,
+    buffer: &'r mut Vec<ReportCall<'a>>,
 ) -> Result<&'r ReportCall<'a>, OutOfMemory>
     ensures { IfOk result (λ call. IsReadyCall options.now decider.now event.now call.now) }
 {
-    let call = call_in(alloc, event, room)?;
+    let call = call_in(alloc, event, buffer)?;
     if options.unload_skipped {
         decider.unload(call);
     }

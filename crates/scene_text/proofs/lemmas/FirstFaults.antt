@@ -24,10 +24,10 @@ answer_wrong x = Err x
 abbrev is_wrong : ℕ → LineFault → Answer
 is_wrong n f = Err (n, f)
 
-differs : (a : Told) (n : ℕ) (f : LineFault) → tells a ≡ is_wrong n f → ⊥
+pub differs : (a : Told) (n : ℕ) (f : LineFault) → tells a ≡ is_wrong n f → ⊥
 differs a n f p = absurd (cc)
 
-same_told : (a b : Told) → tells a ≡ tells b → a ≡ b
+pub same_told : (a b : Told) → tells a ≡ tells b → a ≡ b
 same_told a b p = cc
 
 same_wrong : (x y : ℕ × LineFault) → answer_wrong x ≡ answer_wrong y → x ≡ y

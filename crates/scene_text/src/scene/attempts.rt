@@ -51,6 +51,13 @@ impl SceneAttempts {
         }
     }
 
+    /// The last attempt.
+    pub fn last(&self) -> &SceneAttempt
+        ensures { result.now ≡ self.now.last }
+    {
+        &self.last
+    }
+
     /// The attempts as an event has them. Copies their texts and shares the bytes of their outputs.
     pub fn statuses(&self, alloc: Global) -> Result<ExecutionStatuses<LiveSpec>, OutOfMemory>
         ensures { IfOk result (λ statuses. statuses ≡ self.now) }
@@ -102,6 +109,8 @@ impl Model for SceneAttempt {
 }
 
 impl SceneAttempt {
+    ghost use Rattle.run_model.specs.Outputs.{has_loaded_output};
+    ghost use Rattle.run_model.specs.Statuses.{is_success};
     ghost use Rattle.scene_text.specs.SceneAttempts.{script_status, silence};
 
     /// An attempt whose streams were both captured, and hold nothing. It allocates nothing.
@@ -152,6 +161,23 @@ impl SceneAttempt {
             retry_data,
             is_slow,
         })
+    }
+
+    /// Whether it succeeded.
+    pub fn is_success(&self) -> bool
+        ensures { result ≡ is_success self.now.result }
+    {
+        self.result.is_success()
+    }
+
+    /// Whether what it wrote is there, and not left unread.
+    pub fn has_loaded_output(&self) -> bool
+        ensures { result ≡ has_loaded_output self.now.output }
+    {
+        match &self.output {
+            SceneOutput::Told(output) => output.get().has_loaded_output(),
+            SceneOutput::Silent => true,
+        }
     }
 
     /// The attempt as an event has it. Copies its texts and shares the bytes of its output.

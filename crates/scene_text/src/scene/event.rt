@@ -75,7 +75,31 @@ const _: () = prove!(size_of::<SceneEvent>() == 320);
 
 impl SceneEvent {
     ghost use Rattle.std.specs.Prelude.{IfOk};
-    ghost use Rattle.scene_text.specs.Scenes.{AddsCallOf, IsCallOf};
+    ghost use Rattle.scene_text.specs.Scenes.{AddsCallOf, IsCallOf, needs_judging};
+
+    /// Whether its call has to be looked at to know whether a reporter refuses it: output of it was left unread, or an attempt that
+    /// succeeded is told as one that is tried again. No reporter refuses any other event; a header, of which a run has one, counts
+    /// among those that are looked at.
+    ///
+    /// ```
+    /// use scene_text::scene::run_events::RunPause;
+    /// assert!(!SceneEvent::RunContinued(RunPause { setup_scripts_running: 0, running: 2 }).needs_judging());
+    /// ```
+    pub fn needs_judging(&self) -> bool
+        ensures { result ≡ needs_judging self.now }
+    {
+        match self {
+            SceneEvent::TestFinished(finish) => !finish.attempts.last().has_loaded_output(),
+            SceneEvent::TestAttemptFailedWillRetry(failed) => {
+                failed.attempt.is_success() || !failed.attempt.has_loaded_output()
+            }
+            SceneEvent::SetupScriptFinished(finish) => !finish.attempt.has_loaded_output(),
+            SceneEvent::ScriptAnswered(answer) => !answer.answer.output.get().has_loaded_output(),
+            SceneEvent::TestAnswered(answer) => !answer.answer.output.get().has_loaded_output(),
+            SceneEvent::Header(_) => true,
+            _ => false,
+        }
+    }
 
     /// Pushes this event as a `ReportCall`, which is built in place: it is large.
     pub fn push_call<'a>(

@@ -1,4 +1,4 @@
--- All calls of one event are refused alike (for `judge_events`, `report_events`).
+-- All calls of one event are refused alike (for `judge_event`, `judge_events`, `report_events`).
 use Rattle.std.proofs.Common.{◌≡◌, ℕ, Bool, false, not, List, [], ◌∷◌, ◌++◌, Option, None, Some, length, take, get_or, suc, ◌+◌, ◌<◌, arith, if◌then◌else◌, refl, sym, ap, ap₂, subst, ◌∙◌}
 use Rattle.std.specs.Prelude.{cond, nat_lt}
 use Rattle.std.specs.List.{AllZip, position_or_len, slice_get}
@@ -30,18 +30,18 @@ use Rattle.scene_text.specs.declared.scene.event.SceneEvent.{SceneEvent}
 use Rattle.scene_text.specs.declared.scene.event.SceneEvent.TheVariants as scene
 
 -- why an event is refused whose output is needed or is not
-abbrev lacking : Bool → Written → Option WriteEventError
+abbrev pub lacking : Bool → Written → Option WriteEventError
 lacking is_needed output =
     if option_map_or (λ (o : Written). not (has_loaded_output o)) (if is_needed then Some output else None) false then Some OutputNotLoaded else None
 
-abbrev lacking_attempt : Bool → Attempt → Option WriteEventError
+abbrev pub lacking_attempt : Bool → Attempt → Option WriteEventError
 lacking_attempt is_needed attempt = if is_success attempt.result then Some RetriedSuccess else lacking is_needed attempt.output
 
-abbrev lacking_script : SetupScriptExecuteStatus LiveSpec ChildOutputDescription → Option WriteEventError
+abbrev pub lacking_script : SetupScriptExecuteStatus LiveSpec ChildOutputDescription → Option WriteEventError
 lacking_script status = lacking (loads_script status.result) status.output
 
 -- why each call of an event is refused
-abbrev told_refusal : OutputLoadDecider → SceneEvent → Option WriteEventError
+abbrev pub told_refusal : OutputLoadDecider → SceneEvent → Option WriteEventError
 told_refusal d (scene.SetupScriptFinished e) = lacking_script (script_status e.attempt)
 told_refusal d (scene.TestAttemptFailedWillRetry e) = lacking_attempt (loads_attempt d e.failure_output) e.attempt
 told_refusal d (scene.TestFinished e) = lacking (loads_finish d e.success_output e.failure_output (summary_of e.attempts)) e.attempts.last.output
@@ -77,7 +77,7 @@ refusal_told d (scene.StressSubRunFinished e) (kind.StressSubRunFinished progres
 refusal_told d (scene.RunFinished e) (kind.RunFinished elapsed run_stats outstanding) h = refl
 refusal_told d event other h = absurd h
 
-refusal_of_call : (d : OutputLoadDecider) (event : SceneEvent) (c : ReportCall) → IsCallOf event c → refusal_by d c ≡ told_refusal d event
+pub refusal_of_call : (d : OutputLoadDecider) (event : SceneEvent) (c : ReportCall) → IsCallOf event c → refusal_by d c ≡ told_refusal d event
 refusal_of_call d event (call.Event e) h = refusal_told d event e.kind h.1
 refusal_of_call d (scene.Prefix prefix) (call.Prefix p) h = refl
 refusal_of_call d (scene.Header header) (call.Header x) h = refl

@@ -12,22 +12,11 @@ use Rattle.scene_text.specs.declared.fault.ReadFault.{ReadFault}
 use Rattle.scene_text.specs.declared.fault.ReadFault.TheVariants as fault
 use Rattle.scene_text.specs.declared.scene.ToldRun.{ToldRun}
 use Rattle.std.specs.Prelude.{nat_lt}
-use Rattle.scene_text.proofs.lemmas.FirstFaults.{tells_fault}
-use Rattle.scenes.specs.Faults.{IsJudgeFault, fault_of_read}
-use Rattle.scenes.specs.Pieces.{IsNextPiece, IsUnread}
-use Rattle.scenes.specs.declared.fault.Fault.{Fault}
-use Rattle.scenes.specs.declared.fault.Fault.TheVariants as program
+use Rattle.scene_text.proofs.lemmas.FirstFaults.{differs, same_told, tells_fault}
+use Rattle.scenes.specs.Faults.{fault_of_read}
+use Rattle.scenes.specs.Pieces.{IsNextPiece}
 use Rattle.scenes.specs.ToldScenes.{IsReadFault, IsSceneRead}
 use Rattle.scenes.proofs.lemmas.ReadLines.{has_first}
-
-abbrev ok_told : Told → Result Told (ℕ × LineFault)
-ok_told a = Ok a
-
-abbrev wrong_told : ℕ → LineFault → Result Told (ℕ × LineFault)
-wrong_told n f = Err (n, f)
-
-differs : (a : Told) (n : ℕ) (f : LineFault) → ok_told a ≡ wrong_told n f → ⊥
-differs a n f p = absurd (cc)
 
 -- a text's first line and what follows it are the text
 pub through_all : (text : List ℕ) → take_through 10 text ++ drop_through 10 text ≡ text
@@ -75,9 +64,6 @@ parted_joined (c ∷ t) back = elim (cases_Bool (c == 10)) [
 abbrev IsJoined : (n : ℕ) (before mid : Told) (front back : List (List ℕ)) (k : ℕ) → Type 0
 IsJoined n before mid front back k =
     (lines_told n before (front ++ back) ≡ lines_told k mid back) × (event_lines n before (front ++ back) ≡ event_lines n before front ++ event_lines k mid back)
-
-same_told : (a b : Told) → ok_told a ≡ ok_told b → a ≡ b
-same_told a b p = cc
 
 joined_step : (n : ℕ) (before mid : Told) (ts back : List (List ℕ)) (k : ℕ) → ((after : Told) → lines_told (n + 1) after ts ≡ Ok mid → IsJoined (n + 1) after mid ts back k) →
     (r : Result Told LineFault) → lines_told_after (λ after. lines_told (n + 1) after ts) n r ≡ Ok mid →
@@ -153,10 +139,6 @@ pub record IsReadSoFar (text : List ℕ) (run : ToldRun) (next : ℕ) (remaining
   pub tells : text_told text ≡ lines_told next (told run) (parted 10 rest)
   pub notes : event_lines 1 nothing_told (parted 10 text) ≡ run.lines.items ++ event_lines next (told run) (parted 10 rest)
 
--- nothing was read
-pub read_none : (text : List ℕ) (run : ToldRun) (next : ℕ) (remaining : Option (List ℕ)) → remaining ≡ Some text → told run ≡ nothing_told → run.lines.items ≡ [] → next ≡ 1 → IsReadSoFar text run next remaining
-read_none text run next remaining known none lines first = record { rest = text; remains = known; tells = rw (none, first) refl; notes = rw (none, lines, first) refl }
-
 module _ (text : List ℕ) (run : ToldRun) (next : ℕ) (remaining : Option (List ℕ)) (read : IsReadSoFar text run next remaining) where
   -- nothing is left
   pub read_all : read.rest ≡ [] → (text_told text ≡ Ok (told run)) × (run.lines.items ≡ event_lines 1 nothing_told (parted 10 text))
@@ -188,23 +170,3 @@ module _ (text : List ℕ) (run : ToldRun) (next : ℕ) (remaining : Option (Lis
 pub wrong_text : (text : List ℕ) (f : ReadFault) → IsFaultThere (text_told text) f → IsSceneRead (Err (fault_of_read f)) (text_told text) × IsReadFault text (fault_of_read f)
 wrong_text text (fault.Line n f) h = (h, tells_fault (Err (fault.Line n f)) text h)
 wrong_text text fault.OutOfMemory h = (tt, tt)
-
--- a file that cannot be read, and memory that is refused, are told of any text
-module _ (file : List ℕ) where
-  pub unread_judged : (f : Fault) → IsUnread file f → IsJudgeFault file f
-  unread_judged program.Usage h = h
-  unread_judged (program.CannotRead other) h = h
-  unread_judged (program.CannotWrite other) h = h
-  unread_judged (program.Line n f) h = absurd h
-  unread_judged program.WriteFailed h = h
-  unread_judged program.StoreFailed h = h
-  unread_judged program.OutOfMemory h = tt
-
-  pub unread_text : (text : List ℕ) (f : Fault) → IsUnread file f → IsSceneRead (Err f) (text_told text) × IsReadFault text f
-  unread_text text program.Usage h = absurd h
-  unread_text text (program.CannotRead other) h = (tt, tt)
-  unread_text text (program.CannotWrite other) h = absurd h
-  unread_text text (program.Line n f) h = absurd h
-  unread_text text program.WriteFailed h = absurd h
-  unread_text text program.StoreFailed h = absurd h
-  unread_text text program.OutOfMemory h = (tt, tt)

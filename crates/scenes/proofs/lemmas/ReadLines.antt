@@ -79,11 +79,11 @@ unfolding line_told line_said
 empty_tells run = refl
 
 -- of whether a line was read
-pub none_left : (is_one : Bool) → is_one ≡ false → (text buffer : Text) (rest : Option Text) → IsNextLine text is_one buffer rest → text ≡ []
+pub none_left : (has_line : Bool) → has_line ≡ false → (text buffer : Text) (rest : Option Text) → IsNextLine text has_line buffer rest → text ≡ []
 none_left true e text buffer rest h = absurd (false≢true (sym e))
 none_left false e text buffer rest h = h
 
-pub one_left : (is_one : Bool) → is_one ≡ true → (text buffer : Text) (rest : Option Text) → IsNextLine text is_one buffer rest → IsNextLine text true buffer rest
+pub one_left : (has_line : Bool) → has_line ≡ true → (text buffer : Text) (rest : Option Text) → IsNextLine text has_line buffer rest → IsNextLine text true buffer rest
 one_left true e text buffer rest h = h
 one_left false e text buffer rest h = absurd (false≢true e)
 

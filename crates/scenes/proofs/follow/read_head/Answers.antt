@@ -11,20 +11,20 @@ use Rattle.scenes.proofs.follow.read_head.Goals as goal
 pub loop-number-init : goal.loop-number-init
 loop-number-init g c = λ text known. subst (λ config. IsReadTo text (configured config) 1 (g.R.Read.remaining c.args.reader.now)) (sym c.new-config.ensures) (read_none text _ known)
 
-pub returns-then-not-is_one-clause-ok : goal.returns-then-not-is_one-clause-ok
-returns-then-not-is_one-clause-ok g c = λ text known.
-    read_whole text (configured c.loop-number.config) c.loop-number.number _ (c.loop-number.invariant text known) (λ xs is. none_left _ c.if-not-is_one.true xs _ _ (c.in-Ok.ensures.line xs is))
+pub returns-then-not-has_line-clause-ok : goal.returns-then-not-has_line-clause-ok
+returns-then-not-has_line-clause-ok g c = λ text known.
+    read_whole text (configured c.loop-number.config) c.loop-number.number _ (c.loop-number.invariant text known) (λ xs is. none_left _ c.if-not-has_line.true xs _ _ (c.in-Ok.ensures.line xs is))
 
 pub returns-in-Ok-Event-clause-ok : goal.returns-in-Ok-Event-clause-ok
 returns-in-Ok-Event-clause-ok g c = λ text known.
     read_first text c.loop-number.config c.first_line.result.0.now c.loop-number.number _
-    (read_next text (configured c.loop-number.config) c.loop-number.number _ _ c.next_line.new.buffer.items c.first_line.result.0.now (pieces_left 10 c.first_line.result.1) (c.loop-number.invariant text known) (λ xs is. one_left _ c.if-not-is_one.false xs _ _ (c.in-Ok.ensures.line xs is)) (rw c.as_slice.ensures.value at c.first_line.ensures.lines))
+    (read_next text (configured c.loop-number.config) c.loop-number.number _ _ c.next_line.new.buffer.items c.first_line.result.0.now (pieces_left 10 c.first_line.result.1) (c.loop-number.invariant text known) (λ xs is. one_left _ c.if-not-has_line.false xs _ _ (c.in-Ok.ensures.line xs is)) (rw c.as_slice.ensures.value at c.first_line.ensures.lines))
     c.in-Ok-Event.event (c.in-Ok-Event.ensures ∙ ap Ok c.in-Ok-Event.field-0-is)
 
 pub returns-in-Err-Fault-clause-err : goal.returns-in-Err-Fault-clause-err
 returns-in-Err-Fault-clause-err g c = λ text options known.
     subst (λ f. StopsBy options text HasNoEvent IsRefusedMemory (fault.Line c.loop-number.number f)) (sym c.in-Err-Fault.fault-is) (head_wrong text c.loop-number.config c.first_line.result.0.now c.loop-number.number _
-    (read_next text (configured c.loop-number.config) c.loop-number.number _ _ c.next_line.new.buffer.items c.first_line.result.0.now (pieces_left 10 c.first_line.result.1) (c.loop-number.invariant text known) (λ xs is. one_left _ c.if-not-is_one.false xs _ _ (c.in-Ok.ensures.line xs is)) (rw c.as_slice.ensures.value at c.first_line.ensures.lines))
+    (read_next text (configured c.loop-number.config) c.loop-number.number _ _ c.next_line.new.buffer.items c.first_line.result.0.now (pieces_left 10 c.first_line.result.1) (c.loop-number.invariant text known) (λ xs is. one_left _ c.if-not-has_line.false xs _ _ (c.in-Ok.ensures.line xs is)) (rw c.as_slice.ensures.value at c.first_line.ensures.lines))
     options _ (subst (λ e. Fails e (line_said (lines_before (configured c.loop-number.config)) c.first_line.result.0.now)) c.in-Err-Fault.field-0-is c.in-Err-Fault.ensures))
 
 pub returns-in-Err-OutOfMemory-clause-err : goal.returns-in-Err-OutOfMemory-clause-err
@@ -39,11 +39,11 @@ returns-in-Err-clause-err g c = λ text options known. head_unread options text 
 pub loop-number-preserved-in-Ok-Nothing : goal.loop-number-preserved-in-Ok-Nothing
 loop-number-preserved-in-Ok-Nothing g c = λ text known.
     read_nothing text c.loop-number.config c.first_line.result.0.now c.loop-number.number _
-    (read_next text (configured c.loop-number.config) c.loop-number.number _ _ c.next_line.new.buffer.items c.first_line.result.0.now (pieces_left 10 c.first_line.result.1) (c.loop-number.invariant text known) (λ xs is. one_left _ c.if-not-is_one.false xs _ _ (c.in-Ok.ensures.line xs is)) (rw c.as_slice.ensures.value at c.first_line.ensures.lines))
+    (read_next text (configured c.loop-number.config) c.loop-number.number _ _ c.next_line.new.buffer.items c.first_line.result.0.now (pieces_left 10 c.first_line.result.1) (c.loop-number.invariant text known) (λ xs is. one_left _ c.if-not-has_line.false xs _ _ (c.in-Ok.ensures.line xs is)) (rw c.as_slice.ensures.value at c.first_line.ensures.lines))
     (c.in-Ok-Nothing.ensures ∙ ap Ok c.in-Ok-Nothing.field-0-is)
 
 pub loop-number-preserved : goal.loop-number-preserved
 loop-number-preserved g c = λ text known.
     read_config text c.loop-number.config c.first_line.result.0.now c.loop-number.number _
-    (read_next text (configured c.loop-number.config) c.loop-number.number _ _ c.next_line.new.buffer.items c.first_line.result.0.now (pieces_left 10 c.first_line.result.1) (c.loop-number.invariant text known) (λ xs is. one_left _ c.if-not-is_one.false xs _ _ (c.in-Ok.ensures.line xs is)) (rw c.as_slice.ensures.value at c.first_line.ensures.lines))
+    (read_next text (configured c.loop-number.config) c.loop-number.number _ _ c.next_line.new.buffer.items c.first_line.result.0.now (pieces_left 10 c.first_line.result.1) (c.loop-number.invariant text known) (λ xs is. one_left _ c.if-not-has_line.false xs _ _ (c.in-Ok.ensures.line xs is)) (rw c.as_slice.ensures.value at c.first_line.ensures.lines))
     c.in-Ok-Config.made (c.in-Ok-Config.ensures ∙ ap Ok c.in-Ok-Config.field-0-is)
