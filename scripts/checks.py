@@ -27,6 +27,12 @@ def words_of(file, name):
     return set(re.findall(rf'^{name} [\w.]+ = codes "(.*)"$', text, re.M))
 
 
+def line_words():
+    """The words of all kinds of line: `config`, and those of the rows of lines that tell an event, as in `(codes "run", exactly 5 ..)`."""
+    text = (CRATES / "scene_text/specs/Lines.antt").read_text()
+    return {"config", *re.findall(r'^ +(?:∷ )?\(codes "(.*?)", ', text, re.M)}
+
+
 class Checks:
     """Counts what was checked and what failed."""
 

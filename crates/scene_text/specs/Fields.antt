@@ -1,5 +1,5 @@
 -- The fields of a line from left to right: what they say, or the first fault that is met.
-use Rattle.std.specs.Prelude.{◌≡◌, ℕ, ◌+◌, List, [], ◌∷◌, Option, None, Some, Result, Ok, Err, ⊤, ◌⊎◌}
+use Rattle.std.specs.Prelude.{◌≡◌, ℕ, ◌+◌, ◌%◌, List, [], ◌∷◌, length, Bool, true, false, ◌==◌, ◌&&◌, nat_le, if◌then◌else◌, Option, None, Some, Result, Ok, Err, ⊤, ◌⊎◌}
 use Rattle.std.specs.Borrow.{Bor}
 use Rattle.scene_text.specs.declared.fault.LineFault.{LineFault}
 use Rattle.scene_text.specs.declared.fault.LineFault.TheVariants.{WrongNumberOfFields, BadField}
@@ -45,6 +45,14 @@ field value_in = do
   t ← next
   valued (value_in t)
 
+-- what so many fields say
+abbrev pub exactly : {X : Type 0} → ℕ → Line X → Line X
+exactly n line p = if length p.left == n then line p else Err WrongNumberOfFields
+
+-- what eight fields say with one attempt or more, each of which has eight
+abbrev pub with_attempts : {X : Type 0} → Line X → Line X
+with_attempts line p = if nat_le 16 (length p.left) && (length p.left % 8 == 0) then line p else Err WrongNumberOfFields
+
 -- what a function that takes no memory returned, and where it left the fields
 abbrev pub answered : {X : Type 0} → Result X LineFault → Place → Result (X × Place) LineFault
 answered (Ok x) place = Ok (x, place)
@@ -54,6 +62,11 @@ answered (Err f) place = Err f
 abbrev pub taken_text : Result (Bor (List ℕ)) LineFault → Result (List ℕ) LineFault
 taken_text (Ok t) = Ok t.now
 taken_text (Err f) = Err f
+
+-- the fields as they are where so many may be left, and else the fault of a wrong number
+abbrev pub IsKeptWhere : Bool → Place → Result Place LineFault → Type 0
+IsKeptWhere takes old (Ok new) = (takes ≡ true) × (new ≡ old)
+IsKeptWhere takes old (Err f) = (takes ≡ false) × (f ≡ WrongNumberOfFields)
 
 -- a line has the fault, unless memory was refused
 abbrev pub Fails : {Y : Type 0} → LineError → Result Y LineFault → Type 0

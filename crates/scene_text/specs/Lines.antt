@@ -1,78 +1,66 @@
--- The kinds of line that a scene has, and what the fields of a `config` line say.
-use Rattle.std.specs.Prelude.{ℕ, ◌%◌, List, [], ◌∷◌, Bool, codes, ◌==◌, ◌&&◌, nat_le, Option, Some}
-use Rattle.scene_text.specs.Fields.{◌>>=◌, Line, says, field}
+-- The kinds of line that a scene has: the word that each begins with, how many fields follow it, and what they say.
+use Rattle.std.specs.Prelude.{ℕ, List, [], ◌∷◌, bytes_eq, codes, if◌then◌else◌, Option, Some, Result, Ok, Err}
+use Rattle.scene_text.specs.Fields.{◌>>=◌, Line, Place, exactly, field, says, with_attempts}
+use Rattle.scene_text.specs.InfoLines.{answer_script_line_fields, answer_test_line_fields, info_end_line_fields, info_line_fields}
 use Rattle.scene_text.specs.Numbers.{number_in}
-use Rattle.scene_text.specs.Values.{of_word, config_key_in, display_in, final_level_in, flag_in, mode_in}
-use Rattle.scene_text.specs.declared.reader.lines.LineKind.{LineKind}
-use Rattle.scene_text.specs.declared.reader.lines.LineKind.TheVariants as line
+use Rattle.scene_text.specs.ReplayLines.{header_line_fields, prefix_line_fields}
+use Rattle.scene_text.specs.RunLines.{cancel_line_fields, end_line_fields, input_line_fields, pause_line_fields, run_line_fields}
+use Rattle.scene_text.specs.ScriptLines.{setup_done_line_fields, setup_line_fields, setup_slow_line_fields}
+use Rattle.scene_text.specs.StressLines.{end_stress_line_fields, sub_end_line_fields, sub_start_line_fields}
+use Rattle.scene_text.specs.TestLines.{done_line_fields, retry_line_fields, retry_start_line_fields, skip_line_fields, slow_line_fields, start_line_fields}
+use Rattle.scene_text.specs.Values.{config_key_in, display_in, final_level_in, flag_in, mode_in}
+use Rattle.scene_text.specs.declared.fault.LineFault.{LineFault}
+use Rattle.scene_text.specs.declared.fault.LineFault.TheVariants.{UnknownEvent}
 use Rattle.scene_text.specs.declared.reader.values.ConfigKey.{ConfigKey}
 use Rattle.scene_text.specs.declared.reader.values.ConfigKey.TheVariants as key
 use Rattle.scene_text.specs.declared.scene.SceneConfig.{SceneConfig}
+use Rattle.scene_text.specs.declared.scene.event.SceneEvent.{SceneEvent}
+use Rattle.scene_text.specs.declared.scene.event.SceneEvent.TheVariants as event
 
--- the first field
-abbrev pub line_word : LineKind → List ℕ
-line_word line.Config = codes "config"
-line_word line.Prefix = codes "prefix"
-line_word line.Header = codes "header"
-line_word line.Run = codes "run"
-line_word line.SubStart = codes "substart"
-line_word line.Setup = codes "setup"
-line_word line.SetupSlow = codes "setupslow"
-line_word line.SetupDone = codes "setupdone"
-line_word line.Start = codes "start"
-line_word line.RetryStart = codes "retrystart"
-line_word line.Slow = codes "slow"
-line_word line.Retry = codes "retry"
-line_word line.Done = codes "done"
-line_word line.Skip = codes "skip"
-line_word line.Cancel = codes "cancel"
-line_word line.Kill = codes "kill"
-line_word line.Pause = codes "pause"
-line_word line.Continue = codes "continue"
-line_word line.Info = codes "info"
-line_word line.AnswerScript = codes "answer-script"
-line_word line.AnswerTest = codes "answer-test"
-line_word line.InfoEnd = codes "infoend"
-line_word line.Input = codes "input"
-line_word line.SubEnd = codes "subend"
-line_word line.End = codes "end"
-line_word line.EndStress = codes "endstress"
+-- the event that is made of what fields say
+abbrev pub made : {X : Type 0} → (X → SceneEvent) → Line X → Line SceneEvent
+made make line = do
+  x ← line
+  says (make x)
 
-unfoldable pub line_in : List ℕ → Option LineKind
-line_in t =
-    of_word line_word (line.Config ∷ line.Prefix ∷ line.Header ∷ line.Run ∷ line.SubStart ∷ line.Setup ∷ line.SetupSlow ∷ line.SetupDone
-    ∷ line.Start ∷ line.RetryStart ∷ line.Slow ∷ line.Retry ∷ line.Done ∷ line.Skip ∷ line.Cancel ∷ line.Kill ∷ line.Pause ∷ line.Continue
-    ∷ line.Info ∷ line.AnswerScript ∷ line.AnswerTest ∷ line.InfoEnd ∷ line.Input ∷ line.SubEnd ∷ line.End ∷ line.EndStress ∷ []) t
+-- each kind of line that tells an event: its word, and what follows it
+abbrev pub event_rows : List (List ℕ × Line SceneEvent)
+event_rows =
+    (codes "prefix", exactly 2 prefix_line_fields)
+    ∷ (codes "header", exactly 5 header_line_fields)
+    ∷ (codes "run", exactly 5 run_line_fields)
+    ∷ (codes "substart", exactly 1 sub_start_line_fields)
+    ∷ (codes "setup", exactly 6 setup_line_fields)
+    ∷ (codes "setupslow", exactly 6 setup_slow_line_fields)
+    ∷ (codes "setupdone", exactly 12 setup_done_line_fields)
+    ∷ (codes "start", exactly 5 start_line_fields)
+    ∷ (codes "retrystart", exactly 6 retry_start_line_fields)
+    ∷ (codes "slow", exactly 7 slow_line_fields)
+    ∷ (codes "retry", exactly 15 retry_line_fields)
+    ∷ (codes "done", with_attempts done_line_fields)
+    ∷ (codes "skip", exactly 3 skip_line_fields)
+    ∷ (codes "cancel", exactly 3 (made event.RunBeginCancel cancel_line_fields))
+    ∷ (codes "kill", exactly 3 (made event.RunBeginKill cancel_line_fields))
+    ∷ (codes "pause", exactly 2 (made event.RunPaused pause_line_fields))
+    ∷ (codes "continue", exactly 2 (made event.RunContinued pause_line_fields))
+    ∷ (codes "info", exactly 3 info_line_fields)
+    ∷ (codes "answer-script", exactly 13 answer_script_line_fields)
+    ∷ (codes "answer-test", exactly 14 answer_test_line_fields)
+    ∷ (codes "infoend", exactly 1 info_end_line_fields)
+    ∷ (codes "input", exactly 3 input_line_fields)
+    ∷ (codes "subend", exactly 3 sub_end_line_fields)
+    ∷ (codes "end", exactly 4 end_line_fields)
+    ∷ (codes "endstress", exactly 7 end_stress_line_fields)
+    ∷ []
 
--- how many fields may follow it. An attempt has eight: a setup script and a retried test have one, and a finished test
--- one or more
-unfoldable pub takes : LineKind → ℕ → Bool
-takes line.Config n = n == 2
-takes line.Prefix n = n == 2
-takes line.Header n = n == 5
-takes line.Run n = n == 5
-takes line.SubStart n = n == 1
-takes line.Setup n = n == 6
-takes line.SetupSlow n = n == 6
-takes line.SetupDone n = n == 12
-takes line.Start n = n == 5
-takes line.RetryStart n = n == 6
-takes line.Slow n = n == 7
-takes line.Retry n = n == 15
-takes line.Done n = nat_le 16 n && (n % 8 == 0)
-takes line.Skip n = n == 3
-takes line.Cancel n = n == 3
-takes line.Kill n = n == 3
-takes line.Pause n = n == 2
-takes line.Continue n = n == 2
-takes line.Info n = n == 3
-takes line.AnswerScript n = n == 13
-takes line.AnswerTest n = n == 14
-takes line.InfoEnd n = n == 1
-takes line.Input n = n == 3
-takes line.SubEnd n = n == 3
-takes line.End n = n == 4
-takes line.EndStress n = n == 7
+-- what the fields behind a word say by the first of these rows that has it
+abbrev pub row_said : List (List ℕ × Line SceneEvent) → List ℕ → Line SceneEvent
+row_said [] word fields = Err UnknownEvent
+row_said (row ∷ rows) word fields = if bytes_eq word row.0 then row.1 fields else row_said rows word fields
+
+-- the event that the fields behind a word tell
+unfoldable pub event_line_fields : List ℕ → Line SceneEvent
+event_line_fields word = row_said event_rows word
 
 -- `config`: a key and its value
 abbrev pub set_field : SceneConfig → ConfigKey → Line SceneConfig

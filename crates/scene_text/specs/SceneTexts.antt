@@ -1,31 +1,22 @@
 -- The scene that a text spells, or its first fault.
-use Rattle.std.specs.Prelude.{◌≡◌, ℕ, ◌+◌, List, [], ◌∷◌, ◌++◌, Bool, true, false, ◌==◌, nat_lt, if◌then◌else◌, Option, None, Some, Result, Ok, Err, length, ⊤}
+use Rattle.std.specs.Prelude.{◌≡◌, ℕ, ◌+◌, List, [], ◌∷◌, ◌++◌, Bool, true, false, ◌==◌, nat_lt, bytes_eq, codes, if◌then◌else◌, Option, None, Some, Result, Ok, Err, length, ⊤}
 use Rattle.std.specs.Str.{is_utf8}
 use Rattle.scene_text.specs.Configs.{unconfigured}
 use Rattle.scene_text.specs.Split.{parted}
-use Rattle.scene_text.specs.Fields.{Fails, Place}
-use Rattle.scene_text.specs.InfoLines.{answer_script_line_fields, answer_test_line_fields, info_end_line_fields, info_line_fields}
-use Rattle.scene_text.specs.Lines.{config_line_fields, line_in, takes}
-use Rattle.scene_text.specs.ReplayLines.{header_line_fields, prefix_line_fields}
-use Rattle.scene_text.specs.RunLines.{cancel_line_fields, end_line_fields, input_line_fields, pause_line_fields, run_line_fields}
-use Rattle.scene_text.specs.ScriptLines.{setup_done_line_fields, setup_line_fields, setup_slow_line_fields}
-use Rattle.scene_text.specs.StressLines.{end_stress_line_fields, sub_end_line_fields, sub_start_line_fields}
-use Rattle.scene_text.specs.TestLines.{done_line_fields, retry_line_fields, retry_start_line_fields, skip_line_fields, slow_line_fields, start_line_fields}
+use Rattle.scene_text.specs.Fields.{Fails, Place, exactly}
+use Rattle.scene_text.specs.Lines.{config_line_fields, event_line_fields}
 use Rattle.scene_text.specs.declared.fault.LineError.{LineError}
 use Rattle.scene_text.specs.declared.fault.LineError.TheVariants as error
 use Rattle.scene_text.specs.declared.fault.LineFault.{LineFault}
-use Rattle.scene_text.specs.declared.fault.LineFault.TheVariants.{NotUtf8, UnknownEvent, ConfigAfterEvent, WrongNumberOfFields}
+use Rattle.scene_text.specs.declared.fault.LineFault.TheVariants.{NotUtf8, ConfigAfterEvent, WrongNumberOfFields}
 use Rattle.scene_text.specs.declared.fault.ReadFault.{ReadFault}
 use Rattle.scene_text.specs.declared.fault.ReadFault.TheVariants as fault
 use Rattle.scene_text.specs.declared.reader.LineSaid.{LineSaid}
 use Rattle.scene_text.specs.declared.reader.LineSaid.TheVariants as said
 use Rattle.scene_text.specs.declared.reader.LinesBefore.{LinesBefore}
-use Rattle.scene_text.specs.declared.reader.lines.LineKind.{LineKind}
-use Rattle.scene_text.specs.declared.reader.lines.LineKind.TheVariants as line
 use Rattle.scene_text.specs.declared.scene.ToldRun.{ToldRun}
 use Rattle.scene_text.specs.declared.scene.SceneConfig.{SceneConfig}
 use Rattle.scene_text.specs.declared.scene.event.SceneEvent.{SceneEvent}
-use Rattle.scene_text.specs.declared.scene.event.SceneEvent.TheVariants as event
 
 -- what lines tell: the last value of each key, and the events in order
 pub record Told : Type 0 where
@@ -56,54 +47,16 @@ abbrev pub says_event : Result (SceneEvent × Place) LineFault → Result LineSa
 says_event (Ok x) = Ok (said.Event x.0)
 says_event (Err f) = Err f
 
--- the event that is made of what its fields hold
-abbrev pub says_made : {X : Type 0} → (X → SceneEvent) → Result (X × Place) LineFault → Result LineSaid LineFault
-says_made make (Ok x) = Ok (said.Event (make x.0))
-says_made make (Err f) = Err f
+-- a line that configures the run, which may not stand behind an event
+abbrev pub config_said : LinesBefore → Place → Result LineSaid LineFault
+config_said before fields = if before.is_begun then Err ConfigAfterEvent else says_config (exactly 2 (config_line_fields before.config) fields)
 
--- what the fields after the first say, of which there are enough
-unfoldable pub fields_said : SceneConfig → LineKind → Place → Result LineSaid LineFault
-fields_said config line.Config fields = says_config (config_line_fields config fields)
-fields_said config line.Prefix fields = says_event (prefix_line_fields fields)
-fields_said config line.Header fields = says_event (header_line_fields fields)
-fields_said config line.Run fields = says_event (run_line_fields fields)
-fields_said config line.SubStart fields = says_event (sub_start_line_fields fields)
-fields_said config line.Setup fields = says_event (setup_line_fields fields)
-fields_said config line.SetupSlow fields = says_event (setup_slow_line_fields fields)
-fields_said config line.SetupDone fields = says_event (setup_done_line_fields fields)
-fields_said config line.Start fields = says_event (start_line_fields fields)
-fields_said config line.RetryStart fields = says_event (retry_start_line_fields fields)
-fields_said config line.Slow fields = says_event (slow_line_fields fields)
-fields_said config line.Retry fields = says_event (retry_line_fields fields)
-fields_said config line.Done fields = says_event (done_line_fields fields)
-fields_said config line.Skip fields = says_event (skip_line_fields fields)
-fields_said config line.Cancel fields = says_made event.RunBeginCancel (cancel_line_fields fields)
-fields_said config line.Kill fields = says_made event.RunBeginKill (cancel_line_fields fields)
-fields_said config line.Pause fields = says_made event.RunPaused (pause_line_fields fields)
-fields_said config line.Continue fields = says_made event.RunContinued (pause_line_fields fields)
-fields_said config line.Info fields = says_event (info_line_fields fields)
-fields_said config line.AnswerScript fields = says_event (answer_script_line_fields fields)
-fields_said config line.AnswerTest fields = says_event (answer_test_line_fields fields)
-fields_said config line.InfoEnd fields = says_event (info_end_line_fields fields)
-fields_said config line.Input fields = says_event (input_line_fields fields)
-fields_said config line.SubEnd fields = says_event (sub_end_line_fields fields)
-fields_said config line.End fields = says_event (end_line_fields fields)
-fields_said config line.EndStress fields = says_event (end_stress_line_fields fields)
-
--- such a line may not stand after an event
-unfoldable pub comes_late : LineKind → Bool → Bool
-comes_late line.Config is_begun = is_begun
-comes_late other is_begun = false
-
-abbrev pub kind_said : LinesBefore → List (List ℕ) → Option LineKind → Result LineSaid LineFault
-kind_said before fields None = Err UnknownEvent
-kind_said before fields (Some kind) =
-    if comes_late kind before.is_begun then Err ConfigAfterEvent
-    else (if takes kind (length fields) then fields_said before.config kind (record { number = 1; left = fields }) else Err WrongNumberOfFields)
+abbrev pub word_said : LinesBefore → List ℕ → Place → Result LineSaid LineFault
+word_said before word fields = if bytes_eq word (codes "config") then config_said before fields else says_event (event_line_fields word fields)
 
 abbrev pub words_said : LinesBefore → List (List ℕ) → Result LineSaid LineFault
 words_said before [] = Err WrongNumberOfFields
-words_said before (word ∷ fields) = kind_said before fields (line_in word)
+words_said before (word ∷ fields) = word_said before word (record { number = 1; left = fields })
 
 -- an empty line, and one that begins with `#`, say nothing
 abbrev pub is_passed_over : List ℕ → Bool

@@ -10,7 +10,7 @@
 
 ghost use Rattle.std.specs.Prelude.{◌≡◌, ◌+◌, ◌++◌, [], length, IfOk, IfErr, OnOk, Ok};
 ghost use Rattle.scene_text.specs.Split.{parted, field_texts};
-ghost use Rattle.scene_text.specs.SceneTexts.{AllTell, IsAnswer, IsFaultOf, IsFaultHere, IsFaultThere, IsSaid, comes_late, event_lines, fault_at, fields_said, is_begun, is_passed_over, line_here, line_said, line_told, lines_told, nothing_told, text_told, told, words_said};
+ghost use Rattle.scene_text.specs.SceneTexts.{AllTell, IsAnswer, IsFaultOf, IsFaultHere, IsFaultThere, IsSaid, event_lines, fault_at, is_begun, is_passed_over, line_here, line_said, line_told, lines_told, nothing_told, text_told, told, words_said};
 
 mod counts;
 mod fields;
@@ -37,15 +37,9 @@ use crate::fault::{LineError, LineFault, ReadFault};
 use crate::scene::event::SceneEvent;
 use crate::scene::{SceneConfig, ToldRun};
 use fields::{Fields, split_fields};
-use info_lines::{read_answer_script, read_answer_test, read_info, read_info_end};
-use lines::{LineKind, read_config};
-use replay_lines::{read_header, read_prefix};
-use run_lines::{read_cancel, read_end, read_input, read_pause, read_run};
-use script_lines::{read_setup, read_setup_done, read_setup_slow};
+use lines::{read_config, read_event};
 use split::first_line;
 use std::alloc::Global;
-use stress_lines::{read_end_stress, read_sub_end, read_sub_start};
-use test_lines::{read_done, read_retry, read_retry_start, read_skip, read_slow, read_start};
 
 /// What a line is read by of the lines before it.
 #[derive(Clone, Copy, Debug)]
@@ -243,67 +237,9 @@ fn read_words(alloc: Global, words: &[&str], before: LinesBefore) -> Result<Line
     ensures { IsSaid result (words_said before (field_texts words.now)) }
 {
     let mut fields = Fields::new(words);
-    let name = fields.take()?;
-    let Some(kind) = LineKind::from_name(name) else {
-        return Err(LineError::Fault(LineFault::UnknownEvent));
-    };
-    if comes_late(kind, before.is_begun) {
-        return Err(LineError::Fault(LineFault::ConfigAfterEvent));
+    match fields.take()? {
+        "config" if before.is_begun => Err(LineError::Fault(LineFault::ConfigAfterEvent)),
+        "config" => Ok(LineSaid::Config(read_config(&mut fields.exactly(2)?, before.config)?)),
+        word => read_event(alloc, word, fields),
     }
-    if !kind.takes(fields.len()) {
-        return Err(LineError::Fault(LineFault::WrongNumberOfFields));
-    }
-    read_fields(alloc, kind, &mut fields, before.config)
-}
-
-// Whether such a line may not stand where an event came before it, or none did.
-#[tactic(auto, unfolding(crate::specs::SceneTexts::comes_late))]
-fn comes_late(kind: LineKind, is_begun: bool) -> bool
-    ensures { result ≡ comes_late kind is_begun }
-{
-    match kind {
-        LineKind::Config => is_begun,
-        _ => false,
-    }
-}
-
-// Reads what follows a line's first field. A line that configures changes this configuration.
-#[tactic(auto, unfolding(crate::specs::SceneTexts::fields_said))]
-fn read_fields(
-    alloc: Global,
-    kind: LineKind,
-    fields: &mut Fields<'_>,
-    config: SceneConfig,
-) -> Result<LineSaid, LineError>
-    ensures { IsSaid result (fields_said config kind fields.old) }
-{
-    let event = match kind {
-        LineKind::Config => return Ok(LineSaid::Config(read_config(fields, config)?)),
-        LineKind::Prefix => read_prefix(alloc, fields)?,
-        LineKind::Header => read_header(alloc, fields)?,
-        LineKind::Run => read_run(alloc, fields)?,
-        LineKind::SubStart => read_sub_start(fields)?,
-        LineKind::Setup => read_setup(alloc, fields)?,
-        LineKind::SetupSlow => read_setup_slow(alloc, fields)?,
-        LineKind::SetupDone => read_setup_done(alloc, fields)?,
-        LineKind::Start => read_start(alloc, fields)?,
-        LineKind::RetryStart => read_retry_start(alloc, fields)?,
-        LineKind::Slow => read_slow(alloc, fields)?,
-        LineKind::Retry => read_retry(alloc, fields)?,
-        LineKind::Done => read_done(alloc, fields)?,
-        LineKind::Skip => read_skip(alloc, fields)?,
-        LineKind::Cancel => SceneEvent::RunBeginCancel(read_cancel(fields)?),
-        LineKind::Kill => SceneEvent::RunBeginKill(read_cancel(fields)?),
-        LineKind::Pause => SceneEvent::RunPaused(read_pause(fields)?),
-        LineKind::Continue => SceneEvent::RunContinued(read_pause(fields)?),
-        LineKind::Info => read_info(fields)?,
-        LineKind::AnswerScript => read_answer_script(alloc, fields)?,
-        LineKind::AnswerTest => read_answer_test(alloc, fields)?,
-        LineKind::InfoEnd => read_info_end(fields)?,
-        LineKind::Input => read_input(fields)?,
-        LineKind::SubEnd => read_sub_end(fields)?,
-        LineKind::End => read_end(alloc, fields)?,
-        LineKind::EndStress => read_end_stress(alloc, fields)?,
-    };
-    Ok(LineSaid::Event(event))
 }

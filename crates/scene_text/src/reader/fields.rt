@@ -1,8 +1,8 @@
 //! A line of a scene, taken apart from left to right.
 
-ghost use Rattle.std.specs.Prelude.{◌≡◌, ◌+◌, ◌≤◌, ◌^◌, OnOk, drop, length, Ok};
+ghost use Rattle.std.specs.Prelude.{◌≡◌, ◌+◌, ◌≤◌, ◌%◌, ◌^◌, ◌==◌, ◌&&◌, OnOk, drop, length, nat_le, Ok};
 ghost use Rattle.scene_text.specs.Split.{parted, field_texts};
-ghost use Rattle.scene_text.specs.Fields.{Place, ReadsBy, TriesBy, answered, next, taken_text};
+ghost use Rattle.scene_text.specs.Fields.{IsKeptWhere, Place, ReadsBy, TriesBy, answered, next, taken_text};
 
 use super::tabs::{first_place, tabs_from, without_place};
 use crate::fault::{LineError, LineFault};
@@ -55,6 +55,27 @@ impl<'a> Fields<'a> {
             left: fields,
             number: 0,
         }
+    }
+
+    /// The fields, of which so many must be left to take.
+    pub fn exactly(self, count: usize) -> Result<Fields<'a>, LineFault>
+        ensures { IsKeptWhere (length self.entry.left == count) self.entry result }
+    {
+        if self.left.len() != count {
+            return Err(LineFault::WrongNumberOfFields);
+        }
+        Ok(self)
+    }
+
+    /// The fields, of which eight must be left to take with one attempt or more: each has eight.
+    pub fn with_attempts(self) -> Result<Fields<'a>, LineFault>
+        ensures { IsKeptWhere (nat_le 16 (length self.entry.left) && (length self.entry.left % 8 == 0)) self.entry result }
+    {
+        let count = self.left.len();
+        if count < 16 || count % 8 != 0 {
+            return Err(LineFault::WrongNumberOfFields);
+        }
+        Ok(self)
     }
 
     /// How many fields are left to take.

@@ -2,138 +2,60 @@
 
 ghost use Rattle.std.specs.Prelude.{◌≡◌};
 ghost use Rattle.scene_text.specs.Fields.{answered};
-ghost use Rattle.scene_text.specs.Lines.{config_line_fields, line_in, takes};
+ghost use Rattle.scene_text.specs.Lines.{config_line_fields, event_line_fields};
+ghost use Rattle.scene_text.specs.SceneTexts.{IsSaid, says_event};
 
+use super::LineSaid::{self, Event};
 use super::fields::Fields;
+use super::info_lines::{read_answer_script, read_answer_test, read_info, read_info_end};
 use super::numbers::read_count;
+use super::replay_lines::{read_header, read_prefix};
+use super::run_lines::{read_cancel, read_end, read_input, read_pause, read_run};
+use super::script_lines::{read_setup, read_setup_done, read_setup_slow};
+use super::stress_lines::{read_end_stress, read_sub_end, read_sub_start};
+use super::test_lines::{
+    read_done, read_retry, read_retry_start, read_skip, read_slow, read_start,
+};
 use super::values::{
     ConfigKey, read_config_key, read_display, read_final_level, read_flag, read_mode,
 };
-use crate::fault::LineFault;
+use crate::fault::{LineError, LineFault};
 use crate::scene::SceneConfig;
+use crate::scene::event::SceneEvent;
+use std::alloc::Global;
 
-/// A kind of line.
-#[derive(Clone, Copy, Debug, PartialEq, Eq)]
-pub enum LineKind {
-    /// How the run is reported.
-    Config,
-    /// The run's id has a unique prefix.
-    Prefix,
-    /// A recorded run is shown.
-    Header,
-    /// The run has started.
-    Run,
-    /// An iteration of a stress run has started.
-    SubStart,
-    /// A setup script has started.
-    Setup,
-    /// A setup script runs longer than it should.
-    SetupSlow,
-    /// A setup script has finished.
-    SetupDone,
-    /// A test has started.
-    Start,
-    /// Another attempt of a test has started.
-    RetryStart,
-    /// A test runs longer than it should.
-    Slow,
-    /// An attempt of a test has failed, and another one follows.
-    Retry,
-    /// A test has finished.
-    Done,
-    /// A test is not to run.
-    Skip,
-    /// The run is about to be cancelled.
-    Cancel,
-    /// The run is about to be killed.
-    Kill,
-    /// The run was stopped for a while.
-    Pause,
-    /// The run goes on after it was stopped.
-    Continue,
-    /// All units are asked what they are doing.
-    Info,
-    /// A setup script says what it is doing.
-    AnswerScript,
-    /// A test says what it is doing.
-    AnswerTest,
-    /// No further answers are waited for.
-    InfoEnd,
-    /// The state of the run was asked for.
-    Input,
-    /// An iteration of a stress run has finished.
-    SubEnd,
-    /// The run has finished.
-    End,
-    /// The stress run has finished.
-    EndStress,
-}
-
-impl LineKind {
-    /// The kind that a line's first field names.
-    #[tactic(auto, unfolding(crate::specs::Lines::line_in))]
-    pub fn from_name(name: &str) -> Option<LineKind>
-        ensures { result ≡ line_in name.now }
-    {
-        match name {
-            "config" => Some(LineKind::Config),
-            "prefix" => Some(LineKind::Prefix),
-            "header" => Some(LineKind::Header),
-            "run" => Some(LineKind::Run),
-            "substart" => Some(LineKind::SubStart),
-            "setup" => Some(LineKind::Setup),
-            "setupslow" => Some(LineKind::SetupSlow),
-            "setupdone" => Some(LineKind::SetupDone),
-            "start" => Some(LineKind::Start),
-            "retrystart" => Some(LineKind::RetryStart),
-            "slow" => Some(LineKind::Slow),
-            "retry" => Some(LineKind::Retry),
-            "done" => Some(LineKind::Done),
-            "skip" => Some(LineKind::Skip),
-            "cancel" => Some(LineKind::Cancel),
-            "kill" => Some(LineKind::Kill),
-            "pause" => Some(LineKind::Pause),
-            "continue" => Some(LineKind::Continue),
-            "info" => Some(LineKind::Info),
-            "answer-script" => Some(LineKind::AnswerScript),
-            "answer-test" => Some(LineKind::AnswerTest),
-            "infoend" => Some(LineKind::InfoEnd),
-            "input" => Some(LineKind::Input),
-            "subend" => Some(LineKind::SubEnd),
-            "end" => Some(LineKind::End),
-            "endstress" => Some(LineKind::EndStress),
-            _ => None,
-        }
-    }
-
-    /// Whether this many fields may stand after the first. An attempt has eight: a setup script and a retried test have one,
-    /// and a finished test one or more.
-    #[tactic(auto, unfolding(crate::specs::Lines::takes))]
-    pub fn takes(self, fields: usize) -> bool
-        ensures { result ≡ takes self fields }
-    {
-        match self {
-            LineKind::Config | LineKind::Prefix => fields == 2,
-            LineKind::Header | LineKind::Run => fields == 5,
-            LineKind::SubStart => fields == 1,
-            LineKind::Setup | LineKind::SetupSlow => fields == 6,
-            LineKind::SetupDone => fields == 12,
-            LineKind::Start => fields == 5,
-            LineKind::RetryStart => fields == 6,
-            LineKind::Slow => fields == 7,
-            LineKind::Retry => fields == 15,
-            LineKind::Done => fields >= 16 && fields % 8 == 0,
-            LineKind::Skip => fields == 3,
-            LineKind::Cancel | LineKind::Kill => fields == 3,
-            LineKind::Pause | LineKind::Continue => fields == 2,
-            LineKind::Info => fields == 3,
-            LineKind::AnswerScript => fields == 13,
-            LineKind::AnswerTest => fields == 14,
-            LineKind::InfoEnd => fields == 1,
-            LineKind::Input | LineKind::SubEnd => fields == 3,
-            LineKind::End => fields == 4,
-            LineKind::EndStress => fields == 7,
-        }
+/// Reads the fields behind a word, which names the kind of event that the line tells.
+#[tactic(auto, unfolding(crate::specs::Lines::event_line_fields))]
+pub fn read_event(alloc: Global, word: &str, fields: Fields<'_>) -> Result<LineSaid, LineError>
+    ensures { IsSaid result (says_event (event_line_fields word.now fields.entry)) }
+{
+    match word {
+        "prefix" => Ok(Event(read_prefix(alloc, &mut fields.exactly(2)?)?)),
+        "header" => Ok(Event(read_header(alloc, &mut fields.exactly(5)?)?)),
+        "run" => Ok(Event(read_run(alloc, &mut fields.exactly(5)?)?)),
+        "substart" => Ok(Event(read_sub_start(&mut fields.exactly(1)?)?)),
+        "setup" => Ok(Event(read_setup(alloc, &mut fields.exactly(6)?)?)),
+        "setupslow" => Ok(Event(read_setup_slow(alloc, &mut fields.exactly(6)?)?)),
+        "setupdone" => Ok(Event(read_setup_done(alloc, &mut fields.exactly(12)?)?)),
+        "start" => Ok(Event(read_start(alloc, &mut fields.exactly(5)?)?)),
+        "retrystart" => Ok(Event(read_retry_start(alloc, &mut fields.exactly(6)?)?)),
+        "slow" => Ok(Event(read_slow(alloc, &mut fields.exactly(7)?)?)),
+        "retry" => Ok(Event(read_retry(alloc, &mut fields.exactly(15)?)?)),
+        "done" => Ok(Event(read_done(alloc, &mut fields.with_attempts()?)?)),
+        "skip" => Ok(Event(read_skip(alloc, &mut fields.exactly(3)?)?)),
+        "cancel" => Ok(Event(SceneEvent::RunBeginCancel(read_cancel(&mut fields.exactly(3)?)?))),
+        "kill" => Ok(Event(SceneEvent::RunBeginKill(read_cancel(&mut fields.exactly(3)?)?))),
+        "pause" => Ok(Event(SceneEvent::RunPaused(read_pause(&mut fields.exactly(2)?)?))),
+        "continue" => Ok(Event(SceneEvent::RunContinued(read_pause(&mut fields.exactly(2)?)?))),
+        "info" => Ok(Event(read_info(&mut fields.exactly(3)?)?)),
+        "answer-script" => Ok(Event(read_answer_script(alloc, &mut fields.exactly(13)?)?)),
+        "answer-test" => Ok(Event(read_answer_test(alloc, &mut fields.exactly(14)?)?)),
+        "infoend" => Ok(Event(read_info_end(&mut fields.exactly(1)?)?)),
+        "input" => Ok(Event(read_input(&mut fields.exactly(3)?)?)),
+        "subend" => Ok(Event(read_sub_end(&mut fields.exactly(3)?)?)),
+        "end" => Ok(Event(read_end(alloc, &mut fields.exactly(4)?)?)),
+        "endstress" => Ok(Event(read_end_stress(alloc, &mut fields.exactly(7)?)?)),
+        _ => Err(LineError::Fault(LineFault::UnknownEvent)),
     }
 }
 
