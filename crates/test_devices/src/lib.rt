@@ -1,0 +1,116 @@
+//! A device for tests, which fails where it is told to. It stands in a crate of its own, so that all crates of tests have the same one.
+#![tactic(auto)]
+
+ghost use Rattle.std.specs.Prelude.{◌≤◌, IfOk, length};
+
+use std::alloc::{AllocError, Global};
+use std::io;
+use std::io::{ErrorKind, Write};
+
+/// How many bytes a device takes at once. That is less than most texts, so that a device can fail within one.
+pub const BYTES_AT_ONCE: usize = 7;
+
+/// Which calls of a device fail, and how. The others are not counted.
+#[derive(Clone, Copy, Debug, PartialEq, Eq)]
+pub enum Failure {
+    /// Writes and flushes answer an error.
+    Error,
+    /// Writes take no byte.
+    NothingTaken,
+    /// Flushes answer an error.
+    FlushError,
+}
+
+/// A device for tests: it takes at most [`BYTES_AT_ONCE`] a call, and fails from a call of its on, in a chosen way.
+#[derive(Debug, Drop)]
+pub struct Device {
+    taken: Vec<u8>,
+    room: usize,
+    calls_left: usize,
+    failure: Failure,
+}
+
+impl Device {
+    /// One that works for so many of the calls that can fail so, and fails then.
+    ///
+    /// ```
+    /// use std::io::Write;
+    /// let mut device = Device::failing_at(alloc, 1, Failure::Error);
+    /// assert_eq!(device.write(b"passed")?, 6);
+    /// assert!(device.write(b"failed").is_err());
+    /// ```
+    pub fn failing_at(alloc: Global, call: usize, failure: Failure) -> Device {
+        Device {
+            taken: Vec::new(alloc),
+            room: usize::MAX,
+            calls_left: call,
+            failure,
+        }
+    }
+
+    /// One that takes so many bytes, and whose writes fail then. It has their memory from the start, and allocates nothing as it takes them.
+    ///
+    /// ```
+    /// use std::io::Write;
+    /// let mut device = Device::with_room(alloc, 10)?;
+    /// assert!(device.write_all(b"passed, failed").is_err());
+    /// assert_eq!(device.taken(), b"passed, fa".as_slice());
+    /// ```
+    pub fn with_room(alloc: Global, room: usize) -> Result<Device, AllocError> {
+        Ok(Device {
+            taken: Vec::with_capacity(alloc, room)?,
+            room,
+            calls_left: usize::MAX,
+            failure: Failure::Error,
+        })
+    }
+
+    /// What it took.
+    pub fn taken(&self) -> &[u8] {
+        self.taken.as_slice()
+    }
+
+    // Counts a call, which fails where none is left.
+    fn call(&mut self) -> io::Result<()> {
+        if self.calls_left == 0 {
+            return Err(io::Error::from(ErrorKind::Other));
+        }
+        self.calls_left -= 1;
+        Ok(())
+    }
+
+    // Takes the front of these bytes, where there is room.
+    fn take(&mut self, buf: &[u8]) -> io::Result<usize>
+        ensures { IfOk result (λ n. n ≤ length buf.now) }
+    {
+        if self.room == 0 {
+            return Err(io::Error::from(ErrorKind::Other));
+        }
+        let (front, _) = buf.split_at(buf.len().min(BYTES_AT_ONCE).min(self.room));
+        self.taken.extend_from_slice(front)?;
+        self.room -= front.len();
+        Ok(front.len())
+    }
+}
+
+impl Write for Device {
+    fn write(&mut self, buf: &[u8]) -> io::Result<usize> {
+        match self.failure {
+            Failure::Error => self.call()?,
+            Failure::NothingTaken => {
+                if self.call().is_err() {
+                    return Ok(0);
+                }
+            }
+            Failure::FlushError => {}
+        }
+        self.take(buf)
+    }
+
+    fn flush(&mut self) -> io::Result<()> {
+        match self.failure {
+            Failure::NothingTaken => Ok(()),
+            Failure::Error | Failure::FlushError => self.call(),
+        }
+    }
+}
