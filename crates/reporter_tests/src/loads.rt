@@ -1,6 +1,6 @@
 //! Which outputs a replay loads, and lists of calls without the others.
 
-use crate::testing::{STATS, attempt, builder, failed};
+use crate::testing::{attempt, builder_at, failed, finished, load_output, once, retried, twice};
 use console_reporter::imp::{
     OutputLoadDecider, ReportCall, Surroundings, first_refused, unload_skipped,
 };
@@ -8,89 +8,21 @@ use run_model::command::CommandLine;
 use run_model::config::TestOutputDisplay;
 use run_model::event::{TestEvent, TestEventKind};
 use run_model::level::{FinalStatusLevel, StatusLevel};
-use run_model::name::{ProgramName, RustBinaryId, ScriptId, TestCaseName, TestInstanceId};
+use run_model::name::{OwnedTestInstanceId, ProgramName, ScriptId};
 use run_model::output::{ChildExecutionOutputDescription, ChildOutputDescription, LiveSpec};
 use run_model::output_event::LoadOutput;
 use run_model::status::{
-    ExecuteStatus, ExecutionDescription, ExecutionResultDescription, ExecutionStatuses,
-    FlakyResult, LeakTimeoutResult, SetupScriptExecuteStatus,
+    ExecuteStatus, ExecutionDescription, ExecutionResultDescription, LeakTimeoutResult,
+    SetupScriptExecuteStatus,
 };
 use run_model::time::Nanos;
 use std::alloc::Global;
 use std::test::Fail;
-use unit_report::config::{DisplayConfig, ShowProgress};
-
-// The names of a test.
-#[derive(Drop)]
-struct Names {
-    binary_id: RustBinaryId,
-    test_name: TestCaseName,
-}
-
-impl Names {
-    fn new(alloc: Global) -> Result<Names, Fail> {
-        Ok(Names {
-            binary_id: RustBinaryId::new(alloc, "a")?,
-            test_name: TestCaseName::new(alloc, "t1")?,
-        })
-    }
-
-    fn instance(&self) -> TestInstanceId<'_> {
-        TestInstanceId {
-            binary_id: &self.binary_id,
-            test_name: &self.test_name,
-        }
-    }
-}
 
 // The decider of a reporter with this status level.
 fn decider(alloc: Global, status_level: StatusLevel) -> Result<OutputLoadDecider, Fail> {
-    let mut builder = builder(alloc)?;
-    let (progress, final_level) = (ShowProgress::None, FinalStatusLevel::None);
-    builder.display_config = DisplayConfig::with_overrides(
-        progress,
-        false,
-        status_level,
-        final_level,
-    );
+    let builder = builder_at(alloc, status_level, FinalStatusLevel::None)?;
     Ok(builder.output_load_decider(Surroundings::default(), None))
-}
-
-// A test of these attempts that asks for these displays. A success after others counts as a failure.
-fn finished<'a>(
-    test_instance: TestInstanceId<'a>,
-    statuses: Vec<ExecuteStatus<LiveSpec>>,
-    success_output: TestOutputDisplay,
-    failure_output: TestOutputDisplay,
-) -> Result<TestEvent<'a>, Fail> {
-    let Some(run_statuses) = ExecutionStatuses::new(statuses, FlakyResult::Fail) else {
-        return Err(Fail::from("there are attempts"));
-    };
-    Ok(TestEvent {
-        elapsed: Nanos(0),
-        kind: TestEventKind::TestFinished {
-            stress_index: None,
-            test_instance,
-            success_output,
-            failure_output,
-            run_statuses,
-            current_stats: STATS,
-        },
-    })
-}
-
-// An attempt that failed where another one follows.
-fn retried(test_instance: TestInstanceId<'_>) -> TestEvent<'_> {
-    TestEvent {
-        elapsed: Nanos(0),
-        kind: TestEventKind::TestAttemptFailedWillRetry {
-            stress_index: None,
-            test_instance,
-            run_status: attempt(1, 3, failed()),
-            delay_before_next_attempt: Nanos(0),
-            failure_output: TestOutputDisplay::Immediate,
-        },
-    }
 }
 
 // A setup script that left handles open, which counts so.
@@ -106,7 +38,7 @@ fn script<'a>(alloc: Global, counts_as: LeakTimeoutResult) -> Result<TestEvent<'
             program,
             args,
             run_status: SetupScriptExecuteStatus {
-                output: attempt(1, 1, failed()).output,
+                output: attempt(alloc, 1, 1, failed())?.output,
                 result: ExecutionResultDescription::Leak { result: counts_as },
                 time_taken: Nanos(0),
                 is_slow: false,
@@ -121,13 +53,7 @@ fn answer(
     status_level: StatusLevel,
     event: &TestEvent<'_>,
 ) -> Result<Option<LoadOutput>, Fail> {
-    let decider = decider(alloc, status_level)?;
-    let recorded = event.recorded(alloc)?;
-    Ok(
-        recorded
-            .as_ref()
-            .map(|kind| decider.should_load_output(kind)),
-    )
+    load_output(alloc, &decider(alloc, status_level)?, event)
 }
 
 // What a replay of a test of these attempts does.
@@ -137,15 +63,19 @@ fn answer_of(
     success_output: TestOutputDisplay,
     failure_output: TestOutputDisplay,
 ) -> Result<Option<LoadOutput>, Fail> {
-    let names = Names::new(alloc)?;
-    let event = finished(names.instance(), statuses, success_output, failure_output)?;
+    let test = OwnedTestInstanceId::new(alloc, "a", "t1")?;
+    let event = finished(test.as_ref(), statuses, success_output, failure_output)?;
     answer(alloc, StatusLevel::Pass, &event)
 }
 
 // What a replay of an attempt that failed does at this level.
 fn answer_of_retry(alloc: Global, status_level: StatusLevel) -> Result<Option<LoadOutput>, Fail> {
-    let names = Names::new(alloc)?;
-    answer(alloc, status_level, &retried(names.instance()))
+    let test = OwnedTestInstanceId::new(alloc, "a", "t1")?;
+    answer(
+        alloc,
+        status_level,
+        &retried(alloc, test.as_ref(), failed())?,
+    )
 }
 
 // What a replay of a setup script does that left handles open, which counts so.
@@ -155,27 +85,6 @@ fn answer_of_script(
 ) -> Result<Option<LoadOutput>, Fail> {
     let event = script(alloc, counts_as)?;
     answer(alloc, StatusLevel::Pass, &event)
-}
-
-// One attempt that ended so.
-fn once(
-    alloc: Global,
-    outcome: ExecutionResultDescription,
-) -> Result<Vec<ExecuteStatus<LiveSpec>>, Fail> {
-    let mut statuses = Vec::new(alloc);
-    statuses.push(attempt(1, 1, outcome))?;
-    Ok(statuses)
-}
-
-// An attempt that failed, and one that ended so.
-fn twice(
-    alloc: Global,
-    outcome: ExecutionResultDescription,
-) -> Result<Vec<ExecuteStatus<LiveSpec>>, Fail> {
-    let mut statuses = Vec::new(alloc);
-    statuses.push(attempt(1, 2, failed()))?;
-    statuses.push(attempt(2, 2, outcome))?;
-    Ok(statuses)
 }
 
 #[test]
@@ -266,10 +175,14 @@ fn is_unread(status: &ExecuteStatus<LiveSpec>) -> bool {
 
 // How many attempts of a test with this display are left unread, of two that failed.
 fn unread_of(alloc: Global, failure_output: TestOutputDisplay) -> Result<usize, Fail> {
-    let names = Names::new(alloc)?;
-    let statuses = twice(alloc, failed())?;
-    let success_output = TestOutputDisplay::Never;
-    let event = finished(names.instance(), statuses, success_output, failure_output)?;
+    let test = OwnedTestInstanceId::new(alloc, "a", "t1")?;
+    let never = TestOutputDisplay::Never;
+    let event = finished(
+        test.as_ref(),
+        twice(alloc, failed())?,
+        never,
+        failure_output,
+    )?;
     let mut calls = Vec::new(alloc);
     calls.push(ReportCall::Event(event))?;
     let decider = decider(alloc, StatusLevel::Pass)?;

@@ -7,21 +7,21 @@ mod growths;
 #[cfg(test)]
 mod loads;
 
-use crate::testing::{STATS, attempt, builder, failed, run_finished};
+use crate::testing::{attempt, builder_at, failed, finished, run_finished};
 use bytes::Bytes;
-use console_reporter::imp::{DisplayReporterBuilder, ReportCall, StoreConfig};
-use run_model::config::TestOutputDisplay;
-use run_model::event::{TestEvent, TestEventKind};
-use run_model::level::{FinalStatusLevel, StatusLevel};
-use run_model::name::{RustBinaryId, TestCaseName, TestInstanceId};
-use run_model::output::{ChildOutputDescription, ChildSingleOutput, LiveSpec};
-use run_model::status::{
-    ExecuteStatus, ExecutionResultDescription, ExecutionStatuses, FlakyResult,
+use console_reporter::imp::{
+    DisplayReporter, DisplayReporterBuilder, ReportCall, RunFault, StoreConfig,
+    run_report_with_store,
 };
-use run_model::time::Nanos;
+use plain_text::write_str::WriteStr;
+use run_model::config::TestOutputDisplay;
+use run_model::event::TestEvent;
+use run_model::level::{FinalStatusLevel, StatusLevel};
+use run_model::name::{OwnedTestInstanceId, TestInstanceId};
+use run_model::output::{ChildOutputDescription, LiveSpec};
+use run_model::status::{ExecuteStatus, ExecutionResultDescription};
 use std::alloc::Global;
 use std::test::Fail;
-use unit_report::config::{DisplayConfig, ShowProgress};
 
 /// A store that keeps no output, of failures alone, and of all tests.
 pub const NO_OUTPUT: StoreConfig = StoreConfig {
@@ -56,112 +56,78 @@ pub const RECORDS: [&str; 3] = [
     "",
 ];
 
-/// The names of the two tests.
-#[derive(Drop)]
-pub struct Names {
-    binary_id: RustBinaryId,
-    passed: TestCaseName,
-    failed: TestCaseName,
+/// The two tests.
+pub fn two_tests(alloc: Global) -> Result<[OwnedTestInstanceId; 2], Fail> {
+    Ok([
+        OwnedTestInstanceId::new(alloc, "alpha", "t1")?,
+        OwnedTestInstanceId::new(alloc, "alpha", "mod::t2")?,
+    ])
 }
 
-impl Names {
-    pub fn new(alloc: Global) -> Result<Names, Fail> {
-        Ok(Names {
-            binary_id: RustBinaryId::new(alloc, "alpha")?,
-            passed: TestCaseName::new(alloc, "t1")?,
-            failed: TestCaseName::new(alloc, "mod::t2")?,
-        })
-    }
-
-    /// The first of them.
-    pub fn first(&self) -> TestInstanceId<'_> {
-        TestInstanceId {
-            binary_id: &self.binary_id,
-            test_name: &self.passed,
-        }
-    }
-
-    /// The two tests, which wrote a line each, and the end of their run.
-    pub fn calls(&self, alloc: Global) -> Result<Vec<ReportCall<'_>>, Fail> {
-        let second = TestInstanceId {
-            binary_id: &self.binary_id,
-            test_name: &self.failed,
-        };
-        let pass = ExecutionResultDescription::Pass;
-        let passed = attempt_that_wrote(alloc, pass, b"hi\n", b"")?;
-        let failed = attempt_that_wrote(alloc, failed(), b"", b"boom\n")?;
-        let mut calls = Vec::new(alloc);
-        calls.push(ReportCall::Event(finished_once(alloc, self.first(), passed)?))?;
-        calls.push(ReportCall::Event(finished_once(alloc, second, failed)?))?;
-        calls.push(run_finished())?;
-        Ok(calls)
-    }
-}
-
-/// An attempt that ended so after it wrote this to the two streams.
-pub fn attempt_that_wrote(
+/// Their ends, after they wrote a line each, and the end of their run.
+pub fn calls_of(
     alloc: Global,
-    outcome: ExecutionResultDescription,
+    tests: &[OwnedTestInstanceId; 2],
+) -> Result<Vec<ReportCall<'_>>, Fail> {
+    let [first, second] = tests;
+    let passed = attempt(alloc, 1, 1, ExecutionResultDescription::Pass)?.with_output(output(
+        alloc, b"hi\n", b"",
+    )?);
+    let failed = attempt(alloc, 1, 1, failed())?.with_output(output(alloc, b"", b"boom\n")?);
+    let mut calls = Vec::new(alloc);
+    calls.push(ReportCall::Event(unshown(alloc, first.as_ref(), passed)?))?;
+    calls.push(ReportCall::Event(unshown(alloc, second.as_ref(), failed)?))?;
+    calls.push(ReportCall::Event(run_finished()))?;
+    Ok(calls)
+}
+
+// What was captured where this was written to the two streams.
+fn output(
+    alloc: Global,
     stdout: &'static [u8],
     stderr: &'static [u8],
-) -> Result<ExecuteStatus<LiveSpec>, Fail> {
-    let output = ChildOutputDescription::Split {
-        stdout: Some(ChildSingleOutput::new(alloc, Bytes::from_static(stdout))?),
-        stderr: Some(ChildSingleOutput::new(alloc, Bytes::from_static(stderr))?),
-    };
-    Ok(attempt_with(outcome, output))
-}
-
-/// An attempt that ended so, of which this was captured.
-pub fn attempt_with(
-    outcome: ExecutionResultDescription,
-    output: ChildOutputDescription,
-) -> ExecuteStatus<LiveSpec> {
-    attempt(1, 1, outcome).with_output(output)
+) -> Result<ChildOutputDescription, Fail> {
+    let (stdout, stderr) = (Bytes::from_static(stdout), Bytes::from_static(stderr));
+    Ok(ChildOutputDescription::split(alloc, stdout, stderr)?)
 }
 
 /// A test of one attempt, whose output is never shown.
-pub fn finished_once<'a>(
+pub fn unshown<'a>(
     alloc: Global,
     test: TestInstanceId<'a>,
     status: ExecuteStatus<LiveSpec>,
 ) -> Result<TestEvent<'a>, Fail> {
-    let mut statuses = Vec::new(alloc);
-    statuses.push(status)?;
-    finished(test, statuses)
-}
-
-/// A test of these attempts, whose output is never shown. A success after others counts as a failure.
-pub fn finished<'a>(
-    test_instance: TestInstanceId<'a>,
-    statuses: Vec<ExecuteStatus<LiveSpec>>,
-) -> Result<TestEvent<'a>, Fail> {
-    let Some(run_statuses) = ExecutionStatuses::new(statuses, FlakyResult::Fail) else {
-        return Err(Fail::from("there are attempts"));
-    };
-    Ok(TestEvent {
-        elapsed: Nanos(0),
-        kind: TestEventKind::TestFinished {
-            stress_index: None,
-            test_instance,
-            success_output: TestOutputDisplay::Never,
-            failure_output: TestOutputDisplay::Never,
-            run_statuses,
-            current_stats: STATS,
-        },
-    })
+    let never = TestOutputDisplay::Never;
+    finished(test, vec![in alloc; status]?, never, never)
 }
 
 /// A reporter that shows a line of each test, and in the summary those that failed.
 pub fn line_builder(alloc: Global) -> Result<DisplayReporterBuilder, Fail> {
-    let mut builder = builder(alloc)?;
-    builder.display_config = DisplayConfig::with_overrides(
-        ShowProgress::None,
-        false,
-        StatusLevel::Pass,
-        FinalStatusLevel::Fail,
-    );
-    Ok(builder)
+    builder_at(alloc, StatusLevel::Pass, FinalStatusLevel::Fail)
+}
+
+/// That reporter with this store. It has no clause, as those of `testing`.
+pub fn reporter_over<'a, W: WriteStr, S: WriteStr>(
+    alloc: Global,
+    report: &'a mut W,
+    records: &'a mut S,
+    store: StoreConfig,
+) -> Result<DisplayReporter<'a, W, S>, Fail> {
+    let builder = line_builder(alloc)?;
+    Ok(builder.build_with_store(alloc, report, records, store, false, false, false, false))
+}
+
+/// Makes calls on that reporter where it stores all output, likewise.
+pub fn run_over<W: WriteStr, S: WriteStr>(
+    alloc: Global,
+    report: &mut W,
+    records: &mut S,
+    calls: &[ReportCall<'_>],
+) -> Result<Result<(), RunFault>, Fail> {
+    let builder = line_builder(alloc)?;
+    Ok(run_report_with_store(
+        alloc, builder, report, records, ALL_OUTPUT, false, false, false, false, calls,
+    ))
 }
 
 /// Whether these bytes are the first so many of these texts.

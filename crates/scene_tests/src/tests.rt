@@ -5,12 +5,14 @@ use run_model::event::TestEvent;
 use run_model::level::StatusLevel;
 use scenes::fault::{Fault, FaultLine, LineFault, Program, ReadFault};
 use scenes::program::{judge, report_scene, write_report};
+use scenes::scene::Scene;
 use scenes::words::{Options, StoreOptions, words};
 use std::alloc::Global;
 use std::io;
 use std::io::{ErrorKind, Read, Write};
 use std::test::Fail;
 use store_text::config::StoreConfig;
+use test_devices::Device;
 
 mod faults;
 mod growths;
@@ -78,52 +80,44 @@ fn words_of(alloc: Global, texts: &[&str]) -> Result<Vec<String>, Fail> {
     Ok(args)
 }
 
-// A device that takes so many bytes and then fails.
-#[derive(Drop)]
-struct Short {
-    taken: Vec<u8>,
-    room: usize,
+// Judges a scene. It has no clause, as what else calls the program here: the proof of a test would hold the program's clauses for each
+// call.
+fn scene_of(alloc: Global, text: &str) -> Result<Scene, Fault<'static>> {
+    judge(alloc, &OPTIONS, text.as_bytes())
 }
 
-impl Write for Short {
-    fn write(&mut self, buf: &[u8]) -> io::Result<usize> {
-        let n = self.room.min(buf.len());
-        if n == 0 {
-            return Err(io::Error::from(ErrorKind::Other));
-        }
-        let (front, _) = buf.split_at(n);
-        self.taken.extend_from_slice(front)?;
-        self.room -= n;
-        Ok(n)
-    }
-
-    fn flush(&mut self) -> io::Result<()> {
-        Ok(())
-    }
+// Reports a scene and stores its records.
+fn report_and_store<R: Read + Drop, W: Write, S: Write>(
+    alloc: Global,
+    reader: R,
+    writer: W,
+    store_writer: S,
+) -> (Result<(), Fault<'static>>, W, S) {
+    report_scene(alloc, &STORING, reader, writer, store_writer)
 }
 
 #[test]
 fn stops_where_the_device_fails(rt: HostRuntime) -> Result<(), Fail> {
     let alloc = rt.alloc();
-    let scene = judge(alloc, &OPTIONS, TWO_TESTS.as_bytes())?;
-    let mut device = Short {
-        taken: Vec::new(alloc),
-        room: 10,
-    };
+    let scene = scene_of(alloc, TWO_TESTS)?;
+    let mut device = Device::with_room(alloc, 10)?;
     let Err(fault) = write_report(alloc, &OPTIONS, &scene, &mut device, io::sink()) else {
         return Err(Fail::from("the device failed"));
     };
     assert_eq!(rt; fault.to_string(alloc)?.as_str(), "write failed");
     assert_eq!(rt; fault.status(), 3);
-    assert_eq!(rt; device.taken.as_slice(), b"----------".as_slice());
+    assert_eq!(rt; device.taken(), b"----------".as_slice());
     Ok(())
 }
 
-// The event of a call.
-fn event_of<'c, 'a>(call: &'c ReportCall<'a>) -> Result<&'c TestEvent<'a>, Fail> {
-    match call {
-        ReportCall::Event(event) => Ok(event),
-        _ => Err(Fail::from("the call is no event")),
+// The event of the only call.
+fn only_event<'c, 'a>(calls: &'c [ReportCall<'a>]) -> Result<&'c TestEvent<'a>, Fail> {
+    match calls {
+        [call] => match call {
+            ReportCall::Event(event) => Ok(event),
+            _ => Err(Fail::from("the call is no event")),
+        },
+        _ => Err(Fail::from("there is one call")),
     }
 }
 
@@ -164,13 +158,8 @@ fn tells_why_a_file_is_not_read(rt: HostRuntime) -> Result<(), Fail> {
                 reads_before,
                 kind,
             };
-            let (outcome, printed, stored) = report_scene(
-                alloc,
-                &STORING,
-                reader,
-                Vec::new(alloc),
-                Vec::new(alloc),
-            );
+            let texts = (Vec::new(alloc), Vec::new(alloc));
+            let (outcome, printed, stored) = report_and_store(alloc, reader, texts.0, texts.1);
             // It says once behind the last byte, and once more, that nothing is left.
             let is_read = reads_before > text.len().div_ceil(7) + 1;
             assert_eq!(rt; outcome.is_ok(), is_read);

@@ -1,8 +1,8 @@
 //! A report and its records whose memory may be refused. With ample memory both are whole. `scripts/faults` runs this test once for
 //! each growth, which is refused then: it answers that, and panics where a text is no beginning of what is told.
 
-use super::{ALL_OUTPUT, Names, RECORDS, REPORT, are_first, begin_next, line_builder};
-use console_reporter::imp::{RunFault, WriteEventError, run_report_with_store};
+use super::{RECORDS, REPORT, are_first, begin_next, calls_of, run_over, two_tests};
+use console_reporter::imp::{RunFault, WriteEventError};
 use std::test::Fail;
 
 // Whether a run answered so leaves these texts: all, or where memory was refused a beginning of each, and of a record only after
@@ -25,22 +25,10 @@ fn leaves(outcome: &Result<(), RunFault>, report: &[u8], records: &[u8]) -> bool
 #[test]
 fn two_texts_that_grow(rt: HostRuntime) -> Result<(), Fail> {
     let alloc = rt.alloc();
-    let names = Names::new(alloc)?;
-    let calls = names.calls(alloc)?;
-    let builder = line_builder(alloc)?;
+    let tests = two_tests(alloc)?;
+    let calls = calls_of(alloc, &tests)?;
     let (mut report, mut records) = (String::new(alloc), String::new(alloc));
-    let outcome = run_report_with_store(
-        alloc,
-        builder,
-        &mut report,
-        &mut records,
-        ALL_OUTPUT,
-        false,
-        false,
-        false,
-        false,
-        calls.as_slice(),
-    );
+    let outcome = run_over(alloc, &mut report, &mut records, calls.as_slice())?;
     assert!(rt; leaves(&outcome, report.as_bytes(), records.as_bytes()));
     outcome?;
     Ok(())

@@ -1,50 +1,28 @@
 //! Which outputs a replay loads for a store, where no report shows any.
 
-use super::{NO_OUTPUT, Names, OF_FAILURES, attempt_with, finished, finished_once, line_builder};
-use crate::testing::{attempt, failed};
-use console_reporter::imp::{OutputLoadDecider, StoreConfig, WriteEventError};
+use super::{NO_OUTPUT, OF_FAILURES, line_builder, reporter_over, unshown};
+use crate::testing::{attempt, failed, finished, load_output, once, twice, write_event};
+use console_reporter::imp::{StoreConfig, WriteEventError};
+use run_model::config::TestOutputDisplay;
 use run_model::event::TestEvent;
+use run_model::name::OwnedTestInstanceId;
 use run_model::output::{ChildOutputDescription, LiveSpec};
 use run_model::output_event::LoadOutput;
 use run_model::status::{ExecuteStatus, ExecutionResultDescription};
 use std::alloc::Global;
 use std::test::Fail;
 
-// The decider of a reporter with this store.
-fn decider(alloc: Global, store: StoreConfig) -> Result<OutputLoadDecider, Fail> {
-    let (mut report, mut records) = (String::new(alloc), String::new(alloc));
-    let reporter = line_builder(alloc)?.build_with_store(
-        alloc,
-        &mut report,
-        &mut records,
-        store,
-        false,
-        false,
-        false,
-        false,
-    );
-    Ok(reporter.output_load_decider())
-}
-
-// What a replay of an event does for a store that keeps the output of failures alone.
-fn answer(alloc: Global, event: &TestEvent<'_>) -> Result<Option<LoadOutput>, Fail> {
-    let decider = decider(alloc, OF_FAILURES)?;
-    let recorded = event.recorded(alloc)?;
-    Ok(
-        recorded
-            .as_ref()
-            .map(|kind| decider.should_load_output(kind)),
-    )
-}
-
-// What a replay of a test of these attempts does for it.
+// What a replay of a test of these attempts does for a store that keeps the output of failures alone.
 fn answer_of(
     alloc: Global,
     statuses: Vec<ExecuteStatus<LiveSpec>>,
 ) -> Result<Option<LoadOutput>, Fail> {
-    let names = Names::new(alloc)?;
-    let event = finished(names.first(), statuses)?;
-    answer(alloc, &event)
+    let (mut report, mut records) = (String::new(alloc), String::new(alloc));
+    let reporter = reporter_over(alloc, &mut report, &mut records, OF_FAILURES)?;
+    let test = OwnedTestInstanceId::new(alloc, "alpha", "t1")?;
+    let never = TestOutputDisplay::Never;
+    let event = finished(test.as_ref(), statuses, never, never)?;
+    load_output(alloc, &reporter.output_load_decider(), &event)
 }
 
 #[test]
@@ -55,13 +33,9 @@ fn a_store_of_failures_asks_for_their_output_alone(rt: HostRuntime) -> Result<()
         (failed(), LoadOutput::Load),
         (ExecutionResultDescription::ExecFail, LoadOutput::Load),
     ] {
-        let mut statuses = Vec::new(alloc);
-        statuses.push(attempt(1, 1, outcome))?;
-        assert_eq!(rt; answer_of(alloc, statuses)?, Some(want));
+        assert_eq!(rt; answer_of(alloc, once(alloc, outcome)?)?, Some(want));
     }
-    let mut flaky = Vec::new(alloc);
-    flaky.push(attempt(1, 2, failed()))?;
-    flaky.push(attempt(2, 2, ExecutionResultDescription::Pass))?;
+    let flaky = twice(alloc, ExecutionResultDescription::Pass)?;
     assert_eq!(rt; answer_of(alloc, flaky)?, Some(LoadOutput::Skip));
     Ok(())
 }
@@ -85,17 +59,8 @@ fn answer_with_store(
     event: &TestEvent<'_>,
 ) -> Result<Result<(), WriteEventError>, Fail> {
     let (mut report, mut records) = (String::new(alloc), String::new(alloc));
-    let mut reporter = line_builder(alloc)?.build_with_store(
-        alloc,
-        &mut report,
-        &mut records,
-        store,
-        false,
-        false,
-        false,
-        false,
-    );
-    let answer = reporter.write_event(event);
+    let mut reporter = reporter_over(alloc, &mut report, &mut records, store)?;
+    let answer = write_event(&mut reporter, event);
     drop(reporter);
     if answer.is_err() && !(report.is_empty() && records.is_empty()) {
         return Err(Fail::from("a refused event was written"));
@@ -110,13 +75,13 @@ fn answer_without(
     let mut report = String::new(alloc);
     let builder = line_builder(alloc)?;
     let mut reporter = builder.build(alloc, &mut report, false, false, false, false);
-    Ok(reporter.write_event(event))
+    Ok(write_event(&mut reporter, event))
 }
 
 #[test]
 fn an_unread_output_is_refused_where_it_is_to_be_stored(rt: HostRuntime) -> Result<(), Fail> {
     let alloc = rt.alloc();
-    let names = Names::new(alloc)?;
+    let test = OwnedTestInstanceId::new(alloc, "alpha", "t1")?;
     let refused = Err(WriteEventError::OutputNotLoaded);
     for (outcome, want) in [
         (failed(), [refused, Ok(()), Ok(())]),
@@ -126,8 +91,8 @@ fn an_unread_output_is_refused_where_it_is_to_be_stored(rt: HostRuntime) -> Resu
         ),
         (ExecutionResultDescription::Pass, [Ok(()), Ok(()), Ok(())]),
     ] {
-        let status = attempt_with(outcome, ChildOutputDescription::NotLoaded);
-        let event = finished_once(alloc, names.first(), status)?;
+        let status = attempt(alloc, 1, 1, outcome)?.with_output(ChildOutputDescription::NotLoaded);
+        let event = unshown(alloc, test.as_ref(), status)?;
         assert_eq!(rt; answers_to(alloc, &event)?, want);
     }
     Ok(())

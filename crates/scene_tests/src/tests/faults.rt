@@ -1,17 +1,15 @@
 //! Each write of a report fails once: what the device took is a beginning of the report, the fault stands at the call that
 //! failed, and no later call writes.
 
-use super::{OPTIONS, TWO_TESTS};
-use console_reporter::imp::{ReportCall, RunFault, WriteEventError, run_report};
+use super::{OPTIONS, TWO_TESTS, scene_of};
+use console_reporter::imp::{DisplayReporter, ReportCall, RunFault, WriteEventError, run_report};
 use plain_text::write_str::{TextBuffer, WriteStr};
 use scenes::fault::Fault;
-use scenes::program::judge;
 use scenes::reporter::builder_of;
 use scenes::scene::Scene;
 use std::alloc::Global;
-use std::io;
-use std::io::{ErrorKind, Write};
 use std::test::Fail;
+use test_devices::{BYTES_AT_ONCE, Device, Failure};
 
 /// A run that is cancelled twice.
 pub const CANCELLED: &str = "cancel\t0\t0\tinterrupt\n\
@@ -41,67 +39,6 @@ pub const OF_ASKED: &str = "
 
 
 ";
-
-/// How a device fails.
-#[derive(Clone, Copy, PartialEq, Eq)]
-pub enum Failure {
-    /// Its call answers an error.
-    Error,
-    /// A write takes no byte.
-    NothingTaken,
-}
-
-/// A device that takes at most seven bytes a call, and fails from a call of its on.
-#[derive(Drop)]
-pub struct FailingDevice {
-    taken: Vec<u8>,
-    calls_left: usize,
-    failure: Failure,
-}
-
-impl FailingDevice {
-    /// One that takes nothing before, and works for so many calls.
-    pub fn new(alloc: Global, calls: usize, failure: Failure) -> FailingDevice {
-        FailingDevice {
-            taken: Vec::new(alloc),
-            calls_left: calls,
-            failure,
-        }
-    }
-
-    /// What it took.
-    pub fn taken(&self) -> &[u8] {
-        self.taken.as_slice()
-    }
-
-    // Whether the device still works at this call.
-    fn works(&mut self) -> bool {
-        let works = self.calls_left > 0;
-        self.calls_left = self.calls_left.saturating_sub(1);
-        works
-    }
-}
-
-impl Write for FailingDevice {
-    fn write(&mut self, buf: &[u8]) -> io::Result<usize> {
-        if !self.works() {
-            return match self.failure {
-                Failure::Error => Err(io::Error::from(ErrorKind::Other)),
-                Failure::NothingTaken => Ok(0),
-            };
-        }
-        let (front, _) = buf.split_at(buf.len().min(7));
-        self.taken.extend_from_slice(front)?;
-        Ok(front.len())
-    }
-
-    fn flush(&mut self) -> io::Result<()> {
-        if self.failure == Failure::Error && !self.works() {
-            return Err(io::Error::from(ErrorKind::Other));
-        }
-        Ok(())
-    }
-}
 
 // The report of these calls, which nothing stops.
 fn report_of_calls<'a>(
@@ -138,39 +75,34 @@ pub fn ends_of<'a>(
     Ok(ends)
 }
 
-// What a device took of a run of these calls, and what that answered.
-fn run_over<'a>(
+/// Runs these calls over a device, and gives it back and what that answered.
+pub fn run_over<'a>(
     alloc: Global,
     scene: &Scene,
     calls: &'a [ReportCall<'a>],
-    device: FailingDevice,
-) -> Result<(Vec<u8>, Result<(), RunFault>), Fail> {
-    let Ok(mut writer) = TextBuffer::new(alloc, device) else {
-        return Err(Fail::from("there is memory"));
-    };
+    device: Device,
+) -> Result<(Device, Result<(), RunFault>), Fail> {
+    let mut writer = TextBuffer::new(alloc, device)?;
     let outcome = run_to(alloc, scene, calls, &mut writer)?;
     let (device, _) = writer.into_inner();
-    Ok((device.taken, outcome))
+    Ok((device, outcome))
 }
 
-// What a device took where every call is made, also those after a fault, and whether all after the first failed answer so.
+// Makes every call over a device, also those after a fault. It gives back the device, and whether all after the first that failed
+// answered so.
 fn call_all_over<'a>(
     alloc: Global,
     scene: &Scene,
     calls: &'a [ReportCall<'a>],
-    device: FailingDevice,
-) -> Result<(Vec<u8>, bool), Fail> {
-    let Ok(mut writer) = TextBuffer::new(alloc, device) else {
-        return Err(Fail::from("there is memory"));
-    };
+    device: Device,
+) -> Result<(Device, bool), Fail> {
+    let mut writer = TextBuffer::new(alloc, device)?;
     let builder = builder_of(alloc, &OPTIONS, &scene.config)?;
     let mut reporter = builder.build(alloc, &mut writer, false, false, false, false);
     let (mut has_failed, mut is_silent) = (false, true);
     for call in calls {
-        let answer = match call {
-            ReportCall::Event(event) => reporter.write_event(event),
-            ReportCall::Header(header) => reporter.write_replay_header(header),
-            ReportCall::Prefix(_) => continue,
+        let Some(answer) = answer_to(&mut reporter, call) else {
+            continue;
         };
         is_silent = is_silent && (!has_failed || answer == Err(WriteEventError::Failed));
         has_failed = has_failed || answer.is_err();
@@ -178,7 +110,19 @@ fn call_all_over<'a>(
     is_silent = is_silent && (!has_failed || reporter.finish() == Err(WriteEventError::Failed));
     drop(reporter);
     let (device, _) = writer.into_inner();
-    Ok((device.taken, is_silent))
+    Ok((device, is_silent))
+}
+
+// What a reporter answers to a call that writes.
+fn answer_to<W: WriteStr>(
+    reporter: &mut DisplayReporter<'_, W, String>,
+    call: &ReportCall<'_>,
+) -> Option<Result<(), WriteEventError>> {
+    match call {
+        ReportCall::Event(event) => Some(reporter.write_event(event)),
+        ReportCall::Header(header) => Some(reporter.write_replay_header(header)),
+        ReportCall::Prefix(_) => None,
+    }
 }
 
 // Runs calls over devices that fail at their first call, their second, and so on until none fails, and says how many did.
@@ -191,10 +135,11 @@ fn count_faults<'a>(
     let whole = report_of_calls(alloc, scene, calls)?;
     let ends = ends_of(alloc, scene, calls)?;
     for number in 0..1000 {
-        let device = FailingDevice::new(alloc, number, failure);
-        let (taken, outcome) = run_over(alloc, scene, calls, device)?;
+        let device = Device::failing_at(alloc, number, failure);
+        let (device, outcome) = run_over(alloc, scene, calls, device)?;
+        let taken = device.taken();
         let Err(RunFault { position, fault }) = outcome else {
-            let is_whole = taken.as_slice() == whole.as_bytes();
+            let is_whole = taken == whole.as_bytes();
             return if is_whole {
                 Ok(number)
             } else {
@@ -202,13 +147,13 @@ fn count_faults<'a>(
             };
         };
         let is_io = fault == WriteEventError::Io;
-        let is_beginning = whole.as_bytes().starts_with(taken.as_slice());
+        let is_beginning = whole.as_bytes().starts_with(taken);
         if !is_io || !is_beginning || !stands_at(&ends, position, taken.len()) {
             return Err(Fail::from("no beginning of the report, or another call's fault"));
         }
-        let device = FailingDevice::new(alloc, number, failure);
-        let (again, is_silent) = call_all_over(alloc, scene, calls, device)?;
-        if !is_silent || again.as_slice() != taken.as_slice() {
+        let again = Device::failing_at(alloc, number, failure);
+        let (again, is_silent) = call_all_over(alloc, scene, calls, again)?;
+        if !is_silent || again.taken() != taken {
             return Err(Fail::from("a call after the fault did not answer that it failed"));
         }
     }
@@ -224,14 +169,14 @@ fn stands_at(ends: &[usize], position: usize, taken: usize) -> bool {
     }
 }
 
-/// How often a device is written to that takes seven bytes at once, where each text is delivered by itself.
+/// How often a device is written to where each text is delivered by itself.
 pub fn count_writes(ends: &[usize]) -> usize {
     let mut writes = 0;
     for pair in ends.windows(2) {
         if let [start, end] = pair {
             writes = end
                 .saturating_sub(*start)
-                .div_ceil(7)
+                .div_ceil(BYTES_AT_ONCE)
                 .saturating_add(writes);
         }
     }
@@ -242,7 +187,7 @@ pub fn count_writes(ends: &[usize]) -> usize {
 fn each_write_fails_once(rt: HostRuntime) -> Result<(), Fail> {
     let alloc = rt.alloc();
     for text in [TWO_TESTS, CANCELLED, ASKED] {
-        let scene = judge(alloc, &OPTIONS, text.as_bytes())?;
+        let scene = scene_of(alloc, text)?;
         let calls = scene.calls(alloc, &OPTIONS)?;
         let calls = calls.as_slice();
         let writes = count_writes(ends_of(alloc, &scene, calls)?.as_slice());

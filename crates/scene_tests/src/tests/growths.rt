@@ -1,15 +1,17 @@
 //! Reports whose memory may be refused. With ample memory each is whole. `scripts/faults` runs these tests once for each growth,
 //! which is refused then: a test answers that, and panics where the text is no beginning of its report.
 
-use super::faults::{ASKED, CANCELLED, OF_ASKED, OF_CANCELLED, run_to};
-use super::{OF_TWO_TESTS, OPTIONS, STORING, TWO_TESTS};
+use super::faults::{ASKED, CANCELLED, OF_ASKED, OF_CANCELLED, run_over, run_to};
+use super::{OF_TWO_TESTS, OPTIONS, TWO_TESTS, report_and_store, scene_of};
 use console_reporter::imp::{ReportCall, RunFault, WriteEventError};
-use plain_text::write_str::TextBuffer;
 use scenes::fault::Fault;
-use scenes::program::{judge, report_scene, write_report};
+use scenes::program::write_report;
 use std::io;
-use std::io::{ErrorKind, Write};
 use std::test::Fail;
+use test_devices::Device;
+
+// More bytes than each report has.
+const ROOM: usize = 600;
 
 // Scenes and their reports.
 const REPORTS: [(&str, &str); 3] = [
@@ -30,43 +32,6 @@ const RECORDS: [&str; 3] = [
     "",
 ];
 
-/// A device that allocates nothing: it holds what it took.
-#[derive(Drop)]
-struct FixedDevice {
-    taken: [u8; 600],
-    len: usize,
-}
-
-impl FixedDevice {
-    fn new() -> FixedDevice {
-        FixedDevice {
-            taken: [0; 600],
-            len: 0,
-        }
-    }
-
-    fn taken(&self) -> &[u8] {
-        self.taken.get(..self.len).unwrap_or(&[])
-    }
-}
-
-impl Write for FixedDevice {
-    fn write(&mut self, buf: &[u8]) -> io::Result<usize> {
-        for byte in buf {
-            let Some(place) = self.taken.get_mut(self.len) else {
-                return Err(io::Error::from(ErrorKind::Other));
-            };
-            *place = *byte;
-            self.len += 1;
-        }
-        Ok(buf.len())
-    }
-
-    fn flush(&mut self) -> io::Result<()> {
-        Ok(())
-    }
-}
-
 // Whether a run answered so leaves this text: all of its report, or a beginning where memory was refused.
 fn leaves(outcome: &Result<(), RunFault>, text: &[u8], whole: &str) -> bool {
     match outcome {
@@ -81,7 +46,7 @@ fn leaves(outcome: &Result<(), RunFault>, text: &[u8], whole: &str) -> bool {
 fn a_text_that_grows(rt: HostRuntime) -> Result<(), Fail> {
     let alloc = rt.alloc();
     for (text, whole) in REPORTS {
-        let scene = judge(alloc, &OPTIONS, text.as_bytes())?;
+        let scene = scene_of(alloc, text)?;
         let calls = scene.calls(alloc, &OPTIONS)?;
         let mut report = String::new(alloc);
         let outcome = run_to(alloc, &scene, calls.as_slice(), &mut report)?;
@@ -95,13 +60,10 @@ fn a_text_that_grows(rt: HostRuntime) -> Result<(), Fail> {
 fn a_buffer_that_is_made(rt: HostRuntime) -> Result<(), Fail> {
     let alloc = rt.alloc();
     for (text, whole) in REPORTS {
-        let scene = judge(alloc, &OPTIONS, text.as_bytes())?;
+        let scene = scene_of(alloc, text)?;
         let calls = scene.calls(alloc, &OPTIONS)?;
-        let Ok(mut writer) = TextBuffer::new(alloc, FixedDevice::new()) else {
-            return Err(Fail::from("memory was refused"));
-        };
-        let outcome = run_to(alloc, &scene, calls.as_slice(), &mut writer)?;
-        let (device, _) = writer.into_inner();
+        let device = Device::with_room(alloc, ROOM)?;
+        let (device, outcome) = run_over(alloc, &scene, calls.as_slice(), device)?;
         assert!(rt; leaves(&outcome, device.taken(), whole));
         outcome?;
     }
@@ -112,7 +74,7 @@ fn a_buffer_that_is_made(rt: HostRuntime) -> Result<(), Fail> {
 fn records_of_decided_events(rt: HostRuntime) -> Result<(), Fail> {
     let alloc = rt.alloc();
     for text in [TWO_TESTS, RETRY, SETUP_DONE] {
-        let scene = judge(alloc, &OPTIONS, text.as_bytes())?;
+        let scene = scene_of(alloc, text)?;
         for call in scene.calls(alloc, &OPTIONS)?.as_slice() {
             if let ReportCall::Event(event) = call {
                 let _ = event.recorded(alloc)?;
@@ -126,14 +88,15 @@ fn records_of_decided_events(rt: HostRuntime) -> Result<(), Fail> {
 fn a_scene_from_its_text_to_its_report(rt: HostRuntime) -> Result<(), Fail> {
     let alloc = rt.alloc();
     for (text, _) in REPORTS {
-        let scene = match judge(alloc, &OPTIONS, text.as_bytes()) {
+        let scene = match scene_of(alloc, text) {
             Ok(scene) => scene,
             Err(fault) => {
                 assert!(rt; is_out_of_memory(&fault));
                 return Err(Fail::from("memory was refused"));
             }
         };
-        let outcome = write_report(alloc, &OPTIONS, &scene, FixedDevice::new(), io::sink());
+        let device = Device::with_room(alloc, ROOM)?;
+        let outcome = write_report(alloc, &OPTIONS, &scene, device, io::sink());
         if let Err(fault) = &outcome {
             assert!(rt; is_out_of_memory(fault));
         }
@@ -146,12 +109,11 @@ fn a_scene_from_its_text_to_its_report(rt: HostRuntime) -> Result<(), Fail> {
 fn a_scene_from_its_text_to_its_records(rt: HostRuntime) -> Result<(), Fail> {
     let alloc = rt.alloc();
     for ((text, whole), records) in REPORTS.into_iter().zip(RECORDS) {
-        let (outcome, device, store) = report_scene(
+        let (outcome, device, store) = report_and_store(
             alloc,
-            &STORING,
             text.as_bytes(),
-            FixedDevice::new(),
-            FixedDevice::new(),
+            Device::with_room(alloc, ROOM)?,
+            Device::with_room(alloc, ROOM)?,
         );
         match &outcome {
             Ok(()) => {

@@ -1,8 +1,7 @@
 //! Scenes that are longer than what is read of a file at once.
 
-use super::OPTIONS;
+use super::scene_of;
 use scenes::fault::{Fault, LineFault};
-use scenes::program::judge;
 use std::alloc::Global;
 use std::test::Fail;
 
@@ -40,7 +39,7 @@ fn each_line_is_read_once(rt: HostRuntime) -> Result<(), Fail> {
         let mut text = long_scene(alloc, length)?;
         for (more, is_right) in [("", true), ("\n", true), ("wrong", false), ("\n", false)] {
             text.push_str(more)?;
-            match judge(alloc, &OPTIONS, text.as_bytes()) {
+            match scene_of(alloc, text.as_str()) {
                 Ok(scene) => {
                     assert!(rt; is_right);
                     assert_eq!(rt; scene.lines.len() as u64, 2 * LINES + 1);

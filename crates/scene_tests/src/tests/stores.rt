@@ -1,27 +1,17 @@
 //! Records of finished tests beside the report: what stays of both where a device fails. What they hold and which outputs they need is in
 //! `cases/program`.
 
-use super::faults::{CANCELLED, FailingDevice, Failure, count_writes, ends_of};
-use super::{DONE, OPTIONS, STORING, TWO_TESTS};
+use super::faults::{CANCELLED, count_writes, ends_of};
+use super::{DONE, OPTIONS, TWO_TESTS, report_and_store, scene_of};
 use scenes::fault::Fault;
-use scenes::program::{judge, report_scene};
-use scenes::words::Options;
 use std::alloc::Global;
 use std::test::Fail;
+use test_devices::{Device, Failure};
 
 // What a scene prints and what is stored of it.
-fn texts_of(
-    alloc: Global,
-    options: &Options<'_>,
-    scene: &[u8],
-) -> Result<(Vec<u8>, Vec<u8>), Fail> {
-    let (outcome, printed, stored) = report_scene(
-        alloc,
-        options,
-        scene,
-        Vec::new(alloc),
-        Vec::new(alloc),
-    );
+fn texts_of(alloc: Global, scene: &str) -> Result<(Vec<u8>, Vec<u8>), Fail> {
+    let (printed, stored) = (Vec::new(alloc), Vec::new(alloc));
+    let (outcome, printed, stored) = report_and_store(alloc, scene.as_bytes(), printed, stored);
     outcome?;
     Ok((printed, stored))
 }
@@ -36,22 +26,20 @@ struct Faults<'a> {
 }
 
 impl Faults<'_> {
-    // Runs the scene over two devices that take seven bytes a call, of which one fails at its first call, its second, and so on until the report is whole, and says
+    // Runs the scene over two devices, of which one fails at its first call, its second, and so on until the report is whole, and says
     // how many did. What each took is a beginning, and the fault is that of the device that failed.
     fn count(&self, is_store: bool, failure: Failure) -> Result<usize, Fail> {
-        const NEVER: usize = 100_000;
         for number in 0..1000 {
             let (calls, store_calls) = if is_store {
-                (NEVER, number)
+                (usize::MAX, number)
             } else {
-                (number, NEVER)
+                (number, usize::MAX)
             };
-            let (outcome, device, store) = report_scene(
+            let (outcome, device, store) = report_and_store(
                 self.alloc,
-                &STORING,
                 self.text.as_bytes(),
-                FailingDevice::new(self.alloc, calls, failure),
-                FailingDevice::new(self.alloc, store_calls, failure),
+                Device::failing_at(self.alloc, calls, failure),
+                Device::failing_at(self.alloc, store_calls, failure),
             );
             let (taken, stored) = (device.taken(), store.taken());
             let is_told = match outcome {
@@ -80,7 +68,7 @@ fn each_write_of_either_device_fails_once(rt: HostRuntime) -> Result<(), Fail> {
         (DONE, 24, 4, 1),
     ];
     for (text, length, stores, calls) in rows {
-        let (whole, records) = texts_of(alloc, &STORING, text.as_bytes())?;
+        let (whole, records) = texts_of(alloc, text)?;
         assert_eq!(rt; records.len(), length);
         let faults = Faults {
             alloc,
@@ -96,7 +84,7 @@ fn each_write_of_either_device_fails_once(rt: HostRuntime) -> Result<(), Fail> {
         // Each call and the end of the report flush either device once.
         let with_flushes = stores.saturating_add(calls).saturating_add(1);
         assert_eq!(rt; faults.count(true, Failure::Error)?, with_flushes, "{text}");
-        let scene = judge(alloc, &OPTIONS, text.as_bytes())?;
+        let scene = scene_of(alloc, text)?;
         let made = scene.calls(alloc, &OPTIONS)?;
         let writes = count_writes(ends_of(alloc, &scene, made.as_slice())?.as_slice());
         assert_eq!(rt;

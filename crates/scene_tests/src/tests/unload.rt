@@ -1,6 +1,6 @@
 //! The option that leaves unread what the report does not show. What is printed with it is in `cases/printed`.
 
-use super::{OPTIONS, event_of};
+use super::{OPTIONS, only_event};
 use run_model::event::TestEventKind;
 use run_model::output::{ChildExecutionOutputDescription, ChildOutputDescription};
 use scenes::program::judge;
@@ -20,10 +20,8 @@ const LOADED: &str = "split\tone\\n\ttwo\\n\t-\t-";
 fn is_loaded(alloc: Global, options: &Options<'_>, scene: &[u8]) -> Result<bool, Fail> {
     let scene = judge(alloc, options, scene)?;
     let calls = scene.calls(alloc, options)?;
-    let [call] = calls.as_slice() else {
-        return Err(Fail::from("there is one call"));
-    };
-    let TestEventKind::TestFinished { run_statuses, .. } = &event_of(call)?.kind else {
+    let event = only_event(calls.as_slice())?;
+    let TestEventKind::TestFinished { run_statuses, .. } = &event.kind else {
         return Err(Fail::from("a test is finished"));
     };
     match &run_statuses.last_status().output {

@@ -1,10 +1,9 @@
 //! What a line tells that no report shows, so that no case can.
 
-use super::{OPTIONS, event_of};
+use super::{OPTIONS, only_event, scene_of};
 use run_model::event::TestEventKind;
 use run_model::output::ChildExecutionOutputDescription;
 use run_model::status::ExecutionDescription;
-use scenes::program::judge;
 use std::test::Fail;
 
 const TWO_ATTEMPTS: &str = "done\t0/3\ta\tt1\tfinal\timmediate\tfail\t-\t4\t\
@@ -16,12 +15,10 @@ const SLOW_SCRIPT: &str = "setupdone\t1/3\tdb\tmake-db\t-\tfail:2\t5000000\t1\ts
 #[test]
 fn holds_errors_and_highlights_of_earlier_attempts(rt: HostRuntime) -> Result<(), Fail> {
     let alloc = rt.alloc();
-    let scene = judge(alloc, &OPTIONS, TWO_ATTEMPTS.as_bytes())?;
+    let scene = scene_of(alloc, TWO_ATTEMPTS)?;
     let calls = scene.calls(alloc, &OPTIONS)?;
-    let [call] = calls.as_slice() else {
-        return Err(Fail::from("there is one call"));
-    };
-    let TestEventKind::TestFinished { run_statuses, .. } = &event_of(call)?.kind else {
+    let event = only_event(calls.as_slice())?;
+    let TestEventKind::TestFinished { run_statuses, .. } = &event.kind else {
         return Err(Fail::from("a test is finished"));
     };
     let ExecutionDescription::Flaky {
@@ -50,12 +47,10 @@ fn holds_errors_and_highlights_of_earlier_attempts(rt: HostRuntime) -> Result<()
 #[test]
 fn holds_that_a_setup_script_was_slow(rt: HostRuntime) -> Result<(), Fail> {
     let alloc = rt.alloc();
-    let scene = judge(alloc, &OPTIONS, SLOW_SCRIPT.as_bytes())?;
+    let scene = scene_of(alloc, SLOW_SCRIPT)?;
     let calls = scene.calls(alloc, &OPTIONS)?;
-    let [call] = calls.as_slice() else {
-        return Err(Fail::from("there is one call"));
-    };
-    let TestEventKind::SetupScriptFinished { run_status, .. } = &event_of(call)?.kind else {
+    let event = only_event(calls.as_slice())?;
+    let TestEventKind::SetupScriptFinished { run_status, .. } = &event.kind else {
         return Err(Fail::from("a script ends"));
     };
     assert!(rt; run_status.is_slow);

@@ -3,7 +3,7 @@
 use run_model::abort::{AbortDescription, DescriptionText};
 use run_model::boxed::Boxed;
 use run_model::level::{FinalStatusLevel, StatusLevel};
-use run_model::output::{ChildExecutionOutputDescription, ChildOutputDescription, LiveSpec};
+use run_model::output::LiveSpec;
 use run_model::status::{
     ExecuteStatus, ExecutionResultDescription, ExecutionStatuses, FailureDescription, FlakyResult,
     LeakTimeoutResult, RetryData, StatusSummary,
@@ -12,26 +12,22 @@ use run_model::time::Nanos;
 use std::alloc::Global;
 use std::test::Fail;
 
-// An attempt that was slow and ended so.
-fn attempt(attempt: u32, outcome: ExecutionResultDescription) -> ExecuteStatus<LiveSpec> {
-    ExecuteStatus {
-        retry_data: RetryData {
-            attempt,
-            total_attempts: 2,
-        },
-        output: ChildExecutionOutputDescription::Output {
-            result: None,
-            output: ChildOutputDescription::Split {
-                stdout: None,
-                stderr: None,
-            },
-            errors: None,
-            highlight: None,
-        },
-        result: outcome,
-        time_taken: Nanos(1_000_000_000),
+// An attempt of two that was slow and ended so.
+fn attempt(
+    alloc: Global,
+    attempt: u32,
+    outcome: ExecutionResultDescription,
+) -> Result<ExecuteStatus<LiveSpec>, Fail> {
+    let retry_data = RetryData {
+        attempt,
+        total_attempts: 2,
+    };
+    let status = ExecuteStatus::new(alloc, outcome, Nanos::from_secs(1))?;
+    Ok(ExecuteStatus {
+        retry_data,
         is_slow: true,
-    }
+        ..status
+    })
 }
 
 // The summary of a test whose last attempt ended so, and whose first failed where it was retried.
@@ -43,9 +39,9 @@ fn summary(
 ) -> Result<StatusSummary, Fail> {
     let mut attempts = Vec::new(alloc);
     if is_retried {
-        attempts.push(attempt(1, ExecutionResultDescription::ExecFail))?;
+        attempts.push(attempt(alloc, 1, ExecutionResultDescription::ExecFail)?)?;
     }
-    attempts.push(attempt(if is_retried { 2 } else { 1 }, outcome))?;
+    attempts.push(attempt(alloc, if is_retried { 2 } else { 1 }, outcome)?)?;
     let Some(statuses) = ExecutionStatuses::new(attempts, flaky_result) else {
         return Err(Fail::from("there are attempts"));
     };

@@ -7,7 +7,7 @@ use plain_text::style::ListStyles;
 use plain_text::write_str::{WriteFault, WriteStr};
 use report_text::helpers::DisplayTestInstance;
 use report_text::helpers::instance::DisplayCounterIndex;
-use run_model::name::{RustBinaryId, TestCaseName, TestInstanceId};
+use run_model::name::OwnedTestInstanceId;
 use std::alloc::Global;
 use std::test::Fail;
 
@@ -54,18 +54,13 @@ fn shown(
     is_colorized: bool,
     width: usize,
 ) -> Result<String, Fail> {
-    let binary_id = RustBinaryId::new(alloc, binary_id)?;
-    let test_name = TestCaseName::new(alloc, name)?;
-    let instance = TestInstanceId {
-        binary_id: &binary_id,
-        test_name: &test_name,
-    };
+    let test = OwnedTestInstanceId::new(alloc, binary_id, name)?;
     let mut styles = ListStyles::default();
     if is_colorized {
         styles.colorize();
     }
-    let test = DisplayTestInstance::new(None, None, instance, &styles).with_max_width(width);
-    Ok(format!(in alloc; "{test}")?)
+    let shown = DisplayTestInstance::new(None, None, test.as_ref(), &styles).with_max_width(width);
+    Ok(format!(in alloc; "{shown}")?)
 }
 
 #[test]
@@ -97,21 +92,16 @@ fn fits_tests(rt: HostRuntime) -> Result<(), Fail> {
 
 #[test]
 fn fits_the_counter_before_the_names(rt: HostRuntime) -> Result<(), Fail> {
-    let binary_id = RustBinaryId::new(rt.alloc(), "b")?;
-    let test_name = TestCaseName::new(rt.alloc(), "t")?;
-    let instance = TestInstanceId {
-        binary_id: &binary_id,
-        test_name: &test_name,
-    };
+    let test = OwnedTestInstanceId::new(rt.alloc(), "b", "t")?;
     let counter = DisplayCounterIndex::new_padded('─', 1);
     for (width, want) in [(9, "(───) b t"), (8, "(───) b "), (6, "(───) "), (3, "(──")] {
-        let test = DisplayTestInstance::new(
+        let shown = DisplayTestInstance::new(
             None,
             Some(counter),
-            instance,
+            test.as_ref(),
             &ListStyles::default(),
         ).with_max_width(width);
-        assert_eq!(rt; format!(in rt.alloc(); "{test}")?.as_str(), want);
+        assert_eq!(rt; format!(in rt.alloc(); "{shown}")?.as_str(), want);
     }
     Ok(())
 }

@@ -6,7 +6,7 @@ use report_text::helpers::plural::*;
 use report_text::helpers::*;
 use run_model::abort::{AbortDescription, DescriptionText};
 use run_model::config::NextestRunMode;
-use run_model::name::{OwnedTestInstanceId, RustBinaryId, ScriptId, TestCaseName};
+use run_model::name::{OwnedTestInstanceId, ScriptId};
 use run_model::stress::StressIndex;
 use run_model::time::Nanos;
 use std::alloc::Global;
@@ -190,10 +190,7 @@ fn how_a_process_exits(rt: HostRuntime) -> Result<(), Fail> {
 
 #[test]
 fn an_interceptor_takes_one_test(rt: HostRuntime) -> Result<(), Fail> {
-    let listed = [OwnedTestInstanceId {
-        binary_id: RustBinaryId::new(rt.alloc(), "a")?,
-        test_name: TestCaseName::new(rt.alloc(), "t1")?,
-    }];
+    let listed = [OwnedTestInstanceId::new(rt.alloc(), "a", "t1")?];
     let text = format_interceptor_too_many_tests(
         rt.alloc(),
         "debugger",
