@@ -81,10 +81,11 @@ impl TestOutputDisplay {
         ensures { MatchOption result ((display : TestOutputDisplay) → name.now ≢ display_name display) (λ display. name.now ≡ display_name display) }
     {
         match name {
+            // The setting that most events have comes first.
+            "never" => Some(TestOutputDisplay::Never),
             "immediate" => Some(TestOutputDisplay::Immediate),
             "immediate-final" => Some(TestOutputDisplay::ImmediateFinal),
             "final" => Some(TestOutputDisplay::Final),
-            "never" => Some(TestOutputDisplay::Never),
             _ => None,
         }
     }

@@ -78,7 +78,7 @@ pub fn read_scene(alloc: Global, text: &[u8]) -> Result<ToldRun, ReadFault>
     // It is what the text tells, unless memory is refused.
     ensures answer { IsAnswer result (text_told text.now) }
 {
-    match LinesRead::none(alloc).read_more(alloc, text) {
+    match LinesRead::new(alloc).read_more(alloc, text) {
         Ok(read) => Ok(read.run),
         Err(fault) => Err(fault),
     }
@@ -87,7 +87,7 @@ pub fn read_scene(alloc: Global, text: &[u8]) -> Result<ToldRun, ReadFault>
 /// The first lines of a scene, which were read: a scene that comes in pieces is read with no more than one of them in memory.
 ///
 /// ```
-/// let read = LinesRead::none(alloc).read_more(alloc, b"config\tfinal\tall\n# a comment")?;
+/// let read = LinesRead::new(alloc).read_more(alloc, b"config\tfinal\tall\n# a comment")?;
 /// assert_eq!(read.next, 3);
 /// assert_eq!(read.run.config.final_status_level, FinalStatusLevel::All);
 /// ```
@@ -101,7 +101,7 @@ pub struct LinesRead {
 
 impl LinesRead {
     /// No line.
-    pub fn none(alloc: Global) -> LinesRead
+    pub fn new(alloc: Global) -> LinesRead
         ensures told { told result.run ≡ nothing_told }
         ensures lines { result.run.lines.items ≡ [] }
         ensures next { result.next ≡ 1 }

@@ -96,7 +96,7 @@ pub fn read_whole<'a, R: Read + Drop>(
         Err(_) => return Err(Fault::OutOfMemory),
     };
     let mut piece = Vec::new(alloc);
-    let mut read = LinesRead::none(alloc);
+    let mut read = LinesRead::new(alloc);
     for _turn in 0..u64::MAX {
         match next_piece(options.file, &mut buffered, &mut piece) {
             Ok(true) => {}

@@ -24,12 +24,19 @@ use crate::scene::SceneConfig;
 use crate::scene::event::SceneEvent;
 use std::alloc::Global;
 
-/// Reads the fields behind a word, which names the kind of event that the line tells.
+/// Reads the fields behind a word, which names the kind of event that the line tells. The words of tests come first, since most lines
+/// are theirs.
 #[tactic(auto, unfolding(crate::specs::Lines::event_line_fields))]
 pub fn read_event(alloc: Global, word: &str, fields: Fields<'_>) -> Result<LineSaid, LineError>
     ensures { IsSaid result (says_event (event_line_fields word.now fields.entry)) }
 {
     match word {
+        "done" => Ok(Event(read_done(alloc, &mut fields.with_attempts()?)?)),
+        "start" => Ok(Event(read_start(alloc, &mut fields.exactly(5)?)?)),
+        "retrystart" => Ok(Event(read_retry_start(alloc, &mut fields.exactly(6)?)?)),
+        "slow" => Ok(Event(read_slow(alloc, &mut fields.exactly(7)?)?)),
+        "retry" => Ok(Event(read_retry(alloc, &mut fields.exactly(15)?)?)),
+        "skip" => Ok(Event(read_skip(alloc, &mut fields.exactly(3)?)?)),
         "prefix" => Ok(Event(read_prefix(alloc, &mut fields.exactly(2)?)?)),
         "header" => Ok(Event(read_header(alloc, &mut fields.exactly(5)?)?)),
         "run" => Ok(Event(read_run(alloc, &mut fields.exactly(5)?)?)),
@@ -37,12 +44,6 @@ pub fn read_event(alloc: Global, word: &str, fields: Fields<'_>) -> Result<LineS
         "setup" => Ok(Event(read_setup(alloc, &mut fields.exactly(6)?)?)),
         "setupslow" => Ok(Event(read_setup_slow(alloc, &mut fields.exactly(6)?)?)),
         "setupdone" => Ok(Event(read_setup_done(alloc, &mut fields.exactly(12)?)?)),
-        "start" => Ok(Event(read_start(alloc, &mut fields.exactly(5)?)?)),
-        "retrystart" => Ok(Event(read_retry_start(alloc, &mut fields.exactly(6)?)?)),
-        "slow" => Ok(Event(read_slow(alloc, &mut fields.exactly(7)?)?)),
-        "retry" => Ok(Event(read_retry(alloc, &mut fields.exactly(15)?)?)),
-        "done" => Ok(Event(read_done(alloc, &mut fields.with_attempts()?)?)),
-        "skip" => Ok(Event(read_skip(alloc, &mut fields.exactly(3)?)?)),
         "cancel" => Ok(Event(SceneEvent::RunBeginCancel(read_cancel(&mut fields.exactly(3)?)?))),
         "kill" => Ok(Event(SceneEvent::RunBeginKill(read_cancel(&mut fields.exactly(3)?)?))),
         "pause" => Ok(Event(SceneEvent::RunPaused(read_pause(&mut fields.exactly(2)?)?))),

@@ -107,10 +107,11 @@ fn is_silence(fields: &[&str]) -> bool
     ensures { IsTrue result → field_texts fields.now ≡ silent_fields ++ drop 5 (field_texts fields.now) }
 {
     match fields {
-        [form, stdout, stderr, errors, highlight, ..] => matches!(
-            (*form, *stdout, *stderr, *errors, *highlight),
-            ("split", "", "", "-", "-")
-        ),
+        [form, stdout, stderr, errors, highlight, ..] => {
+            stdout.is_empty()
+                && stderr.is_empty()
+                && matches!((*form, *errors, *highlight), ("split", "-", "-"))
+        }
         _ => false,
     }
 }
