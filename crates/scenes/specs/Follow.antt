@@ -170,16 +170,6 @@ abbrev pub IsNextLine : List ℕ → Bool → List ℕ → Option (List ℕ) →
 IsNextLine text false buffer rest = text ≡ []
 IsNextLine text true buffer rest = (0 < length buffer) × (buffer ≡ take_through 10 text) × (rest ≡ Some (drop_through 10 text))
 
--- a reader cannot be read, or memory was refused
-abbrev pub IsReaderFault : Fault → Type 0
-IsReaderFault fault.Usage = ⊥
-IsReaderFault (fault.CannotRead file) = ⊤
-IsReaderFault (fault.CannotWrite file) = ⊥
-IsReaderFault (fault.Line n f) = ⊥
-IsReaderFault fault.WriteFailed = ⊥
-IsReaderFault fault.StoreFailed = ⊥
-IsReaderFault fault.OutOfMemory = ⊤
-
 -- lines that are left of a text: its pieces, or none where it ended with the line before
 abbrev pub AreLeft : List (List ℕ) → List ℕ → Type 0
 AreLeft lines text = (lines ≡ parted 10 text) ⊎ ((lines ≡ []) × (text ≡ []))

@@ -8,7 +8,8 @@ ghost use Rattle.console_reporter.specs.Slots.{store_meaning};
 ghost use Rattle.console_reporter.specs.Telling.{AreDelivered, IsSameReporter};
 ghost use Rattle.plain_text.specs.StringWriter.{string_meaning};
 ghost use Rattle.scenes.specs.Reports.{store_for};
-ghost use Rattle.scenes.specs.Follow.{BreaksOff, BreaksTold, HasFirst, HasNoEvent, HasTold, HasToldTo, IsCountable, IsNextLine, IsReaderFault, IsRefusedMemory, IsStart, KeepsUp, LeavesEvent, LeavesLine, OfText, PrintsFollowed, ReportsTold, StopsBy, TellsEvent, TellsLine, fault_at_call, outcome_after, outcome_of, status_of_outcome};
+ghost use Rattle.scenes.specs.Follow.{BreaksOff, BreaksTold, HasFirst, HasNoEvent, HasTold, HasToldTo, IsCountable, IsNextLine, IsRefusedMemory, IsStart, KeepsUp, LeavesEvent, LeavesLine, OfText, PrintsFollowed, ReportsTold, StopsBy, TellsEvent, TellsLine, fault_at_call, outcome_after, outcome_of, status_of_outcome};
+ghost use Rattle.scenes.specs.Pieces.{IsUnread};
 ghost use Rattle.scenes.specs.SpelledRuns.{BeginsTold, PrintsTold};
 
 use crate::fault::{Fault, LineFault};
@@ -197,7 +198,7 @@ fn next_line<'a, R: BufRead>(
     buffer: &mut Vec<u8>,
 ) -> Result<bool, Fault<'a>>
     ensures line { IfOk result (λ has_line. (text : List ℕ) → R.remaining reader.old ≡ Some text → IsNextLine text has_line buffer.new.items (R.remaining reader.new)) }
-    ensures err { IfErr result IsReaderFault }
+    ensures err { IfErr result (IsUnread file.now) }
 {
     buffer.clear();
     match reader.read_until(b'\n', buffer) {

@@ -1,16 +1,16 @@
 //! A file read in pieces of whole lines, so that no more than one of them is in memory.
 
-ghost use Rattle.std.specs.Prelude.{◌≡◌, ◌∷◌, ◌++◌, ℕ, List, Some, IfOk, IfErr, OnOk};
-ghost use Rattle.std.specs.Io.Buffered.{reader_remaining};
-ghost use Rattle.scenes.specs.Pieces.{IsNextPiece, IsUnread};
+ghost use Rattle.std.specs.Prelude.{◌≡◌, ℕ, List, Some, IfOk, IfErr};
+ghost use Rattle.std.specs.Io.Buffered.{reader_buffer, reader_remaining};
+ghost use Rattle.scenes.specs.Pieces.{IsBehind, IsNextPiece, IsUnread};
 
 use crate::fault::Fault;
 use memchr::memrchr;
 use run_model::memory::OutOfMemory;
-use std::io::{BufRead, BufReader, Read};
+use std::io::{BufRead, BufReader, ErrorKind, Read};
 
-/// Reads the next line into the buffer, and the whole lines behind it that the reader has at hand, without the line feed that ends them.
-/// It answers whether there was a line.
+/// Reads the next lines into the buffer: all whole ones that the reader has at hand, or one that is longer, without the line feed that
+/// ends them. It answers whether there was a line.
 pub fn next_piece<'a, R: Read>(
     file: &'a str,
     reader: &mut BufReader<R>,
@@ -20,35 +20,53 @@ pub fn next_piece<'a, R: Read>(
     ensures err { IfErr result (IsUnread file.now) }
 {
     piece.clear();
-    if let Err(error) = reader.read_until(b'\n', piece) {
-        return Err(Fault::CannotRead { file }.by_kind(error.kind()));
+    for _turn in 0..u64::MAX {
+        match reader.fill_buf() {
+            Ok(_) => {}
+            Err(error) if error.kind() == ErrorKind::Interrupted => continue,
+            Err(error) => return Err(Fault::CannotRead { file }.by_kind(error.kind())),
+        }
+        match take_at_hand(reader, piece)? {
+            Taken::Lines => return Ok(true),
+            Taken::Part => {}
+            // The file ends here.
+            Taken::Nothing => return Ok(!piece.is_empty()),
+        }
     }
-    match piece.pop() {
-        None => Ok(false),
-        Some(b'\n') => match take_lines(reader, piece) {
-            Ok(()) => Ok(true),
-            Err(_) => Err(Fault::OutOfMemory),
-        },
-        // The file ends here.
-        Some(last) => match piece.push(last) {
-            Ok(()) => Ok(true),
-            Err(_) => Err(Fault::OutOfMemory),
-        },
-    }
+    Err(Fault::CannotRead { file })
 }
 
-// Takes the whole lines that the reader has at hand behind a line whose line feed was taken off.
-fn take_lines<R: Read>(reader: &mut BufReader<R>, piece: &mut Vec<u8>) -> Result<(), OutOfMemory>
-    ensures { OnOk result ((text : List ℕ) → reader_remaining R.remaining reader.old ≡ Some text
-        → (more : List ℕ) × (reader_remaining R.remaining reader.new ≡ Some more) × (piece.old.items ++ (10 ∷ text) ≡ piece.new.items ++ (10 ∷ more))) }
+// What was taken of the bytes that a reader has at hand.
+#[derive(Clone, Copy)]
+enum Taken {
+    // Whole lines, and the line feed that ends the last.
+    Lines,
+    // All of them, which are a part of a line.
+    Part,
+    // Nothing, since it has none.
+    Nothing,
+}
+
+// Takes the whole lines that the reader has at hand, or all that it has of a longer one.
+fn take_at_hand<R: Read>(
+    reader: &mut BufReader<R>,
+    piece: &mut Vec<u8>,
+) -> Result<Taken, OutOfMemory>
+    ensures { IfOk result (λ taken. (text : List ℕ) → reader_remaining R.remaining reader.old ≡ Some text → IsBehind taken (reader_buffer reader.old) text piece.old.items piece.new.items (reader_remaining R.remaining reader.new)) }
 {
     let at_hand = reader.buffer();
-    let at = match memrchr(b'\n', at_hand) {
-        Some(at) => at,
-        None => return Ok(()),
-    };
-    piece.push(b'\n')?;
-    piece.extend_from_slice(&at_hand[..at])?;
-    reader.consume(at + 1);
-    Ok(())
+    match memrchr(b'\n', at_hand) {
+        Some(at) => {
+            piece.extend_from_slice(&at_hand[..at])?;
+            reader.consume(at + 1);
+            Ok(Taken::Lines)
+        }
+        None if at_hand.is_empty() => Ok(Taken::Nothing),
+        None => {
+            let count = at_hand.len();
+            piece.extend_from_slice(at_hand)?;
+            reader.consume(count);
+            Ok(Taken::Part)
+        }
+    }
 }

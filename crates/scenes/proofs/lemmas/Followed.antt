@@ -26,8 +26,9 @@ use Rattle.scene_text.specs.declared.reader.LineSaid.{LineSaid}
 use Rattle.scene_text.specs.declared.reader.LineSaid.TheVariants as said
 use Rattle.scene_text.specs.declared.reader.LinesBefore.{LinesBefore}
 use Rattle.scene_text.specs.declared.scene.event.SceneEvent.{SceneEvent}
-use Rattle.scenes.specs.Follow.{AtLine, BreaksEvent, BreaksOff, Follows, HasTold, IsReaderFault, LeavesEvent, LeavesLine, LeavesSaid, RefusesEvent, StopsBehind, StopsBy, TellsEvent, TellsLine, TellsSaid, fault_at_call, run_outcome}
+use Rattle.scenes.specs.Follow.{AtLine, BreaksEvent, BreaksOff, Follows, HasTold, LeavesEvent, LeavesLine, LeavesSaid, RefusesEvent, StopsBehind, StopsBy, TellsEvent, TellsLine, TellsSaid, fault_at_call, run_outcome}
 use Rattle.scenes.specs.Judged.{line_fault_for}
+use Rattle.scenes.specs.Pieces.{IsUnread}
 use Rattle.scenes.specs.Reports.{StopsStore, StopsText, configuration_for, fault_for}
 use Rattle.scenes.specs.Unloads.{decider_for}
 use Rattle.scenes.specs.declared.fault.Fault.{Fault}
@@ -212,14 +213,14 @@ module _ {W S : Type 0} {m : Meaning W} {n : Meaning S} (laws : WriterLaws m) (o
         holds = broke_before options start now next run follows.past follows.of_run follows.stands follows.tells follows.accepted same;
       }
 
-      pub left_reader : next ≡ now → (f : Fault) → IsReaderFault f → StopsBy options whole (HasTold m n options start next) (BreaksOff m n options start next) f
-      left_reader same fault.Usage h = absurd h
-      left_reader same (fault.CannotRead file) h = record { run = run; lines = lines; number = number; at = at; holds = now_told same }
-      left_reader same (fault.CannotWrite file) h = absurd h
-      left_reader same (fault.Line j f) h = absurd h
-      left_reader same fault.WriteFailed h = absurd h
-      left_reader same fault.StoreFailed h = absurd h
-      left_reader same fault.OutOfMemory h = stopped_before same
+      pub left_reader : next ≡ now → (file : List ℕ) (f : Fault) → IsUnread file f → StopsBy options whole (HasTold m n options start next) (BreaksOff m n options start next) f
+      left_reader same file fault.Usage h = absurd h
+      left_reader same file (fault.CannotRead f) h = record { run = run; lines = lines; number = number; at = at; holds = now_told same }
+      left_reader same file (fault.CannotWrite f) h = absurd h
+      left_reader same file (fault.Line j f) h = absurd h
+      left_reader same file fault.WriteFailed h = absurd h
+      left_reader same file fault.StoreFailed h = absurd h
+      left_reader same file fault.OutOfMemory h = stopped_before same
 
     module _ (whole t : List ℕ) (more : List (List ℕ)) (number : ℕ) (at : AtLine whole run (t ∷ more) number) where
       left_said : (f : Fault) → LeavesSaid m n number t f now next → StopsBy options whole (HasTold m n options start next) (BreaksOff m n options start next) f

@@ -11,7 +11,8 @@ use Rattle.scene_text.specs.declared.reader.LineSaid.{LineSaid}
 use Rattle.scene_text.specs.declared.reader.LineSaid.TheVariants as said
 use Rattle.scene_text.specs.declared.scene.SceneConfig.{SceneConfig}
 use Rattle.scene_text.specs.declared.scene.event.SceneEvent.{SceneEvent}
-use Rattle.scenes.specs.Follow.{AtLine, BreaksOff, HasFirst, HasNoEvent, HasTold, IsFirstEvent, IsNextLine, IsReadTo, IsReaderFault, IsRefusedMemory, IsStart, KeepsUp, LeavesEvent, OfText, StopsBy, TellsEvent, run_outcome}
+use Rattle.scenes.specs.Follow.{AtLine, BreaksOff, HasFirst, HasNoEvent, HasTold, IsFirstEvent, IsNextLine, IsReadTo, IsRefusedMemory, IsStart, KeepsUp, LeavesEvent, OfText, StopsBy, TellsEvent, run_outcome}
+use Rattle.scenes.specs.Pieces.{IsUnread}
 use Rattle.scenes.specs.declared.fault.Fault.{Fault}
 use Rattle.scenes.specs.declared.fault.Fault.TheVariants as fault
 use Rattle.scenes.specs.declared.follow.Follower.{Follower}
@@ -59,15 +60,15 @@ module _ (text : List ℕ) (config : SceneConfig) (line : List ℕ) (number : �
   head_wrong options f says = record { run = configured config; t = line; more = next.more; at = next.at; wrong = inl says; holds = refl }
 
 -- lines before the first event could not be read
-pub head_unread : (options : Options) (text : List ℕ) (config : SceneConfig) (number : ℕ) (remaining : Option (List ℕ)) → IsReadTo text (configured config) number remaining → (f : Fault) → IsReaderFault f →
+pub head_unread : (options : Options) (text : List ℕ) (config : SceneConfig) (number : ℕ) (remaining : Option (List ℕ)) → IsReadTo text (configured config) number remaining → (file : List ℕ) (f : Fault) → IsUnread file f →
     StopsBy options text HasNoEvent IsRefusedMemory f
-head_unread options text config number remaining read fault.Usage h = absurd h
-head_unread options text config number remaining read (fault.CannotRead file) h = record { run = configured config; lines = read.lines; number = number; at = read.at; holds = refl }
-head_unread options text config number remaining read (fault.CannotWrite file) h = absurd h
-head_unread options text config number remaining read (fault.Line n f) h = absurd h
-head_unread options text config number remaining read fault.WriteFailed h = absurd h
-head_unread options text config number remaining read fault.StoreFailed h = absurd h
-head_unread options text config number remaining read fault.OutOfMemory h = record { run = configured config; lines = read.lines; number = number; at = read.at; holds = (refl, refl) }
+head_unread options text config number remaining read file fault.Usage h = absurd h
+head_unread options text config number remaining read file (fault.CannotRead f) h = record { run = configured config; lines = read.lines; number = number; at = read.at; holds = refl }
+head_unread options text config number remaining read file (fault.CannotWrite f) h = absurd h
+head_unread options text config number remaining read file (fault.Line n f) h = absurd h
+head_unread options text config number remaining read file fault.WriteFailed h = absurd h
+head_unread options text config number remaining read file fault.StoreFailed h = absurd h
+head_unread options text config number remaining read file fault.OutOfMemory h = record { run = configured config; lines = read.lines; number = number; at = read.at; holds = (refl, refl) }
 
 module _ {W S : Type 0} {m : Meaning W} {n : Meaning S} (laws : WriterLaws m) (others : WriterLaws n) (options : Options) (start next : Follower W S) (begins : IsStart m n options start) (text : List ℕ) where
   no_outcome : start.outcome ≡ run_outcome []

@@ -8,7 +8,7 @@ use Rattle.scenes.proofs.follow.follow_rest.Goals as goal
 pub returns-in-Err-clause-err : goal.returns-in-Err-clause-err
 returns-in-Err-clause-err g c = λ text start keeps.
     let k = c.loop-number.invariant.keeps_up text start keeps in
-    left_reader g.met.W.WriteStr.laws g.met.S.WriteStr.laws c.args.options.now start c.loop-number.follower c.loop-number.follower k.run k.follows text k.read.lines c.loop-number.number k.read.at refl c.in-Err.fault c.in-Err.ensures.err
+    left_reader g.met.W.WriteStr.laws g.met.S.WriteStr.laws c.args.options.now start c.loop-number.follower c.loop-number.follower k.run k.follows text k.read.lines c.loop-number.number k.read.at refl c.args.options.now.file.now c.in-Err.fault c.in-Err.ensures.err
 
 pub returns-then-not-has_line-clause-ok : goal.returns-then-not-has_line-clause-ok
 returns-then-not-has_line-clause-ok g c = λ text start keeps.

@@ -1,8 +1,8 @@
-use Rattle.std.proofs.Common.{◌≡◌, ◌∙◌, Ok, ap, sym, subst}
+use Rattle.std.proofs.Common.{◌≡◌, ◌∙◌, Ok, ap, refl, sym, subst}
 use Rattle.scene_text.specs.Fields.{Fails}
 use Rattle.scene_text.specs.SceneTexts.{IsSaid, is_begun, line_said, lines_before}
 use Rattle.scene_text.specs.Split.{parted, pieces_left}
-use Rattle.scenes.specs.Follow.{HasNoEvent, IsNextLine, IsReadTo, IsReaderFault, IsRefusedMemory, StopsBy}
+use Rattle.scenes.specs.Follow.{HasNoEvent, IsNextLine, IsReadTo, IsRefusedMemory, StopsBy}
 use Rattle.scenes.specs.declared.fault.Fault.TheVariants as fault
 use Rattle.scenes.proofs.lemmas.Heads.{configured, head_unread, head_wrong, read_config, read_first, read_none, read_nothing}
 use Rattle.scenes.proofs.lemmas.ReadLines.{none_left, one_left, read_next, read_whole}
@@ -28,13 +28,13 @@ returns-in-Err-Fault-clause-err g c = λ text options known.
     options _ (subst (λ e. Fails e (line_said (lines_before (configured c.loop-number.config)) c.first_line.result.0.now)) c.in-Err-Fault.field-0-is c.in-Err-Fault.ensures))
 
 pub returns-in-Err-OutOfMemory-clause-err : goal.returns-in-Err-OutOfMemory-clause-err
-returns-in-Err-OutOfMemory-clause-err g c = λ text options known. head_unread options text c.loop-number.config c.loop-number.number _ (c.loop-number.invariant text known) fault.OutOfMemory tt
+returns-in-Err-OutOfMemory-clause-err g c = λ text options known. head_unread options text c.loop-number.config c.loop-number.number _ (c.loop-number.invariant text known) c.args.file.now fault.OutOfMemory tt
 
 pub returns-clause-err : goal.returns-clause-err
-returns-clause-err g c = λ text options known. head_unread options text c.loop-number.config c.loop-number.number _ (c.loop-number.invariant text known) (fault.CannotRead c.args.file) tt
+returns-clause-err g c = λ text options known. head_unread options text c.loop-number.config c.loop-number.number _ (c.loop-number.invariant text known) c.args.file.now (fault.CannotRead c.args.file) refl
 
 pub returns-in-Err-clause-err : goal.returns-in-Err-clause-err
-returns-in-Err-clause-err g c = λ text options known. head_unread options text c.loop-number.config c.loop-number.number _ (c.loop-number.invariant text known) c.in-Err.fault c.in-Err.ensures.err
+returns-in-Err-clause-err g c = λ text options known. head_unread options text c.loop-number.config c.loop-number.number _ (c.loop-number.invariant text known) c.args.file.now c.in-Err.fault c.in-Err.ensures.err
 
 pub loop-number-preserved-in-Ok-Nothing : goal.loop-number-preserved-in-Ok-Nothing
 loop-number-preserved-in-Ok-Nothing g c = λ text known.
