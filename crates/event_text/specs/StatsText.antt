@@ -39,15 +39,11 @@ passed_notes s x =
     ++ (passed_note s ((x.passed_slow == 0) && (x.flaky == 0)) x.leaky (codes "leaky")
     ++ notes_end ((x.passed_slow == 0) && ((x.flaky == 0) && (x.leaky == 0)))))
 
--- the words between that number and the reason
-unfoldable pub due_to_being : Text
-due_to_being = plain (codes " due to being ")
-
 -- how many of the failed tests failed since they leaked handles
 unfoldable pub leaky_failed_note : Styles → ℕ → Text
 leaky_failed_note s n =
     if n == 0 then []
-    else plain (codes " (") ++ (styled s.count (decimal n) ++ (due_to_being ++ (styled s.skip (codes "leaky") ++ plain (codes ")"))))
+    else plain (codes " (") ++ (styled s.count (decimal n) ++ (plain (codes " due to being ") ++ (styled s.skip (codes "leaky") ++ plain (codes ")"))))
 
 -- the tests that failed, where there is one
 unfoldable pub failed_count : Styles → RunStats → Text

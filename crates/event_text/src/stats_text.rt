@@ -2,7 +2,7 @@
 
 ghost use Rattle.std.specs.Prelude.{◌≡◌};
 ghost use Rattle.plain_text.specs.Writer.{Puts};
-ghost use Rattle.event_text.specs.StatsText.{failure_style, progress_message, summary_text, counted_text, passed_note, passed_notes, notes_end, leaky_failed_note, due_to_being, failed_count, failed_counts, exec_failed_count, timed_out_count, other_failed_count};
+ghost use Rattle.event_text.specs.StatsText.{failure_style, progress_message, summary_text, counted_text, passed_note, passed_notes, notes_end, leaky_failed_note, failed_count, failed_counts, exec_failed_count, timed_out_count, other_failed_count};
 
 use plain_text::style::{Style, Styles, write_plain};
 use plain_text::write_str::{WriteFault, WriteStr};
@@ -182,17 +182,9 @@ fn write_leaky_failed_note<W: WriteStr>(
     }
     write_plain(w, " (")?;
     styles.count.write_number(w, count as u128)?;
-    write_due_to_being(w)?;
+    write_plain(w, " due to being ")?;
     styles.skip.write(w, "leaky")?;
     write_plain(w, ")")
-}
-
-// Writes the words between that number and the reason.
-#[tactic(auto, unfolding(crate::specs::StatsText::due_to_being))]
-fn write_due_to_being<W: WriteStr>(w: &mut W) -> Result<(), WriteFault>
-    ensures { Puts W.meaning w.old due_to_being result w.new }
-{
-    write_plain(w, " due to being ")
 }
 
 // Writes how many tests did not succeed in another way, where there is one.

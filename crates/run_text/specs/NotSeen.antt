@@ -13,16 +13,13 @@ use Rattle.plain_text.specs.declared.style.ListStyles.{ListStyles}
 use Rattle.plain_text.specs.declared.style.Styles.{Styles}
 use Rattle.event_text.specs.declared.settings.Settings.{Settings}
 
-unfoldable pub not_seen_end : Text
-not_seen_end = plain (codes " not seen during this rerun:\n")
-
 -- how many tests there are
 unfoldable pub not_seen_start : Styles → NextestRunMode → ℕ → Text
 not_seen_start s mode total =
     styled s.skip (right_in 12 (codes "Note"))
     ++ (plain (codes " ")
     ++ (styled s.count (decimal total)
-    ++ (plain (codes " outstanding ") ++ (plain (tests_word mode total) ++ not_seen_end))))
+    ++ (plain (codes " outstanding ") ++ (plain (tests_word mode total) ++ plain (codes " not seen during this rerun:\n")))))
 
 -- a test on a line of its own, without a counter or an iteration
 unfoldable pub not_seen_line : ListStyles → OwnedTestInstanceId → Text

@@ -34,13 +34,10 @@ unfoldable pub of_time : Styles → StressProgress → Text
 of_time s (Count all elapsed completed) = []
 of_time s (Time all elapsed completed) = plain (codes "/") ++ styled s.count (clock_text (whole_seconds Floor all.0))
 
-unfoldable pub elapsed_words : Text
-elapsed_words = plain (codes " elapsed so far")
-
 -- how long the run has taken
 unfoldable pub elapsed_text : Styles → StressProgress → Text
 elapsed_text s x =
-    plain (codes " (") ++ (styled s.count (clock_text (whole_seconds Floor (elapsed_of x).0)) ++ (of_time s x ++ elapsed_words))
+    plain (codes " (") ++ (styled s.count (clock_text (whole_seconds Floor (elapsed_of x).0)) ++ (of_time s x ++ plain (codes " elapsed so far")))
 
 -- what remains: iterations, or time, of which a part of a second counts as one
 unfoldable pub count_left_text : Styles → ℕ → Text

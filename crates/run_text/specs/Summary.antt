@@ -53,9 +53,6 @@ unfoldable pub of_total : Styles → Option NonZeroU32 → Text
 of_total s None = []
 of_total s (Some total) = plain (codes "/") ++ styled s.count (decimal (non_zero_u32_get total))
 
-unfoldable pub stress_run_words : Text
-stress_run_words = plain (codes " stress run ")
-
 -- how many iterations there were to be, and where that is not known how many have finished
 abbrev pub number_of : ℕ → Option NonZeroU32 → ℕ
 number_of current None = current
@@ -68,19 +65,16 @@ last_number i = number_of i.current i.total
 unfoldable pub iterations_run_text : Styles → StressIndex → Text
 iterations_run_text s i =
     styled s.count (decimal i.current)
-    ++ (of_total s i.total ++ (stress_run_words ++ (plain (iterations_word (last_number i)) ++ plain (codes ": "))))
+    ++ (of_total s i.total ++ (plain (codes " stress run ") ++ (plain (iterations_word (last_number i)) ++ plain (codes ": "))))
 
 -- how many iterations failed, where there is one
 unfoldable pub failed_iterations : Styles → ℕ → Text
 failed_iterations s n = if n == 0 then [] else plain (codes ", ") ++ counted_text s s.fail n (codes "failed")
 
-unfoldable pub cancelled_words : Text
-cancelled_words = plain (codes "; cancelled due to ")
-
 -- why the last iteration was cancelled, where that is known
 unfoldable pub cancel_reason_text : Styles → Option CancelReason → Text
 cancel_reason_text s None = []
-cancel_reason_text s (Some reason) = cancelled_words ++ styled s.fail (reason_words reason)
+cancel_reason_text s (Some reason) = plain (codes "; cancelled due to ") ++ styled s.fail (reason_words reason)
 
 abbrev pub cancelled_due_to : Styles → FinalRunStats → Text
 cancelled_due_to s Success = []

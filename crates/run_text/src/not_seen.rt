@@ -3,7 +3,7 @@
 ghost use Rattle.std.specs.Prelude.{◌≡◌, length};
 ghost use Rattle.std.specs.List.{flat_map};
 ghost use Rattle.plain_text.specs.Writer.{Puts};
-ghost use Rattle.run_text.specs.NotSeen.{more_line, more_not_seen, not_seen_end, not_seen_line, not_seen_note, not_seen_start, not_seen_text};
+ghost use Rattle.run_text.specs.NotSeen.{more_line, more_not_seen, not_seen_line, not_seen_note, not_seen_start, not_seen_text};
 
 use event_text::settings::Settings;
 use plain_text::style::{ListStyles, Styles, write_plain};
@@ -66,13 +66,6 @@ fn write_note_start<W: WriteStr>(
     styles.count.write_number(w, total as u128)?;
     write_plain(w, " outstanding ")?;
     write_plain(w, tests_str(mode, total))?;
-    write_note_start_end(w)
-}
-
-#[tactic(auto, unfolding(crate::specs::NotSeen::not_seen_end))]
-fn write_note_start_end<W: WriteStr>(w: &mut W) -> Result<(), WriteFault>
-    ensures { Puts W.meaning w.old not_seen_end result w.new }
-{
     write_plain(w, " not seen during this rerun:\n")
 }
 

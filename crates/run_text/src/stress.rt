@@ -7,7 +7,7 @@ ghost use Rattle.run_model.specs.Stress.{remaining_value};
 ghost use Rattle.report_text.specs.Durations.{clock_text, whole_seconds};
 ghost use Rattle.plain_text.specs.Style.{styled};
 ghost use Rattle.plain_text.specs.Writer.{Puts};
-ghost use Rattle.run_text.specs.Stress.{count_left_text, elapsed_text, elapsed_words, iteration_text, of_iterations, of_time, remaining_text, stress_sub_run_finished_text, stress_sub_run_line, stress_sub_run_started_text, time_left_text};
+ghost use Rattle.run_text.specs.Stress.{count_left_text, elapsed_text, iteration_text, of_iterations, of_time, remaining_text, stress_sub_run_finished_text, stress_sub_run_line, stress_sub_run_started_text, time_left_text};
 
 use crate::summary::{outcome_style, write_run_counts};
 use event_text::bar::write_bar_line;
@@ -103,13 +103,6 @@ fn write_elapsed<W: WriteStr>(
     write_plain(w, " (")?;
     write_hh_mm_ss(w, styles, progress.elapsed(), DurationRounding::Floor)?;
     write_of_time(w, styles, progress)?;
-    write_elapsed_words(w)
-}
-
-#[tactic(auto, unfolding(crate::specs::Stress::elapsed_words))]
-fn write_elapsed_words<W: WriteStr>(w: &mut W) -> Result<(), WriteFault>
-    ensures { Puts W.meaning w.old elapsed_words result w.new }
-{
     write_plain(w, " elapsed so far")
 }
 

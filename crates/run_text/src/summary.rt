@@ -2,7 +2,7 @@
 
 ghost use Rattle.std.specs.Prelude.{◌≡◌};
 ghost use Rattle.plain_text.specs.Writer.{Puts};
-ghost use Rattle.run_text.specs.Summary.{cancel_reason_text, cancelled_due_to, cancelled_words, failed_iterations, initial_count_text, iterations_run_text, last_number, of_total, outcome_style, run_counts_text, run_finished_text, stress_counts_text, stress_outcome_style, stress_run_words, summary_counts, summary_line, summary_style};
+ghost use Rattle.run_text.specs.Summary.{cancel_reason_text, cancelled_due_to, failed_iterations, initial_count_text, iterations_run_text, last_number, of_total, outcome_style, run_counts_text, run_finished_text, stress_counts_text, stress_outcome_style, summary_counts, summary_line, summary_style};
 
 use event_text::bar::write_bar_line;
 use event_text::settings::Settings;
@@ -121,7 +121,7 @@ fn write_iterations_run<W: WriteStr>(
 {
     styles.count.write_number(w, completed.current as u128)?;
     write_of_total(w, styles, completed.total)?;
-    write_stress_run(w)?;
+    write_plain(w, " stress run ")?;
     write_plain(w, iterations_str(last_number(completed)))?;
     write_plain(w, ": ")
 }
@@ -141,13 +141,6 @@ fn write_of_total<W: WriteStr>(
             styles.count.write_number(w, total.get() as u128)
         }
     }
-}
-
-#[tactic(auto, unfolding(crate::specs::Summary::stress_run_words))]
-fn write_stress_run<W: WriteStr>(w: &mut W) -> Result<(), WriteFault>
-    ensures { Puts W.meaning w.old stress_run_words result w.new }
-{
-    write_plain(w, " stress run ")
 }
 
 // How many iterations there were to be, and where that is not known how many have finished.
@@ -201,17 +194,10 @@ fn write_cancel_reason<W: WriteStr>(
     match reason {
         None => Ok(()),
         Some(reason) => {
-            write_cancelled_words(w)?;
+            write_plain(w, "; cancelled due to ")?;
             styles.fail.write(w, reason.as_str())
         }
     }
-}
-
-#[tactic(auto, unfolding(crate::specs::Summary::cancelled_words))]
-fn write_cancelled_words<W: WriteStr>(w: &mut W) -> Result<(), WriteFault>
-    ensures { Puts W.meaning w.old cancelled_words result w.new }
-{
-    write_plain(w, "; cancelled due to ")
 }
 
 /// The style of what a run came to.

@@ -1,5 +1,5 @@
 -- An error and its causes, as text.
-use Rattle.std.specs.Prelude.{false, List, [], ◌∷◌, ◌++◌, codes}
+use Rattle.std.specs.Prelude.{false, List, [], ◌++◌, ◌==◌, length, codes, if◌then◌else◌}
 use Rattle.std.specs.List.{flat_map}
 use Rattle.run_model.specs.ErrorChains.{MessageAndCauses}
 use Rattle.plain_text.specs.Indent.{indent}
@@ -10,13 +10,9 @@ use Rattle.plain_text.specs.Texts.{Text}
 unfoldable pub cause_text : Text → Text
 cause_text cause = plain (codes "\n  - ") ++ indent (codes "    ") false cause
 
-unfoldable pub caused_by : Text
-caused_by = plain (codes "\n  caused by:")
-
 -- the causes, if there are any
 unfoldable pub causes_text : List Text → Text
-causes_text [] = []
-causes_text (cause ∷ causes) = caused_by ++ flat_map cause_text (cause ∷ causes)
+causes_text causes = if length causes == 0 then [] else plain (codes "\n  caused by:") ++ flat_map cause_text causes
 
 -- the message, and the causes below it
 unfoldable pub error_chain_text : MessageAndCauses → Text

@@ -59,15 +59,11 @@ filtered_text s mode c f =
     if has_no_filtered c then []
     else tests_and_binaries s mode c.skipped_tests_default_filter c.skipped_binaries_default_filter ++ via_filter s f
 
--- the words before those parts
-unfoldable pub including : Text
-including = plain (codes ", including ")
-
 -- of what is skipped, what passed before and what the default filter leaves out
 unfoldable pub included_text : Styles → NextestRunMode → SkipCounts → CompiledDefaultFilter → Text
 included_text s mode c f =
     if (c.skipped_tests_rerun == 0) && has_no_filtered c then []
-    else including
+    else plain (codes ", including ")
     ++ (rerun_text s mode c.skipped_tests_rerun
     ++ (between (codes ", and ") (c.skipped_tests_rerun == 0) (has_no_filtered c) ++ filtered_text s mode c f))
 

@@ -53,7 +53,7 @@ use Rattle.event_text.specs.declared.finish.FinishRow.TheVariants as row
 use Rattle.event_text.specs.declared.settings.Settings.{Settings}
 use Rattle.test_text.specs.declared.status_line.StatusLineKind.{StatusLineKind}
 use Rattle.test_text.specs.declared.status_line.StatusLineKind.TheVariants.{Intermediate, Final}
-use Rattle.event_text.specs.StatsText.{summary_text, counted_text, passed_notes, passed_note, notes_end, failed_counts, failed_count, leaky_failed_note, due_to_being, exec_failed_count, timed_out_count, other_failed_count}
+use Rattle.event_text.specs.StatsText.{summary_text, counted_text, passed_notes, passed_note, notes_end, failed_counts, failed_count, leaky_failed_note, exec_failed_count, timed_out_count, other_failed_count}
 use Rattle.plain_text.specs.Numbers.{seconds, with_point}
 use Rattle.report_text.specs.Instance.{test_text, stress_prefix, counter_prefix, test_name_text}
 use Rattle.unit_report.specs.Durations.{bracketed_duration}
@@ -118,7 +118,7 @@ stats = record {
 
 summary : run_finished_text settings 1520000000 (Single stats) ≡ codes "------------\n     Summary [   1.520s] 2 tests run: 1 passed, 1 failed, 0 skipped\n"
 unfolding run_finished_text summary_line run_counts_text initial_count_text bar_line hbar_text lib.Utf8.encode plain styled right_in chars digits tests_word_if bracketed_duration seconds with_point
-    summary_text counted_text passed_notes passed_note notes_end failed_counts failed_count leaky_failed_note due_to_being exec_failed_count timed_out_count other_failed_count
+    summary_text counted_text passed_notes passed_note notes_end failed_counts failed_count leaky_failed_note exec_failed_count timed_out_count other_failed_count
 summary = refl
 
 -- a test that failed with a code at its one attempt, after so long

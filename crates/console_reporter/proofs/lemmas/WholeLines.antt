@@ -76,7 +76,7 @@ use Rattle.run_model.specs.declared.level.StatusLevel.TheVariants as status
 use Rattle.run_text.specs.Cancel.{begin_cancel_text, begin_kill_text}
 use Rattle.run_text.specs.Pause.{pause_text, run_continued_text, run_paused_text}
 use Rattle.run_text.specs.Input.{input_enter_text}
-use Rattle.run_text.specs.NotSeen.{more_line, more_not_seen, not_seen_end, not_seen_line, not_seen_note, not_seen_start, not_seen_text}
+use Rattle.run_text.specs.NotSeen.{more_line, more_not_seen, not_seen_line, not_seen_note, not_seen_start, not_seen_text}
 use Rattle.run_text.specs.SetupScript.{failed_script_output, setup_script_finished_text, setup_script_line, setup_script_slow_text, setup_script_started_text, shown_slow_script, slow_script_level}
 use Rattle.run_text.specs.Start.{starting_line, run_started_text}
 use Rattle.run_text.specs.Stress.{stress_sub_run_finished_text, stress_sub_run_line, stress_sub_run_started_text}
@@ -253,8 +253,8 @@ ends-run_finished_text : (s : Settings) (elapsed : ℕ) (stats : RunFinishedStat
 unfolding run_finished_text summary_line
 ends-run_finished_text s elapsed stats = search (ends_after, ends-summary_counts) depth 12
 
-ends-not_seen_end : EndsLine not_seen_end
-unfolding not_seen_end plain
+ends-not_seen_end : EndsLine (plain (codes " not seen during this rerun:\n"))
+unfolding plain
 ends-not_seen_end = record { front = codes " not seen during this rerun:"; is = refl }
 
 ends-not_seen_start : (s : Styles) (mode : NextestRunMode) (total : ℕ) → EndsLine (not_seen_start s mode total)

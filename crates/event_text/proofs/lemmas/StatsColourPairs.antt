@@ -7,7 +7,7 @@ use Rattle.plain_text.specs.Style.{styles_of}
 use Rattle.plain_text.specs.declared.style.Style.{Style}
 use Rattle.plain_text.specs.declared.style.Style.TheVariants as style
 use Rattle.report_text.proofs.lemmas.ColourPairs.{IsColourPair, colour_pair-none, colour_pairs}
-use Rattle.event_text.specs.StatsText.{note_separator, counted_text, passed_note, notes_end, passed_notes, due_to_being, leaky_failed_note, failed_count, other_failed_count, exec_failed_count, timed_out_count, failed_counts, summary_text, progress_message}
+use Rattle.event_text.specs.StatsText.{note_separator, counted_text, passed_note, notes_end, passed_notes, leaky_failed_note, failed_count, other_failed_count, exec_failed_count, timed_out_count, failed_counts, summary_text, progress_message}
 
 pub colour_pair-counted_text : (k : Bool) (s : Style) (n : ℕ) (word : Text) → HasNoEscape word → IsColourPair k (counted_text (styles_of true) s n word) (counted_text (styles_of false) style.Plain n word)
 unfolding counted_text
@@ -31,7 +31,7 @@ unfolding passed_notes
 colour_pair-passed_notes k x = search (colour_pairs, colour_pair-passed_note, colour_pair-notes_end) depth 12
 
 colour_pair-leaky_failed_note : (k : Bool) (n : ℕ) → IsColourPair k (leaky_failed_note (styles_of true) n) (leaky_failed_note (styles_of false) n)
-unfolding leaky_failed_note due_to_being
+unfolding leaky_failed_note
 colour_pair-leaky_failed_note k n = search colour_pairs depth 12
 
 colour_pair-failed_count : (k : Bool) (x : RunStats) → IsColourPair k (failed_count (styles_of true) x) (failed_count (styles_of false) x)

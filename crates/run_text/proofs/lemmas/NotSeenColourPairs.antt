@@ -9,11 +9,11 @@ use Rattle.report_text.proofs.lemmas.InstanceColourPairs.{colour_pair-test_text}
 use Rattle.report_text.proofs.lemmas.ColourPairs.{IsColourPair, colour_pair-append, colour_pair-none, colour_pairs}
 use Rattle.event_text.specs.declared.settings.Settings.{Settings}
 use Rattle.event_text.proofs.lemmas.LineColourPairs.{painted}
-use Rattle.run_text.specs.NotSeen.{not_seen_end, not_seen_start, not_seen_line, more_line, more_not_seen, not_seen_note, not_seen_text}
+use Rattle.run_text.specs.NotSeen.{not_seen_start, not_seen_line, more_line, more_not_seen, not_seen_note, not_seen_text}
 use Rattle.run_text.specs.PlainRuns.{IsPlainNotSeen, IsPlainOwned}
 
 colour_pair-not_seen_start : (k : Bool) (mode : NextestRunMode) (n : ℕ) → IsColourPair k (not_seen_start (styles_of true) mode n) (not_seen_start (styles_of false) mode n)
-unfolding not_seen_start not_seen_end
+unfolding not_seen_start
 colour_pair-not_seen_start k mode n = search colour_pairs depth 12
 
 colour_pair-not_seen_line : (k : Bool) (i : OwnedTestInstanceId) → IsPlainOwned i → IsColourPair k (not_seen_line (list_styles_of true) i) (not_seen_line (list_styles_of false) i)

@@ -26,8 +26,8 @@ use Rattle.unit_report.proofs.lemmas.DurationColourPairs.{colour_pair-bracketed_
 use Rattle.event_text.specs.declared.settings.Settings.{Settings}
 use Rattle.event_text.proofs.lemmas.LineColourPairs.{painted, colour_pair-bar_line}
 use Rattle.event_text.proofs.lemmas.StatsColourPairs.{colour_pair-counted_text, colour_pair-summary_text}
-use Rattle.run_text.specs.Stress.{of_iterations, iteration_text, of_time, elapsed_words, elapsed_text, count_left_text, time_left_text, remaining_text, stress_sub_run_line, stress_sub_run_started_text, stress_sub_run_finished_text}
-use Rattle.run_text.specs.Summary.{outcome_style, initial_count_text, run_counts_text, of_total, stress_run_words, iterations_run_text, failed_iterations, cancelled_words, cancel_reason_text, cancelled_due_to, stress_counts_text, stress_outcome_style, summary_line, run_finished_text}
+use Rattle.run_text.specs.Stress.{of_iterations, iteration_text, of_time, elapsed_text, count_left_text, time_left_text, remaining_text, stress_sub_run_line, stress_sub_run_started_text, stress_sub_run_finished_text}
+use Rattle.run_text.specs.Summary.{outcome_style, initial_count_text, run_counts_text, of_total, iterations_run_text, failed_iterations, cancel_reason_text, cancelled_due_to, stress_counts_text, stress_outcome_style, summary_line, run_finished_text}
 
 colour_pair-outcome : (k : Bool) (x : FinalRunStats) (t : Text) → HasNoEscape t → IsColourPair k (styled (outcome_style (styles_of true) x) t) (styled (outcome_style (styles_of false) x) t)
 colour_pair-outcome k Success t h = search colour_pairs
@@ -51,7 +51,7 @@ colour_pair-of_total k None = colour_pair-none k
 colour_pair-of_total k (Some n) = search colour_pairs depth 12
 
 colour_pair-iterations_run_text : (k : Bool) (i : StressIndex) → IsColourPair k (iterations_run_text (styles_of true) i) (iterations_run_text (styles_of false) i)
-unfolding iterations_run_text stress_run_words
+unfolding iterations_run_text
 colour_pair-iterations_run_text k i = search (colour_pairs, colour_pair-of_total) depth 12
 
 colour_pair-failed_iterations : (k : Bool) (n : ℕ) → IsColourPair k (failed_iterations (styles_of true) n) (failed_iterations (styles_of false) n)
@@ -59,7 +59,7 @@ unfolding failed_iterations
 colour_pair-failed_iterations k n = search (colour_pairs, colour_pair-counted_text) depth 12
 
 colour_pair-cancelled_due_to : (k : Bool) (x : FinalRunStats) → IsColourPair k (cancelled_due_to (styles_of true) x) (cancelled_due_to (styles_of false) x)
-unfolding cancel_reason_text cancelled_words
+unfolding cancel_reason_text
 colour_pair-cancelled_due_to k Success = colour_pair-none k
 colour_pair-cancelled_due_to k NoTestsRun = colour_pair-none k
 colour_pair-cancelled_due_to k (Cancelled None kind) = colour_pair-none k
@@ -88,7 +88,7 @@ colour_pair-iteration_text k (Count total.Infinite elapsed completed) n = search
 colour_pair-iteration_text k (Time all elapsed completed) n = search colour_pairs depth 12
 
 colour_pair-elapsed_text : (k : Bool) (x : StressProgress) → IsColourPair k (elapsed_text (styles_of true) x) (elapsed_text (styles_of false) x)
-unfolding elapsed_text of_time elapsed_words
+unfolding elapsed_text of_time
 colour_pair-elapsed_text k (Count all elapsed completed) = search colour_pairs depth 12
 colour_pair-elapsed_text k (Time all elapsed completed) = search colour_pairs depth 12
 

@@ -15,7 +15,7 @@ use Rattle.run_model.specs.declared.stats.RunStatsFailureKind.TheVariants.{Setup
 use Rattle.plain_text.specs.Texts.{Text}
 use Rattle.plain_text.specs.Escapes.{HasNoEscape}
 use Rattle.plain_text.specs.Style.{styles_of}
-use Rattle.unit_report.specs.SkipCounts.{tests_text, binaries_text, between, tests_and_binaries, filter_name, via_filter, rerun_text, filtered_text, including, included_text, skip_reason, skip_note}
+use Rattle.unit_report.specs.SkipCounts.{tests_text, binaries_text, between, tests_and_binaries, filter_name, via_filter, rerun_text, filtered_text, included_text, skip_reason, skip_note}
 use Rattle.unit_report.specs.Warnings.{due_to, options_hint, hint_after, not_run_count, not_run_warning, warning_of, final_warnings}
 use Rattle.report_text.proofs.lemmas.ColourPairs.{IsColourPair, colour_pair-none, colour_pairs}
 
@@ -41,7 +41,7 @@ unfolding filtered_text
 colour_pair-filtered_text k mode c f h = search (colour_pairs, colour_pair-tests_and_binaries, colour_pair-via_filter) depth 12
 
 colour_pair-included_text : (k : Bool) (mode : NextestRunMode) (c : SkipCounts) (f : CompiledDefaultFilter) → HasNoEscape f.profile → IsColourPair k (included_text (styles_of true) mode c f) (included_text (styles_of false) mode c f)
-unfolding included_text between including
+unfolding included_text between
 colour_pair-included_text k mode c f h = search (colour_pairs, colour_pair-rerun_text, colour_pair-filtered_text) depth 12
 
 colour_pair-skip_reason : (k : Bool) (mode : NextestRunMode) (n : ℕ) (c : SkipCounts) (f : CompiledDefaultFilter) → HasNoEscape f.profile → IsColourPair k (skip_reason (styles_of true) mode n c f) (skip_reason (styles_of false) mode n c f)

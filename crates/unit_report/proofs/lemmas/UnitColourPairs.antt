@@ -16,7 +16,7 @@ use Rattle.plain_text.specs.Style.{styles_of}
 use Rattle.report_text.specs.declared.helpers.theme.ThemeCharacters.{ThemeCharacters}
 use Rattle.plain_text.specs.declared.style.Style.{Style}
 use Rattle.plain_text.specs.declared.style.Style.TheVariants as style
-use Rattle.unit_report.specs.ErrorChain.{cause_text, caused_by, causes_text, error_chain_text}
+use Rattle.unit_report.specs.ErrorChain.{cause_text, causes_text, error_chain_text}
 use Rattle.unit_report.specs.Header.{output_name_text, bar_text, header_text}
 use Rattle.unit_report.specs.UnitOutput.{OutputLayout, not_captured_text, shown_stream, present_stream, stream_text, both_streams, split_text, child_output, errors_block, errors_text, execution_output}
 use Rattle.unit_report.specs.declared.unit_output.header.OutputHeader.{OutputHeader}
@@ -58,7 +58,7 @@ free-causes [] h = refl
 free-causes (cause ∷ causes) h = let first = h.0 in let more = free-causes causes h.1 in search frees depth 12
 
 free-causes_text : (causes : List Text) → AllByRecursion HasNoEscape causes → HasNoEscape (causes_text causes)
-unfolding causes_text caused_by
+unfolding causes_text
 free-causes_text [] h = refl
 free-causes_text (cause ∷ causes) h = let more = free-causes (cause ∷ causes) h in search frees depth 12
 

@@ -2,7 +2,7 @@
 
 ghost use Rattle.std.specs.Prelude.{◌≡◌};
 ghost use Rattle.plain_text.specs.Writer.{Puts};
-ghost use Rattle.unit_report.specs.SkipCounts.{between, binaries_text, filter_name, filtered_text, has_no_filtered, included_text, including, rerun_text, skip_counts_text, skip_note, skip_reason, skipped_tests_in, tests_and_binaries, tests_text, via_filter};
+ghost use Rattle.unit_report.specs.SkipCounts.{between, binaries_text, filter_name, filtered_text, has_no_filtered, included_text, rerun_text, skip_counts_text, skip_note, skip_reason, skipped_tests_in, tests_and_binaries, tests_text, via_filter};
 
 use plain_text::style::{Styles, write_plain};
 use plain_text::write_str::{WriteFault, WriteStr};
@@ -107,18 +107,10 @@ fn write_included<W: WriteStr>(
     if has_no_rerun && has_no_filtered {
         return Ok(());
     }
-    write_including(w)?;
+    write_plain(w, ", including ")?;
     write_rerun(w, styles, mode, counts.skipped_tests_rerun)?;
     write_between(w, ", and ", has_no_rerun, has_no_filtered)?;
     write_filtered(w, styles, mode, counts, filter)
-}
-
-// Writes the words before those parts.
-#[tactic(auto, unfolding(crate::specs::SkipCounts::including))]
-fn write_including<W: WriteStr>(w: &mut W) -> Result<(), WriteFault>
-    ensures { Puts W.meaning w.old including result w.new }
-{
-    write_plain(w, ", including ")
 }
 
 // Whether the default filter leaves nothing out.

@@ -4,7 +4,7 @@ ghost use Rattle.std.specs.Prelude.{◌≡◌, false, codes};
 ghost use Rattle.std.specs.List.{flat_map};
 ghost use Rattle.plain_text.specs.Indent.{indent};
 ghost use Rattle.plain_text.specs.Writer.{Puts};
-ghost use Rattle.unit_report.specs.ErrorChain.{cause_text, caused_by, causes_text, error_chain_text};
+ghost use Rattle.unit_report.specs.ErrorChain.{cause_text, causes_text, error_chain_text};
 
 use plain_text::indenter::indented;
 use plain_text::style::write_plain;
@@ -36,15 +36,8 @@ fn write_causes<W: WriteStr>(w: &mut W, causes: &[DescriptionText]) -> Result<()
     if causes.is_empty() {
         return Ok(());
     }
-    write_caused_by(w)?;
+    write_plain(w, "\n  caused by:")?;
     write_each_cause(w, causes)
-}
-
-#[tactic(auto, unfolding(crate::specs::ErrorChain::caused_by))]
-fn write_caused_by<W: WriteStr>(w: &mut W) -> Result<(), WriteFault>
-    ensures { Puts W.meaning w.old caused_by result w.new }
-{
-    write_plain(w, "\n  caused by:")
 }
 
 fn write_each_cause<W: WriteStr>(w: &mut W, causes: &[DescriptionText]) -> Result<(), WriteFault>
