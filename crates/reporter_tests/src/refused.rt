@@ -9,6 +9,11 @@ use run_model::status::ExecutionResultDescription;
 use std::alloc::Global;
 use std::test::Fail;
 
+// The first of these calls that the decider refuses. It has no clause: the proof of a test would hold those of `first_refused` at each call.
+fn position_of_refused(decider: &OutputLoadDecider, calls: &[ReportCall<'_>]) -> Option<usize> {
+    first_refused(decider, calls)
+}
+
 // The decider of a reporter that shows no line at once.
 fn decider(alloc: Global) -> Result<OutputLoadDecider, Fail> {
     let mut report = String::new(alloc);
@@ -66,8 +71,8 @@ fn the_first_refused_call_is_told(rt: HostRuntime) -> Result<(), Fail> {
     let calls = calls_of(alloc, &tests)?;
     let accepted = calls.as_slice().get(..1).unwrap_or(&[]);
     assert_eq!(rt; accepted.len(), 1);
-    assert_eq!(rt; first_refused(&decider, accepted), None);
-    assert_eq!(rt; first_refused(&decider, calls.as_slice()), Some(1));
+    assert_eq!(rt; position_of_refused(&decider, accepted), None);
+    assert_eq!(rt; position_of_refused(&decider, calls.as_slice()), Some(1));
     let mut report = String::new(alloc);
     let outcome = run(alloc, builder(alloc)?, &mut report, calls.as_slice());
     let fault = WriteEventError::RetriedSuccess;

@@ -1,5 +1,5 @@
 //! What the tests share: reporters of a run of three tests, attempts, and events. What calls a reporter here has no clause: the proof of a
-//! test that makes several calls would hold the reporter's clauses for each.
+//! test that makes several calls would hold the reporter's clauses for each. A helper that returns a `Result` fails where memory is refused.
 
 use console_reporter::imp::{
     DisplayReporter, DisplayReporterBuilder, OutputLoadDecider, ReportCall, RunFault,

@@ -43,8 +43,13 @@ abbrev pub says_config : Result (SceneConfig × Place) LineFault → Result Line
 says_config (Ok x) = Ok (said.Config x.0)
 says_config (Err f) = Err f
 
-abbrev pub says_event : Result (SceneEvent × Place) LineFault → Result LineSaid LineFault
-says_event (Ok x) = Ok (said.Event x.0)
+-- the event that fields tell, wherever they end
+abbrev pub event_told : Result (SceneEvent × Place) LineFault → Result SceneEvent LineFault
+event_told (Ok x) = Ok x.0
+event_told (Err f) = Err f
+
+abbrev pub says_event : Result SceneEvent LineFault → Result LineSaid LineFault
+says_event (Ok e) = Ok (said.Event e)
 says_event (Err f) = Err f
 
 -- a line that configures the run, which may not stand behind an event
@@ -52,7 +57,7 @@ abbrev pub config_said : LinesBefore → Place → Result LineSaid LineFault
 config_said before fields = if before.is_begun then Err ConfigAfterEvent else says_config (exactly 2 (config_line_fields before.config) fields)
 
 abbrev pub word_said : LinesBefore → List ℕ → Place → Result LineSaid LineFault
-word_said before word fields = if bytes_eq word (codes "config") then config_said before fields else says_event (event_line_fields word fields)
+word_said before word fields = if bytes_eq word (codes "config") then config_said before fields else says_event (event_told (event_line_fields word fields))
 
 abbrev pub words_said : LinesBefore → List (List ℕ) → Result LineSaid LineFault
 words_said before [] = Err WrongNumberOfFields
@@ -116,7 +121,7 @@ IsAnswer (Err (fault.Line n f)) read = read ≡ Err (n, f)
 IsAnswer (Err fault.OutOfMemory) read = ⊤
 
 -- what was returned is what a line says, or its fault; or memory was refused
-abbrev pub IsSaid : Result LineSaid LineError → Result LineSaid LineFault → Type 0
+abbrev pub IsSaid : {X : Type 0} → Result X LineError → Result X LineFault → Type 0
 IsSaid (Ok s) read = read ≡ Ok s
 IsSaid (Err e) read = Fails e read
 

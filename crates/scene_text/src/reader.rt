@@ -145,6 +145,7 @@ impl LinesRead {
 }
 
 // Reads the line of this number into the scene, and notes the number where the line tells an event.
+#[inline(always)]
 #[tactic(auto, unfolding(crate::specs::SceneTexts::line_told), using(std::proofs::lemmas::Bool::Decides::nat_tests))]
 fn read_numbered<'a>(
     alloc: Global,
@@ -206,6 +207,7 @@ pub fn read_line(alloc: Global, line: &[u8], before: LinesBefore) -> Result<Line
 }
 
 // Reads a line behind lines that tell this. The list is for its fields.
+#[inline(always)]
 #[tactic(auto, unfolding(crate::specs::SceneTexts::line_said), using(crate::proofs::lemmas::Utf8::utf8_passes, crate::proofs::lemmas::Utf8::utf8_fails))]
 fn read_split<'a>(
     alloc: Global,
@@ -233,6 +235,7 @@ fn is_passed_over(line: &[u8]) -> bool
 }
 
 // Reads a line that was split into its fields.
+#[inline(always)]
 fn read_words(alloc: Global, words: &[&str], before: LinesBefore) -> Result<LineSaid, LineError>
     ensures { IsSaid result (words_said before (field_texts words.now)) }
 {
@@ -240,6 +243,6 @@ fn read_words(alloc: Global, words: &[&str], before: LinesBefore) -> Result<Line
     match fields.take()? {
         "config" if before.is_begun => Err(LineError::Fault(LineFault::ConfigAfterEvent)),
         "config" => Ok(LineSaid::Config(read_config(&mut fields.exactly(2)?, before.config)?)),
-        word => read_event(alloc, word, fields),
+        word => Ok(LineSaid::Event(read_event(alloc, word, fields)?)),
     }
 }

@@ -49,6 +49,7 @@ impl Device {
     }
 
     /// One that takes so many bytes, and whose writes fail then. It has their memory from the start, and allocates nothing as it takes them.
+    /// The error is that this memory was refused.
     ///
     /// ```
     /// use std::io::Write;

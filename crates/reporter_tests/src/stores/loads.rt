@@ -78,10 +78,19 @@ fn answer_without(
     Ok(write_event(&mut reporter, event))
 }
 
+// What they answer to a test that ended so, and whose output was left unread.
+fn answers_to_unread(
+    alloc: Global,
+    outcome: ExecutionResultDescription,
+) -> Result<[Result<(), WriteEventError>; 3], Fail> {
+    let test = OwnedTestInstanceId::new(alloc, "alpha", "t1")?;
+    let status = attempt(alloc, 1, 1, outcome)?.with_output(ChildOutputDescription::NotLoaded);
+    answers_to(alloc, &unshown(alloc, test.as_ref(), status)?)
+}
+
 #[test]
 fn an_unread_output_is_refused_where_it_is_to_be_stored(rt: HostRuntime) -> Result<(), Fail> {
     let alloc = rt.alloc();
-    let test = OwnedTestInstanceId::new(alloc, "alpha", "t1")?;
     let refused = Err(WriteEventError::OutputNotLoaded);
     for (outcome, want) in [
         (failed(), [refused, Ok(()), Ok(())]),
@@ -91,9 +100,7 @@ fn an_unread_output_is_refused_where_it_is_to_be_stored(rt: HostRuntime) -> Resu
         ),
         (ExecutionResultDescription::Pass, [Ok(()), Ok(()), Ok(())]),
     ] {
-        let status = attempt(alloc, 1, 1, outcome)?.with_output(ChildOutputDescription::NotLoaded);
-        let event = unshown(alloc, test.as_ref(), status)?;
-        assert_eq!(rt; answers_to(alloc, &event)?, want);
+        assert_eq!(rt; answers_to_unread(alloc, outcome)?, want);
     }
     Ok(())
 }

@@ -3,9 +3,8 @@
 ghost use Rattle.std.specs.Prelude.{◌≡◌};
 ghost use Rattle.scene_text.specs.Fields.{answered};
 ghost use Rattle.scene_text.specs.Lines.{config_line_fields, event_line_fields};
-ghost use Rattle.scene_text.specs.SceneTexts.{IsSaid, says_event};
+ghost use Rattle.scene_text.specs.SceneTexts.{IsSaid, event_told};
 
-use super::LineSaid::{self, Event};
 use super::fields::Fields;
 use super::info_lines::{read_answer_script, read_answer_test, read_info, read_info_end};
 use super::numbers::read_count;
@@ -26,36 +25,37 @@ use std::alloc::Global;
 
 /// Reads the fields behind a word, which names the kind of event that the line tells. The words of tests come first, since most lines
 /// are theirs.
+#[inline(always)]
 #[tactic(auto, unfolding(crate::specs::Lines::event_line_fields))]
-pub fn read_event(alloc: Global, word: &str, fields: Fields<'_>) -> Result<LineSaid, LineError>
-    ensures { IsSaid result (says_event (event_line_fields word.now fields.entry)) }
+pub fn read_event(alloc: Global, word: &str, fields: Fields<'_>) -> Result<SceneEvent, LineError>
+    ensures { IsSaid result (event_told (event_line_fields word.now fields.entry)) }
 {
     match word {
-        "done" => Ok(Event(read_done(alloc, &mut fields.with_attempts()?)?)),
-        "start" => Ok(Event(read_start(alloc, &mut fields.exactly(5)?)?)),
-        "retrystart" => Ok(Event(read_retry_start(alloc, &mut fields.exactly(6)?)?)),
-        "slow" => Ok(Event(read_slow(alloc, &mut fields.exactly(7)?)?)),
-        "retry" => Ok(Event(read_retry(alloc, &mut fields.exactly(15)?)?)),
-        "skip" => Ok(Event(read_skip(alloc, &mut fields.exactly(3)?)?)),
-        "prefix" => Ok(Event(read_prefix(alloc, &mut fields.exactly(2)?)?)),
-        "header" => Ok(Event(read_header(alloc, &mut fields.exactly(5)?)?)),
-        "run" => Ok(Event(read_run(alloc, &mut fields.exactly(5)?)?)),
-        "substart" => Ok(Event(read_sub_start(&mut fields.exactly(1)?)?)),
-        "setup" => Ok(Event(read_setup(alloc, &mut fields.exactly(6)?)?)),
-        "setupslow" => Ok(Event(read_setup_slow(alloc, &mut fields.exactly(6)?)?)),
-        "setupdone" => Ok(Event(read_setup_done(alloc, &mut fields.exactly(12)?)?)),
-        "cancel" => Ok(Event(SceneEvent::RunBeginCancel(read_cancel(&mut fields.exactly(3)?)?))),
-        "kill" => Ok(Event(SceneEvent::RunBeginKill(read_cancel(&mut fields.exactly(3)?)?))),
-        "pause" => Ok(Event(SceneEvent::RunPaused(read_pause(&mut fields.exactly(2)?)?))),
-        "continue" => Ok(Event(SceneEvent::RunContinued(read_pause(&mut fields.exactly(2)?)?))),
-        "info" => Ok(Event(read_info(&mut fields.exactly(3)?)?)),
-        "answer-script" => Ok(Event(read_answer_script(alloc, &mut fields.exactly(13)?)?)),
-        "answer-test" => Ok(Event(read_answer_test(alloc, &mut fields.exactly(14)?)?)),
-        "infoend" => Ok(Event(read_info_end(&mut fields.exactly(1)?)?)),
-        "input" => Ok(Event(read_input(&mut fields.exactly(3)?)?)),
-        "subend" => Ok(Event(read_sub_end(&mut fields.exactly(3)?)?)),
-        "end" => Ok(Event(read_end(alloc, &mut fields.exactly(4)?)?)),
-        "endstress" => Ok(Event(read_end_stress(alloc, &mut fields.exactly(7)?)?)),
+        "done" => read_done(alloc, &mut fields.with_attempts()?),
+        "start" => read_start(alloc, &mut fields.exactly(5)?),
+        "retrystart" => read_retry_start(alloc, &mut fields.exactly(6)?),
+        "slow" => read_slow(alloc, &mut fields.exactly(7)?),
+        "retry" => read_retry(alloc, &mut fields.exactly(15)?),
+        "skip" => read_skip(alloc, &mut fields.exactly(3)?),
+        "prefix" => read_prefix(alloc, &mut fields.exactly(2)?),
+        "header" => read_header(alloc, &mut fields.exactly(5)?),
+        "run" => read_run(alloc, &mut fields.exactly(5)?),
+        "substart" => Ok(read_sub_start(&mut fields.exactly(1)?)?),
+        "setup" => read_setup(alloc, &mut fields.exactly(6)?),
+        "setupslow" => read_setup_slow(alloc, &mut fields.exactly(6)?),
+        "setupdone" => read_setup_done(alloc, &mut fields.exactly(12)?),
+        "cancel" => Ok(SceneEvent::RunBeginCancel(read_cancel(&mut fields.exactly(3)?)?)),
+        "kill" => Ok(SceneEvent::RunBeginKill(read_cancel(&mut fields.exactly(3)?)?)),
+        "pause" => Ok(SceneEvent::RunPaused(read_pause(&mut fields.exactly(2)?)?)),
+        "continue" => Ok(SceneEvent::RunContinued(read_pause(&mut fields.exactly(2)?)?)),
+        "info" => Ok(read_info(&mut fields.exactly(3)?)?),
+        "answer-script" => read_answer_script(alloc, &mut fields.exactly(13)?),
+        "answer-test" => read_answer_test(alloc, &mut fields.exactly(14)?),
+        "infoend" => Ok(read_info_end(&mut fields.exactly(1)?)?),
+        "input" => Ok(read_input(&mut fields.exactly(3)?)?),
+        "subend" => Ok(read_sub_end(&mut fields.exactly(3)?)?),
+        "end" => read_end(alloc, &mut fields.exactly(4)?),
+        "endstress" => read_end_stress(alloc, &mut fields.exactly(7)?),
         _ => Err(LineError::Fault(LineFault::UnknownEvent)),
     }
 }

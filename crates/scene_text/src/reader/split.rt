@@ -1,12 +1,28 @@
 //! A text cut at a byte.
 //!
-//! It does what `str::split_once` does, and finds the byte by memchr, since a scene is cut at tabs and searched for
-//! backslashes from one end to the other.
+//! It does what `str::split_once` does, and finds the byte in a long text by memchr, since outputs are searched for backslashes from one
+//! end to the other.
 
 ghost use Rattle.std.specs.Prelude.{◌≡◌, ◌<◌, ◌≤◌, ◌+◌, [], ◌∷◌, ◌++◌, length, IfSome, MatchOption};
+ghost use Rattle.memchr.specs.Find.{IsFirstByte, is_byte};
 ghost use Rattle.scene_text.specs.Split.{Lacks, cut, cut_texts, parted, pieces_left, size_left};
 
 use memchr::memchr;
+
+/// Up to how many bytes a text is short: there a call of memchr costs more than to look at each.
+const SHORT: usize = 64;
+
+// Where the first of these bytes stands.
+#[inline]
+fn first_place(byte: u8, text: &[u8]) -> Option<usize>
+    ensures { IsFirstByte (is_byte byte) text.now result }
+{
+    if text.len() <= SHORT {
+        text.iter().position(|other| *other == byte)
+    } else {
+        memchr(byte, text)
+    }
+}
 
 /// What stands before the first of these bytes in a text, and what follows it. The byte is an ASCII one.
 ///
@@ -20,7 +36,7 @@ pub fn split_at_byte(text: &str, byte: u8) -> Option<(&str, &str)>
     ensures parted { MatchOption result (parted byte text.now ≡ text.now ∷ []) (λ x. parted byte text.now ≡ x.0.now ∷ parted byte x.1.now) }
     ensures shorter { IfSome result (λ x. length x.1.now + 1 ≤ length text.now) }
 {
-    let Some(at) = memchr(byte, text.as_bytes()) else {
+    let Some(at) = first_place(byte, text.as_bytes()) else {
         return None;
     };
     Some((&text[..at], &text[at + 1..]))

@@ -4,7 +4,7 @@ use Rattle.std.specs.Str.{is_utf8}
 use Rattle.std.proofs.lemmas.Bool.{cases_Bool}
 use Rattle.scene_text.specs.Fields.{Place}
 use Rattle.scene_text.specs.Lines.{event_line_fields}
-use Rattle.scene_text.specs.SceneTexts.{is_passed_over, line_said, says_event, word_said, words_said}
+use Rattle.scene_text.specs.SceneTexts.{event_told, is_passed_over, line_said, says_event, word_said, words_said}
 use Rattle.scene_text.specs.Split.{parted}
 use Rattle.scene_text.specs.declared.fault.LineFault.{LineFault}
 use Rattle.scene_text.specs.declared.reader.LineSaid.{LineSaid}
@@ -23,14 +23,14 @@ SaysNone (Ok (said.Config c)) = ⊥
 SaysNone (Ok (said.Event e)) = Unit {0}
 SaysNone (Err f) = Unit {0}
 
-by_event : (r : Result (SceneEvent × Place) LineFault) → SaysNone (says_event r)
+by_event : (r : Result SceneEvent LineFault) → SaysNone (says_event r)
 by_event (Ok x) = tt
 by_event (Err f) = tt
 
 by_word : (config : SceneConfig) (word : List ℕ) (fields : Place) → SaysNone (word_said (behind config) word fields)
 by_word config word fields = elim (cases_Bool (bytes_eq word (codes "config"))) [
   | inl configures ↦ rw configures tt
-  | inr tells ↦ rw tells (by_event (event_line_fields word fields))
+  | inr tells ↦ rw tells (by_event (event_told (event_line_fields word fields)))
 ]
 
 by_line : (config : SceneConfig) (words : List (List ℕ)) → SaysNone (words_said (behind config) words)
