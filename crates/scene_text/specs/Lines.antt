@@ -23,9 +23,20 @@ made make line = do
   x ← line
   says (make x)
 
--- each kind of line that tells an event: its word, and what follows it
-abbrev pub event_rows : List (List ℕ × Line SceneEvent)
-event_rows =
+-- each kind of line that tells an event of a test: its word, and what follows it
+abbrev pub test_event_rows : List (List ℕ × Line SceneEvent)
+test_event_rows =
+    (codes "done", with_attempts done_line_fields)
+    ∷ (codes "start", exactly 5 start_line_fields)
+    ∷ (codes "retrystart", exactly 6 retry_start_line_fields)
+    ∷ (codes "slow", exactly 7 slow_line_fields)
+    ∷ (codes "retry", exactly 15 retry_line_fields)
+    ∷ (codes "skip", exactly 3 skip_line_fields)
+    ∷ []
+
+-- each kind of line that tells another event
+abbrev pub other_event_rows : List (List ℕ × Line SceneEvent)
+other_event_rows =
     (codes "prefix", exactly 2 prefix_line_fields)
     ∷ (codes "header", exactly 5 header_line_fields)
     ∷ (codes "run", exactly 5 run_line_fields)
@@ -33,12 +44,6 @@ event_rows =
     ∷ (codes "setup", exactly 6 setup_line_fields)
     ∷ (codes "setupslow", exactly 6 setup_slow_line_fields)
     ∷ (codes "setupdone", exactly 12 setup_done_line_fields)
-    ∷ (codes "start", exactly 5 start_line_fields)
-    ∷ (codes "retrystart", exactly 6 retry_start_line_fields)
-    ∷ (codes "slow", exactly 7 slow_line_fields)
-    ∷ (codes "retry", exactly 15 retry_line_fields)
-    ∷ (codes "done", with_attempts done_line_fields)
-    ∷ (codes "skip", exactly 3 skip_line_fields)
     ∷ (codes "cancel", exactly 3 (made event.RunBeginCancel cancel_line_fields))
     ∷ (codes "kill", exactly 3 (made event.RunBeginKill cancel_line_fields))
     ∷ (codes "pause", exactly 2 (made event.RunPaused pause_line_fields))
@@ -53,14 +58,17 @@ event_rows =
     ∷ (codes "endstress", exactly 7 end_stress_line_fields)
     ∷ []
 
--- what the fields behind a word say by the first of these rows that has it
-abbrev pub row_said : List (List ℕ × Line SceneEvent) → List ℕ → Line SceneEvent
-row_said [] word fields = Err UnknownEvent
-row_said (row ∷ rows) word fields = if bytes_eq word row.0 then row.1 fields else row_said rows word fields
+-- what the fields behind a word say by the first of these rows that has it, or where none has it
+abbrev pub row_said : List (List ℕ × Line SceneEvent) → Line SceneEvent → List ℕ → Line SceneEvent
+row_said [] otherwise word fields = otherwise fields
+row_said (row ∷ rows) otherwise word fields = if bytes_eq word row.0 then row.1 fields else row_said rows otherwise word fields
+
+unfoldable pub other_event_line_fields : List ℕ → Line SceneEvent
+other_event_line_fields word = row_said other_event_rows (λ _. Err UnknownEvent) word
 
 -- the event that the fields behind a word tell
 unfoldable pub event_line_fields : List ℕ → Line SceneEvent
-event_line_fields word = row_said event_rows word
+event_line_fields word = row_said test_event_rows (other_event_line_fields word) word
 
 -- `config`: a key and its value
 abbrev pub set_field : SceneConfig → ConfigKey → Line SceneConfig

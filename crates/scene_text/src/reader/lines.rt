@@ -2,7 +2,7 @@
 
 ghost use Rattle.std.specs.Prelude.{◌≡◌};
 ghost use Rattle.scene_text.specs.Fields.{answered};
-ghost use Rattle.scene_text.specs.Lines.{config_line_fields, event_line_fields};
+ghost use Rattle.scene_text.specs.Lines.{config_line_fields, event_line_fields, other_event_line_fields};
 ghost use Rattle.scene_text.specs.SceneTexts.{IsSaid, event_told};
 
 use super::fields::Fields;
@@ -37,6 +37,18 @@ pub fn read_event(alloc: Global, word: &str, fields: Fields<'_>) -> Result<Scene
         "slow" => read_slow(alloc, &mut fields.exactly(7)?),
         "retry" => read_retry(alloc, &mut fields.exactly(15)?),
         "skip" => read_skip(alloc, &mut fields.exactly(3)?),
+        word => read_other_event(alloc, word, fields),
+    }
+}
+
+// Reads the fields behind a word that names no event of a test. It stands by itself: a function clears the room of all its values at its
+// start, whichever of them it comes to.
+#[inline(never)]
+#[tactic(auto, unfolding(crate::specs::Lines::other_event_line_fields))]
+fn read_other_event(alloc: Global, word: &str, fields: Fields<'_>) -> Result<SceneEvent, LineError>
+    ensures { IsSaid result (event_told (other_event_line_fields word.now fields.entry)) }
+{
+    match word {
         "prefix" => read_prefix(alloc, &mut fields.exactly(2)?),
         "header" => read_header(alloc, &mut fields.exactly(5)?),
         "run" => read_run(alloc, &mut fields.exactly(5)?),
