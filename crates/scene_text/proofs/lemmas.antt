@@ -3,12 +3,12 @@ pub mod Cuts
 pub mod Days
 pub mod Displays
 pub mod FirstFaults
+pub mod Marks
 pub mod NonZero
 pub mod Numbers
 pub mod Pairs
 pub mod ShortNumbers
 pub mod Silence
-pub mod TabMasks
 pub mod Tabs
 pub mod Tellings
 pub mod Unescaped

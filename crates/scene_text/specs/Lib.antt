@@ -5,6 +5,7 @@ pub mod Fields
 pub mod InfoLines
 pub mod Lines
 pub mod Lists
+pub mod Marks
 pub mod Moments
 pub mod Numbers
 pub mod Outputs
@@ -18,7 +19,6 @@ pub mod ScriptLines
 pub mod Split
 pub mod States
 pub mod StressLines
-pub mod Tabs
 pub mod TestLines
 pub mod Texts
 pub mod Values

@@ -5,8 +5,8 @@
 //! `stress_lines`, `run_lines`, `info_lines` and `replay_lines` what fields the events of tests, of setup scripts, of stress
 //! runs, of the run and of its units' answers have, and the calls of a replay, `moments` when it was, `values` what each field
 //! may hold, `names` names, `counts` the counts of a field that has several, `results` how an attempt ended, `states` what a
-//! unit is doing, `outputs` what it wrote, `lists` lists of words, `fields` how a line is taken apart, `tabs` where its tabs
-//! stand, and `split`, `texts` and `numbers` how those are written.
+//! unit is doing, `outputs` what it wrote, `lists` lists of words, `fields` how a line is taken apart, `marks` where a byte
+//! stands, and `split`, `texts` and `numbers` how those are written.
 
 ghost use Rattle.std.specs.Prelude.{◌≡◌, ◌+◌, ◌++◌, [], length, IfOk, IfErr, OnOk, Ok};
 ghost use Rattle.scene_text.specs.Split.{parted, field_texts};
@@ -17,6 +17,7 @@ mod fields;
 mod info_lines;
 mod lines;
 mod lists;
+mod marks;
 mod moments;
 mod names;
 mod numbers;
@@ -28,7 +29,6 @@ mod script_lines;
 pub mod split;
 mod states;
 mod stress_lines;
-mod tabs;
 mod test_lines;
 mod texts;
 mod values;

@@ -1,4 +1,4 @@
--- Where a text is cut at a byte (for `first_line`, `split_at_byte`, `split_bytes_at`).
+-- Where a text is cut at a byte (for `first_line`, `split_at_byte`).
 use Rattle.std.proofs.Common.{◌≡◌, ℕ, zero, suc, ◌+◌, ◌<◌, ◌≤◌, List, [], ◌∷◌, ◌++◌, Bool, true, false, length, get_or, take, drop, refl, ap, sym, ◌∙◌, ◌==◌, None, Some, arith, inl, inr, add-one}
 use Rattle.std.proofs.Math.Seq.{drop-cons}
 use Rattle.std.proofs.lemmas.List.{take-append-drop}

@@ -4,7 +4,7 @@ ghost use Rattle.std.specs.Prelude.{◌≡◌, ◌+◌, ◌≤◌, ◌%◌, ◌^
 ghost use Rattle.scene_text.specs.Split.{parted, field_texts};
 ghost use Rattle.scene_text.specs.Fields.{IsKeptWhere, Place, ReadsBy, TriesBy, answered, next, taken_text};
 
-use super::tabs::{first_place, tabs_from, without_place};
+use super::marks::{first_place, marks_from, without_place};
 use crate::fault::{LineError, LineFault};
 use run_model::memory::OutOfMemory;
 use std::marker::Model;
@@ -18,7 +18,7 @@ pub fn split_fields<'a>(line: &'a str, fields: &mut Vec<&'a str>) -> Result<(), 
     let mut start = 0;
     let mut from = 0;
     while from < bytes.len() {
-        let mut tabs = tabs_from(bytes, from);
+        let mut tabs = marks_from(b'\t', bytes, from);
         while tabs != 0 {
             let place = first_place(tabs);
             let tab = from + place;

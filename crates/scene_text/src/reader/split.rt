@@ -42,18 +42,6 @@ pub fn split_at_byte(text: &str, byte: u8) -> Option<(&str, &str)>
     Some((&text[..at], &text[at + 1..]))
 }
 
-/// What stands before the first of these bytes, and what follows it.
-#[inline(always)]
-pub fn split_bytes_at(bytes: &[u8], byte: u8) -> Option<(&[u8], &[u8])>
-    ensures parts { MatchOption result (Lacks byte bytes.now) (λ x. Lacks byte x.0.now × (bytes.now ≡ x.0.now ++ (byte ∷ x.1.now))) }
-    ensures shorter { IfSome result (λ x. length x.1.now + 1 ≤ length bytes.now) }
-{
-    let Some(at) = memchr(byte, bytes) else {
-        return None;
-    };
-    Some((&bytes[..at], &bytes[at + 1..]))
-}
-
 /// What stands before the first of these bytes in a text, and what follows it, if it has one. The byte is an ASCII one.
 pub fn first_piece(text: &str, byte: u8) -> (&str, Option<&str>)
     requires { byte < 128 }

@@ -2,7 +2,7 @@ use Rattle.std.proofs.Common.{◌≡◌, ◌++◌, ◌+◌, ◌-◌, ◌≤◌, 
 use Rattle.std.specs.Str.{IsCharBoundary}
 use Rattle.memchr.specs.Find.{is_byte, Nowhere, Passes}
 use Rattle.scene_text.specs.Split.{parted, field_texts}
-use Rattle.scene_text.proofs.lemmas.TabMasks.{AreLeft}
+use Rattle.scene_text.proofs.lemmas.Marks.{AreLeft}
 use Rattle.scene_text.proofs.reader.fields.split_fields.Given as goal
 
 -- the fields so far, and those from the start on, are all
@@ -21,7 +21,7 @@ abbrev pub invariant-loop-tabs : goal.invariant-loop-tabs
 invariant-loop-tabs l = record {
   near : l.start ≤ l.from + 32;
   boundary : IsCharBoundary l.line l.start;
-  left : AreLeft l.line l.start l.from l.tabs;
+  left : AreLeft 9 l.line l.start l.from l.tabs;
   fields : field_texts l.fields.items ++ parted 9 (drop l.start l.line) ≡ parted 9 l.line;
 }
 

@@ -1,6 +1,6 @@
 use Rattle.std.proofs.Common.{arith, w64}
 use Rattle.std.proofs.lemmas.Nat.Bits.{bit_at-trailing_zeros}
-use Rattle.scene_text.proofs.reader.tabs.first_place.Goals as goal
+use Rattle.scene_text.proofs.reader.marks.first_place.Goals as goal
 
 pub returns : goal.returns
 returns c =

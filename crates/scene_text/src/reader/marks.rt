@@ -1,34 +1,35 @@
-//! The tabs of a line, found 32 bytes at a time.
+//! A byte's places in a text, found 32 bytes at a time.
 //!
-//! Tabs stand close together, so that a search for each of them would mostly be its start and its end.
+//! Tabs stand close together in a line, and escapes in an output, so that a call of memchr for each of them would mostly be its start and
+//! its end.
 
 ghost use Rattle.std.specs.Prelude.{◌≡◌, ◌≢◌, ◌+◌, ◌<◌, ◌≤◌, ℕ, length, slice_index};
 ghost use Rattle.std.specs.Int.{bit_at};
-ghost use Rattle.scene_text.specs.Tabs.{MarksTabs};
+ghost use Rattle.scene_text.specs.Marks.{Marks};
 
 use std::simd::prelude::*;
 
-/// The tabs among the 32 bytes from a place on, or among those that are left, each as a bit.
-#[inline]
-pub fn tabs_from(bytes: &[u8], from: usize) -> u64
+/// The places of a byte among the 32 bytes from a place on, or among those that are left, each as a bit.
+#[inline(always)]
+pub fn marks_from(byte: u8, bytes: &[u8], from: usize) -> u64
     requires { from ≤ length bytes.now }
-    ensures { MarksTabs (λ k. slice_index bytes.now (from + k)) result }
+    ensures { Marks byte (λ k. slice_index bytes.now (from + k)) result }
 {
     let rest = &bytes[from..];
     if rest.len() >= 32 {
-        return tabs_of(u8x32::from_slice(rest));
+        return marks_of(byte, u8x32::from_slice(rest));
     }
     let mut block = [0; 32];
     block[..rest.len()].copy_from_slice(rest);
-    tabs_of(u8x32::from_array(block))
+    marks_of(byte, u8x32::from_array(block))
 }
 
-// The tabs of a block.
+// The places of a byte in a block.
 #[inline(always)]
-fn tabs_of(block: u8x32) -> u64
-    ensures { MarksTabs (λ k. slice_index block k) result }
+fn marks_of(byte: u8, block: u8x32) -> u64
+    ensures { Marks byte (λ k. slice_index block k) result }
 {
-    block.simd_eq(u8x32::splat(b'\t')).to_bitmask()
+    block.simd_eq(u8x32::splat(byte)).to_bitmask()
 }
 
 /// The first place whose bit is set.

@@ -3,7 +3,7 @@ use Rattle.std.specs.Int.{bit_not}
 use Rattle.std.proofs.Math.Nat.{two-pow-succ}
 use Rattle.std.proofs.lemmas.Nat.{and-not, and_comm}
 use Rattle.std.proofs.lemmas.Nat.Bits.{bit_at_and, bit_at_clear_other, bit_at_clear_same, and_pow}
-use Rattle.scene_text.proofs.reader.tabs.without_place.Goals as goal
+use Rattle.scene_text.proofs.reader.marks.without_place.Goals as goal
 
 pub returns-clause-cleared : goal.returns-clause-cleared
 returns-clause-cleared c = bit_at_clear_same w64 c.args.mask c.args.place c.requires.bound
