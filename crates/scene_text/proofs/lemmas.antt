@@ -4,6 +4,7 @@ pub mod Days
 pub mod Displays
 pub mod FirstFaults
 pub mod Marks
+pub mod Moves
 pub mod NonZero
 pub mod Numbers
 pub mod Pairs

@@ -1,5 +1,5 @@
 -- The scene that a text spells, or its first fault.
-use Rattle.std.specs.Prelude.{◌≡◌, ℕ, ◌+◌, List, [], ◌∷◌, ◌++◌, Bool, true, false, ◌==◌, nat_lt, bytes_eq, codes, if◌then◌else◌, Option, None, Some, Result, Ok, Err, length, ⊤}
+use Rattle.std.specs.Prelude.{◌≡◌, ℕ, ◌+◌, List, [], ◌∷◌, ◌++◌, Bool, true, false, ◌==◌, nat_lt, bytes_eq, codes, if◌then◌else◌, Result, Ok, Err, length, ⊤}
 use Rattle.std.specs.Str.{is_utf8}
 use Rattle.scene_text.specs.Configs.{unconfigured}
 use Rattle.scene_text.specs.Split.{parted}

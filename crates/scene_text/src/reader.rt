@@ -6,11 +6,11 @@
 //! runs, of the run and of its units' answers have, and the calls of a replay, `moments` when it was, `values` what each field
 //! may hold, `names` names, `counts` the counts of a field that has several, `results` how an attempt ended, `states` what a
 //! unit is doing, `outputs` what it wrote, `lists` lists of words, `fields` how a line is taken apart, `marks` where a byte
-//! stands, and `split`, `texts` and `numbers` how those are written.
+//! stands, `unescape` how a text is decoded in its own memory, and `split`, `texts` and `numbers` how those are written.
 
-ghost use Rattle.std.specs.Prelude.{◌≡◌, ◌+◌, ◌++◌, [], length, IfOk, IfErr, OnOk, Ok};
-ghost use Rattle.scene_text.specs.Split.{parted, field_texts};
-ghost use Rattle.scene_text.specs.SceneTexts.{AllTell, IsAnswer, IsFaultOf, IsFaultHere, IsFaultThere, IsSaid, event_lines, fault_at, is_begun, is_passed_over, line_here, line_said, line_told, lines_told, nothing_told, text_told, told, words_said};
+ghost use Rattle.std.specs.Prelude.{◌≡◌, ◌+◌, ◌++◌, ℕ, List, [], length, IfOk, IfErr, OnOk, Ok};
+ghost use Rattle.scene_text.specs.Split.{parted};
+ghost use Rattle.scene_text.specs.SceneTexts.{AllTell, IsAnswer, IsFaultOf, IsFaultHere, IsFaultThere, IsSaid, event_lines, fault_at, is_begun, is_passed_over, line_here, line_said, line_told, lines_before, lines_told, nothing_told, text_told, told, words_said};
 
 mod counts;
 mod fields;
@@ -22,6 +22,7 @@ mod moments;
 mod names;
 mod numbers;
 mod outputs;
+mod owned_text;
 mod replay_lines;
 mod results;
 mod run_lines;
@@ -31,6 +32,7 @@ mod states;
 mod stress_lines;
 mod test_lines;
 mod texts;
+mod unescape;
 mod values;
 
 use crate::fault::{LineError, LineFault, ReadFault};
@@ -38,8 +40,14 @@ use crate::scene::event::SceneEvent;
 use crate::scene::{SceneConfig, ToldRun};
 use fields::{Fields, split_fields};
 use lines::{read_config, read_event};
+use memchr::memchr;
+use owned_text::OwnedText;
 use split::first_line;
 use std::alloc::Global;
+
+/// How many bytes a line has at least that is to be read with its memory, and an output that keeps that memory: what is shorter is as soon
+/// copied.
+pub const LARGE: usize = 65_536;
 
 /// What a line is read by of the lines before it.
 #[derive(Clone, Copy, Debug)]
@@ -142,6 +150,34 @@ impl LinesRead {
         // No text has so many lines.
         Err(ReadFault::OutOfMemory)
     }
+
+    /// Reads the lines of a text as `read_more` does. A line that stands alone there gives its memory to a large output in it, which
+    /// is decoded where it stands.
+    ///
+    /// ```
+    /// let text = Vec::from_slice(alloc, b"config\tfinal\tall")?;
+    /// let read = LinesRead::new(alloc).read_owned(alloc, text)?;
+    /// assert_eq!(read.run.config.final_status_level, FinalStatusLevel::All);
+    /// ```
+    pub fn read_owned(self, alloc: Global, text: Vec<u8>) -> Result<LinesRead, ReadFault>
+        ensures told { IfOk result (λ read. lines_told self.next (told self.run) (parted 10 text.items) ≡ Ok (told read.run)) }
+        ensures lines { IfOk result (λ read. read.run.lines.items ≡ self.run.lines.items ++ event_lines self.next (told self.run) (parted 10 text.items)) }
+        ensures next { IfOk result (λ read. read.next ≡ self.next + length (parted 10 text.items)) }
+        ensures fault { IfErr result (IsFaultThere (lines_told self.next (told self.run) (parted 10 text.items))) }
+    {
+        if memchr(b'\n', text.as_slice()).is_some() || self.next == u64::MAX {
+            return self.read_more(alloc, text.as_slice());
+        }
+        let LinesRead { mut run, next } = self;
+        let said = read_owned_line(alloc, text, before_next(&run));
+        match note_said(next, said, &mut run) {
+            Ok(()) => Ok(LinesRead {
+                run,
+                next: next + 1,
+            }),
+            Err(fault) => Err(fault),
+        }
+    }
 }
 
 // Reads the line of this number into the scene, and notes the number where the line tells an event.
@@ -158,11 +194,34 @@ fn read_numbered<'a>(
     ensures lines { OnOk result (scene.new.lines.items ≡ scene.old.lines.items ++ line_here number (told scene.old) (told scene.new)) }
     ensures err { IfErr result (IsFaultHere number (line_told (told scene.old) line.now)) }
 {
-    let before = LinesBefore {
+    let said = read_split(alloc, line, fields, before_next(scene));
+    note_said(number, said, scene)
+}
+
+// What the next line is read by.
+#[inline(always)]
+fn before_next(scene: &ToldRun) -> LinesBefore
+    ensures { result ≡ lines_before (told scene.now) }
+{
+    LinesBefore {
         config: scene.config,
         is_begun: is_begun(scene.events.as_slice()),
-    };
-    match read_split(alloc, line, fields, before) {
+    }
+}
+
+// Notes what the line of this number said, and the number where the line tells an event.
+#[inline(always)]
+#[tactic(auto, unfolding(crate::specs::SceneTexts::line_told), using(std::proofs::lemmas::Bool::Decides::nat_tests))]
+fn note_said(
+    number: u64,
+    said: Result<LineSaid, LineError>,
+    scene: &mut ToldRun,
+) -> Result<(), ReadFault>
+    ensures ok { (line : List ℕ) → IsSaid said (line_said (lines_before (told scene.old)) line) → OnOk result (line_told (told scene.old) line ≡ Ok (told scene.new)) }
+    ensures lines { OnOk result (scene.new.lines.items ≡ scene.old.lines.items ++ line_here number (told scene.old) (told scene.new)) }
+    ensures err { (line : List ℕ) → IsSaid said (line_said (lines_before (told scene.old)) line) → IfErr result (IsFaultHere number (line_told (told scene.old) line)) }
+{
+    match said {
         Ok(LineSaid::Nothing) => {}
         Ok(LineSaid::Config(config)) => scene.config = config,
         Ok(LineSaid::Event(event)) => {
@@ -224,7 +283,22 @@ fn read_split<'a>(
         return Err(LineError::Fault(LineFault::NotUtf8));
     };
     split_fields(line, fields)?;
-    read_words(alloc, fields.as_slice(), before)
+    read_fields(alloc, Fields::new(fields.as_slice()), before)
+}
+
+// Reads a line that has its own memory, behind lines that tell this.
+#[tactic(auto, unfolding(crate::specs::SceneTexts::line_said))]
+fn read_owned_line(alloc: Global, line: Vec<u8>, before: LinesBefore) -> Result<LineSaid, LineError>
+    ensures { IsSaid result (line_said before line.items) }
+{
+    if is_passed_over(line.as_slice()) {
+        return Ok(LineSaid::Nothing);
+    }
+    let Some(line) = OwnedText::new(line) else {
+        return Err(LineError::Fault(LineFault::NotUtf8));
+    };
+    let mut fields = line.split_fields(alloc)?;
+    read_fields(alloc, Fields::of_large_line(fields.as_mut_slice()), before)
 }
 
 // Whether a line is empty, or begins with `#`.
@@ -236,10 +310,15 @@ fn is_passed_over(line: &[u8]) -> bool
 
 // Reads a line that was split into its fields.
 #[inline(always)]
-fn read_words(alloc: Global, words: &[&str], before: LinesBefore) -> Result<LineSaid, LineError>
-    ensures { IsSaid result (words_said before (field_texts words.now)) }
+fn read_fields(
+    alloc: Global,
+    fields: Fields<'_>,
+    before: LinesBefore,
+) -> Result<LineSaid, LineError>
+    requires { fields.number ≡ 0 }
+    ensures { IsSaid result (words_said before fields.entry.left) }
 {
-    let mut fields = Fields::new(words);
+    let mut fields = fields;
     match fields.take()? {
         "config" if before.is_begun => Err(LineError::Fault(LineFault::ConfigAfterEvent)),
         "config" => Ok(LineSaid::Config(read_config(&mut fields.exactly(2)?, before.config)?)),

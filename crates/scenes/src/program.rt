@@ -3,7 +3,7 @@
 //! A scene is read, then judged, and then reported. Judging has no device in its hands, and a report takes what judging gives, so no byte
 //! comes out before a scene is judged, and none of a scene that is refused.
 
-ghost use Rattle.std.specs.Prelude.{◌≡◌, ◌⊎◌, ℕ, List, [], Option, None, Some, IfOk, IfErr, OnErr, OnOk};
+ghost use Rattle.std.specs.Prelude.{◌≡◌, ◌⊎◌, ◌+◌, ◌++◌, ℕ, List, [], length, Option, None, Some, Ok, IfOk, IfErr, OnErr, OnOk};
 ghost use Rattle.scenes.specs.declared.fault.Fault.{Fault};
 ghost use Rattle.scene_text.specs.Split.{parted};
 ghost use Rattle.scenes.specs.Faults.{IsJudgeFault};
@@ -14,7 +14,7 @@ ghost use Rattle.plain_text.specs.StringWriter.{string_meaning};
 ghost use Rattle.scenes.specs.Follow.{BreaksTold, HasToldTo};
 ghost use Rattle.scenes.specs.Judged.{IsJudged, IsJudgedFault, IsSceneAccepted, IsSceneRefused, JudgesEvent, fault_of_refusal};
 ghost use Rattle.scenes.specs.Reports.{configuration_for, fault_for, store_for};
-ghost use Rattle.scene_text.specs.SceneTexts.{AllTell, event_lines, nothing_told, text_told};
+ghost use Rattle.scene_text.specs.SceneTexts.{AllTell, IsFaultThere, event_lines, lines_told, nothing_told, text_told, told};
 ghost use Rattle.scenes.specs.SpelledRuns.{BeginsReport, BeginsRun, IsRejected, PrintsReport, PrintsRun};
 ghost use Rattle.scene_text.specs.Scenes.{IsCallOf};
 ghost use Rattle.scenes.specs.Unloads.{IsReadyCall};
@@ -29,10 +29,12 @@ use crate::words::Options;
 use console_reporter::imp::{DisplayReporter, OutputLoadDecider, ReportCall, WriteEventError};
 use console_reporter::write_str::{TextBuffer, WriteStr};
 use run_model::memory::OutOfMemory;
-use scene_text::reader::LinesRead;
+use scene_text::fault::ReadFault;
+use scene_text::reader::{LARGE, LinesRead};
 use std::alloc::{AllocError, Global};
 use std::io::{BufReader, Read, Write};
 use std::marker::Model;
+use std::mem;
 use store_text::config::StoreConfig;
 
 // How many bytes are read of a file at once.
@@ -109,12 +111,25 @@ pub fn read_whole<'a, R: Read + Drop>(
             }
             Err(fault) => return Err(fault),
         }
-        read = match read.read_more(alloc, piece.as_slice()) {
+        read = match read_piece(alloc, read, &mut piece) {
             Ok(more) => more,
             Err(fault) => return Err(Fault::from(fault)),
         };
     }
     Err(Fault::CannotRead { file: options.file })
+}
+
+// Reads the lines of a piece. A large one is a line by itself, which gives up its memory to the output that it holds.
+fn read_piece(alloc: Global, read: LinesRead, piece: &mut Vec<u8>) -> Result<LinesRead, ReadFault>
+    ensures told { IfOk result (λ more. lines_told read.next (told read.run) (parted 10 piece.old.items) ≡ Ok (told more.run)) }
+    ensures lines { IfOk result (λ more. more.run.lines.items ≡ read.run.lines.items ++ event_lines read.next (told read.run) (parted 10 piece.old.items)) }
+    ensures next { IfOk result (λ more. more.next ≡ read.next + length (parted 10 piece.old.items)) }
+    ensures fault { IfErr result (IsFaultThere (lines_told read.next (told read.run) (parted 10 piece.old.items))) }
+{
+    if piece.len() < LARGE {
+        return read.read_more(alloc, piece.as_slice());
+    }
+    read.read_owned(alloc, mem::replace(piece, Vec::new(alloc)))
 }
 
 /// Judges a scene that was read by what its reporter would refuse: what can be reported is a scene that was judged so.

@@ -2,6 +2,7 @@
 //! which is refused then: a test answers that, and panics where the text is no beginning of its report.
 
 use super::faults::{ASKED, CANCELLED, OF_ASKED, OF_CANCELLED, run_over, run_to};
+use super::pieces::large_line;
 use super::{OF_TWO_TESTS, OPTIONS, TWO_TESTS, report_and_store, scene_of};
 use console_reporter::imp::{ReportCall, RunFault, WriteEventError};
 use scenes::fault::Fault;
@@ -103,6 +104,19 @@ fn a_scene_from_its_text_to_its_report(rt: HostRuntime) -> Result<(), Fail> {
         outcome?;
     }
     Ok(())
+}
+
+#[test]
+fn a_large_output_that_keeps_its_memory(rt: HostRuntime) -> Result<(), Fail> {
+    let alloc = rt.alloc();
+    let line = large_line(alloc, ("split\t", "\t\t-\t-"), "y\\n", "")?;
+    match scene_of(alloc, line.as_str()) {
+        Ok(_) => Ok(()),
+        Err(fault) => {
+            assert!(rt; is_out_of_memory(&fault));
+            Err(Fail::from("memory was refused"))
+        }
+    }
 }
 
 #[test]

@@ -1,10 +1,11 @@
--- Where a text is cut at a byte (for `first_line`, `split_at_byte`).
-use Rattle.std.proofs.Common.{◌≡◌, ℕ, zero, suc, ◌+◌, ◌<◌, ◌≤◌, List, [], ◌∷◌, ◌++◌, Bool, true, false, length, get_or, take, drop, refl, ap, sym, ◌∙◌, ◌==◌, None, Some, arith, inl, inr, add-one}
+-- Where a text is cut at a byte (for `first_line`, `split_at_byte`, `split_fields`, `read_owned`).
+use Rattle.std.proofs.Common.{◌≡◌, ℕ, zero, suc, ◌+◌, ◌<◌, ◌≤◌, List, [], ◌∷◌, ◌++◌, Bool, true, false, length, get_or, take, drop, refl, ap, sym, ◌∙◌, ◌==◌, Option, None, Some, subst, arith, inl, inr, add-one}
 use Rattle.std.proofs.Math.Seq.{drop-cons}
 use Rattle.std.proofs.lemmas.List.{take-append-drop}
 use Rattle.std.proofs.lemmas.Bool.{cases_Bool}
 use Rattle.std.proofs.lemmas.Bool.Decides.{nat_tests}
-use Rattle.memchr.specs.Find.{is_byte, Nowhere, NoneBefore, Passes}
+use Rattle.memchr.specs.Find.{IsFirstByte, is_byte, Nowhere, NoneBefore, Passes}
+use Rattle.std.specs.Option.{is_some}
 use Rattle.scene_text.specs.Split.{Lacks, parted, cut}
 
 is_false : (x : Bool) → ¬ (x ≡ true) → x ≡ false
@@ -16,7 +17,7 @@ Lacks-from_each b [] h = tt
 Lacks-from_each b (c ∷ t) h = (is_false (c == b) (h 0 (omega arith) (omega arith)), Lacks-from_each b t (λ k l m. h (suc k) (omega arith) (omega arith)))
 
 -- none up to a place has it
-Lacks-take : (b : ℕ) (t : List ℕ) (n : ℕ) → n ≤ length t → Nowhere (Passes (is_byte b) t) 0 n → Lacks b (take n t)
+pub Lacks-take : (b : ℕ) (t : List ℕ) (n : ℕ) → n ≤ length t → Nowhere (Passes (is_byte b) t) 0 n → Lacks b (take n t)
 Lacks-take b t zero l h = tt
 Lacks-take b [] (suc n) l h = tt
 Lacks-take b (c ∷ t) (suc n) l h = (is_false (c == b) (h 0 (omega arith) (omega arith)), Lacks-take b t n (omega arith) (λ k p m. h (suc k) (omega arith) (omega arith)))
@@ -34,6 +35,11 @@ pub parted-lacks : (b : ℕ) (t : List ℕ) → Lacks b t → parted b t ≡ t �
 unfolding parted
 parted-lacks b [] h = refl
 parted-lacks b (c ∷ t) h = let e = parted-lacks b t h.1 in rw (h.0, e) refl
+
+-- and so is one in which no such byte was found
+pub parted-missed : (b : ℕ) (hay t : List ℕ) (found : Option ℕ) → hay ≡ t → is_some found ≡ false → IsFirstByte (is_byte b) hay found → parted b t ≡ t ∷ []
+parted-missed b hay t None same none missed = subst (λ u. parted b u ≡ u ∷ []) same (parted-lacks b hay (Lacks-from_each b hay missed))
+parted-missed b hay t (Some k) same none found = cc
 
 is_itself : (b : ℕ) → (b == b) ≡ true
 is_itself b = grind (arith, nat_tests)

@@ -1,4 +1,4 @@
--- The places of a byte in a block as the bits of its mask (for `marks_from`, `marks_of`, `read_bytes`, `split_fields`).
+-- The places of a byte in a block as the bits of its mask (for `block_from`, `marks_from`, `marks_of`, `plain_len`, `read_bytes`, `split_fields`).
 use Rattle.std.proofs.Common.{◌≡◌, ℕ, ◌+◌, ◌<◌, ◌≤◌, List, Bool, true, false, cond, length, get_or, drop, map, refl, ap, sym, ◌++◌, ◌-◌, take, replicate, ◌∙◌, length-drop, ◌≢◌, subst, arith, inl, inr}
 use Rattle.std.specs.Int.{bit_at}
 use Rattle.std.specs.Simd.Lanes.{chunk, mask_l}
@@ -57,7 +57,8 @@ marked_alike b f g mask same h = record {
 }
 
 module _ (t : List ℕ) (from : ℕ) where
-  rest_is : take (length t - from) (drop from t) ≡ drop from t
+  -- the part from a place to the end
+  pub rest_is : take (length t - from) (drop from t) ≡ drop from t
   rest_is = ap (λ n. take n (drop from t)) (sym (length-drop from t)) ∙ take-length (drop from t)
 
   rest_at : (k : ℕ) → get_or (take (length t - from) (drop from t)) k 0 ≡ get_or t (from + k) 0

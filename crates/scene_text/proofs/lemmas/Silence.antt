@@ -21,6 +21,12 @@ says_nothing n rest result = refl
 place_by : (p : Place) (n : ℕ) (left : List (List ℕ)) → n ≡ p.number → left ≡ p.left → record { number = n; left = left } ≡ place p
 place_by p n left e f = rw (e, f) refl
 
+-- where the first of all fields begin so, all do
+pub silent_first : (all front rest : List (List ℕ)) → all ≡ front ++ rest → front ≡ silent_fields ++ drop 5 front → all ≡ silent_fields ++ drop 5 all
+silent_first all front rest whole silent =
+    let begins : all ≡ silent_fields ++ (drop 5 front ++ rest) = whole ∙ ap (λ ts. ts ++ rest) silent in
+    begins ∙ ap (λ ts. silent_fields ++ ts) (sym (ap (drop 5) begins))
+
 pub silence_by : (old new : Place) → old.left ≡ silent_fields ++ drop 5 old.left → new.number ≡ old.number + 5 → new.left ≡ drop 5 old.left → TakesSilence true old new
 silence_by old new whole number left = λ result.
     let at : place old ≡ record { number = old.number; left = silent_fields ++ drop 5 old.left } = ap (λ (l : List (List ℕ)). place (record { number = old.number; left = l })) whole in

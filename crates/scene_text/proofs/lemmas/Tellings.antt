@@ -1,4 +1,4 @@
--- Telling line by line, as a loop does (for `LinesRead::read_more`).
+-- Telling line by line, as a loop does (for `LinesRead::read_more`, `LinesRead::read_owned`).
 use Rattle.std.proofs.Common.{◌≡◌, ℕ, ◌+◌, List, [], ◌∷◌, ◌++◌, Result, Ok, Err, sym, ap, ◌∙◌, append_assoc, append-nil}
 use Rattle.scene_text.specs.SceneTexts.{Told, event_lines, line_here, line_told, lines_told, IsFaultHere, IsFaultThere}
 use Rattle.scene_text.specs.declared.fault.LineFault.{LineFault}

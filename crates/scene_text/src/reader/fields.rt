@@ -1,13 +1,19 @@
 //! A line of a scene, taken apart from left to right.
 
-ghost use Rattle.std.specs.Prelude.{◌≡◌, ◌+◌, ◌≤◌, ◌%◌, ◌^◌, ◌==◌, ◌&&◌, OnOk, drop, length, nat_le, Ok};
+ghost use Rattle.std.specs.Prelude.{◌≡◌, ◌+◌, ◌++◌, ◌≤◌, ◌%◌, ◌^◌, ◌==◌, ◌&&◌, [], ◌∷◌, MatchOption, MatchResult, OnOk, drop, length, nat_le, Ok};
 ghost use Rattle.scene_text.specs.Split.{parted, field_texts};
+ghost use Rattle.scene_text.specs.declared.fault.LineFault.{LineFault};
 ghost use Rattle.scene_text.specs.Fields.{IsKeptWhere, Place, ReadsBy, TriesBy, answered, next, taken_text};
 
+use super::LARGE;
 use super::marks::{first_place, marks_from, without_place};
+use super::owned_text::OwnedText;
 use crate::fault::{LineError, LineFault};
+use bytes::BytesMut;
 use run_model::memory::OutOfMemory;
+use std::alloc::Global;
 use std::marker::Model;
+use std::mem;
 
 /// Splits a line into its fields, which tabs separate. They take the place of what the list held.
 pub fn split_fields<'a>(line: &'a str, fields: &mut Vec<&'a str>) -> Result<(), OutOfMemory>
@@ -36,14 +42,16 @@ pub fn split_fields<'a>(line: &'a str, fields: &mut Vec<&'a str>) -> Result<(), 
 #[derive(Debug, Drop)]
 pub struct Fields<'a> {
     left: &'a [&'a str],
+    // The fields of a large line. There are none behind fields that are borrowed.
+    owned: &'a mut [OwnedText],
     number: usize,
-    ghost counted: { number + length left.now ≤ 2 ^ 63 },
+    ghost counted: { number + length left.now + length owned.now ≤ 2 ^ 63 },
 }
 
 impl<'a> Model for Fields<'a> {
     ghost Value = { Place };
 
-    ghost view = { λ f. record { number = f.number; left = field_texts f.left.now } };
+    ghost view = { λ f. record { number = f.number; left = field_texts f.left.now ++ f.owned.now } };
 }
 
 impl<'a> Fields<'a> {
@@ -53,6 +61,18 @@ impl<'a> Fields<'a> {
     {
         Fields {
             left: fields,
+            owned: &mut [],
+            number: 0,
+        }
+    }
+
+    /// The fields of a large line, none of them taken.
+    pub fn of_large_line(fields: &'a mut [OwnedText]) -> Fields<'a>
+        ensures { result ≡ record { number = 0; left = fields.old } }
+    {
+        Fields {
+            left: &[],
+            owned: fields,
             number: 0,
         }
     }
@@ -61,7 +81,7 @@ impl<'a> Fields<'a> {
     pub fn exactly(self, count: usize) -> Result<Fields<'a>, LineFault>
         ensures { IsKeptWhere (length self.entry.left == count) self.entry result }
     {
-        if self.left.len() != count {
+        if self.len() != count {
             return Err(LineFault::WrongNumberOfFields);
         }
         Ok(self)
@@ -71,7 +91,7 @@ impl<'a> Fields<'a> {
     pub fn with_attempts(self) -> Result<Fields<'a>, LineFault>
         ensures { IsKeptWhere (nat_le 16 (length self.entry.left) && (length self.entry.left % 8 == 0)) self.entry result }
     {
-        let count = self.left.len();
+        let count = self.len();
         if count < 16 || count % 8 != 0 {
             return Err(LineFault::WrongNumberOfFields);
         }
@@ -82,12 +102,12 @@ impl<'a> Fields<'a> {
     pub fn len(&self) -> usize
         ensures { result ≡ length self.now.left }
     {
-        self.left.len()
+        self.left.len() + self.owned.len()
     }
 
-    /// The fields that are left to take.
-    pub fn left(&self) -> &'a [&'a str]
-        ensures { field_texts result.now ≡ self.now.left }
+    /// The fields that are left to take, up to those that have memory of their own.
+    pub fn borrowed(&self) -> &'a [&'a str]
+        ensures { self.now.left ≡ field_texts result.now ++ drop (length result.now) self.now.left }
     {
         self.left
     }
@@ -98,7 +118,10 @@ impl<'a> Fields<'a> {
         ensures number { self.new.number ≡ self.old.number + count }
         ensures left { self.new.left ≡ drop count self.old.left }
     {
-        self.left = &self.left[count..];
+        let here = count.min(self.left.len());
+        self.left = &self.left[here..];
+        let owned = mem::take(&mut self.owned);
+        self.owned = &mut owned[count - here..];
         self.number += count;
     }
 
@@ -107,11 +130,43 @@ impl<'a> Fields<'a> {
         ensures { next self.old ≡ answered (taken_text result) self.new }
     {
         let [field, left @ ..] = self.left else {
-            return Err(LineFault::WrongNumberOfFields);
+            let (field, owned) = first_text(mem::take(&mut self.owned))?;
+            self.owned = owned;
+            self.number += 1;
+            return Ok(field);
         };
         self.left = left;
         self.number += 1;
         Ok(field)
+    }
+
+    /// Takes the memory of the next field, if that is a large one of a large line.
+    pub fn take_memory(&mut self, alloc: Global) -> Option<BytesMut>
+        ensures { MatchOption result (self.new ≡ self.old) (λ memory. (next self.old ≡ Ok (memory.items, self.new)) × (2 ≤ length memory.items)) }
+    {
+        if !self.left.is_empty() {
+            return None;
+        }
+        let owned = mem::take(&mut self.owned);
+        let is_large = match owned.first() {
+            Some(field) => field.len() >= LARGE,
+            None => false,
+        };
+        if !is_large {
+            self.owned = owned;
+            return None;
+        }
+        let (field, left) = owned.split_first_mut()?;
+        self.owned = left;
+        self.number += 1;
+        Some(mem::replace(field, OwnedText::empty(alloc)).into_memory())
+    }
+
+    /// The fault of the field that was taken last.
+    pub fn bad_field(&self) -> LineFault
+        ensures { result ≡ LineFault.BadField self.now.number }
+    {
+        LineFault::BadField(self.number)
     }
 
     /// Takes a field, and reads it by a function that answers None where the field is a bad one.
@@ -142,5 +197,16 @@ impl<'a> Fields<'a> {
             Some(value) => Ok(value),
             None => Err(LineError::Fault(LineFault::BadField(self.number))),
         }
+    }
+}
+
+// The first of these texts, and the others.
+#[cold]
+fn first_text(texts: &mut [OwnedText]) -> Result<(&str, &mut [OwnedText]), LineFault>
+    ensures { MatchResult result (λ parts. texts.old ≡ parts.0.now ∷ parts.1.now) (λ fault. (texts.old ≡ []) × (fault ≡ LineFault.WrongNumberOfFields)) }
+{
+    match texts.split_first_mut() {
+        Some((text, rest)) => Ok((text.as_str(), rest)),
+        None => Err(LineFault::WrongNumberOfFields),
     }
 }

@@ -15,18 +15,27 @@ pub fn marks_from(byte: u8, bytes: &[u8], from: usize) -> u64
     requires { from ≤ length bytes.now }
     ensures { Marks byte (λ k. slice_index bytes.now (from + k)) result }
 {
+    marks_of(byte, block_from(bytes, from))
+}
+
+/// The 32 bytes from a place on, or those that are left and zeros after them.
+#[inline(always)]
+pub fn block_from(bytes: &[u8], from: usize) -> u8x32
+    requires { from ≤ length bytes.now }
+    ensures { (k : ℕ) → k < 32 → slice_index result k ≡ slice_index bytes.now (from + k) }
+{
     let rest = &bytes[from..];
     if rest.len() >= 32 {
-        return marks_of(byte, u8x32::from_slice(rest));
+        return u8x32::from_slice(rest);
     }
     let mut block = [0; 32];
     block[..rest.len()].copy_from_slice(rest);
-    marks_of(byte, u8x32::from_array(block))
+    u8x32::from_array(block)
 }
 
-// The places of a byte in a block.
+/// The places of a byte in a block.
 #[inline(always)]
-fn marks_of(byte: u8, block: u8x32) -> u64
+pub fn marks_of(byte: u8, block: u8x32) -> u64
     ensures { Marks byte (λ k. slice_index block k) result }
 {
     block.simd_eq(u8x32::splat(byte)).to_bitmask()

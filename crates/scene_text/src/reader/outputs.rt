@@ -6,7 +6,7 @@
 ghost use Rattle.std.specs.Prelude.{◌≡◌, ◌++◌, drop, IsTrue, IfOk};
 ghost use Rattle.std.specs.Option.{option_copied};
 ghost use Rattle.scene_text.specs.Split.{field_texts};
-ghost use Rattle.scene_text.specs.Fields.{Gives};
+ghost use Rattle.scene_text.specs.Fields.{Gives, field};
 ghost use Rattle.scene_text.specs.Lists.{errors_in};
 ghost use Rattle.scene_text.specs.Outputs.{after_streams, highlight_in, highlight_stream_in, output_fields, output_form_in, silent_fields, stream_in, TakesSilence};
 ghost use Rattle.scene_text.specs.Texts.{bytes_in};
@@ -16,9 +16,10 @@ use super::lists::read_chain;
 use super::numbers::read_count;
 use super::split::split_at_byte;
 use super::texts::read_bytes;
+use super::unescape::unescape_in_place;
 use super::values::read_absent;
 use crate::fault::LineError;
-use bytes::Bytes;
+use bytes::{Bytes, BytesMut};
 use run_model::boxed::Boxed;
 use run_model::memory::OutOfMemory;
 use run_model::output::{
@@ -65,13 +66,13 @@ pub fn read_output(
 {
     match fields.read(read_output_form)? {
         OutputForm::Split => {
-            let stdout = fields.try_read(|field| read_stream(alloc, field))?;
-            let stderr = fields.try_read(|field| read_stream(alloc, field))?;
+            let stdout = take_stream(alloc, fields)?;
+            let stderr = take_stream(alloc, fields)?;
             let output = ChildOutputDescription::Split { stdout, stderr };
             read_after_streams(alloc, fields, outcome, output)
         }
         OutputForm::Combined => {
-            let output = fields.try_read(|field| read_single(alloc, field))?;
+            let output = take_single(alloc, fields)?;
             fields.read(read_absent)?;
             let output = ChildOutputDescription::Combined { output };
             read_after_streams(alloc, fields, outcome, output)
@@ -95,7 +96,7 @@ pub fn read_output(
 pub fn take_silence(fields: &mut Fields<'_>) -> bool
     ensures { TakesSilence result fields.old fields.new }
 {
-    if !is_silence(fields.left()) {
+    if !is_silence(fields.borrowed()) {
         return false;
     }
     fields.pass(5);
@@ -138,6 +139,47 @@ fn read_after_streams(
         errors,
         highlight,
     })
+}
+
+// Takes a stream's bytes, or `-` where it was not captured.
+fn take_stream(
+    alloc: Global,
+    fields: &mut Fields<'_>,
+) -> Result<Option<ChildSingleOutput>, LineError>
+    ensures { Gives (λ stream. stream) fields.old result fields.new (field stream_in) }
+{
+    match fields.take_memory(alloc) {
+        Some(memory) => match decode(alloc, memory)? {
+            Some(output) => Ok(Some(output)),
+            None => Err(LineError::Fault(fields.bad_field())),
+        },
+        None => fields.try_read(|text| read_stream(alloc, text)),
+    }
+}
+
+// Takes the bytes of both streams together.
+fn take_single(alloc: Global, fields: &mut Fields<'_>) -> Result<ChildSingleOutput, LineError>
+    ensures { Gives (λ output. output) fields.old result fields.new (field bytes_in) }
+{
+    match fields.take_memory(alloc) {
+        Some(memory) => match decode(alloc, memory)? {
+            Some(output) => Ok(output),
+            None => Err(LineError::Fault(fields.bad_field())),
+        },
+        None => fields.try_read(|text| read_single(alloc, text)),
+    }
+}
+
+// Decodes the bytes of one stream, or of both together, in the memory of their field.
+fn decode(alloc: Global, field: BytesMut) -> Result<Option<ChildSingleOutput>, OutOfMemory>
+    ensures { IfOk result (λ output. output ≡ bytes_in field.items) }
+{
+    let mut bytes = field;
+    let Some(len) = unescape_in_place(bytes.as_mut_slice()) else {
+        return Ok(None);
+    };
+    bytes.truncate(len);
+    Ok(Some(ChildSingleOutput::new(alloc, bytes.freeze()?)?))
 }
 
 // Reads a stream's bytes, or `-` where it was not captured.

@@ -96,9 +96,9 @@ fn read_escape(escape: &str, most: u8) -> Option<(u8, &str)>
     Some((byte, &escape[len..]))
 }
 
-// What an escape gives, without its backslash, and how many bytes it has.
+/// What an escape gives, without its backslash, and how many bytes it has.
 #[inline(always)]
-fn escape_at(escape: &[u8], most: u8) -> Option<(u8, usize)>
+pub fn escape_at(escape: &[u8], most: u8) -> Option<(u8, usize)>
     ensures byte { option_map (λ x. x.0) result ≡ escape_byte most escape.now }
     ensures len { IfSome result (λ x. (x.1 ≡ escape_len escape.now) × (1 ≤ x.1) × (x.1 ≤ length escape.now) × (slice_index escape.now (x.1 - 1) < 128)) }
 {

@@ -1,14 +1,10 @@
-use Rattle.std.proofs.Common.{◌≡◌, ◌+◌, ◌-◌, take, drop, length, sym, ap, ◌∙◌, length-drop, arith, ℕ, List}
-use Rattle.std.proofs.Math.Seq.{take-length}
+use Rattle.std.proofs.Common.{◌≡◌, ◌+◌, drop, length, sym, ap, ◌∙◌, length-drop, arith}
 use Rattle.std.proofs.lemmas.List.{drop-drop}
 use Rattle.scene_text.specs.Texts.{escape_byte, escape_len}
-use Rattle.scene_text.proofs.lemmas.Marks.{all_known, fewer_known, next_known, none_known}
+use Rattle.scene_text.proofs.lemmas.Marks.{all_known, fewer_known, next_known, none_known, rest_is}
 use Rattle.scene_text.proofs.lemmas.Tabs.{cut_here, lacks_here}
 use Rattle.scene_text.proofs.lemmas.Unescaped.{read_escape_next, read_bad_escape, read_to_end}
 use Rattle.scene_text.proofs.reader.texts.read_bytes.Goals as goal
-
-to_end : (t : List ℕ) (n : ℕ) → take (length t - n) (drop n t) ≡ drop n t
-to_end t n = ap (λ m. take m (drop n t)) (sym (length-drop n t)) ∙ take-length (drop n t)
 
 pub loop-marks-init : goal.loop-marks-init
 loop-marks-init c = record { within = c.loop-from.invariant.within; known = all_known 92 _ _ _ _ c.loop-from.invariant.seen c.marks_from-marks.ensures; read = c.loop-from.invariant.read }
@@ -24,7 +20,7 @@ returns-in_default c =
     let place = c.loop-from.from + c.first_place-place.result in
     let next = next_known 92 t _ _ _ so_far.known _ first.set first.below (omega arith) (omega (arith, c.if-escape-start.false)) in
     let cut = cut_here 92 t c.loop-marks.start so_far.within place next in
-    sym (read_bad_escape 255 _ _ _ so_far.read _ (drop (place + 1) t) cut.1 cut.0 (ap (λ u. escape_byte 255 u) (sym (to_end t (place + 1))) ∙ sym c.in_default.ensures.byte))
+    sym (read_bad_escape 255 _ _ _ so_far.read _ (drop (place + 1) t) cut.1 cut.0 (ap (λ u. escape_byte 255 u) (sym (rest_is t (place + 1))) ∙ sym c.in_default.ensures.byte))
 
 pub loop-marks-preserved : goal.loop-marks-preserved
 loop-marks-preserved c =
@@ -35,7 +31,7 @@ loop-marks-preserved c =
     let place = c.loop-from.from + c.first_place-place.result in
     let next = next_known 92 t _ _ _ so_far.known _ first.set first.below (omega arith) (omega (arith, c.if-escape-start.false)) in
     let cut = cut_here 92 t c.loop-marks.start so_far.within place next in
-    let back = to_end t (place + 1) in
+    let back = rest_is t (place + 1) in
     let escaped = c.in-Some.ensures in
     let gives = ap (λ u. escape_byte 255 u) (sym back) ∙ sym escaped.byte in
     let long : c.in-Some.len ≡ escape_len (drop (place + 1) t) = escaped.len.0 ∙ ap (λ u. escape_len u) back in
@@ -51,4 +47,4 @@ returns c =
     let t = c.as_bytes-field.result.now in
     let so_far = c.loop-from.invariant in
     let lacks = lacks_here 92 t c.loop-from.start so_far.within (λ k low high p. so_far.seen k low (omega arith) p) in
-    rw (c.in_ok-extend_from_slice-2.ensures.items, to_end t c.loop-from.start) (sym (read_to_end 255 _ _ _ so_far.read lacks))
+    rw (c.in_ok-extend_from_slice-2.ensures.items, rest_is t c.loop-from.start) (sym (read_to_end 255 _ _ _ so_far.read lacks))
