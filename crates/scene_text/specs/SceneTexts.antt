@@ -84,6 +84,10 @@ abbrev pub told_with : Told → Result LineSaid LineFault → Result Told LineFa
 told_with before (Ok s) = Ok (with_said before s)
 told_with before (Err f) = Err f
 
+-- what is told after these fields of a line, or what is wrong with them
+abbrev pub words_told : Told → List (List ℕ) → Result Told LineFault
+words_told before words = told_with before (words_said (lines_before before) words)
+
 -- what is told after a line, or what is wrong with it
 unfoldable pub line_told : Told → List ℕ → Result Told LineFault
 line_told before t = told_with before (line_said (lines_before before) t)
@@ -124,6 +128,11 @@ IsAnswer (Err fault.OutOfMemory) read = ⊤
 abbrev pub IsSaid : {X : Type 0} → Result X LineError → Result X LineFault → Type 0
 IsSaid (Ok s) read = read ≡ Ok s
 IsSaid (Err e) read = Fails e read
+
+-- what was left is what is told, unless memory was refused
+abbrev pub IsTold : {X : Type 0} → Result X LineError → Told → Result Told LineFault → Type 0
+IsTold (Ok x) after read = read ≡ Ok after
+IsTold (Err e) after read = Fails e read
 
 abbrev pub fault_at : ℕ → LineError → ReadFault
 fault_at n error.OutOfMemory = fault.OutOfMemory

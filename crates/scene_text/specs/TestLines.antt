@@ -1,10 +1,12 @@
 -- What the fields of the lines of tests say.
-use Rattle.std.specs.Prelude.{ℕ, zero, suc, ◌/◌, ◌^◌, [], ◌∷◌, length, if◌then◌else◌, nat_lt, Some, Err}
+use Rattle.std.specs.Prelude.{ℕ, Bool, zero, suc, ◌/◌, ◌^◌, [], ◌∷◌, length, if◌then◌else◌, nat_lt, Some, Err}
 use Rattle.run_model.specs.Attempts.{Attempt, Attempts}
 use Rattle.run_model.specs.declared.output.ChildOutputDescription.{ChildOutputDescription}
 use Rattle.run_model.specs.declared.output.LiveSpec.{LiveSpec}
+use Rattle.run_model.specs.declared.status.ExecutionResultDescription.{ExecutionResultDescription}
 use Rattle.run_model.specs.declared.status.FlakyResult.{FlakyResult}
 use Rattle.run_model.specs.declared.status.RetryData.{RetryData}
+use Rattle.run_model.specs.declared.time.Nanos.{Nanos}
 use Rattle.scene_text.specs.Counts.{stats_in}
 use Rattle.scene_text.specs.Fields.{◌>>=◌, Line, says, field}
 use Rattle.scene_text.specs.Lists.{words_of}
@@ -33,14 +35,19 @@ retry_fields = do
   total ← field (number_in 32)
   says (record { attempt = attempt; total_attempts = total })
 
+-- an attempt that ended so, with the output that follows
+abbrev pub told_attempt : RetryData → ExecutionResultDescription → Nanos → Bool → Line Attempt
+told_attempt retry_data result time_taken is_slow = do
+  output ← output_fields (Some result)
+  says (record { retry_data = retry_data; output = output; result = result; time_taken = time_taken; is_slow = is_slow })
+
 -- an attempt: result, duration, whether it was slow, and its output
 unfoldable pub attempt_fields : RetryData → Line Attempt
 attempt_fields retry_data = do
   result ← field result_in
   time_taken ← field nanos_in
   is_slow ← field flag_in
-  output ← output_fields (Some result)
-  says (record { retry_data = retry_data; output = output; result = result; time_taken = time_taken; is_slow = is_slow })
+  told_attempt retry_data result time_taken is_slow
 
 -- the attempt of this number, of so many that there can be
 abbrev pub retry_numbered : ℕ → ℕ → RetryData
@@ -62,11 +69,15 @@ attempts_from flaky total number (suc more) first = do
   others ← attempts_from flaky total (suc number) more second
   says (preceded first others)
 
--- attempts up to the end of the line, eight fields each
+-- attempts behind the first one, up to the end of the line, eight fields each
+abbrev pub attempts_behind : FlakyResult → ℕ → Attempt → Line (Attempts LiveSpec ChildOutputDescription)
+attempts_behind flaky total first p = attempts_from flaky total 2 (length p.left / 8) first p
+
+-- attempts up to the end of the line
 unfoldable pub all_attempts : FlakyResult → ℕ → Line (Attempts LiveSpec ChildOutputDescription)
 all_attempts flaky total = do
   first ← attempt_fields (retry_numbered total 1)
-  λ p. attempts_from flaky total 2 (length p.left / 8) first p
+  attempts_behind flaky total first
 
 -- `start`: the test, statistics, and the command
 unfoldable pub start_line_fields : Line SceneEvent

@@ -5,12 +5,13 @@
 //! `stress_lines`, `run_lines`, `info_lines` and `replay_lines` what fields the events of tests, of setup scripts, of stress
 //! runs, of the run and of its units' answers have, and the calls of a replay, `moments` when it was, `values` what each field
 //! may hold, `names` names, `counts` the counts of a field that has several, `results` how an attempt ended, `states` what a
-//! unit is doing, `outputs` what it wrote, `lists` lists of words, `fields` how a line is taken apart, `marks` where a byte
-//! stands, `unescape` how a text is decoded in its own memory, and `split`, `texts` and `numbers` how those are written.
+//! unit is doing, `outputs` what it wrote, `lists` lists of words, `fields` how a line is taken apart, `owned_text` a text
+//! that has its own memory, `marks` where a byte stands, `unescape` how a text is decoded in its own memory, and `split`, `texts` and
+//! `numbers` how those are written.
 
 ghost use Rattle.std.specs.Prelude.{◌≡◌, ◌+◌, ◌++◌, ℕ, List, [], length, IfOk, IfErr, OnOk, Ok};
 ghost use Rattle.scene_text.specs.Split.{parted};
-ghost use Rattle.scene_text.specs.SceneTexts.{AllTell, IsAnswer, IsFaultOf, IsFaultHere, IsFaultThere, IsSaid, event_lines, fault_at, is_begun, is_passed_over, line_here, line_said, line_told, lines_before, lines_told, nothing_told, text_told, told, words_said};
+ghost use Rattle.scene_text.specs.SceneTexts.{AllTell, IsAnswer, IsFaultOf, IsFaultHere, IsFaultThere, IsSaid, IsTold, event_lines, fault_at, is_begun, is_passed_over, line_here, line_said, line_told, lines_told, nothing_told, text_told, told, words_said, words_told};
 
 mod counts;
 mod fields;
@@ -169,8 +170,7 @@ impl LinesRead {
             return self.read_more(alloc, text.as_slice());
         }
         let LinesRead { mut run, next } = self;
-        let said = read_owned_line(alloc, text, before_next(&run));
-        match note_said(next, said, &mut run) {
+        match read_owned_line(alloc, next, text, &mut run) {
             Ok(()) => Ok(LinesRead {
                 run,
                 next: next + 1,
@@ -182,7 +182,6 @@ impl LinesRead {
 
 // Reads the line of this number into the scene, and notes the number where the line tells an event.
 #[inline(always)]
-#[tactic(auto, unfolding(crate::specs::SceneTexts::line_told), using(std::proofs::lemmas::Bool::Decides::nat_tests))]
 fn read_numbered<'a>(
     alloc: Global,
     number: u64,
@@ -194,43 +193,106 @@ fn read_numbered<'a>(
     ensures lines { OnOk result (scene.new.lines.items ≡ scene.old.lines.items ++ line_here number (told scene.old) (told scene.new)) }
     ensures err { IfErr result (IsFaultHere number (line_told (told scene.old) line.now)) }
 {
-    let said = read_split(alloc, line, fields, before_next(scene));
-    note_said(number, said, scene)
-}
-
-// What the next line is read by.
-#[inline(always)]
-fn before_next(scene: &ToldRun) -> LinesBefore
-    ensures { result ≡ lines_before (told scene.now) }
-{
-    LinesBefore {
-        config: scene.config,
-        is_begun: is_begun(scene.events.as_slice()),
+    match tell_line(alloc, number, line, fields, scene) {
+        Ok(()) => Ok(()),
+        Err(error) => Err(fault_at(number, error)),
     }
 }
 
-// Notes what the line of this number said, and the number where the line tells an event.
-#[inline(always)]
-#[tactic(auto, unfolding(crate::specs::SceneTexts::line_told), using(std::proofs::lemmas::Bool::Decides::nat_tests))]
-fn note_said(
+// Reads the line of this number, which has its own memory, as `read_numbered` does.
+fn read_owned_line(
+    alloc: Global,
     number: u64,
-    said: Result<LineSaid, LineError>,
+    line: Vec<u8>,
     scene: &mut ToldRun,
 ) -> Result<(), ReadFault>
-    ensures ok { (line : List ℕ) → IsSaid said (line_said (lines_before (told scene.old)) line) → OnOk result (line_told (told scene.old) line ≡ Ok (told scene.new)) }
+    ensures ok { OnOk result (line_told (told scene.old) line.items ≡ Ok (told scene.new)) }
     ensures lines { OnOk result (scene.new.lines.items ≡ scene.old.lines.items ++ line_here number (told scene.old) (told scene.new)) }
-    ensures err { (line : List ℕ) → IsSaid said (line_said (lines_before (told scene.old)) line) → IfErr result (IsFaultHere number (line_told (told scene.old) line)) }
+    ensures err { IfErr result (IsFaultHere number (line_told (told scene.old) line.items)) }
 {
-    match said {
-        Ok(LineSaid::Nothing) => {}
-        Ok(LineSaid::Config(config)) => scene.config = config,
-        Ok(LineSaid::Event(event)) => {
-            scene.events.push(event)?;
-            scene.lines.push(number)?;
-        }
-        Err(error) => return Err(fault_at(number, error)),
+    match tell_owned_line(alloc, number, line, scene) {
+        Ok(()) => Ok(()),
+        Err(error) => Err(fault_at(number, error)),
     }
-    Ok(())
+}
+
+// Reads a line into the scene. The list is for its fields.
+#[inline(always)]
+#[tactic(auto, unfolding(crate::specs::SceneTexts::line_said, crate::specs::SceneTexts::line_told), using(crate::proofs::lemmas::Utf8::utf8_passes, crate::proofs::lemmas::Utf8::utf8_fails))]
+fn tell_line<'a>(
+    alloc: Global,
+    number: u64,
+    line: &'a [u8],
+    fields: &mut Vec<&'a str>,
+    scene: &mut ToldRun,
+) -> Result<(), LineError>
+    ensures told { IsTold result (told scene.new) (line_told (told scene.old) line.now) }
+    ensures lines { OnOk result (scene.new.lines.items ≡ scene.old.lines.items ++ line_here number (told scene.old) (told scene.new)) }
+{
+    if is_passed_over(line) {
+        return Ok(());
+    }
+    let Ok(line) = str::from_utf8(line) else {
+        return Err(LineError::Fault(LineFault::NotUtf8));
+    };
+    split_fields(line, fields)?;
+    tell_fields(alloc, number, Fields::new(fields.as_slice()), scene)
+}
+
+// Reads a line that has its own memory into the scene.
+#[tactic(auto, unfolding(crate::specs::SceneTexts::line_said, crate::specs::SceneTexts::line_told))]
+fn tell_owned_line(
+    alloc: Global,
+    number: u64,
+    line: Vec<u8>,
+    scene: &mut ToldRun,
+) -> Result<(), LineError>
+    ensures told { IsTold result (told scene.new) (line_told (told scene.old) line.items) }
+    ensures lines { OnOk result (scene.new.lines.items ≡ scene.old.lines.items ++ line_here number (told scene.old) (told scene.new)) }
+{
+    if is_passed_over(line.as_slice()) {
+        return Ok(());
+    }
+    let Some(line) = OwnedText::new(line) else {
+        return Err(LineError::Fault(LineFault::NotUtf8));
+    };
+    let mut fields = line.split_fields(alloc)?;
+    tell_fields(
+        alloc,
+        number,
+        Fields::of_large_line(fields.as_mut_slice()),
+        scene,
+    )
+}
+
+// Reads the fields of a line into the scene. An event is large, and goes from its reader straight to the list.
+#[inline(always)]
+#[tactic(auto, using(std::proofs::lemmas::Bool::Decides::nat_tests))]
+fn tell_fields(
+    alloc: Global,
+    number: u64,
+    fields: Fields<'_>,
+    scene: &mut ToldRun,
+) -> Result<(), LineError>
+    requires { fields.number ≡ 0 }
+    ensures told { IsTold result (told scene.new) (words_told (told scene.old) fields.entry.left) }
+    ensures lines { OnOk result (scene.new.lines.items ≡ scene.old.lines.items ++ line_here number (told scene.old) (told scene.new)) }
+{
+    let mut fields = fields;
+    match fields.take()? {
+        "config" if is_begun(scene.events.as_slice()) => Err(LineError::Fault(
+            LineFault::ConfigAfterEvent,
+        )),
+        "config" => {
+            scene.config = read_config(&mut fields.exactly(2)?, scene.config)?;
+            Ok(())
+        }
+        word => {
+            scene.events.push(read_event(alloc, word, fields)?)?;
+            scene.lines.push(number)?;
+            Ok(())
+        }
+    }
 }
 
 // Whether there is an event among these.
@@ -258,22 +320,8 @@ fn fault_at(line: u64, error: LineError) -> ReadFault
 /// assert!(matches!(read_line(alloc, b"# no event", before), Ok(LineSaid::Nothing)));
 /// assert!(read_line(alloc, b"config\tfinal\tall", before).is_err()); // it comes too late
 /// ```
-pub fn read_line(alloc: Global, line: &[u8], before: LinesBefore) -> Result<LineSaid, LineError>
-    ensures { IsSaid result (line_said before line.now) }
-{
-    let mut fields = Vec::new(alloc);
-    read_split(alloc, line, &mut fields, before)
-}
-
-// Reads a line behind lines that tell this. The list is for its fields.
-#[inline(always)]
 #[tactic(auto, unfolding(crate::specs::SceneTexts::line_said), using(crate::proofs::lemmas::Utf8::utf8_passes, crate::proofs::lemmas::Utf8::utf8_fails))]
-fn read_split<'a>(
-    alloc: Global,
-    line: &'a [u8],
-    fields: &mut Vec<&'a str>,
-    before: LinesBefore,
-) -> Result<LineSaid, LineError>
+pub fn read_line(alloc: Global, line: &[u8], before: LinesBefore) -> Result<LineSaid, LineError>
     ensures { IsSaid result (line_said before line.now) }
 {
     if is_passed_over(line) {
@@ -282,23 +330,9 @@ fn read_split<'a>(
     let Ok(line) = str::from_utf8(line) else {
         return Err(LineError::Fault(LineFault::NotUtf8));
     };
-    split_fields(line, fields)?;
+    let mut fields = Vec::new(alloc);
+    split_fields(line, &mut fields)?;
     read_fields(alloc, Fields::new(fields.as_slice()), before)
-}
-
-// Reads a line that has its own memory, behind lines that tell this.
-#[tactic(auto, unfolding(crate::specs::SceneTexts::line_said))]
-fn read_owned_line(alloc: Global, line: Vec<u8>, before: LinesBefore) -> Result<LineSaid, LineError>
-    ensures { IsSaid result (line_said before line.items) }
-{
-    if is_passed_over(line.as_slice()) {
-        return Ok(LineSaid::Nothing);
-    }
-    let Some(line) = OwnedText::new(line) else {
-        return Err(LineError::Fault(LineFault::NotUtf8));
-    };
-    let mut fields = line.split_fields(alloc)?;
-    read_fields(alloc, Fields::of_large_line(fields.as_mut_slice()), before)
 }
 
 // Whether a line is empty, or begins with `#`.
@@ -309,7 +343,6 @@ fn is_passed_over(line: &[u8]) -> bool
 }
 
 // Reads a line that was split into its fields.
-#[inline(always)]
 fn read_fields(
     alloc: Global,
     fields: Fields<'_>,

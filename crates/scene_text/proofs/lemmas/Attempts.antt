@@ -1,4 +1,4 @@
--- Reading attempts one after the other, as a loop does (for `read_attempts`).
+-- Reading attempts one after the other, as a loop does (for `read_attempts`, `read_more_attempts`).
 use Rattle.std.proofs.Common.{◌≡◌, ℕ, suc, ◌-◌, ◌+◌, ◌/◌, ◌^◌, ◌≤◌, ◌<◌, List, [], ◌∷◌, ◌++◌, true, false, Result, Ok, Err, nat_lt, length, refl, sym, ap, ◌∙◌, append_assoc, arith}
 use Rattle.std.proofs.lemmas.Bool.Decides.{nat_tests}
 use Rattle.std.proofs.lemmas.List.{append-nil}
@@ -6,8 +6,8 @@ use Rattle.run_model.specs.Attempts.{Attempt, Attempts}
 use Rattle.run_model.specs.declared.output.ChildOutputDescription.{ChildOutputDescription}
 use Rattle.run_model.specs.declared.output.LiveSpec.{LiveSpec}
 use Rattle.run_model.specs.declared.status.FlakyResult.{FlakyResult}
-use Rattle.scene_text.specs.Fields.{Place, Fails, goes_on, says}
-use Rattle.scene_text.specs.TestLines.{all_attempts, attempt_fields, attempts_from, retry_numbered}
+use Rattle.scene_text.specs.Fields.{Place, Fails, Gives, goes_on, says}
+use Rattle.scene_text.specs.TestLines.{all_attempts, attempt_fields, attempts_behind, attempts_from, retry_numbered}
 use Rattle.scene_text.specs.declared.fault.LineError.{LineError}
 use Rattle.scene_text.specs.declared.fault.LineError.TheVariants as error
 use Rattle.scene_text.specs.declared.fault.LineFault.{LineFault}
@@ -77,9 +77,15 @@ module _ (flaky : FlakyResult) (total : ℕ) (front : List Attempt) (number end 
       rw k (ap (λ (a : List Attempt). Ok (record { earlier = a; last = last; flaky_result = flaky }, p)) (append-nil front)) in
       sym so_far ∙ one
 
+-- there are no fields for another attempt
+pub only_attempt : (flaky : FlakyResult) (total : ℕ) (first : Attempt) (p : Place) → length p.left < 8
+    → attempts_behind flaky total first p ≡ Ok (record { earlier = []; last = first; flaky_result = flaky }, p)
+unfolding attempts_from
+only_attempt flaky total first p few = let none : length p.left / 8 ≡ 0 = omega arith in rw none refl
+
 -- the first attempt was read, or it is wrong
 module _ (flaky : FlakyResult) (total : ℕ) (p : Place) where
-  pub first_read : (q : Place) (first : Attempt) → attempt_fields (retry_numbered total 1) p ≡ Ok (first, q) → all_attempts flaky total p ≡ attempts_from flaky total 2 (length q.left / 8) first q
+  pub first_read : (q : Place) (first : Attempt) → attempt_fields (retry_numbered total 1) p ≡ Ok (first, q) → all_attempts flaky total p ≡ attempts_behind flaky total first q
   unfolding all_attempts
   first_read q first h = rw h refl
 
@@ -87,6 +93,13 @@ module _ (flaky : FlakyResult) (total : ℕ) (p : Place) where
   unfolding all_attempts
   first_fails error.OutOfMemory h = tt
   first_fails (error.Fault f) h = rw h refl
+
+-- what the attempts behind the first one give, all give
+pub behind_first : (flaky : FlakyResult) (total : ℕ) (p q : Place) (first : Attempt) (result : Result All LineError) (new : Place) → all_attempts flaky total p ≡ attempts_behind flaky total first q
+    → Gives (λ s. s) q result new (attempts_behind flaky total first) → Gives (λ s. s) p result new (all_attempts flaky total)
+behind_first flaky total p q first (Ok all) new same h = same ∙ h
+behind_first flaky total p q first (Err error.OutOfMemory) new same h = tt
+behind_first flaky total p q first (Err (error.Fault f)) new same h = same ∙ h
 
 -- attempts by their parts
 pub put_together : (all : All) (p : Place) (earlier : List Attempt) (last : Attempt) (flaky : FlakyResult) → all.earlier ≡ earlier → all.last ≡ last → all.flaky_result ≡ flaky

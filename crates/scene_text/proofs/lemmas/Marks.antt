@@ -1,5 +1,5 @@
 -- The places of a byte in a block as the bits of its mask (for `block_from`, `marks_from`, `marks_of`, `plain_len`, `read_bytes`, `split_fields`).
-use Rattle.std.proofs.Common.{◌≡◌, ℕ, ◌+◌, ◌<◌, ◌≤◌, List, Bool, true, false, cond, length, get_or, drop, map, refl, ap, sym, ◌++◌, ◌-◌, take, replicate, ◌∙◌, length-drop, ◌≢◌, subst, arith, inl, inr}
+use Rattle.std.proofs.Common.{◌≡◌, ℕ, ◌+◌, ◌<◌, ◌≤◌, List, Bool, true, false, cond, length, get_or, drop, map, refl, ap, sym, ◌++◌, ◌-◌, ◌/◌, ◌%◌, ◌^◌, shr-shr, take, replicate, ◌∙◌, length-drop, ◌≢◌, subst, arith, inl, inr}
 use Rattle.std.specs.Int.{bit_at}
 use Rattle.std.specs.Simd.Lanes.{chunk, mask_l}
 use Rattle.std.proofs.Math.ListN.{get_or-append}
@@ -54,6 +54,23 @@ pub marked_alike : (b : ℕ) (f g : ℕ → ℕ) (mask : ℕ) → ((k : ℕ) →
 marked_alike b f g mask same h = record {
   each = λ k l e. h.each k l (same k l ∙ e);
   only = λ k b. let r = h.only k b in (r.0, sym (same k r.0) ∙ r.1);
+}
+
+-- a mask without its first bits
+bit_at_later : (mask s k : ℕ) → bit_at (mask / 2 ^ s) k ≡ bit_at mask (s + k)
+bit_at_later mask s k = ap (λ q. q % 2) (shr-shr mask s k)
+
+-- the last block of a text, without what stands before a place
+pub marked_later : (b : ℕ) (t : List ℕ) (from start s mask : ℕ) → b ≢ 0 → start + 32 ≡ length t → start + s ≡ from → Marks b (λ k. get_or t (start + k) 0) mask → Marks b (λ k. get_or t (from + k) 0) (mask / 2 ^ s)
+marked_later b t from start s mask some end begins h = record {
+  each = λ k l is.
+      let inside = within b t (from + k) some is in
+      let place : start + (s + k) ≡ from + k = omega (arith, begins) in
+      bit_at_later mask s k ∙ h.each (s + k) (omega (arith, inside, end, begins)) (ap (λ j. get_or t j 0) place ∙ is);
+  only = λ k bit.
+      let place : start + (s + k) ≡ from + k = omega (arith, begins) in
+      let r = h.only (s + k) (sym (bit_at_later mask s k) ∙ bit) in
+      (omega (arith, r.0), sym (ap (λ j. get_or t j 0) place) ∙ r.1);
 }
 
 module _ (t : List ℕ) (from : ℕ) where

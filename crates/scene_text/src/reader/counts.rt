@@ -9,6 +9,7 @@ ghost use Rattle.scene_text.specs.Split.{parted};
 ghost use Rattle.scene_text.specs.Numbers.{number_in};
 ghost use Rattle.scene_text.specs.Counts.{in_turn, no_skips, no_stats, skips_in, skips_key_in, skips_pair, stats_in, stats_key_in, stats_pair, with_skip, with_stat};
 
+use super::marks::{first_place, marks_from, without_place};
 use super::numbers::read_count;
 use super::split::{first_piece, split_at_byte};
 use super::values::read_reason;
@@ -161,17 +162,27 @@ pub fn read_stats(field: &str) -> Option<RunStats>
     read_stats_pairs(field)
 }
 
-// Reads what pairs say that spaces part.
+// Reads what pairs say that spaces part. It stands by itself, so that statistics are copied once on their way out of it.
+#[inline(never)]
 fn read_stats_pairs(pairs: &str) -> Option<RunStats>
     ensures { result ≡ option_map (λ read. read.stats) (in_turn stats_pair no_stats (parted 32 pairs.now)) }
 {
+    let bytes = pairs.as_bytes();
     let mut read = StatsRead::new();
-    let mut rest = Some(pairs);
-    while let Some(left) = rest {
-        let (pair, after) = first_piece(left, b' ');
-        read.read_pair(pair)?;
-        rest = after;
+    let mut start = 0;
+    let mut from = 0;
+    while from < bytes.len() {
+        let mut spaces = marks_from(b' ', bytes, from);
+        while spaces != 0 {
+            let place = first_place(spaces);
+            let space = from + place;
+            read.read_pair(&pairs[start..space])?;
+            start = space + 1;
+            spaces = without_place(spaces, place);
+        }
+        from += 32;
     }
+    read.read_pair(&pairs[start..])?;
     Some(read.stats)
 }
 

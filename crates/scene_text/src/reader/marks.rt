@@ -5,9 +5,13 @@
 
 ghost use Rattle.std.specs.Prelude.{◌≡◌, ◌≢◌, ◌+◌, ◌<◌, ◌≤◌, ℕ, length, slice_index};
 ghost use Rattle.std.specs.Int.{bit_at};
+ghost use Rattle.memchr.specs.Find.{IsFirstByte, is_byte};
 ghost use Rattle.scene_text.specs.Marks.{Marks};
 
 use std::simd::prelude::*;
+
+// How many bytes a block has.
+const BLOCK: usize = 32;
 
 /// The places of a byte among the 32 bytes from a place on, or among those that are left, each as a bit.
 #[inline(always)]
@@ -15,7 +19,13 @@ pub fn marks_from(byte: u8, bytes: &[u8], from: usize) -> u64
     requires { from ≤ length bytes.now }
     ensures { Marks byte (λ k. slice_index bytes.now (from + k)) result }
 {
-    marks_of(byte, block_from(bytes, from))
+    let left = bytes.len() - from;
+    if left >= BLOCK || bytes.len() < BLOCK || byte == 0 {
+        return marks_of(byte, block_from(bytes, from));
+    }
+    // The last bytes of the text, without those that stand before the place: no byte is copied for them.
+    let last = u8x32::from_slice(&bytes[bytes.len() - BLOCK..]);
+    marks_of(byte, last) >> (BLOCK - left)
 }
 
 /// The 32 bytes from a place on, or those that are left and zeros after them.
@@ -31,6 +41,23 @@ pub fn block_from(bytes: &[u8], from: usize) -> u8x32
     let mut block = [0; 32];
     block[..rest.len()].copy_from_slice(rest);
     u8x32::from_array(block)
+}
+
+/// Where the first of these bytes stands. In a short text that is found sooner so than by a call of memchr.
+#[inline(always)]
+pub fn find_byte(byte: u8, bytes: &[u8]) -> Option<usize>
+    requires { byte ≢ 0 }
+    ensures { IsFirstByte (is_byte byte) bytes.now result }
+{
+    let mut from = 0;
+    while from < bytes.len() {
+        let marks = marks_of(byte, block_from(bytes, from));
+        if marks != 0 {
+            return Some(from + first_place(marks));
+        }
+        from += 32;
+    }
+    None
 }
 
 /// The places of a byte in a block.

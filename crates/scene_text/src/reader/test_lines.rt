@@ -2,7 +2,7 @@
 
 ghost use Rattle.std.specs.Prelude.{◌≡◌};
 ghost use Rattle.scene_text.specs.Fields.{Gives, answered};
-ghost use Rattle.scene_text.specs.TestLines.{all_attempts, attempt_fields, done_line_fields, retry_fields, retry_line_fields, retry_start_line_fields, skip_line_fields, slow_line_fields, start_line_fields, test_fields};
+ghost use Rattle.scene_text.specs.TestLines.{all_attempts, attempt_fields, told_attempt, attempts_behind, done_line_fields, retry_fields, retry_line_fields, retry_start_line_fields, skip_line_fields, slow_line_fields, start_line_fields, test_fields};
 
 use super::counts::read_stats;
 use super::fields::Fields;
@@ -18,7 +18,8 @@ use crate::scene::event::SceneEvent;
 use crate::scene::test_events::{
     FailedAttempt, SceneTest, SlowTest, TestFinish, TestRetryStart, TestStart,
 };
-use run_model::status::{FlakyResult, RetryData};
+use run_model::status::{ExecutionResultDescription, FlakyResult, RetryData};
+use run_model::time::Nanos;
 use std::alloc::Global;
 use std::mem;
 
@@ -148,7 +149,8 @@ pub fn read_retry_data(fields: &mut Fields<'_>) -> Result<RetryData, LineFault>
     })
 }
 
-// Reads attempts up to the end of the line, which has at least one.
+// Reads attempts up to the end of the line, which has at least one. Most lines have no more.
+#[tactic(auto, unfolding(crate::specs::TestLines::all_attempts))]
 fn read_attempts(
     alloc: Global,
     fields: &mut Fields<'_>,
@@ -161,7 +163,26 @@ fn read_attempts(
         attempt: 1,
         total_attempts,
     };
-    let mut last = read_attempt(alloc, fields, first)?;
+    let first = read_attempt(alloc, fields, first)?;
+    if fields.len() < 8 {
+        return Ok(SceneAttempts::with_last(alloc, Vec::new(alloc), first, flaky_result)?);
+    }
+    read_more_attempts(alloc, fields, flaky_result, total_attempts, first)
+}
+
+// Reads attempts that follow the first one, up to the end of the line. It stands by itself, since a function clears the memory of all its
+// values at its start.
+#[inline(never)]
+fn read_more_attempts(
+    alloc: Global,
+    fields: &mut Fields<'_>,
+    flaky_result: FlakyResult,
+    total_attempts: u32,
+    first: SceneAttempt,
+) -> Result<SceneAttempts, LineError>
+    ensures { Gives (λ s. s) fields.old result fields.new (attempts_behind flaky_result total_attempts first) }
+{
+    let mut last = first;
     let mut earlier = Vec::new(alloc);
     for number in 2..fields.len() / 8 + 2 {
         let Ok(attempt) = u32::try_from(number) else {
@@ -174,7 +195,7 @@ fn read_attempts(
         let next = read_attempt(alloc, fields, retry_data)?;
         earlier.push(mem::replace(&mut last, next))?;
     }
-    Ok(SceneAttempts::with_last(earlier, last, flaky_result))
+    Ok(SceneAttempts::with_last(alloc, earlier, last, flaky_result)?)
 }
 
 /// Reads an attempt: result, duration, whether it was slow, and its output. Most wrote nothing, and then it allocates nothing.
@@ -192,6 +213,21 @@ pub fn read_attempt(
     if take_silence(fields) {
         return Ok(SceneAttempt::silent(outcome, time_taken, retry_data, is_slow));
     }
+    read_told_attempt(alloc, fields, retry_data, outcome, time_taken, is_slow)
+}
+
+// Reads the output of an attempt that ended so, and puts them together. It stands by itself, as `read_more_attempts` does.
+#[inline(never)]
+fn read_told_attempt(
+    alloc: Global,
+    fields: &mut Fields<'_>,
+    retry_data: RetryData,
+    outcome: ExecutionResultDescription,
+    time_taken: Nanos,
+    is_slow: bool,
+) -> Result<SceneAttempt, LineError>
+    ensures { Gives (λ s. s) fields.old result fields.new (told_attempt retry_data outcome time_taken is_slow) }
+{
     let output = read_output(alloc, fields, Some(&outcome))?;
     Ok(SceneAttempt::with_output(alloc, outcome, time_taken, retry_data, is_slow, output)?)
 }

@@ -8,7 +8,7 @@ ghost use Rattle.std.specs.Char.{digit_value};
 ghost use Rattle.std.specs.Option.{option_map, SomeIff};
 ghost use Rattle.scene_text.specs.Texts.{cow_text, AddsStretch, IsPlain, bytes_in, escape_byte, escape_len, text_in};
 
-use super::marks::{first_place, marks_from, without_place};
+use super::marks::{find_byte, first_place, marks_from, without_place};
 use super::split::split_at_byte;
 use run_model::memory::OutOfMemory;
 use std::alloc::Global;
@@ -26,7 +26,7 @@ const ASCII: u8 = 0x7f;
 pub fn read_text(alloc: Global, field: &str) -> Result<Option<CowStr<'_, Global>>, OutOfMemory>
     ensures { IfOk result (λ text. option_map cow_text text ≡ text_in field.now) }
 {
-    if split_at_byte(field, b'\\').is_none() {
+    if find_byte(b'\\', field.as_bytes()).is_none() {
         return Ok(Some(CowStr::Borrowed(field)));
     }
     let mut text = String::with_capacity(alloc, field.len())?;

@@ -71,7 +71,7 @@ pub enum SceneEvent {
 }
 
 // A scene may hold a million events.
-const _: () = prove!(size_of::<SceneEvent>() == 320);
+const _: () = prove!(size_of::<SceneEvent>() == 288);
 
 impl SceneEvent {
     ghost use Rattle.std.specs.Prelude.{IfOk};
@@ -89,7 +89,7 @@ impl SceneEvent {
         ensures { result ≡ needs_judging self.now }
     {
         match self {
-            SceneEvent::TestFinished(finish) => !finish.attempts.last().has_loaded_output(),
+            SceneEvent::TestFinished(finish) => !finish.attempts.has_loaded_output(),
             SceneEvent::TestAttemptFailedWillRetry(failed) => {
                 failed.attempt.is_success() || !failed.attempt.has_loaded_output()
             }

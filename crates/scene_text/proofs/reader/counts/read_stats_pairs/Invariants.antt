@@ -1,11 +1,30 @@
-use Rattle.std.proofs.Common.{◌≡◌}
+use Rattle.std.proofs.Common.{◌≡◌, ◌+◌, ◌-◌, ◌≤◌, drop, length}
+use Rattle.std.specs.Str.{IsCharBoundary}
+use Rattle.memchr.specs.Find.{is_byte, Nowhere, Passes}
 use Rattle.scene_text.specs.Counts.{in_turn, no_stats, stats_pair}
-use Rattle.scene_text.specs.Split.{parted, pieces_left, size_left}
+use Rattle.scene_text.specs.Split.{parted}
+use Rattle.scene_text.proofs.lemmas.Marks.{AreLeft}
 use Rattle.scene_text.proofs.reader.counts.read_stats_pairs.Given as goal
 
--- the pairs that are left say, after those so far, what all say
-abbrev pub invariant-loop-rest : goal.invariant-loop-rest
-invariant-loop-rest l = in_turn stats_pair l.read (pieces_left 32 l.rest) ≡ in_turn stats_pair no_stats (parted 32 l.pairs)
+-- the pairs from the start on say, after those so far, what all say
+abbrev pub invariant-loop-from : goal.invariant-loop-from
+invariant-loop-from l = record {
+  near : l.start ≤ l.from;
+  boundary : IsCharBoundary l.pairs l.start;
+  seen : Nowhere (Passes (is_byte 32) l.pairs) l.start l.from;
+  read : in_turn stats_pair l.read (parted 32 (drop l.start l.pairs)) ≡ in_turn stats_pair no_stats (parted 32 l.pairs);
+}
 
-abbrev pub decreases-loop-rest : goal.decreases-loop-rest
-decreases-loop-rest l = size_left l.rest
+abbrev pub decreases-loop-from : goal.decreases-loop-from
+decreases-loop-from l = length l.pairs - l.from
+
+abbrev pub invariant-loop-spaces : goal.invariant-loop-spaces
+invariant-loop-spaces l = record {
+  near : l.start ≤ l.from + 32;
+  boundary : IsCharBoundary l.pairs l.start;
+  left : AreLeft 32 l.pairs l.start l.from l.spaces;
+  read : in_turn stats_pair l.read (parted 32 (drop l.start l.pairs)) ≡ in_turn stats_pair no_stats (parted 32 l.pairs);
+}
+
+abbrev pub decreases-loop-spaces : goal.decreases-loop-spaces
+decreases-loop-spaces l = l.spaces

@@ -1,7 +1,7 @@
 use Rattle.std.proofs.Common.{◌≡◌, ◌-◌, ◌/◌, length}
 use Rattle.scene_text.specs.TestLines.{attempts_from}
 use Rattle.scene_text.proofs.lemmas.Attempts.{with_front}
-use Rattle.scene_text.proofs.reader.test_lines.read_attempts.Given as goal
+use Rattle.scene_text.proofs.reader.test_lines.read_more_attempts.Given as goal
 
 -- the attempts so far, and then those that are left, are all
 abbrev pub invariant-loop-number : goal.invariant-loop-number
