@@ -43,7 +43,8 @@ pub fn block_from(bytes: &[u8], from: usize) -> u8x32
     u8x32::from_array(block)
 }
 
-/// Where the first of these bytes stands. In a short text that is found sooner so than by a call of memchr.
+/// Where the first of these bytes stands, in bytes from 0. It is for names, of which most have no such byte: it looks at 32 of them at once,
+/// where `split_at_byte` looks at each, and a call of memchr costs more than either.
 #[inline(always)]
 pub fn find_byte(byte: u8, bytes: &[u8]) -> Option<usize>
     requires { byte ≢ 0 }
@@ -60,7 +61,7 @@ pub fn find_byte(byte: u8, bytes: &[u8]) -> Option<usize>
     None
 }
 
-/// The places of a byte in a block.
+/// The places of a byte in a block, which are counted in bytes from 0: the mask has the bit of each.
 #[inline(always)]
 pub fn marks_of(byte: u8, block: u8x32) -> u64
     ensures { Marks byte (λ k. slice_index block k) result }

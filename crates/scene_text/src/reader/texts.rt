@@ -96,7 +96,8 @@ fn read_escape(escape: &str, most: u8) -> Option<(u8, &str)>
     Some((byte, &escape[len..]))
 }
 
-/// What an escape gives, without its backslash, and how many bytes it has.
+/// The byte that an escape gives, and how many bytes the escape has behind its backslash, with which `escape` does not begin. The digits of
+/// an `x` write `most` at most. None is a text that begins with no escape.
 #[inline(always)]
 pub fn escape_at(escape: &[u8], most: u8) -> Option<(u8, usize)>
     ensures byte { option_map (λ x. x.0) result ≡ escape_byte most escape.now }
