@@ -312,8 +312,8 @@ fn fault_at(line: u64, error: LineError) -> ReadFault
     }
 }
 
-/// Reads one line, without the line feed that ends it, behind lines that tell this. The error is what is wrong with the line: its kind, or
-/// the number of the first field that is, from 1 behind the word. Or memory was refused.
+/// Reads one line, without the line feed that ends it, behind lines that tell this. The error is what is wrong with the line (of a bad
+/// field the number, from 1 for the event's name), or that memory was refused.
 ///
 /// ```
 /// use scene_text::scene::SceneConfig;

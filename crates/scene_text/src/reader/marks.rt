@@ -10,9 +10,6 @@ ghost use Rattle.scene_text.specs.Marks.{Marks};
 
 use std::simd::prelude::*;
 
-// How many bytes a block has.
-const BLOCK: usize = 32;
-
 /// The places of a byte among the 32 bytes from a place on, or among those that are left, each as a bit.
 #[inline(always)]
 pub fn marks_from(byte: u8, bytes: &[u8], from: usize) -> u64
@@ -20,12 +17,12 @@ pub fn marks_from(byte: u8, bytes: &[u8], from: usize) -> u64
     ensures { Marks byte (λ k. slice_index bytes.now (from + k)) result }
 {
     let left = bytes.len() - from;
-    if left >= BLOCK || bytes.len() < BLOCK || byte == 0 {
+    if left >= 32 || bytes.len() < 32 || byte == 0 {
         return marks_of(byte, block_from(bytes, from));
     }
     // The last bytes of the text, without those that stand before the place: no byte is copied for them.
-    let last = u8x32::from_slice(&bytes[bytes.len() - BLOCK..]);
-    marks_of(byte, last) >> (BLOCK - left)
+    let last = u8x32::from_slice(&bytes[bytes.len() - 32..]);
+    marks_of(byte, last) >> (32 - left)
 }
 
 /// The 32 bytes from a place on, or those that are left and zeros after them.
