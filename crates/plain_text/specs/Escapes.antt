@@ -28,9 +28,13 @@ is_parameter = is_within 0x30 0x3F
 abbrev pub is_intermediate : ℕ → Bool
 is_intermediate = is_within 0x20 0x2F
 
--- of the text after ESC [: parameters, intermediates, and one final byte
+-- of the text after the parameters of a control sequence: intermediates, and one final byte
+abbrev pub csi_end_len : Text → ℕ
+csi_end_len = then_len (front_len is_intermediate) (one_len (is_within 0x40 0x7E))
+
+-- of the text after ESC [: parameters, and what ends the sequence
 abbrev pub csi_len : Text → ℕ
-csi_len = then_len (front_len is_parameter) (then_len (front_len is_intermediate) (one_len (is_within 0x40 0x7E)))
+csi_len = then_len (front_len is_parameter) csi_end_len
 
 -- a control character
 abbrev pub is_control : ℕ → Bool

@@ -11,7 +11,7 @@
 
 ghost use Rattle.std.specs.Prelude.{◌≡◌, ℕ, false, [], ◌∷◌, List, IfOk, MatchOption, string_bytes};
 ghost use Rattle.std.specs.Iterator.{YieldsFirstBy, item_count};
-ghost use Rattle.plain_text.specs.Escapes.{sequence_len, csi_len, front_len, is_within, is_visible, pieces, visible, joined, stretches, HasNoEscape};
+ghost use Rattle.plain_text.specs.Escapes.{sequence_len, csi_len, csi_end_len, front_len, is_within, is_visible, pieces, visible, joined, stretches, HasNoEscape};
 ghost use Rattle.plain_text.specs.Piece.{piece_text};
 ghost use Rattle.plain_text.specs.Scanner.{rest_len, is_before_backslash, StepCounts, step_of, short_step_of, final_step_of, advanced};
 ghost use Rattle.plain_text.specs.Writer.{Puts};
@@ -171,17 +171,27 @@ fn stepwise_len(after: &[u8]) -> usize
     count
 }
 
-// How many bytes of what follows `ESC [` belong to its sequence.
+// How many bytes of what follows `ESC [` belong to its sequence. Most are colours, which have no intermediates.
 fn control_len(after: &[u8]) -> usize
     ensures { result ≡ csi_len after.now }
 {
     let parameters = run_len(after, 0x30, 0x3F);
     let (_, rest) = after.split_at(parameters);
-    let intermediates = run_len(rest, 0x20, 0x2F);
-    let (_, rest) = rest.split_at(intermediates);
     match rest.first() {
-        Some(0x40..=0x7E) => parameters + intermediates + 1,
-        _ => parameters + intermediates,
+        Some(0x40..=0x7E) => parameters + 1,
+        _ => parameters + end_len(rest),
+    }
+}
+
+// How many bytes of what follows its parameters belong to a control sequence.
+fn end_len(after: &[u8]) -> usize
+    ensures { result ≡ csi_end_len after.now }
+{
+    let intermediates = run_len(after, 0x20, 0x2F);
+    let (_, rest) = after.split_at(intermediates);
+    match rest.first() {
+        Some(0x40..=0x7E) => intermediates + 1,
+        _ => intermediates,
     }
 }
 

@@ -1,9 +1,9 @@
--- Where a sequence ends (for `sequence_len`, `stepwise_len`).
-use Rattle.std.proofs.Common.{◌≡◌, ℕ, zero, suc, ◌+◌, ◌<◌, ◌≤◌, Bool, true, ◌&&◌, ◌==◌, ◌⊎◌, inl, inr, [], ◌∷◌, refl, ap, arith, length, get_or, drop, lit<, length-drop, add-zero, add-suc, get_or-drop}
+-- Where a sequence ends (for `control_len`, `sequence_len`, `stepwise_len`).
+use Rattle.std.proofs.Common.{◌≡◌, ℕ, zero, suc, ◌+◌, ◌<◌, ◌≤◌, Bool, true, false, ◌&&◌, ◌==◌, ◌⊎◌, inl, inr, [], ◌∷◌, refl, ap, arith, length, get_or, drop, lit<, length-drop, add-zero, add-suc, get_or-drop}
 use Rattle.std.proofs.lemmas.Bool.{cases_Bool, and_parts}
 use Rattle.std.proofs.lemmas.Bool.Decides.{nat_tests}
 use Rattle.plain_text.specs.Texts.{Text}
-use Rattle.plain_text.specs.Escapes.{is_within, is_parameter, is_intermediate, is_control, front_len, one_len, then_len, csi_len, osc_len, short_len, sequence_len}
+use Rattle.plain_text.specs.Escapes.{is_within, is_parameter, is_intermediate, is_control, front_len, one_len, then_len, csi_end_len, csi_len, osc_len, short_len, sequence_len}
 
 -- what f counts after an ASCII character is there, and ASCII to its end
 abbrev IsAsciiRun : (Text → ℕ) → Type 0
@@ -35,13 +35,26 @@ then_len-ascii f g hf hg c t l =
 within-ascii : (low high c : ℕ) → high < 128 → is_within low high c ≡ true → c < 128
 within-ascii low high c l h = grind (arith, nat_tests)
 
-csi_len-ascii : IsAsciiRun csi_len
-csi_len-ascii = then_len-ascii _ _ (front_len-ascii is_parameter (λ c. within-ascii 0x30 0x3F c (lit< tt)))
-    (then_len-ascii _ _ (front_len-ascii is_intermediate (λ c. within-ascii 0x20 0x2F c (lit< tt))) (one_len-ascii (is_within 0x40 0x7E) (λ c. within-ascii 0x40 0x7E c (lit< tt))))
+csi_end_len-ascii : IsAsciiRun csi_end_len
+csi_end_len-ascii = then_len-ascii _ _ (front_len-ascii is_intermediate (λ c. within-ascii 0x20 0x2F c (lit< tt))) (one_len-ascii (is_within 0x40 0x7E) (λ c. within-ascii 0x40 0x7E c (lit< tt)))
 
 -- a control sequence ends within the text
+pub csi_end_len-le : (t : Text) → csi_end_len t ≤ length t
+csi_end_len-le t = (csi_end_len-ascii 0 t (lit< tt)).0
+
+csi_len-ascii : IsAsciiRun csi_len
+csi_len-ascii = then_len-ascii _ _ (front_len-ascii is_parameter (λ c. within-ascii 0x30 0x3F c (lit< tt))) csi_end_len-ascii
+
 pub csi_len-le : (t : Text) → csi_len t ≤ length t
 csi_len-le t = (csi_len-ascii 0 t (lit< tt)).0
+
+-- a control sequence with no intermediates ends with the byte after its parameters
+pub csi_len-final : (t rest : Text) (n b : ℕ) → n ≡ front_len is_parameter t → rest ≡ drop n t → 0 < length rest → b ≡ get_or rest 0 b → is_within 0x40 0x7E b ≡ true → n + 1 ≡ csi_len t
+csi_len-final t [] n b hn hd l hb h = absurd (omega (arith, l))
+csi_len-final t (c ∷ rest) n b hn hd l hb h = (
+    let final : is_within 0x40 0x7E c ≡ true = rw (← hb) h in
+    let other : is_intermediate c ≡ false = grind (arith, nat_tests, final) in
+    rw (← hn, ← hd, other, final) refl)
 
 short_len-ascii : IsAsciiRun short_len
 short_len-ascii = then_len-ascii _ _ (front_len-ascii is_intermediate (λ c. within-ascii 0x20 0x2F c (lit< tt))) (one_len-ascii (is_within 0x30 0x7E) (λ c. within-ascii 0x30 0x7E c (lit< tt)))
