@@ -69,15 +69,15 @@ impl Ord for EntryKey {
     }
 }
 
-// Compares as the final order does, which does not look at places.
+// Compares as the final order does, which does not look at places. Most entries that are compared are of one level.
 fn compare_order(left: &EntryKey, right: &EntryKey) -> Ordering
     ensures { result ≡ key_cmp (order_key left.now) (order_key right.now) }
 {
-    match left.level.below_all().cmp(&right.level.below_all()) {
-        Ordering::Less => Ordering::Less,
-        Ordering::Equal => compare_tests(&left.test, &right.test),
-        Ordering::Greater => Ordering::Greater,
+    let (below, right_below) = (left.level.below_all(), right.level.below_all());
+    if below == right_below {
+        return compare_tests(&left.test, &right.test);
     }
+    below.cmp(&right_below)
 }
 
 // Compares the iterations, then the counters and the instances.
