@@ -139,6 +139,7 @@ fn read_words(alloc: Global, list: Option<&str>) -> Result<Option<Vec<String>>, 
 }
 
 // Reads the first word of a list, and the list that follows it, where one does. None is a bad word.
+#[inline(always)]
 fn read_word(alloc: Global, list: &str) -> Result<Option<(String, Option<&str>)>, OutOfMemory>
     ensures words { IfOk result (λ word. list_words list.now ≡ words_from word) }
     ensures shorter { IfOk result (λ word. IfSome word (λ x. IfSome x.1 (λ after. length after.now < length list.now))) }

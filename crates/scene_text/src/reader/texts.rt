@@ -23,6 +23,7 @@ const ASCII: u8 = 0x7f;
 /// let text = read_text(alloc, r"a\tb")?;
 /// assert_eq!(text.map(|text| text.as_str() == "a\tb"), Some(true));
 /// ```
+#[inline(always)]
 pub fn read_text(alloc: Global, field: &str) -> Result<Option<CowStr<'_, Global>>, OutOfMemory>
     ensures { IfOk result (λ text. option_map cow_text text ≡ text_in field.now) }
 {
