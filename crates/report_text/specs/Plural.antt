@@ -1,7 +1,7 @@
 -- Words that stand for one thing or for any other number of them.
 use Rattle.std.specs.Prelude.{ℕ, Bool, true, false, not, ◌==◌, if◌then◌else◌, codes}
-use Rattle.run_model.specs.declared.config.NextestRunMode.{NextestRunMode}
-use Rattle.run_model.specs.declared.config.NextestRunMode.TheVariants.{Test, Benchmark}
+use Rattle.run_names.specs.declared.config.NextestRunMode.{NextestRunMode}
+use Rattle.run_names.specs.declared.config.NextestRunMode.TheVariants.{Test, Benchmark}
 use Rattle.plain_text.specs.Texts.{Text}
 
 -- the first word for one, the second for any other number

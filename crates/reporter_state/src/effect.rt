@@ -2,7 +2,7 @@
 
 ghost use Rattle.std.specs.Prelude.{◌≡◌, None, false, max};
 ghost use Rattle.std.specs.Option.{option_map};
-ghost use Rattle.run_model.specs.Levels.{reason_rank};
+ghost use Rattle.run_names.specs.Levels.{reason_rank};
 ghost use Rattle.reporter_state.specs.Refusals.{decider_by};
 ghost use Rattle.reporter_state.specs.Effects.{HasEndOutputIn, effect_of, end_of};
 ghost use Rattle.reporter_state.specs.Loads.{lacks_output};

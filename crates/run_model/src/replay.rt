@@ -1,7 +1,7 @@
 //! Replays of recorded runs.
 
-use crate::abort::DescriptionText;
-use crate::run_id::ShortestRunIdPrefix;
+use run_names::abort::DescriptionText;
+use run_names::run_id::ShortestRunIdPrefix;
 use jiff::civil::DateTime;
 use uuid::Uuid;
 

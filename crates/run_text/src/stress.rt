@@ -3,7 +3,7 @@
 ghost use Rattle.std.specs.Prelude.{◌≡◌};
 ghost use Rattle.std.specs.Option.{option_map};
 ghost use Rattle.std.specs.Int.NonZero.{non_zero_u32_get};
-ghost use Rattle.run_model.specs.Stress.{remaining_value};
+ghost use Rattle.run_names.specs.Stress.{remaining_value};
 ghost use Rattle.report_text.specs.Durations.{clock_text, whole_seconds};
 ghost use Rattle.plain_text.specs.Style.{styled};
 ghost use Rattle.plain_text.specs.Writer.{Puts};

@@ -2,7 +2,7 @@
 use Rattle.std.specs.Prelude.{ℕ, List, [], ◌∷◌, true, false, if◌then◌else◌, get_or, slice_set, Option, None, Some, codes, bytes_eq}
 use Rattle.std.specs.Option.{option_map}
 use Rattle.run_model.specs.declared.event.SkipCounts.{SkipCounts}
-use Rattle.run_model.specs.declared.level.CancelReason.{CancelReason}
+use Rattle.run_names.specs.declared.level.CancelReason.{CancelReason}
 use Rattle.run_model.specs.declared.stats.RunStats.{RunStats}
 use Rattle.scene_text.specs.Split.{cut, parted}
 use Rattle.scene_text.specs.Numbers.{number_in}

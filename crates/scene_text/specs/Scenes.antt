@@ -7,7 +7,7 @@ use Rattle.run_model.specs.declared.event.TestEventKind.TheVariants as kind
 use Rattle.run_model.specs.declared.info.InfoResponse.{InfoResponse}
 use Rattle.run_model.specs.declared.info.InfoResponse.TheVariants as response
 use Rattle.run_model.specs.declared.info.UnitState.{UnitState}
-use Rattle.run_model.specs.declared.name.TestInstanceId.{TestInstanceId}
+use Rattle.run_names.specs.declared.name.TestInstanceId.{TestInstanceId}
 use Rattle.run_model.specs.declared.replay.ReplayHeader.{ReplayHeader}
 use Rattle.run_model.specs.declared.call.ReportCall.{ReportCall}
 use Rattle.run_model.specs.declared.call.ReportCall.TheVariants as call

@@ -6,7 +6,7 @@ use Rattle.run_model.specs.declared.output.LiveSpec.{LiveSpec}
 use Rattle.run_model.specs.declared.status.ExecutionResultDescription.{ExecutionResultDescription}
 use Rattle.run_model.specs.declared.status.FlakyResult.{FlakyResult}
 use Rattle.run_model.specs.declared.status.RetryData.{RetryData}
-use Rattle.run_model.specs.declared.time.Nanos.{Nanos}
+use Rattle.run_names.specs.declared.time.Nanos.{Nanos}
 use Rattle.scene_text.specs.Counts.{stats_in}
 use Rattle.scene_text.specs.Fields.{◌>>=◌, Line, says, field}
 use Rattle.scene_text.specs.Lists.{words_of}

@@ -1,7 +1,7 @@
 //! A finished test, and its text as it is shown at once.
 
 ghost use Rattle.std.specs.Prelude.{◌≡◌};
-ghost use Rattle.run_model.specs.Levels.{reason_rank};
+ghost use Rattle.run_names.specs.Levels.{reason_rank};
 ghost use Rattle.plain_text.specs.Writer.{Puts};
 ghost use Rattle.test_text.specs.TestFinished.{HasShownOutput, finish_of, line_at_once, output_at_once, test_finish, test_finished_text};
 

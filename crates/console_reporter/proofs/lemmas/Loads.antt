@@ -7,7 +7,7 @@ use Rattle.run_model.specs.declared.info.InfoResponse.TheVariants.{SetupScript, 
 use Rattle.run_model.specs.declared.output.ChildOutputDescription.{ChildOutputDescription}
 use Rattle.run_model.specs.declared.output.LiveSpec.{LiveSpec}
 use Rattle.run_model.specs.declared.status.SetupScriptExecuteStatus.{SetupScriptExecuteStatus}
-use Rattle.run_model.specs.declared.stress.StressIndex.{StressIndex}
+use Rattle.run_names.specs.declared.stress.StressIndex.{StressIndex}
 use Rattle.plain_text.specs.Texts.{Text}
 use Rattle.run_text.specs.SetupScript.{HasFailedScriptOutput}
 use Rattle.info_text.specs.Response.{HasAnswerOutput}

@@ -2,7 +2,7 @@
 
 ghost use Rattle.std.specs.Prelude.{◌≡◌, ◌⊎◌, List, [], ◌∷◌, OnOk, OnErr, IfErr, IsErrOf, None, Some, nat_lt, reverse, take, true, false};
 ghost use Rattle.std.specs.Option.{is_some, option_map};
-ghost use Rattle.run_model.specs.Levels.{reason_rank};
+ghost use Rattle.run_names.specs.Levels.{reason_rank};
 ghost use Rattle.plain_text.specs.Writer.{Puts, one_further};
 ghost use Rattle.run_text.specs.Header.{replay_header_text};
 ghost use Rattle.run_model.specs.declared.call.ReportCall.{ReportCall};

@@ -1,8 +1,8 @@
 -- Bars, and the tests and setup scripts that lines speak of, in colour and plain (for all lines of units).
 use Rattle.std.proofs.Common.{◌≢◌, ◌∷◌, ℕ, Bool, true, false, arith, Option, None, Some}
-use Rattle.run_model.specs.declared.name.TestInstanceId.{TestInstanceId}
+use Rattle.run_names.specs.declared.name.TestInstanceId.{TestInstanceId}
 use Rattle.run_model.specs.declared.stats.RunStats.{RunStats}
-use Rattle.run_model.specs.declared.stress.StressIndex.{StressIndex}
+use Rattle.run_names.specs.declared.stress.StressIndex.{StressIndex}
 use Rattle.report_text.specs.Instance.{HasPlainCounter}
 use Rattle.report_text.specs.PlainTexts.{IsPlainInstance}
 use Rattle.plain_text.specs.Style.{styles_of}

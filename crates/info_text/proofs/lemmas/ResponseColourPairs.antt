@@ -4,7 +4,7 @@ use Rattle.run_model.specs.declared.info.InfoResponse.{InfoResponse}
 use Rattle.run_model.specs.declared.info.InfoResponse.TheVariants.{SetupScript, Test}
 use Rattle.run_model.specs.declared.info.UnitState.{UnitState}
 use Rattle.run_model.specs.declared.stats.RunStats.{RunStats}
-use Rattle.run_model.specs.declared.unit.UnitKind.{UnitKind}
+use Rattle.run_names.specs.declared.unit.UnitKind.{UnitKind}
 use Rattle.plain_text.specs.Alike.{without_end_spaces}
 use Rattle.plain_text.specs.Style.{plain, styles_of}
 use Rattle.plain_text.specs.Escapes.{HasNoEscape}

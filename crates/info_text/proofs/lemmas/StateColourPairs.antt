@@ -9,7 +9,7 @@ use Rattle.run_model.specs.declared.info.UnitTerminateReason.TheVariants as term
 use Rattle.run_model.specs.declared.info.UnitTerminatingState.{UnitTerminatingState}
 use Rattle.run_model.specs.declared.status.ExecutionResultDescription.{ExecutionResultDescription}
 use Rattle.run_model.specs.declared.status.RetryData.{RetryData}
-use Rattle.run_model.specs.declared.time.Nanos.{Nanos}
+use Rattle.run_names.specs.declared.time.Nanos.{Nanos}
 use Rattle.plain_text.specs.Escapes.{HasNoEscape}
 use Rattle.report_text.specs.PlainTexts.{HoldsIf, IsPlainResult}
 use Rattle.plain_text.specs.Style.{styled, styles_of}

@@ -5,8 +5,8 @@ use Rattle.std.proofs.lemmas.Bool.Decides.{nat_tests}
 use Rattle.std.specs.Fmt.{signed_decimal}
 use Rattle.std.specs.List.{AllByRecursion, flat_map}
 use Rattle.uuid.specs.Text.{by_index, hyphenated_text, lower, is_hyphen_place, hex_digit as id_digit, nibble, digit_place}
-use Rattle.run_model.specs.declared.config.NextestRunMode.{NextestRunMode}
-use Rattle.run_model.specs.declared.config.NextestRunMode.TheVariants.{Test, Benchmark}
+use Rattle.run_names.specs.declared.config.NextestRunMode.{NextestRunMode}
+use Rattle.run_names.specs.declared.config.NextestRunMode.TheVariants.{Test, Benchmark}
 use Rattle.plain_text.specs.Texts.{Text}
 use Rattle.plain_text.specs.Escapes.{visible, HasNoEscape}
 use Rattle.plain_text.specs.Indent.{indent}

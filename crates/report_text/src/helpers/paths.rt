@@ -1,7 +1,7 @@
 //! Paths of files and of the directories that dynamic libraries are searched in.
 
 ghost use Rattle.std.specs.Prelude.{◌≡◌, ◌<◌, ◌∷◌, [], IfOk, IfSome, MatchOption, codes, false, length, map, not, string_bytes};
-ghost use Rattle.run_model.specs.Names.{optional_text};
+ghost use Rattle.run_names.specs.Names.{optional_text};
 ghost use Rattle.report_text.specs.Paths.{between_colons, is_absolute, joined_path, search_paths};
 
 use run_model::memory::OutOfMemory;

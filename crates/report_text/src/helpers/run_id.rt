@@ -1,7 +1,7 @@
 //! The id of a run, which can be forced for tests.
 
 ghost use Rattle.std.specs.Prelude.{◌≡◌};
-ghost use Rattle.run_model.specs.Names.{optional_text};
+ghost use Rattle.run_names.specs.Names.{optional_text};
 ghost use Rattle.uuid.specs.Text.{parsed};
 ghost use Rattle.report_text.specs.RunId.{random_id, run_id, run_id_warning};
 

@@ -1,7 +1,7 @@
 -- How a run stands: that it is cancelled or killed, stopped for a while or asked for, in colour and plain.
 use Rattle.std.proofs.Common.{ℕ, Bool, true, false, refl, Option, None, Some}
-use Rattle.run_model.specs.declared.config.NextestRunMode.{NextestRunMode}
-use Rattle.run_model.specs.declared.level.CancelReason.{CancelReason}
+use Rattle.run_names.specs.declared.config.NextestRunMode.{NextestRunMode}
+use Rattle.run_names.specs.declared.level.CancelReason.{CancelReason}
 use Rattle.run_model.specs.declared.stats.RunStats.{RunStats}
 use Rattle.plain_text.specs.Escapes.{HasNoEscape}
 use Rattle.plain_text.specs.Style.{styles_of}

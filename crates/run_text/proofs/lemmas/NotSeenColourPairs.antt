@@ -1,9 +1,9 @@
 -- The tests that a rerun was to see and has not, in colour and plain.
 use Rattle.std.proofs.Common.{ℕ, Bool, true, false, List, [], ◌∷◌, Option, None, Some}
 use Rattle.std.specs.List.{AllByRecursion, flat_map}
-use Rattle.run_model.specs.declared.config.NextestRunMode.{NextestRunMode}
-use Rattle.run_model.specs.declared.name.OwnedTestInstanceId.{OwnedTestInstanceId}
-use Rattle.run_model.specs.declared.not_seen.NotSeen.{NotSeen}
+use Rattle.run_names.specs.declared.config.NextestRunMode.{NextestRunMode}
+use Rattle.run_names.specs.declared.name.OwnedTestInstanceId.{OwnedTestInstanceId}
+use Rattle.run_names.specs.declared.not_seen.NotSeen.{NotSeen}
 use Rattle.plain_text.specs.Style.{list_styles_of, styles_of}
 use Rattle.report_text.proofs.lemmas.InstanceColourPairs.{colour_pair-test_text}
 use Rattle.report_text.proofs.lemmas.ColourPairs.{IsColourPair, colour_pair-append, colour_pair-none, colour_pairs}

@@ -14,7 +14,7 @@ use Rattle.run_model.specs.declared.call.ReportCall.TheVariants as call
 use Rattle.run_model.specs.declared.event.TestEventKind.{TestEventKind}
 use Rattle.run_model.specs.declared.event.TestEventKind.TheVariants as kind
 use Rattle.run_model.specs.declared.info.InfoResponse.TheVariants as response
-use Rattle.run_model.specs.declared.name.TestInstanceId.{TestInstanceId}
+use Rattle.run_names.specs.declared.name.TestInstanceId.{TestInstanceId}
 use Rattle.scene_text.specs.Counts.{nothing_counted}
 use Rattle.scene_text.specs.SceneAttempts.{script_status}
 use Rattle.scene_text.specs.Scenes.{IsCallOf, SaysSame, needs_judging, told_elapsed}

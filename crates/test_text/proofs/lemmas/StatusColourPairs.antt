@@ -21,7 +21,7 @@ use Rattle.event_text.specs.declared.instance.CountedInstance.{CountedInstance}
 use Rattle.event_text.specs.declared.settings.Settings.{Settings}
 use Rattle.test_text.specs.declared.status_line.StatusLineKind.{StatusLineKind}
 use Rattle.test_text.specs.declared.status_line.StatusLineKind.TheVariants.{Intermediate, Final}
-use Rattle.run_model.specs.declared.unit.UnitKind.TheVariants as unit
+use Rattle.run_names.specs.declared.unit.UnitKind.TheVariants as unit
 use Rattle.event_text.proofs.lemmas.LineColourPairs.{painted, IsPlainTest}
 use Rattle.event_text.proofs.lemmas.OutputColourPairs.{colour_pair-unit_output}
 use Rattle.event_text.proofs.lemmas.ResultColourPairs.{free-long_word, free-short_word, free-success_word, colour_pair-abort_line}

@@ -1,13 +1,13 @@
 -- What a run skips and leaves undone, in colour and plain (for the lines of its start and its end).
 use Rattle.std.proofs.Common.{ℕ, Bool, true, false, refl, Option, None, Some}
-use Rattle.run_model.specs.Levels.{reason_words}
-use Rattle.run_model.specs.declared.config.CompiledDefaultFilter.{CompiledDefaultFilter}
-use Rattle.run_model.specs.declared.config.CompiledDefaultFilterSection.{CompiledDefaultFilterSection}
-use Rattle.run_model.specs.declared.config.CompiledDefaultFilterSection.TheVariants.{Profile, Override}
-use Rattle.run_model.specs.declared.config.NextestRunMode.{NextestRunMode}
+use Rattle.run_names.specs.Levels.{reason_words}
+use Rattle.run_names.specs.declared.config.CompiledDefaultFilter.{CompiledDefaultFilter}
+use Rattle.run_names.specs.declared.config.CompiledDefaultFilterSection.{CompiledDefaultFilterSection}
+use Rattle.run_names.specs.declared.config.CompiledDefaultFilterSection.TheVariants.{Profile, Override}
+use Rattle.run_names.specs.declared.config.NextestRunMode.{NextestRunMode}
 use Rattle.run_model.specs.declared.event.SkipCounts.{SkipCounts}
-use Rattle.run_model.specs.declared.level.CancelReason.{CancelReason}
-use Rattle.run_model.specs.declared.level.CancelReason.TheVariants as reason
+use Rattle.run_names.specs.declared.level.CancelReason.{CancelReason}
+use Rattle.run_names.specs.declared.level.CancelReason.TheVariants as reason
 use Rattle.run_model.specs.declared.stats.FinalRunStats.{FinalRunStats}
 use Rattle.run_model.specs.declared.stats.FinalRunStats.TheVariants.{Success, NoTestsRun, Cancelled, Failed}
 use Rattle.run_model.specs.declared.stats.RunStatsFailureKind.{RunStatsFailureKind}

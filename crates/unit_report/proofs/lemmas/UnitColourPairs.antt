@@ -2,7 +2,7 @@
 use Rattle.std.proofs.Common.{◌≡◌, ℕ, Bool, true, false, refl, List, [], ◌∷◌, Option, None, Some}
 use Rattle.std.specs.List.{AllByRecursion, flat_map}
 use Rattle.std.specs.Option.{option_and_then}
-use Rattle.run_model.specs.ErrorChains.{MessageAndCauses}
+use Rattle.run_names.specs.ErrorChains.{MessageAndCauses}
 use Rattle.run_model.specs.Outputs.{Part, stdout_part, stderr_part}
 use Rattle.run_model.specs.declared.output.ChildExecutionOutputDescription.{ChildExecutionOutputDescription}
 use Rattle.run_model.specs.declared.output.ChildExecutionOutputDescription.TheVariants.{Output, StartError}

@@ -1,5 +1,5 @@
 use Rattle.std.proofs.Common.{rules, ap, subst, sym, ◌∙◌}
-use Rattle.run_model.specs.Levels.{reason_rank}
+use Rattle.run_names.specs.Levels.{reason_rank}
 use Rattle.reporter_state.specs.declared.state.ReporterState.{ReporterState}
 use Rattle.console_reporter.proofs.lemmas.Stores.{config-same}
 use Rattle.console_reporter.proofs.lemmas.Calls.{stops_error}

@@ -5,7 +5,7 @@ ghost use Rattle.std.specs.Option.{option_map};
 ghost use Rattle.std.specs.Int.NonZero.{non_zero_u32_get};
 ghost use Rattle.std.specs.Ordering.{nat_cmp};
 ghost use Rattle.std.specs.Cmp.Lexicographic.{slice_cmp};
-ghost use Rattle.run_model.specs.Stress.{completed_of, count_left, elapsed_of, remaining_of, remaining_value, stress_key, time_left};
+ghost use Rattle.run_names.specs.Stress.{completed_of, count_left, elapsed_of, remaining_of, remaining_value, stress_key, time_left};
 
 use crate::time::Nanos;
 use std::cmp::Ordering;

@@ -6,8 +6,8 @@ ghost use Rattle.std.specs.Cmp.{partial_order_from_own_ties};
 ghost use Rattle.std.specs.Cmp.Lexicographic.{pointwise, slice_cmp};
 ghost use Rattle.std.specs.Cmp.Rules.{comparing};
 ghost use Rattle.std.proofs.Common.{rules};
-ghost use Rattle.run_model.specs.Instances.{instance_cmp};
-ghost use Rattle.run_model.specs.Names.{module_path_of, last_name_of, optional_text};
+ghost use Rattle.run_names.specs.Instances.{instance_cmp};
+ghost use Rattle.run_names.specs.Names.{module_path_of, last_name_of, optional_text};
 
 use crate::memory::OutOfMemory;
 use std::alloc::Global;

@@ -1,5 +1,5 @@
-use Rattle.run_model.proofs.lemmas.LastColons.{split_found, split_missed}
-use Rattle.run_model.proofs.name.cut_at_last_colons.Goals as goal
+use Rattle.run_names.proofs.lemmas.LastColons.{split_found, split_missed}
+use Rattle.run_names.proofs.name.cut_at_last_colons.Goals as goal
 
 pub returns-in-Some : goal.returns-in-Some
 returns-in-Some c = let parts = split_found c.args.text.now c.in-Some.module_path.now c.in-Some.name.now c.in-Some.ensures.cases in record { path = parts.0; name = parts.1 }

@@ -1,7 +1,7 @@
 //! How a run's id is told from those of other runs.
 
 ghost use Rattle.std.specs.Prelude.{◌≡◌, IfOk};
-ghost use Rattle.run_model.specs.UniquePrefixes.{UniquePrefix};
+ghost use Rattle.run_names.specs.UniquePrefixes.{UniquePrefix};
 
 use crate::memory::OutOfMemory;
 use std::alloc::Global;
@@ -21,7 +21,7 @@ pub struct ShortestRunIdPrefix {
 
 impl Model for ShortestRunIdPrefix {
     ghost use Rattle.std.specs.Prelude.{string_bytes};
-    ghost use Rattle.run_model.specs.UniquePrefixes.{UniquePrefix};
+    ghost use Rattle.run_names.specs.UniquePrefixes.{UniquePrefix};
 
     ghost Value = { UniquePrefix };
 

@@ -3,7 +3,7 @@
 //! The order of the variants is their order: the later one is the greater.
 
 ghost use Rattle.std.specs.Prelude.{◌≡◌, IsTrue, ◌↔◌, ◌<◌, ◌≤◌, ◌-◌, Some};
-ghost use Rattle.run_model.specs.Levels.{reason_rank, reason_words, status_rank, final_rank};
+ghost use Rattle.run_names.specs.Levels.{reason_rank, reason_words, status_rank, final_rank};
 
 /// The least status level that is shown while the run goes on. Each level shows what those before it show.
 #[derive(Clone, Copy, Debug, PartialEq, Eq, PartialOrd, Ord)]

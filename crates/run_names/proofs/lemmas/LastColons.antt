@@ -4,7 +4,7 @@ use Rattle.std.specs.Str.Pattern.{RFindsText, LacksTextAt, SplitsAroundMatch}
 use Rattle.std.proofs.lemmas.Bool.{cases_lt}
 use Rattle.std.proofs.lemmas.List.{drop_all}
 use Rattle.std.proofs.lemmas.Bool.Decides.{eqb_tells}
-use Rattle.run_model.specs.Names.{begins_with_colons, last_colons, module_path_of, last_name_of}
+use Rattle.run_names.specs.Names.{begins_with_colons, last_colons, module_path_of, last_name_of}
 
 -- no place has them
 last_colons-none : (t : List ℕ) → ((k : ℕ) → begins_with_colons (drop k t) ≡ false) → last_colons t ≡ None

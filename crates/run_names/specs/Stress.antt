@@ -2,13 +2,13 @@
 use Rattle.std.specs.Prelude.{ℕ, ◌-◌, List, [], ◌∷◌, Option, None, Some, nat_lt, if◌then◌else◌}
 use Rattle.std.specs.declared.num.NonZeroU32.{NonZeroU32}
 use Rattle.std.specs.Int.NonZero.{non_zero_u32_get}
-use Rattle.run_model.specs.declared.stress.StressCount.TheVariants as total
-use Rattle.run_model.specs.declared.stress.StressIndex.{StressIndex}
-use Rattle.run_model.specs.declared.stress.StressProgress.{StressProgress}
-use Rattle.run_model.specs.declared.stress.StressProgress.TheVariants.{Count, Time}
-use Rattle.run_model.specs.declared.stress.StressRemaining.{StressRemaining}
-use Rattle.run_model.specs.declared.stress.StressRemaining.TheVariants as remaining
-use Rattle.run_model.specs.declared.time.Nanos.{Nanos}
+use Rattle.run_names.specs.declared.stress.StressCount.TheVariants as total
+use Rattle.run_names.specs.declared.stress.StressIndex.{StressIndex}
+use Rattle.run_names.specs.declared.stress.StressProgress.{StressProgress}
+use Rattle.run_names.specs.declared.stress.StressProgress.TheVariants.{Count, Time}
+use Rattle.run_names.specs.declared.stress.StressRemaining.{StressRemaining}
+use Rattle.run_names.specs.declared.stress.StressRemaining.TheVariants as remaining
+use Rattle.run_names.specs.declared.time.Nanos.{Nanos}
 
 -- the total, if there is one
 abbrev pub total_key : Option NonZeroU32 → List ℕ

@@ -4,7 +4,7 @@ ghost use Rattle.std.specs.Prelude.{◌≡◌, IfOk, IsOk, false, nat_eq};
 ghost use Rattle.std.specs.Cmp.{partial_equiv_from_equiv};
 ghost use Rattle.std.specs.Cmp.Lexicographic.{pointwise, nat_list_eq_equiv};
 ghost use Rattle.std.specs.Option.{is_some};
-ghost use Rattle.run_model.specs.Statuses.{abort_has_text};
+ghost use Rattle.run_names.specs.Aborts.{abort_has_text};
 
 use crate::memory::OutOfMemory;
 use std::alloc::Global;

@@ -1,5 +1,5 @@
 use Rattle.std.proofs.Common.{◌≡◌, map, string_bytes, take}
-use Rattle.run_model.proofs.command.CommandLine.from_words.Given as goal
+use Rattle.run_names.proofs.command.CommandLine.from_words.Given as goal
 
 -- the words so far are copied
 abbrev pub invariant-loop-word : goal.invariant-loop-word
