@@ -6,10 +6,10 @@ use Rattle.run_names.specs.declared.config.TestOutputDisplay.{TestOutputDisplay}
 use Rattle.run_names.specs.declared.config.TestOutputDisplay.TheVariants as display
 use Rattle.run_names.specs.declared.level.StatusLevel.{StatusLevel}
 use Rattle.run_model.specs.declared.stats.RunStats.{RunStats}
-use Rattle.report_text.specs.Theme.{hbar_character}
+use Rattle.report_words.specs.Theme.{hbar_character}
 use Rattle.report_text.specs.declared.helpers.instance.DisplayCounterIndex.{DisplayCounterIndex}
 use Rattle.report_text.specs.declared.helpers.instance.DisplayCounterIndex.TheVariants.{Counter, Padded}
-use Rattle.report_text.specs.declared.helpers.theme.ThemeCharacters.{ThemeCharacters}
+use Rattle.report_words.specs.declared.theme.ThemeCharacters.{ThemeCharacters}
 use Rattle.unit_report.specs.declared.config.ProgressDisplay.{ProgressDisplay}
 use Rattle.unit_report.specs.declared.config.ProgressDisplay.TheVariants as shown
 use Rattle.unit_report.specs.declared.unit_output.overrides.OutputDisplayOverrides.{OutputDisplayOverrides}

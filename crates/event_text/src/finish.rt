@@ -13,7 +13,7 @@ use run_model::output::LiveSpec;
 use run_model::status::{ExecutionDescription, ExecutionResultDescription, FailureDescription};
 
 /// What becomes of a finished test.
-#[derive(Clone, Copy, Debug, PartialEq, Eq)]
+#[derive(Clone, Copy, PartialEq, Eq)]
 pub enum FinishRow {
     /// Its output is not shown, and it is not kept.
     Hidden,

@@ -3,12 +3,12 @@
 ghost use Rattle.std.specs.Prelude.{◌≡◌, Some};
 ghost use Rattle.run_model.specs.Infos.{has_valid_output, terminate_reason_text};
 
+use crate::output::{ChildExecutionOutputDescription, LiveSpec};
+use crate::status::{ExecutionResultDescription, RetryData};
 use run_names::abort::DescriptionText;
 use run_names::boxed::Boxed;
 use run_names::command::CommandLine;
 use run_names::name::{ProgramName, ScriptId, TestInstanceId};
-use crate::output::{ChildExecutionOutputDescription, LiveSpec};
-use crate::status::{ExecutionResultDescription, RetryData};
 use run_names::stress::StressIndex;
 use run_names::time::Nanos;
 use std::fmt;

@@ -1,9 +1,9 @@
 //! Events whose captured output a replay can leave unread.
 
-use run_names::config::TestOutputDisplay;
 use crate::output::OutputSpec;
 use crate::stats::RunStats;
 use crate::status::{ExecuteStatus, ExecutionStatuses, SetupScriptExecuteStatus};
+use run_names::config::TestOutputDisplay;
 use run_names::stress::StressIndex;
 use run_names::time::Nanos;
 

@@ -6,7 +6,7 @@ use Rattle.run_names.specs.declared.config.NextestRunMode.{NextestRunMode}
 use Rattle.run_names.specs.declared.name.OwnedTestInstanceId.{OwnedTestInstanceId}
 use Rattle.run_names.specs.declared.not_seen.NotSeen.{NotSeen}
 use Rattle.report_text.specs.Instance.{test_text}
-use Rattle.report_text.specs.Plural.{tests_word}
+use Rattle.report_words.specs.Plural.{tests_word}
 use Rattle.plain_text.specs.Style.{plain, styled}
 use Rattle.plain_text.specs.Texts.{Text, right_in}
 use Rattle.plain_text.specs.declared.style.ListStyles.{ListStyles}

@@ -9,7 +9,8 @@ use Rattle.run_model.specs.declared.output.LiveSpec.{LiveSpec}
 use Rattle.run_model.specs.declared.replay.ReplayHeader.{ReplayHeader}
 use Rattle.run_model.specs.declared.status.SetupScriptExecuteStatus.{SetupScriptExecuteStatus}
 use Rattle.plain_text.specs.Escapes.{HasNoEscape}
-use Rattle.report_text.specs.PlainTexts.{HoldsIf, IsPlainResult}
+use Rattle.report_words.specs.PlainTexts.{HoldsIf}
+use Rattle.report_text.specs.PlainResults.{IsPlainResult}
 use Rattle.unit_report.specs.PlainOutputs.{IsPlainWritten}
 
 -- a run's id in two parts holds no escape character

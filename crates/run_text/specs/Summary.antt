@@ -17,7 +17,7 @@ use Rattle.run_model.specs.declared.stats.StressFinalRunStats.TheVariants as str
 use Rattle.run_model.specs.declared.stats.StressRunStats.{StressRunStats}
 use Rattle.run_names.specs.declared.stress.StressIndex.{StressIndex}
 use Rattle.plain_text.specs.Texts.{Text, right_in}
-use Rattle.report_text.specs.Plural.{iterations_word, tests_word_if}
+use Rattle.report_words.specs.Plural.{iterations_word, tests_word_if}
 use Rattle.plain_text.specs.Style.{plain, styled}
 use Rattle.plain_text.specs.declared.style.Style.{Style}
 use Rattle.plain_text.specs.declared.style.Styles.{Styles}

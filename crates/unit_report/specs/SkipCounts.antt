@@ -7,7 +7,7 @@ use Rattle.run_names.specs.declared.config.CompiledDefaultFilter.{CompiledDefaul
 use Rattle.run_names.specs.declared.config.CompiledDefaultFilterSection.{CompiledDefaultFilterSection}
 use Rattle.run_names.specs.declared.config.CompiledDefaultFilterSection.TheVariants.{Profile, Override}
 use Rattle.run_model.specs.declared.event.SkipCounts.{SkipCounts}
-use Rattle.report_text.specs.Plural.{tests_word, binaries_word}
+use Rattle.report_words.specs.Plural.{tests_word, binaries_word}
 use Rattle.plain_text.specs.Style.{plain, styled}
 use Rattle.plain_text.specs.Texts.{Text}
 use Rattle.plain_text.specs.declared.style.Styles.{Styles}

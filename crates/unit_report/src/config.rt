@@ -34,7 +34,7 @@ pub enum ProgressDisplay {
 }
 
 /// The levels that a report has.
-#[derive(Clone, Copy, Debug, PartialEq, Eq)]
+#[derive(Clone, Copy, PartialEq, Eq)]
 pub struct StatusLevels {
     /// While the run goes on.
     pub status_level: StatusLevel,
@@ -43,7 +43,7 @@ pub struct StatusLevels {
 }
 
 /// The progress display and the levels that a report has.
-#[derive(Clone, Copy, Debug, PartialEq, Eq)]
+#[derive(Clone, Copy, PartialEq, Eq)]
 pub struct ResolvedDisplay {
     /// How progress is shown.
     pub progress_display: ProgressDisplay,

@@ -13,7 +13,7 @@ use run_model::memory::OutOfMemory;
 use std::alloc::Global;
 
 /// How a process ended.
-#[derive(Debug, Drop)]
+#[derive(Drop)]
 pub enum ExitDescription {
     /// With a code.
     Code(i32),

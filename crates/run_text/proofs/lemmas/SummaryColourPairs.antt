@@ -19,8 +19,8 @@ use Rattle.run_names.specs.declared.stress.StressProgress.TheVariants.{Count, Ti
 use Rattle.plain_text.specs.Escapes.{HasNoEscape}
 use Rattle.plain_text.specs.Style.{styled, styles_of}
 use Rattle.plain_text.specs.Texts.{Text, right_in}
-use Rattle.report_text.proofs.lemmas.FreeWords.{frees}
-use Rattle.report_text.proofs.lemmas.ColourPairs.{IsColourPair, colour_pair-append, colour_pair-none, colour_pairs}
+use Rattle.report_words.proofs.lemmas.FreeWords.{frees}
+use Rattle.report_words.proofs.lemmas.ColourPairs.{IsColourPair, colour_pair-append, colour_pair-none, colour_pairs}
 use Rattle.unit_report.proofs.lemmas.SkipColourPairs.{free-reason_words}
 use Rattle.unit_report.proofs.lemmas.DurationColourPairs.{colour_pair-bracketed_duration}
 use Rattle.event_text.specs.declared.settings.Settings.{Settings}

@@ -7,11 +7,11 @@ use Rattle.run_model.specs.declared.status.StatusCase.{StatusCase}
 use Rattle.run_model.specs.declared.status.StatusCase.TheVariants.{Success, Flaky, Failure}
 use Rattle.run_model.specs.declared.status.StatusSummary.{StatusSummary}
 use Rattle.plain_text.specs.Escapes.{HasNoEscape}
-use Rattle.report_text.specs.PlainTexts.{IsPlainResult}
+use Rattle.report_text.specs.PlainResults.{IsPlainResult}
 use Rattle.plain_text.specs.Style.{styles_of}
-use Rattle.report_text.proofs.lemmas.FreeWords.{frees}
+use Rattle.report_words.proofs.lemmas.FreeWords.{frees}
 use Rattle.report_text.proofs.lemmas.InstanceColourPairs.{colour_pair-instance_text}
-use Rattle.report_text.proofs.lemmas.ColourPairs.{IsColourPair, colour_pair-none, colour_pair-if, colour_pair-append, colour_pairs}
+use Rattle.report_words.proofs.lemmas.ColourPairs.{IsColourPair, colour_pair-none, colour_pair-if, colour_pair-append, colour_pairs}
 use Rattle.unit_report.proofs.lemmas.DurationColourPairs.{colour_pair-bracketed_duration}
 use Rattle.unit_report.specs.PlainOutputs.{IsPlainWritten}
 use Rattle.test_text.specs.TestFinished.{TestFinish, line_at_once, output_at_once, test_finished_text}

@@ -17,7 +17,7 @@ use Rattle.plain_text.specs.Escapes.{HasNoEscape}
 use Rattle.plain_text.specs.Style.{styles_of}
 use Rattle.unit_report.specs.SkipCounts.{tests_text, binaries_text, between, tests_and_binaries, filter_name, via_filter, rerun_text, filtered_text, included_text, skip_reason, skip_note}
 use Rattle.unit_report.specs.Warnings.{due_to, options_hint, hint_after, not_run_count, not_run_warning, warning_of, final_warnings}
-use Rattle.report_text.proofs.lemmas.ColourPairs.{IsColourPair, colour_pair-none, colour_pairs}
+use Rattle.report_words.proofs.lemmas.ColourPairs.{IsColourPair, colour_pair-none, colour_pairs}
 
 colour_pair-tests_and_binaries : (k : Bool) (mode : NextestRunMode) (t b : ℕ) → IsColourPair k (tests_and_binaries (styles_of true) mode t b) (tests_and_binaries (styles_of false) mode t b)
 unfolding tests_and_binaries tests_text binaries_text between
