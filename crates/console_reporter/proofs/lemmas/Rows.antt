@@ -31,10 +31,10 @@ use Rattle.run_names.specs.declared.time.Nanos.{Nanos}
 use Rattle.run_names.specs.Names.{last_colons}
 use Rattle.run_model.specs.Attempts.{Attempts, Written}
 use Rattle.run_model.specs.Statuses.{summary_of}
-use Rattle.report_text.specs.Plural.{tests_word_if, binaries_word}
+use Rattle.report_words.specs.Plural.{tests_word_if, binaries_word}
 use Rattle.plain_text.specs.Style.{plain, styled, styles_of}
 use Rattle.plain_text.specs.Texts.{Text, right_in}
-use Rattle.report_text.specs.Theme.{hbar_text}
+use Rattle.report_words.specs.Theme.{hbar_text}
 use Rattle.event_text.specs.AbortLine.{abort_line}
 use Rattle.event_text.specs.Settings.{theme_of}
 use Rattle.event_text.specs.ResultWords.{long_word}

@@ -53,7 +53,7 @@ use Rattle.run_names.specs.declared.stress.StressProgress.{StressProgress}
 use Rattle.run_names.specs.declared.unit.UnitKind.{UnitKind}
 use Rattle.run_names.specs.declared.unit.UnitKind.TheVariants as unit
 use Rattle.plain_text.specs.declared.style.ListStyles.{ListStyles}
-use Rattle.report_text.specs.declared.helpers.theme.ThemeCharacters.{ThemeCharacters}
+use Rattle.report_words.specs.declared.theme.ThemeCharacters.{ThemeCharacters}
 use Rattle.run_model.specs.declared.info.InfoResponse.{InfoResponse as Response}
 use Rattle.event_text.specs.Bar.{bar_line}
 use Rattle.info_text.specs.Response.{info_response_text}
