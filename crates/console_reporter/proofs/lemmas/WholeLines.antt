@@ -494,3 +494,8 @@ pub of_lines-text : (config : Configuration) (past : List ReportCall) (call : Re
 of_lines-text config past (Event e) = of_lines-event_text _ _ e.elapsed.0 e.kind
 of_lines-text config past (Header h) = of_line _ (ends-replay_header_text _ h)
 of_lines-text config past (Prefix p) = inl refl
+
+-- and of the end of a report, which is empty
+pub of_lines-told : (config : Configuration) (past : List ReportCall) (call : Option ReportCall) → IsOfLines (told_text config past call)
+of_lines-told config past None = inl refl
+of_lines-told config past (Some call) = of_lines-text config past call

@@ -281,9 +281,10 @@ impl<'a, W: WriteStr, S: WriteStr> DisplayReporter<'a, W, S> {
         ensures works { self.new.state.has_failed ≡ self.old.state.has_failed }
         ensures failed { HasFailed self.old → self.new ≡ self.old }
     {
-        if !self.state.has_failed {
-            self.state.unique_prefix = Some(prefix);
+        if self.state.has_failed {
+            return;
         }
+        self.state.unique_prefix = Some(prefix);
     }
 
     // Takes a copy of a prefix. Where its memory is refused, the reporter has failed.
