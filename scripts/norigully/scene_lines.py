@@ -4,6 +4,7 @@
 statistics after it. The statistics follow nextest's `RunStats`; each rule stands where it is used.
 """
 
+import signal
 from decimal import ROUND_HALF_UP, Decimal
 
 NAMED = {"\n": "\\n", "\t": "\\t", "\r": "\\r", "\x1b": "\\e", "\\": "\\\\"}
@@ -39,6 +40,22 @@ def stream(output):
     return text(output, may_be_byte=True)
 
 
+def signal_result(number):
+    """The result of a process that a signal ended."""
+    try:
+        return f"sig:{number}:{signal.Signals(number).name.removeprefix('SIG')}"
+    except ValueError:
+        return f"sig:{number}"
+
+
+def part(found):
+    """The part of a stream that matters: the stream, the offset in bytes and the text there; `-` for None."""
+    if found is None:
+        return "-"
+    name, start, output = found
+    return f"{name}:{start}:{stream(output)}"
+
+
 def words(values):
     return "\\,".join(text(it) for it in values) if values else "-"
 
@@ -56,14 +73,14 @@ def nanos(seconds):
 class Attempt:
     """An attempt of a test: how it ended (a result as docs/SCENES.md has it), how long it took, and what it wrote."""
 
-    def __init__(self, result, seconds, stdout=None, stderr=None, combined=None, is_slow=False, start_error=None):
+    def __init__(self, result, seconds, stdout=None, stderr=None, combined=None, is_slow=False, start_error=None, highlight=None):
         self.result, self.is_slow = result, is_slow
         output = ["split", stream(stdout), stream(stderr)]
         if combined is not None:
             output = ["comb", stream(combined), "-"]
         if start_error is not None:
             output = ["start", words(start_error), "-"]
-        self.fields = [result, nanos(seconds), str(int(is_slow)), *output, "-", "-"]
+        self.fields = [result, nanos(seconds), str(int(is_slow)), *output, "-", part(highlight)]
 
 
 class Run:
@@ -127,10 +144,11 @@ class Run:
         else:
             self.count("failed")
 
-    def done(self, binary, name, attempts, success="never", failure="immediate"):
+    def done(self, binary, name, attempts, success="never", failure="immediate", total=None):
+        """A test finished, of whose attempts so many are allowed; as many as were made where that is not known."""
         self.count_finished(attempts)
         fields = [field for attempt in attempts for field in attempt.fields]
-        self.line("done", "-", text(binary), text(name), success, failure, "pass", self.stats(), str(len(attempts)), *fields)
+        self.line("done", "-", text(binary), text(name), success, failure, "pass", self.stats(), str(total or len(attempts)), *fields)
 
     def end(self, seconds):
         self.line("end", nanos(seconds), self.stats(), "0", "-")
