@@ -45,3 +45,24 @@ fn is_flaky() {
         panic!("the first time");
     }
 }
+
+fn of(name: &str) -> String {
+    env::var(name).unwrap_or_else(|_| panic!("no {name}"))
+}
+
+// What Cargo and nextest tell a test.
+#[test]
+fn reads_its_environment() {
+    assert_eq!((of("CARGO_PKG_NAME"), of("CARGO_PKG_VERSION")), ("mixed".into(), "0.1.0".into()));
+    assert_eq!(of("CARGO_MANIFEST_DIR"), env!("CARGO_MANIFEST_DIR"));
+    assert_eq!(of("CARGO_BIN_EXE_half"), env!("CARGO_BIN_EXE_half"));
+    assert_eq!(fs::read_to_string(format!("{}/made", of("OUT_DIR"))).unwrap(), "by the build script");
+    assert_eq!((of("NEXTEST"), of("NEXTEST_TEST_NAME")), ("1".into(), "reads_its_environment".into()));
+    assert_eq!((of("NEXTEST_BINARY_ID"), of("NEXTEST_ATTEMPT")), ("mixed::ends".into(), "1".into()));
+}
+
+// It returns an error.
+#[test]
+fn returns_an_error() -> Result<(), String> {
+    Err("no luck".into())
+}

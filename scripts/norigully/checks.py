@@ -1,12 +1,13 @@
 """What the check scripts share: what they need before they begin, and how they count what they found."""
 
 import os
-import pathlib
 import re
 import shutil
 import sys
 
-CRATES = pathlib.Path(__file__).resolve().parent.parent / "crates"
+from norigully import TOP
+
+CRATES = TOP / "crates"
 
 
 def need_program(program, makes="./test, or `rt run -- /dev/null` in crates/report, makes it"):

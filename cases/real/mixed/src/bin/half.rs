@@ -1,0 +1,5 @@
+//! A binary that a test runs.
+
+fn main() {
+    println!("{}", mixed::half(8));
+}
