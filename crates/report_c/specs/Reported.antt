@@ -2,9 +2,9 @@
 use Rattle.std.specs.Prelude.{◌≡◌, ◌==◌, ℕ, ◌<◌, ◌≤◌, if◌then◌else◌, List, [], ◌++◌, length, drop, Option, None, Some, Err, false, ⊤}
 use Rattle.run_model.specs.declared.level.StatusLevel.{StatusLevel}
 use Rattle.run_model.specs.declared.level.StatusLevel.TheVariants as level
-use Rattle.scene_text.specs.declared.fault.LineFault.{LineFault}
-use Rattle.scene_text.specs.declared.fault.ReadFault.{ReadFault}
-use Rattle.scene_text.specs.declared.fault.ReadFault.TheVariants as read
+use Rattle.scene_fields.specs.declared.fault.LineFault.{LineFault}
+use Rattle.scene_fields.specs.declared.fault.ReadFault.{ReadFault}
+use Rattle.scene_fields.specs.declared.fault.ReadFault.TheVariants as read
 use Rattle.scenes.specs.Judged.{IsJudged}
 use Rattle.scenes.specs.SpelledRuns.{PrintsRun}
 use Rattle.scenes.specs.declared.fault.Fault.{Fault}

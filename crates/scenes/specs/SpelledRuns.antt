@@ -9,7 +9,7 @@ use Rattle.scenes.specs.Judged.{IsJudged}
 use Rattle.scenes.specs.Reports.{Begins, IsStop, report_of, stored_of}
 use Rattle.scenes.specs.ToldScenes.{scene_told}
 use Rattle.scene_text.specs.SceneTexts.{Told, text_told}
-use Rattle.scene_text.specs.Scenes.{IsCallOf}
+use Rattle.scene_events.specs.Scenes.{IsCallOf}
 use Rattle.scenes.specs.Unloads.{decider_for}
 use Rattle.scenes.specs.declared.fault.Fault.{Fault}
 use Rattle.scenes.specs.declared.scene.Scene.{Scene}

@@ -98,7 +98,7 @@ impl Error for Fault<'_> {}
 /// let line = FaultLine { program: Program::Report, fault: Fault::WriteFailed };
 /// assert_eq!(line.to_string(alloc)?.as_str(), "report: write failed");
 /// ```
-#[derive(Clone, Copy, Debug)]
+#[derive(Clone, Copy)]
 pub struct FaultLine<'a> {
     /// Whose line it is.
     pub program: Program,
@@ -107,7 +107,7 @@ pub struct FaultLine<'a> {
 }
 
 /// A program that reports scenes.
-#[derive(Clone, Copy, Debug, PartialEq, Eq)]
+#[derive(Clone, Copy, PartialEq, Eq)]
 pub enum Program {
     /// It reports a scene that it has read to its end.
     Report,

@@ -28,10 +28,10 @@ use std::alloc::{AllocError, Global};
 use std::io::{BufRead, Write};
 use store_text::config::StoreConfig;
 
-/// What a run has come to that is followed.
-#[derive(Clone, Copy, Debug, PartialEq, Eq)]
+/// How a followed run stands.
+#[derive(Clone, Copy, PartialEq, Eq)]
 pub enum RunOutcome {
-    /// It has not ended: no line says its end since the last that says a start.
+    /// It has not ended: no end line has come since the last start line.
     NotEnded,
     /// Its end says that all tests ran, and none failed.
     Success,
@@ -72,7 +72,7 @@ impl RunOutcome {
         }
     }
 
-    // What a run has come to that ended with these statistics.
+    // The outcome of a run that ended with these statistics.
     fn of_stats(stats: &RunFinishedStats) -> RunOutcome
         ensures { result ≡ outcome_of stats.now }
     {

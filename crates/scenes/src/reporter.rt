@@ -68,7 +68,7 @@ pub fn builder_of(
     })
 }
 
-// A counter, or nothing.
+// What the options show of progress.
 fn progress_for(options: &Options<'_>) -> ShowProgress
     ensures { result ≡ progress_for options.now }
 {
@@ -79,7 +79,7 @@ fn progress_for(options: &Options<'_>) -> ShowProgress
     }
 }
 
-// A recorded run, or one that goes on.
+// Whether they show a recorded run.
 fn kind_for(options: &Options<'_>) -> DisplayerKind
     ensures { result ≡ kind_for options.now }
 {

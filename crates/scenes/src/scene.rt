@@ -15,7 +15,7 @@ pub use scene_text::scene::{
 use std::alloc::Global;
 
 /// A run: how it is reported, and its events in order.
-#[derive(Debug, Drop)]
+#[derive(Drop)]
 pub struct Scene {
     /// How it is reported.
     pub config: SceneConfig,

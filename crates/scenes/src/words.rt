@@ -80,7 +80,7 @@ pub fn words_or_input<'a>(
 }
 
 // The options that were read so far.
-#[derive(Clone, Copy, Debug, Default)]
+#[derive(Clone, Copy, Default)]
 struct Given<'a> {
     color: bool,
     counter: bool,

@@ -3,14 +3,14 @@ use Rattle.std.proofs.Common.{◌≡◌, ℕ, ◌+◌, Bool, true, false, List, 
 use Rattle.plain_text.specs.Writer.{Meaning, WriterLaws}
 use Rattle.console_reporter.specs.Telling.{AreDelivered}
 use Rattle.console_reporter.proofs.lemmas.Runs.{run_begun}
-use Rattle.scene_text.specs.Configs.{unconfigured}
+use Rattle.scene_events.specs.Configs.{unconfigured}
 use Rattle.scene_text.specs.SceneTexts.{Told, line_said, lines_before, text_told, with_said}
-use Rattle.scene_text.specs.Split.{parted}
-use Rattle.scene_text.specs.declared.fault.LineFault.{LineFault}
+use Rattle.scene_fields.specs.Split.{parted}
+use Rattle.scene_fields.specs.declared.fault.LineFault.{LineFault}
 use Rattle.scene_text.specs.declared.reader.LineSaid.{LineSaid}
 use Rattle.scene_text.specs.declared.reader.LineSaid.TheVariants as said
-use Rattle.scene_text.specs.declared.scene.SceneConfig.{SceneConfig}
-use Rattle.scene_text.specs.declared.scene.event.SceneEvent.{SceneEvent}
+use Rattle.scene_events.specs.declared.scene.SceneConfig.{SceneConfig}
+use Rattle.scene_events.specs.declared.scene.event.SceneEvent.{SceneEvent}
 use Rattle.scenes.specs.Follow.{AtLine, BreaksOff, HasFirst, HasNoEvent, HasTold, IsFirstEvent, IsNextLine, IsReadTo, IsRefusedMemory, IsStart, KeepsUp, LeavesEvent, OfText, StopsBy, TellsEvent, run_outcome}
 use Rattle.scenes.specs.Pieces.{IsUnread}
 use Rattle.scenes.specs.declared.fault.Fault.{Fault}

@@ -8,11 +8,11 @@ use Rattle.std.proofs.lemmas.Bool.{cases_Bool}
 use Rattle.std.proofs.lemmas.Bool.Decides.{nat_tests}
 use Rattle.memchr.specs.Find.{IsLastByte, is_byte}
 use Rattle.scene_text.specs.SceneTexts.{IsFaultThere, Told, event_lines, line_here, line_said, line_told, lines_from, lines_told, lines_told_after, nothing_told, text_told, told}
-use Rattle.scene_text.specs.Split.{parted}
-use Rattle.scene_text.specs.declared.fault.LineFault.{LineFault}
-use Rattle.scene_text.specs.declared.fault.ReadFault.{ReadFault}
-use Rattle.scene_text.specs.declared.fault.ReadFault.TheVariants as fault
-use Rattle.scene_text.specs.declared.scene.ToldRun.{ToldRun}
+use Rattle.scene_fields.specs.Split.{parted}
+use Rattle.scene_fields.specs.declared.fault.LineFault.{LineFault}
+use Rattle.scene_fields.specs.declared.fault.ReadFault.{ReadFault}
+use Rattle.scene_fields.specs.declared.fault.ReadFault.TheVariants as fault
+use Rattle.scene_events.specs.declared.scene.ToldRun.{ToldRun}
 use Rattle.scene_text.proofs.lemmas.FirstFaults.{differs, same_told, tells_fault}
 use Rattle.scenes.specs.Faults.{fault_of_read}
 use Rattle.scenes.specs.Pieces.{IsBehind, IsNextPiece}

@@ -23,8 +23,8 @@ use Rattle.reporter_state.specs.declared.decider.OutputLoadDecider.{OutputLoadDe
 use Rattle.reporter_state.specs.declared.faults.WriteEventError.{WriteEventError}
 use Rattle.reporter_state.specs.declared.faults.WriteEventError.TheVariants.{RetriedSuccess, OutputNotLoaded, Io, Memory, Failed, StoreIo}
 use Rattle.run_model.specs.declared.call.ReportCall.{ReportCall}
-use Rattle.scene_text.specs.Scenes.{IsCallOf}
-use Rattle.scene_text.specs.declared.scene.event.SceneEvent.{SceneEvent}
+use Rattle.scene_events.specs.Scenes.{IsCallOf}
+use Rattle.scene_events.specs.declared.scene.event.SceneEvent.{SceneEvent}
 use Rattle.scenes.specs.Follow.{BreaksTold, HasToldTo, run_outcome}
 use Rattle.scenes.specs.Judged.{IsSceneAccepted}
 use Rattle.scenes.specs.Reports.{AreCallsOf, Ends, EndsStore, StopsStore, StopsText, configuration_for, fault_for}

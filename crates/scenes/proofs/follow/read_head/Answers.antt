@@ -1,7 +1,7 @@
 use Rattle.std.proofs.Common.{◌≡◌, ◌∙◌, Ok, ap, refl, sym, subst}
-use Rattle.scene_text.specs.Fields.{Fails}
+use Rattle.scene_fields.specs.Fields.{Fails}
 use Rattle.scene_text.specs.SceneTexts.{IsSaid, is_begun, line_said, lines_before}
-use Rattle.scene_text.specs.Split.{parted, pieces_left}
+use Rattle.scene_fields.specs.Split.{parted, pieces_left}
 use Rattle.scenes.specs.Follow.{HasNoEvent, IsNextLine, IsReadTo, IsRefusedMemory, StopsBy}
 use Rattle.scenes.specs.declared.fault.Fault.TheVariants as fault
 use Rattle.scenes.proofs.lemmas.Heads.{configured, head_unread, head_wrong, read_config, read_first, read_none, read_nothing}
