@@ -7,9 +7,9 @@ use Rattle.scene_fields.specs.declared.fault.ReadFault.{ReadFault}
 use Rattle.scene_fields.specs.declared.fault.ReadFault.TheVariants as read
 use Rattle.scenes.specs.Judged.{IsJudged}
 use Rattle.scenes.specs.SpelledRuns.{PrintsRun}
-use Rattle.scenes.specs.declared.fault.Fault.{Fault}
-use Rattle.scenes.specs.declared.fault.Fault.TheVariants as fault
-use Rattle.scenes.specs.declared.words.Options.{Options}
+use Rattle.command_line.specs.declared.fault.Fault.{Fault}
+use Rattle.command_line.specs.declared.fault.Fault.TheVariants as fault
+use Rattle.command_line.specs.declared.words.Options.{Options}
 use Rattle.report_c.specs.declared.NorigullyOptions.{NorigullyOptions}
 
 -- The status level of a number, from none at 0 to all at 7.

@@ -9,14 +9,14 @@ ghost use Rattle.console_reporter.specs.Telling.{AreDelivered, IsSameReporter};
 ghost use Rattle.plain_text.specs.StringWriter.{string_meaning};
 ghost use Rattle.scenes.specs.Reports.{store_for};
 ghost use Rattle.scenes.specs.Follow.{BreaksOff, BreaksTold, HasFirst, HasNoEvent, HasTold, HasToldTo, IsCountable, IsNextLine, IsRefusedMemory, IsStart, KeepsUp, LeavesEvent, LeavesLine, OfText, PrintsFollowed, ReportsTold, StopsBy, TellsEvent, TellsLine, fault_at_call, outcome_after, outcome_of, status_of_outcome};
-ghost use Rattle.scenes.specs.Pieces.{IsUnread};
+ghost use Rattle.command_line.specs.Pieces.{IsUnread};
 ghost use Rattle.scenes.specs.SpelledRuns.{BeginsTold, PrintsTold};
 
-use crate::fault::{Fault, LineFault};
 use crate::reporter::{builder_of, give_back, give_both_back, surroundings_of};
 use crate::scene::SceneConfig;
 use crate::scene::event::SceneEvent;
-use crate::words::Options;
+use command_line::fault::{Fault, LineFault};
+use command_line::words::Options;
 use console_reporter::imp::{DisplayReporter, ReportCall, WriteEventError};
 use console_reporter::write_str::{TextBuffer, WriteStr};
 use run_model::event::TestEventKind;

@@ -3,10 +3,10 @@
 //! A scene is read, then judged, and then reported. Judging has no device in its hands, and a report takes what judging gives, so no byte
 //! comes out before a scene is judged, and none of a scene that is refused.
 
-ghost use Rattle.std.specs.Prelude.{◌≡◌, ◌⊎◌, ◌+◌, ◌++◌, ℕ, List, [], length, Option, None, Some, Ok, IfOk, IfErr, OnErr, OnOk};
-ghost use Rattle.scenes.specs.declared.fault.Fault.{Fault};
+ghost use Rattle.std.specs.Prelude.{◌≡◌, ◌⊎◌, ◌+◌, ◌++◌, ℕ, List, [], length, Option, None, Some, Ok, IfOk, IfErr, OnOk};
+ghost use Rattle.command_line.specs.declared.fault.Fault.{Fault};
 ghost use Rattle.scene_fields.specs.Split.{parted};
-ghost use Rattle.scenes.specs.Faults.{IsJudgeFault};
+ghost use Rattle.command_line.specs.Faults.{IsJudgeFault};
 ghost use Rattle.console_reporter.specs.HeldState.{StandsAfter};
 ghost use Rattle.console_reporter.specs.Slots.{store_meaning};
 ghost use Rattle.console_reporter.specs.Telling.{IsSameReporter};
@@ -20,12 +20,12 @@ ghost use Rattle.scene_events.specs.Scenes.{IsCallOf};
 ghost use Rattle.scenes.specs.Unloads.{IsReadyCall};
 ghost use Rattle.scenes.specs.ToldScenes.{IsReadFault, IsSceneRead, scene_told};
 
-use crate::fault::{Fault, LineFault};
-use crate::pieces::next_piece;
 use crate::reporter::{builder_of, decider_of, give_back, give_both_back, surroundings_of};
 use crate::scene::Scene;
 use crate::scene::event::SceneEvent;
-use crate::words::Options;
+use command_line::fault::{Fault, LineFault};
+use command_line::pieces::next_piece;
+use command_line::words::Options;
 use console_reporter::imp::{DisplayReporter, OutputLoadDecider, ReportCall, WriteEventError};
 use console_reporter::write_str::{TextBuffer, WriteStr};
 use run_model::memory::OutOfMemory;

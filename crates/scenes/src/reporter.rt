@@ -3,11 +3,11 @@
 ghost use Rattle.std.specs.Prelude.{◌≡◌, IfOk, IfErr};
 ghost use Rattle.scenes.specs.Reports.{builder_for, kind_for, progress_for, surroundings_of};
 ghost use Rattle.scenes.specs.Unloads.{decider_for};
-ghost use Rattle.scenes.specs.declared.fault.Fault.{Fault};
+ghost use Rattle.command_line.specs.declared.fault.Fault.{Fault};
 
-use crate::fault::Fault;
 use crate::scene::SceneConfig;
-use crate::words::Options;
+use command_line::fault::Fault;
+use command_line::words::Options;
 use console_reporter::config::{DisplayConfig, ShowProgress};
 use console_reporter::imp::{
     DisplayReporterBuilder, DisplayerKind, OutputLoadDecider, Surroundings,

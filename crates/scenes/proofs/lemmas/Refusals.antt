@@ -21,7 +21,7 @@ use Rattle.scenes.specs.Unloads.{decider_for}
 use Rattle.scenes.proofs.lemmas.EventCalls.{last_there, same_there, zip_long, zip_place}
 use Rattle.scene_fields.specs.declared.fault.LineFault.{LineFault}
 use Rattle.scenes.specs.declared.scene.Scene.{Scene}
-use Rattle.scenes.specs.declared.words.Options.{Options}
+use Rattle.command_line.specs.declared.words.Options.{Options}
 
 -- where no item passes, each fails
 pub position-None : {X : Type 0} (p : X → Bool) (xs : List X) (i : ℕ) (d : X) → position p xs ≡ None → i < length xs → p (get_or xs i d) ≡ false

@@ -30,10 +30,10 @@ use Rattle.scenes.specs.Judged.{IsSceneAccepted}
 use Rattle.scenes.specs.Reports.{AreCallsOf, Ends, EndsStore, StopsStore, StopsText, configuration_for, fault_for}
 use Rattle.scenes.specs.ToldScenes.{scene_told}
 use Rattle.scenes.specs.Unloads.{IsReadyCall, decider_for}
-use Rattle.scenes.specs.declared.fault.Fault.{Fault}
-use Rattle.scenes.specs.declared.fault.Fault.TheVariants.{OutOfMemory}
+use Rattle.command_line.specs.declared.fault.Fault.{Fault}
+use Rattle.command_line.specs.declared.fault.Fault.TheVariants.{OutOfMemory}
 use Rattle.scenes.specs.declared.scene.Scene.{Scene}
-use Rattle.scenes.specs.declared.words.Options.{Options}
+use Rattle.command_line.specs.declared.words.Options.{Options}
 use Rattle.scenes.proofs.lemmas.EventCalls.{behind_there, same_first, zip_both, zip_place}
 use Rattle.scenes.proofs.lemmas.Refusals.{none_refused_at}
 

@@ -2,7 +2,7 @@
 
 ghost use Rattle.std.specs.Prelude.{◌≡◌, ℕ, List, Some, IfOk, IfErr};
 ghost use Rattle.std.specs.Io.Buffered.{reader_buffer, reader_remaining};
-ghost use Rattle.scenes.specs.Pieces.{IsBehind, IsNextPiece, IsUnread};
+ghost use Rattle.command_line.specs.Pieces.{IsBehind, IsNextPiece, IsUnread};
 
 use crate::fault::Fault;
 use memchr::memrchr;

@@ -4,7 +4,7 @@
 
 ghost use Rattle.std.specs.Prelude.{◌≡◌, IfOk};
 ghost use Rattle.std.specs.Option.{option_map};
-ghost use Rattle.scenes.specs.Words.{options_after, options_of, options_or_input, asked, asked_of, said, texts, with_flag, with_level, with_store, level_of};
+ghost use Rattle.command_line.specs.Words.{options_after, options_of, options_or_input, asked, asked_of, said, texts, with_flag, with_level, with_store, level_of};
 
 use run_model::level::StatusLevel;
 use run_model::memory::OutOfMemory;

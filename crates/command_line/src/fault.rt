@@ -1,11 +1,11 @@
 //! What can go wrong, the line that says so, and the status that the program then ends with.
 
 ghost use Rattle.std.specs.Prelude.{◌≡◌, Some};
-ghost use Rattle.scenes.specs.declared.fault.Fault.TheVariants.{OutOfMemory};
-ghost use Rattle.scenes.specs.Faults.{fault_by_kind, fault_line, fault_of_read, fault_text, program_name, status_of, usage_of};
+ghost use Rattle.command_line.specs.declared.fault.Fault.TheVariants.{OutOfMemory};
+ghost use Rattle.command_line.specs.Faults.{fault_by_kind, fault_line, fault_of_read, fault_text, program_name, status_of, usage_of};
 
 use run_model::memory::OutOfMemory;
-pub use scene_text::fault::{LineFault, ReadFault};
+pub use scene_fields::fault::{LineFault, ReadFault};
 use std::error::Error;
 use std::fmt;
 use std::fmt::Formatter;
@@ -14,7 +14,7 @@ use std::io::ErrorKind;
 /// What can go wrong, as it is said behind a program's name.
 ///
 /// ```
-/// use scene_text::fault::LineFault;
+/// use scene_fields::fault::LineFault;
 /// let fault = Fault::Line { line: 2, fault: LineFault::UnknownEvent };
 /// assert_eq!(fault.to_string(alloc)?.as_str(), "line 2: unknown event");
 /// ```

@@ -1,6 +1,6 @@
 use Rattle.std.proofs.Common.{◌∙◌, refl}
-use Rattle.scenes.proofs.lemmas.Options.{asks_flag, asks_level, asks_store, has_file, lacks_file}
-use Rattle.scenes.proofs.words.Given.+followed_by.Goals as goal
+use Rattle.command_line.proofs.lemmas.Options.{asks_flag, asks_level, asks_store, has_file, lacks_file}
+use Rattle.command_line.proofs.words.Given.+followed_by.Goals as goal
 
 pub returns-in-empty : goal.returns-in-empty
 returns-in-empty t c = lacks_file _ _ c.in-empty.len_below

@@ -1,9 +1,9 @@
 -- A text that is read in pieces of whole lines.
 use Rattle.std.specs.Prelude.{◌≡◌, ◌⊎◌, ℕ, Bool, true, false, List, [], ◌∷◌, ◌++◌, Option, Some, ⊤}
-use Rattle.scenes.specs.declared.fault.Fault.{Fault}
-use Rattle.scenes.specs.declared.fault.Fault.TheVariants as fault
-use Rattle.scenes.specs.declared.pieces.Taken.{Taken}
-use Rattle.scenes.specs.declared.pieces.Taken.TheVariants as taken
+use Rattle.command_line.specs.declared.fault.Fault.{Fault}
+use Rattle.command_line.specs.declared.fault.Fault.TheVariants as fault
+use Rattle.command_line.specs.declared.pieces.Taken.{Taken}
+use Rattle.command_line.specs.declared.pieces.Taken.TheVariants as taken
 
 -- what was read of a text: nothing, where it was empty; or a piece that a line feed parts from what is left, or the whole text
 abbrev pub IsNextPiece : List ℕ → Bool → List ℕ → Option (List ℕ) → Type 0

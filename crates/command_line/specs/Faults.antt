@@ -5,11 +5,11 @@ use Rattle.std.specs.declared.io.ErrorKind.TheVariants as kind
 use Rattle.scene_fields.specs.Faults.{line_fault_text}
 use Rattle.scene_fields.specs.declared.fault.ReadFault.{ReadFault}
 use Rattle.scene_fields.specs.declared.fault.ReadFault.TheVariants as read
-use Rattle.scenes.specs.declared.fault.Fault.{Fault}
-use Rattle.scenes.specs.declared.fault.Fault.TheVariants as fault
-use Rattle.scenes.specs.declared.fault.FaultLine.{FaultLine}
-use Rattle.scenes.specs.declared.fault.Program.{Program}
-use Rattle.scenes.specs.declared.fault.Program.TheVariants as program
+use Rattle.command_line.specs.declared.fault.Fault.{Fault}
+use Rattle.command_line.specs.declared.fault.Fault.TheVariants as fault
+use Rattle.command_line.specs.declared.fault.FaultLine.{FaultLine}
+use Rattle.command_line.specs.declared.fault.Program.{Program}
+use Rattle.command_line.specs.declared.fault.Program.TheVariants as program
 
 -- what is said of a fault
 abbrev pub fault_text : Fault → List ℕ

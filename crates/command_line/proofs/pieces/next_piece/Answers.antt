@@ -1,7 +1,7 @@
 use Rattle.std.proofs.Common.{◌≡◌, ◌∙◌, ◌++◌, ◌==◌, [], Some, sym, ap, append-nil, arith, length}
 use Rattle.std.specs.Io.Buffered.{reader_buffer}
-use Rattle.scenes.proofs.lemmas.Pieces.{at_end, kept_known, lines_behind, part_behind}
-use Rattle.scenes.proofs.pieces.next_piece.Goals as goal
+use Rattle.command_line.proofs.lemmas.Pieces.{at_end, kept_known, lines_behind, part_behind}
+use Rattle.command_line.proofs.pieces.next_piece.Goals as goal
 
 pub returns-in-Lines-clause-piece : goal.returns-in-Lines-clause-piece
 returns-in-Lines-clause-piece g c = λ text known.

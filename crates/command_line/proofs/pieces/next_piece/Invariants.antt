@@ -1,6 +1,6 @@
 use Rattle.std.proofs.Common.{◌≡◌, ◌++◌, ℕ, List, Some}
 use Rattle.std.specs.Io.Buffered.{reader_remaining}
-use Rattle.scenes.proofs.pieces.next_piece.Given as goal
+use Rattle.command_line.proofs.pieces.next_piece.Given as goal
 
 -- what was taken, and what is left, are the text
 abbrev pub invariant-loop-turn : goal.invariant-loop-turn

@@ -4,9 +4,9 @@ use Rattle.std.specs.Option.{option_map, option_and_then}
 use Rattle.std.specs.declared.alloc.Global.{Global}
 use Rattle.run_model.specs.declared.level.StatusLevel.{StatusLevel}
 use Rattle.run_model.specs.declared.level.StatusLevel.TheVariants as status
-use Rattle.scenes.specs.declared.words.Given.{Given}
-use Rattle.scenes.specs.declared.words.Options.{Options}
-use Rattle.scenes.specs.declared.words.StoreOptions.{StoreOptions}
+use Rattle.command_line.specs.declared.words.Given.{Given}
+use Rattle.command_line.specs.declared.words.Options.{Options}
+use Rattle.command_line.specs.declared.words.StoreOptions.{StoreOptions}
 use Rattle.store_text.specs.declared.config.StoreConfig.{StoreConfig}
 
 abbrev pub Text : Type 0

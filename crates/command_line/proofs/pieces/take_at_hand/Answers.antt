@@ -1,7 +1,7 @@
-use Rattle.std.proofs.Common.{◌≡◌, ◌∙◌, ◌++◌, ◌+◌, ◌==◌, drop, sym, ap, arith}
-use Rattle.std.specs.Io.Buffered.{reader_buffer, reader_capacity, reader_remaining}
-use Rattle.scenes.proofs.lemmas.Pieces.{at_hand_first, lines_taken}
-use Rattle.scenes.proofs.pieces.take_at_hand.Goals as goal
+use Rattle.std.proofs.Common.{◌+◌, ◌==◌, drop, arith}
+use Rattle.std.specs.Io.Buffered.{reader_buffer, reader_capacity}
+use Rattle.command_line.proofs.lemmas.Pieces.{at_hand_first, lines_taken}
+use Rattle.command_line.proofs.pieces.take_at_hand.Goals as goal
 
 pub returns-in_ok-extend_from_slice-in-Some : goal.returns-in_ok-extend_from_slice-in-Some
 returns-in_ok-extend_from_slice-in-Some g c = λ text known.
