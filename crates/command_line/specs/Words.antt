@@ -2,8 +2,8 @@
 use Rattle.std.specs.Prelude.{ℕ, List, [], ◌∷◌, ◌++◌, map, Bool, true, false, not, ◌&&◌, ◌||◌, if◌then◌else◌, Option, None, Some, is_some, unwrap_or, String, string_bytes, codes, bytes_eq}
 use Rattle.std.specs.Option.{option_map, option_and_then}
 use Rattle.std.specs.declared.alloc.Global.{Global}
-use Rattle.run_model.specs.declared.level.StatusLevel.{StatusLevel}
-use Rattle.run_model.specs.declared.level.StatusLevel.TheVariants as status
+use Rattle.run_names.specs.declared.level.StatusLevel.{StatusLevel}
+use Rattle.run_names.specs.declared.level.StatusLevel.TheVariants as status
 use Rattle.command_line.specs.declared.words.Given.{Given}
 use Rattle.command_line.specs.declared.words.Options.{Options}
 use Rattle.command_line.specs.declared.words.StoreOptions.{StoreOptions}

@@ -7,6 +7,7 @@ pub mod Isolation
 pub mod Loads
 pub mod OtherOutputs
 pub mod Pasts
+pub mod Promises
 pub mod Records
 pub mod Refusals
 pub mod ReportColourPairs

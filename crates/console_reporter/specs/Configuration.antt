@@ -1,9 +1,9 @@
 -- A configuration of a reporter, and what it comes to.
 use Rattle.std.specs.Prelude.{ℕ, Bool, true, false, Option, None, Some}
-use Rattle.run_model.specs.Filters.{default_config_filter}
-use Rattle.run_model.specs.declared.config.NextestRunMode.TheVariants.{Test}
-use Rattle.run_model.specs.declared.level.FinalStatusLevel.TheVariants as final
-use Rattle.run_model.specs.declared.level.StatusLevel.TheVariants as status
+use Rattle.run_names.specs.Filters.{default_config_filter}
+use Rattle.run_names.specs.declared.config.NextestRunMode.TheVariants.{Test}
+use Rattle.run_names.specs.declared.level.FinalStatusLevel.TheVariants as final
+use Rattle.run_names.specs.declared.level.StatusLevel.TheVariants as status
 use Rattle.plain_text.specs.Style.{styles_of}
 use Rattle.unit_report.specs.Levels.{resolved_display}
 use Rattle.unit_report.specs.declared.config.ResolvedDisplay.{ResolvedDisplay}

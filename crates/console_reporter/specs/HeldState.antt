@@ -1,7 +1,7 @@
 -- What a reporter holds after a past.
 use Rattle.std.specs.Prelude.{◌≡◌, ℕ, List, Bool, true, false, IsTrue, slice_get}
 use Rattle.std.specs.Option.{option_map_or}
-use Rattle.run_model.specs.Levels.{reason_rank}
+use Rattle.run_names.specs.Levels.{reason_rank}
 use Rattle.run_model.specs.declared.event.TestEvent.{TestEvent}
 use Rattle.console_reporter.specs.Configuration.{Configuration, settings_of}
 use Rattle.reporter_state.specs.Effects.{may_grow_for}

@@ -7,7 +7,8 @@ use Rattle.run_model.specs.declared.output.ChildOutputDescription.{ChildOutputDe
 use Rattle.run_model.specs.declared.output.LiveSpec.{LiveSpec}
 use Rattle.run_model.specs.declared.status.ExecuteStatus.{ExecuteStatus}
 use Rattle.plain_text.specs.Escapes.{HasNoEscape}
-use Rattle.report_text.specs.PlainTexts.{IsPlainInstance, IsPlainResult}
+use Rattle.report_words.specs.PlainTexts.{IsPlainInstance}
+use Rattle.report_text.specs.PlainResults.{IsPlainResult}
 use Rattle.plain_text.specs.Texts.{Text}
 use Rattle.unit_report.specs.PlainOutputs.{IsPlainWritten}
 use Rattle.event_text.specs.Script.{IsPlainScript}

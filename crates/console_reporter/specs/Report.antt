@@ -2,12 +2,12 @@
 use Rattle.std.specs.Prelude.{ℕ, List, [], ◌∷◌, ◌++◌, Option, None, Some, nat_lt, reverse, take, slice_get, if◌then◌else◌}
 use Rattle.std.specs.Option.{option_map_or}
 use Rattle.run_model.specs.Stats.{final_stats_of_run}
-use Rattle.run_model.specs.UniquePrefixes.{UniquePrefix}
+use Rattle.run_names.specs.UniquePrefixes.{UniquePrefix}
 use Rattle.run_model.specs.declared.event.TestEventKind.{TestEventKind}
 use Rattle.run_model.specs.declared.event.TestEventKind.TheVariants.{RunStarted, StressSubRunStarted, SetupScriptStarted, SetupScriptSlow, SetupScriptFinished, TestStarted, TestSlow, TestAttemptFailedWillRetry, TestRetryStarted, TestFinished, TestSkipped, RunBeginCancel, RunBeginKill, RunPaused, RunContinued, InfoStarted, InfoResponse, InfoFinished, InputEnter, StressSubRunFinished, RunFinished}
-use Rattle.run_model.specs.declared.not_seen.NotSeen.{NotSeen}
+use Rattle.run_names.specs.declared.not_seen.NotSeen.{NotSeen}
 use Rattle.run_model.specs.declared.stats.RunFinishedStats.{RunFinishedStats}
-use Rattle.run_model.specs.declared.stress.StressIndex.{StressIndex}
+use Rattle.run_names.specs.declared.stress.StressIndex.{StressIndex}
 use Rattle.plain_text.specs.Texts.{Text}
 use Rattle.unit_report.specs.Warnings.{final_warnings}
 use Rattle.test_text.specs.TestFinished.{test_finish, test_finished_text}

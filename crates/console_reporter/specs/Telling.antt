@@ -1,16 +1,20 @@
 -- What one call does to the two writers of a reporter, and what calls in turn do.
-use Rattle.std.specs.Prelude.{◌≡◌, ◌≤◌, ◌⊎◌, ◌++◌, ℕ, List, [], ◌∷◌, Option, None, Some, length}
+use Rattle.std.specs.Prelude.{◌≡◌, ◌≤◌, ◌⊎◌, ◌++◌, ℕ, true, List, [], ◌∷◌, Option, None, Some, Result, Err, OnOk, IfErr, length}
+use Rattle.std.specs.Option.{is_some}
 use Rattle.plain_text.specs.Texts.{Text}
 use Rattle.plain_text.specs.Writer.{Meaning, one_further}
 use Rattle.console_reporter.specs.Configuration.{Configuration}
-use Rattle.console_reporter.specs.Outcomes.{Stops, StopsAfter, StopsRecord, StopsRecordAfter}
+use Rattle.console_reporter.specs.Accepted.{refusal}
+use Rattle.console_reporter.specs.Outcomes.{IsOfLines, Stops, StopsAfter, StopsRecord, StopsRecordAfter, answered_refusal}
 use Rattle.console_reporter.specs.Report.{past_at, report, text, text_at}
 use Rattle.console_reporter.specs.Slots.{IsSameStore, store_meaning}
-use Rattle.console_reporter.specs.HeldState.{MayGrowIn, StandsAfter}
+use Rattle.console_reporter.specs.HeldState.{HasFailed, MayGrowIn, StandsAfter}
 use Rattle.console_reporter.specs.Stored.{stored, stored_at, stored_text}
 use Rattle.run_model.specs.declared.call.ReportCall.{ReportCall}
+use Rattle.run_model.specs.declared.call.ReportCall.TheVariants.{Event, Header, Prefix}
+use Rattle.reporter_state.specs.Refusals.{refusal_in}
 use Rattle.reporter_state.specs.declared.faults.WriteEventError.{WriteEventError}
-use Rattle.reporter_state.specs.declared.faults.WriteEventError.TheVariants.{Io, Memory, StoreIo}
+use Rattle.reporter_state.specs.declared.faults.WriteEventError.TheVariants.{Failed, Io, Memory, StoreIo}
 use Rattle.console_reporter.specs.declared.imp.reporter.DisplayReporter.{DisplayReporter}
 
 -- A call, or the end of a report, which is None: the past after it, what it adds to the report and to the store, and whether the
@@ -30,6 +34,25 @@ kept_text config (Some call) = stored_text config.store call
 abbrev pub MayGrowFor : {W S : Type 0} → DisplayReporter W S → Option ReportCall → Type 0
 MayGrowFor reporter None = ⊥
 MayGrowFor reporter (Some call) = MayGrowIn reporter call
+
+-- why the call is refused; the end of a report is not
+abbrev pub refusal_for : Configuration → Option ReportCall → Option WriteEventError
+refusal_for config None = None
+refusal_for config (Some call) = refusal config call
+
+-- events alone are refused
+abbrev pub IsNeverRefused : Option ReportCall → Type 0
+IsNeverRefused None = Unit {0}
+IsNeverRefused (Some (Event event)) = ⊥
+IsNeverRefused (Some (Header header)) = Unit {0}
+IsNeverRefused (Some (Prefix prefix)) = Unit {0}
+
+-- every call but the taking of a prefix delivers what the writers hold
+abbrev pub Delivers : Option ReportCall → Type 0
+Delivers None = Unit {0}
+Delivers (Some (Event event)) = Unit {0}
+Delivers (Some (Header header)) = Unit {0}
+Delivers (Some (Prefix prefix)) = ⊥
 
 -- both have the same writers, and go by the same settings
 pub record IsSameReporter {W S : Type 0} (old new : DisplayReporter W S) : Type 0 where
@@ -57,6 +80,23 @@ module _ {W S : Type 0} (m : Meaning W) (n : Meaning S) where
     pub io : e ≡ Io → m.failures new.writer.now ≡ one_further (m.failures old.writer.now)
     pub store_io : e ≡ StoreIo → (store_meaning n).failures new.store ≡ one_further ((store_meaning n).failures old.store)
     pub memory : e ≡ Memory → m.may_refuse old.writer.now ⊎ MayGrowFor old call ⊎ (store_meaning n).may_refuse old.store
+    -- a fault of the store comes once the text is delivered
+    pub delivered : e ≡ StoreIo → m.is_delivered new.writer.now
+
+  -- What every call promises, and the end of a report.
+  pub record Promises (old : DisplayReporter W S) (call : Option ReportCall) (result : Result (Unit {0}) WriteEventError) (new : DisplayReporter W S) : Type 0 where
+    pub same : IsSameReporter old new
+    pub ok : OnOk result (Tells old call new)
+    pub delivered : Delivers call ⊎ AreDelivered old → OnOk result (AreDelivered new)
+    pub err : IfErr result (λ e. Breaks old call e new)
+    pub lines : (config : Configuration) (past : List ReportCall) → IsOfLines (told_text config past call)
+    -- it is refused by itself, whatever stood before, and then changes nothing
+    pub refused : (config : Configuration) (past : List ReportCall) → StandsAfter config past old → answered_refusal result ≡ refusal_for config call
+    pub unrefused : IsNeverRefused call → answered_refusal result ≡ None
+    pub untouched : is_some (answered_refusal result) ≡ true → new ≡ old
+    -- after any other error the reporter has failed: it answers `Failed`, and stays as it is
+    pub fails : IfErr result (λ e. refusal_in e ≡ None → HasFailed new)
+    pub failed : HasFailed old → (result ≡ Err Failed) × (new ≡ old)
 
   -- the calls of a past were made, by a reporter that had made none
   pub record TellsRun (old : DisplayReporter W S) (past : List ReportCall) (new : DisplayReporter W S) : Type 0 where
@@ -72,3 +112,5 @@ module _ {W S : Type 0} (m : Meaning W) (n : Meaning S) where
     pub store_stopped : (config : Configuration) → StandsAfter config [] old → StopsRecordAfter (store_meaning n) old.store (stored config.store (past_at calls position)) (stored_at config.store calls position) e new.store
     pub order : (config : Configuration) → StandsAfter config [] old → (store_meaning n).accepts old.store (stored config.store (past_at calls position)) new.store
         ⊎ m.accepts old.writer.now (report config (past_at calls position) ++ text_at config calls position) new.writer.now
+    -- a fault of the store comes once the text is delivered
+    pub delivered : e ≡ StoreIo → m.is_delivered new.writer.now

@@ -1,7 +1,7 @@
 -- The tests that lines speak of.
 use Rattle.std.specs.Prelude.{Option, ◌++◌, codes}
-use Rattle.run_model.specs.declared.name.TestInstanceId.{TestInstanceId}
-use Rattle.run_model.specs.declared.stress.StressIndex.{StressIndex}
+use Rattle.run_names.specs.declared.name.TestInstanceId.{TestInstanceId}
+use Rattle.run_names.specs.declared.stress.StressIndex.{StressIndex}
 use Rattle.report_text.specs.Instance.{instance_text}
 use Rattle.plain_text.specs.Style.{plain}
 use Rattle.plain_text.specs.Texts.{Text}

@@ -1,7 +1,7 @@
 -- Setup scripts as their lines name them.
 use Rattle.std.specs.Prelude.{List, ◌∷◌, Option}
 use Rattle.std.specs.List.{AllByRecursion}
-use Rattle.run_model.specs.declared.stress.StressIndex.{StressIndex}
+use Rattle.run_names.specs.declared.stress.StressIndex.{StressIndex}
 use Rattle.plain_text.specs.Escapes.{HasNoEscape}
 use Rattle.plain_text.specs.Texts.{Text}
 use Rattle.report_text.specs.Instance.{script_text}

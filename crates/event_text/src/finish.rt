@@ -1,7 +1,7 @@
 //! When a finished test is shown: at once, and at the end of the run.
 
 ghost use Rattle.std.specs.Prelude.{◌≡◌, true};
-ghost use Rattle.run_model.specs.Levels.{reason_rank};
+ghost use Rattle.run_names.specs.Levels.{reason_rank};
 ghost use Rattle.run_model.specs.Statuses.{described_summary};
 ghost use Rattle.event_text.specs.Finish.{IsOnlyHidden, IsSameBelowImmediate, display_of, finish_row, is_ever_shown, is_shown_at_end, is_shown_at_once, is_final_wanted, is_line_shown, is_terminated, is_terminated_abort, is_terminated_failure, row_at_end, row_at_once, row_listed};
 
@@ -13,7 +13,7 @@ use run_model::output::LiveSpec;
 use run_model::status::{ExecutionDescription, ExecutionResultDescription, FailureDescription};
 
 /// What becomes of a finished test.
-#[derive(Clone, Copy, Debug, PartialEq, Eq)]
+#[derive(Clone, Copy, PartialEq, Eq)]
 pub enum FinishRow {
     /// Its output is not shown, and it is not kept.
     Hidden,

@@ -13,7 +13,7 @@ use run_model::name::TestInstanceId;
 use run_model::stress::StressIndex;
 
 /// A test as its lines name it.
-#[derive(Clone, Copy, Debug)]
+#[derive(Clone, Copy)]
 pub struct CountedInstance<'a> {
     /// Which iteration of a stress run it belongs to.
     pub stress_index: Option<StressIndex>,

@@ -10,7 +10,7 @@ use run_model::status::{
 };
 
 /// A word in two pieces, of which the second may be empty.
-#[derive(Clone, Copy, Debug)]
+#[derive(Clone, Copy)]
 pub struct Word<'b> {
     /// The first piece.
     pub front: &'b str,
@@ -134,7 +134,7 @@ pub fn spaced_short_status_str<'b>(
 }
 
 // The word of a result after the number of an attempt: a text, or that of a signal without a name.
-#[derive(Clone, Copy, Debug)]
+#[derive(Clone, Copy)]
 enum ShortWord<'b> {
     Text(&'b str),
     Signal(i32),

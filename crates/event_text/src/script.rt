@@ -12,7 +12,7 @@ use run_model::name::{ProgramName, ScriptId};
 use run_model::stress::StressIndex;
 
 /// A setup script as its lines name it.
-#[derive(Clone, Copy, Debug)]
+#[derive(Clone, Copy)]
 pub struct ScriptInstance<'a> {
     /// Which iteration of a stress run it belongs to.
     pub stress_index: Option<StressIndex>,

@@ -13,7 +13,7 @@ use unit_report::config::{ProgressDisplay, StatusLevels};
 use unit_report::unit_output::{OutputDisplayOverrides, UnitOutputReporter};
 
 /// What a reporter goes by. It stays the same over all calls.
-#[derive(Debug, Drop)]
+#[derive(Drop)]
 pub struct Settings {
     /// Whether the run runs tests or benchmarks.
     pub mode: NextestRunMode,

@@ -5,7 +5,8 @@ use Rattle.run_model.specs.declared.info.InfoResponse.TheVariants.{SetupScript, 
 use Rattle.run_model.specs.declared.info.UnitState.{UnitState}
 use Rattle.run_model.specs.declared.info.UnitState.TheVariants.{Running, Exiting, Terminating, Exited, DelayBeforeNextAttempt}
 use Rattle.plain_text.specs.Escapes.{HasNoEscape}
-use Rattle.report_text.specs.PlainTexts.{HoldsIf, IsPlainInstance, IsPlainResult}
+use Rattle.report_words.specs.PlainTexts.{HoldsIf, IsPlainInstance}
+use Rattle.report_text.specs.PlainResults.{IsPlainResult}
 use Rattle.unit_report.specs.PlainOutputs.{IsPlainWritten}
 use Rattle.event_text.specs.Script.{IsPlainScript}
 use Rattle.info_text.specs.Response.{answering_script}

@@ -10,13 +10,13 @@ use Rattle.run_model.specs.declared.info.TestInfoResponse.{TestInfoResponse}
 use Rattle.run_model.specs.declared.info.UnitState.{UnitState}
 use Rattle.run_model.specs.declared.info.UnitState.TheVariants.{Running, Exiting, Terminating, Exited, DelayBeforeNextAttempt}
 use Rattle.run_model.specs.declared.status.RetryData.{RetryData}
-use Rattle.run_model.specs.declared.unit.UnitKind.{UnitKind}
-use Rattle.run_model.specs.declared.unit.UnitKind.TheVariants as unit
+use Rattle.run_names.specs.declared.unit.UnitKind.{UnitKind}
+use Rattle.run_names.specs.declared.unit.UnitKind.TheVariants as unit
 use Rattle.plain_text.specs.Indent.{indent}
 use Rattle.plain_text.specs.Style.{plain, styled}
 use Rattle.plain_text.specs.Texts.{Text, spaces}
-use Rattle.report_text.specs.Theme.{hbar_text}
-use Rattle.report_text.specs.declared.helpers.theme.ThemeCharacters.{ThemeCharacters}
+use Rattle.report_words.specs.Theme.{hbar_text}
+use Rattle.report_words.specs.declared.theme.ThemeCharacters.{ThemeCharacters}
 use Rattle.plain_text.specs.declared.style.Styles.{Styles}
 use Rattle.unit_report.specs.UnitOutput.{OutputLayout, execution_output}
 use Rattle.unit_report.specs.declared.unit_output.header.OutputHeader.TheVariants.{Label}

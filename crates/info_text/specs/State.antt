@@ -10,7 +10,7 @@ use Rattle.run_model.specs.declared.info.UnitTerminateMethod.TheVariants.{Signal
 use Rattle.run_model.specs.declared.info.UnitTerminatingState.{UnitTerminatingState}
 use Rattle.run_model.specs.declared.status.ExecutionResultDescription.{ExecutionResultDescription}
 use Rattle.run_model.specs.declared.status.RetryData.{RetryData}
-use Rattle.run_model.specs.declared.time.Nanos.{Nanos}
+use Rattle.run_names.specs.declared.time.Nanos.{Nanos}
 use Rattle.plain_text.specs.Style.{plain, styled}
 use Rattle.plain_text.specs.Texts.{Text}
 use Rattle.plain_text.specs.declared.style.Style.{Style}

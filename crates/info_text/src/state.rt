@@ -19,7 +19,7 @@ use run_model::unit::UnitKind;
 use unit_report::formatters::DisplayUnitKind;
 
 /// The unit that a state is told of.
-#[derive(Clone, Copy, Debug)]
+#[derive(Clone, Copy)]
 pub struct InfoUnit {
     /// Whether it is a test or a setup script.
     pub kind: UnitKind,

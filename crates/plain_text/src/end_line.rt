@@ -17,7 +17,7 @@ use crate::write_str::{WriteFault, WriteStr};
 /// end_line.write(&mut out, "b\n")?;
 /// assert_eq!(out.as_str(), "a\nb");
 /// ```
-#[derive(Clone, Copy, Debug, Default, PartialEq, Eq)]
+#[derive(Clone, Copy, Default, PartialEq, Eq)]
 pub struct EndLine {
     is_held: bool,
 }

@@ -28,7 +28,7 @@ use std::marker::Model;
 pub const ESCAPE: u8 = 0x1B;
 
 /// A piece of a text.
-#[derive(Clone, Copy, Debug, Drop)]
+#[derive(Clone, Copy, Drop)]
 pub enum Piece<'a> {
     /// A sequence.
     Sequence(&'a str),
@@ -37,7 +37,7 @@ pub enum Piece<'a> {
 }
 
 /// The pieces of a text that are left.
-#[derive(Debug, Drop)]
+#[derive(Drop)]
 pub struct Scanner<'a> {
     rest: &'a str,
 }

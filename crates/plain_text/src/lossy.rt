@@ -16,7 +16,7 @@ use std::marker::Model;
 ///
 /// It allocates nothing: pieces that are UTF-8 are slices of the bytes. The first piece is decoded once, whatever is asked
 /// of it, so bytes that are UTF-8 are read once.
-#[derive(Debug, Drop)]
+#[derive(Drop)]
 pub struct LossyText<'a> {
     // What is decoded. The text goes on with the bytes.
     piece: &'a str,
@@ -201,7 +201,7 @@ impl<'a> LossyText<'a> {
 }
 
 /// What decoded text is: always UTF-8, the one of std's lossy decoding, and bytes that are UTF-8 stay as they are. And
-/// what a front of a text is that ends a character, or ends none.
+/// which prefixes of a text end at a character.
 #[tactic(auto, using(crate::proofs::lemmas::Decoded::decoded_laws))]
 pub fn lossy_laws()
     ensures utf8 { (bytes : List ℕ) → IsUtf8 (decoded_text bytes) }

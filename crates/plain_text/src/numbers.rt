@@ -192,7 +192,7 @@ fn write_seconds_right<W: WriteStr>(
     write_decimals(w, thousandths)
 }
 
-// Nanoseconds as seconds and thousandths of one, the nearest, of two that are as near the greater.
+// Nanoseconds as seconds and thousandths of one, rounded to the nearest, ties up.
 fn round_to_thousandths(nanos: u128) -> (u128, u32)
     ensures seconds { result.0 ≡ rounded 1000000 nanos / 1000 }
     ensures thousandths { result.1 ≡ rounded 1000000 nanos % 1000 }

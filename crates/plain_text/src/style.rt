@@ -194,7 +194,7 @@ impl Style {
 }
 
 /// A stretch of a text.
-#[derive(Clone, Copy, Debug)]
+#[derive(Clone, Copy)]
 pub enum Part<'a> {
     /// A text as it is.
     Plain(&'a str),

@@ -1,10 +1,7 @@
-pub mod Clocks
-pub mod ColourPairs
 pub mod Commands
-pub mod FreeWords
+pub mod FreeDetails
 pub mod InstanceColourPairs
 pub mod InstanceWidths
 pub mod NameWidths
 pub mod PlainNames
 pub mod Quotes
-pub mod SplitPaths

@@ -2,8 +2,8 @@
 use Rattle.std.specs.Prelude.{ℕ, zero, suc, ◌+◌, ◌/◌, ◌%◌, ℤ, [], ◌∷◌, ◌++◌, Option, None, Some, nat_lt, if◌then◌else◌, codes}
 use Rattle.std.specs.Fmt.{signed_decimal}
 use Rattle.std.specs.Int.{cast_unsigned, w32}
-use Rattle.run_model.specs.declared.abort.AbortDescription.{AbortDescription}
-use Rattle.run_model.specs.declared.abort.AbortDescription.TheVariants.{UnixSignal, WindowsNtStatus, WindowsJobObject}
+use Rattle.run_names.specs.declared.abort.AbortDescription.{AbortDescription}
+use Rattle.run_names.specs.declared.abort.AbortDescription.TheVariants.{UnixSignal, WindowsNtStatus, WindowsJobObject}
 use Rattle.plain_text.specs.Texts.{Text}
 use Rattle.plain_text.specs.Style.{Plain, paint, plain}
 use Rattle.report_text.specs.declared.helpers.failure.ExitDescription.{ExitDescription}

@@ -3,9 +3,9 @@ use Rattle.std.specs.Prelude.{◌≢◌, ℕ, ◌+◌, List, [], ◌∷◌, ◌+
 use Rattle.std.specs.Fmt.{decimal}
 use Rattle.std.specs.declared.num.NonZeroU32.{NonZeroU32}
 use Rattle.std.specs.Int.NonZero.{non_zero_u32_get}
-use Rattle.run_model.specs.Names.{module_path_of, last_name_of}
-use Rattle.run_model.specs.declared.name.TestInstanceId.{TestInstanceId}
-use Rattle.run_model.specs.declared.stress.StressIndex.{StressIndex}
+use Rattle.run_names.specs.Names.{module_path_of, last_name_of}
+use Rattle.run_names.specs.declared.name.TestInstanceId.{TestInstanceId}
+use Rattle.run_names.specs.declared.stress.StressIndex.{StressIndex}
 use Rattle.std.specs.List.{repeat}
 use Rattle.plain_text.specs.Texts.{Text, right_in}
 use Rattle.plain_text.specs.Escapes.{HasNoEscape}

@@ -1,10 +1,5 @@
-pub mod Durations
 pub mod Failure
 pub mod Instance
 pub mod Interceptor
-pub mod Paths
-pub mod PlainTexts
-pub mod Plural
+pub mod PlainResults
 pub mod Quoting
-pub mod RunId
-pub mod Theme

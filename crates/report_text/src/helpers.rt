@@ -3,34 +3,30 @@
 //! Each type whose text is its own has `write_to`, which allocates nothing and has one clause: the text that was written, or a beginning of
 //! it where a fault came. Its `Display` shows that very text.
 
-pub mod durations;
 pub mod failure;
 pub mod instance;
 pub mod interceptor;
 mod max_width;
-pub mod paths;
-pub mod plural;
 pub mod quoting;
-pub mod run_id;
 pub mod script;
-pub mod theme;
 
-pub use durations::{
-    DurationRounding, FormattedDuration, FormattedHhMmSs, FormattedRelativeDuration,
-};
 pub use failure::{ExitDescription, display_abort_status, display_exited_with, write_nt_status};
 pub use instance::{
     DisplayCounterIndex, DisplayStressIndex, DisplayTestInstance, DisplayTestName,
     write_test_instance, write_test_name,
 };
 pub use interceptor::format_interceptor_too_many_tests;
-pub use paths::{
-    convert_rel_path_to_forward_slash, convert_rel_path_to_main_sep, dylib_path, dylib_path_envvar,
-    rel_path_join,
-};
 pub use plain_text::decimal::{Unsigned, decimal_char_width};
 pub use plain_text::style::RESET_COLOR;
 pub use quoting::{CommandWord, QuotedDisplay, shell_join};
-pub use run_id::force_or_new_run_id;
+pub use report_words::durations::{
+    DurationRounding, FormattedDuration, FormattedHhMmSs, FormattedRelativeDuration,
+};
+pub use report_words::paths::{
+    convert_rel_path_to_forward_slash, convert_rel_path_to_main_sep, dylib_path, dylib_path_envvar,
+    rel_path_join,
+};
+pub use report_words::run_id::force_or_new_run_id;
+pub use report_words::theme::ThemeCharacters;
+pub use report_words::{durations, paths, plural, run_id, theme};
 pub use script::{DisplayScriptInstance, write_script_instance};
-pub use theme::ThemeCharacters;

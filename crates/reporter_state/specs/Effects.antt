@@ -1,10 +1,10 @@
 -- What an event does beside its text: one equation for each kind that does something.
 use Rattle.std.specs.Prelude.{ℕ, nat_le, Bool, Option, None, Some, if◌then◌else◌}
 use Rattle.std.specs.Option.{is_some, option_and_then}
-use Rattle.run_model.specs.Levels.{final_rank, reason_rank}
+use Rattle.run_names.specs.Levels.{final_rank, reason_rank}
 use Rattle.run_model.specs.declared.event.TestEventKind.{TestEventKind}
 use Rattle.run_model.specs.declared.event.TestEventKind.TheVariants.{TestFinished, TestSkipped, RunBeginCancel, RunBeginKill}
-use Rattle.run_model.specs.declared.level.FinalStatusLevel.TheVariants as final
+use Rattle.run_names.specs.declared.level.FinalStatusLevel.TheVariants as final
 use Rattle.test_text.specs.TestFinished.{HasShownOutput, TestFinish, finish_of, test_finish}
 use Rattle.event_text.specs.Finish.{is_final_wanted, row_at_end, row_listed}
 use Rattle.event_text.specs.Instance.{padded_instance}

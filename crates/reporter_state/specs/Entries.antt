@@ -5,14 +5,14 @@ use Rattle.std.specs.declared.cmp.Ordering.{Ordering}
 use Rattle.std.specs.Ordering.{is_lt}
 use Rattle.std.specs.List.{flat_map}
 use Rattle.std.specs.List.Sorted.{IsSorted, IsStable}
-use Rattle.run_model.specs.Levels.{final_rank, reason_rank}
+use Rattle.run_names.specs.Levels.{final_rank, reason_rank}
 use Rattle.run_model.specs.Statuses.{final_level_of}
-use Rattle.run_model.specs.Stress.{stress_key}
-use Rattle.run_model.specs.UniquePrefixes.{UniquePrefix}
-use Rattle.run_model.specs.declared.level.CancelReason.TheVariants as cause
-use Rattle.run_model.specs.declared.level.FinalStatusLevel.{FinalStatusLevel}
-use Rattle.run_model.specs.declared.level.FinalStatusLevel.TheVariants as final
-use Rattle.run_model.specs.declared.stress.StressIndex.{StressIndex}
+use Rattle.run_names.specs.Stress.{stress_key}
+use Rattle.run_names.specs.UniquePrefixes.{UniquePrefix}
+use Rattle.run_names.specs.declared.level.CancelReason.TheVariants as cause
+use Rattle.run_names.specs.declared.level.FinalStatusLevel.{FinalStatusLevel}
+use Rattle.run_names.specs.declared.level.FinalStatusLevel.TheVariants as final
+use Rattle.run_names.specs.declared.stress.StressIndex.{StressIndex}
 use Rattle.plain_text.specs.Texts.{Text}
 use Rattle.report_text.specs.declared.helpers.instance.DisplayCounterIndex.{DisplayCounterIndex}
 use Rattle.report_text.specs.declared.helpers.instance.DisplayCounterIndex.TheVariants.{Counter, Padded}

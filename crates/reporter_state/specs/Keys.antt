@@ -5,8 +5,8 @@ use Rattle.std.specs.Ordering.{nat_cmp, on, then_cmp}
 use Rattle.std.specs.Cmp.{IsTotalOrder, then_total, on_total, nat_cmp_total}
 use Rattle.std.specs.Cmp.Lexicographic.{lists_total, nat_list_cmp_total}
 use Rattle.std.specs.List.{AllByRecursion}
-use Rattle.run_model.specs.Levels.{final_rank}
-use Rattle.run_model.specs.declared.name.OwnedTestInstanceId.{OwnedTestInstanceId}
+use Rattle.run_names.specs.Levels.{final_rank}
+use Rattle.run_names.specs.declared.name.OwnedTestInstanceId.{OwnedTestInstanceId}
 use Rattle.reporter_state.specs.Entries.{counter_key, entry_key, iteration_key}
 use Rattle.reporter_state.specs.Order.{key_cmp}
 use Rattle.reporter_state.specs.declared.entry_key.EntryKey.{EntryKey}

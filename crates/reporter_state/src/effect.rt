@@ -2,7 +2,7 @@
 
 ghost use Rattle.std.specs.Prelude.{◌≡◌, None, false, max};
 ghost use Rattle.std.specs.Option.{option_map};
-ghost use Rattle.run_model.specs.Levels.{reason_rank};
+ghost use Rattle.run_names.specs.Levels.{reason_rank};
 ghost use Rattle.reporter_state.specs.Refusals.{decider_by};
 ghost use Rattle.reporter_state.specs.Effects.{HasEndOutputIn, effect_of, end_of};
 ghost use Rattle.reporter_state.specs.Loads.{lacks_output};
@@ -14,7 +14,7 @@ use run_model::level::CancelReason;
 use test_text::test_finished::FinishedTest;
 
 /// What an event does beside its text.
-#[derive(Clone, Copy, Debug)]
+#[derive(Clone, Copy)]
 pub struct EventEffect<'e, 'a> {
     /// The reason that it cancels the run for.
     pub reason: Option<CancelReason>,
@@ -23,7 +23,7 @@ pub struct EventEffect<'e, 'a> {
 }
 
 /// How a test ended.
-#[derive(Clone, Copy, Debug)]
+#[derive(Clone, Copy)]
 pub enum EndedTest<'e, 'a> {
     /// It finished.
     Finished(FinishedTest<'e, 'a>),

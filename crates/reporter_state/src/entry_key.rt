@@ -17,7 +17,7 @@ use std::cmp::Ordering;
 
 /// What an entry is ordered by: its final level, the greatest first, then the iteration, then the counter where one is
 /// shown, then the bytes of the binary's id and of the test's name, and then how many entries were kept before.
-#[derive(Debug, Drop)]
+#[derive(Drop)]
 pub struct EntryKey {
     /// The level from which on the summary lists the test.
     pub level: FinalStatusLevel,

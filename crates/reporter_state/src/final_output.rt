@@ -18,7 +18,7 @@ use test_text::status_line::StatusLine;
 use test_text::test_finished::FinishedTest;
 
 /// An entry of the summary.
-#[derive(Debug, Drop)]
+#[derive(Drop)]
 pub struct FinalOutputEntry {
     /// The test.
     pub test: KeptTest,

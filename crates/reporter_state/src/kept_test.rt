@@ -11,7 +11,7 @@ use run_model::stress::StressIndex;
 use std::alloc::Global;
 
 /// A test as its lines name it, with names of its own.
-#[derive(Debug, Drop)]
+#[derive(Drop)]
 pub struct KeptTest {
     /// Which iteration of a stress run it belongs to.
     pub stress_index: Option<StressIndex>,

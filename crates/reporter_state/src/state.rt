@@ -2,7 +2,7 @@
 
 ghost use Rattle.std.specs.Prelude.{◌≡◌, ◌++◌, List, [], OnOk, OnErr, None, max, true, false};
 ghost use Rattle.std.specs.Option.{is_some, option_and_then, option_map, option_to_list};
-ghost use Rattle.run_model.specs.Levels.{reason_rank};
+ghost use Rattle.run_names.specs.Levels.{reason_rank};
 ghost use Rattle.test_text.specs.TestFinished.{HasShownOutput, finish_of};
 ghost use Rattle.reporter_state.specs.declared.final_output.FinalOutputEntry.{FinalOutputEntry};
 ghost use Rattle.reporter_state.specs.Effects.{HasEndOutput, HasEndOutputIn, TestEnd, end_of, kept_entry};

@@ -9,7 +9,7 @@ use Rattle.run_model.specs.declared.status.ExecutionResultDescription.{Execution
 use Rattle.run_model.specs.declared.status.ExecutionResultDescription.TheVariants.{Fail}
 use Rattle.run_model.specs.declared.status.FailureDescription.TheVariants.{ExitCode}
 use Rattle.run_model.specs.declared.status.RetryData.{RetryData}
-use Rattle.run_model.specs.declared.time.Nanos.{Nanos}
+use Rattle.run_names.specs.declared.time.Nanos.{Nanos}
 use Rattle.run_model.specs.declared.status.ExecuteStatus.{ExecuteStatus}
 use Rattle.run_model.specs.declared.status.FlakyResult.{FlakyResult}
 

@@ -1,16 +1,8 @@
 pub mod Attempts
-pub mod Displays
-pub mod ErrorChains
 pub mod Events
-pub mod Filters
 pub mod Infos
-pub mod Instances
-pub mod Levels
-pub mod Names
 pub mod Outputs
 pub mod Recorded
 pub mod Stats
 pub mod Statuses
-pub mod Stress
-pub mod UniquePrefixes
 pub mod Unloaded

@@ -1,6 +1,6 @@
 -- What the statistics of a run come to.
 use Rattle.std.specs.Prelude.{ℕ, ◌-◌, Bool, Option, None, Some, ◌||◌, ◌==◌, nat_lt, if◌then◌else◌}
-use Rattle.run_model.specs.declared.level.CancelReason.{CancelReason}
+use Rattle.run_names.specs.declared.level.CancelReason.{CancelReason}
 use Rattle.run_model.specs.declared.stats.RunStats.{RunStats}
 use Rattle.run_model.specs.declared.stats.RunStatsFailureKind.{RunStatsFailureKind}
 use Rattle.run_model.specs.declared.stats.RunStatsFailureKind.TheVariants.{SetupScript, Test}

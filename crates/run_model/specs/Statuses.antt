@@ -1,13 +1,10 @@
 -- What the attempts of a test come to, and the levels of that.
 use Rattle.std.specs.Prelude.{Bool, true, false, List, [], length, ◌==◌, if◌then◌else◌}
-use Rattle.std.specs.Option.{is_some}
 use Rattle.run_model.specs.Attempts.{Attempts}
-use Rattle.run_model.specs.declared.abort.AbortDescription.{AbortDescription}
-use Rattle.run_model.specs.declared.abort.AbortDescription.TheVariants as abort
-use Rattle.run_model.specs.declared.level.StatusLevel.{StatusLevel}
-use Rattle.run_model.specs.declared.level.StatusLevel.TheVariants as status
-use Rattle.run_model.specs.declared.level.FinalStatusLevel.{FinalStatusLevel}
-use Rattle.run_model.specs.declared.level.FinalStatusLevel.TheVariants as final
+use Rattle.run_names.specs.declared.level.StatusLevel.{StatusLevel}
+use Rattle.run_names.specs.declared.level.StatusLevel.TheVariants as status
+use Rattle.run_names.specs.declared.level.FinalStatusLevel.{FinalStatusLevel}
+use Rattle.run_names.specs.declared.level.FinalStatusLevel.TheVariants as final
 use Rattle.run_model.specs.declared.status.ExecuteStatus.{ExecuteStatus}
 use Rattle.run_model.specs.declared.status.ExecutionDescription.{ExecutionDescription}
 use Rattle.run_model.specs.declared.status.ExecutionDescription.TheVariants as described
@@ -40,12 +37,6 @@ is_leaky_success (outcome.Leak leak.Fail) = false
 is_leaky_success (outcome.Fail failure leaked) = false
 is_leaky_success outcome.ExecFail = false
 is_leaky_success (outcome.Timeout result) = false
-
--- a text is known, which a copy takes memory for
-abbrev pub abort_has_text : AbortDescription → Bool
-abort_has_text (abort.UnixSignal signal name) = is_some name
-abort_has_text (abort.WindowsNtStatus code message) = is_some message
-abort_has_text abort.WindowsJobObject = false
 
 -- the process was ended from outside, of which a copy takes memory
 abbrev pub is_abort : FailureDescription → Bool

@@ -2,7 +2,7 @@
 
 use crate::event::TestEvent;
 use crate::replay::ReplayHeader;
-use crate::run_id::ShortestRunIdPrefix;
+use run_names::run_id::ShortestRunIdPrefix;
 
 /// A call of a reporter.
 ///

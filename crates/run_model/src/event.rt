@@ -5,18 +5,18 @@ ghost use Rattle.run_model.specs.Events.{run_finished, test_finished};
 ghost use Rattle.run_model.specs.Recorded.{recorded_kind};
 ghost use Rattle.run_model.specs.Unloaded.{unloaded_event};
 
-use crate::command::CommandLine;
-use crate::config::TestOutputDisplay;
 use crate::info::InfoResponse;
-use crate::memory::OutOfMemory;
-use crate::name::{ProfileName, ProgramName, ScriptId, TestInstanceId};
-use crate::not_seen::NotSeen;
 use crate::output::{LiveSpec, RecordingSpec};
 use crate::output_event::OutputEventKind;
 use crate::stats::{RunFinishedStats, RunStats};
 use crate::status::{ExecuteStatus, ExecutionStatuses, RetryData, SetupScriptExecuteStatus};
-use crate::stress::{StressIndex, StressProgress};
-use crate::time::Nanos;
+use run_names::command::CommandLine;
+use run_names::config::TestOutputDisplay;
+use run_names::memory::OutOfMemory;
+use run_names::name::{ProfileName, ProgramName, ScriptId, TestInstanceId};
+use run_names::not_seen::NotSeen;
+use run_names::stress::{StressIndex, StressProgress};
+use run_names::time::Nanos;
 use std::alloc::Global;
 use uuid::Uuid;
 

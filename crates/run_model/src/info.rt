@@ -3,14 +3,14 @@
 ghost use Rattle.std.specs.Prelude.{◌≡◌, Some};
 ghost use Rattle.run_model.specs.Infos.{has_valid_output, terminate_reason_text};
 
-use crate::abort::DescriptionText;
-use crate::boxed::Boxed;
-use crate::command::CommandLine;
-use crate::name::{ProgramName, ScriptId, TestInstanceId};
 use crate::output::{ChildExecutionOutputDescription, LiveSpec};
 use crate::status::{ExecutionResultDescription, RetryData};
-use crate::stress::StressIndex;
-use crate::time::Nanos;
+use run_names::abort::DescriptionText;
+use run_names::boxed::Boxed;
+use run_names::command::CommandLine;
+use run_names::name::{ProgramName, ScriptId, TestInstanceId};
+use run_names::stress::StressIndex;
+use run_names::time::Nanos;
 use std::fmt;
 use std::fmt::Formatter;
 

@@ -4,23 +4,15 @@
 //! hold no text of a report and write nothing: a reporter is handed a [`event::TestEvent`] and decides what to show.
 #![tactic(auto)]
 
-pub mod abort;
-pub mod boxed;
 pub mod call;
-pub mod command;
-pub mod config;
 pub mod event;
 pub mod info;
-pub mod level;
-pub mod memory;
-pub mod name;
-pub mod not_seen;
 pub mod output;
 pub mod output_event;
 pub mod replay;
-pub mod run_id;
 pub mod stats;
 pub mod status;
-pub mod stress;
-pub mod time;
-pub mod unit;
+
+pub use run_names::{
+    abort, boxed, command, config, level, memory, name, not_seen, run_id, stress, time, unit,
+};

@@ -9,12 +9,12 @@ ghost use Rattle.run_model.specs.Outputs.{subslice_value, stdout_part, stderr_pa
 ghost use Rattle.run_model.specs.Recorded.{recorded_execution, recorded_member, recorded_output};
 ghost use Rattle.run_model.specs.Unloaded.{unloaded_output};
 
-use crate::abort::DescriptionText;
-use crate::boxed::Boxed;
-use crate::memory::{OutOfMemory, TooManyOwners};
 use crate::status::ExecutionResultDescription;
 use bstr::ByteSlice;
 use bytes::Bytes;
+use run_names::abort::DescriptionText;
+use run_names::boxed::Boxed;
+use run_names::memory::{OutOfMemory, TooManyOwners};
 use std::alloc::Global;
 use std::borrow::CowStr;
 use std::fmt;
@@ -463,7 +463,7 @@ struct ErrorParts {
 }
 
 impl Model for ErrorChain {
-    ghost use Rattle.run_model.specs.ErrorChains.{MessageAndCauses};
+    ghost use Rattle.run_names.specs.ErrorChains.{MessageAndCauses};
 
     ghost Value = { MessageAndCauses };
 

@@ -1,11 +1,11 @@
 //! Events whose captured output a replay can leave unread.
 
-use crate::config::TestOutputDisplay;
 use crate::output::OutputSpec;
 use crate::stats::RunStats;
 use crate::status::{ExecuteStatus, ExecutionStatuses, SetupScriptExecuteStatus};
-use crate::stress::StressIndex;
-use crate::time::Nanos;
+use run_names::config::TestOutputDisplay;
+use run_names::stress::StressIndex;
+use run_names::time::Nanos;
 
 /// A decided event, without its names: what it came to, and its output where that is held.
 #[derive(Debug, Drop)]

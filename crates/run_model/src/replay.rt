@@ -1,8 +1,8 @@
 //! Replays of recorded runs.
 
-use crate::abort::DescriptionText;
-use crate::run_id::ShortestRunIdPrefix;
 use jiff::civil::DateTime;
+use run_names::abort::DescriptionText;
+use run_names::run_id::ShortestRunIdPrefix;
 use uuid::Uuid;
 
 /// Which recorded run a replay shows.

@@ -3,8 +3,8 @@
 ghost use Rattle.std.specs.Prelude.{◌≡◌};
 ghost use Rattle.run_model.specs.Stats.{has_failures, failure_kind, final_stats_of, final_stats_of_run, planned_stats, stress_stats_of};
 
-use crate::level::CancelReason;
-use crate::stress::StressIndex;
+use run_names::level::CancelReason;
+use run_names::stress::StressIndex;
 
 /// The counts of a run so far. By default all are 0, and nothing has cancelled the run.
 ///

@@ -6,14 +6,14 @@ ghost use Rattle.run_model.specs.Statuses.{is_aborted, is_abort, is_success, is_
 ghost use Rattle.run_model.specs.Recorded.{recorded_attempt, recorded_attempts, recorded_script};
 ghost use Rattle.run_model.specs.Unloaded.{unloaded_attempt, unloaded_attempts, unloaded_script};
 
-use crate::abort::AbortDescription;
-use crate::boxed::Boxed;
-use crate::level::{FinalStatusLevel, StatusLevel};
-use crate::memory::OutOfMemory;
 use crate::output::{
     ChildExecutionOutputDescription, ChildOutputDescription, LiveSpec, OutputSpec, RecordingSpec,
 };
-use crate::time::Nanos;
+use run_names::abort::AbortDescription;
+use run_names::boxed::Boxed;
+use run_names::level::{FinalStatusLevel, StatusLevel};
+use run_names::memory::OutOfMemory;
+use run_names::time::Nanos;
 use std::alloc::Global;
 use std::marker::Model;
 

@@ -1,8 +1,8 @@
 -- A run that is about to be cancelled or killed.
 use Rattle.std.specs.Prelude.{ℕ, Bool, true, false, Option, None, Some, [], ◌++◌, codes, if◌then◌else◌}
-use Rattle.run_model.specs.Levels.{reason_words}
-use Rattle.run_model.specs.declared.level.CancelReason.{CancelReason}
-use Rattle.run_model.specs.declared.level.CancelReason.TheVariants as reason
+use Rattle.run_names.specs.Levels.{reason_words}
+use Rattle.run_names.specs.declared.level.CancelReason.{CancelReason}
+use Rattle.run_names.specs.declared.level.CancelReason.TheVariants as reason
 use Rattle.plain_text.specs.Style.{plain, styled}
 use Rattle.plain_text.specs.Texts.{Text, right_in}
 use Rattle.plain_text.specs.declared.style.Styles.{Styles}

@@ -1,15 +1,16 @@
 -- What is handed in for the texts of a run without escape characters.
 use Rattle.std.specs.Prelude.{Bool, Option}
 use Rattle.std.specs.List.{AllByRecursion}
-use Rattle.run_model.specs.UniquePrefixes.{UniquePrefix}
-use Rattle.run_model.specs.declared.name.OwnedTestInstanceId.{OwnedTestInstanceId}
-use Rattle.run_model.specs.declared.not_seen.NotSeen.{NotSeen}
+use Rattle.run_names.specs.UniquePrefixes.{UniquePrefix}
+use Rattle.run_names.specs.declared.name.OwnedTestInstanceId.{OwnedTestInstanceId}
+use Rattle.run_names.specs.declared.not_seen.NotSeen.{NotSeen}
 use Rattle.run_model.specs.declared.output.ChildOutputDescription.{ChildOutputDescription}
 use Rattle.run_model.specs.declared.output.LiveSpec.{LiveSpec}
 use Rattle.run_model.specs.declared.replay.ReplayHeader.{ReplayHeader}
 use Rattle.run_model.specs.declared.status.SetupScriptExecuteStatus.{SetupScriptExecuteStatus}
 use Rattle.plain_text.specs.Escapes.{HasNoEscape}
-use Rattle.report_text.specs.PlainTexts.{HoldsIf, IsPlainResult}
+use Rattle.report_words.specs.PlainTexts.{HoldsIf}
+use Rattle.report_text.specs.PlainResults.{IsPlainResult}
 use Rattle.unit_report.specs.PlainOutputs.{IsPlainWritten}
 
 -- a run's id in two parts holds no escape character

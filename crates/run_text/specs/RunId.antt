@@ -1,7 +1,7 @@
 -- The id of a run.
 use Rattle.std.specs.Prelude.{ℕ, List, ◌++◌, Option, None, Some}
 use Rattle.uuid.specs.Text.{hyphenated_text, lower}
-use Rattle.run_model.specs.UniquePrefixes.{UniquePrefix}
+use Rattle.run_names.specs.UniquePrefixes.{UniquePrefix}
 use Rattle.plain_text.specs.Texts.{Text}
 use Rattle.plain_text.specs.Style.{styled}
 use Rattle.plain_text.specs.declared.style.Styles.{Styles}

@@ -1,8 +1,8 @@
 -- What runs while a run is cancelled, killed or paused.
 use Rattle.std.specs.Prelude.{ℕ, Bool, ◌++◌, ◌&&◌, ◌==◌, codes, if◌then◌else◌}
 use Rattle.std.specs.Fmt.{decimal}
-use Rattle.run_model.specs.declared.config.NextestRunMode.{NextestRunMode}
-use Rattle.report_text.specs.Plural.{setup_scripts_word, tests_word}
+use Rattle.run_names.specs.declared.config.NextestRunMode.{NextestRunMode}
+use Rattle.report_words.specs.Plural.{setup_scripts_word, tests_word}
 use Rattle.plain_text.specs.Style.{plain, styled}
 use Rattle.plain_text.specs.Texts.{Text}
 use Rattle.plain_text.specs.declared.style.Styles.{Styles}

@@ -3,8 +3,8 @@ use Rattle.std.specs.Prelude.{◌≡◌, ℕ, ◌+◌, Bool, true, false, [], �
 use Rattle.std.specs.Fmt.{decimal}
 use Rattle.run_model.specs.Outputs.{has_loaded_output}
 use Rattle.run_model.specs.Statuses.{is_success}
-use Rattle.run_model.specs.declared.level.StatusLevel.{StatusLevel}
-use Rattle.run_model.specs.declared.level.StatusLevel.TheVariants as level
+use Rattle.run_names.specs.declared.level.StatusLevel.{StatusLevel}
+use Rattle.run_names.specs.declared.level.StatusLevel.TheVariants as level
 use Rattle.run_model.specs.declared.output.ChildOutputDescription.{ChildOutputDescription}
 use Rattle.run_model.specs.declared.output.LiveSpec.{LiveSpec}
 use Rattle.run_model.specs.declared.status.ExecutionResultDescription.{ExecutionResultDescription}

@@ -1,11 +1,11 @@
 -- The start of a run: its id and profile, and what it is to run.
 use Rattle.std.specs.Prelude.{ℕ, List, ◌++◌, Option, codes}
 use Rattle.std.specs.Fmt.{decimal}
-use Rattle.run_model.specs.UniquePrefixes.{UniquePrefix}
-use Rattle.run_model.specs.declared.config.NextestRunMode.{NextestRunMode}
+use Rattle.run_names.specs.UniquePrefixes.{UniquePrefix}
+use Rattle.run_names.specs.declared.config.NextestRunMode.{NextestRunMode}
 use Rattle.run_model.specs.declared.event.TestCounts.{TestCounts}
 use Rattle.plain_text.specs.Texts.{Text, right_in}
-use Rattle.report_text.specs.Plural.{tests_word, binaries_word}
+use Rattle.report_words.specs.Plural.{tests_word, binaries_word}
 use Rattle.plain_text.specs.Style.{plain, styled}
 use Rattle.plain_text.specs.declared.style.Styles.{Styles}
 use Rattle.unit_report.specs.SkipCounts.{skip_counts_text}

@@ -3,16 +3,16 @@ use Rattle.std.specs.Prelude.{ℕ, ◌+◌, [], ◌++◌, Option, None, Some, co
 use Rattle.std.specs.Fmt.{decimal}
 use Rattle.std.specs.Int.NonZero.{non_zero_u32_get}
 use Rattle.run_model.specs.Stats.{final_stats_of}
-use Rattle.run_model.specs.Stress.{Remaining, Iterations, Endless, TimeLeft, completed_of, elapsed_of, remaining_of}
+use Rattle.run_names.specs.Stress.{Remaining, Iterations, Endless, TimeLeft, completed_of, elapsed_of, remaining_of}
 use Rattle.run_model.specs.declared.stats.RunStats.{RunStats}
-use Rattle.run_model.specs.declared.stress.StressCount.TheVariants as total
-use Rattle.run_model.specs.declared.stress.StressProgress.{StressProgress}
-use Rattle.run_model.specs.declared.stress.StressProgress.TheVariants.{Count, Time}
-use Rattle.report_text.specs.Durations.{clock_text, whole_seconds}
-use Rattle.report_text.specs.Plural.{iterations_word}
+use Rattle.run_names.specs.declared.stress.StressCount.TheVariants as total
+use Rattle.run_names.specs.declared.stress.StressProgress.{StressProgress}
+use Rattle.run_names.specs.declared.stress.StressProgress.TheVariants.{Count, Time}
+use Rattle.report_words.specs.Durations.{clock_text, whole_seconds}
+use Rattle.report_words.specs.Plural.{iterations_word}
 use Rattle.plain_text.specs.Texts.{Text, right_in}
 use Rattle.plain_text.specs.Style.{plain, styled}
-use Rattle.report_text.specs.declared.helpers.durations.DurationRounding.TheVariants.{Floor, Ceiling}
+use Rattle.report_words.specs.declared.durations.DurationRounding.TheVariants.{Floor, Ceiling}
 use Rattle.plain_text.specs.declared.style.Styles.{Styles}
 use Rattle.unit_report.specs.Durations.{bracketed_duration}
 use Rattle.event_text.specs.Bar.{bar_line}

@@ -3,10 +3,10 @@ use Rattle.std.specs.Prelude.{ℕ, not, [], ◌++◌, ◌&&◌, ◌==◌, Option
 use Rattle.std.specs.Fmt.{decimal}
 use Rattle.std.specs.declared.num.NonZeroU32.{NonZeroU32}
 use Rattle.std.specs.Int.NonZero.{non_zero_u32_get}
-use Rattle.run_model.specs.Levels.{reason_words}
+use Rattle.run_names.specs.Levels.{reason_words}
 use Rattle.run_model.specs.Stats.{final_stats_of, stress_stats_of}
-use Rattle.run_model.specs.declared.config.NextestRunMode.{NextestRunMode}
-use Rattle.run_model.specs.declared.level.CancelReason.{CancelReason}
+use Rattle.run_names.specs.declared.config.NextestRunMode.{NextestRunMode}
+use Rattle.run_names.specs.declared.level.CancelReason.{CancelReason}
 use Rattle.run_model.specs.declared.stats.RunStats.{RunStats}
 use Rattle.run_model.specs.declared.stats.FinalRunStats.{FinalRunStats}
 use Rattle.run_model.specs.declared.stats.FinalRunStats.TheVariants.{Success, NoTestsRun, Cancelled, Failed}
@@ -15,9 +15,9 @@ use Rattle.run_model.specs.declared.stats.RunFinishedStats.TheVariants.{Single, 
 use Rattle.run_model.specs.declared.stats.StressFinalRunStats.{StressFinalRunStats}
 use Rattle.run_model.specs.declared.stats.StressFinalRunStats.TheVariants as stress
 use Rattle.run_model.specs.declared.stats.StressRunStats.{StressRunStats}
-use Rattle.run_model.specs.declared.stress.StressIndex.{StressIndex}
+use Rattle.run_names.specs.declared.stress.StressIndex.{StressIndex}
 use Rattle.plain_text.specs.Texts.{Text, right_in}
-use Rattle.report_text.specs.Plural.{iterations_word, tests_word_if}
+use Rattle.report_words.specs.Plural.{iterations_word, tests_word_if}
 use Rattle.plain_text.specs.Style.{plain, styled}
 use Rattle.plain_text.specs.declared.style.Style.{Style}
 use Rattle.plain_text.specs.declared.style.Styles.{Styles}

@@ -10,7 +10,7 @@ use report_text::helpers::plural::{setup_scripts_str, tests_str};
 use run_model::config::NextestRunMode;
 
 /// What runs. Setup scripts and tests never run at the same time; where both are counted, the scripts are told.
-#[derive(Clone, Copy, Debug)]
+#[derive(Clone, Copy)]
 pub struct Running {
     /// How many setup scripts run.
     pub setup_scripts: usize,

@@ -3,8 +3,8 @@
 ghost use Rattle.std.specs.Prelude.{◌≡◌};
 ghost use Rattle.std.specs.Option.{option_map};
 ghost use Rattle.std.specs.Int.NonZero.{non_zero_u32_get};
-ghost use Rattle.run_model.specs.Stress.{remaining_value};
-ghost use Rattle.report_text.specs.Durations.{clock_text, whole_seconds};
+ghost use Rattle.run_names.specs.Stress.{remaining_value};
+ghost use Rattle.report_words.specs.Durations.{clock_text, whole_seconds};
 ghost use Rattle.plain_text.specs.Style.{styled};
 ghost use Rattle.plain_text.specs.Writer.{Puts};
 ghost use Rattle.run_text.specs.Stress.{count_left_text, elapsed_text, iteration_text, of_iterations, of_time, remaining_text, stress_sub_run_finished_text, stress_sub_run_line, stress_sub_run_started_text, time_left_text};

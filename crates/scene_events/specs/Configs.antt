@@ -1,7 +1,7 @@
 -- How a run is reported where a scene says nothing of it.
 use Rattle.std.specs.Prelude.{false, None}
-use Rattle.run_model.specs.declared.config.NextestRunMode.TheVariants.{Test}
-use Rattle.run_model.specs.declared.level.FinalStatusLevel.TheVariants.{Flaky}
+use Rattle.run_names.specs.declared.config.NextestRunMode.TheVariants.{Test}
+use Rattle.run_names.specs.declared.level.FinalStatusLevel.TheVariants.{Flaky}
 use Rattle.scene_events.specs.declared.scene.SceneConfig.{SceneConfig}
 
 abbrev pub unconfigured : SceneConfig

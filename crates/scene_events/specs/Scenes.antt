@@ -8,8 +8,8 @@ use Rattle.run_model.specs.declared.event.TestEventKind.TheVariants as kind
 use Rattle.run_model.specs.declared.info.InfoResponse.{InfoResponse}
 use Rattle.run_model.specs.declared.info.InfoResponse.TheVariants as response
 use Rattle.run_model.specs.declared.info.UnitState.{UnitState}
-use Rattle.run_model.specs.declared.level.CancelReason.{CancelReason}
-use Rattle.run_model.specs.declared.name.TestInstanceId.{TestInstanceId}
+use Rattle.run_names.specs.declared.level.CancelReason.{CancelReason}
+use Rattle.run_names.specs.declared.name.TestInstanceId.{TestInstanceId}
 use Rattle.run_model.specs.declared.replay.ReplayHeader.{ReplayHeader}
 use Rattle.run_model.specs.declared.stats.RunStats.{RunStats}
 use Rattle.run_model.specs.declared.call.ReportCall.{ReportCall}

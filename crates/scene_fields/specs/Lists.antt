@@ -3,8 +3,8 @@ use Rattle.std.specs.Prelude.{String, string_bytes, â„•, zero, suc, List, [], â—
 use Rattle.std.specs.Option.{option_map, option_and_then}
 use Rattle.std.specs.Borrow.{Bor}
 use Rattle.std.specs.declared.alloc.Global.{Global}
-use Rattle.run_model.specs.ErrorChains.{MessageAndCauses}
-use Rattle.run_model.specs.declared.name.OwnedTestInstanceId.{OwnedTestInstanceId}
+use Rattle.run_names.specs.ErrorChains.{MessageAndCauses}
+use Rattle.run_names.specs.declared.name.OwnedTestInstanceId.{OwnedTestInstanceId}
 use Rattle.scene_fields.specs.Texts.{escape_byte, escape_len}
 
 abbrev pub Words : Type 0

@@ -2,7 +2,7 @@
 use Rattle.std.specs.Prelude.{ℕ, List, if◌then◌else◌, Option, None, Some, codes, bytes_eq}
 use Rattle.std.specs.Option.{option_map}
 use Rattle.uuid.specs.Text.{parsed}
-use Rattle.run_model.specs.UniquePrefixes.{UniquePrefix}
+use Rattle.run_names.specs.UniquePrefixes.{UniquePrefix}
 use Rattle.scene_fields.specs.Fields.{◌>>=◌, Line, says, field}
 use Rattle.scene_text.specs.Moments.{moment_in}
 use Rattle.scene_fields.specs.Texts.{text_in}

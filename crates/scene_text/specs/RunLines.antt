@@ -1,8 +1,8 @@
 -- What the fields of the lines of a run say.
 use Rattle.std.specs.Prelude.{ℕ, List, length, ◌==◌, ◌&&◌, if◌then◌else◌, Option, None, Some}
 use Rattle.uuid.specs.Text.{parsed}
-use Rattle.run_model.specs.declared.name.OwnedTestInstanceId.{OwnedTestInstanceId}
-use Rattle.run_model.specs.declared.not_seen.NotSeen.{NotSeen}
+use Rattle.run_names.specs.declared.name.OwnedTestInstanceId.{OwnedTestInstanceId}
+use Rattle.run_names.specs.declared.not_seen.NotSeen.{NotSeen}
 use Rattle.run_model.specs.declared.stats.RunFinishedStats.TheVariants.{Single}
 use Rattle.scene_fields.specs.Counts.{skips_in, stats_in}
 use Rattle.scene_fields.specs.Fields.{◌>>=◌, Line, says, field}

@@ -6,7 +6,7 @@ use Rattle.run_model.specs.declared.info.UnitTerminateMethod.TheVariants as meth
 use Rattle.run_model.specs.declared.info.UnitTerminateReason.{UnitTerminateReason}
 use Rattle.run_model.specs.declared.info.UnitTerminateReason.TheVariants as reason
 use Rattle.run_model.specs.declared.status.ExecutionResultDescription.{ExecutionResultDescription}
-use Rattle.run_model.specs.declared.time.Nanos.{Nanos}
+use Rattle.run_names.specs.declared.time.Nanos.{Nanos}
 use Rattle.scene_fields.specs.Numbers.{nanos_in, number_in}
 use Rattle.scene_fields.specs.Results.{result_in}
 use Rattle.scene_fields.specs.Split.{cut}

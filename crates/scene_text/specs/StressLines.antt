@@ -3,12 +3,12 @@ use Rattle.std.specs.Prelude.{ℕ, List, if◌then◌else◌, Option, None, Some
 use Rattle.std.specs.Option.{option_map}
 use Rattle.run_model.specs.Stats.{final_stats_of}
 use Rattle.run_model.specs.declared.stats.RunFinishedStats.TheVariants.{Stress}
-use Rattle.run_model.specs.declared.stress.StressCount.{StressCount}
-use Rattle.run_model.specs.declared.stress.StressCount.TheVariants as count
-use Rattle.run_model.specs.declared.stress.StressIndex.{StressIndex}
-use Rattle.run_model.specs.declared.stress.StressProgress.{StressProgress}
-use Rattle.run_model.specs.declared.stress.StressProgress.TheVariants as progress
-use Rattle.run_model.specs.declared.time.Nanos.{Nanos}
+use Rattle.run_names.specs.declared.stress.StressCount.{StressCount}
+use Rattle.run_names.specs.declared.stress.StressCount.TheVariants as count
+use Rattle.run_names.specs.declared.stress.StressIndex.{StressIndex}
+use Rattle.run_names.specs.declared.stress.StressProgress.{StressProgress}
+use Rattle.run_names.specs.declared.stress.StressProgress.TheVariants as progress
+use Rattle.run_names.specs.declared.time.Nanos.{Nanos}
 use Rattle.scene_fields.specs.Counts.{stats_in}
 use Rattle.scene_fields.specs.Fields.{◌>>=◌, Line, says, field}
 use Rattle.scene_fields.specs.Numbers.{nanos_in, number_in}

@@ -2,7 +2,7 @@
 use Rattle.std.specs.Prelude.{◌≡◌, ℕ, List, reverse, true, false, if◌then◌else◌, Option, Some, ⊤}
 use Rattle.std.specs.Option.{is_some, option_map}
 use Rattle.std.specs.List.{AllZip}
-use Rattle.run_model.specs.Filters.{default_config_filter}
+use Rattle.run_names.specs.Filters.{default_config_filter}
 use Rattle.unit_report.specs.Levels.{overridden}
 use Rattle.unit_report.specs.declared.config.ShowProgress.{ShowProgress}
 use Rattle.unit_report.specs.declared.config.ShowProgress.TheVariants as progress

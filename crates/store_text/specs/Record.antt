@@ -1,7 +1,7 @@
 -- The record of a finished test.
 use Rattle.std.specs.Prelude.{◌++◌, codes}
 use Rattle.run_model.specs.Attempts.{Attempts}
-use Rattle.run_model.specs.declared.name.TestInstanceId.{TestInstanceId}
+use Rattle.run_names.specs.declared.name.TestInstanceId.{TestInstanceId}
 use Rattle.run_model.specs.declared.output.ChildOutputDescription.{ChildOutputDescription}
 use Rattle.run_model.specs.declared.output.LiveSpec.{LiveSpec}
 use Rattle.plain_text.specs.Texts.{Text}

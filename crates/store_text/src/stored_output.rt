@@ -15,7 +15,7 @@ use run_model::output::{
 use run_model::status::ExecutionStatuses;
 
 // The text of captured output in two parts, the second of which may be empty. It allocates nothing: it is a view of the bytes.
-#[derive(Debug, Drop)]
+#[derive(Drop)]
 struct OutputTexts<'o> {
     front: LossyText<'o>,
     back: LossyText<'o>,

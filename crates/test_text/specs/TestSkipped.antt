@@ -1,8 +1,8 @@
 -- A test that is not run.
 use Rattle.std.specs.Prelude.{Option, [], ◌++◌, codes, if◌then◌else◌}
-use Rattle.run_model.specs.declared.level.StatusLevel.TheVariants as status
-use Rattle.run_model.specs.declared.name.TestInstanceId.{TestInstanceId}
-use Rattle.run_model.specs.declared.stress.StressIndex.{StressIndex}
+use Rattle.run_names.specs.declared.level.StatusLevel.TheVariants as status
+use Rattle.run_names.specs.declared.name.TestInstanceId.{TestInstanceId}
+use Rattle.run_names.specs.declared.stress.StressIndex.{StressIndex}
 use Rattle.plain_text.specs.Style.{styled}
 use Rattle.plain_text.specs.Texts.{Text, right_in}
 use Rattle.event_text.specs.Instance.{padded_instance, untimed_end}

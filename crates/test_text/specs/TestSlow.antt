@@ -1,11 +1,11 @@
 -- A test that runs longer than it should.
 use Rattle.std.specs.Prelude.{ℕ, Bool, true, false, ◌&&◌, Option, [], ◌++◌, codes, nat_le, nat_lt, if◌then◌else◌}
-use Rattle.run_model.specs.Levels.{status_rank}
-use Rattle.run_model.specs.declared.level.StatusLevel.{StatusLevel}
-use Rattle.run_model.specs.declared.level.StatusLevel.TheVariants as status
-use Rattle.run_model.specs.declared.name.TestInstanceId.{TestInstanceId}
+use Rattle.run_names.specs.Levels.{status_rank}
+use Rattle.run_names.specs.declared.level.StatusLevel.{StatusLevel}
+use Rattle.run_names.specs.declared.level.StatusLevel.TheVariants as status
+use Rattle.run_names.specs.declared.name.TestInstanceId.{TestInstanceId}
 use Rattle.run_model.specs.declared.status.RetryData.{RetryData}
-use Rattle.run_model.specs.declared.stress.StressIndex.{StressIndex}
+use Rattle.run_names.specs.declared.stress.StressIndex.{StressIndex}
 use Rattle.plain_text.specs.Style.{plain, styled}
 use Rattle.plain_text.specs.Texts.{Text, right_in}
 use Rattle.plain_text.specs.declared.style.Style.{Style}

@@ -49,7 +49,7 @@ impl StatusLineKind {
 }
 
 /// What the line of a finished test says of its attempts.
-#[derive(Clone, Copy, Debug)]
+#[derive(Clone, Copy)]
 pub struct StatusLine<'b> {
     /// What the attempts came to.
     pub case: StatusCase,
@@ -120,7 +120,7 @@ pub fn write_status_line<W: WriteStr>(
     write_line(w, styles, kind, &test, &line)
 }
 
-// The same, of what it lends.
+// `write_status_line` by reference.
 #[tactic(auto, unfolding(crate::specs::StatusLine::status_line))]
 fn write_line<W: WriteStr>(
     w: &mut W,
@@ -255,7 +255,7 @@ fn write_failure_word<W: WriteStr>(
     write_plain(w, " ")
 }
 
-// Whether this is said of a failure, as it is of most: their word is there in its columns.
+// Whether the word is plain `FAIL`, which is written as a constant.
 fn is_plain_failure(attempt: u32, failed: &ExecutionResultDescription) -> bool
     ensures { OnTrue result (failure_words attempt failed.now ≡ codes "FAIL") }
 {

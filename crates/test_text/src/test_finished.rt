@@ -1,7 +1,7 @@
 //! A finished test, and its text as it is shown at once.
 
 ghost use Rattle.std.specs.Prelude.{◌≡◌};
-ghost use Rattle.run_model.specs.Levels.{reason_rank};
+ghost use Rattle.run_names.specs.Levels.{reason_rank};
 ghost use Rattle.plain_text.specs.Writer.{Puts};
 ghost use Rattle.test_text.specs.TestFinished.{HasShownOutput, finish_of, line_at_once, output_at_once, test_finish, test_finished_text};
 
@@ -20,15 +20,15 @@ use run_model::status::{ExecutionDescription, ExecutionStatuses};
 use run_model::stress::StressIndex;
 
 /// A finished test, as its line, its output and its entry are made of it.
-#[derive(Clone, Copy, Debug)]
+#[derive(Clone, Copy)]
 pub struct FinishedTest<'e, 'a> {
     /// The test.
     pub test: CountedInstance<'a>,
     /// Its attempts.
     pub describe: ExecutionDescription<'e, LiveSpec>,
-    /// When the output of the last one is shown.
+    /// When the output of the last one is asked to be shown.
     pub display: TestOutputDisplay,
-    /// What becomes of it.
+    /// When its output is shown.
     pub row: FinishRow,
 }
 

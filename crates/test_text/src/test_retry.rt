@@ -7,7 +7,7 @@ ghost use Rattle.plain_text.specs.Writer.{Puts};
 ghost use Rattle.test_text.specs.TestRetry.{HasFailedAttemptOutput, attempt_failed_line, attempt_failed_text, delay_line, delay_words, failed_output, is_failed_output_shown};
 ghost use Rattle.event_text.specs.Settings.{is_level_shown};
 ghost use Rattle.test_text.specs.StatusLine.{attempt_words};
-ghost use Rattle.run_model.specs.declared.level.StatusLevel.TheVariants.{Retry};
+ghost use Rattle.run_names.specs.declared.level.StatusLevel.TheVariants.{Retry};
 ghost use Rattle.event_text.specs.ResultWords.{short_word};
 
 use event_text::attempt_output::write_test_execute_status;

@@ -1,6 +1,6 @@
 -- Durations in the lines of a report.
 use Rattle.std.specs.Prelude.{ℕ, ◌/◌, ◌++◌, codes}
-use Rattle.report_text.specs.Durations.{clock_text}
+use Rattle.report_words.specs.Durations.{clock_text}
 use Rattle.plain_text.specs.Texts.{Text, right_in}
 use Rattle.plain_text.specs.Numbers.{seconds}
 

@@ -1,7 +1,7 @@
 -- An error and its causes, as text.
 use Rattle.std.specs.Prelude.{false, List, [], ◌++◌, ◌==◌, length, codes, if◌then◌else◌}
 use Rattle.std.specs.List.{flat_map}
-use Rattle.run_model.specs.ErrorChains.{MessageAndCauses}
+use Rattle.run_names.specs.ErrorChains.{MessageAndCauses}
 use Rattle.plain_text.specs.Indent.{indent}
 use Rattle.plain_text.specs.Style.{plain}
 use Rattle.plain_text.specs.Texts.{Text}

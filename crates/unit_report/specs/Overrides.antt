@@ -1,7 +1,7 @@
 -- Whose setting decides when a test's output is shown.
 use Rattle.std.specs.Prelude.{Bool, true, false, unwrap_or, if◌then◌else◌}
 use Rattle.run_model.specs.Statuses.{is_success_case}
-use Rattle.run_model.specs.declared.config.TestOutputDisplay.{TestOutputDisplay}
+use Rattle.run_names.specs.declared.config.TestOutputDisplay.{TestOutputDisplay}
 use Rattle.run_model.specs.declared.status.ExecutionResultDescription.{ExecutionResultDescription}
 use Rattle.run_model.specs.declared.status.ExecutionResultDescription.TheVariants as outcome
 use Rattle.run_model.specs.declared.status.StatusSummary.{StatusSummary}

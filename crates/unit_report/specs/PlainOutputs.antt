@@ -11,7 +11,7 @@ use Rattle.run_model.specs.declared.output.LiveSpec.{LiveSpec}
 use Rattle.plain_text.specs.EndLine.{ends_in_line_feed}
 use Rattle.plain_text.specs.Escapes.{HasNoEscape}
 use Rattle.plain_text.specs.Lossy.{decoded_text}
-use Rattle.report_text.specs.PlainTexts.{HoldsIf, IsPlainChain}
+use Rattle.report_words.specs.PlainTexts.{HoldsIf, IsPlainChain}
 use Rattle.plain_text.specs.Texts.{Text}
 use Rattle.unit_report.specs.Captured.{is_valid, highlight_stop}
 

@@ -1,13 +1,13 @@
 -- How many tests and binaries a run skips, and why.
 use Rattle.std.specs.Prelude.{ℕ, ◌-◌, Bool, [], ◌++◌, ◌&&◌, ◌||◌, ◌==◌, codes, if◌then◌else◌}
 use Rattle.std.specs.Fmt.{decimal}
-use Rattle.run_model.specs.declared.config.NextestRunMode.{NextestRunMode}
-use Rattle.run_model.specs.declared.config.NextestRunMode.TheVariants.{Test, Benchmark}
-use Rattle.run_model.specs.declared.config.CompiledDefaultFilter.{CompiledDefaultFilter}
-use Rattle.run_model.specs.declared.config.CompiledDefaultFilterSection.{CompiledDefaultFilterSection}
-use Rattle.run_model.specs.declared.config.CompiledDefaultFilterSection.TheVariants.{Profile, Override}
+use Rattle.run_names.specs.declared.config.NextestRunMode.{NextestRunMode}
+use Rattle.run_names.specs.declared.config.NextestRunMode.TheVariants.{Test, Benchmark}
+use Rattle.run_names.specs.declared.config.CompiledDefaultFilter.{CompiledDefaultFilter}
+use Rattle.run_names.specs.declared.config.CompiledDefaultFilterSection.{CompiledDefaultFilterSection}
+use Rattle.run_names.specs.declared.config.CompiledDefaultFilterSection.TheVariants.{Profile, Override}
 use Rattle.run_model.specs.declared.event.SkipCounts.{SkipCounts}
-use Rattle.report_text.specs.Plural.{tests_word, binaries_word}
+use Rattle.report_words.specs.Plural.{tests_word, binaries_word}
 use Rattle.plain_text.specs.Style.{plain, styled}
 use Rattle.plain_text.specs.Texts.{Text}
 use Rattle.plain_text.specs.declared.style.Styles.{Styles}

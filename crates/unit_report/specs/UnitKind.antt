@@ -1,9 +1,9 @@
 -- The words for units.
 use Rattle.std.specs.Prelude.{codes}
-use Rattle.run_model.specs.declared.config.NextestRunMode.{NextestRunMode}
-use Rattle.run_model.specs.declared.config.NextestRunMode.TheVariants as mode
-use Rattle.run_model.specs.declared.unit.UnitKind.{UnitKind}
-use Rattle.run_model.specs.declared.unit.UnitKind.TheVariants as kind
+use Rattle.run_names.specs.declared.config.NextestRunMode.{NextestRunMode}
+use Rattle.run_names.specs.declared.config.NextestRunMode.TheVariants as mode
+use Rattle.run_names.specs.declared.unit.UnitKind.{UnitKind}
+use Rattle.run_names.specs.declared.unit.UnitKind.TheVariants as kind
 use Rattle.plain_text.specs.Texts.{Text}
 
 unfoldable pub unit_word : NextestRunMode → UnitKind → Text

@@ -1,15 +1,15 @@
 -- What a run left undone.
 use Rattle.std.specs.Prelude.{ℕ, not, [], ◌++◌, ◌&&◌, ◌==◌, Option, None, Some, codes, if◌then◌else◌}
 use Rattle.std.specs.Fmt.{decimal}
-use Rattle.run_model.specs.Levels.{reason_words}
-use Rattle.run_model.specs.declared.config.NextestRunMode.{NextestRunMode}
-use Rattle.run_model.specs.declared.level.CancelReason.{CancelReason}
-use Rattle.run_model.specs.declared.level.CancelReason.TheVariants as reason
+use Rattle.run_names.specs.Levels.{reason_words}
+use Rattle.run_names.specs.declared.config.NextestRunMode.{NextestRunMode}
+use Rattle.run_names.specs.declared.level.CancelReason.{CancelReason}
+use Rattle.run_names.specs.declared.level.CancelReason.TheVariants as reason
 use Rattle.run_model.specs.declared.stats.FinalRunStats.{FinalRunStats}
 use Rattle.run_model.specs.declared.stats.FinalRunStats.TheVariants.{Success, NoTestsRun, Cancelled, Failed}
 use Rattle.run_model.specs.declared.stats.RunStatsFailureKind.{RunStatsFailureKind}
 use Rattle.run_model.specs.declared.stats.RunStatsFailureKind.TheVariants.{SetupScript, Test}
-use Rattle.report_text.specs.Plural.{tests_word_if, were_word}
+use Rattle.report_words.specs.Plural.{tests_word_if, were_word}
 use Rattle.plain_text.specs.Style.{plain, styled}
 use Rattle.plain_text.specs.Texts.{Text}
 use Rattle.plain_text.specs.declared.style.Styles.{Styles}

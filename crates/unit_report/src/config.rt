@@ -1,7 +1,7 @@
 //! Which levels and which progress display a report has.
 
 ghost use Rattle.std.specs.Prelude.{◌≡◌, ◌≤◌, IsTrue, true, false};
-ghost use Rattle.run_model.specs.Levels.{status_rank};
+ghost use Rattle.run_names.specs.Levels.{status_rank};
 ghost use Rattle.unit_report.specs.Levels.{progress_display_of, suppresses, raised, resolved_levels, resolved_display, overridden};
 
 use run_model::level::{FinalStatusLevel, StatusLevel};
@@ -34,7 +34,7 @@ pub enum ProgressDisplay {
 }
 
 /// The levels that a report has.
-#[derive(Clone, Copy, Debug, PartialEq, Eq)]
+#[derive(Clone, Copy, PartialEq, Eq)]
 pub struct StatusLevels {
     /// While the run goes on.
     pub status_level: StatusLevel,
@@ -43,7 +43,7 @@ pub struct StatusLevels {
 }
 
 /// The progress display and the levels that a report has.
-#[derive(Clone, Copy, Debug, PartialEq, Eq)]
+#[derive(Clone, Copy, PartialEq, Eq)]
 pub struct ResolvedDisplay {
     /// How progress is shown.
     pub progress_display: ProgressDisplay,

@@ -126,15 +126,6 @@ console_not_store Memory is h = cc
 console_not_store Failed is h = is
 console_not_store StoreIo is h = is
 
--- a fault of the store comes after the whole text
-pub stops_late : {S : Type 0} (m : Meaning S) (a b : S) (t : List ℕ) (fault : WriteFault) (e : WriteEventError) → e ≡ store_error_for fault → m.accepts a t b → Stops m a t e b
-stops_late m a b t Device e is h = subst (λ x. Stops m a t x b) (sym is) h
-stops_late m a b t RefusedMemory e is h = subst (λ x. Stops m a t x b) (sym is) (inr (record { front = t; rest = []; whole = sym (append-nil t); accepted = h }))
-
-pub record_stopped : {S : Type 0} (m : Meaning S) (a b : S) (t : List ℕ) (fault : WriteFault) (e : WriteEventError) → e ≡ store_error_for fault → m.stops a t fault b → StopsRecord m a t e b
-record_stopped m a b t Device e is h = subst (λ x. StopsRecord m a t x b) (sym is) h
-record_stopped m a b t RefusedMemory e is h = subst (λ x. StopsRecord m a t x b) (sym is) (inl h)
-
 -- why memory was refused in a run without a store, by the writer that the reporter began with
 pub refused_from : {W S : Type 0} (m : Meaning W) (n : Meaning S) (config : Configuration) (calls : List ReportCall) (reporter : DisplayReporter W S) {writer : W} →
     reporter.writer.now ≡ writer → reporter.store ≡ None → StandsAfter config [] reporter → (stop : RunFault) →

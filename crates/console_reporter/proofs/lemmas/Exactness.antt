@@ -8,15 +8,15 @@ use Rattle.std.proofs.lemmas.Bool.{false≢true, and_parts, not-true, or_cases}
 use Rattle.std.proofs.lemmas.Grind.{flat_map-append}
 use Rattle.std.proofs.lemmas.List.{append_cancel_left, append_cancel_right, reverse-append, same_from_push}
 use Rattle.run_model.specs.Attempts.{Attempt, Attempts, Written}
-use Rattle.run_model.specs.Displays.{is_final, is_immediate}
+use Rattle.run_names.specs.Displays.{is_final, is_immediate}
 use Rattle.run_model.specs.Statuses.{case_of, is_success, summary_of}
 use Rattle.run_model.specs.Unloaded.{unloaded_event, unloaded_kind}
-use Rattle.run_model.specs.declared.config.TestOutputDisplay.{TestOutputDisplay}
+use Rattle.run_names.specs.declared.config.TestOutputDisplay.{TestOutputDisplay}
 use Rattle.run_model.specs.declared.event.TestEvent.{TestEvent}
 use Rattle.run_model.specs.declared.event.TestEventKind.{TestEventKind}
 use Rattle.run_model.specs.declared.event.TestEventKind.TheVariants.{SetupScriptFinished, TestAttemptFailedWillRetry, TestFinished, RunFinished}
-use Rattle.run_model.specs.declared.level.StatusLevel.TheVariants as level
-use Rattle.run_model.specs.declared.name.TestInstanceId.{TestInstanceId}
+use Rattle.run_names.specs.declared.level.StatusLevel.TheVariants as level
+use Rattle.run_names.specs.declared.name.TestInstanceId.{TestInstanceId}
 use Rattle.run_model.specs.declared.output.ChildOutputDescription.{ChildOutputDescription}
 use Rattle.run_model.specs.declared.output.LiveSpec.{LiveSpec}
 use Rattle.run_model.specs.declared.output_event.LoadOutput.{LoadOutput}
@@ -24,9 +24,9 @@ use Rattle.run_model.specs.declared.output_event.LoadOutput.TheVariants.{Load, S
 use Rattle.run_model.specs.declared.stats.RunStats.{RunStats}
 use Rattle.run_model.specs.declared.status.SetupScriptExecuteStatus.{SetupScriptExecuteStatus}
 use Rattle.run_model.specs.declared.status.StatusSummary.{StatusSummary}
-use Rattle.run_model.specs.declared.stress.StressIndex.{StressIndex}
-use Rattle.run_model.specs.declared.time.Nanos.{Nanos}
-use Rattle.run_model.specs.declared.unit.UnitKind.TheVariants as unit
+use Rattle.run_names.specs.declared.stress.StressIndex.{StressIndex}
+use Rattle.run_names.specs.declared.time.Nanos.{Nanos}
+use Rattle.run_names.specs.declared.unit.UnitKind.TheVariants as unit
 use Rattle.plain_text.specs.Texts.{Text}
 use Rattle.plain_text.proofs.lemmas.Decoded.{decoded-same}
 use Rattle.store_text.specs.Netstring.{netstring, netstring_head}

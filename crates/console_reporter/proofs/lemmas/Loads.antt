@@ -7,18 +7,10 @@ use Rattle.run_model.specs.declared.info.InfoResponse.TheVariants.{SetupScript, 
 use Rattle.run_model.specs.declared.output.ChildOutputDescription.{ChildOutputDescription}
 use Rattle.run_model.specs.declared.output.LiveSpec.{LiveSpec}
 use Rattle.run_model.specs.declared.status.SetupScriptExecuteStatus.{SetupScriptExecuteStatus}
-use Rattle.run_model.specs.declared.stress.StressIndex.{StressIndex}
+use Rattle.run_names.specs.declared.stress.StressIndex.{StressIndex}
 use Rattle.plain_text.specs.Texts.{Text}
 use Rattle.run_text.specs.SetupScript.{HasFailedScriptOutput}
 use Rattle.info_text.specs.Response.{HasAnswerOutput}
 use Rattle.reporter_state.proofs.lemmas.Loads.{loaded_where}
 use Rattle.reporter_state.specs.Loads.{lacks_output, loads_script}
 use Rattle.reporter_state.specs.declared.decider.OutputLoadDecider.{OutputLoadDecider}
-
-pub script_loaded : (d : OutputLoadDecider) (stress : Option StressIndex) (id program : Text) (args : List Text) (status : SetupScriptExecuteStatus LiveSpec ChildOutputDescription) →
-    lacks_output d (SetupScriptFinished stress id program args status) ≡ false → HasFailedScriptOutput status
-script_loaded d stress id program args status lacks failed = loaded_where (loads_script status.result) status.output lacks (rw failed refl)
-
-pub answer_loaded : (d : OutputLoadDecider) (index total : ℕ) (response : Response) → lacks_output d (InfoResponse index total response) ≡ false → HasAnswerOutput response
-answer_loaded d index total (SetupScript x) lacks = λ valid. loaded_where (has_valid_output x.state) x.output lacks valid
-answer_loaded d index total (Test x) lacks = λ valid. loaded_where (has_valid_output x.state) x.output lacks valid

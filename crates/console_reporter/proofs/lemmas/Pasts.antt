@@ -1,7 +1,7 @@
 -- What stands of a past, and what one call more makes of it (for `DisplayReporter::report_event`).
 use Rattle.std.proofs.Common.{◌≡◌, ℕ, Option, List, ◌∷◌, ◌++◌, refl, ap, ◌∙◌}
 use Rattle.std.specs.Option.{option_and_then, option_to_list}
-use Rattle.run_model.specs.Levels.{reason_rank}
+use Rattle.run_names.specs.Levels.{reason_rank}
 use Rattle.run_model.specs.declared.event.TestEvent.{TestEvent}
 use Rattle.console_reporter.specs.Configuration.{Configuration, settings_of}
 use Rattle.reporter_state.specs.Effects.{TestEnd, effect_of, entry_of, kept_entry}

@@ -1,4 +1,4 @@
--- Refusals (for `DisplayReporter::write_event`).
+-- Refusals (for `DisplayReporter::write_event`, and lemmas/Promises).
 use Rattle.std.proofs.Common.{◌≡◌, ℕ, List, true, Option, None, Some, false, inl, refl}
 use Rattle.std.specs.Option.{is_some}
 use Rattle.plain_text.specs.Writer.{Meaning}
@@ -48,8 +48,8 @@ refused_not_store_io e told is = cc
 refused_not_memory : (e : WriteEventError) → refusal_in e ≡ Some e → e ≡ Memory → ⊥
 refused_not_memory e told is = cc
 
-pub told_is_some : (e : WriteEventError) → refusal_in e ≡ Some e → is_some (refusal_in e) ≡ false → ⊥
-told_is_some e told none = cc
+pub told_none : (e : WriteEventError) → refusal_in e ≡ Some e → refusal_in e ≡ None → ⊥
+told_none e told none = cc
 
 pub breaks_refused : {W S : Type 0} (m : Meaning W) (n : Meaning S) (reporter : DisplayReporter W S) (call : Option ReportCall) (e : WriteEventError) → refusal_in e ≡ Some e → Breaks m n reporter call e reporter
 breaks_refused m n reporter call e told = record {
@@ -59,4 +59,5 @@ breaks_refused m n reporter call e told = record {
   io = λ is. absurd (refused_not_io e told is);
   store_io = λ is. absurd (refused_not_store_io e told is);
   memory = λ is. absurd (refused_not_memory e told is);
+  delivered = λ is. absurd (refused_not_store_io e told is);
 }

@@ -7,8 +7,8 @@ use Rattle.run_model.specs.Stats.{final_stats_of_run}
 use Rattle.run_model.specs.declared.event.TestEventKind.{TestEventKind}
 use Rattle.run_model.specs.declared.event.TestEventKind.TheVariants.{RunStarted, StressSubRunStarted, SetupScriptStarted, SetupScriptSlow, SetupScriptFinished, TestStarted, TestSlow, TestAttemptFailedWillRetry, TestRetryStarted, TestFinished, TestSkipped, RunBeginCancel, RunBeginKill, RunPaused, RunContinued, InfoStarted, InfoResponse, InfoFinished, InputEnter, StressSubRunFinished, RunFinished}
 use Rattle.plain_text.specs.Escapes.{HasNoEscape}
-use Rattle.report_text.specs.PlainTexts.{HoldsIf}
-use Rattle.report_text.proofs.lemmas.ColourPairs.{IsColourPair, colour_pair-none, colour_pair-append, colour_pair-if, colour_pair-whole}
+use Rattle.report_words.specs.PlainTexts.{HoldsIf}
+use Rattle.report_words.proofs.lemmas.ColourPairs.{IsColourPair, colour_pair-none, colour_pair-append, colour_pair-if, colour_pair-whole}
 use Rattle.unit_report.proofs.lemmas.SkipColourPairs.{colour_pair-final_warnings}
 use Rattle.event_text.specs.Finish.{display_of}
 use Rattle.event_text.specs.declared.settings.Settings.{Settings}

@@ -3,19 +3,19 @@ use Rattle.std.proofs.Common.{◌≡◌, ℕ, ℤ, Bool, false, List, [], ◌∷
 use Rattle.std.specs.Fmt.{digits}
 use Rattle.std.specs.Str.{chars}
 use Rattle.uuid.specs.Text.{by_index}
-use Rattle.run_model.specs.declared.config.NextestRunMode.TheVariants.{Test}
-use Rattle.run_model.specs.declared.config.CompiledDefaultFilterSection.TheVariants.{Profile}
+use Rattle.run_names.specs.declared.config.NextestRunMode.TheVariants.{Test}
+use Rattle.run_names.specs.declared.config.CompiledDefaultFilterSection.TheVariants.{Profile}
 use Rattle.run_model.specs.declared.event.SkipCounts.{SkipCounts}
 use Rattle.unit_report.specs.SkipCounts.{skip_note}
 use Rattle.unit_report.specs.declared.unit_output.DisplayerKind.TheVariants.{Live}
 use Rattle.run_model.specs.declared.event.TestEvent.{TestEvent}
 use Rattle.run_model.specs.declared.event.TestEventKind.TheVariants.{TestFinished, RunFinished}
-use Rattle.run_model.specs.Levels.{reason_rank}
-use Rattle.run_model.specs.declared.abort.AbortDescription.TheVariants.{UnixSignal}
-use Rattle.run_model.specs.declared.level.CancelReason.TheVariants as cause
-use Rattle.run_model.specs.declared.level.StatusLevel.TheVariants as status
-use Rattle.run_model.specs.declared.level.FinalStatusLevel.TheVariants as final
-use Rattle.run_model.specs.declared.name.TestInstanceId.{TestInstanceId}
+use Rattle.run_names.specs.Levels.{reason_rank}
+use Rattle.run_names.specs.declared.abort.AbortDescription.TheVariants.{UnixSignal}
+use Rattle.run_names.specs.declared.level.CancelReason.TheVariants as cause
+use Rattle.run_names.specs.declared.level.StatusLevel.TheVariants as status
+use Rattle.run_names.specs.declared.level.FinalStatusLevel.TheVariants as final
+use Rattle.run_names.specs.declared.name.TestInstanceId.{TestInstanceId}
 use Rattle.run_model.specs.declared.stats.RunFinishedStats.TheVariants.{Single}
 use Rattle.run_model.specs.declared.stats.RunStats.{RunStats}
 use Rattle.run_model.specs.declared.status.ExecutionResultDescription.{ExecutionResultDescription}
@@ -24,17 +24,17 @@ use Rattle.run_model.specs.declared.output.ChildOutputDescription.{ChildOutputDe
 use Rattle.run_model.specs.declared.output.LiveSpec.{LiveSpec}
 use Rattle.run_model.specs.declared.status.FailureDescription.TheVariants.{ExitCode, Abort}
 use Rattle.run_model.specs.declared.status.FlakyResult.TheVariants as flaky
-use Rattle.run_model.specs.declared.config.TestOutputDisplay.{TestOutputDisplay}
-use Rattle.run_model.specs.declared.config.TestOutputDisplay.TheVariants.{Never}
-use Rattle.run_model.specs.declared.stress.StressIndex.{StressIndex}
-use Rattle.run_model.specs.declared.time.Nanos.{Nanos}
-use Rattle.run_model.specs.Names.{last_colons}
+use Rattle.run_names.specs.declared.config.TestOutputDisplay.{TestOutputDisplay}
+use Rattle.run_names.specs.declared.config.TestOutputDisplay.TheVariants.{Never}
+use Rattle.run_names.specs.declared.stress.StressIndex.{StressIndex}
+use Rattle.run_names.specs.declared.time.Nanos.{Nanos}
+use Rattle.run_names.specs.Names.{last_colons}
 use Rattle.run_model.specs.Attempts.{Attempts, Written}
 use Rattle.run_model.specs.Statuses.{summary_of}
-use Rattle.report_text.specs.Plural.{tests_word_if, binaries_word}
+use Rattle.report_words.specs.Plural.{tests_word_if, binaries_word}
 use Rattle.plain_text.specs.Style.{plain, styled, styles_of}
 use Rattle.plain_text.specs.Texts.{Text, right_in}
-use Rattle.report_text.specs.Theme.{hbar_text}
+use Rattle.report_words.specs.Theme.{hbar_text}
 use Rattle.event_text.specs.AbortLine.{abort_line}
 use Rattle.event_text.specs.Settings.{theme_of}
 use Rattle.event_text.specs.ResultWords.{long_word}

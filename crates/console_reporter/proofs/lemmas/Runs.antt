@@ -51,6 +51,7 @@ module _ {W S : Type 0} {m : Meaning W} {n : Meaning S} (laws : WriterLaws m) (s
       order = λ config stands.
           let here_first = ordered laws n config a b c (past_at calls i) _ (before.accepted config stands) (before.stored config stands) (here.order config _ (before.stands config stands)) in
           subst (IsOrdered m n config a c (past_at calls i)) (sym (text_read config calls i call is within)) here_first;
+      delivered = here.delivered;
     }
 
     -- all calls were made, and the report has its end
@@ -71,4 +72,5 @@ module _ {W S : Type 0} {m : Meaning W} {n : Meaning S} (laws : WriterLaws m) (s
           let here_first = ordered laws n config a b c (past_at calls i) [] (before.accepted config stands) (before.stored config stands) (here.order config _ (before.stands config stands)) in
           subst (IsOrdered m n config a c (past_at calls (length calls))) (sym (text_past config calls (length calls) (omega arith)))
           (subst (λ position. IsOrdered m n config a c (past_at calls position) []) at here_first);
+      delivered = here.delivered;
     }

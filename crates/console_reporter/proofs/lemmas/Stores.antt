@@ -10,7 +10,7 @@ use Rattle.console_reporter.specs.declared.imp.reporter.DisplayReporter.{Display
 use Rattle.run_model.specs.declared.call.ReportCall.{ReportCall}
 use Rattle.reporter_state.specs.declared.state.ReporterState.{ReporterState}
 use Rattle.reporter_state.specs.declared.faults.RunFault.{RunFault}
-use Rattle.run_model.specs.Levels.{reason_rank}
+use Rattle.run_names.specs.Levels.{reason_rank}
 use Rattle.reporter_state.specs.declared.faults.WriteEventError.{WriteEventError}
 use Rattle.reporter_state.specs.declared.faults.WriteEventError.TheVariants.{RetriedSuccess, OutputNotLoaded, Io, Memory, Failed, StoreIo}
 use Rattle.plain_text.specs.declared.write_str.WriteFault.{WriteFault}

@@ -1,22 +1,22 @@
 -- Texts that are empty or end in a line feed (for `DisplayReporter::write_event`).
-use Rattle.run_model.specs.UniquePrefixes.{UniquePrefix}
+use Rattle.run_names.specs.UniquePrefixes.{UniquePrefix}
 use Rattle.std.specs.Prelude.{nat_lt, ◌-◌, ◌==◌, length}
 use Rattle.std.proofs.Common.{◌≡◌, ℕ, ℤ, Bool, true, false, List, [], ◌∷◌, ◌++◌, refl, sym, ap, subst, ◌∙◌, append_assoc, append-nil, Option, None, Some, inl, inr, codes}
 use Rattle.std.specs.List.{flat_map}
 use Rattle.std.proofs.lemmas.Bool.{cases_Bool}
-use Rattle.run_model.specs.declared.config.NextestRunMode.{NextestRunMode}
+use Rattle.run_names.specs.declared.config.NextestRunMode.{NextestRunMode}
 use Rattle.run_model.specs.declared.event.TestCounts.{TestCounts}
 use Rattle.run_model.specs.declared.event.TestEventKind.{TestEventKind}
 use Rattle.run_model.specs.declared.event.TestEventKind.TheVariants.{RunStarted, StressSubRunStarted, SetupScriptStarted, SetupScriptSlow, SetupScriptFinished, TestStarted, TestSlow, TestAttemptFailedWillRetry, TestRetryStarted, TestFinished, TestSkipped, RunBeginCancel, RunBeginKill, RunPaused, RunContinued, InfoStarted, InfoResponse, InfoFinished, InputEnter, StressSubRunFinished, RunFinished}
-use Rattle.run_model.specs.declared.config.TestOutputDisplay.{TestOutputDisplay}
-use Rattle.run_model.specs.declared.name.TestInstanceId.{TestInstanceId}
+use Rattle.run_names.specs.declared.config.TestOutputDisplay.{TestOutputDisplay}
+use Rattle.run_names.specs.declared.name.TestInstanceId.{TestInstanceId}
 use Rattle.run_model.specs.declared.status.RetryData.{RetryData}
-use Rattle.run_model.specs.declared.stress.StressIndex.{StressIndex}
+use Rattle.run_names.specs.declared.stress.StressIndex.{StressIndex}
 use Rattle.run_model.specs.declared.stats.RunFinishedStats.{RunFinishedStats}
 use Rattle.run_model.specs.declared.stats.RunFinishedStats.TheVariants.{Single, Stress}
 use Rattle.run_model.specs.declared.stats.RunStats.{RunStats}
-use Rattle.run_model.specs.declared.abort.AbortDescription.{AbortDescription}
-use Rattle.run_model.specs.declared.abort.AbortDescription.TheVariants.{UnixSignal, WindowsNtStatus, WindowsJobObject}
+use Rattle.run_names.specs.declared.abort.AbortDescription.{AbortDescription}
+use Rattle.run_names.specs.declared.abort.AbortDescription.TheVariants.{UnixSignal, WindowsNtStatus, WindowsJobObject}
 use Rattle.run_model.specs.declared.status.ExecutionResultDescription.{ExecutionResultDescription}
 use Rattle.run_model.specs.declared.status.ExecutionResultDescription.TheVariants as outcome
 use Rattle.run_model.specs.declared.status.FailureDescription.TheVariants.{ExitCode, Abort}
@@ -24,8 +24,8 @@ use Rattle.run_model.specs.declared.output.ChildExecutionOutputDescription.TheVa
 use Rattle.run_model.specs.declared.status.StatusCase.{StatusCase}
 use Rattle.run_model.specs.declared.status.StatusSummary.{StatusSummary}
 use Rattle.run_model.specs.Stats.{final_stats_of_run}
-use Rattle.run_model.specs.declared.level.CancelReason.{CancelReason}
-use Rattle.run_model.specs.declared.level.CancelReason.TheVariants as reason
+use Rattle.run_names.specs.declared.level.CancelReason.{CancelReason}
+use Rattle.run_names.specs.declared.level.CancelReason.TheVariants as reason
 use Rattle.run_model.specs.declared.stats.FinalRunStats.{FinalRunStats}
 use Rattle.run_model.specs.declared.stats.FinalRunStats.TheVariants.{Success, NoTestsRun, Cancelled, Failed}
 use Rattle.run_model.specs.declared.stats.RunStatsFailureKind.TheVariants.{SetupScript, Test}
@@ -43,17 +43,17 @@ use Rattle.event_text.specs.AttemptOutput.{attempt_output, has_info_line, info_l
 use Rattle.run_model.specs.Attempts.{Attempt, Written}
 use Rattle.event_text.specs.Script.{Script}
 use Rattle.run_model.specs.Statuses.{is_success}
-use Rattle.run_model.specs.declared.name.OwnedTestInstanceId.{OwnedTestInstanceId}
-use Rattle.run_model.specs.declared.not_seen.NotSeen.{NotSeen}
+use Rattle.run_names.specs.declared.name.OwnedTestInstanceId.{OwnedTestInstanceId}
+use Rattle.run_names.specs.declared.not_seen.NotSeen.{NotSeen}
 use Rattle.run_model.specs.declared.output.ChildOutputDescription.{ChildOutputDescription}
 use Rattle.run_model.specs.declared.output.LiveSpec.{LiveSpec}
 use Rattle.run_model.specs.declared.stats.StressRunStats.{StressRunStats}
 use Rattle.run_model.specs.declared.status.SetupScriptExecuteStatus.{SetupScriptExecuteStatus}
-use Rattle.run_model.specs.declared.stress.StressProgress.{StressProgress}
-use Rattle.run_model.specs.declared.unit.UnitKind.{UnitKind}
-use Rattle.run_model.specs.declared.unit.UnitKind.TheVariants as unit
+use Rattle.run_names.specs.declared.stress.StressProgress.{StressProgress}
+use Rattle.run_names.specs.declared.unit.UnitKind.{UnitKind}
+use Rattle.run_names.specs.declared.unit.UnitKind.TheVariants as unit
 use Rattle.plain_text.specs.declared.style.ListStyles.{ListStyles}
-use Rattle.report_text.specs.declared.helpers.theme.ThemeCharacters.{ThemeCharacters}
+use Rattle.report_words.specs.declared.theme.ThemeCharacters.{ThemeCharacters}
 use Rattle.run_model.specs.declared.info.InfoResponse.{InfoResponse as Response}
 use Rattle.event_text.specs.Bar.{bar_line}
 use Rattle.info_text.specs.Response.{info_response_text}
@@ -72,7 +72,7 @@ use Rattle.event_text.specs.Settings.{is_level_shown, shows_starts}
 use Rattle.test_text.specs.TestSkipped.{skip_line, test_skipped_text}
 use Rattle.test_text.specs.TestSlow.{slow_end, slow_text, terminating_level, terminating_text, test_slow_text}
 use Rattle.test_text.specs.TestStarted.{command_text, retry_start_line, start_line, test_retry_started_text, test_started_text}
-use Rattle.run_model.specs.declared.level.StatusLevel.TheVariants as status
+use Rattle.run_names.specs.declared.level.StatusLevel.TheVariants as status
 use Rattle.run_text.specs.Cancel.{begin_cancel_text, begin_kill_text}
 use Rattle.run_text.specs.Pause.{pause_text, run_continued_text, run_paused_text}
 use Rattle.run_text.specs.Input.{input_enter_text}
@@ -494,3 +494,8 @@ pub of_lines-text : (config : Configuration) (past : List ReportCall) (call : Re
 of_lines-text config past (Event e) = of_lines-event_text _ _ e.elapsed.0 e.kind
 of_lines-text config past (Header h) = of_line _ (ends-replay_header_text _ h)
 of_lines-text config past (Prefix p) = inl refl
+
+-- and of the end of a report, which is empty
+pub of_lines-told : (config : Configuration) (past : List ReportCall) (call : Option ReportCall) → IsOfLines (told_text config past call)
+of_lines-told config past None = inl refl
+of_lines-told config past (Some call) = of_lines-text config past call

@@ -28,7 +28,7 @@ use unit_report::unit_output::{DisplayerKind, OutputDisplayOverrides, UnitOutput
 /// let surroundings = Surroundings { use_unicode: true, ..Surroundings::default() };
 /// assert!(!surroundings.is_terminal);
 /// ```
-#[derive(Clone, Copy, Debug, Default, PartialEq, Eq)]
+#[derive(Clone, Copy, Default, PartialEq, Eq)]
 pub struct Surroundings {
     /// Whether bars are drawn with characters beyond ASCII.
     pub use_unicode: bool,
@@ -50,7 +50,7 @@ pub struct Surroundings {
 /// drop(reporter);
 /// assert!(out.as_str().ends_with("alpha\x1b[0m \x1b[34;1mt1\x1b[0m\n"));
 /// ```
-#[derive(Debug, Drop)]
+#[derive(Drop)]
 pub struct DisplayReporterBuilder {
     /// Whether the run runs tests or benchmarks.
     pub mode: NextestRunMode,

@@ -2,7 +2,7 @@
 
 ghost use Rattle.std.specs.Prelude.{◌≡◌, ◌⊎◌, List, [], ◌∷◌, OnOk, OnErr, IfErr, IsErrOf, None, Some, nat_lt, reverse, take, true, false};
 ghost use Rattle.std.specs.Option.{is_some, option_map};
-ghost use Rattle.run_model.specs.Levels.{reason_rank};
+ghost use Rattle.run_names.specs.Levels.{reason_rank};
 ghost use Rattle.plain_text.specs.Writer.{Puts, one_further};
 ghost use Rattle.run_text.specs.Header.{replay_header_text};
 ghost use Rattle.run_model.specs.declared.call.ReportCall.{ReportCall};
@@ -19,7 +19,7 @@ ghost use Rattle.console_reporter.specs.Outcomes.{IsOfConsole, Stops, IsOfLines,
 ghost use Rattle.console_reporter.specs.Report.{end_of_run_text, event_text, finished_text, listed_text, text, report};
 ghost use Rattle.console_reporter.specs.Slots.{config_of, store_accepts, store_delivered, store_may_refuse, store_meaning};
 ghost use Rattle.console_reporter.specs.Stored.{record_of, stored};
-ghost use Rattle.console_reporter.specs.Telling.{AreDelivered, IsSameReporter, Breaks, BreaksRun, Tells, TellsRun};
+ghost use Rattle.console_reporter.specs.Telling.{AreDelivered, IsSameReporter, Breaks, BreaksRun, Promises, Tells, TellsRun};
 ghost use Rattle.console_reporter.specs.Topics.{is_of_run};
 ghost use Rattle.console_reporter.specs.HeldState.{StandsAfter, HasFailed, IsSameWriter, MayGrow, MayGrowAt, known_by};
 
@@ -56,8 +56,8 @@ use unit_report::formatters::write_final_warnings;
 ///
 /// In each call the text is written and delivered, then the record, and then the store delivers what it holds.
 ///
-/// After a call that answered `Io`, `StoreIo` or `Memory` the reporter has failed: every later call answers `Failed` and writes
-/// nothing.
+/// After a call that answered `Io`, `StoreIo` or `Memory` the reporter has failed: every later call answers `Failed` and changes
+/// nothing. What each call promises is one record, `Promises` in specs/Telling.antt.
 #[derive(Drop)]
 pub struct DisplayReporter<'a, W, S> {
     pub(super) writer: &'a mut W,
@@ -146,17 +146,7 @@ impl<'a, W: WriteStr, S: WriteStr> DisplayReporter<'a, W, S> {
     /// assert_eq!(out.as_str(), "        PASS [   0.020s] (1/1) alpha t1\n");
     /// ```
     pub fn write_event(&mut self, event: &TestEvent<'_>) -> Result<(), WriteEventError>
-        ensures same { IsSameReporter self.old self.new }
-        ensures ok { OnOk result (Tells W.meaning S.meaning self.old (Some (ReportCall.Event event.now)) self.new) }
-        ensures delivered { OnOk result (AreDelivered W.meaning S.meaning self.new) }
-        ensures err { IfErr result (λ e. Breaks W.meaning S.meaning self.old (Some (ReportCall.Event event.now)) e self.new) }
-        ensures lines { (config : Configuration) (past : List ReportCall) → IsOfLines (text config past (ReportCall.Event event.now)) }
-        ensures refused { (config : Configuration) (past : List ReportCall) → StandsAfter config past self.old →
-            answered_refusal result ≡ refusal config (ReportCall.Event event.now) }
-        // A refusal leaves the reporter as it was, and it goes on; after any other error it has failed.
-        ensures untouched { is_some (answered_refusal result) ≡ true → self.new ≡ self.old }
-        ensures fails { IfErr result (λ e. is_some (refusal_in e) ≡ false → HasFailed self.new) }
-        ensures failed { HasFailed self.old → (result ≡ Err WriteEventError.Failed) × (self.new ≡ self.old) }
+        ensures { Promises W.meaning S.meaning self.old (Some (ReportCall.Event event.now)) result self.new }
     {
         if self.state.has_failed {
             return Err(WriteEventError::Failed);
@@ -258,14 +248,7 @@ impl<'a, W: WriteStr, S: WriteStr> DisplayReporter<'a, W, S> {
     /// assert!(out.as_str().starts_with("   Replaying recorded run 00000000-0000-4000-8000-000000000001\n"));
     /// ```
     pub fn write_replay_header(&mut self, header: &ReplayHeader) -> Result<(), WriteEventError>
-        ensures same { IsSameReporter self.old self.new }
-        ensures ok { OnOk result (Tells W.meaning S.meaning self.old (Some (ReportCall.Header header.now)) self.new) }
-        ensures delivered { OnOk result (AreDelivered W.meaning S.meaning self.new) }
-        ensures err { IfErr result (λ e. Breaks W.meaning S.meaning self.old (Some (ReportCall.Header header.now)) e self.new) }
-        ensures lines { (config : Configuration) (past : List ReportCall) → IsOfLines (text config past (ReportCall.Header header.now)) }
-        ensures unrefused { IfErr result (λ e. refusal_in e ≡ None) }
-        ensures fails { OnErr result (HasFailed self.new) }
-        ensures failed { HasFailed self.old → (result ≡ Err WriteEventError.Failed) × (self.new ≡ self.old) }
+        ensures { Promises W.meaning S.meaning self.old (Some (ReportCall.Header header.now)) result self.new }
     {
         if self.state.has_failed {
             return Err(WriteEventError::Failed);
@@ -283,7 +266,8 @@ impl<'a, W: WriteStr, S: WriteStr> DisplayReporter<'a, W, S> {
         }
     }
 
-    /// Takes the unique prefix of the run's id, which later starts of a run show. It allocates nothing and writes nothing.
+    /// Takes the unique prefix of the run's id, which later starts of a run show. It allocates nothing and writes nothing, and a reporter
+    /// that has failed stays as it is.
     ///
     /// ```
     /// use console_reporter::model::run_id::ShortestRunIdPrefix;
@@ -294,9 +278,36 @@ impl<'a, W: WriteStr, S: WriteStr> DisplayReporter<'a, W, S> {
         ensures same { IsSameReporter self.old self.new }
         ensures ok { Tells W.meaning S.meaning self.old (Some (ReportCall.Prefix prefix)) self.new }
         ensures untouched { (self.new.writer.now ≡ self.old.writer.now) × (self.new.store ≡ self.old.store) }
-        ensures failed { self.new.state.has_failed ≡ self.old.state.has_failed }
+        ensures works { self.new.state.has_failed ≡ self.old.state.has_failed }
+        ensures failed { HasFailed self.old → self.new ≡ self.old }
     {
+        if self.state.has_failed {
+            return;
+        }
         self.state.unique_prefix = Some(prefix);
+    }
+
+    // Takes a copy of a prefix. Where its memory is refused, the reporter has failed.
+    fn copy_prefix(
+        &mut self,
+        alloc: Global,
+        prefix: &ShortestRunIdPrefix,
+    ) -> Result<(), WriteEventError>
+        ensures { Promises W.meaning S.meaning self.old (Some (ReportCall.Prefix prefix.now)) result self.new }
+    {
+        if self.state.has_failed {
+            return Err(WriteEventError::Failed);
+        }
+        match prefix.copy(alloc) {
+            Ok(prefix) => {
+                self.set_run_id_unique_prefix(prefix);
+                Ok(())
+            }
+            Err(OutOfMemory) => {
+                self.state.has_failed = true;
+                Err(WriteEventError::Memory)
+            }
+        }
     }
 
     /// Ends the report: both writers deliver what they hold, and no text is added.
@@ -306,15 +317,9 @@ impl<'a, W: WriteStr, S: WriteStr> DisplayReporter<'a, W, S> {
     /// reporter.finish()?;
     /// ```
     pub fn finish(&mut self) -> Result<(), WriteEventError>
-        ensures same { IsSameReporter self.old self.new }
+        ensures call { Promises W.meaning S.meaning self.old None result self.new }
         ensures told_nothing { OnOk result (W.meaning.accepts self.old.writer.now [] self.new.writer.now) }
         ensures stored_nothing { OnOk result (store_accepts S.meaning self.old.store [] self.new.store) }
-        ensures ok { OnOk result (Tells W.meaning S.meaning self.old None self.new) }
-        ensures delivered { OnOk result (AreDelivered W.meaning S.meaning self.new) }
-        ensures err { IfErr result (λ e. Breaks W.meaning S.meaning self.old None e self.new) }
-        ensures unrefused { IfErr result (λ e. refusal_in e ≡ None) }
-        ensures fails { OnErr result (HasFailed self.new) }
-        ensures failed { HasFailed self.old → (result ≡ Err WriteEventError.Failed) × (self.new ≡ self.old) }
     {
         if self.state.has_failed {
             return Err(WriteEventError::Failed);
@@ -383,8 +388,8 @@ impl<'a, W: WriteStr, S: WriteStr> DisplayReporter<'a, W, S> {
         }
     }
 
-    /// Makes one call: it writes an event or the header of a replay and delivers it, or takes a prefix, which is copied. A call that is
-    /// refused changes nothing.
+    /// Makes one call: it writes an event or the header of a replay and delivers it, or takes a copy of a prefix. A call that is
+    /// refused changes nothing; after any other error, `Memory` for the copy too, the reporter has failed.
     ///
     /// ```
     /// reporter.make_call(alloc, &ReportCall::Event(event))?;
@@ -392,23 +397,12 @@ impl<'a, W: WriteStr, S: WriteStr> DisplayReporter<'a, W, S> {
     /// assert_eq!(out.as_str(), "        PASS [   0.020s] (1/1) alpha t1\n");
     /// ```
     pub fn make_call(&mut self, alloc: Global, call: &ReportCall<'_>) -> Result<(), WriteEventError>
-        ensures same { IsSameReporter self.old self.new }
-        ensures ok { OnOk result (Tells W.meaning S.meaning self.old (Some call.now) self.new) }
-        ensures delivered { AreDelivered W.meaning S.meaning self.old → OnOk result (AreDelivered W.meaning S.meaning self.new) }
-        ensures err { IfErr result (λ e. Breaks W.meaning S.meaning self.old (Some call.now) e self.new) }
-        ensures refused { (config : Configuration) (past : List ReportCall) → StandsAfter config past self.old → answered_refusal result ≡ refusal config call.now }
-        ensures untouched { is_some (answered_refusal result) ≡ true → self.new ≡ self.old }
+        ensures { Promises W.meaning S.meaning self.old (Some call.now) result self.new }
     {
         match call {
             ReportCall::Event(event) => self.write_event(event),
             ReportCall::Header(header) => self.write_replay_header(header),
-            ReportCall::Prefix(prefix) => match prefix.copy(alloc) {
-                Ok(prefix) => {
-                    self.set_run_id_unique_prefix(prefix);
-                    Ok(())
-                }
-                Err(OutOfMemory) => Err(WriteEventError::Memory),
-            },
+            ReportCall::Prefix(prefix) => self.copy_prefix(alloc, prefix),
         }
     }
 }

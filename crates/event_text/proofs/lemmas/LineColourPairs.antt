@@ -1,16 +1,16 @@
 -- Bars, and the tests and setup scripts that lines speak of, in colour and plain (for all lines of units).
 use Rattle.std.proofs.Common.{◌≢◌, ◌∷◌, ℕ, Bool, true, false, arith, Option, None, Some}
-use Rattle.run_model.specs.declared.name.TestInstanceId.{TestInstanceId}
+use Rattle.run_names.specs.declared.name.TestInstanceId.{TestInstanceId}
 use Rattle.run_model.specs.declared.stats.RunStats.{RunStats}
-use Rattle.run_model.specs.declared.stress.StressIndex.{StressIndex}
+use Rattle.run_names.specs.declared.stress.StressIndex.{StressIndex}
 use Rattle.report_text.specs.Instance.{HasPlainCounter}
-use Rattle.report_text.specs.PlainTexts.{IsPlainInstance}
+use Rattle.report_words.specs.PlainTexts.{IsPlainInstance}
 use Rattle.plain_text.specs.Style.{styles_of}
-use Rattle.report_text.specs.Theme.{hbar_character}
-use Rattle.report_text.specs.declared.helpers.theme.ThemeCharacters.{ThemeCharacters}
-use Rattle.report_text.proofs.lemmas.FreeWords.{free-shell_words}
+use Rattle.report_words.specs.Theme.{hbar_character}
+use Rattle.report_words.specs.declared.theme.ThemeCharacters.{ThemeCharacters}
+use Rattle.report_text.proofs.lemmas.FreeDetails.{free-shell_words}
 use Rattle.report_text.proofs.lemmas.InstanceColourPairs.{colour_pair-instance_text, colour_pair-script_text}
-use Rattle.report_text.proofs.lemmas.ColourPairs.{IsColourPair, colour_pair-append, colour_pair-free, colour_pairs}
+use Rattle.report_words.proofs.lemmas.ColourPairs.{IsColourPair, colour_pair-append, colour_pair-free, colour_pairs}
 use Rattle.event_text.specs.Bar.{bar_line}
 use Rattle.event_text.specs.Instance.{padded_instance, instance_end, untimed_end}
 use Rattle.event_text.specs.Script.{IsPlainScript, Script, shown_script}

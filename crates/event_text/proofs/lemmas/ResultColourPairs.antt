@@ -1,6 +1,6 @@
 -- Results in words, in colour and plain (for the lines and the outputs of tests).
 use Rattle.std.proofs.Common.{ℤ, Bool, true, false, refl, Option, None, Some}
-use Rattle.run_model.specs.declared.abort.AbortDescription.TheVariants.{UnixSignal, WindowsNtStatus, WindowsJobObject}
+use Rattle.run_names.specs.declared.abort.AbortDescription.TheVariants.{UnixSignal, WindowsNtStatus, WindowsJobObject}
 use Rattle.run_model.specs.declared.status.ExecutionResultDescription.{ExecutionResultDescription}
 use Rattle.run_model.specs.declared.status.ExecutionResultDescription.TheVariants as outcome
 use Rattle.run_model.specs.declared.status.FailureDescription.TheVariants.{ExitCode, Abort}
@@ -9,12 +9,14 @@ use Rattle.run_model.specs.declared.status.SlowTimeoutResult.TheVariants as slow
 use Rattle.plain_text.specs.Texts.{Text}
 use Rattle.plain_text.specs.Escapes.{HasNoEscape}
 use Rattle.plain_text.specs.Style.{styles_of}
-use Rattle.report_text.proofs.lemmas.FreeWords.{free-signed}
-use Rattle.report_text.proofs.lemmas.ColourPairs.{IsColourPair, colour_pair-none, colour_pair-free, colour_pairs}
+use Rattle.report_words.proofs.lemmas.FreeWords.{free-signed}
+use Rattle.report_text.proofs.lemmas.FreeDetails.{free-hex_text}
+use Rattle.report_words.proofs.lemmas.ColourPairs.{IsColourPair, colour_pair-none, colour_pair-free, colour_pairs}
 use Rattle.event_text.specs.AbortLine.{indented_message, nt_message, nt_line, job_object_line, abort_line}
 use Rattle.event_text.specs.InfoResult.{leaked_note, exit_code_info, signal_name, signal_info, aborted_info, leak_info, timeout_info, passed_info, exec_fail_info, info_text}
 use Rattle.event_text.specs.ResultWords.{long_word, short_word, success_word}
-use Rattle.report_text.specs.PlainTexts.{HoldsIf, IsPlainResult}
+use Rattle.report_words.specs.PlainTexts.{HoldsIf}
+use Rattle.report_text.specs.PlainResults.{IsPlainResult}
 
 pub free-long_word : (x : ExecutionResultDescription) → IsPlainResult x → HasNoEscape (long_word x)
 unfolding long_word
@@ -66,7 +68,7 @@ colour_pair-nt_message k (Some message) h = search (colour_pairs, colour_pair-fr
 
 colour_pair-nt_line : (k : Bool) (code : ℤ) (message : Option Text) → HoldsIf HasNoEscape message → IsColourPair k (nt_line (styles_of true) code message) (nt_line (styles_of false) code message)
 unfolding nt_line
-colour_pair-nt_line k code message h = let more = colour_pair-nt_message k message h in search colour_pairs depth 12
+colour_pair-nt_line k code message h = let more = colour_pair-nt_message k message h in search (colour_pairs, free-hex_text) depth 12
 
 colour_pair-job_object_line : (k : Bool) → IsColourPair k (job_object_line (styles_of true)) (job_object_line (styles_of false))
 unfolding job_object_line

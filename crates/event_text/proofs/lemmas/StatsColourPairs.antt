@@ -6,7 +6,7 @@ use Rattle.plain_text.specs.Escapes.{HasNoEscape}
 use Rattle.plain_text.specs.Style.{styles_of}
 use Rattle.plain_text.specs.declared.style.Style.{Style}
 use Rattle.plain_text.specs.declared.style.Style.TheVariants as style
-use Rattle.report_text.proofs.lemmas.ColourPairs.{IsColourPair, colour_pair-none, colour_pairs}
+use Rattle.report_words.proofs.lemmas.ColourPairs.{IsColourPair, colour_pair-none, colour_pairs}
 use Rattle.event_text.specs.StatsText.{note_separator, counted_text, passed_note, notes_end, passed_notes, leaky_failed_note, failed_count, other_failed_count, exec_failed_count, timed_out_count, failed_counts, summary_text, progress_message}
 
 pub colour_pair-counted_text : (k : Bool) (s : Style) (n : ℕ) (word : Text) → HasNoEscape word → IsColourPair k (counted_text (styles_of true) s n word) (counted_text (styles_of false) style.Plain n word)

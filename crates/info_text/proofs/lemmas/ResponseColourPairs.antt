@@ -4,14 +4,14 @@ use Rattle.run_model.specs.declared.info.InfoResponse.{InfoResponse}
 use Rattle.run_model.specs.declared.info.InfoResponse.TheVariants.{SetupScript, Test}
 use Rattle.run_model.specs.declared.info.UnitState.{UnitState}
 use Rattle.run_model.specs.declared.stats.RunStats.{RunStats}
-use Rattle.run_model.specs.declared.unit.UnitKind.{UnitKind}
+use Rattle.run_names.specs.declared.unit.UnitKind.{UnitKind}
 use Rattle.plain_text.specs.Alike.{without_end_spaces}
 use Rattle.plain_text.specs.Style.{plain, styles_of}
 use Rattle.plain_text.specs.Escapes.{HasNoEscape}
 use Rattle.plain_text.specs.Texts.{spaces}
-use Rattle.report_text.specs.declared.helpers.theme.ThemeCharacters.{ThemeCharacters}
+use Rattle.report_words.specs.declared.theme.ThemeCharacters.{ThemeCharacters}
 use Rattle.report_text.proofs.lemmas.InstanceColourPairs.{colour_pair-instance_text}
-use Rattle.report_text.proofs.lemmas.ColourPairs.{IsColourPair, colour_pair-append, colour_pair-free, colour_pair-indented_line, colour_pair-whole, colour_pairs}
+use Rattle.report_words.proofs.lemmas.ColourPairs.{IsColourPair, colour_pair-append, colour_pair-free, colour_pair-indented_line, colour_pair-whole, colour_pairs}
 use Rattle.unit_report.specs.PlainOutputs.{IsPlainWritten}
 use Rattle.unit_report.proofs.lemmas.UnitColourPairs.{IsColourPairOfLayout, colour_pair-label, colour_pair-execution_output}
 use Rattle.run_model.specs.Attempts.{Written}

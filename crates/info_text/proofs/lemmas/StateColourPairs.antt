@@ -9,13 +9,14 @@ use Rattle.run_model.specs.declared.info.UnitTerminateReason.TheVariants as term
 use Rattle.run_model.specs.declared.info.UnitTerminatingState.{UnitTerminatingState}
 use Rattle.run_model.specs.declared.status.ExecutionResultDescription.{ExecutionResultDescription}
 use Rattle.run_model.specs.declared.status.RetryData.{RetryData}
-use Rattle.run_model.specs.declared.time.Nanos.{Nanos}
+use Rattle.run_names.specs.declared.time.Nanos.{Nanos}
 use Rattle.plain_text.specs.Escapes.{HasNoEscape}
-use Rattle.report_text.specs.PlainTexts.{HoldsIf, IsPlainResult}
+use Rattle.report_words.specs.PlainTexts.{HoldsIf}
+use Rattle.report_text.specs.PlainResults.{IsPlainResult}
 use Rattle.plain_text.specs.Style.{styled, styles_of}
 use Rattle.plain_text.specs.Texts.{Text}
-use Rattle.report_text.proofs.lemmas.FreeWords.{frees}
-use Rattle.report_text.proofs.lemmas.ColourPairs.{IsColourPair, colour_pair-append, colour_pair-free, colour_pair-none, colour_pair-styled, colour_pairs}
+use Rattle.report_words.proofs.lemmas.FreeWords.{frees}
+use Rattle.report_words.proofs.lemmas.ColourPairs.{IsColourPair, colour_pair-append, colour_pair-free, colour_pair-none, colour_pair-styled, colour_pairs}
 use Rattle.unit_report.proofs.lemmas.DurationColourPairs.{free-unit_word}
 use Rattle.unit_report.specs.UnitKind.{unit_word}
 use Rattle.event_text.specs.declared.settings.Settings.{Settings}

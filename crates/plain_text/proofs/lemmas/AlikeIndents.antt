@@ -39,9 +39,6 @@ alike-line t u v w h k = end_spaces-line t v ∙ ap₂ (λ a b. a ++ 10 ∷ b) h
 abbrev pub IsLine : Text → Type 0
 IsLine t = AllByRecursion (λ c. (c == 10) ≡ false) t
 
-abbrev AreLines : List Text → Type 0
-AreLines ls = AllByRecursion IsLine ls
-
 line-visible_after : (n : ℕ) (t : Text) → IsLine t → IsLine (visible_after n t)
 unfolding visible_after
 line-visible_after zero [] h = tt

@@ -99,10 +99,6 @@ piece_next h k rest piece after e q =
 
 -- A loop over pieces that join to a text: what it has written and what it owes.
 module _ {S : Type 0} {m : Meaning S} (laws : WriterLaws m) where
-  -- before the first piece
-  pub end_line_begun : (a : S) (text : Text) (h : Bool) → h ≡ false → Owes m a (without_end_line text) a (without_end_line (held h ++ text))
-  end_line_begun a text h e = rw e (owes_all laws a (without_end_line text))
-
   -- after a piece
   pub end_line_written : (a b c : S) (text rest piece after : Text) (h k : Bool) → Owes m a text b (without_end_line (held h ++ rest)) → rest ≡ piece ++ after
       → m.accepts b (without_end_line (held h ++ piece)) c → k ≡ ends_in_line_feed (held h ++ piece) → Owes m a text c (without_end_line (held k ++ after))

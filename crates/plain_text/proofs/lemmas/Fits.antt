@@ -22,19 +22,8 @@ columns_of-cons c cs = sum_by-cons char_columns c cs
 pub columns_of-append : (cs ds : List ℕ) → columns_of (cs ++ ds) ≡ columns_of cs + columns_of ds
 columns_of-append cs ds = sum_by-append char_columns cs ds
 
-pub chars-empty : (t : Text) → length t ≡ 0 → chars t ≡ []
-chars-empty [] h = chars-nil
-chars-empty (c ∷ t) h = absurd (omega arith)
-
-module _ (start end pos : ℕ) where
-  pub kept_within : (c : ℕ) (cs : List ℕ) → start ≤ pos → pos + char_columns c ≤ end → kept_chars start end pos (c ∷ cs) ≡ c ∷ kept_chars start end (pos + char_columns c) cs
-  kept_within c cs h k = grind (arith, nat_tests)
-
-  pub kept_before : (c : ℕ) (cs : List ℕ) → pos < start → kept_chars start end pos (c ∷ cs) ≡ kept_chars start end (pos + char_columns c) cs
-  kept_before c cs h = grind (arith, nat_tests)
-
-  kept_after : (c : ℕ) (cs : List ℕ) → end < pos + char_columns c → kept_chars start end pos (c ∷ cs) ≡ kept_chars start end (pos + char_columns c) cs
-  kept_after c cs h = grind (arith, nat_tests)
+kept_after : (start end pos c : ℕ) (cs : List ℕ) → end < pos + char_columns c → kept_chars start end pos (c ∷ cs) ≡ kept_chars start end (pos + char_columns c) cs
+kept_after start end pos c cs h = grind (arith, nat_tests)
 
 pub kept_past : (start end pos : ℕ) (cs : List ℕ) → end < pos → kept_chars start end pos cs ≡ []
 kept_past start end pos [] h = refl
@@ -49,22 +38,6 @@ module _ (bs rest : Text) (c : ℕ) (u : IsUtf8 bs) (e : bs ≡ encode_utf8 c ++
   pub step_utf8 : IsUtf8 rest
   step_utf8 = IsUtf8-past_char bs rest c u e
 
-  pub step_length : length rest + 1 ≤ length bs
-  step_length = rw (e, length-append, length-encode) (omega (arith, (len_utf8_bounds c).0))
-
-  pub step_columns : columns_of (chars bs) ≡ char_columns c + columns_of (chars rest)
-  step_columns = rw (chars_past_char bs rest c u e) (columns_of-cons c (chars rest))
-
-  pub step_within : (start end pos : ℕ) → start ≤ pos → pos + char_columns c ≤ end
-      → encode_utf8_all (kept_chars start end pos (chars bs)) ≡ encode_utf8 c ++ encode_utf8_all (kept_chars start end (pos + char_columns c) (chars rest))
-  step_within start end pos h k = rw (chars_past_char bs rest c u e) (ap encode_utf8_all (kept_within start end pos c (chars rest) h k))
-
-  pub step_before : (start end pos : ℕ) → pos < start → kept_chars start end pos (chars bs) ≡ kept_chars start end (pos + char_columns c) (chars rest)
-  step_before start end pos h = rw (chars_past_char bs rest c u e) (kept_before start end pos c (chars rest) h)
-
-  pub step_break : (start end pos : ℕ) → end < pos + char_columns c → kept_chars start end pos (chars bs) ≡ []
-  step_break start end pos h = rw (chars_past_char bs rest c u e) (kept_break start end pos c (chars rest) h)
-
 pub kept_stretch-before : (start end pos : ℕ) (s : Text) → pos < end → kept_stretch start end pos s ≡ encode_utf8_all (kept_chars start end pos (chars s))
 unfolding kept_stretch
 kept_stretch-before start end pos s h = grind (arith, nat_tests)
@@ -73,23 +46,9 @@ pub kept_stretch-past : (start end pos : ℕ) (s : Text) → end ≤ pos → kep
 unfolding kept_stretch
 kept_stretch-past start end pos s h = grind (arith, nat_tests)
 
--- from the end on all places are one
-pub fit_pieces-past : (start end pos place : ℕ) (ps : List PieceText) → end ≤ pos → end ≤ place → fit_pieces start end pos ps ≡ fit_pieces start end place ps
-fit_pieces-past start end pos place [] h k = refl
-fit_pieces-past start end pos place (SequenceText s ∷ ps) h k = ap (λ x. s ++ x) (fit_pieces-past start end pos place ps h k)
-fit_pieces-past start end pos place (StretchText s ∷ ps) h k =
-    rw (kept_stretch-past start end pos s h, kept_stretch-past start end place s k)
-    (fit_pieces-past start end (pos + columns_of (chars s)) (place + columns_of (chars s)) ps (omega arith) (omega arith))
-
-pub fit_pieces-skipped : (start end pos : ℕ) (s : Text) (ps : List PieceText) → end ≤ pos → fit_pieces start end pos (StretchText s ∷ ps) ≡ fit_pieces start end pos ps
-fit_pieces-skipped start end pos s ps h = rw (kept_stretch-past start end pos s h) (fit_pieces-past start end (pos + columns_of (chars s)) pos ps (omega arith) h)
-
 pub columns_of-le : (cs : List ℕ) → columns_of cs ≤ 3 * length cs
 columns_of-le [] = omega arith
 columns_of-le (c ∷ cs) = rw (columns_of-cons c cs) (omega (arith, char_columns-le c, columns_of-le cs))
-
-pub text_columns-le : (t : Text) → IsUtf8 t → columns_of (chars t) ≤ 3 * length t
-text_columns-le t u = omega (arith, columns_of-le (chars t), length-le-encodes (chars t), ap length (encodes-chars t u))
 
 -- the pieces of a text are texts
 abbrev pub AreTexts : List PieceText → Type 0
@@ -117,11 +76,6 @@ stretches-utf8 [] u = IsUtf8-nil
 stretches-utf8 (SequenceText s ∷ ps) u = stretches-utf8 ps u.1
 stretches-utf8 (StretchText s ∷ ps) u = IsUtf8-append s (stretches ps) u.0 (stretches-utf8 ps u.1)
 
-stretch_columns-le : (ps : List PieceText) → AreTexts ps → stretch_columns ps ≤ 3 * length (joined ps)
-stretch_columns-le [] u = omega arith
-stretch_columns-le (SequenceText s ∷ ps) u = rw length-append (omega (arith, stretch_columns-le ps u.1))
-stretch_columns-le (StretchText s ∷ ps) u = rw length-append (omega (arith, text_columns-le s u.0, stretch_columns-le ps u.1))
-
 stretch_columns-is : (ps : List PieceText) → AreTexts ps → stretch_columns ps ≡ columns_of (chars (stretches ps))
 stretch_columns-is [] u = rw chars-nil refl
 stretch_columns-is (SequenceText s ∷ ps) u = stretch_columns-is ps u.1
@@ -130,6 +84,3 @@ stretch_columns-is (StretchText s ∷ ps) u = rw (chars-append s (stretches ps) 
 -- the columns of a text are those of its stretches
 pub stretch_columns-pieces : (t : Text) → IsUtf8 t → stretch_columns (pieces t) ≡ columns t
 stretch_columns-pieces t u = stretch_columns-is (pieces t) (texts t u) ∙ ap (λ x. columns_of (chars x)) (stretches-pieces t)
-
-pub columns-bound : (t : Text) → IsUtf8 t → stretch_columns (pieces t) ≤ 3 * length t
-columns-bound t u = omega (arith, stretch_columns-le (pieces t) (texts t u), ap length (joined-pieces t))

@@ -35,9 +35,6 @@ module _ {W : Type 0} (took : W → Text → W → Type 0) where
   margin_taken a b t (Ok x) n e h f i o = record { below = rw (n, e) (one_call a.inner.now b.inner.now a.indentation.now (h refl)); line = f; indentation = i; same = o }
   margin_taken a b t (Err x) n e h f i o = tt
 
-  pub margin_skipped : (a : Indented W) (t : Text) → margin a.indentation.now a.needs_indent t ≡ [] → TakesMargin took a t a
-  margin_skipped a t e = record { below = rw e (no_calls a.inner.now); line = refl; indentation = refl; same = refl }
-
   pub line_taken : (a b c : Indented W) (t : Text) → IsOneLine t → TakesMargin took a t b → took b.inner.now t c.inner.now → c.needs_indent ≡ after a.needs_indent t → c.indentation.now ≡ b.indentation.now → c.inner.ghost_name ≡ b.inner.ghost_name → IndentedTakes took a t c
   line_taken a b c t line p h f i o = record {
     below = rw (indent-line a.indentation.now a.needs_indent t line) (calls_then a.inner.now b.inner.now c.inner.now _ t p.below (one_call b.inner.now c.inner.now t h));

@@ -59,18 +59,6 @@ after-line b (c ∷ d ∷ t) h = after-line (c == 10) (d ∷ t) h.1
 pub indent-line : (p : Text) (b : Bool) (t : Text) → IsOneLine t → indent p b t ≡ margin p b t ++ t
 indent-line p b t h = indent-onward p b t ∙ margin-onward p b t (Line-from t h)
 
--- no indentation stands before a line feed alone, and the indentation before any other line that begins
-pub margin-feed : (p : Text) (b : Bool) (t : Text) → pointwise nat_eq t (10 ∷ []) ≡ true → margin p b t ≡ []
-margin-feed p b [] h = refl
-margin-feed p true (c ∷ []) h = let both = and_parts (c == 10) true h in rw both.0 refl
-margin-feed p false (c ∷ []) h = refl
-margin-feed p b (c ∷ d ∷ t) h = let both = and_parts (c == 10) false h in let e : false ≡ true = both.1 in cc
-
-pub margin-none : (p t : Text) → margin p false t ≡ []
-margin-none p [] = refl
-margin-none p (c ∷ []) = refl
-margin-none p (c ∷ d ∷ t) = refl
-
 pub margin-first : (p t : Text) → 0 < length t → pointwise nat_eq t (10 ∷ []) ≡ false → margin p true t ≡ p
 margin-first p [] h k = absurd (omega arith)
 margin-first p (c ∷ []) h k = elim (eqb_tells c 10) [ inl y ↦ (let e : true ≡ false = rw y.0 at k in cc) | inr n ↦ rw n.0 refl ]

@@ -255,12 +255,4 @@ free-painted t u h = (u, rw (sequences-free t h) tt)
 pub append-painted : (a b : Text) → IsPainted a → IsPainted b → IsPainted (a ++ b)
 append-painted a b h k = (IsUtf8-append a b h.0 k.0, rw (sequences-painted_append a b h) (closed_both (sequences (pieces a)) (sequences (pieces b)) h.1 k.1))
 
-pub closed-painted : (s : Text) → IsUtf8 s → IsClosed s → IsPainted s
-unfolding pieces_after
-closed-painted s u h = (u, rw (← append-nil s, sequences-closed_append s [] h) (h, tt))
-
 pub ruleset width_laws = (fit-columns, fit-sequences, parts-columns, parts-sequences, free-painted, append-painted)
-
-pub style_closed : IsClosed (27 ∷ 91 ∷ 51 ∷ 53 ∷ 59 ∷ 49 ∷ 109 ∷ []) × IsClosed (27 ∷ 91 ∷ 48 ∷ 109 ∷ [])
-unfolding pieces_after sequence_len
-style_closed = (λ u. refl, λ u. refl)

@@ -9,15 +9,16 @@ ghost use Rattle.std.specs.Io.KnownBytes.{Appends, Keeps};
 
 use super::{WriteFault, WriteStr};
 use std::alloc::{AllocError, Global};
-use std::io::Write;
+use std::io::{ErrorKind, Write};
 
 /// How many bytes are gathered before they are delivered.
 pub const CAPACITY: usize = 8192;
 
 /// Gathers text and delivers it to a device, such as a file or standard output.
 ///
-/// Its accepted text is what was delivered followed by what is pending. A device fails where it answers an error of any
-/// kind, or takes none of the bytes that it was given; what was not delivered then stays pending.
+/// Its accepted text is what was delivered followed by what is pending. A device fails where it answers an error other than
+/// `Interrupted`, after which the write is tried again, or takes none of the bytes that it was given; what was not delivered
+/// then stays pending.
 ///
 /// ```
 /// use std::io;
@@ -139,21 +140,26 @@ impl<W: Write> WriteStr for TextBuffer<W> {
     }
 }
 
-// Writes until all is taken or a write fails, and says how many bytes were taken and whether all was.
+// Writes until all is taken or a write fails, and says how many bytes were taken and whether all was. A write that was interrupted is
+// tried again, as `write_all` of Rust does.
 fn send<W: Write>(bytes: &[u8], to: &mut W) -> (usize, bool)
     ensures bound { result.0 ≤ length bytes.now }
     ensures all { OnTrue result.1 (result.0 ≡ length bytes.now) }
     ensures bytes { Appends (W.contents to.old) (W.contents to.new) (take result.0 bytes.now) }
 {
     let mut sent = 0;
-    while sent < bytes.len() {
+    for _turn in 0..u64::MAX {
+        if sent == bytes.len() {
+            return (sent, true);
+        }
         match to.write(&bytes[sent..]) {
             Ok(0) => return (sent, false),
             Ok(n) => sent += n,
+            Err(error) if error.kind() == ErrorKind::Interrupted => continue,
             Err(_) => return (sent, false),
         }
     }
-    (sent, true)
+    (sent, false)
 }
 
 fn remove_front(buf: &mut Vec<u8>, n: usize)

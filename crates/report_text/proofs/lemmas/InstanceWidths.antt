@@ -6,8 +6,8 @@ use Rattle.std.specs.Option.{option_map, option_map_or}
 use Rattle.std.specs.Str.{IsUtf8}
 use Rattle.std.specs.Int.NonZero.{non_zero_u32_get}
 use Rattle.std.specs.declared.num.NonZeroU32.{NonZeroU32}
-use Rattle.run_model.specs.Names.{last_colons}
-use Rattle.run_model.specs.declared.stress.StressIndex.{StressIndex}
+use Rattle.run_names.specs.Names.{last_colons}
+use Rattle.run_names.specs.declared.stress.StressIndex.{StressIndex}
 use Rattle.plain_text.specs.Texts.{Text, right_in}
 use Rattle.plain_text.specs.Escapes.{HasNoEscape}
 use Rattle.plain_text.specs.ColumnCounter.{saturated}

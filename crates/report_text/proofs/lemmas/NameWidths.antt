@@ -3,7 +3,7 @@ use Rattle.std.proofs.Common.{ℕ, zero, suc, ◌+◌, ◌*◌, ◌<◌, ◌≤�
 use Rattle.std.proofs.lemmas.Bool.{cases_Bool}
 use Rattle.std.specs.Str.{chars, chars_after, continuation_len, lead_bits}
 use Rattle.std.specs.Option.{option_map, option_map_or}
-use Rattle.run_model.specs.Names.{last_colons}
+use Rattle.run_names.specs.Names.{last_colons}
 use Rattle.plain_text.specs.Texts.{Text}
 use Rattle.plain_text.specs.Escapes.{visible, visible_after, sequence_len}
 use Rattle.plain_text.specs.Fitting.{columns}

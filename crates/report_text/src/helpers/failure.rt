@@ -1,7 +1,7 @@
 //! How a process ended, as a message says it.
 
 ghost use Rattle.std.specs.Prelude.{◌≡◌, ◌<◌, ◌∷◌, [], IfOk, string_bytes};
-ghost use Rattle.run_model.specs.Names.{optional_text};
+ghost use Rattle.run_names.specs.Names.{optional_text};
 ghost use Rattle.report_text.specs.Failure.{abort_details, abort_text, abort_words, exit_details, exit_text, exit_words, hex_digit, last_hex_digits, message_text, nt_status_text, signal_name_text};
 ghost use Rattle.plain_text.specs.Writer.{Puts};
 
@@ -13,7 +13,7 @@ use run_model::memory::OutOfMemory;
 use std::alloc::Global;
 
 /// How a process ended.
-#[derive(Debug, Drop)]
+#[derive(Drop)]
 pub enum ExitDescription {
     /// With a code.
     Code(i32),

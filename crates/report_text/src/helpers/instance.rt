@@ -25,7 +25,7 @@ use std::fmt::Formatter;
 /// let shown = DisplayTestInstance::new(None, Some(counter), test.as_ref(), &styles.list_styles);
 /// assert_eq!(shown.to_string(alloc)?.as_str(), "(1/2) alpha t1");
 /// ```
-#[derive(Clone, Copy, Debug)]
+#[derive(Clone, Copy)]
 pub struct DisplayTestInstance<'a> {
     stress_index: Option<StressIndex>,
     counter_index: Option<DisplayCounterIndex>,
@@ -162,7 +162,7 @@ impl fmt::Display for DisplayTestInstance<'_> {
 /// let shown = DisplayStressIndex { stress_index, count_style: styles.count };
 /// assert_eq!(shown.to_string(alloc)?.as_str(), " 3/10");
 /// ```
-#[derive(Clone, Copy, Debug)]
+#[derive(Clone, Copy)]
 pub struct DisplayStressIndex {
     /// The iteration.
     pub stress_index: StressIndex,
@@ -256,7 +256,7 @@ pub(super) fn write_id_prefix<W: WriteStr>(
 /// assert_eq!(DisplayCounterIndex::new_counter(20, 5000).to_string(alloc)?.as_str(), "(  20/5000)");
 /// assert_eq!(DisplayCounterIndex::new_padded('-', 4).to_string(alloc)?.as_str(), "(---------)");
 /// ```
-#[derive(Clone, Copy, Debug, PartialEq, Eq)]
+#[derive(Clone, Copy, PartialEq, Eq)]
 pub enum DisplayCounterIndex {
     /// A number and its total.
     Counter {
@@ -367,7 +367,7 @@ fn write_counter<W: WriteStr>(
 /// let shown = DisplayTestName::new(&name, &styles.list_styles);
 /// assert_eq!(shown.to_string(alloc)?.as_str(), "mod::t2");
 /// ```
-#[derive(Clone, Copy, Debug)]
+#[derive(Clone, Copy)]
 pub struct DisplayTestName<'a> {
     name: &'a TestCaseName,
     styles: ListStyles,

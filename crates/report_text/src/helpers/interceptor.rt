@@ -6,9 +6,9 @@ ghost use Rattle.report_text.specs.Interceptor.{and_words, listed_test, intercep
 ghost use Rattle.plain_text.specs.Writer.{Puts};
 
 use crate::helpers::instance::DisplayTestInstance;
-use crate::helpers::plural::{tests_plural_if, tests_str};
 use plain_text::style::{ListStyles, Style, write_plain};
 use plain_text::write_str::{WriteFault, WriteStr};
+use report_words::plural::{tests_plural_if, tests_str};
 use run_model::config::NextestRunMode;
 use run_model::memory::OutOfMemory;
 use run_model::name::OwnedTestInstanceId;

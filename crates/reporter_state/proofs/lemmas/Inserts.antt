@@ -2,7 +2,7 @@
 use Rattle.std.proofs.Common.{◌≡◌, ℕ, ◌<◌, ◌+◌, List, [], ◌∷◌, ◌++◌, refl, sym, subst, ◌∙◌, ap, ap₂, arith, length, Ordering, Less, Equal, Greater, nat_cmp}
 use Rattle.std.specs.Ordering.{ordering_then}
 use Rattle.std.specs.BTreeMap.{insert_entry}
-use Rattle.run_model.specs.declared.level.FinalStatusLevel.{FinalStatusLevel}
+use Rattle.run_names.specs.declared.level.FinalStatusLevel.{FinalStatusLevel}
 use Rattle.reporter_state.specs.Order.{key_cmp}
 use Rattle.reporter_state.specs.Entries.{entry_cmp, entry_key, final_level_of_output, final_order, is_before}
 use Rattle.reporter_state.specs.Keys.{AreKeyed, entries_at, entry_at, order_key, placed_cmp}

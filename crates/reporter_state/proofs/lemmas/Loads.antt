@@ -5,16 +5,16 @@ use Rattle.std.proofs.lemmas.Bool.{cases_Bool, false≢true}
 use Rattle.run_model.specs.Attempts.{Attempt, Attempts, Written}
 use Rattle.run_model.specs.Outputs.{has_loaded_output}
 use Rattle.run_model.specs.Statuses.{summary_of}
-use Rattle.run_model.specs.declared.config.TestOutputDisplay.{TestOutputDisplay}
+use Rattle.run_names.specs.declared.config.TestOutputDisplay.{TestOutputDisplay}
 use Rattle.run_model.specs.declared.event.TestEventKind.{TestEventKind}
 use Rattle.run_model.specs.declared.event.TestEventKind.TheVariants.{SetupScriptFinished, TestAttemptFailedWillRetry, TestFinished, InfoResponse}
-use Rattle.run_model.specs.declared.level.StatusLevel.TheVariants as level
-use Rattle.run_model.specs.declared.name.TestInstanceId.{TestInstanceId}
+use Rattle.run_names.specs.declared.level.StatusLevel.TheVariants as level
+use Rattle.run_names.specs.declared.name.TestInstanceId.{TestInstanceId}
 use Rattle.run_model.specs.declared.output.ChildOutputDescription.{ChildOutputDescription}
 use Rattle.run_model.specs.declared.output.LiveSpec.{LiveSpec}
 use Rattle.run_model.specs.declared.stats.RunStats.{RunStats}
-use Rattle.run_model.specs.declared.stress.StressIndex.{StressIndex}
-use Rattle.run_model.specs.declared.time.Nanos.{Nanos}
+use Rattle.run_names.specs.declared.stress.StressIndex.{StressIndex}
+use Rattle.run_names.specs.declared.time.Nanos.{Nanos}
 use Rattle.unit_report.specs.Overrides.{display_for}
 use Rattle.store_text.specs.declared.config.StoreConfig.{StoreConfig}
 use Rattle.test_text.specs.TestFinished.{HasShownOutput, test_finish}

@@ -21,12 +21,6 @@ All-more : {X : Type 0} (P Q : X → Type 0) → ((x : X) → P x → Q x) → (
 All-more P Q f [] h = tt
 All-more P Q f (x ∷ xs) h = (f x h.0, All-more P Q f xs h.1)
 
-filter-append : {X : Type 0} (p : X → Bool) (xs ys : List X) → filter p (xs ++ ys) ≡ filter p xs ++ filter p ys
-filter-append p [] ys = refl
-filter-append p (x ∷ xs) ys =
-    elim (p x) as (λ b. cond b (x ∷ filter p (xs ++ ys)) (filter p (xs ++ ys)) ≡ cond b (x ∷ filter p xs) (filter p xs) ++ filter p ys)
-    [ true ↦ ap (λ l. x ∷ l) (filter-append p xs ys) | false ↦ filter-append p xs ys ]
-
 -- an element before the first one that is greater
 abbrev pub put_last : {X : Type 0} → (X → X → Bool) → X → List X → List X
 put_last lt e [] = e ∷ []

@@ -1,12 +1,12 @@
 -- How a run stands: that it is cancelled or killed, stopped for a while or asked for, in colour and plain.
 use Rattle.std.proofs.Common.{ℕ, Bool, true, false, refl, Option, None, Some}
-use Rattle.run_model.specs.declared.config.NextestRunMode.{NextestRunMode}
-use Rattle.run_model.specs.declared.level.CancelReason.{CancelReason}
+use Rattle.run_names.specs.declared.config.NextestRunMode.{NextestRunMode}
+use Rattle.run_names.specs.declared.level.CancelReason.{CancelReason}
 use Rattle.run_model.specs.declared.stats.RunStats.{RunStats}
 use Rattle.plain_text.specs.Escapes.{HasNoEscape}
 use Rattle.plain_text.specs.Style.{styles_of}
 use Rattle.plain_text.specs.Texts.{Text}
-use Rattle.report_text.proofs.lemmas.ColourPairs.{IsColourPair, colour_pair-none, colour_pairs}
+use Rattle.report_words.proofs.lemmas.ColourPairs.{IsColourPair, colour_pair-none, colour_pairs}
 use Rattle.unit_report.proofs.lemmas.SkipColourPairs.{free-reason_words}
 use Rattle.unit_report.proofs.lemmas.DurationColourPairs.{colour_pair-bracketed_clock}
 use Rattle.event_text.specs.declared.settings.Settings.{Settings}

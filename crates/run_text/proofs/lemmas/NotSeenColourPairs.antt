@@ -1,12 +1,12 @@
 -- The tests that a rerun was to see and has not, in colour and plain.
 use Rattle.std.proofs.Common.{ℕ, Bool, true, false, List, [], ◌∷◌, Option, None, Some}
 use Rattle.std.specs.List.{AllByRecursion, flat_map}
-use Rattle.run_model.specs.declared.config.NextestRunMode.{NextestRunMode}
-use Rattle.run_model.specs.declared.name.OwnedTestInstanceId.{OwnedTestInstanceId}
-use Rattle.run_model.specs.declared.not_seen.NotSeen.{NotSeen}
+use Rattle.run_names.specs.declared.config.NextestRunMode.{NextestRunMode}
+use Rattle.run_names.specs.declared.name.OwnedTestInstanceId.{OwnedTestInstanceId}
+use Rattle.run_names.specs.declared.not_seen.NotSeen.{NotSeen}
 use Rattle.plain_text.specs.Style.{list_styles_of, styles_of}
 use Rattle.report_text.proofs.lemmas.InstanceColourPairs.{colour_pair-test_text}
-use Rattle.report_text.proofs.lemmas.ColourPairs.{IsColourPair, colour_pair-append, colour_pair-none, colour_pairs}
+use Rattle.report_words.proofs.lemmas.ColourPairs.{IsColourPair, colour_pair-append, colour_pair-none, colour_pairs}
 use Rattle.event_text.specs.declared.settings.Settings.{Settings}
 use Rattle.event_text.proofs.lemmas.LineColourPairs.{painted}
 use Rattle.run_text.specs.NotSeen.{not_seen_start, not_seen_line, more_line, more_not_seen, not_seen_note, not_seen_text}

@@ -6,13 +6,13 @@ use Rattle.run_model.specs.declared.status.ExecutionResultDescription.{Execution
 use Rattle.run_model.specs.declared.status.ExecutionResultDescription.TheVariants as outcome
 use Rattle.run_model.specs.declared.status.LeakTimeoutResult.TheVariants as leak
 use Rattle.run_model.specs.declared.status.SetupScriptExecuteStatus.{SetupScriptExecuteStatus}
-use Rattle.run_model.specs.declared.unit.UnitKind.TheVariants as unit
+use Rattle.run_names.specs.declared.unit.UnitKind.TheVariants as unit
 use Rattle.plain_text.specs.Escapes.{HasNoEscape}
-use Rattle.report_text.specs.PlainTexts.{IsPlainResult}
+use Rattle.report_text.specs.PlainResults.{IsPlainResult}
 use Rattle.plain_text.specs.Style.{styled, styles_of}
 use Rattle.plain_text.specs.Texts.{Text}
-use Rattle.report_text.proofs.lemmas.FreeWords.{frees}
-use Rattle.report_text.proofs.lemmas.ColourPairs.{IsColourPair, colour_pair-append, colour_pair-free, colour_pairs}
+use Rattle.report_words.proofs.lemmas.FreeWords.{frees}
+use Rattle.report_words.proofs.lemmas.ColourPairs.{IsColourPair, colour_pair-append, colour_pair-free, colour_pairs}
 use Rattle.unit_report.proofs.lemmas.DurationColourPairs.{colour_pair-bracketed_duration, colour_pair-slow_duration}
 use Rattle.event_text.specs.Script.{IsPlainScript, Script, shown_script}
 use Rattle.event_text.specs.Settings.{is_level_shown}

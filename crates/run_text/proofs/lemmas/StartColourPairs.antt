@@ -1,16 +1,16 @@
 -- The start of a run and the header of a replay, in colour and plain.
 use Rattle.std.proofs.Common.{ℕ, Bool, true, false, List, Option, None, Some}
 use Rattle.jiff_core.specs.declared.civil.datetime.DateTime.{DateTime}
-use Rattle.run_model.specs.UniquePrefixes.{UniquePrefix}
-use Rattle.run_model.specs.declared.config.NextestRunMode.{NextestRunMode}
+use Rattle.run_names.specs.UniquePrefixes.{UniquePrefix}
+use Rattle.run_names.specs.declared.config.NextestRunMode.{NextestRunMode}
 use Rattle.run_model.specs.declared.event.TestCounts.{TestCounts}
 use Rattle.run_model.specs.declared.replay.ReplayHeader.{ReplayHeader}
 use Rattle.plain_text.specs.Escapes.{HasNoEscape}
-use Rattle.report_text.specs.PlainTexts.{HoldsIf}
+use Rattle.report_words.specs.PlainTexts.{HoldsIf}
 use Rattle.plain_text.specs.Style.{styles_of}
 use Rattle.plain_text.specs.Texts.{Text}
-use Rattle.report_text.proofs.lemmas.FreeWords.{frees, free-last_digits}
-use Rattle.report_text.proofs.lemmas.ColourPairs.{IsColourPair, colour_pair-free, colour_pairs}
+use Rattle.report_words.proofs.lemmas.FreeWords.{frees, free-last_digits}
+use Rattle.report_words.proofs.lemmas.ColourPairs.{IsColourPair, colour_pair-free, colour_pairs}
 use Rattle.unit_report.proofs.lemmas.SkipColourPairs.{colour_pair-skip_note}
 use Rattle.event_text.specs.declared.settings.Settings.{Settings}
 use Rattle.event_text.proofs.lemmas.LineColourPairs.{painted, colour_pair-bar_line}

@@ -2,8 +2,8 @@
 use Rattle.std.proofs.Common.{ℕ, Bool, true, false, codes, Option, None, Some}
 use Rattle.std.specs.declared.num.NonZeroU32.{NonZeroU32}
 use Rattle.run_model.specs.Stats.{final_stats_of, stress_stats_of}
-use Rattle.run_model.specs.Stress.{Remaining, Iterations, Endless, TimeLeft, remaining_of}
-use Rattle.run_model.specs.declared.config.NextestRunMode.{NextestRunMode}
+use Rattle.run_names.specs.Stress.{Remaining, Iterations, Endless, TimeLeft, remaining_of}
+use Rattle.run_names.specs.declared.config.NextestRunMode.{NextestRunMode}
 use Rattle.run_model.specs.declared.stats.FinalRunStats.{FinalRunStats}
 use Rattle.run_model.specs.declared.stats.FinalRunStats.TheVariants.{Success, NoTestsRun, Cancelled, Failed}
 use Rattle.run_model.specs.declared.stats.RunFinishedStats.{RunFinishedStats}
@@ -12,15 +12,15 @@ use Rattle.run_model.specs.declared.stats.RunStats.{RunStats}
 use Rattle.run_model.specs.declared.stats.StressFinalRunStats.{StressFinalRunStats}
 use Rattle.run_model.specs.declared.stats.StressFinalRunStats.TheVariants as stress
 use Rattle.run_model.specs.declared.stats.StressRunStats.{StressRunStats}
-use Rattle.run_model.specs.declared.stress.StressCount.TheVariants as total
-use Rattle.run_model.specs.declared.stress.StressIndex.{StressIndex}
-use Rattle.run_model.specs.declared.stress.StressProgress.{StressProgress}
-use Rattle.run_model.specs.declared.stress.StressProgress.TheVariants.{Count, Time}
+use Rattle.run_names.specs.declared.stress.StressCount.TheVariants as total
+use Rattle.run_names.specs.declared.stress.StressIndex.{StressIndex}
+use Rattle.run_names.specs.declared.stress.StressProgress.{StressProgress}
+use Rattle.run_names.specs.declared.stress.StressProgress.TheVariants.{Count, Time}
 use Rattle.plain_text.specs.Escapes.{HasNoEscape}
 use Rattle.plain_text.specs.Style.{styled, styles_of}
 use Rattle.plain_text.specs.Texts.{Text, right_in}
-use Rattle.report_text.proofs.lemmas.FreeWords.{frees}
-use Rattle.report_text.proofs.lemmas.ColourPairs.{IsColourPair, colour_pair-append, colour_pair-none, colour_pairs}
+use Rattle.report_words.proofs.lemmas.FreeWords.{frees}
+use Rattle.report_words.proofs.lemmas.ColourPairs.{IsColourPair, colour_pair-append, colour_pair-none, colour_pairs}
 use Rattle.unit_report.proofs.lemmas.SkipColourPairs.{free-reason_words}
 use Rattle.unit_report.proofs.lemmas.DurationColourPairs.{colour_pair-bracketed_duration}
 use Rattle.event_text.specs.declared.settings.Settings.{Settings}

@@ -14,7 +14,7 @@ use Rattle.run_model.specs.declared.call.ReportCall.TheVariants as call
 use Rattle.run_model.specs.declared.event.TestEventKind.{TestEventKind}
 use Rattle.run_model.specs.declared.event.TestEventKind.TheVariants as kind
 use Rattle.run_model.specs.declared.info.InfoResponse.TheVariants as response
-use Rattle.run_model.specs.declared.name.TestInstanceId.{TestInstanceId}
+use Rattle.run_names.specs.declared.name.TestInstanceId.{TestInstanceId}
 use Rattle.scene_events.specs.SceneAttempts.{script_status}
 use Rattle.scene_events.specs.Scenes.{IsCallOf, SaysSame, needs_judging, nothing_counted, told_elapsed}
 use Rattle.scene_events.specs.States.{unit_state}

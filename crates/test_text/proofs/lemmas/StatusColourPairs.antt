@@ -7,11 +7,11 @@ use Rattle.run_model.specs.declared.status.StatusCase.{StatusCase}
 use Rattle.run_model.specs.declared.status.StatusCase.TheVariants.{Success, Flaky, Failure}
 use Rattle.run_model.specs.declared.status.StatusSummary.{StatusSummary}
 use Rattle.plain_text.specs.Escapes.{HasNoEscape}
-use Rattle.report_text.specs.PlainTexts.{IsPlainResult}
+use Rattle.report_text.specs.PlainResults.{IsPlainResult}
 use Rattle.plain_text.specs.Style.{styles_of}
-use Rattle.report_text.proofs.lemmas.FreeWords.{frees}
+use Rattle.report_words.proofs.lemmas.FreeWords.{frees}
 use Rattle.report_text.proofs.lemmas.InstanceColourPairs.{colour_pair-instance_text}
-use Rattle.report_text.proofs.lemmas.ColourPairs.{IsColourPair, colour_pair-none, colour_pair-if, colour_pair-append, colour_pairs}
+use Rattle.report_words.proofs.lemmas.ColourPairs.{IsColourPair, colour_pair-none, colour_pair-if, colour_pair-append, colour_pairs}
 use Rattle.unit_report.proofs.lemmas.DurationColourPairs.{colour_pair-bracketed_duration}
 use Rattle.unit_report.specs.PlainOutputs.{IsPlainWritten}
 use Rattle.test_text.specs.TestFinished.{TestFinish, line_at_once, output_at_once, test_finished_text}
@@ -21,7 +21,7 @@ use Rattle.event_text.specs.declared.instance.CountedInstance.{CountedInstance}
 use Rattle.event_text.specs.declared.settings.Settings.{Settings}
 use Rattle.test_text.specs.declared.status_line.StatusLineKind.{StatusLineKind}
 use Rattle.test_text.specs.declared.status_line.StatusLineKind.TheVariants.{Intermediate, Final}
-use Rattle.run_model.specs.declared.unit.UnitKind.TheVariants as unit
+use Rattle.run_names.specs.declared.unit.UnitKind.TheVariants as unit
 use Rattle.event_text.proofs.lemmas.LineColourPairs.{painted, IsPlainTest}
 use Rattle.event_text.proofs.lemmas.OutputColourPairs.{colour_pair-unit_output}
 use Rattle.event_text.proofs.lemmas.ResultColourPairs.{free-long_word, free-short_word, free-success_word, colour_pair-abort_line}

@@ -1,18 +1,19 @@
 -- The lines of tests that have not finished, in colour and plain (for the texts of their events).
 use Rattle.std.proofs.Common.{ℕ, Bool, true, false, List, Option}
 use Rattle.std.specs.List.{AllByRecursion}
-use Rattle.run_model.specs.declared.config.TestOutputDisplay.{TestOutputDisplay}
-use Rattle.run_model.specs.declared.name.TestInstanceId.{TestInstanceId}
+use Rattle.run_names.specs.declared.config.TestOutputDisplay.{TestOutputDisplay}
+use Rattle.run_names.specs.declared.name.TestInstanceId.{TestInstanceId}
 use Rattle.run_model.specs.declared.stats.RunStats.{RunStats}
 use Rattle.run_model.specs.declared.status.RetryData.{RetryData}
-use Rattle.run_model.specs.declared.stress.StressIndex.{StressIndex}
-use Rattle.run_model.specs.declared.unit.UnitKind.TheVariants as unit
+use Rattle.run_names.specs.declared.stress.StressIndex.{StressIndex}
+use Rattle.run_names.specs.declared.unit.UnitKind.TheVariants as unit
 use Rattle.plain_text.specs.Escapes.{HasNoEscape}
-use Rattle.report_text.specs.PlainTexts.{IsPlainInstance, IsPlainResult}
+use Rattle.report_words.specs.PlainTexts.{IsPlainInstance}
+use Rattle.report_text.specs.PlainResults.{IsPlainResult}
 use Rattle.plain_text.specs.Style.{styles_of}
 use Rattle.plain_text.specs.Texts.{Text}
-use Rattle.report_text.proofs.lemmas.FreeWords.{free-shell_words}
-use Rattle.report_text.proofs.lemmas.ColourPairs.{IsColourPair, colour_pair-none, colour_pair-if, colour_pair-append, colour_pair-free, colour_pairs}
+use Rattle.report_text.proofs.lemmas.FreeDetails.{free-shell_words}
+use Rattle.report_words.proofs.lemmas.ColourPairs.{IsColourPair, colour_pair-none, colour_pair-if, colour_pair-append, colour_pair-free, colour_pairs}
 use Rattle.unit_report.proofs.lemmas.DurationColourPairs.{duration_colour_pairs}
 use Rattle.unit_report.specs.PlainOutputs.{IsPlainWritten}
 use Rattle.event_text.specs.Instance.{padded_instance}

@@ -17,10 +17,10 @@ use Rattle.unit_report.specs.HighlightedLines.{body_len, highlighted_line, highl
 use Rattle.plain_text.specs.Alike.{without_end_spaces}
 use Rattle.plain_text.proofs.lemmas.Pieces.{free_parts, visible-free}
 use Rattle.plain_text.proofs.lemmas.Widths.{free_both, visible-free_append}
-use Rattle.report_text.proofs.lemmas.FreeWords.{free-take, free-drop, free-indent, free-visible}
+use Rattle.report_words.proofs.lemmas.FreeWords.{free-take, free-drop, free-indent, free-visible}
 use Rattle.plain_text.proofs.lemmas.AlikeIndents.{IsBlank}
-use Rattle.report_text.proofs.lemmas.ColourPairs.{IsColourPair, prefix-append, suffix-append, reset-append, colour_pair-indent}
-use Rattle.report_text.specs.PlainTexts.{HoldsIf}
+use Rattle.report_words.proofs.lemmas.ColourPairs.{IsColourPair, prefix-append, suffix-append, reset-append, colour_pair-indent}
+use Rattle.report_words.specs.PlainTexts.{HoldsIf}
 use Rattle.unit_report.specs.PlainOutputs.{IsInside, IsPlainStream}
 
 -- both texts close with a line feed, and before it what is visible of the first is the second

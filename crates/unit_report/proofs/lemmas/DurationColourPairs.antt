@@ -1,12 +1,12 @@
 -- Durations and words for units, in colour and plain (for the lines of events).
 use Rattle.std.proofs.Common.{ℕ, Bool, refl}
-use Rattle.run_model.specs.declared.config.NextestRunMode.{NextestRunMode}
-use Rattle.run_model.specs.declared.config.NextestRunMode.TheVariants as mode
-use Rattle.run_model.specs.declared.unit.UnitKind.{UnitKind}
-use Rattle.run_model.specs.declared.unit.UnitKind.TheVariants as kind
+use Rattle.run_names.specs.declared.config.NextestRunMode.{NextestRunMode}
+use Rattle.run_names.specs.declared.config.NextestRunMode.TheVariants as mode
+use Rattle.run_names.specs.declared.unit.UnitKind.{UnitKind}
+use Rattle.run_names.specs.declared.unit.UnitKind.TheVariants as kind
 use Rattle.plain_text.specs.Escapes.{HasNoEscape}
-use Rattle.report_text.proofs.lemmas.FreeWords.{frees}
-use Rattle.report_text.proofs.lemmas.ColourPairs.{IsColourPair, colour_pair-free}
+use Rattle.report_words.proofs.lemmas.FreeWords.{frees}
+use Rattle.report_words.proofs.lemmas.ColourPairs.{IsColourPair, colour_pair-free}
 use Rattle.unit_report.specs.Durations.{bracketed_duration, bracketed_clock, duration_by, slow_duration}
 use Rattle.unit_report.specs.UnitKind.{unit_word}
 

@@ -33,11 +33,6 @@ body_len-at (c ∷ t) (suc n) l h e =
 pub line_end-more : (t : Text) (n k : ℕ) → n ≡ suc k → n ≤ length t → closes_line (get_or t k 0) ≡ true → is_line_end (drop n t) ≡ true → is_line_end (drop k t) ≡ true
 line_end-more t n k q l h e = rw (drop-cons t k 0 (omega arith)) (rw h (subst (λ m. is_line_end (drop m t) ≡ true) q e))
 
-pub body_len-le : (t : Text) → body_len t ≤ length t
-unfolding body_len
-body_len-le [] = omega arith
-body_len-le (c ∷ t) = let more = body_len-le t in elim (cases_Bool (is_line_end (c ∷ t))) [ inl y ↦ rw y (omega arith) | inr n ↦ rw n (omega arith) ]
-
 -- a line may be cut there
 pub body_boundary : (t : Text) → IsCharBoundary t (body_len t)
 unfolding body_len

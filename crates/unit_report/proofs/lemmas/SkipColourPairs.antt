@@ -1,13 +1,13 @@
 -- What a run skips and leaves undone, in colour and plain (for the lines of its start and its end).
 use Rattle.std.proofs.Common.{ℕ, Bool, true, false, refl, Option, None, Some}
-use Rattle.run_model.specs.Levels.{reason_words}
-use Rattle.run_model.specs.declared.config.CompiledDefaultFilter.{CompiledDefaultFilter}
-use Rattle.run_model.specs.declared.config.CompiledDefaultFilterSection.{CompiledDefaultFilterSection}
-use Rattle.run_model.specs.declared.config.CompiledDefaultFilterSection.TheVariants.{Profile, Override}
-use Rattle.run_model.specs.declared.config.NextestRunMode.{NextestRunMode}
+use Rattle.run_names.specs.Levels.{reason_words}
+use Rattle.run_names.specs.declared.config.CompiledDefaultFilter.{CompiledDefaultFilter}
+use Rattle.run_names.specs.declared.config.CompiledDefaultFilterSection.{CompiledDefaultFilterSection}
+use Rattle.run_names.specs.declared.config.CompiledDefaultFilterSection.TheVariants.{Profile, Override}
+use Rattle.run_names.specs.declared.config.NextestRunMode.{NextestRunMode}
 use Rattle.run_model.specs.declared.event.SkipCounts.{SkipCounts}
-use Rattle.run_model.specs.declared.level.CancelReason.{CancelReason}
-use Rattle.run_model.specs.declared.level.CancelReason.TheVariants as reason
+use Rattle.run_names.specs.declared.level.CancelReason.{CancelReason}
+use Rattle.run_names.specs.declared.level.CancelReason.TheVariants as reason
 use Rattle.run_model.specs.declared.stats.FinalRunStats.{FinalRunStats}
 use Rattle.run_model.specs.declared.stats.FinalRunStats.TheVariants.{Success, NoTestsRun, Cancelled, Failed}
 use Rattle.run_model.specs.declared.stats.RunStatsFailureKind.{RunStatsFailureKind}
@@ -17,7 +17,7 @@ use Rattle.plain_text.specs.Escapes.{HasNoEscape}
 use Rattle.plain_text.specs.Style.{styles_of}
 use Rattle.unit_report.specs.SkipCounts.{tests_text, binaries_text, between, tests_and_binaries, filter_name, via_filter, rerun_text, filtered_text, included_text, skip_reason, skip_note}
 use Rattle.unit_report.specs.Warnings.{due_to, options_hint, hint_after, not_run_count, not_run_warning, warning_of, final_warnings}
-use Rattle.report_text.proofs.lemmas.ColourPairs.{IsColourPair, colour_pair-none, colour_pairs}
+use Rattle.report_words.proofs.lemmas.ColourPairs.{IsColourPair, colour_pair-none, colour_pairs}
 
 colour_pair-tests_and_binaries : (k : Bool) (mode : NextestRunMode) (t b : ℕ) → IsColourPair k (tests_and_binaries (styles_of true) mode t b) (tests_and_binaries (styles_of false) mode t b)
 unfolding tests_and_binaries tests_text binaries_text between

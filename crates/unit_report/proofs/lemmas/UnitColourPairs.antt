@@ -2,7 +2,7 @@
 use Rattle.std.proofs.Common.{◌≡◌, ℕ, Bool, true, false, refl, List, [], ◌∷◌, Option, None, Some}
 use Rattle.std.specs.List.{AllByRecursion, flat_map}
 use Rattle.std.specs.Option.{option_and_then}
-use Rattle.run_model.specs.ErrorChains.{MessageAndCauses}
+use Rattle.run_names.specs.ErrorChains.{MessageAndCauses}
 use Rattle.run_model.specs.Outputs.{Part, stdout_part, stderr_part}
 use Rattle.run_model.specs.declared.output.ChildExecutionOutputDescription.{ChildExecutionOutputDescription}
 use Rattle.run_model.specs.declared.output.ChildExecutionOutputDescription.TheVariants.{Output, StartError}
@@ -13,7 +13,7 @@ use Rattle.run_model.specs.declared.output.LiveSpec.{LiveSpec}
 use Rattle.plain_text.specs.Texts.{Text}
 use Rattle.plain_text.specs.Escapes.{HasNoEscape}
 use Rattle.plain_text.specs.Style.{styles_of}
-use Rattle.report_text.specs.declared.helpers.theme.ThemeCharacters.{ThemeCharacters}
+use Rattle.report_words.specs.declared.theme.ThemeCharacters.{ThemeCharacters}
 use Rattle.plain_text.specs.declared.style.Style.{Style}
 use Rattle.plain_text.specs.declared.style.Style.TheVariants as style
 use Rattle.unit_report.specs.ErrorChain.{cause_text, causes_text, error_chain_text}
@@ -24,10 +24,10 @@ use Rattle.unit_report.specs.declared.unit_output.header.OutputHeader.TheVariant
 use Rattle.unit_report.specs.declared.unit_output.header.OutputName.{OutputName}
 use Rattle.unit_report.specs.declared.unit_output.header.OutputName.TheVariants as name
 use Rattle.unit_report.specs.declared.unit_output.reporter.UnitOutputReporter.{UnitOutputReporter}
-use Rattle.report_text.proofs.lemmas.FreeWords.{frees}
+use Rattle.report_words.proofs.lemmas.FreeWords.{frees}
 use Rattle.plain_text.proofs.lemmas.AlikeIndents.{IsBlank}
-use Rattle.report_text.proofs.lemmas.ColourPairs.{IsColourPair, colour_pair-none, colour_pair-append, colour_pair-free, colour_pair-if, colour_pairs}
-use Rattle.report_text.specs.PlainTexts.{HoldsIf, IsPlainChain}
+use Rattle.report_words.proofs.lemmas.ColourPairs.{IsColourPair, colour_pair-none, colour_pair-append, colour_pair-free, colour_pair-if, colour_pairs}
+use Rattle.report_words.specs.PlainTexts.{HoldsIf, IsPlainChain}
 use Rattle.unit_report.specs.PlainOutputs.{IsPlainStream, IsPlainOutput, IsPlainWritten}
 use Rattle.unit_report.proofs.lemmas.CapturedColourPairs.{colour_pair-indent_ended, ended-captured}
 

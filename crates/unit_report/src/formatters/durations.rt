@@ -9,7 +9,7 @@ ghost use Rattle.unit_report.specs.Durations.{bracketed_clock, bracketed_duratio
 use plain_text::numbers::{write_bracketed_seconds, write_seconds_between};
 use plain_text::show_written;
 use plain_text::write_str::{WriteFault, WriteStr};
-use report_text::helpers::durations::write_clock_between;
+use report_words::durations::write_clock_between;
 use run_model::time::Nanos;
 use std::fmt;
 use std::fmt::Formatter;
@@ -21,7 +21,7 @@ use std::fmt::Formatter;
 /// ```
 /// assert_eq!(DisplayBracketedDuration(Nanos(5_000_000)).to_string(alloc)?.as_str(), "[   0.005s] ");
 /// ```
-#[derive(Clone, Copy, Debug)]
+#[derive(Clone, Copy)]
 pub struct DisplayBracketedDuration(pub Nanos);
 
 impl DisplayBracketedDuration {
@@ -49,7 +49,7 @@ impl fmt::Display for DisplayBracketedDuration {
 /// ```
 /// assert_eq!(DisplayBracketedHhMmSs(Nanos(12_000_000_000)).to_string(alloc)?.as_str(), "[ 00:00:12] ");
 /// ```
-#[derive(Clone, Copy, Debug)]
+#[derive(Clone, Copy)]
 pub struct DisplayBracketedHhMmSs(pub Nanos);
 
 impl DisplayBracketedHhMmSs {
@@ -76,7 +76,7 @@ impl fmt::Display for DisplayBracketedHhMmSs {
 /// ```
 /// assert_eq!(DisplayDurationBy(Nanos(1_000_000_000)).to_string(alloc)?.as_str(), "by   1.000s ");
 /// ```
-#[derive(Clone, Copy, Debug)]
+#[derive(Clone, Copy)]
 pub struct DisplayDurationBy(pub Nanos);
 
 impl DisplayDurationBy {
@@ -103,7 +103,7 @@ impl fmt::Display for DisplayDurationBy {
 /// ```
 /// assert_eq!(DisplaySlowDuration(Nanos(60_000_000_000)).to_string(alloc)?.as_str(), "[> 60.000s] ");
 /// ```
-#[derive(Clone, Copy, Debug)]
+#[derive(Clone, Copy)]
 pub struct DisplaySlowDuration(pub Nanos);
 
 impl DisplaySlowDuration {

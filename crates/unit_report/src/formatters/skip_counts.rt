@@ -6,7 +6,7 @@ ghost use Rattle.unit_report.specs.SkipCounts.{between, binaries_text, filter_na
 
 use plain_text::style::{Styles, write_plain};
 use plain_text::write_str::{WriteFault, WriteStr};
-use report_text::helpers::plural::{binaries_str, tests_str};
+use report_words::plural::{binaries_str, tests_str};
 use run_model::config::{CompiledDefaultFilter, CompiledDefaultFilterSection, NextestRunMode};
 use run_model::event::SkipCounts;
 

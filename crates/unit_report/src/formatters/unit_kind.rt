@@ -18,7 +18,7 @@ use std::fmt::Formatter;
 /// let kind = DisplayUnitKind::new(NextestRunMode::Benchmark, UnitKind::Test);
 /// assert_eq!(kind.to_string(alloc)?.as_str(), "benchmark");
 /// ```
-#[derive(Clone, Copy, Debug)]
+#[derive(Clone, Copy)]
 pub struct DisplayUnitKind {
     mode: NextestRunMode,
     kind: UnitKind,

@@ -6,7 +6,7 @@ ghost use Rattle.unit_report.specs.Warnings.{due_to, final_warnings, hint_after,
 
 use plain_text::style::{Styles, write_plain};
 use plain_text::write_str::{WriteFault, WriteStr};
-use report_text::helpers::plural::{tests_plural_if, were_plural_if};
+use report_words::plural::{tests_plural_if, were_plural_if};
 use run_model::config::NextestRunMode;
 use run_model::level::CancelReason;
 use run_model::stats::{FinalRunStats, RunStatsFailureKind};

@@ -13,7 +13,7 @@ use std::fmt::Formatter;
 /// use plain_text::style::Style;
 /// assert_eq!(FmtPrefix(Style::BoldRed).to_string(alloc)?.as_str(), "\x1b[31;1m");
 /// ```
-#[derive(Clone, Copy, Debug, PartialEq, Eq)]
+#[derive(Clone, Copy, PartialEq, Eq)]
 pub struct FmtPrefix(pub Style);
 
 impl fmt::Display for FmtPrefix {
@@ -25,7 +25,7 @@ impl fmt::Display for FmtPrefix {
 }
 
 /// Displays what stands after a text in a style: ESC `[0m`, or nothing.
-#[derive(Clone, Copy, Debug, PartialEq, Eq)]
+#[derive(Clone, Copy, PartialEq, Eq)]
 pub struct FmtSuffix(pub Style);
 
 impl fmt::Display for FmtSuffix {

@@ -43,7 +43,7 @@ pub struct ChildOutputSpec {
 }
 
 /// Shows what tests and setup scripts wrote.
-#[derive(Clone, Copy, Debug)]
+#[derive(Clone, Copy)]
 pub struct UnitOutputReporter {
     overrides: OutputDisplayOverrides,
     displayer_kind: DisplayerKind,

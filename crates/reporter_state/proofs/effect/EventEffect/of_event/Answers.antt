@@ -1,5 +1,5 @@
 use Rattle.std.proofs.Common.{subst, sym}
-use Rattle.run_model.specs.Levels.{reason_rank}
+use Rattle.run_names.specs.Levels.{reason_rank}
 use Rattle.test_text.specs.TestFinished.{HasShownOutput}
 use Rattle.reporter_state.proofs.lemmas.Loads.{finish_loaded}
 use Rattle.reporter_state.proofs.effect.EventEffect.of_event.Goals as goal

@@ -42,22 +42,22 @@ returns-in-Err-clause-memory g c = λ config stands is.
     ]
 
 pub returns-in-Ok-finish-clause-same : goal.returns-in-Ok-finish-clause-same
-returns-in-Ok-finish-clause-same g c = same-after c.loop-position.invariant.same c.finish.ensures.same
+returns-in-Ok-finish-clause-same g c = same-after c.loop-position.invariant.same c.finish.ensures.call.same
 
 pub returns-in-Ok-finish-clause-ok : goal.returns-in-Ok-finish-clause-ok
 returns-in-Ok-finish-clause-ok g c =
-    run_ended g.met.W.WriteStr.laws g.met.S.WriteStr.laws c.args.calls.now c.loop-position.position c.loop-position.invariant.tells (omega arith) c.in-Ok-finish.ensures.ok
+    run_ended g.met.W.WriteStr.laws g.met.S.WriteStr.laws c.args.calls.now c.loop-position.position c.loop-position.invariant.tells (omega arith) c.in-Ok-finish.ensures.call.ok
 
 pub returns-in-Ok-finish-clause-accepted : goal.returns-in-Ok-finish-clause-accepted
 returns-in-Ok-finish-clause-accepted g c = λ config stands.
     accepted_to_end config _ c.loop-position.position (omega arith) (c.loop-position.invariant.unrefused config stands)
 
 pub returns-in-Err-finish-clause-same : goal.returns-in-Err-finish-clause-same
-returns-in-Err-finish-clause-same g c = same-after c.loop-position.invariant.same c.finish.ensures.same
+returns-in-Err-finish-clause-same g c = same-after c.loop-position.invariant.same c.finish.ensures.call.same
 
 pub returns-in-Err-finish-clause-err : goal.returns-in-Err-finish-clause-err
 returns-in-Err-finish-clause-err g c =
-    run_unended g.met.W.WriteStr.laws g.met.S.WriteStr.laws c.args.calls.now c.loop-position.position c.loop-position.invariant.tells _ (omega arith) c.in-Err-finish.ensures.err
+    run_unended g.met.W.WriteStr.laws g.met.S.WriteStr.laws c.args.calls.now c.loop-position.position c.loop-position.invariant.tells _ (omega arith) c.in-Err-finish.ensures.call.err
 
 pub returns-in-Err-finish-clause-refused : goal.returns-in-Err-finish-clause-refused
-returns-in-Err-finish-clause-refused g c = λ config stands. refusal_past config c.args.calls.now (length c.args.calls.now) (omega arith) ∙ sym c.in-Err-finish.ensures.unrefused
+returns-in-Err-finish-clause-refused g c = λ config stands. refusal_past config c.args.calls.now (length c.args.calls.now) (omega arith) ∙ sym (c.in-Err-finish.ensures.call.unrefused tt)

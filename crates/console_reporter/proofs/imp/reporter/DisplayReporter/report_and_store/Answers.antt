@@ -22,4 +22,5 @@ returns-in-Err-clause-err g c = record {
   io = search rules;
   store_io = λ is. absurd (console_not_store c.in-Err.error c.in-Err.ensures.of_console (ap Err is));
   memory = search rules;
+  delivered = λ is. absurd (console_not_store c.in-Err.error c.in-Err.ensures.of_console (ap Err is));
 }

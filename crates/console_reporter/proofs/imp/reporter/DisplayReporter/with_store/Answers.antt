@@ -1,5 +1,5 @@
 use Rattle.std.proofs.Common.{ap, sym, ◌∙◌}
-use Rattle.run_model.specs.Levels.{reason_rank}
+use Rattle.run_names.specs.Levels.{reason_rank}
 use Rattle.reporter_state.specs.Entries.{cancel, kept, prefix}
 use Rattle.console_reporter.proofs.imp.reporter.DisplayReporter.with_store.Goals as goal
 

@@ -1,36 +1,22 @@
-use Rattle.std.proofs.Common.{◌≡◌, false, ap, ap₂, Some, subst, sym, ◌∙◌}
+use Rattle.std.proofs.Common.{◌≡◌, rules, false, refl, ap, ap₂, Some, subst, sym, ◌∙◌}
 use Rattle.reporter_state.specs.Refusals.{decider_by, event_refusal}
 use Rattle.reporter_state.specs.Loads.{lacks_output}
 use Rattle.run_model.specs.declared.call.ReportCall.TheVariants.{Event}
 use Rattle.reporter_state.proofs.lemmas.Loads.{lacks_less}
-use Rattle.console_reporter.proofs.lemmas.Refusals.{breaks_refused, none_where_not_some, not_refused, told_is_some}
-use Rattle.console_reporter.proofs.lemmas.WholeLines.{of_lines-text}
+use Rattle.console_reporter.proofs.lemmas.Promises.{promise_broken, promise_failed, promise_refused, promise_told}
+use Rattle.console_reporter.proofs.lemmas.Refusals.{none_where_not_some}
 use Rattle.console_reporter.proofs.imp.reporter.DisplayReporter.write_event.Goals as goal
 
-pub returns-then-self-clause-lines : goal.returns-then-self-clause-lines
-returns-then-self-clause-lines g c = λ config past. of_lines-text config past (Event c.args.event.now)
+pub returns-then-self : goal.returns-then-self
+returns-then-self g c = promise_failed g.W.WriteStr.meaning g.S.WriteStr.meaning c.args.self.now c.args.self.now (Some (Event c.args.event.now)) (search rules)
 
-pub returns-in-Some-clause-lines : goal.returns-in-Some-clause-lines
-returns-in-Some-clause-lines g c = λ config past. of_lines-text config past (Event c.args.event.now)
-
-pub returns-in-Ok-clause-lines : goal.returns-in-Ok-clause-lines
-returns-in-Ok-clause-lines g c = λ config past. of_lines-text config past (Event c.args.event.now)
-
-pub returns-in-Err-clause-lines : goal.returns-in-Err-clause-lines
-returns-in-Err-clause-lines g c = λ config past. of_lines-text config past (Event c.args.event.now)
-
-pub returns-in-Some-clause-err : goal.returns-in-Some-clause-err
-returns-in-Some-clause-err g c = breaks_refused g.W.WriteStr.meaning g.S.WriteStr.meaning c.args.self.now (Some (Event c.args.event.now)) c.in-Some.refusal c.in-Some.ensures.told
-
-pub returns-in-Some-clause-refused : goal.returns-in-Some-clause-refused
-returns-in-Some-clause-refused g c = λ config past stands.
-    c.in-Some.ensures.told
-    ∙ sym c.in-Some.is
+pub returns-in-Some : goal.returns-in-Some
+returns-in-Some g c =
+    promise_refused g.W.WriteStr.meaning g.S.WriteStr.meaning c.args.self.now c.args.self.now (Some (Event c.args.event.now)) c.in-Some.refusal (search rules) c.in-Some.ensures.told (λ never. never)
+    (λ config past stands.
+    sym c.in-Some.is
     ∙ c.refusal_of.ensures.refusal
-    ∙ ap (λ d. event_refusal d c.args.event.now.kind) (c.of_settings-decider.ensures ∙ ap₂ decider_by stands.settings (c.store_config-store.ensures ∙ stands.store))
-
-pub returns-in-Some-clause-fails : goal.returns-in-Some-clause-fails
-returns-in-Some-clause-fails g c = λ none. absurd (told_is_some c.in-Some.refusal c.in-Some.ensures.told none)
+    ∙ ap (λ d. event_refusal d c.args.event.now.kind) (c.of_settings-decider.ensures ∙ ap₂ decider_by stands.settings (c.store_config-store.ensures ∙ stands.store)))
 
 pub report_and_store-requires : goal.report_and_store-requires
 report_and_store-requires g c =
@@ -38,12 +24,33 @@ report_and_store-requires g c =
     (subst (λ d. lacks_output d c.args.event.now.kind ≡ false) c.of_settings-decider.ensures
     (c.refusal_of.ensures.accepted (none_where_not_some c.refusal_of.result c.in_default.not-Some)))
 
-pub returns-in-Err-clause-refused : goal.returns-in-Err-clause-refused
-returns-in-Err-clause-refused g c = λ config past stands.
-    c.in-Err.ensures.unrefused
-    ∙ sym (none_where_not_some c.refusal_of.result c.in_default.not-Some)
+pub returns-in-Ok : goal.returns-in-Ok
+returns-in-Ok g c =
+    promise_told g.W.WriteStr.meaning g.S.WriteStr.meaning c.args.self.now c.report_and_store.new.self (Some (Event c.args.event.now)) (search rules) c.report_and_store.ensures.same
+    (λ config past stands.
+    sym (none_where_not_some c.refusal_of.result c.in_default.not-Some)
     ∙ c.refusal_of.ensures.refusal
-    ∙ ap (λ d. event_refusal d c.args.event.now.kind) (c.of_settings-decider.ensures ∙ ap₂ decider_by stands.settings (c.store_config-store.ensures ∙ stands.store))
+    ∙ ap (λ d. event_refusal d c.args.event.now.kind) (c.of_settings-decider.ensures ∙ ap₂ decider_by stands.settings (c.store_config-store.ensures ∙ stands.store)))
+    c.in-Ok.ensures.ok (λ before. c.in-Ok.ensures.delivered)
 
-pub returns-in-Err-clause-untouched : goal.returns-in-Err-clause-untouched
-returns-in-Err-clause-untouched g c = λ refused. absurd (not_refused c.in-Err.error c.in-Err.ensures.unrefused refused)
+pub returns-in-Err : goal.returns-in-Err
+returns-in-Err g c =
+    let same = c.report_and_store.ensures.same in
+    let broken = c.in-Err.ensures.err in
+    promise_broken g.W.WriteStr.meaning g.S.WriteStr.meaning c.args.self.now _ (Some (Event c.args.event.now)) (search rules)
+    (record { writer = same.writer; store = same.store; settings = same.settings })
+    (λ config past stands.
+    sym (none_where_not_some c.refusal_of.result c.in_default.not-Some)
+    ∙ c.refusal_of.ensures.refusal
+    ∙ ap (λ d. event_refusal d c.args.event.now.kind) (c.of_settings-decider.ensures ∙ ap₂ decider_by stands.settings (c.store_config-store.ensures ∙ stands.store)))
+    c.in-Err.error c.in-Err.ensures.unrefused
+    (record {
+      stopped = broken.stopped;
+      store_stopped = broken.store_stopped;
+      order = broken.order;
+      io = broken.io;
+      store_io = broken.store_io;
+      memory = broken.memory;
+      delivered = broken.delivered;
+    })
+    refl

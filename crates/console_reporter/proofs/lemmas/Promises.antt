@@ -1,0 +1,136 @@
+-- What each call promises, by how it ends (for `DisplayReporter::write_event`, `DisplayReporter::write_replay_header`,
+-- `DisplayReporter::copy_prefix`, `DisplayReporter::finish`).
+use Rattle.std.proofs.Common.{◌≡◌, ◌⊎◌, Bool, true, false, inl, inr, List, [], ◌++◌, Option, None, Some, Ok, Err, IsTrue, refl, sym, subst, ◌∙◌}
+use Rattle.std.specs.Option.{is_some}
+use Rattle.plain_text.specs.Texts.{Text}
+use Rattle.plain_text.specs.Writer.{Meaning, WriterLaws}
+use Rattle.console_reporter.specs.Configuration.{Configuration}
+use Rattle.console_reporter.specs.HeldState.{HasFailed, MayGrowIn, StandsAfter}
+use Rattle.console_reporter.specs.Outcomes.{HasFront}
+use Rattle.console_reporter.specs.Telling.{AreDelivered, Breaks, Delivers, IsNeverRefused, IsSameReporter, Promises, Tells, refusal_for}
+use Rattle.console_reporter.proofs.lemmas.Refusals.{breaks_refused, not_refused, told_none}
+use Rattle.console_reporter.proofs.lemmas.Stores.{same-store, store-laws}
+use Rattle.console_reporter.proofs.lemmas.WholeLines.{of_lines-told}
+use Rattle.run_model.specs.declared.call.ReportCall.{ReportCall}
+use Rattle.run_model.specs.declared.call.ReportCall.TheVariants.{Event, Header, Prefix}
+use Rattle.reporter_state.specs.Refusals.{refusal_in}
+use Rattle.reporter_state.specs.declared.faults.WriteEventError.{WriteEventError}
+use Rattle.reporter_state.specs.declared.faults.WriteEventError.TheVariants.{Failed, Io, Memory, StoreIo}
+use Rattle.console_reporter.specs.declared.imp.reporter.DisplayReporter.{DisplayReporter}
+
+failed_not_io : Failed ≡ Io → ⊥
+failed_not_io is = cc
+
+failed_not_store_io : Failed ≡ StoreIo → ⊥
+failed_not_store_io is = cc
+
+failed_not_memory : Failed ≡ Memory → ⊥
+failed_not_memory is = cc
+
+memory_not_io : Memory ≡ Io → ⊥
+memory_not_io is = cc
+
+memory_not_store_io : Memory ≡ StoreIo → ⊥
+memory_not_store_io is = cc
+
+not_both : (b : Bool) → b ≡ false → b ≡ true → ⊥
+not_both b no yes = cc
+
+none_not_some : is_some {X = WriteEventError} None ≡ true → ⊥
+none_not_some some = cc
+
+-- a reporter that has failed stands after no past
+pub failed_stands : {W S : Type 0} (config : Configuration) (past : List ReportCall) (reporter : DisplayReporter W S) → HasFailed reporter → StandsAfter config past reporter → ⊥
+failed_stands config past reporter failed stands = not_both _ stands.works failed
+
+pub same-reporter : {W S : Type 0} (a : DisplayReporter W S) → IsSameReporter a a
+same-reporter a = record { writer = refl; store = same-store a.store; settings = refl }
+
+module _ {W S : Type 0} (m : Meaning W) (n : Meaning S) (old new : DisplayReporter W S) (call : Option ReportCall) where
+  -- nothing is owed of a reporter that has failed but that it says so and stays
+  pub promise_failed : HasFailed old → Promises m n old call (Err Failed) old
+  promise_failed failed = record {
+    same = same-reporter old;
+    ok = tt;
+    delivered = λ before. tt;
+    err = record {
+      stopped = λ config past stands. absurd (failed_stands config past old failed stands);
+      store_stopped = λ config past stands. absurd (failed_stands config past old failed stands);
+      order = λ config past stands. absurd (failed_stands config past old failed stands);
+      io = λ is. absurd (failed_not_io is);
+      store_io = λ is. absurd (failed_not_store_io is);
+      memory = λ is. absurd (failed_not_memory is);
+      delivered = λ is. absurd (failed_not_store_io is);
+    };
+    lines = λ config past. of_lines-told config past call;
+    refused = λ config past stands. absurd (failed_stands config past old failed stands);
+    unrefused = λ never. refl;
+    untouched = λ some. refl;
+    fails = λ none. failed;
+    failed = λ again. (refl, refl);
+  }
+
+  -- the call is refused
+  pub promise_refused : (e : WriteEventError) → old.state.has_failed ≡ false → refusal_in e ≡ Some e → (IsNeverRefused call → ⊥) →
+      ((config : Configuration) (past : List ReportCall) → StandsAfter config past old → Some e ≡ refusal_for config call) → Promises m n old call (Err e) old
+  promise_refused e works is may why = record {
+    same = same-reporter old;
+    ok = tt;
+    delivered = λ before. tt;
+    err = breaks_refused m n old call e is;
+    lines = λ config past. of_lines-told config past call;
+    refused = λ config past stands. is ∙ why config past stands;
+    unrefused = λ never. absurd (may never);
+    untouched = λ some. refl;
+    fails = λ none. absurd (told_none e is none);
+    failed = λ failed. absurd (not_both _ works failed);
+  }
+
+  module _ (works : old.state.has_failed ≡ false) (same : IsSameReporter old new)
+      (accepted : (config : Configuration) (past : List ReportCall) → StandsAfter config past old → None ≡ refusal_for config call) where
+    -- the call was made
+    pub promise_told : Tells m n old call new → (Delivers call ⊎ AreDelivered m n old → AreDelivered m n new) → Promises m n old call (Ok tt) new
+    promise_told told delivered = record {
+      same = same;
+      ok = told;
+      delivered = delivered;
+      err = tt;
+      lines = λ config past. of_lines-told config past call;
+      refused = accepted;
+      unrefused = λ never. refl;
+      untouched = λ some. absurd (none_not_some some);
+      fails = tt;
+      failed = λ failed. absurd (not_both _ works failed);
+    }
+
+    -- the call was stopped
+    pub promise_broken : (e : WriteEventError) → refusal_in e ≡ None → Breaks m n old call e new → HasFailed new → Promises m n old call (Err e) new
+    promise_broken e none broken failed = record {
+      same = same;
+      ok = tt;
+      delivered = λ before. tt;
+      err = broken;
+      lines = λ config past. of_lines-told config past call;
+      refused = λ config past stands. none ∙ accepted config past stands;
+      unrefused = λ never. none;
+      untouched = λ some. absurd (not_refused e none some);
+      fails = λ is. failed;
+      failed = λ before. absurd (not_both _ works before);
+    }
+
+-- of a text that was not begun nothing was accepted
+nothing_accepted : {S : Type 0} {m : Meaning S} → WriterLaws m → (a b : S) (t : Text) → b ≡ a → HasFront m a t b
+nothing_accepted {S} {m} laws a b t same = record { front = []; rest = t; whole = refl; accepted = subst (λ x. m.accepts a [] x) (sym same) (laws.nothing a) }
+
+-- memory is refused to the reporter itself before a byte of a call is written
+pub memory_broken : {W S : Type 0} {m : Meaning W} {n : Meaning S} → WriterLaws m → WriterLaws n → (old new : DisplayReporter W S) (call : ReportCall) →
+    MayGrowIn old call → new.writer.now ≡ old.writer.now → new.store ≡ old.store → Breaks m n old (Some call) Memory new
+memory_broken {W} {S} {m} {n} laws store_laws old new call grows same same_store = record {
+  stopped = λ config past stands. inr (nothing_accepted laws _ _ _ same);
+  store_stopped = λ config past stands. inr (nothing_accepted (store-laws store_laws) _ _ _ same_store);
+  order = λ config past stands. inl same_store;
+  io = λ is. absurd (memory_not_io is);
+  store_io = λ is. absurd (memory_not_store_io is);
+  memory = λ is. inr (inl grows);
+  delivered = λ is. absurd (memory_not_store_io is);
+}

@@ -1,8 +1,0 @@
-use Rattle.report_text.proofs.lemmas.SplitPaths.{after_shorter, colon_parts}
-use Rattle.report_text.proofs.helpers.paths.split_colon.Goals as goal
-
-pub returns : goal.returns
-returns c = record {
-  parts = colon_parts _ _ c.split_once.ensures.cases;
-  shorter = after_shorter _ _ c.split_once.ensures.cases;
-}

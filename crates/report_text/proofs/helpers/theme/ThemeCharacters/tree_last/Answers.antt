@@ -1,7 +1,0 @@
-use Rattle.std.proofs.Common.{refl}
-use lib.Utf8.{encode}
-use Rattle.report_text.proofs.helpers.theme.ThemeCharacters.tree_last.Goals as goal
-
-pub returns-then-self : goal.returns-then-self
-unfolding encode
-returns-then-self c = rw c.if-self.true refl

@@ -1,0 +1,4 @@
+pub mod Clocks
+pub mod ColourPairs
+pub mod FreeWords
+pub mod SplitPaths

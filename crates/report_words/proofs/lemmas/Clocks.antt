@@ -1,0 +1,39 @@
+-- Hours, minutes and seconds have a column for each byte (for `clock_width`).
+use Rattle.std.proofs.Common.{◌≡◌, ℕ, ◌+◌, ◌/◌, ◌%◌, ◌^◌, ◌<◌, Bool, true, false, [], ◌∷◌, ◌++◌, length, nat_lt, codes, ap, arith, length-append, lit<, if◌then◌else◌}
+use Rattle.std.specs.Fmt.{decimal}
+use Rattle.std.specs.Str.{IsAscii, chars}
+use Rattle.std.proofs.lemmas.Str.{chars-IsAscii, IsAscii-append}
+use Rattle.std.proofs.lemmas.Fmt.{IsAscii-decimal_wide}
+use Rattle.plain_text.proofs.lemmas.Decimals.{IsAscii-cons, IsAscii-none}
+use Rattle.report_words.specs.Durations.{clock_text, leading_zero}
+use Rattle.plain_text.specs.Texts.{Text}
+
+-- a colon and the last two digits of a number
+abbrev colon_digits : ℕ → Text → Text
+colon_digits n rest = 58 ∷ (48 + n / 10 % 10) ∷ (48 + n % 10) ∷ rest
+
+IsAscii-colon_digits : (n : ℕ) (rest : Text) → IsAscii rest → IsAscii (colon_digits n rest)
+IsAscii-colon_digits n rest h =
+    IsAscii-cons 58 ((48 + n / 10 % 10) ∷ (48 + n % 10) ∷ rest) (lit< tt)
+    (IsAscii-cons (48 + n / 10 % 10) ((48 + n % 10) ∷ rest) (omega arith)
+    (IsAscii-cons (48 + n % 10) rest (omega arith) h))
+
+-- minutes and seconds
+abbrev after_hours : ℕ → Text
+after_hours s = colon_digits (s / 60 % 60) (colon_digits (s % 60) [])
+
+IsAscii-zero : (b : Bool) → IsAscii (if b then codes "0" else [])
+IsAscii-zero true = IsAscii-cons 48 [] (lit< tt) IsAscii-none
+IsAscii-zero false = IsAscii-none
+
+-- how many columns they take
+pub clock_columns : (s : ℕ) → s / 60 / 60 < 10 ^ 64 → length (chars (clock_text s)) ≡ length (leading_zero (s / 60 / 60)) + length (decimal (s / 60 / 60)) + 6
+unfolding clock_text
+clock_columns s fits =
+    let hours = s / 60 / 60 in
+    let ascii = IsAscii-append (leading_zero hours) (decimal hours ++ after_hours s) (IsAscii-zero (nat_lt hours 10))
+    (IsAscii-append (decimal hours) (after_hours s) (IsAscii-decimal_wide hours fits) (IsAscii-colon_digits (s / 60 % 60) (colon_digits (s % 60) []) (IsAscii-colon_digits (s % 60) [] IsAscii-none))) in
+    let bytes = ap length (chars-IsAscii (leading_zero hours ++ (decimal hours ++ after_hours s)) ascii) in
+    let first = length-append (leading_zero hours) (decimal hours ++ after_hours s) in
+    let second = length-append (decimal hours) (after_hours s) in
+    omega (arith, bytes, first, second)

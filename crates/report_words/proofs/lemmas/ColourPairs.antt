@@ -1,0 +1,141 @@
+-- A text in colour against a plain one (for the lemmas `colour_pair-..` of the texts above).
+use Rattle.std.proofs.Common.{◌≡◌, Bool, true, false, cond, List, [], ◌∷◌, ◌++◌, refl, sym, ◌∙◌, ap, append_assoc, append-nil}
+use Rattle.std.specs.List.{flat_map}
+use Rattle.plain_text.specs.Texts.{Text}
+use Rattle.plain_text.specs.Alike.{IsAlike}
+use Rattle.plain_text.specs.Escapes.{visible_after, sequence_len, visible, HasNoEscape}
+use Rattle.plain_text.specs.Indent.{indent}
+use Rattle.plain_text.specs.Style.{plain, styled, reset_color, style_prefix, style_suffix}
+use Rattle.plain_text.specs.declared.style.Style.{Style}
+use Rattle.plain_text.specs.declared.style.Style.TheVariants as style
+use Rattle.plain_text.proofs.lemmas.AlikeIndents.{IsBlank, alike-front, alike-line, indent-visible, indent-alike, indent-feed}
+use Rattle.report_words.proofs.lemmas.FreeWords.{frees, free-plain, free-indent}
+use Rattle.plain_text.proofs.lemmas.LineSequences.{visible-line}
+use Rattle.plain_text.proofs.lemmas.Widths.{free_both, visible-free_append}
+
+-- the first text in colour is the second, whatever comes after the two
+pub record IsInColour (c u : Text) : Type 0 where
+  pub joins : (rest : Text) → visible (c ++ rest) ≡ visible c ++ visible rest
+  pub alike : (rest more : Text) → IsAlike rest more → IsAlike (visible c ++ rest) (u ++ more)
+
+-- where the flag says that texts are in colour, the first text in colour is the second; else the second holds no escape character
+pub record IsColourPair (k : Bool) (c u : Text) : Type 0 where
+  pub coloured : k ≡ true → IsInColour c u
+  pub plain : k ≡ false → HasNoEscape u
+
+-- the same of the text of whole lines, to which nothing need be added
+pub record IsColourPairOfLine (k : Bool) (c u : Text) : Type 0 where
+  pub coloured : k ≡ true → IsAlike (visible c) u
+  pub plain : k ≡ false → HasNoEscape u
+
+in_colour-none : IsInColour [] []
+unfolding visible_after
+in_colour-none = record { joins = λ rest. refl; alike = λ rest more h. h }
+
+in_colour-append : (c u d v : Text) → IsInColour c u → IsInColour d v → IsInColour (c ++ d) (u ++ v)
+in_colour-append c u d v h k = record {
+  joins = λ rest. simp append_assoc (h.joins (d ++ rest) ∙ ap (λ t. visible c ++ t) (k.joins rest) ∙ sym (append_assoc (visible c) (visible d) (visible rest)) ∙ ap (λ t. t ++ visible rest) (sym (h.joins d)));
+  alike = λ rest more same. rw h.joins (simp append_assoc (h.alike (visible d ++ rest) (v ++ more) (k.alike rest more same)));
+}
+
+-- what is visible of the text is exactly so, whatever comes after it
+in_colour-exact : (c u : Text) → ((rest : Text) → visible (c ++ rest) ≡ u ++ visible rest) → IsInColour c u
+unfolding visible_after
+in_colour-exact c u h =
+    let whole = ap visible (sym (append-nil c)) ∙ h [] ∙ append-nil u in
+    record {
+      joins = λ rest. h rest ∙ ap (λ t. t ++ visible rest) (sym whole);
+      alike = λ rest more same. rw whole (alike-front u rest more same);
+    }
+
+in_colour-line : (c u : Text) → IsAlike (visible c) u → IsInColour (c ++ 10 ∷ []) (u ++ 10 ∷ [])
+unfolding visible_after
+in_colour-line c u h = record {
+  joins = λ rest. simp append_assoc (rw (visible-line c rest, visible-line c []) (sym (append_assoc (visible c) (10 ∷ []) (visible rest))));
+  alike = λ rest more same. rw visible-line (simp append_assoc (alike-line (visible c) u rest more h same));
+}
+
+pub prefix-append : (s : Style) (u : Text) → visible (style_prefix s ++ u) ≡ visible u
+unfolding visible_after sequence_len
+prefix-append style.Plain u = refl
+prefix-append style.Bold u = refl
+prefix-append style.BoldRed u = refl
+prefix-append style.BoldGreen u = refl
+prefix-append style.BoldYellow u = refl
+prefix-append style.BoldBlue u = refl
+prefix-append style.BoldMagenta u = refl
+prefix-append style.Cyan u = refl
+prefix-append style.BrightBlack u = refl
+
+pub reset-append : (u : Text) → visible (reset_color ++ u) ≡ visible u
+unfolding visible_after sequence_len
+reset-append u = refl
+
+pub suffix-append : (s : Style) (u : Text) → visible (style_suffix s ++ u) ≡ visible u
+suffix-append style.Plain u = refl
+suffix-append style.Bold u = reset-append u
+suffix-append style.BoldRed u = reset-append u
+suffix-append style.BoldGreen u = reset-append u
+suffix-append style.BoldYellow u = reset-append u
+suffix-append style.BoldBlue u = reset-append u
+suffix-append style.BoldMagenta u = reset-append u
+suffix-append style.Cyan u = reset-append u
+suffix-append style.BrightBlack u = reset-append u
+
+wrapped-append : (s : Style) (w u : Text) → HasNoEscape w → visible ((style_prefix s ++ (w ++ style_suffix s)) ++ u) ≡ w ++ visible u
+wrapped-append s w u h = simp append_assoc (prefix-append s (w ++ (style_suffix s ++ u)) ∙ visible-free_append w (style_suffix s ++ u) h ∙ ap (λ t. w ++ t) (suffix-append s u))
+
+-- the text as it stands
+pub colour_pair-whole : (k : Bool) (c u : Text) → IsColourPair k c u → IsColourPairOfLine k c u
+colour_pair-whole k c u h = record { coloured = λ e. simp append-nil at ((h.coloured e).alike [] [] refl); plain = h.plain }
+
+pub colour_pair-none : (k : Bool) → IsColourPair k [] []
+colour_pair-none k = record { coloured = λ e. in_colour-none; plain = λ e. refl }
+
+pub colour_pair-append : (k : Bool) (c u d v : Text) → IsColourPair k c u → IsColourPair k d v → IsColourPair k (c ++ d) (u ++ v)
+colour_pair-append k c u d v h j = record {
+  coloured = λ e. in_colour-append c u d v (h.coloured e) (j.coloured e);
+  plain = λ e. free_both u v (h.plain e) (j.plain e);
+}
+
+pub colour_pair-free : (k : Bool) (t : Text) → HasNoEscape t → IsColourPair k t t
+colour_pair-free k t h = record { coloured = λ e. in_colour-exact t t (λ rest. visible-free_append t rest h); plain = λ e. h }
+
+pub colour_pair-plain : (k : Bool) (t : Text) → HasNoEscape t → IsColourPair k (plain t) (plain t)
+colour_pair-plain k t h = colour_pair-free k (plain t) (free-plain t h)
+
+pub colour_pair-styled : (k : Bool) (s : Style) (t : Text) → HasNoEscape t → IsColourPair k (styled s t) (styled style.Plain t)
+unfolding styled
+colour_pair-styled k s t h = record {
+  coloured = λ e. in_colour-exact _ _ (λ rest. wrapped-append s t rest h ∙ ap (λ x. x ++ visible rest) (sym (append-nil t)));
+  plain = λ e. free_both t [] h refl;
+}
+
+pub colour_pair-if : (k b : Bool) (c u d v : Text) → IsColourPair k c u → IsColourPair k d v → IsColourPair k (cond b c d) (cond b u v)
+colour_pair-if k true c u d v h j = h
+colour_pair-if k false c u d v h j = j
+
+-- a style that a test picks
+pub colour_pair-styled_if : (k b : Bool) (s r : Style) (t : Text) → HasNoEscape t → IsColourPair k (styled (cond b s r) t) (styled (cond b style.Plain style.Plain) t)
+colour_pair-styled_if k true s r t h = colour_pair-styled k s t h
+colour_pair-styled_if k false s r t h = colour_pair-styled k r t h
+
+-- a line whose visible text is alike the plain one
+pub colour_pair-line : (k : Bool) (c u : Text) → IsColourPairOfLine k c u → IsColourPair k (c ++ 10 ∷ []) (u ++ 10 ∷ [])
+colour_pair-line k c u h = record { coloured = λ e. in_colour-line c u (h.coloured e); plain = λ e. free_both u (10 ∷ []) (h.plain e) refl }
+
+-- lines that are indented by spaces
+line-indented : (k : Bool) (p : Text) (b : Bool) (c u : Text) → HasNoEscape p → IsBlank p → IsColourPairOfLine k c u → IsColourPairOfLine k (indent p b c) (indent p b u)
+line-indented k p b c u h blank same = record {
+  coloured = λ e. indent-visible p b c h blank ∙ indent-alike p b (visible c) u blank (same.coloured e);
+  plain = λ e. free-indent p b u h (same.plain e);
+}
+
+pub colour_pair-indented_line : (k : Bool) (p : Text) (b : Bool) (c u : Text) → HasNoEscape p → IsBlank p → IsColourPairOfLine k c u → IsColourPair k (indent p b c ++ 10 ∷ []) (indent p b u ++ 10 ∷ [])
+colour_pair-indented_line k p b c u h blank same = colour_pair-line k (indent p b c) (indent p b u) (line-indented k p b c u h blank same)
+
+pub colour_pair-indent : (k : Bool) (p : Text) (b : Bool) (c u : Text) → HasNoEscape p → IsBlank p → IsColourPairOfLine k c u → IsColourPair k (indent p b (c ++ 10 ∷ [])) (indent p b (u ++ 10 ∷ []))
+colour_pair-indent k p b c u h blank same = rw (indent-feed p b c, indent-feed p b u) (colour_pair-indented_line k p b c u h blank same)
+
+-- what shows of a definition that it is a colour pair, where its parts are
+pub ruleset colour_pairs = (colour_pair-none, colour_pair-append, colour_pair-plain, colour_pair-styled, colour_pair-styled_if, colour_pair-if, frees)

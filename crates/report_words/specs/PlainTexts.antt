@@ -1,0 +1,27 @@
+-- What is handed in for texts without escape characters.
+use Rattle.std.specs.Prelude.{Option, None, Some}
+use Rattle.std.specs.List.{AllByRecursion}
+use Rattle.run_names.specs.ErrorChains.{MessageAndCauses}
+use Rattle.run_names.specs.declared.abort.AbortDescription.{AbortDescription}
+use Rattle.run_names.specs.declared.abort.AbortDescription.TheVariants.{UnixSignal, WindowsNtStatus, WindowsJobObject}
+use Rattle.run_names.specs.declared.name.TestInstanceId.{TestInstanceId}
+use Rattle.plain_text.specs.Escapes.{HasNoEscape}
+
+-- what holds of a value, where there is one
+abbrev pub HoldsIf : {X : Type 0} → (X → Type 0) → Option X → Type 0
+HoldsIf p None = Unit {0}
+HoldsIf p (Some x) = p x
+
+-- the name of a signal and the message of a status hold no escape character
+abbrev pub IsPlainAbort : AbortDescription → Type 0
+IsPlainAbort (UnixSignal signal name) = HoldsIf HasNoEscape name
+IsPlainAbort (WindowsNtStatus code message) = HoldsIf HasNoEscape message
+IsPlainAbort WindowsJobObject = Unit {0}
+
+-- a test's names hold none
+abbrev pub IsPlainInstance : TestInstanceId → Type 0
+IsPlainInstance i = HasNoEscape i.binary_id.now × HasNoEscape i.test_name.now
+
+-- an error's message and those of its causes hold none
+abbrev pub IsPlainChain : MessageAndCauses → Type 0
+IsPlainChain chain = HasNoEscape chain.message × AllByRecursion HasNoEscape chain.causes

@@ -1,8 +1,0 @@
--- What a run leaves out where nothing is configured.
-use Rattle.std.specs.Prelude.{codes}
-use Rattle.run_model.specs.declared.config.CompiledDefaultFilter.{CompiledDefaultFilter}
-use Rattle.run_model.specs.declared.config.CompiledDefaultFilterSection.TheVariants.{Profile}
-
--- the default profile's own filter
-abbrev pub default_config_filter : CompiledDefaultFilter
-default_config_filter = record { profile = codes "default"; section = Profile }

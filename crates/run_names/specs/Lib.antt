@@ -1,0 +1,9 @@
+pub mod Aborts
+pub mod Displays
+pub mod ErrorChains
+pub mod Filters
+pub mod Instances
+pub mod Levels
+pub mod Names
+pub mod Stress
+pub mod UniquePrefixes

@@ -1,0 +1,127 @@
+//! What kind of run it is, and what a profile leaves out.
+
+ghost use Rattle.std.specs.Prelude.{◌≡◌, ◌≢◌, IfOk, MatchOption};
+ghost use Rattle.run_names.specs.Displays.{display_name, is_immediate, is_final};
+ghost use Rattle.run_names.specs.Filters.{default_config_filter};
+ghost use Rattle.run_names.specs.declared.config.TestOutputDisplay.{TestOutputDisplay};
+
+use crate::memory::OutOfMemory;
+use crate::name::ProfileName;
+use std::alloc::Global;
+
+/// Whether a run runs tests or benchmarks.
+#[derive(Clone, Copy, Debug, PartialEq, Eq)]
+pub enum NextestRunMode {
+    /// Tests.
+    Test,
+    /// Benchmarks.
+    Benchmark,
+}
+
+/// When a test's output is shown.
+#[derive(Clone, Copy, Debug, PartialEq, Eq)]
+pub enum TestOutputDisplay {
+    /// As soon as the test has finished.
+    Immediate,
+    /// As soon as the test has finished, and at the end of the run.
+    ImmediateFinal,
+    /// At the end of the run.
+    Final,
+    /// Never.
+    Never,
+}
+
+impl TestOutputDisplay {
+    /// Whether it is shown as soon as the test has finished.
+    ///
+    /// ```
+    /// assert!(TestOutputDisplay::ImmediateFinal.is_immediate());
+    /// ```
+    pub fn is_immediate(self) -> bool
+        ensures { result ≡ is_immediate self }
+    {
+        match self {
+            TestOutputDisplay::Immediate | TestOutputDisplay::ImmediateFinal => true,
+            TestOutputDisplay::Final | TestOutputDisplay::Never => false,
+        }
+    }
+
+    /// Whether it is shown at the end of the run.
+    ///
+    /// ```
+    /// assert!(TestOutputDisplay::ImmediateFinal.is_final());
+    /// ```
+    pub fn is_final(self) -> bool
+        ensures { result ≡ is_final self }
+    {
+        match self {
+            TestOutputDisplay::ImmediateFinal | TestOutputDisplay::Final => true,
+            TestOutputDisplay::Immediate | TestOutputDisplay::Never => false,
+        }
+    }
+
+    /// The name in a configuration: `immediate`, `immediate-final`, `final` or `never`.
+    pub fn name(self) -> &'static str
+        ensures { result.now ≡ display_name self }
+    {
+        match self {
+            TestOutputDisplay::Immediate => "immediate",
+            TestOutputDisplay::ImmediateFinal => "immediate-final",
+            TestOutputDisplay::Final => "final",
+            TestOutputDisplay::Never => "never",
+        }
+    }
+
+    /// The setting of this name, if there is one.
+    ///
+    /// ```
+    /// assert_eq!(TestOutputDisplay::from_name("final"), Some(TestOutputDisplay::Final));
+    /// ```
+    pub fn from_name(name: &str) -> Option<TestOutputDisplay>
+        ensures { MatchOption result ((display : TestOutputDisplay) → name.now ≢ display_name display) (λ display. name.now ≡ display_name display) }
+    {
+        match name {
+            // The setting that most events have comes first.
+            "never" => Some(TestOutputDisplay::Never),
+            "immediate" => Some(TestOutputDisplay::Immediate),
+            "immediate-final" => Some(TestOutputDisplay::ImmediateFinal),
+            "final" => Some(TestOutputDisplay::Final),
+            _ => None,
+        }
+    }
+}
+
+/// Where a profile's default filter stands.
+#[derive(Debug, Drop)]
+pub struct CompiledDefaultFilter {
+    /// The profile.
+    pub profile: ProfileName,
+    /// The profile's own filter, or one of its overrides.
+    pub section: CompiledDefaultFilterSection,
+}
+
+impl CompiledDefaultFilter {
+    /// The filter of the profile `default` itself, nextest's where nothing is configured. It allocates the profile's name.
+    ///
+    /// ```
+    /// let filter = CompiledDefaultFilter::for_default_config(alloc)?;
+    /// assert_eq!(filter.profile.as_str(), "default");
+    /// ```
+    pub fn for_default_config(alloc: Global) -> Result<Self, OutOfMemory>
+        ensures { IfOk result (λ filter. filter ≡ default_config_filter) }
+    {
+        Ok(CompiledDefaultFilter {
+            profile: ProfileName::new(alloc, "default")?,
+            section: CompiledDefaultFilterSection::Profile,
+        })
+    }
+}
+
+/// Which of a profile's default filters it is.
+#[derive(Clone, Copy, Debug, PartialEq, Eq)]
+pub enum CompiledDefaultFilterSection {
+    /// The profile's own.
+    Profile,
+    /// That of an override, by its place.
+    Override(usize),
+}

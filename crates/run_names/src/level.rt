@@ -1,0 +1,145 @@
+//! Which results are shown, and why a run is cancelled.
+//!
+//! The order of the variants is their order: the later one is the greater.
+
+ghost use Rattle.std.specs.Prelude.{◌≡◌, IsTrue, ◌↔◌, ◌<◌, ◌≤◌, ◌-◌, Some};
+ghost use Rattle.run_names.specs.Levels.{reason_rank, reason_words, status_rank, final_rank};
+
+/// The least status level that is shown while the run goes on. Each level shows what those before it show.
+#[derive(Clone, Copy, Debug, PartialEq, Eq, PartialOrd, Ord)]
+pub enum StatusLevel {
+    /// Nothing.
+    None,
+    /// Tests that failed.
+    Fail,
+    /// Attempts that are tried again.
+    Retry,
+    /// Slow tests.
+    Slow,
+    /// Tests that leaked handles.
+    Leak,
+    /// Tests that passed.
+    Pass,
+    /// Tests that were skipped.
+    Skip,
+    /// Everything.
+    All,
+}
+
+impl StatusLevel {
+    /// Whether what has this level is shown where `shown` is the configured level.
+    ///
+    /// ```
+    /// assert!(StatusLevel::Fail.is_shown_at(StatusLevel::Pass));
+    /// ```
+    pub fn is_shown_at(self, shown: StatusLevel) -> bool
+        ensures { IsTrue result ↔ (status_rank self ≤ status_rank shown) }
+    {
+        self <= shown
+    }
+}
+
+/// The least level of a test that the summary lists. Each level shows what those before it show.
+#[derive(Clone, Copy, Debug, PartialEq, Eq, PartialOrd, Ord)]
+pub enum FinalStatusLevel {
+    /// Nothing.
+    None,
+    /// Tests that failed.
+    Fail,
+    /// Tests that passed after earlier attempts.
+    Flaky,
+    /// Slow tests.
+    Slow,
+    /// Tests that were skipped.
+    Skip,
+    /// Tests that leaked handles.
+    Leak,
+    /// Tests that passed.
+    Pass,
+    /// Everything.
+    All,
+}
+
+impl FinalStatusLevel {
+    /// Whether what has this level is listed where `shown` is the configured level.
+    ///
+    /// ```
+    /// assert!(FinalStatusLevel::Fail.is_shown_at(FinalStatusLevel::Flaky));
+    /// ```
+    pub fn is_shown_at(self, shown: FinalStatusLevel) -> bool
+        ensures { IsTrue result ↔ (final_rank self ≤ final_rank shown) }
+    {
+        self <= shown
+    }
+
+    /// How far the level stands below `All`, from 0 for `All` to 7 for `None`. A summary lists by this number, so that
+    /// failures come last, next to the prompt.
+    pub fn below_all(self) -> u8
+        ensures { result ≡ 7 - final_rank self }
+    {
+        match self {
+            FinalStatusLevel::None => 7,
+            FinalStatusLevel::Fail => 6,
+            FinalStatusLevel::Flaky => 5,
+            FinalStatusLevel::Slow => 4,
+            FinalStatusLevel::Skip => 3,
+            FinalStatusLevel::Leak => 2,
+            FinalStatusLevel::Pass => 1,
+            FinalStatusLevel::All => 0,
+        }
+    }
+}
+
+/// Why a run is cancelled. A greater reason replaces a smaller one.
+#[derive(Clone, Copy, Debug, PartialEq, Eq, PartialOrd, Ord)]
+pub enum CancelReason {
+    /// A setup script failed.
+    SetupScriptFailure,
+    /// A test failed, and the tests that run are waited for.
+    TestFailure,
+    /// The report could not be written.
+    ReportError,
+    /// The run took too long.
+    GlobalTimeout,
+    /// A test failed, and the tests that run are terminated.
+    TestFailureImmediate,
+    /// A signal other than an interrupt came.
+    Signal,
+    /// An interrupt came.
+    Interrupt,
+    /// A second signal came, and the tests that run are killed.
+    SecondSignal,
+}
+
+impl CancelReason {
+    /// Whether it replaces the other as the reason of a run.
+    ///
+    /// ```
+    /// assert!(CancelReason::Interrupt.is_above(CancelReason::TestFailure));
+    /// ```
+    pub fn is_above(self, other: CancelReason) -> bool
+        ensures { IsTrue result ↔ (reason_rank (Some other) < reason_rank (Some self)) }
+    {
+        self > other
+    }
+
+    /// The words that a report says it by.
+    ///
+    /// ```
+    /// assert_eq!(CancelReason::TestFailureImmediate.as_str(), "test failure");
+    /// ```
+    pub fn as_str(self) -> &'static str
+        ensures { result.now ≡ reason_words self }
+    {
+        match self {
+            CancelReason::SetupScriptFailure => "setup script failure",
+            CancelReason::TestFailure => "test failure",
+            CancelReason::ReportError => "reporting error",
+            CancelReason::GlobalTimeout => "global timeout",
+            CancelReason::TestFailureImmediate => "test failure",
+            CancelReason::Signal => "signal",
+            CancelReason::Interrupt => "interrupt",
+            CancelReason::SecondSignal => "second signal",
+        }
+    }
+}

@@ -1,0 +1,380 @@
+//! Names, which contracts see as the bytes of their texts.
+
+ghost use Rattle.std.specs.Prelude.{◌≡◌, ◌==◌, IfOk, IsTrue, MatchOption, false};
+ghost use Rattle.std.specs.Ordering.{as_partial_cmp, nat_cmp};
+ghost use Rattle.std.specs.Cmp.{partial_order_from_own_ties};
+ghost use Rattle.std.specs.Cmp.Lexicographic.{pointwise, slice_cmp};
+ghost use Rattle.std.specs.Cmp.Rules.{comparing};
+ghost use Rattle.std.proofs.Common.{rules};
+ghost use Rattle.run_names.specs.Instances.{instance_cmp};
+ghost use Rattle.run_names.specs.Names.{module_path_of, last_name_of, optional_text};
+
+use crate::memory::OutOfMemory;
+use std::alloc::Global;
+use std::cmp::Ordering;
+use std::marker::Model;
+
+/// The id of a test binary, as `alpha` or `alpha::bin/beta`.
+///
+/// ```
+/// let id = RustBinaryId::new(alloc, "alpha::bin/beta")?;
+/// assert_eq!(id.as_str(), "alpha::bin/beta");
+/// ```
+#[derive(Debug, Drop)]
+pub struct RustBinaryId {
+    text: String,
+}
+
+impl Model for RustBinaryId {
+    ghost use Rattle.std.specs.Prelude.{List, ℕ, string_bytes};
+
+    ghost Value = { List ℕ };
+
+    ghost view = { λ id. string_bytes id.text };
+}
+
+impl RustBinaryId {
+    /// Copies the text.
+    pub fn new(alloc: Global, text: &str) -> Result<Self, OutOfMemory>
+        ensures { IfOk result (λ id. id ≡ text.now) }
+    {
+        Ok(RustBinaryId {
+            text: String::from_str(alloc, text)?,
+        })
+    }
+
+    /// The text.
+    pub fn as_str(&self) -> &str
+        ensures { result.now ≡ self.now }
+    {
+        self.text.as_str()
+    }
+}
+
+impl PartialEq for RustBinaryId {
+    ghost eq = { pointwise ◌==◌ };
+
+    ghost laws = { Prim.search (comparing, rules) };
+
+    fn eq(&self, other: &RustBinaryId) -> bool {
+        self.as_str() == other.as_str()
+    }
+}
+
+impl Eq for RustBinaryId {
+    ghost laws = { Prim.search (comparing, rules) };
+}
+
+impl Ord for RustBinaryId {
+    ghost cmp = { slice_cmp nat_cmp };
+
+    ghost total = { Prim.search (comparing, rules) };
+
+    ghost matches_partial_cmp = { Prim.search (comparing, rules) };
+
+    ghost matches_eq = { Prim.search (comparing, rules) };
+
+    // By the bytes of the texts.
+    fn cmp(&self, other: &RustBinaryId) -> Ordering {
+        self.as_str().cmp(&other.as_str())
+    }
+}
+
+impl PartialOrd for RustBinaryId {
+    ghost partial_cmp = { as_partial_cmp (slice_cmp nat_cmp) };
+
+    ghost laws = { partial_order_from_own_ties (Prim.search (comparing, rules)) (Prim.search (comparing, rules)) };
+
+    fn partial_cmp(&self, other: &RustBinaryId) -> Option<Ordering> {
+        Some(self.cmp(other))
+    }
+}
+
+/// The name of a test within its binary, as `module::name`.
+#[derive(Debug, Drop)]
+pub struct TestCaseName {
+    text: String,
+}
+
+impl Model for TestCaseName {
+    ghost use Rattle.std.specs.Prelude.{List, ℕ, string_bytes};
+
+    ghost Value = { List ℕ };
+
+    ghost view = { λ name. string_bytes name.text };
+}
+
+impl TestCaseName {
+    /// Copies the text.
+    pub fn new(alloc: Global, text: &str) -> Result<Self, OutOfMemory>
+        ensures { IfOk result (λ name. name ≡ text.now) }
+    {
+        Ok(TestCaseName {
+            text: String::from_str(alloc, text)?,
+        })
+    }
+
+    /// The text.
+    pub fn as_str(&self) -> &str
+        ensures { result.now ≡ self.now }
+    {
+        self.text.as_str()
+    }
+
+    /// The text cut at its last `::`: the module path, if there is one, and the name in it.
+    ///
+    /// ```
+    /// let name = TestCaseName::new(alloc, "a::b::c")?;
+    /// assert_eq!(name.module_path_and_name(), (Some("a::b"), "c"));
+    /// ```
+    pub fn module_path_and_name(&self) -> (Option<&str>, &str)
+        ensures path { optional_text result.0 ≡ module_path_of self.now }
+        ensures name { result.1.now ≡ last_name_of self.now }
+    {
+        cut_at_last_colons(self.as_str())
+    }
+}
+
+impl PartialEq for TestCaseName {
+    ghost eq = { pointwise ◌==◌ };
+
+    ghost laws = { Prim.search (comparing, rules) };
+
+    fn eq(&self, other: &TestCaseName) -> bool {
+        self.as_str() == other.as_str()
+    }
+}
+
+impl Eq for TestCaseName {
+    ghost laws = { Prim.search (comparing, rules) };
+}
+
+impl Ord for TestCaseName {
+    ghost cmp = { slice_cmp nat_cmp };
+
+    ghost total = { Prim.search (comparing, rules) };
+
+    ghost matches_partial_cmp = { Prim.search (comparing, rules) };
+
+    ghost matches_eq = { Prim.search (comparing, rules) };
+
+    // By the bytes of the texts.
+    fn cmp(&self, other: &TestCaseName) -> Ordering {
+        self.as_str().cmp(&other.as_str())
+    }
+}
+
+impl PartialOrd for TestCaseName {
+    ghost partial_cmp = { as_partial_cmp (slice_cmp nat_cmp) };
+
+    ghost laws = { partial_order_from_own_ties (Prim.search (comparing, rules)) (Prim.search (comparing, rules)) };
+
+    fn partial_cmp(&self, other: &TestCaseName) -> Option<Ordering> {
+        Some(self.cmp(other))
+    }
+}
+
+// The text cut at its last `::`.
+fn cut_at_last_colons(text: &str) -> (Option<&str>, &str)
+    ensures path { optional_text result.0 ≡ module_path_of text.now }
+    ensures name { result.1.now ≡ last_name_of text.now }
+{
+    match text.rsplit_once("::") {
+        Some((module_path, name)) => (Some(module_path), name),
+        None => (None, text),
+    }
+}
+
+/// The name of a profile.
+///
+/// ```
+/// assert_eq!(ProfileName::new(alloc, "ci")?.as_str(), "ci");
+/// ```
+#[derive(Debug, Drop)]
+pub struct ProfileName {
+    text: String,
+}
+
+impl Model for ProfileName {
+    ghost use Rattle.std.specs.Prelude.{List, ℕ, string_bytes};
+
+    ghost Value = { List ℕ };
+
+    ghost view = { λ name. string_bytes name.text };
+}
+
+impl ProfileName {
+    /// Copies the text.
+    pub fn new(alloc: Global, text: &str) -> Result<Self, OutOfMemory>
+        ensures { IfOk result (λ name. name ≡ text.now) }
+    {
+        Ok(ProfileName {
+            text: String::from_str(alloc, text)?,
+        })
+    }
+
+    /// The text.
+    pub fn as_str(&self) -> &str
+        ensures { result.now ≡ self.now }
+    {
+        self.text.as_str()
+    }
+}
+
+/// The id of a setup script.
+///
+/// ```
+/// assert_eq!(ScriptId::new(alloc, "set-up-database")?.as_str(), "set-up-database");
+/// ```
+#[derive(Debug, Drop)]
+pub struct ScriptId {
+    text: String,
+}
+
+impl Model for ScriptId {
+    ghost use Rattle.std.specs.Prelude.{List, ℕ, string_bytes};
+
+    ghost Value = { List ℕ };
+
+    ghost view = { λ id. string_bytes id.text };
+}
+
+impl ScriptId {
+    /// Copies the text.
+    pub fn new(alloc: Global, text: &str) -> Result<Self, OutOfMemory>
+        ensures { IfOk result (λ id. id ≡ text.now) }
+    {
+        Ok(ScriptId {
+            text: String::from_str(alloc, text)?,
+        })
+    }
+
+    /// The text.
+    pub fn as_str(&self) -> &str
+        ensures { result.now ≡ self.now }
+    {
+        self.text.as_str()
+    }
+}
+
+/// The program that a setup script runs, as it was given.
+///
+/// ```
+/// assert_eq!(ProgramName::new(alloc, "./set-up.sh")?.as_str(), "./set-up.sh");
+/// ```
+#[derive(Debug, Drop)]
+pub struct ProgramName {
+    text: String,
+}
+
+impl Model for ProgramName {
+    ghost use Rattle.std.specs.Prelude.{List, ℕ, string_bytes};
+
+    ghost Value = { List ℕ };
+
+    ghost view = { λ program. string_bytes program.text };
+}
+
+impl ProgramName {
+    /// Copies the text.
+    pub fn new(alloc: Global, text: &str) -> Result<Self, OutOfMemory>
+        ensures { IfOk result (λ program. program ≡ text.now) }
+    {
+        Ok(ProgramName {
+            text: String::from_str(alloc, text)?,
+        })
+    }
+
+    /// The text.
+    pub fn as_str(&self) -> &str
+        ensures { result.now ≡ self.now }
+    {
+        self.text.as_str()
+    }
+}
+
+/// A test: its binary's id and its name in it.
+///
+/// Its order is by the bytes of the id, then by those of the name.
+///
+/// ```
+/// let (binary_id, test_name) = (RustBinaryId::new(alloc, "alpha")?, TestCaseName::new(alloc, "t1")?);
+/// let instance = TestInstanceId { binary_id: &binary_id, test_name: &test_name };
+/// assert_eq!(instance.test_name.as_str(), "t1");
+/// ```
+#[derive(Clone, Copy, Debug, PartialEq, Eq)]
+pub struct TestInstanceId<'a> {
+    /// The binary's id.
+    pub binary_id: &'a RustBinaryId,
+    /// The test's name.
+    pub test_name: &'a TestCaseName,
+}
+
+impl Ord for TestInstanceId<'_> {
+    ghost cmp = { instance_cmp };
+
+    ghost total = { Prim.search (comparing, rules) };
+
+    ghost matches_partial_cmp = { Prim.search (comparing, rules) };
+
+    ghost matches_eq = { Prim.search (comparing, rules) };
+
+    fn cmp(&self, other: &TestInstanceId<'_>) -> Ordering {
+        self.binary_id
+            .cmp(other.binary_id)
+            .then(self.test_name.cmp(other.test_name))
+    }
+}
+
+impl PartialOrd for TestInstanceId<'_> {
+    ghost partial_cmp = { as_partial_cmp instance_cmp };
+
+    ghost laws = { partial_order_from_own_ties (Prim.search (comparing, rules)) (Prim.search (comparing, rules)) };
+
+    fn partial_cmp(&self, other: &TestInstanceId<'_>) -> Option<Ordering> {
+        Some(self.cmp(other))
+    }
+}
+
+/// A test whose names are its own.
+#[derive(Debug, Drop)]
+pub struct OwnedTestInstanceId {
+    /// The binary's id.
+    pub binary_id: RustBinaryId,
+    /// The test's name.
+    pub test_name: TestCaseName,
+}
+
+impl OwnedTestInstanceId {
+    /// The test of this name in this binary. It copies both texts.
+    ///
+    /// ```
+    /// let test = OwnedTestInstanceId::new(alloc, "alpha", "parser::empty_input")?;
+    /// assert_eq!(test.test_name.as_str(), "parser::empty_input");
+    /// ```
+    pub fn new(alloc: Global, binary_id: &str, test_name: &str) -> Result<Self, OutOfMemory>
+        ensures binary_id { IfOk result (λ test. test.binary_id ≡ binary_id.now) }
+        ensures test_name { IfOk result (λ test. test.test_name ≡ test_name.now) }
+    {
+        Ok(OwnedTestInstanceId {
+            binary_id: RustBinaryId::new(alloc, binary_id)?,
+            test_name: TestCaseName::new(alloc, test_name)?,
+        })
+    }
+
+    /// The test, its names borrowed.
+    ///
+    /// ```
+    /// let test = OwnedTestInstanceId::new(alloc, "alpha", "t1")?;
+    /// assert_eq!(test.as_ref().binary_id.as_str(), "alpha");
+    /// ```
+    pub fn as_ref(&self) -> TestInstanceId<'_>
+        ensures binary_id { result.binary_id.now ≡ self.now.binary_id }
+        ensures test_name { result.test_name.now ≡ self.now.test_name }
+    {
+        TestInstanceId {
+            binary_id: &self.binary_id,
+            test_name: &self.test_name,
+        }
+    }
+}
