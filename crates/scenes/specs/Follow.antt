@@ -27,25 +27,25 @@ use Rattle.console_reporter.specs.Telling.{AreDelivered, Breaks, Tells, TellsRun
 use Rattle.reporter_state.specs.declared.faults.WriteEventError.{WriteEventError}
 use Rattle.reporter_state.specs.declared.faults.WriteEventError.TheVariants.{RetriedSuccess, OutputNotLoaded, Io, Memory, Failed, StoreIo}
 use Rattle.scene_text.specs.SceneTexts.{AllTell, Told, line_said, lines_before, nothing_told, text_told}
-use Rattle.scene_text.specs.Scenes.{IsCallOf}
-use Rattle.scene_text.specs.Split.{parted}
-use Rattle.scene_text.specs.declared.fault.LineFault.{LineFault}
-use Rattle.scene_text.specs.declared.fault.LineFault.TheVariants as line
+use Rattle.scene_events.specs.Scenes.{IsCallOf}
+use Rattle.scene_fields.specs.Split.{parted}
+use Rattle.scene_fields.specs.declared.fault.LineFault.{LineFault}
+use Rattle.scene_fields.specs.declared.fault.LineFault.TheVariants as line
 use Rattle.scene_text.specs.declared.reader.LineSaid.{LineSaid}
 use Rattle.scene_text.specs.declared.reader.LineSaid.TheVariants as said
 use Rattle.scene_text.specs.declared.reader.LinesBefore.{LinesBefore}
-use Rattle.scene_text.specs.declared.scene.SceneConfig.{SceneConfig}
-use Rattle.scene_text.specs.declared.scene.event.SceneEvent.{SceneEvent}
+use Rattle.scene_events.specs.declared.scene.SceneConfig.{SceneConfig}
+use Rattle.scene_events.specs.declared.scene.event.SceneEvent.{SceneEvent}
 use Rattle.scenes.specs.Judged.{line_fault_for}
 use Rattle.scenes.specs.Reports.{StopsStore, StopsText, configuration_for, fault_for, store_for}
 use Rattle.scenes.specs.SpelledRuns.{PrintsTold}
 use Rattle.scenes.specs.Unloads.{decider_for}
-use Rattle.scenes.specs.declared.fault.Fault.{Fault}
-use Rattle.scenes.specs.declared.fault.Fault.TheVariants as fault
+use Rattle.command_line.specs.declared.fault.Fault.{Fault}
+use Rattle.command_line.specs.declared.fault.Fault.TheVariants as fault
 use Rattle.scenes.specs.declared.follow.Follower.{Follower}
 use Rattle.scenes.specs.declared.follow.RunOutcome.{RunOutcome}
 use Rattle.scenes.specs.declared.follow.RunOutcome.TheVariants as outcome
-use Rattle.scenes.specs.declared.words.Options.{Options}
+use Rattle.command_line.specs.declared.words.Options.{Options}
 
 -- what a run came to by its statistics: one that was cancelled has failed
 abbrev pub outcome_of_single : FinalRunStats → RunOutcome

@@ -4,16 +4,16 @@ use Rattle.std.specs.Io.KnownBytes.{Appends}
 use Rattle.std.specs.List.{AllZip}
 use Rattle.reporter_state.specs.Refusals.{first_refused}
 use Rattle.run_model.specs.declared.call.ReportCall.{ReportCall}
-use Rattle.scenes.specs.Faults.{IsJudgeFault}
+use Rattle.command_line.specs.Faults.{IsJudgeFault}
 use Rattle.scenes.specs.Judged.{IsJudged}
 use Rattle.scenes.specs.Reports.{Begins, IsStop, report_of, stored_of}
 use Rattle.scenes.specs.ToldScenes.{scene_told}
 use Rattle.scene_text.specs.SceneTexts.{Told, text_told}
-use Rattle.scene_text.specs.Scenes.{IsCallOf}
+use Rattle.scene_events.specs.Scenes.{IsCallOf}
 use Rattle.scenes.specs.Unloads.{decider_for}
-use Rattle.scenes.specs.declared.fault.Fault.{Fault}
+use Rattle.command_line.specs.declared.fault.Fault.{Fault}
 use Rattle.scenes.specs.declared.scene.Scene.{Scene}
-use Rattle.scenes.specs.declared.words.Options.{Options}
+use Rattle.command_line.specs.declared.words.Options.{Options}
 
 -- The calls of what lines tell are all accepted; the first device's bytes grew by their report, and the second's by what is stored of
 -- them, which is nothing without a store.

@@ -9,14 +9,14 @@ ghost use Rattle.console_reporter.specs.Telling.{AreDelivered, IsSameReporter};
 ghost use Rattle.plain_text.specs.StringWriter.{string_meaning};
 ghost use Rattle.scenes.specs.Reports.{store_for};
 ghost use Rattle.scenes.specs.Follow.{BreaksOff, BreaksTold, HasFirst, HasNoEvent, HasTold, HasToldTo, IsCountable, IsNextLine, IsRefusedMemory, IsStart, KeepsUp, LeavesEvent, LeavesLine, OfText, PrintsFollowed, ReportsTold, StopsBy, TellsEvent, TellsLine, fault_at_call, outcome_after, outcome_of, status_of_outcome};
-ghost use Rattle.scenes.specs.Pieces.{IsUnread};
+ghost use Rattle.command_line.specs.Pieces.{IsUnread};
 ghost use Rattle.scenes.specs.SpelledRuns.{BeginsTold, PrintsTold};
 
-use crate::fault::{Fault, LineFault};
 use crate::reporter::{builder_of, give_back, give_both_back, surroundings_of};
 use crate::scene::SceneConfig;
 use crate::scene::event::SceneEvent;
-use crate::words::Options;
+use command_line::fault::{Fault, LineFault};
+use command_line::words::Options;
 use console_reporter::imp::{DisplayReporter, ReportCall, WriteEventError};
 use console_reporter::write_str::{TextBuffer, WriteStr};
 use run_model::event::TestEventKind;
@@ -28,10 +28,10 @@ use std::alloc::{AllocError, Global};
 use std::io::{BufRead, Write};
 use store_text::config::StoreConfig;
 
-/// What a run has come to that is followed.
-#[derive(Clone, Copy, Debug, PartialEq, Eq)]
+/// How a followed run stands.
+#[derive(Clone, Copy, PartialEq, Eq)]
 pub enum RunOutcome {
-    /// It has not ended: no line says its end since the last that says a start.
+    /// It has not ended: no end line has come since the last start line.
     NotEnded,
     /// Its end says that all tests ran, and none failed.
     Success,
@@ -72,7 +72,7 @@ impl RunOutcome {
         }
     }
 
-    // What a run has come to that ended with these statistics.
+    // The outcome of a run that ended with these statistics.
     fn of_stats(stats: &RunFinishedStats) -> RunOutcome
         ensures { result ≡ outcome_of stats.now }
     {

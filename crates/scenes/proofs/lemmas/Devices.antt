@@ -11,9 +11,9 @@ use Rattle.run_model.specs.declared.call.ReportCall.{ReportCall}
 use Rattle.run_model.specs.declared.call.ReportCall.TheVariants.{Event, Header, Prefix}
 use Rattle.store_text.specs.declared.config.StoreConfig.{StoreConfig}
 use Rattle.scenes.specs.Reports.{Begins, IsStop, StopsStore, StopsText, store_for}
-use Rattle.scenes.specs.declared.fault.Fault.{Fault}
-use Rattle.scenes.specs.declared.fault.Fault.TheVariants.{Usage, CannotRead, CannotWrite, Line, WriteFailed, StoreFailed, OutOfMemory}
-use Rattle.scenes.specs.declared.words.Options.{Options}
+use Rattle.command_line.specs.declared.fault.Fault.{Fault}
+use Rattle.command_line.specs.declared.fault.Fault.TheVariants.{Usage, CannotRead, CannotWrite, Line, WriteFailed, StoreFailed, OutOfMemory}
+use Rattle.command_line.specs.declared.words.Options.{Options}
 
 module _ {W : Type 0} (contents : W → Option (List ℕ)) (a b : TextBuffer W) (none : a.pending.items ≡ []) (text : List ℕ) where
   -- a beginning of the text was accepted, and of that the device took a beginning

@@ -19,22 +19,22 @@ use Rattle.reporter_state.specs.declared.faults.WriteEventError.{WriteEventError
 use Rattle.reporter_state.specs.declared.faults.WriteEventError.TheVariants.{RetriedSuccess, OutputNotLoaded, Io, Memory, Failed, StoreIo}
 use Rattle.console_reporter.proofs.lemmas.Stores.{store-laws}
 use Rattle.scene_text.specs.SceneTexts.{Told, is_begun, line_said, line_told, lines_before, with_said}
-use Rattle.scene_text.specs.Scenes.{IsCallOf}
-use Rattle.scene_text.specs.declared.fault.LineFault.{LineFault}
-use Rattle.scene_text.specs.declared.fault.LineFault.TheVariants as line
+use Rattle.scene_events.specs.Scenes.{IsCallOf}
+use Rattle.scene_fields.specs.declared.fault.LineFault.{LineFault}
+use Rattle.scene_fields.specs.declared.fault.LineFault.TheVariants as line
 use Rattle.scene_text.specs.declared.reader.LineSaid.{LineSaid}
 use Rattle.scene_text.specs.declared.reader.LineSaid.TheVariants as said
 use Rattle.scene_text.specs.declared.reader.LinesBefore.{LinesBefore}
-use Rattle.scene_text.specs.declared.scene.event.SceneEvent.{SceneEvent}
+use Rattle.scene_events.specs.declared.scene.event.SceneEvent.{SceneEvent}
 use Rattle.scenes.specs.Follow.{AtLine, BreaksEvent, BreaksOff, Follows, HasTold, LeavesEvent, LeavesLine, LeavesSaid, RefusesEvent, StopsBehind, StopsBy, TellsEvent, TellsLine, TellsSaid, fault_at_call, run_outcome}
 use Rattle.scenes.specs.Judged.{line_fault_for}
-use Rattle.scenes.specs.Pieces.{IsUnread}
+use Rattle.command_line.specs.Pieces.{IsUnread}
 use Rattle.scenes.specs.Reports.{StopsStore, StopsText, configuration_for, fault_for}
 use Rattle.scenes.specs.Unloads.{decider_for}
-use Rattle.scenes.specs.declared.fault.Fault.{Fault}
-use Rattle.scenes.specs.declared.fault.Fault.TheVariants as fault
+use Rattle.command_line.specs.declared.fault.Fault.{Fault}
+use Rattle.command_line.specs.declared.fault.Fault.TheVariants as fault
 use Rattle.scenes.specs.declared.follow.Follower.{Follower}
-use Rattle.scenes.specs.declared.words.Options.{Options}
+use Rattle.command_line.specs.declared.words.Options.{Options}
 use Rattle.scenes.proofs.lemmas.ReadLines.{at_more, line_tells}
 use Rattle.scenes.proofs.lemmas.EventCalls.{zip_more}
 use Rattle.scenes.proofs.lemmas.Refusals.{none_more}

@@ -23,18 +23,18 @@ use Rattle.console_reporter.specs.declared.imp.builder.Surroundings.{Surrounding
 use Rattle.console_reporter.specs.declared.imp.reporter.DisplayReporter.{DisplayReporter}
 use Rattle.console_reporter.specs.declared.imp.store.Store.{Store}
 use Rattle.scene_text.specs.SceneTexts.{Told, nothing_told}
-use Rattle.scene_text.specs.Scenes.{IsCallOf}
-use Rattle.scene_text.specs.Split.{parted}
-use Rattle.scene_text.specs.declared.scene.SceneConfig.{SceneConfig}
+use Rattle.scene_events.specs.Scenes.{IsCallOf}
+use Rattle.scene_fields.specs.Split.{parted}
+use Rattle.scene_events.specs.declared.scene.SceneConfig.{SceneConfig}
 use Rattle.scenes.specs.Follow.{BreaksOff, BreaksTold, HasNoEvent, HasTold, HasToldTo, IsRefusedMemory, IsStart, OfText, PrintsFollowed, ReportsTold, StopsBy, run_outcome}
 use Rattle.scenes.specs.Reports.{Begins, StopsStore, builder_for, configuration_for, store_for, surroundings_of}
 use Rattle.scenes.specs.SpelledRuns.{BeginsTold, PrintsTold}
-use Rattle.scenes.specs.declared.fault.Fault.{Fault}
-use Rattle.scenes.specs.declared.fault.Fault.TheVariants as fault
+use Rattle.command_line.specs.declared.fault.Fault.{Fault}
+use Rattle.command_line.specs.declared.fault.Fault.TheVariants as fault
 use Rattle.scenes.specs.declared.follow.Follower.{Follower}
 use Rattle.scenes.specs.declared.follow.RunOutcome.{RunOutcome}
 use Rattle.scenes.specs.declared.follow.RunOutcome.TheVariants as outcome
-use Rattle.scenes.specs.declared.words.Options.{Options}
+use Rattle.command_line.specs.declared.words.Options.{Options}
 use Rattle.scenes.proofs.lemmas.Devices.{nothing_stored, stop_alone, stop_both, store_begins, text_begins, untouched_begins}
 
 -- what holds of the lines before, holds also of what follows from it

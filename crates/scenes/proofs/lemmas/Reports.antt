@@ -23,17 +23,17 @@ use Rattle.reporter_state.specs.declared.decider.OutputLoadDecider.{OutputLoadDe
 use Rattle.reporter_state.specs.declared.faults.WriteEventError.{WriteEventError}
 use Rattle.reporter_state.specs.declared.faults.WriteEventError.TheVariants.{RetriedSuccess, OutputNotLoaded, Io, Memory, Failed, StoreIo}
 use Rattle.run_model.specs.declared.call.ReportCall.{ReportCall}
-use Rattle.scene_text.specs.Scenes.{IsCallOf}
-use Rattle.scene_text.specs.declared.scene.event.SceneEvent.{SceneEvent}
+use Rattle.scene_events.specs.Scenes.{IsCallOf}
+use Rattle.scene_events.specs.declared.scene.event.SceneEvent.{SceneEvent}
 use Rattle.scenes.specs.Follow.{BreaksTold, HasToldTo, run_outcome}
 use Rattle.scenes.specs.Judged.{IsSceneAccepted}
 use Rattle.scenes.specs.Reports.{AreCallsOf, Ends, EndsStore, StopsStore, StopsText, configuration_for, fault_for}
 use Rattle.scenes.specs.ToldScenes.{scene_told}
 use Rattle.scenes.specs.Unloads.{IsReadyCall, decider_for}
-use Rattle.scenes.specs.declared.fault.Fault.{Fault}
-use Rattle.scenes.specs.declared.fault.Fault.TheVariants.{OutOfMemory}
+use Rattle.command_line.specs.declared.fault.Fault.{Fault}
+use Rattle.command_line.specs.declared.fault.Fault.TheVariants.{OutOfMemory}
 use Rattle.scenes.specs.declared.scene.Scene.{Scene}
-use Rattle.scenes.specs.declared.words.Options.{Options}
+use Rattle.command_line.specs.declared.words.Options.{Options}
 use Rattle.scenes.proofs.lemmas.EventCalls.{behind_there, same_first, zip_both, zip_place}
 use Rattle.scenes.proofs.lemmas.Refusals.{none_refused_at}
 

@@ -5,19 +5,19 @@ use Rattle.std.specs.List.{AllZip}
 use Rattle.std.proofs.lemmas.List.{reverse-reverse}
 use Rattle.plain_text.specs.Writer.{Meaning, WriterLaws}
 use Rattle.reporter_state.specs.Refusals.{first_refused}
-use Rattle.scene_text.specs.Scenes.{IsCallOf}
-use Rattle.scenes.specs.Faults.{IsJudgeFault}
+use Rattle.scene_events.specs.Scenes.{IsCallOf}
+use Rattle.command_line.specs.Faults.{IsJudgeFault}
 use Rattle.scenes.specs.Follow.{BreaksTold}
 use Rattle.scenes.specs.Judged.{IsRefusedText, IsSceneAccepted, IsSceneRefused}
 use Rattle.scenes.specs.Unloads.{decider_for}
 use Rattle.scenes.specs.ToldScenes.{scene_told}
 use Rattle.scene_text.specs.SceneTexts.{event_lines, nothing_told, text_told}
-use Rattle.scene_text.specs.Split.{parted}
+use Rattle.scene_fields.specs.Split.{parted}
 use Rattle.scenes.specs.SpelledRuns.{BeginsReport, BeginsRun, IsRejected, PrintsReport, PrintsRun}
-use Rattle.scenes.specs.declared.fault.Fault.{Fault}
-use Rattle.scenes.specs.declared.fault.Fault.TheVariants as fault
+use Rattle.command_line.specs.declared.fault.Fault.{Fault}
+use Rattle.command_line.specs.declared.fault.Fault.TheVariants as fault
 use Rattle.scenes.specs.declared.scene.Scene.{Scene}
-use Rattle.scenes.specs.declared.words.Options.{Options}
+use Rattle.command_line.specs.declared.words.Options.{Options}
 use Rattle.scenes.proofs.lemmas.Devices.{untouched_begins}
 
 -- the fault of a refused call is one of judging
