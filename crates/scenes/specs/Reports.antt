@@ -1,5 +1,6 @@
 -- What the program writes of a scene.
-use Rattle.std.specs.Prelude.{◌≡◌, ℕ, List, reverse, true, false, if◌then◌else◌, Option, Some, ⊤}
+use Rattle.std.specs.Prelude.{◌≡◌, ℕ, List, ◌++◌, reverse, true, false, if◌then◌else◌, Option, Some, ⊤}
+use Rattle.std.specs.Io.KnownBytes.{Appends}
 use Rattle.std.specs.Option.{is_some, option_map}
 use Rattle.std.specs.List.{AllZip}
 use Rattle.run_names.specs.Filters.{default_config_filter}
@@ -123,6 +124,21 @@ StopsStore m old text (Line n f) new = ⊥
 StopsStore m old text WriteFailed new = HasFront m old text new
 StopsStore m old text StoreFailed new = StopsRecord m old text StoreIo new
 StopsStore m old text OutOfMemory new = StopsRecord m old text Memory new
+
+-- of some first calls of a past, and of no more, a writer accepted the texts, and delivered them
+pub record HasFirstCalls {S : Type 0} (m : Meaning S) (texts : List ReportCall → Text) (past : List ReportCall) (old new : S) : Type 0 where
+  pub later : List ReportCall
+  pub earlier : List ReportCall
+  pub is : past ≡ later ++ earlier
+  pub accepted : m.accepts old (texts earlier) new
+  pub delivered : m.is_delivered new
+
+-- the same of a device, where it tells its bytes
+pub record HoldsFirstCalls (texts : List ReportCall → Text) (past : List ReportCall) (old new : Option (List ℕ)) : Type 0 where
+  pub later : List ReportCall
+  pub earlier : List ReportCall
+  pub is : past ≡ later ++ earlier
+  pub grown : Appends old new (texts earlier)
 
 -- a report stops by a fault of its device, of the store's where there is one, or for want of memory
 abbrev pub IsStop : Options → Fault → Type 0

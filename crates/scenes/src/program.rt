@@ -9,7 +9,7 @@ ghost use Rattle.scene_fields.specs.Split.{parted};
 ghost use Rattle.command_line.specs.Faults.{IsJudgeFault};
 ghost use Rattle.console_reporter.specs.HeldState.{StandsAfter};
 ghost use Rattle.console_reporter.specs.Slots.{store_meaning};
-ghost use Rattle.console_reporter.specs.Telling.{IsSameReporter};
+ghost use Rattle.console_reporter.specs.Telling.{AreDelivered, IsSameReporter};
 ghost use Rattle.plain_text.specs.StringWriter.{string_meaning};
 ghost use Rattle.scenes.specs.Follow.{BreaksTold, HasToldTo};
 ghost use Rattle.scenes.specs.Judged.{IsJudged, IsJudgedFault, IsSceneAccepted, IsSceneRefused, JudgesEvent, fault_of_refusal};
@@ -360,6 +360,7 @@ fn report_to<W: WriteStr>(
     writer: &mut W,
 ) -> Result<(), Fault<'static>>
     requires store_asked { store_for options.now ≡ None }
+    requires delivered { W.meaning.is_delivered writer.old }
     requires accepted { IsSceneAccepted options.now scene.now }
     ensures ok { OnOk result (HasToldTo W.meaning (store_meaning string_meaning) options.now writer.old writer.new None None (scene_told scene.now)) }
     ensures err { IfErr result (BreaksTold W.meaning (store_meaning string_meaning) options.now writer.old writer.new None None (scene_told scene.now)) }
@@ -385,6 +386,8 @@ fn report_and_store_to<W: WriteStr, S: WriteStr>(
     store_writer: &mut S,
 ) -> Result<(), Fault<'static>>
     requires store_asked { store_for options.now ≡ Some store }
+    requires delivered { W.meaning.is_delivered writer.old }
+    requires store_delivered { S.meaning.is_delivered store_writer.old }
     requires accepted { IsSceneAccepted options.now scene.now }
     ensures ok { OnOk result (HasToldTo W.meaning S.meaning options.now writer.old writer.new store_writer.old store_writer.new (scene_told scene.now)) }
     ensures err { IfErr result (BreaksTold W.meaning S.meaning options.now writer.old writer.new store_writer.old store_writer.new (scene_told scene.now)) }
@@ -422,6 +425,7 @@ fn report_events<W: WriteStr, S: WriteStr>(
     reporter: &mut DisplayReporter<'_, W, S>,
 ) -> Result<(), Fault<'static>>
     requires stands { StandsAfter (configuration_for options.now scene.now.config) [] reporter.old }
+    requires delivered { AreDelivered W.meaning S.meaning reporter.old }
     requires accepted { IsSceneAccepted options.now scene.now }
     ensures same { IsSameReporter reporter.old reporter.new }
     ensures ok { OnOk result (HasToldTo W.meaning (store_meaning S.meaning) options.now reporter.old.writer.now reporter.new.writer.now reporter.old.store reporter.new.store (scene_told scene.now)) }

@@ -43,6 +43,17 @@ module _ {W : Type 0} (contents : W → Option (List ℕ)) (a b : TextBuffer W) 
   store_begins OutOfMemory (inl h) = λ old new before after. stopped_begins contents a b old new text before after _ none h
   store_begins OutOfMemory (inr h) = front_begins h
 
+-- refused memory is no fault of a device
+pub memory_no_store : OutOfMemory ≡ StoreFailed → ⊥
+memory_no_store is = cc
+
+pub memory_no_device : OutOfMemory ≡ WriteFailed → ⊥
+memory_no_device is = cc
+
+-- nor is a fault of one device one of the other
+pub write_no_store : WriteFailed ≡ StoreFailed → ⊥
+write_no_store is = cc
+
 -- a device that stayed as it was holds the empty beginning
 pub untouched_begins : (before after : Option (List ℕ)) (text : List ℕ) → after ≡ before → Begins before after text
 untouched_begins before after text same = λ old new is_old is_new.

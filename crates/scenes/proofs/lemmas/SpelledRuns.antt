@@ -18,7 +18,7 @@ use Rattle.command_line.specs.declared.fault.Fault.{Fault}
 use Rattle.command_line.specs.declared.fault.Fault.TheVariants as fault
 use Rattle.scenes.specs.declared.scene.Scene.{Scene}
 use Rattle.command_line.specs.declared.words.Options.{Options}
-use Rattle.scenes.proofs.lemmas.Devices.{untouched_begins}
+use Rattle.scenes.proofs.lemmas.Devices.{memory_no_device, memory_no_store, untouched_begins}
 
 -- the fault of a refused call is one of judging
 pub refused_is_judged : (options : Options) (scene : Scene) (file : List ℕ) (f : Fault) → IsSceneRefused options scene f → IsJudgeFault file f
@@ -40,6 +40,8 @@ module _ (options : Options) (scene : Scene) (accepted : IsSceneAccepted options
     stopped = tt;
     begun = untouched_begins before after _ same;
     kept = untouched_begins store_before store_after _ also;
+    whole_text = λ is. absurd (memory_no_store is);
+    whole_records = λ is. absurd (memory_no_device is);
   }
 
   pub unbuilt : {W T : Type 0} (m : Meaning W) (k : Meaning T) (laws : WriterLaws m) (others : WriterLaws k) (old : W) (store_old : T) (f : Fault) → f ≡ fault.OutOfMemory →
@@ -50,6 +52,8 @@ module _ (options : Options) (scene : Scene) (accepted : IsSceneAccepted options
     accepted = subst (λ cs. first_refused (decider_for options scene.config) cs ≡ None) (sym (reverse-reverse accepted.calls)) accepted.accepted;
     stopped = inr (record { front = []; rest = _; whole = refl; accepted = laws.nothing old });
     store_stopped = inr (record { front = []; rest = _; whole = refl; accepted = others.nothing store_old });
+    whole_text = λ is. absurd (memory_no_store is);
+    whole_records = λ is. absurd (memory_no_device is);
   })
 
 module _ (options : Options) (scene : Scene) (text : List ℕ) (old new store_old store_new : Option (List ℕ)) (spelled : text_told text ≡ Ok (scene_told scene)) where
