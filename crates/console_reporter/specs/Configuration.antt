@@ -1,5 +1,5 @@
 -- A configuration of a reporter, and what it comes to.
-use Rattle.std.specs.Prelude.{ℕ, Bool, true, false, Option, None, Some}
+use Rattle.std.specs.Prelude.{ℕ, Bool, false, Option, None, Some}
 use Rattle.run_names.specs.Filters.{default_config_filter}
 use Rattle.run_names.specs.declared.config.NextestRunMode.TheVariants.{Test}
 use Rattle.run_names.specs.declared.level.FinalStatusLevel.TheVariants as final

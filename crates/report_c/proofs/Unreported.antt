@@ -2,9 +2,9 @@
 use Rattle.std.proofs.Common.{ℕ, List, Option, ◌⊎◌, inl, inr}
 use Rattle.report_c.specs.Reported.{IsUnreported, fault_told}
 use Rattle.scenes.specs.SpelledRuns.{BeginsRun, IsRejected}
-use Rattle.scenes.specs.declared.fault.Fault.{Fault}
-use Rattle.scenes.specs.declared.fault.Fault.TheVariants as fault
-use Rattle.scenes.specs.declared.words.Options.{Options}
+use Rattle.command_line.specs.declared.fault.Fault.{Fault}
+use Rattle.command_line.specs.declared.fault.Fault.TheVariants as fault
+use Rattle.command_line.specs.declared.words.Options.{Options}
 
 module _ {W S : Type 0} (options : Options) (text : List ℕ) (old new : W) (store_old store_new : S) (before after store_before store_after : Option (List ℕ)) where
   pub unreported : (f : Fault) → IsRejected options text f old new store_old store_new ⊎ BeginsRun options text f before after store_before store_after → IsUnreported options text (fault_told f)

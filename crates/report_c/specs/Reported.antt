@@ -2,14 +2,14 @@
 use Rattle.std.specs.Prelude.{◌≡◌, ◌==◌, ℕ, ◌<◌, ◌≤◌, if◌then◌else◌, List, [], ◌++◌, length, drop, Option, None, Some, Err, false, ⊤}
 use Rattle.run_names.specs.declared.level.StatusLevel.{StatusLevel}
 use Rattle.run_names.specs.declared.level.StatusLevel.TheVariants as level
-use Rattle.scene_text.specs.declared.fault.LineFault.{LineFault}
-use Rattle.scene_text.specs.declared.fault.ReadFault.{ReadFault}
-use Rattle.scene_text.specs.declared.fault.ReadFault.TheVariants as read
+use Rattle.scene_fields.specs.declared.fault.LineFault.{LineFault}
+use Rattle.scene_fields.specs.declared.fault.ReadFault.{ReadFault}
+use Rattle.scene_fields.specs.declared.fault.ReadFault.TheVariants as read
 use Rattle.scenes.specs.Judged.{IsJudged}
 use Rattle.scenes.specs.SpelledRuns.{PrintsRun}
-use Rattle.scenes.specs.declared.fault.Fault.{Fault}
-use Rattle.scenes.specs.declared.fault.Fault.TheVariants as fault
-use Rattle.scenes.specs.declared.words.Options.{Options}
+use Rattle.command_line.specs.declared.fault.Fault.{Fault}
+use Rattle.command_line.specs.declared.fault.Fault.TheVariants as fault
+use Rattle.command_line.specs.declared.words.Options.{Options}
 use Rattle.report_c.specs.declared.NorigullyOptions.{NorigullyOptions}
 
 -- The status level of a number, from none at 0 to all at 7.

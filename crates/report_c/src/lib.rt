@@ -9,12 +9,12 @@ ghost use Rattle.report_c.specs.Reported.{IsTooLong, IsWritten, IsWrongLine, lev
 mod report;
 
 use report::{options_of, report_of};
-use scene_text::fault::ReadFault;
+use scene_fields::fault::ReadFault;
 use std::alloc::Global;
 
 /// How the report of a scene is shown.
 #[repr(C)]
-#[derive(Clone, Copy, Debug)]
+#[derive(Clone, Copy)]
 pub struct NorigullyOptions {
     /// Whether the report has colours.
     pub should_colorize: bool,
@@ -28,7 +28,7 @@ pub struct NorigullyOptions {
 
 /// What came of a report.
 #[repr(C)]
-#[derive(Clone, Copy, Debug)]
+#[derive(Clone, Copy)]
 pub struct NorigullyOutcome {
     /// How many bytes the report has where the status is 0 or 1, and else 0.
     pub length: usize,

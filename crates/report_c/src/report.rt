@@ -6,7 +6,7 @@ ghost use Rattle.report_c.specs.Reported.{AsksFor, IsUnreported, fault_told, lev
 
 use crate::NorigullyOptions;
 use run_model::level::StatusLevel;
-use scene_text::fault::ReadFault;
+use scene_fields::fault::ReadFault;
 use scenes::fault::Fault;
 use scenes::program::report_scene;
 use scenes::words::Options;

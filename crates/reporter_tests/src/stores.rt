@@ -1,39 +1,23 @@
-//! Reporters with a store. What the tests share: two tests that finished, their report and their records, and reporters.
+//! Reporters with a store. What the tests share: two tests that finished, their report and their records, and runs of reporters.
 
 #[cfg(test)]
 mod faults;
 #[cfg(test)]
 mod growths;
-#[cfg(test)]
-mod loads;
 
-use crate::testing::{attempt, builder_at, failed, finished, run_finished};
+use crate::testing::{ended, line_builder, stats};
 use bytes::Bytes;
-use console_reporter::imp::{
-    DisplayReporter, DisplayReporterBuilder, ReportCall, RunFault, StoreConfig,
-    run_report_with_store,
-};
+use console_reporter::imp::{ReportCall, RunFault, StoreConfig, run_report_with_store};
 use plain_text::write_str::WriteStr;
-use run_model::config::TestOutputDisplay;
 use run_model::event::TestEvent;
-use run_model::level::{FinalStatusLevel, StatusLevel};
-use run_model::name::{OwnedTestInstanceId, TestInstanceId};
-use run_model::output::{ChildOutputDescription, LiveSpec};
-use run_model::status::{ExecuteStatus, ExecutionResultDescription};
+use run_model::memory::OutOfMemory;
+use run_model::name::OwnedTestInstanceId;
+use run_model::output::ChildOutputDescription;
+use run_model::status::ExecuteStatus;
+use run_model::time::Nanos;
 use std::alloc::Global;
-use std::test::Fail;
 
-/// A store that keeps no output, of failures alone, and of all tests.
-pub const NO_OUTPUT: StoreConfig = StoreConfig {
-    store_success_output: false,
-    store_failure_output: false,
-};
-
-pub const OF_FAILURES: StoreConfig = StoreConfig {
-    store_success_output: false,
-    store_failure_output: true,
-};
-
+/// A store that keeps the output of all tests.
 pub const ALL_OUTPUT: StoreConfig = StoreConfig {
     store_success_output: true,
     store_failure_output: true,
@@ -57,7 +41,7 @@ pub const RECORDS: [&str; 3] = [
 ];
 
 /// The two tests.
-pub fn two_tests(alloc: Global) -> Result<[OwnedTestInstanceId; 2], Fail> {
+pub fn two_tests(alloc: Global) -> Result<[OwnedTestInstanceId; 2], OutOfMemory> {
     Ok([
         OwnedTestInstanceId::new(alloc, "alpha", "t1")?,
         OwnedTestInstanceId::new(alloc, "alpha", "mod::t2")?,
@@ -68,62 +52,27 @@ pub fn two_tests(alloc: Global) -> Result<[OwnedTestInstanceId; 2], Fail> {
 pub fn calls_of(
     alloc: Global,
     tests: &[OwnedTestInstanceId; 2],
-) -> Result<Vec<ReportCall<'_>>, Fail> {
+) -> Result<[ReportCall<'_>; 3], OutOfMemory> {
     let [first, second] = tests;
-    let passed = attempt(alloc, 1, 1, ExecutionResultDescription::Pass)?.with_output(output(
-        alloc, b"hi\n", b"",
-    )?);
-    let failed = attempt(alloc, 1, 1, failed())?.with_output(output(alloc, b"", b"boom\n")?);
-    let mut calls = Vec::new(alloc);
-    calls.push(ReportCall::Event(unshown(alloc, first.as_ref(), passed)?))?;
-    calls.push(ReportCall::Event(unshown(alloc, second.as_ref(), failed)?))?;
-    calls.push(ReportCall::Event(run_finished()))?;
-    Ok(calls)
+    let second_of_time = Nanos::from_secs(1);
+    let out = ChildOutputDescription::split(alloc, Bytes::from_static(b"hi\n"), Bytes::new())?;
+    let err = ChildOutputDescription::split(alloc, Bytes::new(), Bytes::from_static(b"boom\n"))?;
+    let passed = ExecuteStatus::passed(second_of_time).with_output(out);
+    let failed = ExecuteStatus::failed(1, second_of_time).with_output(err);
+    Ok([
+        ReportCall::Event(ended(alloc, first.as_ref(), passed)),
+        ReportCall::Event(ended(alloc, second.as_ref(), failed)),
+        ReportCall::Event(TestEvent::run_finished(Nanos::from_secs(3), stats())),
+    ])
 }
 
-// What was captured where this was written to the two streams.
-fn output(
-    alloc: Global,
-    stdout: &'static [u8],
-    stderr: &'static [u8],
-) -> Result<ChildOutputDescription, Fail> {
-    let (stdout, stderr) = (Bytes::from_static(stdout), Bytes::from_static(stderr));
-    Ok(ChildOutputDescription::split(alloc, stdout, stderr)?)
-}
-
-/// A test of one attempt, whose output is never shown.
-pub fn unshown<'a>(
-    alloc: Global,
-    test: TestInstanceId<'a>,
-    status: ExecuteStatus<LiveSpec>,
-) -> Result<TestEvent<'a>, Fail> {
-    let never = TestOutputDisplay::Never;
-    finished(test, vec![in alloc; status]?, never, never)
-}
-
-/// A reporter that shows a line of each test, and in the summary those that failed.
-pub fn line_builder(alloc: Global) -> Result<DisplayReporterBuilder, Fail> {
-    builder_at(alloc, StatusLevel::Pass, FinalStatusLevel::Fail)
-}
-
-/// That reporter with this store. It has no clause, as those of `testing`.
-pub fn reporter_over<'a, W: WriteStr, S: WriteStr>(
-    alloc: Global,
-    report: &'a mut W,
-    records: &'a mut S,
-    store: StoreConfig,
-) -> Result<DisplayReporter<'a, W, S>, Fail> {
-    let builder = line_builder(alloc)?;
-    Ok(builder.build_with_store(alloc, report, records, store, false, false, false, false))
-}
-
-/// Makes calls on that reporter where it stores all output, likewise.
+/// Makes calls on a reporter that stores all output. It has no clause, as those of `testing`.
 pub fn run_over<W: WriteStr, S: WriteStr>(
     alloc: Global,
     report: &mut W,
     records: &mut S,
     calls: &[ReportCall<'_>],
-) -> Result<Result<(), RunFault>, Fail> {
+) -> Result<Result<(), RunFault>, OutOfMemory> {
     let builder = line_builder(alloc)?;
     Ok(run_report_with_store(
         alloc, builder, report, records, ALL_OUTPUT, false, false, false, false, calls,

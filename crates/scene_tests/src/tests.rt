@@ -1,25 +1,19 @@
 //! The program over scenes and writers in memory.
 
-use console_reporter::imp::ReportCall;
-use run_model::event::TestEvent;
 use run_model::level::StatusLevel;
 use scenes::fault::{Fault, FaultLine, LineFault, Program, ReadFault};
 use scenes::program::{judge, report_scene, write_report};
-use scenes::scene::Scene;
 use scenes::words::{Options, StoreOptions, words};
 use std::alloc::Global;
-use std::io;
 use std::io::{ErrorKind, Read, Write};
 use std::test::Fail;
+use std::{io, mem};
 use store_text::config::StoreConfig;
 use test_devices::Device;
 
-mod faults;
 mod growths;
 mod pieces;
 mod stores;
-mod unload;
-mod unshown;
 
 const DONE: &str =
     "done\t-\talpha\tt1\tnever\tnever\tpass\tinitial=2 finished=1 passed=1\t1\tpass\t5000000\t0\tsplit\t\t\t-\t-";
@@ -71,6 +65,35 @@ const OF_TWO_TESTS: &str = "------------
         FAIL [   1.500s] alpha mod::t2
 ";
 
+/// A run that is cancelled twice.
+const CANCELLED: &str = "cancel\t0\t0\tinterrupt\n\
+cancel\t0\t0\tsignal\n\
+done\t-\ta\tt1\tnever\timmediate\tpass\tinitial=2 finished=1 failed=1\t1\tfail:1\t1000000000\t0\tsplit\tboom\\n\t\t-\t-\n\
+end\t2000000000\tinitial=2 finished=1 failed=1 cancel=signal\t0\t-\n";
+
+/// The report of it.
+const OF_CANCELLED: &str = "  Cancelling due to interrupt
+  Cancelling due to signal
+        FAIL [   1.000s] a t1
+------------
+     Summary [   2.000s] 1/2 tests run: 0 passed, 1 failed, 0 skipped
+warning: 1/2 tests were not run due to signal
+";
+
+/// A test that is asked what it does.
+const ASKED: &str =
+    "answer-test\t0\t1\t-\ta\tt1\t1\t1\trunning:42:1500000000:-\t-\tsplit\thi\\n\t\t-\t-\n";
+
+/// The report of that.
+const OF_ASKED: &str = "
+* 1/1:    a t1
+  status: test running for 1.500s as PID 42
+  stdout:
+    hi
+
+
+";
+
 // The texts, as the words of a command line.
 fn words_of(alloc: Global, texts: &[&str]) -> Result<Vec<String>, Fail> {
     let mut args = Vec::with_capacity(alloc, texts.len())?;
@@ -80,45 +103,38 @@ fn words_of(alloc: Global, texts: &[&str]) -> Result<Vec<String>, Fail> {
     Ok(args)
 }
 
-// Judges a scene. It has no clause, as what else calls the program here: the proof of a test would hold the program's clauses for each
-// call.
-fn scene_of(alloc: Global, text: &str) -> Result<Scene, Fault<'static>> {
-    judge(alloc, &OPTIONS, text.as_bytes())
-}
-
-// Reports a scene and stores its records.
+// Reports a scene, and stores its records if the options ask for them. It has no clause: the proof of a test would hold the program's
+// clauses for each call.
 fn report_and_store<R: Read + Drop, W: Write, S: Write>(
     alloc: Global,
+    options: &Options<'static>,
     reader: R,
     writer: W,
     store_writer: S,
 ) -> (Result<(), Fault<'static>>, W, S) {
-    report_scene(alloc, &STORING, reader, writer, store_writer)
+    report_scene(alloc, options, reader, writer, store_writer)
+}
+
+// What reporting a scene to this device answers, once it is read and judged: the scene is not dropped, since what drops one is proved
+// in each crate that does.
+fn report_judged_to(alloc: Global, text: &str, device: &mut Device) -> Result<(), Fault<'static>> {
+    let scene = judge(alloc, &OPTIONS, text.as_bytes())?;
+    let outcome = write_report(alloc, &OPTIONS, &scene, device, io::sink());
+    mem::forget(scene);
+    outcome
 }
 
 #[test]
 fn stops_where_the_device_fails(rt: HostRuntime) -> Result<(), Fail> {
     let alloc = rt.alloc();
-    let scene = scene_of(alloc, TWO_TESTS)?;
     let mut device = Device::with_room(alloc, 10)?;
-    let Err(fault) = write_report(alloc, &OPTIONS, &scene, &mut device, io::sink()) else {
+    let Err(fault) = report_judged_to(alloc, TWO_TESTS, &mut device) else {
         return Err(Fail::from("the device failed"));
     };
     assert_eq!(rt; fault.to_string(alloc)?.as_str(), "write failed");
     assert_eq!(rt; fault.status(), 3);
-    assert_eq!(rt; device.taken(), b"----------".as_slice());
+    assert!(rt; device.taken() == b"----------".as_slice());
     Ok(())
-}
-
-// The event of the only call.
-fn only_event<'c, 'a>(calls: &'c [ReportCall<'a>]) -> Result<&'c TestEvent<'a>, Fail> {
-    match calls {
-        [call] => match call {
-            ReportCall::Event(event) => Ok(event),
-            _ => Err(Fail::from("the call is no event")),
-        },
-        _ => Err(Fail::from("there is one call")),
-    }
 }
 
 // A reader that gives at most seven bytes a read, and fails at one of them.
@@ -159,7 +175,9 @@ fn tells_why_a_file_is_not_read(rt: HostRuntime) -> Result<(), Fail> {
                 kind,
             };
             let texts = (Vec::new(alloc), Vec::new(alloc));
-            let (outcome, printed, stored) = report_and_store(alloc, reader, texts.0, texts.1);
+            let (outcome, printed, stored) = report_and_store(
+                alloc, &STORING, reader, texts.0, texts.1,
+            );
             // It says once behind the last byte, and once more, that nothing is left.
             let is_read = reads_before > text.len().div_ceil(7) + 1;
             assert_eq!(rt; outcome.is_ok(), is_read);
@@ -271,7 +289,7 @@ fn takes_options_in_any_order(rt: HostRuntime) -> Result<(), Fail> {
     ];
     for (texts, options) in lines {
         let args = words_of(rt.alloc(), texts)?;
-        assert_eq!(rt; words(args.as_slice()), Some(options));
+        assert!(rt; words(args.as_slice()) == Some(options));
     }
     Ok(())
 }

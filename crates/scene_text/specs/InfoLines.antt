@@ -1,15 +1,16 @@
 -- What the fields of the lines say that tell what the units of a run are doing.
-use Rattle.scene_text.specs.Counts.{stats_in}
-use Rattle.scene_text.specs.Fields.{◌>>=◌, Line, says, field}
-use Rattle.scene_text.specs.Numbers.{nanos_in, number_in}
+use Rattle.scene_fields.specs.Counts.{stats_in}
+use Rattle.scene_fields.specs.Fields.{◌>>=◌, Line, says, field}
+use Rattle.scene_fields.specs.Numbers.{nanos_in, number_in}
 use Rattle.scene_text.specs.Outputs.{output_fields}
 use Rattle.scene_text.specs.ScriptLines.{script_fields}
-use Rattle.scene_text.specs.States.{result_of, state_in, state_parts_in}
+use Rattle.scene_events.specs.States.{result_of}
+use Rattle.scene_text.specs.States.{state_in, state_parts_in}
 use Rattle.scene_text.specs.TestLines.{retry_fields, test_fields}
-use Rattle.scene_text.specs.Values.{stress_in}
-use Rattle.scene_text.specs.declared.scene.event.SceneEvent.{SceneEvent}
-use Rattle.scene_text.specs.declared.scene.event.SceneEvent.TheVariants as event
-use Rattle.scene_text.specs.declared.scene.info_events.UnitAnswer.{UnitAnswer}
+use Rattle.scene_fields.specs.Values.{stress_in}
+use Rattle.scene_events.specs.declared.scene.event.SceneEvent.{SceneEvent}
+use Rattle.scene_events.specs.declared.scene.event.SceneEvent.TheVariants as event
+use Rattle.scene_events.specs.declared.scene.info_events.UnitAnswer.{UnitAnswer}
 
 -- `info`: how long the run has taken, how many units were asked, and statistics
 unfoldable pub info_line_fields : Line SceneEvent

@@ -1,20 +1,20 @@
 -- The kinds of line that a scene has: the word that each begins with, how many fields follow it, and what they say.
 use Rattle.std.specs.Prelude.{ℕ, List, [], ◌∷◌, bytes_eq, codes, if◌then◌else◌, Some, Err}
-use Rattle.scene_text.specs.Fields.{◌>>=◌, Line, exactly, field, says, with_attempts}
+use Rattle.scene_fields.specs.Fields.{◌>>=◌, Line, exactly, field, says, with_attempts}
 use Rattle.scene_text.specs.InfoLines.{answer_script_line_fields, answer_test_line_fields, info_end_line_fields, info_line_fields}
-use Rattle.scene_text.specs.Numbers.{number_in}
+use Rattle.scene_fields.specs.Numbers.{number_in}
 use Rattle.scene_text.specs.ReplayLines.{header_line_fields, prefix_line_fields}
 use Rattle.scene_text.specs.RunLines.{cancel_line_fields, end_line_fields, input_line_fields, pause_line_fields, run_line_fields}
 use Rattle.scene_text.specs.ScriptLines.{setup_done_line_fields, setup_line_fields, setup_slow_line_fields}
 use Rattle.scene_text.specs.StressLines.{end_stress_line_fields, sub_end_line_fields, sub_start_line_fields}
 use Rattle.scene_text.specs.TestLines.{done_line_fields, retry_line_fields, retry_start_line_fields, skip_line_fields, slow_line_fields, start_line_fields}
-use Rattle.scene_text.specs.Values.{config_key_in, display_in, final_level_in, flag_in, mode_in}
-use Rattle.scene_text.specs.declared.fault.LineFault.TheVariants.{UnknownEvent}
-use Rattle.scene_text.specs.declared.reader.values.ConfigKey.{ConfigKey}
-use Rattle.scene_text.specs.declared.reader.values.ConfigKey.TheVariants as key
-use Rattle.scene_text.specs.declared.scene.SceneConfig.{SceneConfig}
-use Rattle.scene_text.specs.declared.scene.event.SceneEvent.{SceneEvent}
-use Rattle.scene_text.specs.declared.scene.event.SceneEvent.TheVariants as event
+use Rattle.scene_fields.specs.Values.{config_key_in, display_in, final_level_in, flag_in, mode_in}
+use Rattle.scene_fields.specs.declared.fault.LineFault.TheVariants.{UnknownEvent}
+use Rattle.scene_fields.specs.declared.values.ConfigKey.{ConfigKey}
+use Rattle.scene_fields.specs.declared.values.ConfigKey.TheVariants as key
+use Rattle.scene_events.specs.declared.scene.SceneConfig.{SceneConfig}
+use Rattle.scene_events.specs.declared.scene.event.SceneEvent.{SceneEvent}
+use Rattle.scene_events.specs.declared.scene.event.SceneEvent.TheVariants as event
 
 -- the event that is made of what fields say
 abbrev pub made : {X : Type 0} → (X → SceneEvent) → Line X → Line SceneEvent

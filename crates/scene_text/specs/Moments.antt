@@ -1,35 +1,9 @@
 -- Days of the calendar, and times of day to the second.
 use Rattle.std.specs.Prelude.{ℕ, ℤ, List, Bool, ◌&&◌, nat_lt, nat_le, unsigned_abs, if◌then◌else◌, Option, None, Some}
 use Rattle.jiff_core.specs.Calendar.{days_in_month}
-use Rattle.jiff_core.specs.declared.civil.date.Date.{Date}
-use Rattle.jiff_core.specs.declared.civil.datetime.DateTime.{DateTime}
-use Rattle.jiff_core.specs.declared.civil.time.Time.{Time}
-use Rattle.scene_text.specs.Numbers.{code_in, number_in}
-use Rattle.scene_text.specs.Split.{cut}
-
-pub record Day : Type 0 where
-  pub year : ℤ
-  pub month : ℕ
-  pub day : ℕ
-
-pub record Clock : Type 0 where
-  pub hour : ℕ
-  pub minute : ℕ
-  pub second : ℕ
-
-pub record Moment : Type 0 where
-  pub date : Day
-  pub time : Clock
-
--- the parts of a date and of a time, whose part of a second is left out
-abbrev pub day_of : Date → Day
-day_of d = record { year = d.year; month = d.month; day = d.day }
-
-abbrev pub clock_of : Time → Clock
-clock_of t = record { hour = t.hour; minute = t.minute; second = t.second }
-
-abbrev pub moment_of : DateTime → Moment
-moment_of m = record { date = day_of m.date; time = clock_of m.time }
+use Rattle.scene_events.specs.Moments.{Clock, Day, Moment}
+use Rattle.scene_fields.specs.Numbers.{code_in, number_in}
+use Rattle.scene_fields.specs.Split.{cut}
 
 -- the calendar has this day, in a year from -9999 to 9999
 abbrev pub is_day : Day → Bool

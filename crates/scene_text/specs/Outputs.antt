@@ -8,14 +8,14 @@ use Rattle.run_model.specs.declared.output.Highlight.{Highlight}
 use Rattle.run_model.specs.declared.output.HighlightStream.{HighlightStream}
 use Rattle.run_model.specs.declared.output.HighlightStream.TheVariants as stream
 use Rattle.run_model.specs.declared.status.ExecutionResultDescription.{ExecutionResultDescription}
-use Rattle.scene_text.specs.Split.{cut}
-use Rattle.scene_text.specs.Fields.{◌>>=◌, Line, Place, says, field}
-use Rattle.scene_text.specs.Lists.{chain_in, errors_in}
-use Rattle.scene_text.specs.Numbers.{number_in}
-use Rattle.scene_text.specs.SceneAttempts.{silence}
+use Rattle.scene_fields.specs.Split.{cut}
+use Rattle.scene_fields.specs.Fields.{◌>>=◌, Line, Place, says, field}
+use Rattle.scene_fields.specs.Lists.{chain_in, errors_in}
+use Rattle.scene_fields.specs.Numbers.{number_in}
+use Rattle.scene_events.specs.SceneAttempts.{silence}
 use Rattle.run_model.specs.Attempts.{Written}
-use Rattle.scene_text.specs.Texts.{bytes_in}
-use Rattle.scene_text.specs.Values.{of_word, absent_in}
+use Rattle.scene_fields.specs.Texts.{bytes_in}
+use Rattle.scene_fields.specs.Values.{of_word, absent_in}
 use Rattle.scene_text.specs.declared.reader.outputs.OutputForm.{OutputForm}
 use Rattle.scene_text.specs.declared.reader.outputs.OutputForm.TheVariants as form
 

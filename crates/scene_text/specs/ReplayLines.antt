@@ -3,12 +3,12 @@ use Rattle.std.specs.Prelude.{ℕ, List, if◌then◌else◌, Option, None, Some
 use Rattle.std.specs.Option.{option_map}
 use Rattle.uuid.specs.Text.{parsed}
 use Rattle.run_names.specs.UniquePrefixes.{UniquePrefix}
-use Rattle.scene_text.specs.Fields.{◌>>=◌, Line, says, field}
+use Rattle.scene_fields.specs.Fields.{◌>>=◌, Line, says, field}
 use Rattle.scene_text.specs.Moments.{moment_in}
-use Rattle.scene_text.specs.Texts.{text_in}
-use Rattle.scene_text.specs.Values.{absent_in}
-use Rattle.scene_text.specs.declared.scene.event.SceneEvent.{SceneEvent}
-use Rattle.scene_text.specs.declared.scene.event.SceneEvent.TheVariants as event
+use Rattle.scene_fields.specs.Texts.{text_in}
+use Rattle.scene_fields.specs.Values.{absent_in}
+use Rattle.scene_events.specs.declared.scene.event.SceneEvent.{SceneEvent}
+use Rattle.scene_events.specs.declared.scene.event.SceneEvent.TheVariants as event
 
 -- `prefix`: the part of the run's id that no other run has, and the rest
 unfoldable pub prefix_line_fields : Line SceneEvent

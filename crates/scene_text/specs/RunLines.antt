@@ -4,16 +4,16 @@ use Rattle.uuid.specs.Text.{parsed}
 use Rattle.run_names.specs.declared.name.OwnedTestInstanceId.{OwnedTestInstanceId}
 use Rattle.run_names.specs.declared.not_seen.NotSeen.{NotSeen}
 use Rattle.run_model.specs.declared.stats.RunFinishedStats.TheVariants.{Single}
-use Rattle.scene_text.specs.Counts.{skips_in, stats_in}
-use Rattle.scene_text.specs.Fields.{◌>>=◌, Line, says, field}
-use Rattle.scene_text.specs.Lists.{instances_in}
-use Rattle.scene_text.specs.Numbers.{nanos_in, number_in}
-use Rattle.scene_text.specs.Texts.{text_in}
-use Rattle.scene_text.specs.Values.{reason_or_none_in}
-use Rattle.scene_text.specs.declared.scene.event.SceneEvent.{SceneEvent}
-use Rattle.scene_text.specs.declared.scene.event.SceneEvent.TheVariants as event
-use Rattle.scene_text.specs.declared.scene.run_events.RunCancel.{RunCancel}
-use Rattle.scene_text.specs.declared.scene.run_events.RunPause.{RunPause}
+use Rattle.scene_fields.specs.Counts.{skips_in, stats_in}
+use Rattle.scene_fields.specs.Fields.{◌>>=◌, Line, says, field}
+use Rattle.scene_fields.specs.Lists.{instances_in}
+use Rattle.scene_fields.specs.Numbers.{nanos_in, number_in}
+use Rattle.scene_fields.specs.Texts.{text_in}
+use Rattle.scene_fields.specs.Values.{reason_or_none_in}
+use Rattle.scene_events.specs.declared.scene.event.SceneEvent.{SceneEvent}
+use Rattle.scene_events.specs.declared.scene.event.SceneEvent.TheVariants as event
+use Rattle.scene_events.specs.declared.scene.run_events.RunCancel.{RunCancel}
+use Rattle.scene_events.specs.declared.scene.run_events.RunPause.{RunPause}
 
 -- `run`: run id, profile, how many tests and binaries, and what is skipped
 unfoldable pub run_line_fields : Line SceneEvent

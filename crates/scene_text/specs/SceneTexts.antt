@@ -1,22 +1,22 @@
 -- The scene that a text spells, or its first fault.
 use Rattle.std.specs.Prelude.{◌≡◌, ℕ, ◌+◌, List, [], ◌∷◌, ◌++◌, Bool, true, false, ◌==◌, nat_lt, bytes_eq, codes, if◌then◌else◌, Result, Ok, Err, length, ⊤}
 use Rattle.std.specs.Str.{is_utf8}
-use Rattle.scene_text.specs.Configs.{unconfigured}
-use Rattle.scene_text.specs.Split.{parted}
-use Rattle.scene_text.specs.Fields.{Fails, Place, exactly}
+use Rattle.scene_events.specs.Configs.{unconfigured}
+use Rattle.scene_fields.specs.Split.{parted}
+use Rattle.scene_fields.specs.Fields.{Fails, Place, exactly}
 use Rattle.scene_text.specs.Lines.{config_line_fields, event_line_fields}
-use Rattle.scene_text.specs.declared.fault.LineError.{LineError}
-use Rattle.scene_text.specs.declared.fault.LineError.TheVariants as error
-use Rattle.scene_text.specs.declared.fault.LineFault.{LineFault}
-use Rattle.scene_text.specs.declared.fault.LineFault.TheVariants.{NotUtf8, ConfigAfterEvent, WrongNumberOfFields}
-use Rattle.scene_text.specs.declared.fault.ReadFault.{ReadFault}
-use Rattle.scene_text.specs.declared.fault.ReadFault.TheVariants as fault
+use Rattle.scene_fields.specs.declared.fault.LineError.{LineError}
+use Rattle.scene_fields.specs.declared.fault.LineError.TheVariants as error
+use Rattle.scene_fields.specs.declared.fault.LineFault.{LineFault}
+use Rattle.scene_fields.specs.declared.fault.LineFault.TheVariants.{NotUtf8, ConfigAfterEvent, WrongNumberOfFields}
+use Rattle.scene_fields.specs.declared.fault.ReadFault.{ReadFault}
+use Rattle.scene_fields.specs.declared.fault.ReadFault.TheVariants as fault
 use Rattle.scene_text.specs.declared.reader.LineSaid.{LineSaid}
 use Rattle.scene_text.specs.declared.reader.LineSaid.TheVariants as said
 use Rattle.scene_text.specs.declared.reader.LinesBefore.{LinesBefore}
-use Rattle.scene_text.specs.declared.scene.ToldRun.{ToldRun}
-use Rattle.scene_text.specs.declared.scene.SceneConfig.{SceneConfig}
-use Rattle.scene_text.specs.declared.scene.event.SceneEvent.{SceneEvent}
+use Rattle.scene_events.specs.declared.scene.ToldRun.{ToldRun}
+use Rattle.scene_events.specs.declared.scene.SceneConfig.{SceneConfig}
+use Rattle.scene_events.specs.declared.scene.event.SceneEvent.{SceneEvent}
 
 -- what lines tell: the last value of each key, and the events in order
 pub record Told : Type 0 where

@@ -1,13 +1,13 @@
 -- What the fields of the lines of setup scripts say.
-use Rattle.scene_text.specs.Fields.{◌>>=◌, Line, says, field}
-use Rattle.scene_text.specs.Lists.{words_of}
-use Rattle.scene_text.specs.Numbers.{nanos_in, number_in}
+use Rattle.scene_fields.specs.Fields.{◌>>=◌, Line, says, field}
+use Rattle.scene_fields.specs.Lists.{words_of}
+use Rattle.scene_fields.specs.Numbers.{nanos_in, number_in}
 use Rattle.scene_text.specs.TestLines.{attempt_fields, retry_numbered}
-use Rattle.scene_text.specs.Texts.{text_in}
-use Rattle.scene_text.specs.Values.{flag_in, stress_in}
-use Rattle.scene_text.specs.declared.scene.event.SceneEvent.{SceneEvent}
-use Rattle.scene_text.specs.declared.scene.event.SceneEvent.TheVariants as event
-use Rattle.scene_text.specs.declared.scene.script_events.SceneScript.{SceneScript}
+use Rattle.scene_fields.specs.Texts.{text_in}
+use Rattle.scene_fields.specs.Values.{flag_in, stress_in}
+use Rattle.scene_events.specs.declared.scene.event.SceneEvent.{SceneEvent}
+use Rattle.scene_events.specs.declared.scene.event.SceneEvent.TheVariants as event
+use Rattle.scene_events.specs.declared.scene.script_events.SceneScript.{SceneScript}
 
 -- which script it is: its id, the program, and the program's arguments
 unfoldable pub script_fields : Line SceneScript

@@ -2,30 +2,28 @@
 use Rattle.std.specs.Prelude.{ℕ, List, [], ◌∷◌, if◌then◌else◌, Option, None, Some, codes, bytes_eq}
 use Rattle.std.specs.Option.{option_and_then, option_map}
 use Rattle.run_model.specs.Infos.{terminate_reason_text}
-use Rattle.run_model.specs.declared.info.UnitState.{UnitState}
-use Rattle.run_model.specs.declared.info.UnitState.TheVariants as state
 use Rattle.run_model.specs.declared.info.UnitTerminateMethod.TheVariants as method
 use Rattle.run_model.specs.declared.info.UnitTerminateReason.{UnitTerminateReason}
 use Rattle.run_model.specs.declared.info.UnitTerminateReason.TheVariants as reason
 use Rattle.run_model.specs.declared.status.ExecutionResultDescription.{ExecutionResultDescription}
 use Rattle.run_names.specs.declared.time.Nanos.{Nanos}
-use Rattle.scene_text.specs.Numbers.{nanos_in, number_in}
-use Rattle.scene_text.specs.Results.{result_in}
-use Rattle.scene_text.specs.Split.{cut}
-use Rattle.scene_text.specs.Texts.{text_in}
-use Rattle.scene_text.specs.Values.{flag_in, of_word}
+use Rattle.scene_fields.specs.Numbers.{nanos_in, number_in}
+use Rattle.scene_fields.specs.Results.{result_in}
+use Rattle.scene_fields.specs.Split.{cut}
+use Rattle.scene_fields.specs.Texts.{text_in}
+use Rattle.scene_fields.specs.Values.{flag_in, of_word}
 use Rattle.scene_text.specs.declared.reader.states.StateParts.{StateParts}
 use Rattle.scene_text.specs.declared.reader.states.StateParts.TheVariants as parts
 use Rattle.scene_text.specs.declared.reader.states.StateWord.{StateWord}
 use Rattle.scene_text.specs.declared.reader.states.StateWord.TheVariants as word
-use Rattle.scene_text.specs.declared.scene.states.EndedState.{EndedState}
-use Rattle.scene_text.specs.declared.scene.states.EndedState.TheVariants as ended
-use Rattle.scene_text.specs.declared.scene.states.LiveState.{LiveState}
-use Rattle.scene_text.specs.declared.scene.states.LiveState.TheVariants as live
-use Rattle.scene_text.specs.declared.scene.states.SceneState.{SceneState}
-use Rattle.scene_text.specs.declared.scene.states.SceneState.TheVariants as scene
-use Rattle.scene_text.specs.declared.scene.states.Timing.{Timing}
-use Rattle.scene_text.specs.declared.scene.states.Wait.{Wait}
+use Rattle.scene_events.specs.declared.scene.states.EndedState.{EndedState}
+use Rattle.scene_events.specs.declared.scene.states.EndedState.TheVariants as ended
+use Rattle.scene_events.specs.declared.scene.states.LiveState.{LiveState}
+use Rattle.scene_events.specs.declared.scene.states.LiveState.TheVariants as live
+use Rattle.scene_events.specs.declared.scene.states.SceneState.{SceneState}
+use Rattle.scene_events.specs.declared.scene.states.SceneState.TheVariants as scene
+use Rattle.scene_events.specs.declared.scene.states.Timing.{Timing}
+use Rattle.scene_events.specs.declared.scene.states.Wait.{Wait}
 
 -- the next step, where there is a value
 infixl 10 ◌>>=◌
@@ -146,22 +144,3 @@ state_with (parts.Ended state) (Some result) = Some (scene.Ended state result)
 -- the state that the parts make with the result of the field after them
 unfoldable pub state_in : StateParts → List ℕ → Option SceneState
 state_in told t = option_and_then (state_with told) (result_or_none_in t)
-
--- how the attempt ended, where that is told
-abbrev pub result_of : SceneState → Option ExecutionResultDescription
-result_of (scene.Live state result) = result
-result_of (scene.Ended state result) = Some result
-
--- the states as a reporter's
-abbrev pub live_state : LiveState → Option ExecutionResultDescription → UnitState
-live_state (live.Running pid timing) result = state.Running pid timing.time_taken timing.slow_after
-live_state (live.Exiting pid timing wait) result = state.Exiting pid timing.time_taken timing.slow_after result wait.waited wait.remaining
-live_state (live.Terminating terminating) result = state.Terminating terminating
-
-abbrev pub ended_state : EndedState → ExecutionResultDescription → UnitState
-ended_state (ended.Exited timing) result = state.Exited result timing.time_taken timing.slow_after
-ended_state (ended.Delay was_slow wait) result = state.DelayBeforeNextAttempt result was_slow wait.waited wait.remaining
-
-abbrev pub unit_state : SceneState → UnitState
-unit_state (scene.Live state result) = live_state state result
-unit_state (scene.Ended state result) = ended_state state result

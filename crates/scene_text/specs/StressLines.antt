@@ -9,14 +9,14 @@ use Rattle.run_names.specs.declared.stress.StressIndex.{StressIndex}
 use Rattle.run_names.specs.declared.stress.StressProgress.{StressProgress}
 use Rattle.run_names.specs.declared.stress.StressProgress.TheVariants as progress
 use Rattle.run_names.specs.declared.time.Nanos.{Nanos}
-use Rattle.scene_text.specs.Counts.{stats_in}
-use Rattle.scene_text.specs.Fields.{◌>>=◌, Line, says, field}
-use Rattle.scene_text.specs.Numbers.{nanos_in, number_in}
+use Rattle.scene_fields.specs.Counts.{stats_in}
+use Rattle.scene_fields.specs.Fields.{◌>>=◌, Line, says, field}
+use Rattle.scene_fields.specs.Numbers.{nanos_in, number_in}
 use Rattle.scene_text.specs.RunLines.{not_seen_fields}
-use Rattle.scene_text.specs.Split.{cut}
-use Rattle.scene_text.specs.Values.{stress_in, total_in}
-use Rattle.scene_text.specs.declared.scene.event.SceneEvent.{SceneEvent}
-use Rattle.scene_text.specs.declared.scene.event.SceneEvent.TheVariants as event
+use Rattle.scene_fields.specs.Split.{cut}
+use Rattle.scene_fields.specs.Values.{stress_in, total_in}
+use Rattle.scene_events.specs.declared.scene.event.SceneEvent.{SceneEvent}
+use Rattle.scene_events.specs.declared.scene.event.SceneEvent.TheVariants as event
 
 -- `inf`, or how many iterations there are to be, which is not 0
 abbrev pub stress_count_in : List ℕ → Option StressCount

@@ -7,18 +7,18 @@ use Rattle.run_model.specs.declared.status.ExecutionResultDescription.{Execution
 use Rattle.run_model.specs.declared.status.FlakyResult.{FlakyResult}
 use Rattle.run_model.specs.declared.status.RetryData.{RetryData}
 use Rattle.run_names.specs.declared.time.Nanos.{Nanos}
-use Rattle.scene_text.specs.Counts.{stats_in}
-use Rattle.scene_text.specs.Fields.{◌>>=◌, Line, says, field}
-use Rattle.scene_text.specs.Lists.{words_of}
-use Rattle.scene_text.specs.Numbers.{nanos_in, number_in}
+use Rattle.scene_fields.specs.Counts.{stats_in}
+use Rattle.scene_fields.specs.Fields.{◌>>=◌, Line, says, field}
+use Rattle.scene_fields.specs.Lists.{words_of}
+use Rattle.scene_fields.specs.Numbers.{nanos_in, number_in}
 use Rattle.scene_text.specs.Outputs.{output_fields}
-use Rattle.scene_text.specs.Results.{result_in}
-use Rattle.scene_text.specs.Texts.{text_in}
-use Rattle.scene_text.specs.Values.{display_in, flag_in, flaky_in, stress_in}
-use Rattle.scene_text.specs.declared.fault.LineFault.TheVariants.{WrongNumberOfFields}
-use Rattle.scene_text.specs.declared.scene.event.SceneEvent.{SceneEvent}
-use Rattle.scene_text.specs.declared.scene.event.SceneEvent.TheVariants as event
-use Rattle.scene_text.specs.declared.scene.test_events.SceneTest.{SceneTest}
+use Rattle.scene_fields.specs.Results.{result_in}
+use Rattle.scene_fields.specs.Texts.{text_in}
+use Rattle.scene_fields.specs.Values.{display_in, flag_in, flaky_in, stress_in}
+use Rattle.scene_fields.specs.declared.fault.LineFault.TheVariants.{WrongNumberOfFields}
+use Rattle.scene_events.specs.declared.scene.event.SceneEvent.{SceneEvent}
+use Rattle.scene_events.specs.declared.scene.event.SceneEvent.TheVariants as event
+use Rattle.scene_events.specs.declared.scene.test_events.SceneTest.{SceneTest}
 
 -- which test it is: iteration, binary and name
 unfoldable pub test_fields : Line SceneTest

@@ -1,9 +1,10 @@
 //! What the text of a scene tells: a run written as text, one event a line.
 //!
-//! `reader` reads a scene's lines, `scene` holds what they tell, with the calls of a reporter that its events are, and `fault` is
-//! why they cannot be read. No text of a report is known here.
+//! `reader` reads a scene's lines. What a field spells stands in the crate `scene_fields`, and what the lines tell in `scene_events`;
+//! no text of a report is known here.
 #![tactic(auto)]
 
-pub mod fault;
 pub mod reader;
-pub mod scene;
+
+pub use scene_events::scene;
+pub use scene_fields::fault;

@@ -3,55 +3,38 @@
 //! A scene is lines of fields that are parted by tabs. The first field names an event, and what follows it is read by
 //! the kind of the event. Each module knows one thing: `lines` which kinds there are, `test_lines`, `script_lines`,
 //! `stress_lines`, `run_lines`, `info_lines` and `replay_lines` what fields the events of tests, of setup scripts, of stress
-//! runs, of the run and of its units' answers have, and the calls of a replay, `moments` when it was, `values` what each field
-//! may hold, `names` names, `counts` the counts of a field that has several, `results` how an attempt ended, `states` what a
-//! unit is doing, `outputs` what it wrote, `lists` lists of words, `fields` how a line is taken apart, `owned_text` a text
-//! that has its own memory, `marks` where a byte stands, `unescape` how a text is decoded in its own memory, and `split`, `texts` and
-//! `numbers` how those are written.
+//! runs, of the run and of its units' answers have, and the calls of a replay, `moments` when it was, `states` what a unit is
+//! doing, and `outputs` what it wrote.
 
-ghost use Rattle.std.specs.Prelude.{◌≡◌, ◌+◌, ◌++◌, ℕ, List, [], length, IfOk, IfErr, OnOk, Ok};
-ghost use Rattle.scene_text.specs.Split.{parted};
+ghost use Rattle.std.specs.Prelude.{◌≡◌, ◌+◌, ◌++◌, [], length, IfOk, IfErr, OnOk, Ok};
+ghost use Rattle.scene_fields.specs.Split.{parted};
 ghost use Rattle.scene_text.specs.SceneTexts.{AllTell, IsAnswer, IsFaultOf, IsFaultHere, IsFaultThere, IsSaid, IsTold, event_lines, fault_at, is_begun, is_passed_over, line_here, line_said, line_told, lines_told, nothing_told, text_told, told, words_said, words_told};
 
-mod counts;
-mod fields;
 mod info_lines;
 mod lines;
-mod lists;
-mod marks;
 mod moments;
-mod names;
-mod numbers;
 mod outputs;
-mod owned_text;
 mod replay_lines;
-mod results;
 mod run_lines;
 mod script_lines;
-pub mod split;
 mod states;
 mod stress_lines;
 mod test_lines;
-mod texts;
-mod unescape;
-mod values;
 
-use crate::fault::{LineError, LineFault, ReadFault};
-use crate::scene::event::SceneEvent;
-use crate::scene::{SceneConfig, ToldRun};
-use fields::{Fields, split_fields};
 use lines::{read_config, read_event};
 use memchr::memchr;
-use owned_text::OwnedText;
-use split::first_line;
+use scene_events::scene::event::SceneEvent;
+use scene_events::scene::{SceneConfig, ToldRun};
+use scene_fields::fault::{LineError, LineFault, ReadFault};
+pub use scene_fields::fields::LARGE;
+use scene_fields::fields::{Fields, split_fields};
+use scene_fields::owned_text::OwnedText;
+pub use scene_fields::split;
+use scene_fields::split::first_line;
 use std::alloc::Global;
 
-/// How many bytes a line has at least that is to be read with its memory, and an output that keeps that memory: what is shorter is as soon
-/// copied.
-pub const LARGE: usize = 65_536;
-
 /// What a line is read by of the lines before it.
-#[derive(Clone, Copy, Debug)]
+#[derive(Clone, Copy)]
 pub struct LinesBefore {
     /// How they say that the run is reported.
     pub config: SceneConfig,
@@ -60,7 +43,7 @@ pub struct LinesBefore {
 }
 
 /// What a line says.
-#[derive(Debug, Drop)]
+#[derive(Drop)]
 pub enum LineSaid {
     /// Nothing: it is empty, or begins with `#`.
     Nothing,
@@ -100,7 +83,7 @@ pub fn read_scene(alloc: Global, text: &[u8]) -> Result<ToldRun, ReadFault>
 /// assert_eq!(read.next, 3);
 /// assert_eq!(read.run.config.final_status_level, FinalStatusLevel::All);
 /// ```
-#[derive(Debug, Drop)]
+#[derive(Drop)]
 pub struct LinesRead {
     /// What they tell.
     pub run: ToldRun,
@@ -218,7 +201,7 @@ fn read_owned_line(
 
 // Reads a line into the scene. The list is for its fields.
 #[inline(always)]
-#[tactic(auto, unfolding(crate::specs::SceneTexts::line_said, crate::specs::SceneTexts::line_told), using(crate::proofs::lemmas::Utf8::utf8_passes, crate::proofs::lemmas::Utf8::utf8_fails))]
+#[tactic(auto, unfolding(crate::specs::SceneTexts::line_said, crate::specs::SceneTexts::line_told), using(scene_fields::proofs::lemmas::Utf8::utf8_passes, scene_fields::proofs::lemmas::Utf8::utf8_fails))]
 fn tell_line<'a>(
     alloc: Global,
     number: u64,
@@ -321,7 +304,7 @@ fn fault_at(line: u64, error: LineError) -> ReadFault
 /// assert!(matches!(read_line(alloc, b"# no event", before), Ok(LineSaid::Nothing)));
 /// assert!(read_line(alloc, b"config\tfinal\tall", before).is_err()); // it comes too late
 /// ```
-#[tactic(auto, unfolding(crate::specs::SceneTexts::line_said), using(crate::proofs::lemmas::Utf8::utf8_passes, crate::proofs::lemmas::Utf8::utf8_fails))]
+#[tactic(auto, unfolding(crate::specs::SceneTexts::line_said), using(scene_fields::proofs::lemmas::Utf8::utf8_passes, scene_fields::proofs::lemmas::Utf8::utf8_fails))]
 pub fn read_line(alloc: Global, line: &[u8], before: LinesBefore) -> Result<LineSaid, LineError>
     ensures { IsSaid result (line_said before line.now) }
 {

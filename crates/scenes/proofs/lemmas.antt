@@ -4,11 +4,10 @@ pub mod Followed
 pub mod FollowedDevices
 pub mod Heads
 pub mod NoConfig
-pub mod Options
 pub mod Pieces
 pub mod ReadLines
 pub mod Refusals
 pub mod Reports
 pub mod SpelledRuns
-pub mod UnmadeCalls
 pub mod Unloads
+pub mod UnmadeCalls

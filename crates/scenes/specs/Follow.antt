@@ -27,25 +27,25 @@ use Rattle.console_reporter.specs.Telling.{AreDelivered, Breaks, Tells, TellsRun
 use Rattle.reporter_state.specs.declared.faults.WriteEventError.{WriteEventError}
 use Rattle.reporter_state.specs.declared.faults.WriteEventError.TheVariants.{RetriedSuccess, OutputNotLoaded, Io, Memory, Failed, StoreIo}
 use Rattle.scene_text.specs.SceneTexts.{AllTell, Told, line_said, lines_before, nothing_told, text_told}
-use Rattle.scene_text.specs.Scenes.{IsCallOf}
-use Rattle.scene_text.specs.Split.{parted}
-use Rattle.scene_text.specs.declared.fault.LineFault.{LineFault}
-use Rattle.scene_text.specs.declared.fault.LineFault.TheVariants as line
+use Rattle.scene_events.specs.Scenes.{IsCallOf}
+use Rattle.scene_fields.specs.Split.{parted}
+use Rattle.scene_fields.specs.declared.fault.LineFault.{LineFault}
+use Rattle.scene_fields.specs.declared.fault.LineFault.TheVariants as line
 use Rattle.scene_text.specs.declared.reader.LineSaid.{LineSaid}
 use Rattle.scene_text.specs.declared.reader.LineSaid.TheVariants as said
 use Rattle.scene_text.specs.declared.reader.LinesBefore.{LinesBefore}
-use Rattle.scene_text.specs.declared.scene.SceneConfig.{SceneConfig}
-use Rattle.scene_text.specs.declared.scene.event.SceneEvent.{SceneEvent}
+use Rattle.scene_events.specs.declared.scene.SceneConfig.{SceneConfig}
+use Rattle.scene_events.specs.declared.scene.event.SceneEvent.{SceneEvent}
 use Rattle.scenes.specs.Judged.{line_fault_for}
-use Rattle.scenes.specs.Reports.{StopsStore, StopsText, configuration_for, fault_for, store_for}
+use Rattle.scenes.specs.Reports.{HasFirstCalls, StopsStore, StopsText, configuration_for, fault_for, store_for}
 use Rattle.scenes.specs.SpelledRuns.{PrintsTold}
 use Rattle.scenes.specs.Unloads.{decider_for}
-use Rattle.scenes.specs.declared.fault.Fault.{Fault}
-use Rattle.scenes.specs.declared.fault.Fault.TheVariants as fault
+use Rattle.command_line.specs.declared.fault.Fault.{Fault}
+use Rattle.command_line.specs.declared.fault.Fault.TheVariants as fault
 use Rattle.scenes.specs.declared.follow.Follower.{Follower}
 use Rattle.scenes.specs.declared.follow.RunOutcome.{RunOutcome}
 use Rattle.scenes.specs.declared.follow.RunOutcome.TheVariants as outcome
-use Rattle.scenes.specs.declared.words.Options.{Options}
+use Rattle.command_line.specs.declared.words.Options.{Options}
 
 -- what a run came to by its statistics: one that was cancelled has failed
 abbrev pub outcome_of_single : FinalRunStats → RunOutcome
@@ -248,12 +248,15 @@ module _ {W T : Type 0} (m : Meaning W) (k : Meaning T) (options : Options) wher
   HasToldTo old new store_old store_new run = (come_to : RunOutcome) × ReportsTold old new store_old store_new come_to run
 
   -- Those calls are all accepted; this fault stopped their report, of which a beginning was accepted.
-  pub record BreaksTold (old new : W) (store_old store_new : T) (run : Told) (fault : Fault) : Type 0 where
+  pub record BreaksTold (old new : W) (store_old store_new : T) (run : Told) (f : Fault) : Type 0 where
     pub past : List ReportCall
     pub of_run : AllZip IsCallOf run.events (reverse past)
     pub accepted : first_refused (decider_for options run.config) (reverse past) ≡ None
-    pub stopped : StopsText m old (report (configuration_for options run.config) past) fault new
-    pub store_stopped : StopsStore k store_old (stored (store_for options) past) fault store_new
+    pub stopped : StopsText m old (report (configuration_for options run.config) past) f new
+    pub store_stopped : StopsStore k store_old (stored (store_for options) past) f store_new
+    -- a fault of the second writer lets the whole text of each call stand that the first one got, and one of the first the whole records
+    pub whole_text : f ≡ fault.StoreFailed → HasFirstCalls m (report (configuration_for options run.config)) past old new
+    pub whole_records : f ≡ fault.WriteFailed → HasFirstCalls k (stored (store_for options)) past store_old store_new
 
 module _ {W S : Type 0} (m : Meaning W) (n : Meaning S) (options : Options) where
   -- a follower that has told nothing yet

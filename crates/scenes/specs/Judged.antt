@@ -8,17 +8,17 @@ use Rattle.reporter_state.specs.declared.faults.WriteEventError.{WriteEventError
 use Rattle.reporter_state.specs.declared.faults.WriteEventError.TheVariants.{RetriedSuccess, OutputNotLoaded, Io, Memory, Failed, StoreIo}
 use Rattle.scenes.specs.Reports.{AreCallsOf}
 use Rattle.scene_text.specs.SceneTexts.{event_lines, nothing_told, text_told}
-use Rattle.scene_text.specs.Split.{parted}
-use Rattle.scene_text.specs.Scenes.{IsCallOf}
-use Rattle.scene_text.specs.declared.scene.event.SceneEvent.{SceneEvent}
+use Rattle.scene_fields.specs.Split.{parted}
+use Rattle.scene_events.specs.Scenes.{IsCallOf}
+use Rattle.scene_events.specs.declared.scene.event.SceneEvent.{SceneEvent}
 use Rattle.scenes.specs.Unloads.{decider_for}
-use Rattle.scenes.specs.declared.fault.Fault.{Fault}
-use Rattle.scenes.specs.declared.fault.Fault.TheVariants as fault
-use Rattle.scene_text.specs.declared.fault.LineFault.{LineFault}
-use Rattle.scene_text.specs.declared.fault.LineFault.TheVariants as line
+use Rattle.command_line.specs.declared.fault.Fault.{Fault}
+use Rattle.command_line.specs.declared.fault.Fault.TheVariants as fault
+use Rattle.scene_fields.specs.declared.fault.LineFault.{LineFault}
+use Rattle.scene_fields.specs.declared.fault.LineFault.TheVariants as line
 use Rattle.scenes.specs.ToldScenes.{IsReadFault, IsSceneRead, scene_told}
 use Rattle.scenes.specs.declared.scene.Scene.{Scene}
-use Rattle.scenes.specs.declared.words.Options.{Options}
+use Rattle.command_line.specs.declared.words.Options.{Options}
 
 -- no call of the scene is refused
 pub record IsSceneAccepted (options : Options) (scene : Scene) : Type 0 where

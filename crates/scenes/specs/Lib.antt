@@ -1,9 +1,6 @@
-pub mod Faults
 pub mod Follow
 pub mod Judged
-pub mod Pieces
 pub mod Reports
 pub mod SpelledRuns
 pub mod ToldScenes
 pub mod Unloads
-pub mod Words

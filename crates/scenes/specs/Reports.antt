@@ -1,5 +1,6 @@
 -- What the program writes of a scene.
-use Rattle.std.specs.Prelude.{◌≡◌, ℕ, List, reverse, true, false, if◌then◌else◌, Option, Some, ⊤}
+use Rattle.std.specs.Prelude.{◌≡◌, ℕ, List, ◌++◌, reverse, true, false, if◌then◌else◌, Option, Some, ⊤}
+use Rattle.std.specs.Io.KnownBytes.{Appends}
 use Rattle.std.specs.Option.{is_some, option_map}
 use Rattle.std.specs.List.{AllZip}
 use Rattle.run_names.specs.Filters.{default_config_filter}
@@ -21,12 +22,12 @@ use Rattle.console_reporter.specs.declared.imp.builder.Surroundings.{Surrounding
 use Rattle.run_model.specs.declared.call.ReportCall.{ReportCall}
 use Rattle.reporter_state.specs.declared.faults.WriteEventError.{WriteEventError}
 use Rattle.reporter_state.specs.declared.faults.WriteEventError.TheVariants.{RetriedSuccess, OutputNotLoaded, Io, Memory, Failed, StoreIo}
-use Rattle.scene_text.specs.Scenes.{IsCallOf}
-use Rattle.scene_text.specs.declared.scene.SceneConfig.{SceneConfig}
-use Rattle.scenes.specs.declared.fault.Fault.{Fault}
-use Rattle.scenes.specs.declared.fault.Fault.TheVariants.{Usage, CannotRead, CannotWrite, Line, WriteFailed, StoreFailed, OutOfMemory}
+use Rattle.scene_events.specs.Scenes.{IsCallOf}
+use Rattle.scene_events.specs.declared.scene.SceneConfig.{SceneConfig}
+use Rattle.command_line.specs.declared.fault.Fault.{Fault}
+use Rattle.command_line.specs.declared.fault.Fault.TheVariants.{Usage, CannotRead, CannotWrite, Line, WriteFailed, StoreFailed, OutOfMemory}
 use Rattle.scenes.specs.declared.scene.Scene.{Scene}
-use Rattle.scenes.specs.declared.words.Options.{Options}
+use Rattle.command_line.specs.declared.words.Options.{Options}
 
 -- the calls of a scene: for each event one, in order
 abbrev pub AreCallsOf : Scene → List ReportCall → Type 0
@@ -123,6 +124,21 @@ StopsStore m old text (Line n f) new = ⊥
 StopsStore m old text WriteFailed new = HasFront m old text new
 StopsStore m old text StoreFailed new = StopsRecord m old text StoreIo new
 StopsStore m old text OutOfMemory new = StopsRecord m old text Memory new
+
+-- of some first calls of a past, and of no more, a writer accepted the texts, and delivered them
+pub record HasFirstCalls {S : Type 0} (m : Meaning S) (texts : List ReportCall → Text) (past : List ReportCall) (old new : S) : Type 0 where
+  pub later : List ReportCall
+  pub earlier : List ReportCall
+  pub is : past ≡ later ++ earlier
+  pub accepted : m.accepts old (texts earlier) new
+  pub delivered : m.is_delivered new
+
+-- the same of a device, where it tells its bytes
+pub record HoldsFirstCalls (texts : List ReportCall → Text) (past : List ReportCall) (old new : Option (List ℕ)) : Type 0 where
+  pub later : List ReportCall
+  pub earlier : List ReportCall
+  pub is : past ≡ later ++ earlier
+  pub grown : Appends old new (texts earlier)
 
 -- a report stops by a fault of its device, of the store's where there is one, or for want of memory
 abbrev pub IsStop : Options → Fault → Type 0

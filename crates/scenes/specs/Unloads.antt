@@ -6,12 +6,12 @@ use Rattle.console_reporter.specs.Isolation.{IsIsolated}
 use Rattle.reporter_state.specs.Unread.{unread, unread_call}
 use Rattle.run_model.specs.declared.call.ReportCall.{ReportCall}
 use Rattle.reporter_state.specs.declared.decider.OutputLoadDecider.{OutputLoadDecider}
-use Rattle.scene_text.specs.Scenes.{IsCallOf}
-use Rattle.scene_text.specs.declared.scene.SceneConfig.{SceneConfig}
-use Rattle.scene_text.specs.declared.scene.event.SceneEvent.{SceneEvent}
+use Rattle.scene_events.specs.Scenes.{IsCallOf}
+use Rattle.scene_events.specs.declared.scene.SceneConfig.{SceneConfig}
+use Rattle.scene_events.specs.declared.scene.event.SceneEvent.{SceneEvent}
 use Rattle.scenes.specs.Reports.{AreCallsOf, configuration_for}
 use Rattle.scenes.specs.declared.scene.Scene.{Scene}
-use Rattle.scenes.specs.declared.words.Options.{Options}
+use Rattle.command_line.specs.declared.words.Options.{Options}
 
 -- what the scene's reporter decides by
 abbrev pub decider_for : Options → SceneConfig → OutputLoadDecider

@@ -3,20 +3,22 @@
 //! The lines up to the first event say how the run is reported. From there on a line is read, its event's text is written and
 //! delivered, and then the next is read. What is held is what the summary will list, and one line.
 
-ghost use Rattle.std.specs.Prelude.{◌≡◌, ◌+◌, ◌<◌, ℕ, List, None, Some, IfOk, IfErr, OnOk};
+ghost use Rattle.std.specs.Prelude.{◌≡◌, ◌+◌, ◌<◌, ℕ, List, None, Some, Ok, IfOk, IfErr, OnOk};
+ghost use Rattle.console_reporter.specs.HeldState.{HasFailed};
 ghost use Rattle.console_reporter.specs.Slots.{store_meaning};
 ghost use Rattle.console_reporter.specs.Telling.{AreDelivered, IsSameReporter};
 ghost use Rattle.plain_text.specs.StringWriter.{string_meaning};
 ghost use Rattle.scenes.specs.Reports.{store_for};
-ghost use Rattle.scenes.specs.Follow.{BreaksOff, BreaksTold, HasFirst, HasNoEvent, HasTold, HasToldTo, IsCountable, IsNextLine, IsRefusedMemory, IsStart, KeepsUp, LeavesEvent, LeavesLine, OfText, PrintsFollowed, ReportsTold, StopsBy, TellsEvent, TellsLine, fault_at_call, outcome_after, outcome_of, status_of_outcome};
-ghost use Rattle.scenes.specs.Pieces.{IsUnread};
+ghost use Rattle.scenes.specs.Follow.{BreaksOff, BreaksTold, HasFirst, HasNoEvent, HasTold, HasToldTo, IsCountable, IsNextLine, IsRefusedMemory, IsStart, KeepsUp, LeavesEvent, LeavesLine, OfText, PrintsFollowed, ReportsTold, StopsBy, TellsEvent, TellsLine, behind, fault_at_call, outcome_after, outcome_of, status_of_outcome};
+ghost use Rattle.command_line.specs.Pieces.{IsUnread};
+ghost use Rattle.scene_text.specs.SceneTexts.{line_said};
 ghost use Rattle.scenes.specs.SpelledRuns.{BeginsTold, PrintsTold};
 
-use crate::fault::{Fault, LineFault};
 use crate::reporter::{builder_of, give_back, give_both_back, surroundings_of};
 use crate::scene::SceneConfig;
 use crate::scene::event::SceneEvent;
-use crate::words::Options;
+use command_line::fault::{Fault, LineFault};
+use command_line::words::Options;
 use console_reporter::imp::{DisplayReporter, ReportCall, WriteEventError};
 use console_reporter::write_str::{TextBuffer, WriteStr};
 use run_model::event::TestEventKind;
@@ -28,10 +30,10 @@ use std::alloc::{AllocError, Global};
 use std::io::{BufRead, Write};
 use store_text::config::StoreConfig;
 
-/// What a run has come to that is followed.
-#[derive(Clone, Copy, Debug, PartialEq, Eq)]
+/// How a followed run stands.
+#[derive(Clone, Copy, PartialEq, Eq)]
 pub enum RunOutcome {
-    /// It has not ended: no line says its end since the last that says a start.
+    /// It has not ended: no end line has come since the last start line.
     NotEnded,
     /// Its end says that all tests ran, and none failed.
     Success,
@@ -72,7 +74,7 @@ impl RunOutcome {
         }
     }
 
-    // What a run has come to that ended with these statistics.
+    // The outcome of a run that ended with these statistics.
     fn of_stats(stats: &RunFinishedStats) -> RunOutcome
         ensures { result ≡ outcome_of stats.now }
     {
@@ -115,7 +117,8 @@ impl<'a, W: WriteStr, S: WriteStr> Follower<'a, W, S> {
     }
 
     /// Reads the line of this number, which stands behind an event, and tells the event that it says, if it says one: its text is written
-    /// and delivered. A line that has a fault, or whose event is refused, leaves the follower as it was.
+    /// and delivered. A line that has a fault, or whose event is refused, leaves the follower as it was, and so does every line once a call has
+    /// failed: an event is then answered by `WriteFailed`, unless its memory is refused.
     pub fn tell_line(
         &mut self,
         alloc: Global,
@@ -127,6 +130,8 @@ impl<'a, W: WriteStr, S: WriteStr> Follower<'a, W, S> {
         ensures told { OnOk result (TellsLine W.meaning S.meaning line.now self.old self.new) }
         ensures delivered { AreDelivered W.meaning S.meaning self.old.reporter → OnOk result (AreDelivered W.meaning S.meaning self.new.reporter) }
         ensures left { IfErr result (λ fault. LeavesLine W.meaning S.meaning number line.now fault self.old self.new) }
+        // Once its reporter has failed, it stays as it is, and no line that says an event is answered by Ok.
+        ensures failed { HasFailed self.old.reporter → (self.new ≡ self.old) × OnOk result (line_said (behind self.old.config) line.now ≡ Ok LineSaid.Nothing) }
     {
         let before = LinesBefore {
             config: self.config,
@@ -160,6 +165,7 @@ impl<'a, W: WriteStr, S: WriteStr> Follower<'a, W, S> {
         ensures told { OnOk result (TellsEvent W.meaning S.meaning event.now self.old self.new) }
         ensures delivered { AreDelivered W.meaning S.meaning self.old.reporter → OnOk result (AreDelivered W.meaning S.meaning self.new.reporter) }
         ensures left { IfErr result (λ fault. LeavesEvent W.meaning S.meaning number event.now fault self.old self.new) }
+        ensures failed { HasFailed self.old.reporter → (self.new ≡ self.old) × OnOk result ⊥ }
     {
         let call = event.call(alloc)?;
         match self.reporter.make_call(alloc, &call) {

@@ -3,29 +3,29 @@
 //! A scene is read, then judged, and then reported. Judging has no device in its hands, and a report takes what judging gives, so no byte
 //! comes out before a scene is judged, and none of a scene that is refused.
 
-ghost use Rattle.std.specs.Prelude.{◌≡◌, ◌⊎◌, ◌+◌, ◌++◌, ℕ, List, [], length, Option, None, Some, Ok, IfOk, IfErr, OnErr, OnOk};
-ghost use Rattle.scenes.specs.declared.fault.Fault.{Fault};
-ghost use Rattle.scene_text.specs.Split.{parted};
-ghost use Rattle.scenes.specs.Faults.{IsJudgeFault};
+ghost use Rattle.std.specs.Prelude.{◌≡◌, ◌⊎◌, ◌+◌, ◌++◌, ℕ, List, [], length, Option, None, Some, Ok, IfOk, IfErr, OnOk};
+ghost use Rattle.command_line.specs.declared.fault.Fault.{Fault};
+ghost use Rattle.scene_fields.specs.Split.{parted};
+ghost use Rattle.command_line.specs.Faults.{IsJudgeFault};
 ghost use Rattle.console_reporter.specs.HeldState.{StandsAfter};
 ghost use Rattle.console_reporter.specs.Slots.{store_meaning};
-ghost use Rattle.console_reporter.specs.Telling.{IsSameReporter};
+ghost use Rattle.console_reporter.specs.Telling.{AreDelivered, IsSameReporter};
 ghost use Rattle.plain_text.specs.StringWriter.{string_meaning};
 ghost use Rattle.scenes.specs.Follow.{BreaksTold, HasToldTo};
 ghost use Rattle.scenes.specs.Judged.{IsJudged, IsJudgedFault, IsSceneAccepted, IsSceneRefused, JudgesEvent, fault_of_refusal};
 ghost use Rattle.scenes.specs.Reports.{configuration_for, fault_for, store_for};
 ghost use Rattle.scene_text.specs.SceneTexts.{AllTell, IsFaultThere, event_lines, lines_told, nothing_told, text_told, told};
 ghost use Rattle.scenes.specs.SpelledRuns.{BeginsReport, BeginsRun, IsRejected, PrintsReport, PrintsRun};
-ghost use Rattle.scene_text.specs.Scenes.{IsCallOf};
+ghost use Rattle.scene_events.specs.Scenes.{IsCallOf};
 ghost use Rattle.scenes.specs.Unloads.{IsReadyCall};
 ghost use Rattle.scenes.specs.ToldScenes.{IsReadFault, IsSceneRead, scene_told};
 
-use crate::fault::{Fault, LineFault};
-use crate::pieces::next_piece;
 use crate::reporter::{builder_of, decider_of, give_back, give_both_back, surroundings_of};
 use crate::scene::Scene;
 use crate::scene::event::SceneEvent;
-use crate::words::Options;
+use command_line::fault::{Fault, LineFault};
+use command_line::pieces::next_piece;
+use command_line::words::Options;
 use console_reporter::imp::{DisplayReporter, OutputLoadDecider, ReportCall, WriteEventError};
 use console_reporter::write_str::{TextBuffer, WriteStr};
 use run_model::memory::OutOfMemory;
@@ -66,7 +66,7 @@ pub fn judge<'a, R: Read + Drop>(
     reader: R,
 ) -> Result<Scene, Fault<'a>>
     ensures fault { IfErr result (IsJudgeFault options.now.file.now) }
-    // Where the reader's bytes are known, the same as of reading them, or the file cannot be read.
+    // Where the reader's bytes are known: what `read_whole` says of them.
     ensures scene { (bytes : List ℕ) → R.remaining reader ≡ Some bytes → IfOk result (λ scene. AllTell nothing_told (parted 10 bytes) (scene_told scene)) }
     ensures first_fault { (bytes : List ℕ) → R.remaining reader ≡ Some bytes → IfErr result (IsJudgedFault options.now bytes) }
     ensures answer { (bytes : List ℕ) → R.remaining reader ≡ Some bytes → IsJudged options.now result bytes }
@@ -132,7 +132,7 @@ fn read_piece(alloc: Global, read: LinesRead, piece: &mut Vec<u8>) -> Result<Lin
     read.read_owned(alloc, mem::replace(piece, Vec::new(alloc)))
 }
 
-/// Judges a scene that was read by what its reporter would refuse: what can be reported is a scene that was judged so.
+/// Checks that the reporter refuses no event of a scene. Only what was checked can be reported.
 pub fn judge_scene<'a>(
     alloc: Global,
     options: &'a Options<'_>,
@@ -205,7 +205,7 @@ fn call_in<'r, 'a>(
     }
 }
 
-// What the line of a call says that is refused so.
+// The fault of a line whose call is refused with this error.
 fn fault_of_refusal(error: WriteEventError) -> LineFault
     ensures { result ≡ fault_of_refusal error }
 {
@@ -300,7 +300,7 @@ pub fn report_judged<W: Write, S: Write>(
     }
 }
 
-// The same where the options ask for no records. What a second device holds, it still holds.
+// `report_judged` without a store; a second device stays as it is.
 fn report_alone<W: Write>(
     alloc: Global,
     options: &Options<'_>,
@@ -360,6 +360,7 @@ fn report_to<W: WriteStr>(
     writer: &mut W,
 ) -> Result<(), Fault<'static>>
     requires store_asked { store_for options.now ≡ None }
+    requires delivered { W.meaning.is_delivered writer.old }
     requires accepted { IsSceneAccepted options.now scene.now }
     ensures ok { OnOk result (HasToldTo W.meaning (store_meaning string_meaning) options.now writer.old writer.new None None (scene_told scene.now)) }
     ensures err { IfErr result (BreaksTold W.meaning (store_meaning string_meaning) options.now writer.old writer.new None None (scene_told scene.now)) }
@@ -385,6 +386,8 @@ fn report_and_store_to<W: WriteStr, S: WriteStr>(
     store_writer: &mut S,
 ) -> Result<(), Fault<'static>>
     requires store_asked { store_for options.now ≡ Some store }
+    requires delivered { W.meaning.is_delivered writer.old }
+    requires store_delivered { S.meaning.is_delivered store_writer.old }
     requires accepted { IsSceneAccepted options.now scene.now }
     ensures ok { OnOk result (HasToldTo W.meaning S.meaning options.now writer.old writer.new store_writer.old store_writer.new (scene_told scene.now)) }
     ensures err { IfErr result (BreaksTold W.meaning S.meaning options.now writer.old writer.new store_writer.old store_writer.new (scene_told scene.now)) }
@@ -422,6 +425,7 @@ fn report_events<W: WriteStr, S: WriteStr>(
     reporter: &mut DisplayReporter<'_, W, S>,
 ) -> Result<(), Fault<'static>>
     requires stands { StandsAfter (configuration_for options.now scene.now.config) [] reporter.old }
+    requires delivered { AreDelivered W.meaning S.meaning reporter.old }
     requires accepted { IsSceneAccepted options.now scene.now }
     ensures same { IsSameReporter reporter.old reporter.new }
     ensures ok { OnOk result (HasToldTo W.meaning (store_meaning S.meaning) options.now reporter.old.writer.now reporter.new.writer.now reporter.old.store reporter.new.store (scene_told scene.now)) }

@@ -3,11 +3,11 @@
 ghost use Rattle.std.specs.Prelude.{◌≡◌, IfOk, IfErr};
 ghost use Rattle.scenes.specs.Reports.{builder_for, kind_for, progress_for, surroundings_of};
 ghost use Rattle.scenes.specs.Unloads.{decider_for};
-ghost use Rattle.scenes.specs.declared.fault.Fault.{Fault};
+ghost use Rattle.command_line.specs.declared.fault.Fault.{Fault};
 
-use crate::fault::Fault;
 use crate::scene::SceneConfig;
-use crate::words::Options;
+use command_line::fault::Fault;
+use command_line::words::Options;
 use console_reporter::config::{DisplayConfig, ShowProgress};
 use console_reporter::imp::{
     DisplayReporterBuilder, DisplayerKind, OutputLoadDecider, Surroundings,
@@ -68,7 +68,7 @@ pub fn builder_of(
     })
 }
 
-// A counter, or nothing.
+// What the options show of progress.
 fn progress_for(options: &Options<'_>) -> ShowProgress
     ensures { result ≡ progress_for options.now }
 {
@@ -79,7 +79,7 @@ fn progress_for(options: &Options<'_>) -> ShowProgress
     }
 }
 
-// A recorded run, or one that goes on.
+// Whether they show a recorded run.
 fn kind_for(options: &Options<'_>) -> DisplayerKind
     ensures { result ≡ kind_for options.now }
 {

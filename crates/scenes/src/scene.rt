@@ -3,9 +3,9 @@
 ghost use Rattle.std.specs.Prelude.{◌≡◌, IfOk, IfErr};
 ghost use Rattle.scenes.specs.Unloads.{AreReadyCallsOf};
 
-use crate::fault::Fault;
 use crate::reporter::decider_of;
-use crate::words::Options;
+use command_line::fault::Fault;
+use command_line::words::Options;
 use console_reporter::imp::{ReportCall, unload_skipped};
 use scene_text::scene::whole_calls;
 pub use scene_text::scene::{
@@ -15,7 +15,7 @@ pub use scene_text::scene::{
 use std::alloc::Global;
 
 /// A run: how it is reported, and its events in order.
-#[derive(Debug, Drop)]
+#[derive(Drop)]
 pub struct Scene {
     /// How it is reported.
     pub config: SceneConfig,

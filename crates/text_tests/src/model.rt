@@ -1,6 +1,4 @@
-//! What a run comes to, its attempts, and outputs in memory.
+//! What a run comes to.
 
-mod output;
 mod stats;
-mod status;
 mod stress;

@@ -1,6 +1,6 @@
 -- What each call promises, by how it ends (for `DisplayReporter::write_event`, `DisplayReporter::write_replay_header`,
 -- `DisplayReporter::copy_prefix`, `DisplayReporter::finish`).
-use Rattle.std.proofs.Common.{◌≡◌, ◌⊎◌, Bool, true, false, inl, inr, List, [], ◌++◌, Option, None, Some, Ok, Err, IsTrue, refl, sym, subst, ◌∙◌}
+use Rattle.std.proofs.Common.{◌≡◌, ◌⊎◌, Bool, true, false, inl, inr, List, [], Option, None, Some, Ok, Err, refl, sym, subst, ◌∙◌}
 use Rattle.std.specs.Option.{is_some}
 use Rattle.plain_text.specs.Texts.{Text}
 use Rattle.plain_text.specs.Writer.{Meaning, WriterLaws}
@@ -12,7 +12,6 @@ use Rattle.console_reporter.proofs.lemmas.Refusals.{breaks_refused, not_refused,
 use Rattle.console_reporter.proofs.lemmas.Stores.{same-store, store-laws}
 use Rattle.console_reporter.proofs.lemmas.WholeLines.{of_lines-told}
 use Rattle.run_model.specs.declared.call.ReportCall.{ReportCall}
-use Rattle.run_model.specs.declared.call.ReportCall.TheVariants.{Event, Header, Prefix}
 use Rattle.reporter_state.specs.Refusals.{refusal_in}
 use Rattle.reporter_state.specs.declared.faults.WriteEventError.{WriteEventError}
 use Rattle.reporter_state.specs.declared.faults.WriteEventError.TheVariants.{Failed, Io, Memory, StoreIo}
@@ -34,10 +33,10 @@ memory_not_store_io : Memory ≡ StoreIo → ⊥
 memory_not_store_io is = cc
 
 not_both : (b : Bool) → b ≡ false → b ≡ true → ⊥
-not_both b no yes = cc
+not_both b is_false is_true = cc
 
-none_not_some : is_some {X = WriteEventError} None ≡ true → ⊥
-none_not_some some = cc
+none_not_some : (o : Option WriteEventError) → o ≡ None → is_some o ≡ true → ⊥
+none_not_some o none some = cc
 
 -- a reporter that has failed stands after no past
 pub failed_stands : {W S : Type 0} (config : Configuration) (past : List ReportCall) (reporter : DisplayReporter W S) → HasFailed reporter → StandsAfter config past reporter → ⊥
@@ -98,7 +97,7 @@ module _ {W S : Type 0} (m : Meaning W) (n : Meaning S) (old new : DisplayReport
       lines = λ config past. of_lines-told config past call;
       refused = accepted;
       unrefused = λ never. refl;
-      untouched = λ some. absurd (none_not_some some);
+      untouched = λ some. absurd (none_not_some None refl some);
       fails = tt;
       failed = λ failed. absurd (not_both _ works failed);
     }

@@ -1,5 +1,5 @@
 -- Refusals (for `DisplayReporter::write_event`, and lemmas/Promises).
-use Rattle.std.proofs.Common.{◌≡◌, ℕ, List, true, Option, None, Some, false, inl, refl}
+use Rattle.std.proofs.Common.{◌≡◌, ℕ, List, true, Option, None, Some, inl, refl}
 use Rattle.std.specs.Option.{is_some}
 use Rattle.plain_text.specs.Writer.{Meaning}
 use Rattle.console_reporter.specs.Slots.{store_meaning}

@@ -59,6 +59,7 @@ use Rattle.event_text.specs.Bar.{bar_line}
 use Rattle.info_text.specs.Response.{info_response_text}
 use Rattle.info_text.specs.Seconds.{seconds_between}
 use Rattle.info_text.specs.Start.{info_finished_text, info_started_text}
+use Rattle.console_reporter.specs.Telling.{told_text}
 use Rattle.console_reporter.specs.Configuration.{Configuration}
 use Rattle.test_text.specs.TestFinished.{TestFinish, test_finish, line_at_once, output_at_once, test_finished_text}
 use Rattle.reporter_state.specs.Entries.{hiding_rank, entry_text, final_text}

@@ -1,32 +1,21 @@
-//! Each write and each flush of either writer fails once: what the two devices took, at which call the fault stands, and that no
-//! later call writes.
+//! Each write and each flush of either writer fails once: what the two devices took, at which call the fault stands, and that neither
+//! a later call writes nor one that is refused.
 
-use super::{
-    ALL_OUTPUT, RECORDS, REPORT, are_first, begin_next, calls_of, reporter_over, run_over,
-    two_tests,
-};
-use crate::testing::{finish, write_event};
-use console_reporter::imp::{ReportCall, RunFault, WriteEventError};
-use plain_text::write_str::TextBuffer;
+use super::{ALL_OUTPUT, RECORDS, REPORT, are_first, begin_next, calls_of, run_over, two_tests};
+use crate::testing::{line_builder, retried_success, write_event};
+use console_reporter::imp::{DisplayReporter, ReportCall, RunFault, WriteEventError};
+use plain_text::write_str::{TextBuffer, WriteStr};
+use run_model::event::TestEvent;
 use std::alloc::Global;
+use std::mem;
 use std::test::Fail;
 use test_devices::{BYTES_AT_ONCE, Device, Failure};
 
 // Which of the two devices fails.
-#[derive(Clone, Copy, PartialEq, Eq)]
+#[derive(Clone, Copy)]
 enum Failing {
     Console,
     Store,
-}
-
-impl Failing {
-    // What it writes, call by call.
-    fn texts(self) -> [&'static str; 3] {
-        match self {
-            Failing::Console => REPORT,
-            Failing::Store => RECORDS,
-        }
-    }
 }
 
 // The two devices.
@@ -61,24 +50,32 @@ impl Devices {
         Ok((Devices::under(report, records), answer))
     }
 
-    // Writes every event, also those after a fault. It gives back the devices, and whether all after the first that failed answered so.
-    fn write_all(self, alloc: Global, calls: &[ReportCall<'_>]) -> Result<(Devices, bool), Fail> {
+    // Writes every event, also those after a fault, behind one that is refused. It gives back the devices, and whether that one was
+    // refused and all after the first that failed answered so.
+    fn write_all(
+        self,
+        alloc: Global,
+        refused: &TestEvent<'_>,
+        calls: &[ReportCall<'_>],
+    ) -> Result<(Devices, bool), Fail> {
         let mut report = TextBuffer::new(alloc, self.console)?;
         let mut records = TextBuffer::new(alloc, self.store)?;
-        let mut reporter = reporter_over(alloc, &mut report, &mut records, ALL_OUTPUT)?;
-        let (mut has_failed, mut is_silent) = (false, true);
-        for call in calls {
-            let ReportCall::Event(event) = call else {
-                continue;
-            };
-            let answer = write_event(&mut reporter, event);
-            is_silent = is_silent && (!has_failed || answer == Err(WriteEventError::Failed));
-            has_failed = has_failed || answer.is_err();
-        }
-        is_silent = is_silent
-            && (!has_failed || finish(&mut reporter) == Err(WriteEventError::Failed));
-        drop(reporter);
-        Ok((Devices::under(report, records), is_silent))
+        let builder = line_builder(alloc)?;
+        let mut reporter = builder.build_with_store(
+            alloc,
+            &mut report,
+            &mut records,
+            ALL_OUTPUT,
+            false,
+            false,
+            false,
+            false,
+        );
+        let is_refused = write_event(&mut reporter, refused)
+            == Err(WriteEventError::RetriedSuccess);
+        let is_silent = write_events(&mut reporter, calls);
+        let _writers = reporter.into_writers();
+        Ok((Devices::under(report, records), is_refused && is_silent))
     }
 
     fn under(report: TextBuffer<Device>, records: TextBuffer<Device>) -> Devices {
@@ -116,9 +113,31 @@ impl Devices {
     }
 }
 
+// Writes the events of these calls, also those after a fault, and ends the report. Whether all after the first that failed answered so.
+fn write_events<W: WriteStr, S: WriteStr>(
+    reporter: &mut DisplayReporter<'_, W, S>,
+    calls: &[ReportCall<'_>],
+) -> bool {
+    let (mut has_failed, mut is_silent) = (false, true);
+    for call in calls {
+        let ReportCall::Event(event) = call else {
+            continue;
+        };
+        let answer = write_event(reporter, event);
+        is_silent = is_silent && (!has_failed || answer == Err(WriteEventError::Failed));
+        has_failed = has_failed || answer.is_err();
+    }
+    is_silent && (!has_failed || reporter.finish() == Err(WriteEventError::Failed))
+}
+
 // Runs the calls over devices of which one fails at its first call, its second, and so on until it does not, and says how often it
 // did.
-fn count_faults(alloc: Global, calls: &[ReportCall<'_>], failing: Failing) -> Result<usize, Fail> {
+fn count_faults(
+    alloc: Global,
+    refused: &TestEvent<'_>,
+    calls: &[ReportCall<'_>],
+    failing: Failing,
+) -> Result<usize, Fail> {
     for number in 0..1000 {
         let (devices, answer) = Devices::failing_at(alloc, failing, number).run(alloc, calls)?;
         let Err(stop) = answer else {
@@ -132,12 +151,23 @@ fn count_faults(alloc: Global, calls: &[ReportCall<'_>], failing: Failing) -> Re
             return Err(Fail::from("a fault left another text"));
         }
         let again = Devices::failing_at(alloc, failing, number);
-        let (again, is_silent) = again.write_all(alloc, calls)?;
+        let (again, is_silent) = again.write_all(alloc, refused, calls)?;
         if !(is_silent && again.took_the_same(&devices)) {
             return Err(Fail::from("a call after the fault did not answer that it failed"));
         }
     }
     Err(Fail::from("every device failed"))
+}
+
+// The same of the one device and of the other.
+fn count_both(
+    alloc: Global,
+    refused: &TestEvent<'_>,
+    calls: &[ReportCall<'_>],
+) -> Result<(usize, usize), Fail> {
+    let of_console = count_faults(alloc, refused, calls, Failing::Console)?;
+    let of_store = count_faults(alloc, refused, calls, Failing::Store)?;
+    Ok((of_console, of_store))
 }
 
 // How often a device is called that takes these texts, each of which is delivered by itself, and then the
@@ -155,10 +185,14 @@ fn count_calls(texts: &[&str]) -> usize {
 fn each_write_and_each_flush_fails_once(rt: HostRuntime) -> Result<(), Fail> {
     let alloc = rt.alloc();
     let tests = two_tests(alloc)?;
+    let [first, _] = &tests;
     let calls = calls_of(alloc, &tests)?;
-    for failing in [Failing::Console, Failing::Store] {
-        let faults = count_faults(alloc, calls.as_slice(), failing)?;
-        assert_eq!(rt; faults, count_calls(&failing.texts()));
-    }
+    let refused = retried_success(first.as_ref());
+    let faults = count_both(alloc, &refused, &calls);
+    mem::forget(refused);
+    mem::forget(calls);
+    let (of_console, of_store) = faults?;
+    assert_eq!(rt; of_console, count_calls(&REPORT));
+    assert_eq!(rt; of_store, count_calls(&RECORDS));
     Ok(())
 }

@@ -3,6 +3,7 @@
 
 use super::{RECORDS, REPORT, are_first, begin_next, calls_of, run_over, two_tests};
 use console_reporter::imp::{RunFault, WriteEventError};
+use std::mem;
 use std::test::Fail;
 
 // Whether a run answered so leaves these texts: all, or where memory was refused a beginning of each, and of a record only after
@@ -28,7 +29,9 @@ fn two_texts_that_grow(rt: HostRuntime) -> Result<(), Fail> {
     let tests = two_tests(alloc)?;
     let calls = calls_of(alloc, &tests)?;
     let (mut report, mut records) = (String::new(alloc), String::new(alloc));
-    let outcome = run_over(alloc, &mut report, &mut records, calls.as_slice())?;
+    let outcome = run_over(alloc, &mut report, &mut records, &calls);
+    mem::forget(calls);
+    let outcome = outcome?;
     assert!(rt; leaves(&outcome, report.as_bytes(), records.as_bytes()));
     outcome?;
     Ok(())

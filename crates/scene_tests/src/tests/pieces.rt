@@ -1,63 +1,95 @@
 //! Scenes that are longer than what is read of a file at once.
 
-use super::{OPTIONS, scene_of};
-use scene_text::reader::{LARGE, read_scene};
+use super::{OPTIONS, report_and_store};
+use run_model::level::StatusLevel;
+use scene_text::reader::LARGE;
 use scenes::fault::{Fault, LineFault};
-use scenes::program::write_report;
-use scenes::scene::Scene;
-use std::alloc::Global;
-use std::io;
+use scenes::words::Options;
+use std::alloc::{AllocError, Global};
 use std::test::Fail;
-use test_devices::Device;
 
 // So many lines stand before the long one, and behind it: a read ends within each half.
-const LINES: u64 = 1500;
+const LINES: usize = 1500;
 
-const SKIP: &str = "\nskip\t-\ta\tt1";
+const SHOWING_SKIPS: Options<'static> = Options {
+    status_level: StatusLevel::Skip,
+    ..OPTIONS
+};
 
-// A comment of this length, which moves the edges of what is read, skipped tests, one whose output spans several reads, and skipped tests.
-fn long_scene(alloc: Global, length: usize) -> Result<String, Fail> {
-    let mut text = String::from_str(alloc, "#")?;
-    for _ in 0..length {
-        text.push('x')?;
+// Pushes a text so often.
+fn push_often(to: &mut String, text: &str, count: usize) -> Result<(), AllocError> {
+    for _ in 0..count {
+        to.push_str(text)?;
     }
-    for _ in 0..LINES {
-        text.push_str(SKIP)?;
+    Ok(())
+}
+
+// So many times the one text, another one, and again so many times the one.
+fn enclosed(alloc: Global, text: &str, inner: &str) -> Result<String, AllocError> {
+    let mut whole = String::new(alloc);
+    push_often(&mut whole, text, LINES)?;
+    whole.push_str(inner)?;
+    push_often(&mut whole, text, LINES)?;
+    Ok(whole)
+}
+
+// The report of a text, or the line and the fault that is told.
+fn told_of(
+    alloc: Global,
+    options: &Options<'static>,
+    text: &str,
+) -> Result<Result<Vec<u8>, (u64, LineFault)>, Fail> {
+    let writers = (Vec::new(alloc), Vec::new(alloc));
+    let (outcome, printed, _) = report_and_store(
+        alloc,
+        options,
+        text.as_bytes(),
+        writers.0,
+        writers.1,
+    );
+    match outcome {
+        Ok(()) => Ok(Ok(printed)),
+        Err(Fault::Line { line, fault }) => Ok(Err((line, fault))),
+        Err(fault) => Err(Fail::from(fault)),
     }
-    text.push_str(
-        "\ndone\t-\ta\tt1\tnever\tnever\tpass\tinitial=2 finished=1 passed=1\t1\tpass\t5000000\t0\tsplit\t",
+}
+
+// A test whose output spans several reads, between skipped tests, behind a comment.
+fn long_scene(alloc: Global) -> Result<String, AllocError> {
+    let mut done = String::from_str(
+        alloc,
+        "\ndone\t-\ta\tt1\tnever\tnever\tpass\t-\t1\tpass\t5000000\t0\tsplit\t",
     )?;
-    for _ in 0..40_000 {
-        text.push('y')?;
-    }
-    text.push_str("\t\t-\t-")?;
-    for _ in 0..LINES {
-        text.push_str(SKIP)?;
-    }
-    Ok(text)
+    push_often(&mut done, "y", 40_000)?;
+    done.push_str("\t\t-\t-")?;
+    enclosed(alloc, "\nskip\t-\ta\tt1", done.as_str())
 }
 
 #[test]
 fn each_line_is_read_once(rt: HostRuntime) -> Result<(), Fail> {
     let alloc = rt.alloc();
-    for length in 0..14 {
-        let mut text = long_scene(alloc, length)?;
-        for (more, is_right) in [("", true), ("\n", true), ("wrong", false), ("\n", false)] {
+    let (skip, pass) = (
+        "        SKIP [         ] a t1\n",
+        "        PASS [   0.005s] a t1\n",
+    );
+    let report = enclosed(alloc, skip, pass)?;
+    let lines = long_scene(alloc)?;
+    let mut comment = String::from_str(alloc, "#")?;
+    // The comment moves the edges of what is read.
+    for _ in 0..14 {
+        comment.push('x')?;
+        let mut text = String::from_str(alloc, comment.as_str())?;
+        text.push_str(lines.as_str())?;
+        for (more, is_right) in [("\n", true), ("wrong", false)] {
             text.push_str(more)?;
-            match scene_of(alloc, text.as_str()) {
-                Ok(scene) => {
-                    assert!(rt; is_right);
-                    assert_eq!(rt; scene.lines.len() as u64, 2 * LINES + 1);
-                    for (place, line) in scene.lines.iter().enumerate() {
-                        assert_eq!(rt; *line, place as u64 + 2);
-                    }
+            match told_of(alloc, &SHOWING_SKIPS, text.as_str())? {
+                Ok(printed) => {
+                    assert!(rt; is_right && printed.as_slice() == report.as_bytes());
                 }
-                Err(Fault::Line { line, fault }) => {
-                    assert!(rt; !is_right);
-                    assert_eq!(rt; line, 2 * LINES + 3);
-                    assert_eq!(rt; fault, LineFault::UnknownEvent);
+                Err((line, fault)) => {
+                    assert!(rt; !is_right && fault == LineFault::UnknownEvent);
+                    assert_eq!(rt; line, 2 * LINES as u64 + 3);
                 }
-                Err(fault) => return Err(Fail::from(fault)),
             }
         }
     }
@@ -68,88 +100,64 @@ fn each_line_is_read_once(rt: HostRuntime) -> Result<(), Fail> {
 const FAILED: &str =
     "done\t-\ta\tt1\tnever\timmediate\tpass\tinitial=1 finished=1 failed=1\t1\tfail:1\t5000000\t0\t";
 
-// What stands before a large text in the line, and behind it: as standard output, standard error, both together, errors, and why the test
-// did not start.
-const PLACES: [(&str, &str); 5] = [
-    ("split\t", "\t\t-\t-"),
-    ("split\t-\t", "\t-\t-"),
-    ("comb\t", "\t-\t-\t-"),
-    ("split\t\t\t", "\t-"),
-    ("start\t", "\t-\t-\t-"),
+// What stands before a large text in the line and behind it, and the header of its report: as standard output, standard error, both
+// together, errors, and why the test did not start.
+const PLACES: [(&str, &str, &str); 5] = [
+    ("split\t", "\t\t-\t-", "-- stdout --"),
+    ("split\t-\t", "\t-\t-", "-- stderr --"),
+    ("comb\t", "\t-\t-\t-", "-- output --"),
+    ("split\t\t\t", "\t-", "- execfail -"),
+    ("start\t", "\t-\t-\t-", "- execfail -"),
 ];
 
-// A text that is repeated until it is large, and what ends it.
-fn large_text(alloc: Global, repeated: &str, end: &str) -> Result<String, Fail> {
-    let mut text = String::new(alloc);
-    for _ in 0..LARGE {
-        if text.len() < LARGE {
-            text.push_str(repeated)?;
-        }
-    }
-    text.push_str(end)?;
-    Ok(text)
-}
-
-/// The line of a failed test with a large text at this place.
+/// The line of a failed test that has a large text there, made of this one, behind one that leaves the indentation out.
 pub fn large_line(
     alloc: Global,
-    (before, after): (&str, &str),
+    before: &str,
     repeated: &str,
-    end: &str,
-) -> Result<String, Fail> {
-    let mut line = String::from_str(alloc, FAILED)?;
+    after: &str,
+) -> Result<String, AllocError> {
+    let mut line = String::from_str(alloc, "config\tnoindent\t1\n")?;
+    line.push_str(FAILED)?;
     line.push_str(before)?;
-    line.push_str(large_text(alloc, repeated, end)?.as_str())?;
+    push_often(&mut line, repeated, LARGE)?;
     line.push_str(after)?;
     Ok(line)
 }
 
-// What a text tells, read without giving up its memory.
-fn copied_scene_of(alloc: Global, text: &str) -> Result<Scene, Fault<'static>> {
-    match read_scene(alloc, text.as_bytes()) {
-        Ok(run) => Ok(Scene {
-            config: run.config,
-            events: run.events,
-            lines: run.lines,
-        }),
-        Err(fault) => Err(Fault::from(fault)),
-    }
+// Its report, where the text is shown so.
+fn report_of_large(alloc: Global, header: &str, shown: &str) -> Result<String, AllocError> {
+    let mut report = String::from_str(alloc, "        FAIL [   0.005s] a t1\n")?;
+    report.push_str(header)?;
+    report.push_str("\n")?;
+    push_often(&mut report, shown, LARGE)?;
+    report.push_str("\n\n    (test failed with exit code 1)\n\n")?;
+    Ok(report)
 }
 
-// The report of a scene, or its fault.
-fn told_of(alloc: Global, scene: Result<Scene, Fault<'static>>) -> Result<Vec<u8>, Fail> {
-    let mut told = Vec::new(alloc);
-    match scene {
-        Ok(scene) => {
-            let mut device = Device::with_room(alloc, 4 * LARGE)?;
-            write_report(alloc, &OPTIONS, &scene, &mut device, io::sink())?;
-            told.extend_from_slice(device.taken())?;
-        }
-        Err(fault) => told.extend_from_slice(fault.to_string(alloc)?.as_bytes())?,
-    }
-    Ok(told)
-}
+// Texts as they are written and as they are shown.
+const TEXTS: [(&str, &str); 3] = [
+    ("y", "y"),
+    ("some \\x77ords, ", "some words, "),
+    ("a\\t\\\\\u{fc}", "a\t\\\u{fc}"),
+];
 
 #[test]
-fn a_large_output_is_read_as_a_small_one(rt: HostRuntime) -> Result<(), Fail> {
+fn a_large_output_is_read_whole(rt: HostRuntime) -> Result<(), Fail> {
     let alloc = rt.alloc();
-    let mut is_printed = false;
-    for (repeated, end) in [
-        ("y", ""),
-        ("abc\\n", "z"),
-        ("\\x1b[0m\\e\\\\\u{fc}\\xff\\t\\r", "\\n"),
-        ("y\\n", "\\"),
-        ("y\\n", "\\q"),
-        ("some words, ", "\\x4"),
-    ] {
-        for place in PLACES {
-            let line = large_line(alloc, place, repeated, end)?;
-            let told = told_of(alloc, scene_of(alloc, line.as_str()))?;
-            let told_of_copied = told_of(alloc, copied_scene_of(alloc, line.as_str()))?;
-            assert!(rt; told == told_of_copied);
-            is_printed = is_printed || told.len() > LARGE;
+    for (before, after, header) in PLACES {
+        for (repeated, shown) in TEXTS {
+            let line = large_line(alloc, before, repeated, after)?;
+            let report = report_of_large(alloc, header, shown)?;
+            match told_of(alloc, &OPTIONS, line.as_str())? {
+                Ok(printed) => assert!(rt; printed.as_slice() == report.as_bytes()),
+                Err(_) => return Err(Fail::from("a line was refused")),
+            }
+        }
+        for wrong in ["y\\q", "y\\x4"] {
+            let line = large_line(alloc, before, wrong, after)?;
+            assert!(rt; told_of(alloc, &OPTIONS, line.as_str())?.is_err());
         }
     }
-    assert!(rt; is_printed);
     Ok(())
 }

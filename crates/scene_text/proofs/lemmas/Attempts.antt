@@ -6,12 +6,12 @@ use Rattle.run_model.specs.Attempts.{Attempt, Attempts}
 use Rattle.run_model.specs.declared.output.ChildOutputDescription.{ChildOutputDescription}
 use Rattle.run_model.specs.declared.output.LiveSpec.{LiveSpec}
 use Rattle.run_model.specs.declared.status.FlakyResult.{FlakyResult}
-use Rattle.scene_text.specs.Fields.{Place, Fails, Gives, goes_on, says}
+use Rattle.scene_fields.specs.Fields.{Place, Fails, Gives, goes_on, says}
 use Rattle.scene_text.specs.TestLines.{all_attempts, attempt_fields, attempts_behind, attempts_from, retry_numbered}
-use Rattle.scene_text.specs.declared.fault.LineError.{LineError}
-use Rattle.scene_text.specs.declared.fault.LineError.TheVariants as error
-use Rattle.scene_text.specs.declared.fault.LineFault.{LineFault}
-use Rattle.scene_text.specs.declared.fault.LineFault.TheVariants.{WrongNumberOfFields}
+use Rattle.scene_fields.specs.declared.fault.LineError.{LineError}
+use Rattle.scene_fields.specs.declared.fault.LineError.TheVariants as error
+use Rattle.scene_fields.specs.declared.fault.LineFault.{LineFault}
+use Rattle.scene_fields.specs.declared.fault.LineFault.TheVariants.{WrongNumberOfFields}
 
 abbrev pub All : Type 0
 All = Attempts LiveSpec ChildOutputDescription
@@ -33,11 +33,6 @@ with_front front read = goes_on (λ others. says (after front others)) read
 regroup : (front : List Attempt) (first : Attempt) (read : Answer) → with_front front (goes_on (λ others. says (record others { earlier = first ∷ others.earlier })) read) ≡ with_front (front ++ first ∷ []) read
 regroup front first (Ok x) = ap (λ (a : List Attempt). Ok (record x.0 { earlier = a }, x.1)) (simp append_assoc)
 regroup front first (Err f) = refl
-
--- nothing was read before
-pub no_front : (read : Answer) → with_front [] read ≡ read
-no_front (Ok x) = refl
-no_front (Err f) = refl
 
 module _ (flaky : FlakyResult) (total : ℕ) (front : List Attempt) (number end : ℕ) (last : Attempt) (p : Place) (whole : Answer)
     (so_far : with_front front (attempts_from flaky total number (end - number) last p) ≡ whole) where

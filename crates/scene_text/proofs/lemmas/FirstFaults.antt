@@ -1,11 +1,11 @@
 -- The first fault is the one that is told (for `read_scene`).
 use Rattle.std.proofs.Common.{◌≡◌, ℕ, ◌+◌, List, [], ◌∷◌, ◌++◌, Result, Ok, Err, IfOk, IfErr, length, refl, sym, ap, ◌∙◌, arith, inl, inr, ◌⊎◌}
-use Rattle.scene_text.specs.Split.{parted}
+use Rattle.scene_fields.specs.Split.{parted}
 use Rattle.scene_text.specs.SceneTexts.{Told, told, nothing_told, line_told, lines_told, text_told, AllTell, IsFaultOf, IsFaultThere, IsAnswer}
-use Rattle.scene_text.specs.declared.fault.LineFault.{LineFault}
-use Rattle.scene_text.specs.declared.fault.ReadFault.{ReadFault}
-use Rattle.scene_text.specs.declared.fault.ReadFault.TheVariants as fault
-use Rattle.scene_text.specs.declared.scene.ToldRun.{ToldRun}
+use Rattle.scene_fields.specs.declared.fault.LineFault.{LineFault}
+use Rattle.scene_fields.specs.declared.fault.ReadFault.{ReadFault}
+use Rattle.scene_fields.specs.declared.fault.ReadFault.TheVariants as fault
+use Rattle.scene_events.specs.declared.scene.ToldRun.{ToldRun}
 
 -- either a line tells, or it is wrong
 line_cases : (r : Result Told LineFault) → ((mid : Told) × (r ≡ Ok mid)) ⊎ ((f : LineFault) × (r ≡ Err f))

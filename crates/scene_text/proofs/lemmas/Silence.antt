@@ -1,11 +1,11 @@
 -- The fields of an output that holds nothing (for `take_silence`).
 use Rattle.std.proofs.Common.{◌≡◌, ℕ, ◌+◌, List, ◌++◌, true, drop, Ok, Some, refl, ap, sym, ◌∙◌, arith}
 use Rattle.run_model.specs.declared.status.ExecutionResultDescription.{ExecutionResultDescription}
-use Rattle.scene_text.specs.Split.{cut}
-use Rattle.scene_text.specs.Fields.{Place}
+use Rattle.scene_fields.specs.Split.{cut}
+use Rattle.scene_fields.specs.Fields.{Place}
 use Rattle.scene_text.specs.Outputs.{after_streams, output_fields, silent_fields, TakesSilence}
-use Rattle.scene_text.specs.SceneAttempts.{silence}
-use Rattle.scene_text.specs.Texts.{unescaped_after}
+use Rattle.scene_events.specs.SceneAttempts.{silence}
+use Rattle.scene_fields.specs.Texts.{unescaped_after}
 
 -- five fields on
 abbrev five_on : ℕ → List (List ℕ) → Place

@@ -1,9 +1,9 @@
 -- Telling line by line, as a loop does (for `LinesRead::read_more`, `LinesRead::read_owned`).
 use Rattle.std.proofs.Common.{◌≡◌, ℕ, ◌+◌, List, [], ◌∷◌, ◌++◌, Result, Ok, Err, sym, ap, ◌∙◌, append_assoc, append-nil}
 use Rattle.scene_text.specs.SceneTexts.{Told, event_lines, line_here, line_told, lines_told, IsFaultHere, IsFaultThere}
-use Rattle.scene_text.specs.declared.fault.LineFault.{LineFault}
-use Rattle.scene_text.specs.declared.fault.ReadFault.{ReadFault}
-use Rattle.scene_text.specs.declared.fault.ReadFault.TheVariants as fault
+use Rattle.scene_fields.specs.declared.fault.LineFault.{LineFault}
+use Rattle.scene_fields.specs.declared.fault.ReadFault.{ReadFault}
+use Rattle.scene_fields.specs.declared.fault.ReadFault.TheVariants as fault
 
 -- what lines tell, and a line after them
 module _ (n : ℕ) (before : Told) (lines : List (List ℕ)) (all : Result Told (ℕ × LineFault)) (so_far : lines_told n before lines ≡ all) (line : List ℕ) (rest : List (List ℕ)) (cut : lines ≡ line ∷ rest) where

@@ -1,21 +1,23 @@
 //! The lines that tell what the units of a run are doing.
 
 ghost use Rattle.std.specs.Prelude.{◌≡◌};
-ghost use Rattle.scene_text.specs.Fields.{Gives, answered};
+ghost use Rattle.scene_fields.specs.Fields.{Gives, answered};
 ghost use Rattle.scene_text.specs.InfoLines.{answer_fields, answer_script_line_fields, answer_test_line_fields, info_end_line_fields, info_line_fields};
 
-use super::counts::read_stats;
-use super::fields::Fields;
-use super::numbers::{read_count, read_nanos};
 use super::outputs::read_output;
 use super::script_lines::read_script;
 use super::states::{read_state, read_state_parts};
 use super::test_lines::{read_retry_data, read_test};
-use super::values::read_stress_index;
-use crate::fault::{LineError, LineFault};
-use crate::scene::event::SceneEvent;
-use crate::scene::info_events::{InfoFinish, InfoStart, ScriptAnswer, TestAnswer, UnitAnswer};
 use run_model::boxed::Boxed;
+use scene_events::scene::event::SceneEvent;
+use scene_events::scene::info_events::{
+    InfoFinish, InfoStart, ScriptAnswer, TestAnswer, UnitAnswer,
+};
+use scene_fields::counts::read_stats;
+use scene_fields::fault::{LineError, LineFault};
+use scene_fields::fields::Fields;
+use scene_fields::numbers::{read_count, read_nanos};
+use scene_fields::values::read_stress_index;
 use std::alloc::Global;
 
 /// Reads an `info` line: how long the run has taken, how many units were asked, and its statistics.

@@ -1,13 +1,11 @@
 //! The kinds of line that a scene has, and the fields of a `config` line.
 
 ghost use Rattle.std.specs.Prelude.{◌≡◌};
-ghost use Rattle.scene_text.specs.Fields.{answered};
+ghost use Rattle.scene_fields.specs.Fields.{answered};
 ghost use Rattle.scene_text.specs.Lines.{config_line_fields, event_line_fields, other_event_line_fields};
 ghost use Rattle.scene_text.specs.SceneTexts.{IsSaid, event_told};
 
-use super::fields::Fields;
 use super::info_lines::{read_answer_script, read_answer_test, read_info, read_info_end};
-use super::numbers::read_count;
 use super::replay_lines::{read_header, read_prefix};
 use super::run_lines::{read_cancel, read_end, read_input, read_pause, read_run};
 use super::script_lines::{read_setup, read_setup_done, read_setup_slow};
@@ -15,12 +13,14 @@ use super::stress_lines::{read_end_stress, read_sub_end, read_sub_start};
 use super::test_lines::{
     read_done, read_retry, read_retry_start, read_skip, read_slow, read_start,
 };
-use super::values::{
+use scene_events::scene::SceneConfig;
+use scene_events::scene::event::SceneEvent;
+use scene_fields::fault::{LineError, LineFault};
+use scene_fields::fields::Fields;
+use scene_fields::numbers::read_count;
+use scene_fields::values::{
     ConfigKey, read_config_key, read_display, read_final_level, read_flag, read_mode,
 };
-use crate::fault::{LineError, LineFault};
-use crate::scene::SceneConfig;
-use crate::scene::event::SceneEvent;
 use std::alloc::Global;
 
 /// Reads the fields behind a word, which names the kind of event that the line tells. The words of tests come first, since most lines
@@ -41,8 +41,8 @@ pub fn read_event(alloc: Global, word: &str, fields: Fields<'_>) -> Result<Scene
     }
 }
 
-// Reads the fields behind a word that names no event of a test. It stands by itself: a function clears the room of all its values at its
-// start, whichever of them it comes to.
+// Reads the fields behind a word that names no event of a test. Not inlined: the compiler zeroes all locals of a function at its entry,
+// used or not.
 #[inline(never)]
 #[tactic(auto, unfolding(crate::specs::Lines::other_event_line_fields))]
 fn read_other_event(alloc: Global, word: &str, fields: Fields<'_>) -> Result<SceneEvent, LineError>

@@ -2,12 +2,13 @@
 
 ghost use Rattle.std.specs.Prelude.{◌≡◌};
 ghost use Rattle.std.specs.Option.{option_map};
-ghost use Rattle.scene_text.specs.Moments.{checked_clock, checked_day, clock_of, day_in, day_of, moment_in, time_in};
+ghost use Rattle.scene_events.specs.Moments.{clock_of, day_of};
+ghost use Rattle.scene_text.specs.Moments.{checked_clock, checked_day, day_in, moment_in, time_in};
 
-use super::numbers::{read_code, read_small_count};
-use super::split::split_at_byte;
-use crate::scene::replay_calls::SceneMoment;
 use jiff::civil::{Date, Time};
+use scene_events::scene::replay_calls::SceneMoment;
+use scene_fields::numbers::{read_code, read_small_count};
+use scene_fields::split::split_at_byte;
 
 /// Reads a date with a time of day. The years go from -9999 to 9999, the hours to 23, the minutes and seconds to 59. None is a
 /// bad field.

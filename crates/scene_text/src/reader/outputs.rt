@@ -5,20 +5,12 @@
 
 ghost use Rattle.std.specs.Prelude.{◌≡◌, ◌++◌, drop, IsTrue, IfOk};
 ghost use Rattle.std.specs.Option.{option_copied};
-ghost use Rattle.scene_text.specs.Split.{field_texts};
-ghost use Rattle.scene_text.specs.Fields.{Gives, field};
-ghost use Rattle.scene_text.specs.Lists.{errors_in};
+ghost use Rattle.scene_fields.specs.Split.{field_texts};
+ghost use Rattle.scene_fields.specs.Fields.{Gives, field};
+ghost use Rattle.scene_fields.specs.Lists.{errors_in};
 ghost use Rattle.scene_text.specs.Outputs.{after_streams, highlight_in, highlight_stream_in, output_fields, output_form_in, silent_fields, stream_in, TakesSilence};
-ghost use Rattle.scene_text.specs.Texts.{bytes_in};
+ghost use Rattle.scene_fields.specs.Texts.{bytes_in};
 
-use super::fields::Fields;
-use super::lists::read_chain;
-use super::numbers::read_count;
-use super::split::split_at_byte;
-use super::texts::read_bytes;
-use super::unescape::unescape_in_place;
-use super::values::read_absent;
-use crate::fault::LineError;
 use bytes::{Bytes, BytesMut};
 use run_model::boxed::Boxed;
 use run_model::memory::OutOfMemory;
@@ -27,10 +19,18 @@ use run_model::output::{
     Highlight, HighlightStream, LiveSpec,
 };
 use run_model::status::ExecutionResultDescription;
+use scene_fields::fault::LineError;
+use scene_fields::fields::Fields;
+use scene_fields::lists::read_chain;
+use scene_fields::numbers::read_count;
+use scene_fields::split::split_at_byte;
+use scene_fields::texts::read_bytes;
+use scene_fields::unescape::unescape_in_place;
+use scene_fields::values::read_absent;
 use std::alloc::Global;
 
 /// In which form an output is written.
-#[derive(Clone, Copy, Debug, PartialEq, Eq)]
+#[derive(Clone, Copy, PartialEq, Eq)]
 pub enum OutputForm {
     /// Standard output and standard error, each by itself.
     Split,
@@ -92,7 +92,7 @@ pub fn read_output(
     }
 }
 
-/// Takes the fields of an output, if they come next, that say that both streams were captured and hold nothing.
+/// Takes the five fields of an empty output, if they come next.
 pub fn take_silence(fields: &mut Fields<'_>) -> bool
     ensures { TakesSilence result fields.old fields.new }
 {
@@ -183,7 +183,7 @@ fn decode(alloc: Global, field: BytesMut) -> Result<Option<ChildSingleOutput>, O
 }
 
 // Reads a stream's bytes, or `-` where it was not captured.
-#[tactic(auto, unfolding(crate::specs::Texts::unescaped_after))]
+#[tactic(auto, unfolding(scene_fields::specs::Texts::unescaped_after))]
 fn read_stream(alloc: Global, field: &str) -> Result<Option<Option<ChildSingleOutput>>, OutOfMemory>
     ensures { IfOk result (λ stream. stream ≡ stream_in field.now) }
 {

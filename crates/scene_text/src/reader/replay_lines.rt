@@ -1,20 +1,20 @@
 //! The lines of a replay, which are calls of a reporter and no events.
 
 ghost use Rattle.std.specs.Prelude.{◌≡◌, IfOk};
-ghost use Rattle.scene_text.specs.Fields.{Gives};
+ghost use Rattle.scene_fields.specs.Fields.{Gives};
 ghost use Rattle.scene_text.specs.ReplayLines.{header_line_fields, prefix_line_fields, some_text_in, text_or_none_in, unique_prefix_fields};
-ghost use Rattle.scene_text.specs.Texts.{text_in};
+ghost use Rattle.scene_fields.specs.Texts.{text_in};
 
-use super::fields::Fields;
 use super::moments::read_moment;
-use super::texts::read_text;
-use super::values::{read_absent, read_run_id};
-use crate::fault::LineError;
-use crate::scene::event::SceneEvent;
-use crate::scene::replay_calls::SceneHeader;
 use run_model::abort::DescriptionText;
 use run_model::memory::OutOfMemory;
 use run_model::run_id::ShortestRunIdPrefix;
+use scene_events::scene::event::SceneEvent;
+use scene_events::scene::replay_calls::SceneHeader;
+use scene_fields::fault::LineError;
+use scene_fields::fields::Fields;
+use scene_fields::texts::read_text;
+use scene_fields::values::{read_absent, read_run_id};
 use std::alloc::Global;
 
 /// Reads a `prefix` line: the part of the run's id that no other run has, and the rest.

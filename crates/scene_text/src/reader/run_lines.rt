@@ -1,21 +1,21 @@
 //! The lines of a run.
 
 ghost use Rattle.std.specs.Prelude.{◌≡◌};
-ghost use Rattle.scene_text.specs.Fields.{Gives, answered};
+ghost use Rattle.scene_fields.specs.Fields.{Gives, answered};
 ghost use Rattle.scene_text.specs.RunLines.{cancel_line_fields, end_line_fields, input_line_fields, not_seen_fields, pause_line_fields, run_line_fields};
 
-use super::counts::{read_skips, read_stats};
-use super::fields::Fields;
-use super::lists::read_instances;
-use super::names::read_profile_name;
-use super::numbers::{read_count, read_nanos};
-use super::values::{read_reason_or_none, read_run_id};
-use crate::fault::{LineError, LineFault};
-use crate::scene::event::SceneEvent;
-use crate::scene::run_events::{RunCancel, RunFinish, RunPause, RunStart, StateRequest};
 use run_model::event::TestCounts;
 use run_model::not_seen::NotSeen;
 use run_model::stats::RunFinishedStats;
+use scene_events::scene::event::SceneEvent;
+use scene_events::scene::run_events::{RunCancel, RunFinish, RunPause, RunStart, StateRequest};
+use scene_fields::counts::{read_skips, read_stats};
+use scene_fields::fault::{LineError, LineFault};
+use scene_fields::fields::Fields;
+use scene_fields::lists::read_instances;
+use scene_fields::names::read_profile_name;
+use scene_fields::numbers::{read_count, read_nanos};
+use scene_fields::values::{read_reason_or_none, read_run_id};
 use std::alloc::Global;
 
 /// Reads a `run` line: run id, profile, how many tests and binaries, and what is skipped.

@@ -1,18 +1,18 @@
 //! The lines of setup scripts.
 
-ghost use Rattle.scene_text.specs.Fields.{Gives};
+ghost use Rattle.scene_fields.specs.Fields.{Gives};
 ghost use Rattle.scene_text.specs.ScriptLines.{script_fields, setup_done_line_fields, setup_line_fields, setup_slow_line_fields};
 
-use super::fields::Fields;
-use super::lists::read_command_line;
-use super::names::{read_program_name, read_script_id};
-use super::numbers::{read_count, read_nanos};
 use super::test_lines::read_attempt;
-use super::values::{read_flag, read_stress_index};
-use crate::fault::LineError;
-use crate::scene::event::SceneEvent;
-use crate::scene::script_events::{SceneScript, SetupFinish, SetupStart, SlowSetup};
 use run_model::status::RetryData;
+use scene_events::scene::event::SceneEvent;
+use scene_events::scene::script_events::{SceneScript, SetupFinish, SetupStart, SlowSetup};
+use scene_fields::fault::LineError;
+use scene_fields::fields::Fields;
+use scene_fields::lists::read_command_line;
+use scene_fields::names::{read_program_name, read_script_id};
+use scene_fields::numbers::{read_count, read_nanos};
+use scene_fields::values::{read_flag, read_stress_index};
 use std::alloc::Global;
 
 // A setup script is run once.

@@ -5,21 +5,21 @@
 ghost use Rattle.std.specs.Prelude.{◌≡◌, IfOk};
 ghost use Rattle.scene_text.specs.States.{delay_in, exited_in, exiting_in, result_or_none_in, running_in, slow_after_in, state_in, state_parts_in, state_with, state_word_in, terminate_reason_in, terminating_in, timing_in, wait_in};
 
-use super::numbers::{read_nanos, read_small_count};
-use super::results::read_result;
-use super::split::split_at_byte;
-use super::texts::read_text;
-use super::values::read_flag;
-use crate::scene::states::{EndedState, LiveState, SceneState, Timing, Wait};
 use run_model::abort::DescriptionText;
 use run_model::info::{UnitTerminateMethod, UnitTerminateReason, UnitTerminatingState};
 use run_model::memory::OutOfMemory;
 use run_model::status::ExecutionResultDescription;
 use run_model::time::Nanos;
+use scene_events::scene::states::{EndedState, LiveState, SceneState, Timing, Wait};
+use scene_fields::numbers::{read_nanos, read_small_count};
+use scene_fields::results::read_result;
+use scene_fields::split::split_at_byte;
+use scene_fields::texts::read_text;
+use scene_fields::values::read_flag;
 use std::alloc::Global;
 
 /// What the parts of a state say. How the attempt ended is not among them.
-#[derive(Debug, Drop)]
+#[derive(Drop)]
 pub enum StateParts {
     /// There is a process.
     Live(LiveState),
@@ -28,7 +28,7 @@ pub enum StateParts {
 }
 
 /// The word that a state begins with.
-#[derive(Clone, Copy, Debug, PartialEq, Eq)]
+#[derive(Clone, Copy, PartialEq, Eq)]
 pub enum StateWord {
     /// The process runs.
     Running,

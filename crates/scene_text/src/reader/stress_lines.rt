@@ -1,21 +1,21 @@
 //! The lines of stress runs.
 
 ghost use Rattle.std.specs.Prelude.{◌≡◌};
-ghost use Rattle.scene_text.specs.Fields.{Gives, answered};
+ghost use Rattle.scene_fields.specs.Fields.{Gives, answered};
 ghost use Rattle.scene_text.specs.StressLines.{completed_in, end_stress_line_fields, progress_in, stress_count_in, sub_end_line_fields, sub_start_line_fields};
 
-use super::counts::read_stats;
-use super::fields::Fields;
-use super::numbers::{read_nanos, read_small_count};
 use super::run_lines::read_not_seen;
-use super::split::split_at_byte;
-use super::values::{read_stress_index, read_total};
-use crate::fault::{LineError, LineFault};
-use crate::scene::event::SceneEvent;
-use crate::scene::run_events::RunFinish;
-use crate::scene::stress_events::{SubRunFinish, SubRunStart};
 use run_model::stats::{RunFinishedStats, StressRunStats};
 use run_model::stress::{StressCount, StressIndex, StressProgress};
+use scene_events::scene::event::SceneEvent;
+use scene_events::scene::run_events::RunFinish;
+use scene_events::scene::stress_events::{SubRunFinish, SubRunStart};
+use scene_fields::counts::read_stats;
+use scene_fields::fault::{LineError, LineFault};
+use scene_fields::fields::Fields;
+use scene_fields::numbers::{read_nanos, read_small_count};
+use scene_fields::split::split_at_byte;
+use scene_fields::values::{read_stress_index, read_total};
 use std::alloc::Global;
 
 /// Reads a `substart` line: how far the stress run has come.

@@ -1,25 +1,25 @@
 //! The lines of tests.
 
 ghost use Rattle.std.specs.Prelude.{◌≡◌};
-ghost use Rattle.scene_text.specs.Fields.{Gives, answered};
+ghost use Rattle.scene_fields.specs.Fields.{Gives, answered};
 ghost use Rattle.scene_text.specs.TestLines.{all_attempts, attempt_fields, told_attempt, attempts_behind, done_line_fields, retry_fields, retry_line_fields, retry_start_line_fields, skip_line_fields, slow_line_fields, start_line_fields, test_fields};
 
-use super::counts::read_stats;
-use super::fields::Fields;
-use super::lists::read_command_line;
-use super::names::{read_binary_id, read_test_name};
-use super::numbers::{read_nanos, read_small_count};
 use super::outputs::{read_output, take_silence};
-use super::results::read_result;
-use super::values::{read_display, read_flag, read_flaky_result, read_stress_index};
-use crate::fault::{LineError, LineFault};
-use crate::scene::attempts::{SceneAttempt, SceneAttempts};
-use crate::scene::event::SceneEvent;
-use crate::scene::test_events::{
-    FailedAttempt, SceneTest, SlowTest, TestFinish, TestRetryStart, TestStart,
-};
 use run_model::status::{ExecutionResultDescription, FlakyResult, RetryData};
 use run_model::time::Nanos;
+use scene_events::scene::attempts::{SceneAttempt, SceneAttempts};
+use scene_events::scene::event::SceneEvent;
+use scene_events::scene::test_events::{
+    FailedAttempt, SceneTest, SlowTest, TestFinish, TestRetryStart, TestStart,
+};
+use scene_fields::counts::read_stats;
+use scene_fields::fault::{LineError, LineFault};
+use scene_fields::fields::Fields;
+use scene_fields::lists::read_command_line;
+use scene_fields::names::{read_binary_id, read_test_name};
+use scene_fields::numbers::{read_nanos, read_small_count};
+use scene_fields::results::read_result;
+use scene_fields::values::{read_display, read_flag, read_flaky_result, read_stress_index};
 use std::alloc::Global;
 use std::mem;
 

@@ -11,9 +11,9 @@ use Rattle.run_model.specs.declared.call.ReportCall.{ReportCall}
 use Rattle.run_model.specs.declared.call.ReportCall.TheVariants.{Event, Header, Prefix}
 use Rattle.store_text.specs.declared.config.StoreConfig.{StoreConfig}
 use Rattle.scenes.specs.Reports.{Begins, IsStop, StopsStore, StopsText, store_for}
-use Rattle.scenes.specs.declared.fault.Fault.{Fault}
-use Rattle.scenes.specs.declared.fault.Fault.TheVariants.{Usage, CannotRead, CannotWrite, Line, WriteFailed, StoreFailed, OutOfMemory}
-use Rattle.scenes.specs.declared.words.Options.{Options}
+use Rattle.command_line.specs.declared.fault.Fault.{Fault}
+use Rattle.command_line.specs.declared.fault.Fault.TheVariants.{Usage, CannotRead, CannotWrite, Line, WriteFailed, StoreFailed, OutOfMemory}
+use Rattle.command_line.specs.declared.words.Options.{Options}
 
 module _ {W : Type 0} (contents : W → Option (List ℕ)) (a b : TextBuffer W) (none : a.pending.items ≡ []) (text : List ℕ) where
   -- a beginning of the text was accepted, and of that the device took a beginning
@@ -42,6 +42,17 @@ module _ {W : Type 0} (contents : W → Option (List ℕ)) (a b : TextBuffer W) 
   store_begins StoreFailed h = λ old new before after. stopped_begins contents a b old new text before after _ none h
   store_begins OutOfMemory (inl h) = λ old new before after. stopped_begins contents a b old new text before after _ none h
   store_begins OutOfMemory (inr h) = front_begins h
+
+-- refused memory is no fault of a device
+pub memory_no_store : OutOfMemory ≡ StoreFailed → ⊥
+memory_no_store is = cc
+
+pub memory_no_device : OutOfMemory ≡ WriteFailed → ⊥
+memory_no_device is = cc
+
+-- nor is a fault of one device one of the other
+pub write_no_store : WriteFailed ≡ StoreFailed → ⊥
+write_no_store is = cc
 
 -- a device that stayed as it was holds the empty beginning
 pub untouched_begins : (before after : Option (List ℕ)) (text : List ℕ) → after ≡ before → Begins before after text

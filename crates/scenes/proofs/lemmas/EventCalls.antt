@@ -23,11 +23,11 @@ use Rattle.reporter_state.specs.Refusals.{event_refusal, first_refused, refusal_
 use Rattle.reporter_state.specs.declared.decider.OutputLoadDecider.{OutputLoadDecider}
 use Rattle.reporter_state.specs.declared.faults.WriteEventError.{WriteEventError}
 use Rattle.reporter_state.specs.declared.faults.WriteEventError.TheVariants.{OutputNotLoaded, RetriedSuccess}
-use Rattle.scene_text.specs.SceneAttempts.{script_status}
-use Rattle.scene_text.specs.Scenes.{IsCallOf, SaysSame}
-use Rattle.scene_text.specs.States.{unit_state}
-use Rattle.scene_text.specs.declared.scene.event.SceneEvent.{SceneEvent}
-use Rattle.scene_text.specs.declared.scene.event.SceneEvent.TheVariants as scene
+use Rattle.scene_events.specs.SceneAttempts.{script_status}
+use Rattle.scene_events.specs.Scenes.{IsCallOf, SaysSame}
+use Rattle.scene_events.specs.States.{unit_state}
+use Rattle.scene_events.specs.declared.scene.event.SceneEvent.{SceneEvent}
+use Rattle.scene_events.specs.declared.scene.event.SceneEvent.TheVariants as scene
 
 -- why an event is refused whose output is needed or is not
 abbrev pub lacking : Bool → Written → Option WriteEventError

@@ -19,26 +19,27 @@ use Rattle.reporter_state.specs.declared.faults.WriteEventError.{WriteEventError
 use Rattle.reporter_state.specs.declared.faults.WriteEventError.TheVariants.{RetriedSuccess, OutputNotLoaded, Io, Memory, Failed, StoreIo}
 use Rattle.console_reporter.proofs.lemmas.Stores.{store-laws}
 use Rattle.scene_text.specs.SceneTexts.{Told, is_begun, line_said, line_told, lines_before, with_said}
-use Rattle.scene_text.specs.Scenes.{IsCallOf}
-use Rattle.scene_text.specs.declared.fault.LineFault.{LineFault}
-use Rattle.scene_text.specs.declared.fault.LineFault.TheVariants as line
+use Rattle.scene_events.specs.Scenes.{IsCallOf}
+use Rattle.scene_fields.specs.declared.fault.LineFault.{LineFault}
+use Rattle.scene_fields.specs.declared.fault.LineFault.TheVariants as line
 use Rattle.scene_text.specs.declared.reader.LineSaid.{LineSaid}
 use Rattle.scene_text.specs.declared.reader.LineSaid.TheVariants as said
 use Rattle.scene_text.specs.declared.reader.LinesBefore.{LinesBefore}
-use Rattle.scene_text.specs.declared.scene.event.SceneEvent.{SceneEvent}
+use Rattle.scene_events.specs.declared.scene.event.SceneEvent.{SceneEvent}
 use Rattle.scenes.specs.Follow.{AtLine, BreaksEvent, BreaksOff, Follows, HasTold, LeavesEvent, LeavesLine, LeavesSaid, RefusesEvent, StopsBehind, StopsBy, TellsEvent, TellsLine, TellsSaid, fault_at_call, run_outcome}
 use Rattle.scenes.specs.Judged.{line_fault_for}
-use Rattle.scenes.specs.Pieces.{IsUnread}
+use Rattle.command_line.specs.Pieces.{IsUnread}
 use Rattle.scenes.specs.Reports.{StopsStore, StopsText, configuration_for, fault_for}
 use Rattle.scenes.specs.Unloads.{decider_for}
-use Rattle.scenes.specs.declared.fault.Fault.{Fault}
-use Rattle.scenes.specs.declared.fault.Fault.TheVariants as fault
+use Rattle.command_line.specs.declared.fault.Fault.{Fault}
+use Rattle.command_line.specs.declared.fault.Fault.TheVariants as fault
 use Rattle.scenes.specs.declared.follow.Follower.{Follower}
-use Rattle.scenes.specs.declared.words.Options.{Options}
+use Rattle.command_line.specs.declared.words.Options.{Options}
 use Rattle.scenes.proofs.lemmas.ReadLines.{at_more, line_tells}
 use Rattle.scenes.proofs.lemmas.EventCalls.{zip_more}
 use Rattle.scenes.proofs.lemmas.Refusals.{none_more}
-use Rattle.scenes.proofs.lemmas.Reports.{ends_joined, store_joined, told_more, told_store, told_text}
+use Rattle.scenes.proofs.lemmas.Devices.{memory_no_device, memory_no_store}
+use Rattle.scenes.proofs.lemmas.Reports.{device_error, ends_joined, store_behind, store_error, store_joined, text_behind, told_more, told_store, told_text}
 
 -- an event more has begun the run
 begun_more : (es : List SceneEvent) (e : SceneEvent) → is_begun (es ++ e ∷ []) ≡ true
@@ -103,8 +104,8 @@ module _ {W S : Type 0} {m : Meaning W} {n : Meaning S} (laws : WriterLaws m) (o
     }
 
     -- an event's call broke off
-    pub broke_event : (e : SceneEvent) (fault : Fault) → BreaksEvent m n e fault now next → BreaksOff m n options start next (with_said run (said.Event e)) fault
-    broke_event e fault broke =
+    pub broke_event : (e : SceneEvent) (fault : Fault) → AreDelivered m n now.reporter → BreaksEvent m n e fault now next → BreaksOff m n options start next (with_said run (said.Event e)) fault
+    broke_event e fault delivered broke =
         let config = configuration_for options run.config in
         let a = start.reporter.writer.now in
         let b = now.reporter.writer.now in
@@ -121,6 +122,25 @@ module _ {W S : Type 0} {m : Meaning W} {n : Meaning S} (laws : WriterLaws m) (o
           accepted = accepted_more broke.call (broke.accepted config past here_stands);
           stopped = subst (λ f. StopsText m a (t ++ u) f c) (sym broke.is) (told_text laws a c (t ++ u) broke.error broke.unrefused ended);
           store_stopped = subst (λ f. StopsStore (store_meaning n) start.reporter.store (records ++ entry) f next.reporter.store) (sym broke.is) (told_store (store-laws others) start.reporter.store next.reporter.store (records ++ entry) broke.error broke.unrefused store_ended);
+          whole_text = λ is.
+              let of_store = store_error broke.error (sym broke.is ∙ is) in
+              record {
+                later = [];
+                earlier = broke.call ∷ past;
+                is = refl;
+                accepted = laws.joins a b c t u (tells.accepted config stands) (text_behind m b c u broke.error of_store (broke.breaks.stopped config past here_stands));
+                delivered = broke.breaks.delivered of_store;
+              };
+          whole_records = λ is.
+              let of_device = device_error broke.error broke.unrefused (sym broke.is ∙ is) (broke.breaks.stopped config past here_stands) in
+              let same = store_behind (store_meaning n) now.reporter.store next.reporter.store entry broke.error of_device (broke.breaks.store_stopped config past here_stands) in
+              record {
+                later = broke.call ∷ [];
+                earlier = past;
+                is = refl;
+                accepted = subst (λ x. (store_meaning n).accepts start.reporter.store records x) (sym same) (tells.stored config stands);
+                delivered = subst (store_meaning n).is_delivered (sym same) delivered.store;
+              };
         }
 
     -- memory was refused before another call
@@ -133,6 +153,8 @@ module _ {W S : Type 0} {m : Meaning W} {n : Meaning S} (laws : WriterLaws m) (o
           accepted = accepted;
           stopped = inr (record { front = report config past; rest = []; whole = sym (append-nil (report config past)); accepted = tells.accepted config stands });
           store_stopped = inr (record { front = stored config.store past; rest = []; whole = sym (append-nil (stored config.store past)); accepted = tells.stored config stands });
+          whole_text = λ is. absurd (memory_no_store is);
+          whole_records = λ is. absurd (memory_no_device is);
         })
 
     -- what was told stands
@@ -159,7 +181,7 @@ module _ {W S : Type 0} {m : Meaning W} {n : Meaning S} (laws : WriterLaws m) (o
         lines = more;
         number = number + 1;
         at = at_more whole run t more number (with_said run (said.Event e)) at (line_tells run t (said.Event e) says);
-        holds = broke_event e fault broke;
+        holds = broke_event e fault delivered broke;
       }
 
       pub leaves_event : (f : Fault) → LeavesEvent m n number e f now next → StopsBy options whole (HasTold m n options start next) (BreaksOff m n options start next) f

@@ -7,6 +7,7 @@ use Rattle.std.specs.List.{AllZip}
 use Rattle.std.specs.Option.{option_map}
 use Rattle.std.proofs.lemmas.List.{reverse-reverse}
 use Rattle.plain_text.specs.StringWriter.{string_meaning}
+use Rattle.plain_text.specs.Texts.{Text}
 use Rattle.plain_text.specs.TextBuffer.{buffer_meaning}
 use Rattle.plain_text.specs.Writer.{Meaning, WriterLaws}
 use Rattle.plain_text.specs.declared.write_str.text_buffer.TextBuffer.{TextBuffer}
@@ -23,19 +24,19 @@ use Rattle.console_reporter.specs.declared.imp.builder.Surroundings.{Surrounding
 use Rattle.console_reporter.specs.declared.imp.reporter.DisplayReporter.{DisplayReporter}
 use Rattle.console_reporter.specs.declared.imp.store.Store.{Store}
 use Rattle.scene_text.specs.SceneTexts.{Told, nothing_told}
-use Rattle.scene_text.specs.Scenes.{IsCallOf}
-use Rattle.scene_text.specs.Split.{parted}
-use Rattle.scene_text.specs.declared.scene.SceneConfig.{SceneConfig}
+use Rattle.scene_events.specs.Scenes.{IsCallOf}
+use Rattle.scene_fields.specs.Split.{parted}
+use Rattle.scene_events.specs.declared.scene.SceneConfig.{SceneConfig}
 use Rattle.scenes.specs.Follow.{BreaksOff, BreaksTold, HasNoEvent, HasTold, HasToldTo, IsRefusedMemory, IsStart, OfText, PrintsFollowed, ReportsTold, StopsBy, run_outcome}
-use Rattle.scenes.specs.Reports.{Begins, StopsStore, builder_for, configuration_for, store_for, surroundings_of}
+use Rattle.scenes.specs.Reports.{Begins, HasFirstCalls, HoldsFirstCalls, StopsStore, builder_for, configuration_for, store_for, surroundings_of}
 use Rattle.scenes.specs.SpelledRuns.{BeginsTold, PrintsTold}
-use Rattle.scenes.specs.declared.fault.Fault.{Fault}
-use Rattle.scenes.specs.declared.fault.Fault.TheVariants as fault
+use Rattle.command_line.specs.declared.fault.Fault.{Fault}
+use Rattle.command_line.specs.declared.fault.Fault.TheVariants as fault
 use Rattle.scenes.specs.declared.follow.Follower.{Follower}
 use Rattle.scenes.specs.declared.follow.RunOutcome.{RunOutcome}
 use Rattle.scenes.specs.declared.follow.RunOutcome.TheVariants as outcome
-use Rattle.scenes.specs.declared.words.Options.{Options}
-use Rattle.scenes.proofs.lemmas.Devices.{nothing_stored, stop_alone, stop_both, store_begins, text_begins, untouched_begins}
+use Rattle.command_line.specs.declared.words.Options.{Options}
+use Rattle.scenes.proofs.lemmas.Devices.{memory_no_device, memory_no_store, nothing_stored, stop_alone, stop_both, store_begins, text_begins, untouched_begins}
 
 -- what holds of the lines before, holds also of what follows from it
 pub stops_so : (options : Options) (text : List ℕ) (P R : Told → Type 0) (Q T : Told → Fault → Type 0) → ((run : Told) → P run → R run) → ((run : Told) (f : Fault) → Q run f → T run f) →
@@ -68,6 +69,16 @@ delivered_appends (Some xs) (Some ys) x y t e f h =
 by_past : (P : List ReportCall → Type 0) (past : List ReportCall) → P past → P (reverse (reverse past))
 by_past P past h = subst P (sym (reverse-reverse past)) h
 
+-- where a buffer accepted and delivered the texts of some first calls, its device holds them
+holds_first : {W : Type 0} (contents : W → Option (List ℕ)) (a b : TextBuffer W) → a.pending.items ≡ [] → (texts : List ReportCall → Text) (past : List ReportCall) →
+    HasFirstCalls (buffer_meaning contents) texts past a b → HoldsFirstCalls texts past (contents a.writer) (contents b.writer)
+holds_first contents a b none texts past h = record {
+  later = h.later;
+  earlier = h.earlier;
+  is = h.is;
+  grown = delivered_appends (contents a.writer) (contents b.writer) a.pending.items b.pending.items (texts h.earlier) none h.delivered h.accepted.grown;
+}
+
 module _ {W : Type 0} (contents : W → Option (List ℕ)) (options : Options) (a b : TextBuffer W) (none : a.pending.items ≡ []) where
   -- without a store
   module _ (off : store_for options ≡ None) (store_old store_new : Option (List ℕ)) (untouched : store_new ≡ store_old) where
@@ -99,6 +110,13 @@ module _ {W : Type 0} (contents : W → Option (List ℕ)) (options : Options) (
           stopped = stop_alone (buffer_meaning contents) options a b t f h.stopped known;
           begun = by_past (λ p. Begins (contents a.writer) (contents b.writer) (report (configuration_for options run.config) p)) h.past (text_begins contents a b none t f h.stopped);
           kept = untouched_begins store_old store_new _ untouched;
+          whole_text = λ is. absurd (known is);
+          whole_records = λ is. record {
+            later = reverse (reverse h.past);
+            earlier = [];
+            is = sym (append-nil _);
+            grown = subst (λ x. Appends store_old x []) (sym untouched) (Appends-nil store_old);
+          };
         }
 
     -- of what was returned
@@ -136,6 +154,10 @@ module _ {W : Type 0} (contents : W → Option (List ℕ)) (options : Options) (
           stopped = stop_both (buffer_meaning contents) options store on a b t f h.stopped;
           begun = by_past (λ p. Begins (contents a.writer) (contents b.writer) (report (configuration_for options run.config) p)) h.past (text_begins contents a b none t f h.stopped);
           kept = by_past (λ p. Begins (store_contents c.writer) (store_contents d.writer) (stored (store_for options) p)) h.past (store_begins store_contents c d also (stored (store_for options) h.past) f h.store_stopped);
+          whole_text = λ is. by_past (λ p. HoldsFirstCalls (report (configuration_for options run.config)) p (contents a.writer) (contents b.writer)) h.past
+              (holds_first contents a b none (report (configuration_for options run.config)) h.past (h.whole_text is));
+          whole_records = λ is. by_past (λ p. HoldsFirstCalls (stored (store_for options)) p (store_contents c.writer) (store_contents d.writer)) h.past
+              (holds_first store_contents c d also (stored (store_for options)) h.past (h.whole_records is));
         }
 
     pub printed_both : (run : Told) (r : Result (Unit {0}) Fault) → OnOk r (HasToldTo (buffer_meaning contents) (buffer_meaning store_contents) options a b c d run) →
@@ -205,6 +227,8 @@ module _ {W T : Type 0} (m : Meaning W) (k : Meaning T) (laws : WriterLaws m) (o
     accepted = refl;
     stopped = inr (record { front = []; rest = []; whole = refl; accepted = laws.nothing old });
     store_stopped = inr (record { front = []; rest = []; whole = refl; accepted = others.nothing store_old });
+    whole_text = λ is. absurd (memory_no_store is);
+    whole_records = λ is. absurd (memory_no_device is);
   })
 
   -- memory was refused before the first line
@@ -367,6 +391,8 @@ nothing_held options text P before after store_before store_after same also = re
     stopped = tt;
     begun = untouched_begins before after [] same;
     kept = untouched_begins store_before store_after [] also;
+    whole_text = λ is. absurd (memory_no_store is);
+    whole_records = λ is. absurd (memory_no_device is);
   };
 }
 

@@ -1,24 +1,24 @@
 -- The lines before the first event, and that event (for `follow_first`, `read_head`).
-use Rattle.std.proofs.Common.{◌≡◌, ℕ, ◌+◌, Bool, true, false, List, [], ◌∷◌, ◌++◌, Option, None, Some, Result, Ok, Err, refl, sym, ap, ◌∙◌, subst, inl, inr}
+use Rattle.std.proofs.Common.{◌≡◌, ℕ, ◌+◌, List, [], Option, None, Some, Ok, Err, refl, subst, inl}
 use Rattle.plain_text.specs.Writer.{Meaning, WriterLaws}
 use Rattle.console_reporter.specs.Telling.{AreDelivered}
 use Rattle.console_reporter.proofs.lemmas.Runs.{run_begun}
-use Rattle.scene_text.specs.Configs.{unconfigured}
+use Rattle.scene_events.specs.Configs.{unconfigured}
 use Rattle.scene_text.specs.SceneTexts.{Told, line_said, lines_before, text_told, with_said}
-use Rattle.scene_text.specs.Split.{parted}
-use Rattle.scene_text.specs.declared.fault.LineFault.{LineFault}
+use Rattle.scene_fields.specs.Split.{parted}
+use Rattle.scene_fields.specs.declared.fault.LineFault.{LineFault}
 use Rattle.scene_text.specs.declared.reader.LineSaid.{LineSaid}
 use Rattle.scene_text.specs.declared.reader.LineSaid.TheVariants as said
-use Rattle.scene_text.specs.declared.scene.SceneConfig.{SceneConfig}
-use Rattle.scene_text.specs.declared.scene.event.SceneEvent.{SceneEvent}
-use Rattle.scenes.specs.Follow.{AtLine, BreaksOff, HasFirst, HasNoEvent, HasTold, IsFirstEvent, IsNextLine, IsReadTo, IsRefusedMemory, IsStart, KeepsUp, LeavesEvent, OfText, StopsBy, TellsEvent, run_outcome}
-use Rattle.scenes.specs.Pieces.{IsUnread}
-use Rattle.scenes.specs.declared.fault.Fault.{Fault}
-use Rattle.scenes.specs.declared.fault.Fault.TheVariants as fault
+use Rattle.scene_events.specs.declared.scene.SceneConfig.{SceneConfig}
+use Rattle.scene_events.specs.declared.scene.event.SceneEvent.{SceneEvent}
+use Rattle.scenes.specs.Follow.{BreaksOff, HasFirst, HasNoEvent, HasTold, IsFirstEvent, IsReadTo, IsRefusedMemory, IsStart, KeepsUp, LeavesEvent, OfText, StopsBy, TellsEvent, run_outcome}
+use Rattle.command_line.specs.Pieces.{IsUnread}
+use Rattle.command_line.specs.declared.fault.Fault.{Fault}
+use Rattle.command_line.specs.declared.fault.Fault.TheVariants as fault
 use Rattle.scenes.specs.declared.follow.Follower.{Follower}
-use Rattle.scenes.specs.declared.words.Options.{Options}
+use Rattle.command_line.specs.declared.words.Options.{Options}
 use Rattle.scenes.proofs.lemmas.Followed.{has_told, leaves_event, told_event}
-use Rattle.scenes.proofs.lemmas.ReadLines.{IsNext, at_more, line_tells, read_whole}
+use Rattle.scenes.proofs.lemmas.ReadLines.{IsNext, at_more, line_tells}
 
 -- what lines tell that make this configuration
 abbrev pub configured : SceneConfig → Told

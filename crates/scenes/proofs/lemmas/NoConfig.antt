@@ -2,15 +2,15 @@
 use Rattle.std.proofs.Common.{◌≡◌, ℕ, List, [], ◌∷◌, bytes_eq, codes, Result, Ok, Err, inl, inr}
 use Rattle.std.specs.Str.{is_utf8}
 use Rattle.std.proofs.lemmas.Bool.{cases_Bool}
-use Rattle.scene_text.specs.Fields.{Place}
+use Rattle.scene_fields.specs.Fields.{Place}
 use Rattle.scene_text.specs.Lines.{event_line_fields}
 use Rattle.scene_text.specs.SceneTexts.{event_told, is_passed_over, line_said, says_event, word_said, words_said}
-use Rattle.scene_text.specs.Split.{parted}
-use Rattle.scene_text.specs.declared.fault.LineFault.{LineFault}
+use Rattle.scene_fields.specs.Split.{parted}
+use Rattle.scene_fields.specs.declared.fault.LineFault.{LineFault}
 use Rattle.scene_text.specs.declared.reader.LineSaid.{LineSaid}
 use Rattle.scene_text.specs.declared.reader.LineSaid.TheVariants as said
-use Rattle.scene_text.specs.declared.scene.SceneConfig.{SceneConfig}
-use Rattle.scene_text.specs.declared.scene.event.SceneEvent.{SceneEvent}
+use Rattle.scene_events.specs.declared.scene.SceneConfig.{SceneConfig}
+use Rattle.scene_events.specs.declared.scene.event.SceneEvent.{SceneEvent}
 use Rattle.scenes.specs.Follow.{behind}
 
 abbrev Said : Type 0

@@ -1,66 +1,20 @@
--- A text that is read piece by piece (for `next_piece`, `take_at_hand`, `read_whole`).
-use Rattle.std.proofs.Common.{◌≡◌, ◌⊎◌, ℕ, zero, suc, ◌+◌, ◌<◌, Bool, true, false, List, [], ◌∷◌, ◌++◌, Option, None, Some, Result, Ok, Err, length, get_or, take, drop, refl, sym, ap, ◌∙◌, subst, arith, append-nil, append_assoc, inl, inr, not, ◌==◌, if◌then◌else◌}
-use native.Mathlib.Numerals.{unary_clauses}
-use Rattle.std.specs.Io.KnownBytes.{Keeps, prepend_known}
+-- A text that is read piece by piece (for `read_whole`).
+use Rattle.std.proofs.Common.{◌≡◌, ◌⊎◌, ℕ, ◌+◌, true, false, List, [], ◌∷◌, ◌++◌, Option, Some, Result, Ok, Err, length, refl, sym, ap, ◌∙◌, subst, arith, append-nil, append_assoc, inl, inr, ◌==◌}
 use Rattle.std.specs.List.{onto_first}
 use Rattle.std.specs.Prelude.{nat_lt}
 use Rattle.std.proofs.lemmas.Bool.{cases_Bool}
 use Rattle.std.proofs.lemmas.Bool.Decides.{nat_tests}
-use Rattle.memchr.specs.Find.{IsLastByte, is_byte}
 use Rattle.scene_text.specs.SceneTexts.{IsFaultThere, Told, event_lines, line_here, line_said, line_told, lines_from, lines_told, lines_told_after, nothing_told, text_told, told}
-use Rattle.scene_text.specs.Split.{parted}
-use Rattle.scene_text.specs.declared.fault.LineFault.{LineFault}
-use Rattle.scene_text.specs.declared.fault.ReadFault.{ReadFault}
-use Rattle.scene_text.specs.declared.fault.ReadFault.TheVariants as fault
-use Rattle.scene_text.specs.declared.scene.ToldRun.{ToldRun}
+use Rattle.scene_fields.specs.Split.{parted}
+use Rattle.scene_fields.specs.declared.fault.LineFault.{LineFault}
+use Rattle.scene_fields.specs.declared.fault.ReadFault.{ReadFault}
+use Rattle.scene_fields.specs.declared.fault.ReadFault.TheVariants as fault
+use Rattle.scene_events.specs.declared.scene.ToldRun.{ToldRun}
 use Rattle.scene_text.proofs.lemmas.FirstFaults.{differs, same_told, tells_fault}
-use Rattle.scenes.specs.Faults.{fault_of_read}
-use Rattle.scenes.specs.Pieces.{IsBehind, IsNextPiece}
+use Rattle.command_line.specs.Faults.{fault_of_read}
+use Rattle.command_line.specs.Pieces.{IsNextPiece}
 use Rattle.scenes.specs.ToldScenes.{IsReadFault, IsSceneRead}
-use Rattle.scenes.specs.declared.pieces.Taken.TheVariants as taken
 use Rattle.scenes.proofs.lemmas.ReadLines.{has_first}
-
--- what a reader has at hand is the beginning of what is left, where that is known
-pub at_hand_first : (shows_nothing : Bool) (at_hand : List ℕ) (inner : Option (List ℕ)) (text : List ℕ) → (if shows_nothing then None else prepend_known at_hand inner) ≡ Some text → (left : List ℕ) × (at_hand ++ left ≡ text)
-at_hand_first true at_hand inner text known = absurd (grind (arith, known))
-at_hand_first false at_hand None text known = absurd (grind (arith, known))
-at_hand_first false at_hand (Some left) text known = (left, grind (arith, known))
-
--- what is known is so still
-pub kept_known : (old new : Option (List ℕ)) (text : List ℕ) → old ≡ Some text → Keeps old new → new ≡ Some text
-kept_known None new text known keeps = absurd (grind (arith, known))
-kept_known (Some xs) None text known keeps = absurd keeps
-kept_known (Some xs) (Some ys) text known keeps = ap Some keeps ∙ known
-
--- a text that has a line feed here
-feed_here : (front left : List ℕ) (k : ℕ) → k < length front → get_or front k 0 ≡ 10 → front ++ left ≡ take k front ++ 10 ∷ drop (k + 1) (front ++ left)
-feed_here [] left k within feed = absurd (omega (arith, within))
-feed_here (c ∷ t) left zero within feed = ap (λ b. b ∷ t ++ left) feed
-feed_here (c ∷ t) left (suc k) within feed =
-    let later = feed_here t left k (omega (arith, within)) feed in
-    simp unary_clauses (ap (λ u. c ∷ u) (simp unary_clauses at later))
-
--- the lines that end in the last line feed of what is at hand
-pub lines_taken : (k : ℕ) (old at_hand text : List ℕ) → (left : List ℕ) × (at_hand ++ left ≡ text) → IsLastByte (is_byte 10) at_hand (Some k) → old ++ text ≡ (old ++ take k at_hand) ++ 10 ∷ drop (k + 1) text
-lines_taken k old at_hand text left last =
-    let feed : get_or at_hand k 0 ≡ 10 = grind (arith, nat_tests, last.1) in
-    let here = subst (λ t. t ≡ take k at_hand ++ 10 ∷ drop (k + 1) t) left.1 (feed_here at_hand left.0 k last.0.high feed) in
-    ap (λ u. old ++ u) here ∙ sym (append_assoc old (take k at_hand) (10 ∷ drop (k + 1) text))
-
--- lines were taken of what was left of a text, or a part of one
-module _ (text old left at_hand new : List ℕ) (rest : Option (List ℕ)) (so_far : text ≡ old ++ left) where
-  pub lines_behind : IsBehind taken.Lines at_hand left old new rest → IsNextPiece text true new rest
-  lines_behind taken = (taken.0, taken.1, inl (so_far ∙ taken.2))
-
-  pub part_behind : IsBehind taken.Part at_hand left old new rest → (more : List ℕ) × (rest ≡ Some more) × (text ≡ new ++ more)
-  part_behind taken = (taken.0, taken.1, so_far ∙ taken.2)
-
--- the file ends behind what was taken: it is the last piece, or nothing
-pub at_end : (text piece : List ℕ) (rest : Option (List ℕ)) (no_byte : Bool) → no_byte ≡ (length piece == 0) → text ≡ piece → rest ≡ Some [] → IsNextPiece text (not no_byte) piece rest
-at_end text [] rest false size is end = absurd (grind (arith, nat_tests, size))
-at_end text [] rest true size is end = is
-at_end text (c ∷ t) rest false size is end = ([], end, inr (is, refl))
-at_end text (c ∷ t) rest true size is end = absurd (grind (arith, nat_tests, size))
 
 -- the lines of two texts that a line feed parts
 pub parted_joined : (front back : List ℕ) → parted 10 (front ++ 10 ∷ back) ≡ parted 10 front ++ parted 10 back

@@ -5,7 +5,7 @@ use Rattle.std.specs.List.{onto_first}
 use Rattle.std.proofs.lemmas.Bool.{cases_Bool, false≢true}
 use Rattle.std.proofs.lemmas.List.{length-append}
 use Rattle.scene_text.specs.SceneTexts.{AllTell, Told, line_said, line_told, lines_before, lines_told, nothing_told, text_told, with_said}
-use Rattle.scene_text.specs.Split.{parted}
+use Rattle.scene_fields.specs.Split.{parted}
 use Rattle.scene_text.specs.declared.reader.LineSaid.{LineSaid}
 use Rattle.scenes.specs.Follow.{AreLeft, AtLine, IsNextLine, IsReadTo}
 

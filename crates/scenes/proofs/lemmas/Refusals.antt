@@ -14,14 +14,14 @@ use Rattle.reporter_state.specs.Loads.{lacks_output}
 use Rattle.run_model.specs.declared.call.ReportCall.{ReportCall}
 use Rattle.run_model.specs.declared.call.ReportCall.TheVariants.{Event, Header, Prefix}
 use Rattle.reporter_state.specs.declared.decider.OutputLoadDecider.{OutputLoadDecider}
-use Rattle.scene_text.specs.Scenes.{IsCallOf}
-use Rattle.scene_text.specs.declared.scene.event.SceneEvent.{SceneEvent}
+use Rattle.scene_events.specs.Scenes.{IsCallOf}
+use Rattle.scene_events.specs.declared.scene.event.SceneEvent.{SceneEvent}
 use Rattle.scenes.specs.Judged.{IsRefusedLine, JudgesEvent, fault_of_refusal, line_fault_for}
 use Rattle.scenes.specs.Unloads.{decider_for}
 use Rattle.scenes.proofs.lemmas.EventCalls.{last_there, same_there, zip_long, zip_place}
-use Rattle.scene_text.specs.declared.fault.LineFault.{LineFault}
+use Rattle.scene_fields.specs.declared.fault.LineFault.{LineFault}
 use Rattle.scenes.specs.declared.scene.Scene.{Scene}
-use Rattle.scenes.specs.declared.words.Options.{Options}
+use Rattle.command_line.specs.declared.words.Options.{Options}
 
 -- where no item passes, each fails
 pub position-None : {X : Type 0} (p : X → Bool) (xs : List X) (i : ℕ) (d : X) → position p xs ≡ None → i < length xs → p (get_or xs i d) ≡ false

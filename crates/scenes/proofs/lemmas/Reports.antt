@@ -23,19 +23,44 @@ use Rattle.reporter_state.specs.declared.decider.OutputLoadDecider.{OutputLoadDe
 use Rattle.reporter_state.specs.declared.faults.WriteEventError.{WriteEventError}
 use Rattle.reporter_state.specs.declared.faults.WriteEventError.TheVariants.{RetriedSuccess, OutputNotLoaded, Io, Memory, Failed, StoreIo}
 use Rattle.run_model.specs.declared.call.ReportCall.{ReportCall}
-use Rattle.scene_text.specs.Scenes.{IsCallOf}
-use Rattle.scene_text.specs.declared.scene.event.SceneEvent.{SceneEvent}
+use Rattle.scene_events.specs.Scenes.{IsCallOf}
+use Rattle.scene_events.specs.declared.scene.event.SceneEvent.{SceneEvent}
 use Rattle.scenes.specs.Follow.{BreaksTold, HasToldTo, run_outcome}
 use Rattle.scenes.specs.Judged.{IsSceneAccepted}
-use Rattle.scenes.specs.Reports.{AreCallsOf, Ends, EndsStore, StopsStore, StopsText, configuration_for, fault_for}
+use Rattle.scenes.specs.Reports.{AreCallsOf, Ends, HasFirstCalls, EndsStore, StopsStore, StopsText, configuration_for, fault_for}
 use Rattle.scenes.specs.ToldScenes.{scene_told}
 use Rattle.scenes.specs.Unloads.{IsReadyCall, decider_for}
-use Rattle.scenes.specs.declared.fault.Fault.{Fault}
-use Rattle.scenes.specs.declared.fault.Fault.TheVariants.{OutOfMemory}
+use Rattle.command_line.specs.declared.fault.Fault.{Fault}
+use Rattle.command_line.specs.declared.fault.Fault.TheVariants.{OutOfMemory, StoreFailed, WriteFailed}
 use Rattle.scenes.specs.declared.scene.Scene.{Scene}
-use Rattle.scenes.specs.declared.words.Options.{Options}
+use Rattle.command_line.specs.declared.words.Options.{Options}
+use Rattle.scenes.proofs.lemmas.Devices.{memory_no_device, memory_no_store, write_no_store}
 use Rattle.scenes.proofs.lemmas.EventCalls.{behind_there, same_first, zip_both, zip_place}
 use Rattle.scenes.proofs.lemmas.Refusals.{none_refused_at}
+
+-- the errors that the program tells as a fault of one of its devices
+pub store_error : (e : WriteEventError) → fault_for e ≡ StoreFailed → e ≡ StoreIo
+store_error RetriedSuccess is = absurd (write_no_store is)
+store_error OutputNotLoaded is = absurd (write_no_store is)
+store_error Io is = absurd (write_no_store is)
+store_error Memory is = absurd (memory_no_store is)
+store_error Failed is = absurd (write_no_store is)
+store_error StoreIo is = refl
+
+pub device_error : {S : Type 0} {m : Meaning S} {a b : S} {t : Text} (e : WriteEventError) → refusal_in e ≡ None → fault_for e ≡ WriteFailed → Stops m a t e b → e ≡ Io
+device_error RetriedSuccess none is h = absurd (not_refused RetriedSuccess none refl)
+device_error OutputNotLoaded none is h = absurd (not_refused OutputNotLoaded none refl)
+device_error Io none is h = refl
+device_error Memory none is h = absurd (memory_no_device is)
+device_error Failed none is h = absurd h
+device_error StoreIo none is h = absurd (write_no_store (sym is))
+
+-- at a fault of the store the whole text was accepted, and at one of the device the store is as it was
+pub text_behind : {S : Type 0} (m : Meaning S) (a b : S) (t : Text) (e : WriteEventError) → e ≡ StoreIo → Stops m a t e b → m.accepts a t b
+text_behind m a b t e is h = subst (λ x. Stops m a t x b) is h
+
+pub store_behind : {S : Type 0} (m : Meaning S) (a b : S) (t : Text) (e : WriteEventError) → e ≡ Io → StopsRecord m a t e b → b ≡ a
+store_behind m a b t e is h = subst (λ x. StopsRecord m a t x b) is h
 
 -- the text begins so
 record Begins (front whole : Text) : Type 0 where
@@ -215,12 +240,13 @@ module _ (options : Options) (scene : Scene) where
       pub of_first : AllZip IsCallOf (take i scene.events.items) made
       pub of_others : AllZip IsCallOf (drop i scene.events.items) left
       pub tells : TellsRun m n old (handed made) now
+      pub delivered : AreDelivered m n now
 
   module _ {W S : Type 0} {m : Meaning W} {n : Meaning S} (laws : WriterLaws m) (others : WriterLaws n) (old : DisplayReporter W S) (accepted : IsSceneAccepted options scene) where
     -- one call more was made
     pub one_reported : (i : ℕ) (now next : DisplayReporter W S) (e : SceneEvent) → i < length scene.events.items → e ≡ get_or scene.events.items i e → (call : ReportCall) → IsReadyCall options decider e call →
-        HasReported m n i old now → Tells m n now (Some call) next → HasReported m n (i + 1) old next
-    one_reported i now next e within is call r h told =
+        HasReported m n i old now → Tells m n now (Some call) next → AreDelivered m n next → HasReported m n (i + 1) old next
+    one_reported i now next e within is call r h told delivered =
         let more = others_left i e within is h.left h.of_others in
         record {
           made = h.made ++ r.made ∷ [];
@@ -228,19 +254,23 @@ module _ (options : Options) (scene : Scene) where
           of_first = zip_place scene.events.items h.made i e r.made within is h.of_first r.of_event;
           of_others = more.1;
           tells = subst (λ past. TellsRun m n old past next) (sym (handed_more h.made r.made)) (told_more laws others old now next (handed h.made) (ready r.made) h.tells (subst (λ c. Tells m n now (Some c) next) r.ready told));
+          delivered = delivered;
         }
 
     module _ (stands : StandsAfter config [] old) where
       -- what stopped is told of all calls of the scene
       stopped_at : (calls : List ReportCall) → AreCallsOf scene calls → (f : Fault) (next : DisplayReporter W S) →
           StopsText m old.writer.now (report config (reverse calls)) f next.writer.now → StopsStore (store_meaning n) old.store (stored config.store (reverse calls)) f next.store →
+          (f ≡ StoreFailed → HasFirstCalls m (report config) (reverse calls) old.writer.now next.writer.now) → (f ≡ WriteFailed → HasFirstCalls (store_meaning n) (stored config.store) (reverse calls) old.store next.store) →
           BreaksTold m (store_meaning n) options old.writer.now next.writer.now old.store next.store (scene_told scene) f
-      stopped_at calls of_scene f next told kept = record {
+      stopped_at calls of_scene f next told kept whole_text whole_records = record {
         past = reverse calls;
         of_run = subst (λ cs. AllZip IsCallOf scene.events.items cs) (sym (reverse-reverse calls)) of_scene;
         accepted = subst (λ cs. first_refused decider cs ≡ None) (sym (reverse-reverse calls)) (all_accepted accepted calls of_scene);
         stopped = told;
         store_stopped = kept;
+        whole_text = whole_text;
+        whole_records = whole_records;
       }
 
       -- memory was refused before another call
@@ -251,6 +281,7 @@ module _ (options : Options) (scene : Scene) where
           stopped_at (h.made ++ h.left) (of_both i h.made h.left h.of_first h.of_others) OutOfMemory now
           (text_before laws old.writer.now now.writer.now _ b.rest _ b.is (h.tells.accepted config stands))
           (store_before (store-laws others) old.store now.store _ k.rest _ k.is (h.tells.stored config stands))
+          (λ is. absurd (memory_no_store is)) (λ is. absurd (memory_no_device is))
 
       -- a call broke off
       pub broke_reported : (i : ℕ) (now next : DisplayReporter W S) (e : SceneEvent) → i < length scene.events.items → e ≡ get_or scene.events.items i e → (call : ReportCall) → IsReadyCall options decider e call →
@@ -271,6 +302,28 @@ module _ (options : Options) (scene : Scene) where
           (b.is ∙ ap (λ past. report config past ++ b.rest) (handed_more h.made r.made)) unrefused (h.tells.accepted config stands) (here.stopped config (handed h.made) (h.tells.stands config stands)))
           (stores_in (store-laws others) old.store now.store next.store (stored config.store (handed h.made)) (stored_text config.store (ready r.made)) k.rest _ error
           (k.is ∙ ap (λ past. stored config.store past ++ k.rest) (handed_more h.made r.made)) unrefused (h.tells.stored config stands) (here.store_stopped config (handed h.made) (h.tells.stands config stands)))
+          (λ is.
+          let of_store = store_error error is in
+          record {
+            later = reverse more.0;
+            earlier = reverse made;
+            is = reverse-append made more.0;
+            accepted = subst (λ t. m.accepts old.writer.now t next.writer.now) (ap (report config) (sym (handed_more h.made r.made)) ∙ same_by options.unload_skipped made)
+                (laws.joins old.writer.now now.writer.now next.writer.now (report config (handed h.made)) (text config (handed h.made) (ready r.made)) (h.tells.accepted config stands)
+                (text_behind m _ _ _ error of_store (here.stopped config (handed h.made) (h.tells.stands config stands))));
+            delivered = here.delivered of_store;
+          })
+          (λ is.
+          let of_device = device_error error unrefused is (here.stopped config (handed h.made) (h.tells.stands config stands)) in
+          let same = store_behind (store_meaning n) now.store next.store _ error of_device (here.store_stopped config (handed h.made) (h.tells.stands config stands)) in
+          record {
+            later = reverse more.0 ++ r.made ∷ [];
+            earlier = reverse h.made;
+            is = reverse-append made more.0 ∙ ap (λ cs. reverse more.0 ++ cs) (reverse-append h.made (r.made ∷ [])) ∙ sym (append_assoc (reverse more.0) (r.made ∷ []) (reverse h.made));
+            accepted = subst (λ x. (store_meaning n).accepts old.store (stored config.store (reverse h.made)) x) (sym same)
+                (subst (λ t. (store_meaning n).accepts old.store t now.store) (same_stored_by options.unload_skipped h.made) (h.tells.stored config stands));
+            delivered = subst (store_meaning n).is_delivered (sym same) h.delivered.store;
+          })
 
       -- all calls were made
       module _ (i : ℕ) (past : length scene.events.items ≤ i) (now next : DisplayReporter W S) (h : HasReported m n i old now) where
@@ -308,3 +361,24 @@ module _ (options : Options) (scene : Scene) where
             (h.tells.accepted config stands) (broke.stopped config (handed h.made) (h.tells.stands config stands)))
             (stores_in (store-laws others) old.store now.store next.store (stored config.store (handed h.made)) [] [] _ error (whole_stored ∙ sym (append-nil _) ∙ sym (append-nil _)) unrefused
             (h.tells.stored config stands) (broke.store_stopped config (handed h.made) (h.tells.stands config stands)))
+            (λ is.
+            let of_store = store_error error is in
+            record {
+              later = [];
+              earlier = reverse h.made;
+              is = refl;
+              accepted = subst (λ t. m.accepts old.writer.now t next.writer.now) (append-nil _ ∙ sym whole)
+                  (laws.joins _ _ _ _ _ (h.tells.accepted config stands) (text_behind m _ _ _ error of_store (broke.stopped config (handed h.made) (h.tells.stands config stands))));
+              delivered = broke.delivered of_store;
+            })
+            (λ is.
+            let of_device = device_error error unrefused is (broke.stopped config (handed h.made) (h.tells.stands config stands)) in
+            let same = store_behind (store_meaning n) now.store next.store _ error of_device (broke.store_stopped config (handed h.made) (h.tells.stands config stands)) in
+            record {
+              later = [];
+              earlier = reverse h.made;
+              is = refl;
+              accepted = subst (λ x. (store_meaning n).accepts old.store (stored config.store (reverse h.made)) x) (sym same)
+                  (subst (λ t. (store_meaning n).accepts old.store t now.store) (sym whole_stored) (h.tells.stored config stands));
+              delivered = subst (store_meaning n).is_delivered (sym same) h.delivered.store;
+            })

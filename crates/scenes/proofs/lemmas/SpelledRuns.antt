@@ -5,20 +5,20 @@ use Rattle.std.specs.List.{AllZip}
 use Rattle.std.proofs.lemmas.List.{reverse-reverse}
 use Rattle.plain_text.specs.Writer.{Meaning, WriterLaws}
 use Rattle.reporter_state.specs.Refusals.{first_refused}
-use Rattle.scene_text.specs.Scenes.{IsCallOf}
-use Rattle.scenes.specs.Faults.{IsJudgeFault}
+use Rattle.scene_events.specs.Scenes.{IsCallOf}
+use Rattle.command_line.specs.Faults.{IsJudgeFault}
 use Rattle.scenes.specs.Follow.{BreaksTold}
 use Rattle.scenes.specs.Judged.{IsRefusedText, IsSceneAccepted, IsSceneRefused}
 use Rattle.scenes.specs.Unloads.{decider_for}
 use Rattle.scenes.specs.ToldScenes.{scene_told}
 use Rattle.scene_text.specs.SceneTexts.{event_lines, nothing_told, text_told}
-use Rattle.scene_text.specs.Split.{parted}
+use Rattle.scene_fields.specs.Split.{parted}
 use Rattle.scenes.specs.SpelledRuns.{BeginsReport, BeginsRun, IsRejected, PrintsReport, PrintsRun}
-use Rattle.scenes.specs.declared.fault.Fault.{Fault}
-use Rattle.scenes.specs.declared.fault.Fault.TheVariants as fault
+use Rattle.command_line.specs.declared.fault.Fault.{Fault}
+use Rattle.command_line.specs.declared.fault.Fault.TheVariants as fault
 use Rattle.scenes.specs.declared.scene.Scene.{Scene}
-use Rattle.scenes.specs.declared.words.Options.{Options}
-use Rattle.scenes.proofs.lemmas.Devices.{untouched_begins}
+use Rattle.command_line.specs.declared.words.Options.{Options}
+use Rattle.scenes.proofs.lemmas.Devices.{memory_no_device, memory_no_store, untouched_begins}
 
 -- the fault of a refused call is one of judging
 pub refused_is_judged : (options : Options) (scene : Scene) (file : List ℕ) (f : Fault) → IsSceneRefused options scene f → IsJudgeFault file f
@@ -40,6 +40,8 @@ module _ (options : Options) (scene : Scene) (accepted : IsSceneAccepted options
     stopped = tt;
     begun = untouched_begins before after _ same;
     kept = untouched_begins store_before store_after _ also;
+    whole_text = λ is. absurd (memory_no_store is);
+    whole_records = λ is. absurd (memory_no_device is);
   }
 
   pub unbuilt : {W T : Type 0} (m : Meaning W) (k : Meaning T) (laws : WriterLaws m) (others : WriterLaws k) (old : W) (store_old : T) (f : Fault) → f ≡ fault.OutOfMemory →
@@ -50,6 +52,8 @@ module _ (options : Options) (scene : Scene) (accepted : IsSceneAccepted options
     accepted = subst (λ cs. first_refused (decider_for options scene.config) cs ≡ None) (sym (reverse-reverse accepted.calls)) accepted.accepted;
     stopped = inr (record { front = []; rest = _; whole = refl; accepted = laws.nothing old });
     store_stopped = inr (record { front = []; rest = _; whole = refl; accepted = others.nothing store_old });
+    whole_text = λ is. absurd (memory_no_store is);
+    whole_records = λ is. absurd (memory_no_device is);
   })
 
 module _ (options : Options) (scene : Scene) (text : List ℕ) (old new store_old store_new : Option (List ℕ)) (spelled : text_told text ≡ Ok (scene_told scene)) where

@@ -15,13 +15,12 @@ use Rattle.run_model.specs.declared.event.TestEventKind.{TestEventKind}
 use Rattle.run_model.specs.declared.event.TestEventKind.TheVariants as kind
 use Rattle.run_model.specs.declared.info.InfoResponse.TheVariants as response
 use Rattle.run_names.specs.declared.name.TestInstanceId.{TestInstanceId}
-use Rattle.scene_text.specs.Counts.{nothing_counted}
-use Rattle.scene_text.specs.SceneAttempts.{script_status}
-use Rattle.scene_text.specs.Scenes.{IsCallOf, SaysSame, needs_judging, told_elapsed}
-use Rattle.scene_text.specs.States.{unit_state}
-use Rattle.scene_text.specs.declared.scene.event.SceneEvent.{SceneEvent}
-use Rattle.scene_text.specs.declared.scene.event.SceneEvent.TheVariants as scene
-use Rattle.scene_text.specs.declared.scene.test_events.SceneTest.{SceneTest}
+use Rattle.scene_events.specs.SceneAttempts.{script_status}
+use Rattle.scene_events.specs.Scenes.{IsCallOf, SaysSame, needs_judging, nothing_counted, told_elapsed}
+use Rattle.scene_events.specs.States.{unit_state}
+use Rattle.scene_events.specs.declared.scene.event.SceneEvent.{SceneEvent}
+use Rattle.scene_events.specs.declared.scene.event.SceneEvent.TheVariants as scene
+use Rattle.scene_events.specs.declared.scene.test_events.SceneTest.{SceneTest}
 use Rattle.scenes.specs.Judged.{JudgesEvent, fault_of_refusal}
 use Rattle.scenes.proofs.lemmas.EventCalls.{lacking, lacking_attempt, refusal_of_call, told_refusal}
 

@@ -41,7 +41,7 @@ fn a_cancelled_stress_run_is_no_failed_one(rt: HostRuntime) {
         (0, failed, StressFinalRunStats::Success),
     ] {
         let stats = stress(failed_count, last);
-        assert_eq!(rt; stats.summarize_final(), outcome);
-        assert_eq!(rt; RunFinishedStats::Stress(stats).final_stats(), last);
+        assert!(rt; stats.summarize_final() == outcome);
+        assert!(rt; RunFinishedStats::Stress(stats).final_stats() == last);
     }
 }

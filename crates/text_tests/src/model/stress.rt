@@ -10,5 +10,5 @@ fn a_run_without_end_always_goes_on(rt: HostRuntime) {
         elapsed: Nanos(5),
         completed: u32::MAX,
     };
-    assert_eq!(rt; progress.remaining(), Some(StressRemaining::Infinite));
+    assert!(rt; progress.remaining() == Some(StressRemaining::Infinite));
 }

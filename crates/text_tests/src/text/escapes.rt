@@ -8,17 +8,12 @@ fn hands_out_pieces(rt: HostRuntime) -> Result<(), Fail> {
     let text = "a\x1b[1mb\x1b]0;t\x07\x1bcd";
     let mut marked = String::new(rt.alloc());
     for piece in pieces(text) {
-        match piece {
-            Piece::Sequence(sequence) => {
-                marked.push_str("<")?;
-                marked.push_str(sequence)?;
-                marked.push_str(">")?;
-            }
-            Piece::Stretch(stretch) => {
-                marked.push_str("(")?;
-                marked.push_str(stretch)?;
-                marked.push_str(")")?;
-            }
+        let parts = match piece {
+            Piece::Sequence(sequence) => ["<", sequence, ">"],
+            Piece::Stretch(stretch) => ["(", stretch, ")"],
+        };
+        for part in parts {
+            marked.push_str(part)?;
         }
     }
     assert_eq!(rt; marked.as_str(), "(a)<\x1b[1m>(b)<\x1b]0;t\x07><\x1bc>(d)");

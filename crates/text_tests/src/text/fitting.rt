@@ -46,11 +46,11 @@ fn fits_words(rt: HostRuntime) -> Result<(), Fail> {
     Ok(())
 }
 
-/// What a test shows in a greatest width.
+// What a test shows in a greatest width.
 fn shown(
     alloc: Global,
-    binary_id: &str,
-    name: &str,
+    counter_index: Option<DisplayCounterIndex>,
+    (binary_id, name): (&str, &str),
     is_colorized: bool,
     width: usize,
 ) -> Result<String, Fail> {
@@ -59,49 +59,41 @@ fn shown(
     if is_colorized {
         styles.colorize();
     }
-    let shown = DisplayTestInstance::new(None, None, test.as_ref(), &styles).with_max_width(width);
-    Ok(format!(in alloc; "{shown}")?)
+    let shown = DisplayTestInstance::new(None, counter_index, test.as_ref(), &styles);
+    Ok(shown.with_max_width(width).to_string(alloc)?)
 }
+
+// The ids of tests, whether they are in colour, a greatest width, and what is shown.
+const TESTS: [((&str, &str), bool, usize, &str); 11] = [
+    (("b", "日本x"), false, 7, "b 日本x"),
+    (("b", "日本x"), false, 5, "b 本x"),
+    (("b", "日本x"), false, 4, "b x"),
+    (("b", "日本x"), false, 1, "b"),
+    (("b", "日本x"), false, 0, ""),
+    (("b", "日本x"), true, 0, "\x1b[35;1m\x1b[0m\x1b[34;1m\x1b[0m"),
+    (("b", "e\u{301}f"), false, 3, "b \u{301}f"),
+    (("b", "e\u{301}f"), false, 2, "b "),
+    (("日", "x"), false, 1, ""),
+    (("b", "a::\u{301}"), false, 2, "b \u{301}"),
+    (
+        ("b", "a::\u{301}"),
+        true,
+        2,
+        "\x1b[35;1mb\x1b[0m \x1b[36m\x1b[0m\x1b[36m\x1b[0m\x1b[34;1m\x1b[0m",
+    ),
+];
 
 #[test]
 fn fits_tests(rt: HostRuntime) -> Result<(), Fail> {
-    for (binary_id, name, is_colorized, width, want) in [
-        ("b", "日本x", false, 7, "b 日本x"),
-        ("b", "日本x", false, 5, "b 本x"),
-        ("b", "日本x", false, 4, "b x"),
-        ("b", "日本x", false, 1, "b"),
-        ("b", "日本x", false, 0, ""),
-        ("b", "日本x", true, 0, "\x1b[35;1m\x1b[0m\x1b[34;1m\x1b[0m"),
-        ("b", "e\u{301}f", false, 3, "b \u{301}f"),
-        ("b", "e\u{301}f", false, 2, "b "),
-        ("日", "x", false, 1, ""),
-        ("b", "a::\u{301}", false, 2, "b \u{301}"),
-        (
-            "b",
-            "a::\u{301}",
-            true,
-            2,
-            "\x1b[35;1mb\x1b[0m \x1b[36m\x1b[0m\x1b[36m\x1b[0m\x1b[34;1m\x1b[0m",
-        ),
-    ] {
-        let text = shown(rt.alloc(), binary_id, name, is_colorized, width)?;
+    for (test, is_colorized, width, want) in TESTS {
+        let text = shown(rt.alloc(), None, test, is_colorized, width)?;
         assert_eq!(rt; text.as_str(), want);
     }
-    Ok(())
-}
-
-#[test]
-fn fits_the_counter_before_the_names(rt: HostRuntime) -> Result<(), Fail> {
-    let test = OwnedTestInstanceId::new(rt.alloc(), "b", "t")?;
+    // The counter stands before the names.
     let counter = DisplayCounterIndex::new_padded('─', 1);
     for (width, want) in [(9, "(───) b t"), (8, "(───) b "), (6, "(───) "), (3, "(──")] {
-        let shown = DisplayTestInstance::new(
-            None,
-            Some(counter),
-            test.as_ref(),
-            &ListStyles::default(),
-        ).with_max_width(width);
-        assert_eq!(rt; format!(in rt.alloc(); "{shown}")?.as_str(), want);
+        let text = shown(rt.alloc(), Some(counter), ("b", "t"), false, width)?;
+        assert_eq!(rt; text.as_str(), want);
     }
     Ok(())
 }

@@ -49,30 +49,39 @@ fn words_are_singular_for_one_alone(rt: HostRuntime) {
             ["tests", "benchmarks"],
         ),
     ] {
-        assert_eq!(rt; shown, want);
+        assert!(rt; shown == want);
     }
 }
 
 #[test]
 fn widths_of_numbers(rt: HostRuntime) {
+    // The numbers of nextest-runner's test `test_decimal_char_width`, which has them for three types.
     for (n, width) in [
-        (0u32, 1),
+        (0u64, 1),
+        (1, 1),
+        (5, 1),
         (9, 1),
         (10, 2),
+        (11, 2),
         (99, 2),
         (100, 3),
         (999, 3),
         (999_999, 6),
         (1_000_000, 7),
+        (10_000_000, 8),
         (11_000_000, 8),
     ] {
         assert_eq!(rt; decimal_char_width(n), width, "of {n}");
     }
-    assert_eq!(rt; decimal_char_width(u8::MAX), 3);
-    assert_eq!(rt; decimal_char_width(u16::MAX), 5);
-    assert_eq!(rt; decimal_char_width(u64::MAX), 20);
-    assert_eq!(rt; decimal_char_width(usize::MAX), 20);
-    assert_eq!(rt; decimal_char_width(u128::MAX), 39);
+    let greatest = [
+        decimal_char_width(u8::MAX),
+        decimal_char_width(u16::MAX),
+        decimal_char_width(u32::MAX),
+        decimal_char_width(u64::MAX),
+        decimal_char_width(usize::MAX),
+        decimal_char_width(u128::MAX),
+    ];
+    assert!(rt; greatest == [3, 5, 10, 20, 20, 39]);
 }
 
 #[test]
@@ -87,10 +96,26 @@ fn durations(rt: HostRuntime) -> Result<(), Fail> {
         let shown = FormattedDuration(Nanos(nanos)).to_string(rt.alloc())?;
         assert_eq!(rt; shown.as_str(), text);
     }
+    // Each unit, where it begins and right before the next one does.
     for (nanos, text) in [
-        (2_630_016_000_000_000, "1mo"),
-        (1_500_000, "1ms"),
         (0, "0s"),
+        (1, "1ns"),
+        (999, "999ns"),
+        (1_000, "1us"),
+        (999_999, "999us"),
+        (1_000_000, "1ms"),
+        (999_999_999, "999ms"),
+        (1_000_000_000, "1s"),
+        (59_999_999_999, "59s"),
+        (60_000_000_000, "1m"),
+        (3_599_999_999_999, "59m"),
+        (3_600_000_000_000, "1h"),
+        (86_399_999_999_999, "23h"),
+        (86_400_000_000_000, "1d"),
+        (2_630_015_999_999_999, "30d"),
+        (2_630_016_000_000_000, "1mo"),
+        (31_557_599_999_999_999, "11mo"),
+        (31_557_600_000_000_000, "1y"),
         (u128::MAX, "10782897524556318080696y"),
     ] {
         let shown = FormattedRelativeDuration(Nanos(nanos)).to_string(rt.alloc())?;
@@ -129,22 +154,34 @@ fn commands(rt: HostRuntime) -> Result<(), Fail> {
     Ok(())
 }
 
+const RANDOM: &str = "00000000-0000-4000-8000-000000000000";
+
+const FORCED: &str = "12345678-1234-5678-9abc-123456789abc";
+
+const REFUSED: Option<&str> = Some(
+    "__NEXTEST_FORCE_RUN_ID is set but invalid (expected UUID), generating random ID",
+);
+
 #[test]
 fn ids_of_runs(rt: HostRuntime) -> Result<(), Fail> {
-    let (id, warning) = force_or_new_run_id(Some("x"), [0; 16]);
-    assert_eq!(rt;
-        id.to_string(rt.alloc())?.as_str(),
-        "00000000-0000-4000-8000-000000000000"
-    );
-    assert_eq!(rt;
-        warning,
-        Some("__NEXTEST_FORCE_RUN_ID is set but invalid (expected UUID), generating random ID")
-    );
-    let forced = "12345678-1234-5678-9abc-123456789abc";
-    let (id, warning) = force_or_new_run_id(Some(forced), [0; 16]);
-    assert_eq!(rt; id.to_string(rt.alloc())?.as_str(), forced);
-    assert_eq!(rt; warning, None);
-    assert_eq!(rt; force_or_new_run_id(None, [0; 16]).1, None);
+    for (value, want, refused) in [
+        (None, RANDOM, None),
+        (Some(""), RANDOM, REFUSED),
+        (Some("x"), RANDOM, REFUSED),
+        (Some("12345678-1234-5678-9abc-123456789ab"), RANDOM, REFUSED),
+        (Some(FORCED), FORCED, None),
+        (Some("12345678123456789ABC123456789ABC"), FORCED, None),
+        (Some("{12345678-1234-5678-9abc-123456789abc}"), FORCED, None),
+        (
+            Some("URN:UUID:12345678-1234-5678-9abc-123456789abc"),
+            FORCED,
+            None,
+        ),
+    ] {
+        let (id, warning) = force_or_new_run_id(value, [0; 16]);
+        assert_eq!(rt; id.to_string(rt.alloc())?.as_str(), want);
+        assert!(rt; warning == refused);
+    }
     Ok(())
 }
 
@@ -159,16 +196,21 @@ fn ended_by(alloc: Global, signal: i32, name: Option<&str>) -> Result<AbortDescr
 
 #[test]
 fn how_a_process_exits(rt: HostRuntime) -> Result<(), Fail> {
+    let alloc = rt.alloc();
     let violation = AbortDescription::WindowsNtStatus {
         code: -1073741819,
-        message: Some(DescriptionText::new(rt.alloc(), "Access violation")?),
+        message: Some(DescriptionText::new(alloc, "Access violation")?),
     };
     for (exit, want) in [
         (ExitDescription::Code(3), "exited with exit code 3"),
         (ExitDescription::Unknown, "exited with an unknown error"),
         (
-            ExitDescription::Abort(ended_by(rt.alloc(), i32::MAX, None)?),
+            ExitDescription::Abort(ended_by(alloc, i32::MAX, None)?),
             "aborted with signal 2147483647",
+        ),
+        (
+            ExitDescription::Abort(ended_by(alloc, 11, Some("SEGV"))?),
+            "aborted with signal 11 (SIGSEGV)",
         ),
         (
             ExitDescription::Abort(AbortDescription::WindowsJobObject),
@@ -179,12 +221,12 @@ fn how_a_process_exits(rt: HostRuntime) -> Result<(), Fail> {
             "aborted with code 0xc0000005: Access violation",
         ),
     ] {
-        let told = display_exited_with(rt.alloc(), &exit)?;
+        let told = display_exited_with(alloc, &exit)?;
         assert_eq!(rt; told.as_str(), want);
+        if let ExitDescription::Abort(abort) = &exit {
+            assert_eq!(rt; display_abort_status(alloc, abort)?.as_str(), want);
+        }
     }
-    let segv = ended_by(rt.alloc(), 11, Some("SEGV"))?;
-    let told = display_abort_status(rt.alloc(), &segv)?;
-    assert_eq!(rt; told.as_str(), "aborted with signal 11 (SIGSEGV)");
     Ok(())
 }
 
@@ -209,46 +251,50 @@ fn an_interceptor_takes_one_test(rt: HostRuntime) -> Result<(), Fail> {
 
 #[test]
 fn paths(rt: HostRuntime) -> Result<(), Fail> {
+    let alloc = rt.alloc();
     assert_eq!(rt; dylib_path_envvar(), "LD_LIBRARY_PATH");
-    let paths = dylib_path(rt.alloc(), Some("a::b"))?;
-    assert_eq!(rt; paths.as_slice(), ["a", "", "b"].as_slice());
-    assert_eq!(rt; dylib_path(rt.alloc(), None)?.len(), 0);
-    assert!(rt; is_relative("a/b") && !is_relative("/a"));
-    assert_eq!(rt; rel_path_join(rt.alloc(), "a", "b/c")?.as_str(), "a/b/c");
-    let converted = convert_rel_path_to_forward_slash(rt.alloc(), "a/b")?;
-    assert_eq!(rt; converted.as_str(), "a/b");
-    let converted = convert_rel_path_to_main_sep(rt.alloc(), "a/b")?;
-    assert_eq!(rt; converted.as_str(), "a/b");
+    for (value, count, last) in [
+        (None, 0, ""),
+        (Some(""), 1, ""),
+        (Some("a"), 1, "a"),
+        (Some("a::b"), 3, "b"),
+        (Some(":a:"), 3, ""),
+    ] {
+        let paths = dylib_path(alloc, value)?;
+        assert_eq!(rt; paths.len(), count);
+        assert_eq!(rt; paths.last().copied().unwrap_or(""), last);
+    }
+    assert!(rt; is_relative("a/b") && is_relative("") && !is_relative("/a"));
+    for text in [
+        rel_path_join(alloc, "a", "b/c")?,
+        convert_rel_path_to_forward_slash(alloc, "a/b/c")?,
+        convert_rel_path_to_main_sep(alloc, "a/b/c")?,
+    ] {
+        assert_eq!(rt; text.as_str(), "a/b/c");
+    }
     Ok(())
+}
+
+// Whether a theme has these characters, of which the first makes its bars.
+fn has_characters(theme: &ThemeCharacters, bar: char, texts: [&str; 5]) -> bool {
+    theme.hbar_char() == bar
+        && texts
+            == [
+                theme.progress_chars(),
+                theme.tree_branch(),
+                theme.tree_last(),
+                theme.tree_continuation(),
+                theme.tree_space(),
+            ]
 }
 
 #[test]
 fn characters_of_a_theme(rt: HostRuntime) -> Result<(), Fail> {
     let mut theme = ThemeCharacters::default();
     assert_eq!(rt; theme.hbar(rt.alloc(), 3)?.as_str(), "---");
-    assert_eq!(rt;
-        (
-            theme.hbar_char(),
-            theme.progress_chars(),
-            theme.tree_branch(),
-            theme.tree_last(),
-            theme.tree_continuation(),
-            theme.tree_space()
-        ),
-        ('-', "=> ", "|-", "\\-", "| ", "  ")
-    );
+    assert!(rt; has_characters(&theme, '-', ["=> ", "|-", "\\-", "| ", "  "]));
     theme.use_unicode();
     assert_eq!(rt; theme.hbar(rt.alloc(), 3)?.as_str(), "───");
-    assert_eq!(rt;
-        (
-            theme.hbar_char(),
-            theme.progress_chars(),
-            theme.tree_branch(),
-            theme.tree_last(),
-            theme.tree_continuation(),
-            theme.tree_space()
-        ),
-        ('─', "█▉▊▋▌▍▎▏ ", "├─", "└─", "│ ", "  ")
-    );
+    assert!(rt; has_characters(&theme, '─', ["█▉▊▋▌▍▎▏ ", "├─", "└─", "│ ", "  "]));
     Ok(())
 }

@@ -1,11 +1,30 @@
 //! Indented texts: whole, character by character, and in two levels.
 
 use plain_text::indenter::{DisplayIndented, indented};
-use plain_text::write_str::WriteStr;
+use plain_text::write_str::{WriteFault, WriteStr};
 use std::test::Fail;
 
+// Writes a text indented, character by character.
+fn write_by_characters<W: WriteStr>(w: &mut W, text: &str) -> Result<(), WriteFault> {
+    let mut out = indented(w);
+    for c in text.chars() {
+        out.write_char(c)?;
+    }
+    Ok(())
+}
+
+// Writes these pieces in two levels, of which the outer begins within its first line.
+fn write_in_two_levels<W: WriteStr>(w: &mut W, pieces: &[&str]) -> Result<(), WriteFault> {
+    let mut outer = indented(w).skip_initial();
+    let mut inner = indented(&mut outer).with_str("> ");
+    for piece in pieces {
+        inner.write_str(piece)?;
+    }
+    Ok(())
+}
+
 #[test]
-fn indents_whole_and_by_characters(rt: HostRuntime) -> Result<(), Fail> {
+fn indents(rt: HostRuntime) -> Result<(), Fail> {
     for (text, want) in [
         ("ac\n\nb", "    ac\n\n    b"),
         ("\r\n", "    \r\n"),
@@ -17,23 +36,12 @@ fn indents_whole_and_by_characters(rt: HostRuntime) -> Result<(), Fail> {
         indented(&mut whole).write_str(text)?;
         assert_eq!(rt; whole.as_str(), want);
         let mut pieces = String::new(rt.alloc());
-        let mut out = indented(&mut pieces);
-        for c in text.chars() {
-            out.write_char(c)?;
-        }
+        write_by_characters(&mut pieces, text)?;
         assert_eq!(rt; pieces.as_str(), want);
     }
-    Ok(())
-}
-
-#[test]
-fn indents_in_two_levels(rt: HostRuntime) -> Result<(), Fail> {
-    let mut text = String::new(rt.alloc());
-    let mut outer = indented(&mut text).skip_initial();
-    let mut inner = indented(&mut outer).with_str("> ");
-    inner.write_str("a\n\nb")?;
-    inner.write_str("c\n")?;
-    assert_eq!(rt; text.as_str(), "> a\n\n    > bc\n");
+    let mut two_levels = String::new(rt.alloc());
+    write_in_two_levels(&mut two_levels, &["a\n\nb", "c\n"])?;
+    assert_eq!(rt; two_levels.as_str(), "> a\n\n    > bc\n");
     Ok(())
 }
 

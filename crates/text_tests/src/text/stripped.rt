@@ -23,39 +23,33 @@ fn write_without_end_line<W: WriteStr>(w: &mut W, pieces: &[&str]) -> Result<(),
     Ok(())
 }
 
+// Two pieces, what is left of them without sequences, and what without the closing line feed alone.
+const PIECES: [(&str, &str, &str, &str); 11] = [
+    ("a\n\x1b[0m", "", "a", "a\n\x1b[0m"),
+    ("\x1b]8;;", "x\u{7}b\n", "b", "\x1b]8;;x\u{7}b"),
+    ("a\n", "\n", "a\n", "a\n"),
+    ("\x1b", "[31mq", "q", "\x1b[31mq"),
+    ("é\x1b]0;\x1b", "\\日", "é日", "é\x1b]0;\x1b\\日"),
+    ("a\x1b[3", "\nb", "a\nb", "a\x1b[3\nb"),
+    ("a\n", "", "a", "a"),
+    ("a\n", "b", "a\nb", "a\nb"),
+    ("\n", "", "", ""),
+    ("", "", "", ""),
+    ("\x1b[0m\r", "\n", "\r", "\x1b[0m\r"),
+];
+
 #[test]
-fn strips_pieces(rt: HostRuntime) -> Result<(), Fail> {
-    for (first, second, want) in [
-        ("a\n\x1b[0m", "", "a"),
-        ("\x1b]8;;", "x\u{7}b\n", "b"),
-        ("a\n", "\n", "a\n"),
-        ("\x1b", "[31mq", "q"),
-        ("é\x1b]0;\x1b", "\\日", "é日"),
-        ("a\x1b[3", "\nb", "a\nb"),
-    ] {
+fn pieces_are_written_as_one_text(rt: HostRuntime) -> Result<(), Fail> {
+    for (first, second, stripped, held_back) in PIECES {
         let mut written = String::new(rt.alloc());
         write_stripped_pieces(&mut written, &[first, second])?;
-        assert_eq!(rt; written.as_str(), want);
+        assert_eq!(rt; written.as_str(), stripped);
+        let mut written = String::new(rt.alloc());
+        write_without_end_line(&mut written, &[first, second])?;
+        assert_eq!(rt; written.as_str(), held_back);
     }
     let mut written = String::new(rt.alloc());
     write_stripped_text(&mut written, "")?;
     assert_eq!(rt; written.as_str(), "");
-    Ok(())
-}
-
-#[test]
-fn holds_a_line_feed_back(rt: HostRuntime) -> Result<(), Fail> {
-    for (first, second, want) in [
-        ("a\n", "\n", "a\n"),
-        ("a\n", "", "a"),
-        ("a\n", "b", "a\nb"),
-        ("\n", "", ""),
-        ("", "", ""),
-        ("\x1b[0m\r", "\n", "\x1b[0m\r"),
-    ] {
-        let mut written = String::new(rt.alloc());
-        write_without_end_line(&mut written, &[first, second])?;
-        assert_eq!(rt; written.as_str(), want);
-    }
     Ok(())
 }

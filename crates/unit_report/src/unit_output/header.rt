@@ -10,7 +10,7 @@ use plain_text::write_str::{WriteFault, WriteStr};
 use report_words::theme::ThemeCharacters;
 
 /// What a header calls what follows it.
-#[derive(Clone, Copy, PartialEq, Eq)]
+#[derive(Clone, Copy, Debug, PartialEq, Eq)]
 pub enum OutputName {
     /// Standard output.
     Stdout,
@@ -40,7 +40,7 @@ impl OutputName {
 }
 
 /// The line before a stream, without its line feed.
-#[derive(Clone, Copy, PartialEq, Eq)]
+#[derive(Clone, Copy, Debug, PartialEq, Eq)]
 pub enum OutputHeader {
     /// The name between bars, as `  stdout ---`.
     Bars {

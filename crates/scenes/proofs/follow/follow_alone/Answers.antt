@@ -1,9 +1,8 @@
-use Rattle.std.proofs.Common.{◌≡◌, rules, sym, ap, ◌∙◌, subst, None}
+use Rattle.std.proofs.Common.{rules, sym, ap, ◌∙◌, subst, None}
 use Rattle.plain_text.specs.StringWriter.{string_laws, string_meaning}
 use Rattle.console_reporter.specs.Slots.{store_meaning}
 use Rattle.console_reporter.proofs.lemmas.Stores.{store-laws}
-use Rattle.console_reporter.specs.declared.imp.reporter.DisplayReporter.{DisplayReporter}
-use Rattle.scenes.specs.Follow.{HasFirst, HasToldTo}
+use Rattle.scenes.specs.Follow.{HasFirst}
 use Rattle.scenes.proofs.lemmas.FollowedDevices.{alone_err, alone_ok, head_stops, nothing_stops, starts_alone}
 use Rattle.scenes.proofs.follow.follow_alone.Goals as goal
 

@@ -1,5 +1,5 @@
-use Rattle.std.proofs.Common.{◌≡◌, rules, sym, ap, ◌∙◌, subst}
-use Rattle.scenes.specs.Follow.{HasFirst, HasToldTo}
+use Rattle.std.proofs.Common.{rules, sym, ap, ◌∙◌, subst}
+use Rattle.scenes.specs.Follow.{HasFirst}
 use Rattle.scenes.proofs.lemmas.FollowedDevices.{both_err, both_ok, head_stops, lent_name, nothing_stops, starts_both}
 use Rattle.scenes.proofs.follow.follow_both.Goals as goal
 

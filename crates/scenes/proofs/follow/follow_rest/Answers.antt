@@ -1,6 +1,6 @@
 use Rattle.std.proofs.Common.{refl}
 use Rattle.console_reporter.proofs.lemmas.Runs.{same-after}
-use Rattle.scene_text.specs.Split.{parted, pieces_left}
+use Rattle.scene_fields.specs.Split.{pieces_left}
 use Rattle.scenes.proofs.lemmas.Followed.{left_line, left_reader, now_told, told_line}
 use Rattle.scenes.proofs.lemmas.ReadLines.{at_more, none_left, one_left, read_next, read_whole}
 use Rattle.scenes.proofs.follow.follow_rest.Goals as goal

@@ -1,6 +1,5 @@
 use Rattle.std.proofs.Common.{◌≡◌, ◌∙◌, Some, ap, refl}
 use Rattle.scenes.specs.Follow.{HasNoEvent}
-use Rattle.scenes.specs.Reports.{store_for}
 use Rattle.scenes.proofs.lemmas.FollowedDevices.{followed_alone, followed_both, left_alone, left_both, nothing_held}
 use Rattle.scenes.proofs.follow.follow_scene.Goals as goal
 

@@ -1,9 +1,9 @@
-use Rattle.std.proofs.Common.{◌≡◌, ◌∙◌, Ok, ap, refl, sym, subst}
-use Rattle.scene_text.specs.Fields.{Fails}
-use Rattle.scene_text.specs.SceneTexts.{IsSaid, is_begun, line_said, lines_before}
-use Rattle.scene_text.specs.Split.{parted, pieces_left}
-use Rattle.scenes.specs.Follow.{HasNoEvent, IsNextLine, IsReadTo, IsRefusedMemory, StopsBy}
-use Rattle.scenes.specs.declared.fault.Fault.TheVariants as fault
+use Rattle.std.proofs.Common.{◌∙◌, Ok, ap, refl, sym, subst}
+use Rattle.scene_fields.specs.Fields.{Fails}
+use Rattle.scene_text.specs.SceneTexts.{line_said, lines_before}
+use Rattle.scene_fields.specs.Split.{pieces_left}
+use Rattle.scenes.specs.Follow.{HasNoEvent, IsReadTo, IsRefusedMemory, StopsBy}
+use Rattle.command_line.specs.declared.fault.Fault.TheVariants as fault
 use Rattle.scenes.proofs.lemmas.Heads.{configured, head_unread, head_wrong, read_config, read_first, read_none, read_nothing}
 use Rattle.scenes.proofs.lemmas.ReadLines.{none_left, one_left, read_next, read_whole}
 use Rattle.scenes.proofs.follow.read_head.Goals as goal

@@ -2,7 +2,7 @@ use Rattle.std.proofs.Common.{Ok, Err, sym, subst}
 use Rattle.std.specs.Io.Buffered.{reader_remaining}
 use Rattle.scene_text.proofs.lemmas.FirstFaults.{tells_scene}
 use Rattle.scene_text.specs.SceneTexts.{text_told}
-use Rattle.scenes.specs.Pieces.{IsNextPiece}
+use Rattle.command_line.specs.Pieces.{IsNextPiece}
 use Rattle.scenes.specs.ToldScenes.{IsReadFault, IsSceneRead}
 use Rattle.scenes.proofs.lemmas.Pieces.{read_all, read_piece, read_wrong, wrong_text}
 use Rattle.scenes.proofs.program.read_whole.Goals as goal

@@ -1,4 +1,4 @@
-use Rattle.std.proofs.Common.{rules, subst}
+use Rattle.std.proofs.Common.{inl, inr, rules, subst}
 use Rattle.console_reporter.proofs.lemmas.Runs.{same-after}
 use Rattle.scenes.specs.Reports.{configuration_for}
 use Rattle.scenes.specs.Unloads.{IsReadyCall}
@@ -13,7 +13,7 @@ loop-place-preserved g c =
       same = same-after i.same c.make_call.ensures.same;
       reported = one_reported c.args.options.now c.args.scene.now g.met.W.WriteStr.laws g.met.S.WriteStr.laws c.args.reporter.now c.requires.accepted
           c.loop-place.place c.loop-place.reporter c.make_call.new.self c.index.result.now (search rules) c.index.ensures c.in-Ok.call.now
-          (subst (λ d. IsReadyCall c.args.options.now d c.index.result.now c.in-Ok.call.now) decides c.in-Ok.ensures) i.reported c.in_default.ensures.ok;
+          (subst (λ d. IsReadyCall c.args.options.now d c.index.result.now c.in-Ok.call.now) decides c.in-Ok.ensures) i.reported c.in_default.ensures.ok (c.in_default.ensures.delivered (inr i.reported.delivered));
     }
 
 pub returns-in-Err-clause-err : goal.returns-in-Err-clause-err
@@ -34,10 +34,10 @@ returns-in-Err-make_call-clause-err g c =
 pub returns-clause-ok : goal.returns-clause-ok
 returns-clause-ok g c =
     all_reported c.args.options.now c.args.scene.now g.met.W.WriteStr.laws g.met.S.WriteStr.laws c.args.reporter.now c.requires.accepted c.requires.stands
-    c.loop-place.place (search rules) c.loop-place.reporter c.finish.new.self c.loop-place.invariant.reported c.in_default-finish.ensures.ok c.in_default-finish.ensures.delivered
+    c.loop-place.place (search rules) c.loop-place.reporter c.finish.new.self c.loop-place.invariant.reported c.in_default-finish.ensures.call.ok (c.in_default-finish.ensures.call.delivered (inl tt))
 
 pub returns-in-Err-finish-clause-err : goal.returns-in-Err-finish-clause-err
 returns-in-Err-finish-clause-err g c =
     rw (c.fault_of-in-Err-finish.ensures)
     (unended c.args.options.now c.args.scene.now g.met.W.WriteStr.laws g.met.S.WriteStr.laws c.args.reporter.now c.requires.accepted c.requires.stands
-    c.loop-place.place (search rules) c.loop-place.reporter c.finish.new.self c.loop-place.invariant.reported c.in-Err-finish.error c.in-Err-finish.ensures.err c.in-Err-finish.ensures.unrefused)
+    c.loop-place.place (search rules) c.loop-place.reporter c.finish.new.self c.loop-place.invariant.reported c.in-Err-finish.error c.in-Err-finish.ensures.call.err (c.in-Err-finish.ensures.call.unrefused tt))

@@ -1,5 +1,5 @@
 use Rattle.std.proofs.Common.{◌≡◌, ◌∷◌, arith}
-use Rattle.scene_text.specs.Split.{parted, pieces_left}
+use Rattle.scene_fields.specs.Split.{parted, pieces_left}
 use Rattle.scene_text.proofs.lemmas.Tellings.{goes_on, ends, is_done, lines_done, lines_go_on}
 use Rattle.scene_text.proofs.reader.LinesRead.read_more.Goals as goal
 

@@ -1,5 +1,5 @@
 use Rattle.std.proofs.Common.{◌≡◌, ◌+◌, ◌++◌, length}
-use Rattle.scene_text.specs.Split.{parted, pieces_left}
+use Rattle.scene_fields.specs.Split.{parted, pieces_left}
 use Rattle.scene_text.specs.SceneTexts.{event_lines, lines_told, told}
 use Rattle.scene_text.proofs.reader.LinesRead.read_more.Given as goal
 

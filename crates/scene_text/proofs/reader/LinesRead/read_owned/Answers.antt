@@ -1,6 +1,6 @@
 use Rattle.std.proofs.Common.{◌+◌, List, ℕ, ap, length, refl, sym, ◌∙◌}
 use Rattle.scene_text.specs.SceneTexts.{told}
-use Rattle.scene_text.proofs.lemmas.Cuts.{parted-missed}
+use Rattle.scene_fields.proofs.lemmas.Cuts.{parted-missed}
 use Rattle.scene_text.proofs.lemmas.Tellings.{goes_on, ends, is_done, lines_done, lines_go_on}
 use Rattle.scene_text.proofs.reader.LinesRead.read_owned.Goals as goal
 

@@ -1,7 +1,4 @@
-use Rattle.std.proofs.Common.{◌≡◌, ◌∙◌, Ok, ap}
-use Rattle.scene_text.specs.SceneTexts.{IsSaid}
-use Rattle.scene_text.specs.declared.reader.LineSaid.{LineSaid}
-use Rattle.scenes.specs.Follow.{behind}
+use Rattle.std.proofs.Common.{◌∙◌, Ok, ap}
 use Rattle.scenes.proofs.lemmas.NoConfig.{no_config}
 use Rattle.scenes.proofs.follow.Follower.tell_line.Goals as goal
 

@@ -1,4 +1,4 @@
-use Rattle.std.proofs.Common.{◌≡◌, rules, refl, Some, inl, inr, absurd, ap, sym}
+use Rattle.std.proofs.Common.{rules, refl, Some, inl, inr}
 use Rattle.run_model.specs.declared.call.ReportCall.TheVariants.{Prefix}
 use Rattle.reporter_state.specs.declared.faults.WriteEventError.TheVariants.{Memory}
 use Rattle.console_reporter.proofs.lemmas.Promises.{memory_broken, promise_broken, promise_failed, promise_told, same-reporter}
@@ -13,7 +13,7 @@ returns-in-Ok g c =
     let n = g.S.WriteStr.meaning in
     promise_told m n c.args.self.now c.set_run_id_unique_prefix.new.self (Some (Prefix c.args.prefix.now)) (search rules) c.set_run_id_unique_prefix.ensures.same
     (λ config past stands. refl)
-    (rw ← c.in-Ok.ensures c.set_run_id_unique_prefix.ensures.ok)
+    (rw (← c.in-Ok.ensures) c.set_run_id_unique_prefix.ensures.ok)
     (λ before. elim before [ inl writes ↦ absurd writes | inr all ↦ record { writer = rw c.set_run_id_unique_prefix.ensures.untouched.0 all.writer; store = rw c.set_run_id_unique_prefix.ensures.untouched.1 all.store } ])
 
 pub returns-in-Err : goal.returns-in-Err

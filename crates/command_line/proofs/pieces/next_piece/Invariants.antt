@@ -1,0 +1,8 @@
+use Rattle.std.proofs.Common.{◌≡◌, ◌++◌, ℕ, List, Some}
+use Rattle.std.specs.Io.Buffered.{reader_remaining}
+use Rattle.command_line.proofs.pieces.next_piece.Given as goal
+
+-- what was taken, and what is left, are the text
+abbrev pub invariant-loop-turn : goal.invariant-loop-turn
+invariant-loop-turn g l = (text : List ℕ) → reader_remaining g.R.Read.remaining l.initial.reader ≡ Some text
+    → (more : List ℕ) × (reader_remaining g.R.Read.remaining l.reader ≡ Some more) × (text ≡ l.piece.items ++ more)

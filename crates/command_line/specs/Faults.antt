@@ -1,0 +1,69 @@
+-- What the program says of a fault, and the status that it ends with.
+use Rattle.std.specs.Prelude.{◌≡◌, ℕ, List, ◌++◌, codes, decimal, ⊤}
+use Rattle.std.specs.declared.io.ErrorKind.{ErrorKind}
+use Rattle.std.specs.declared.io.ErrorKind.TheVariants as kind
+use Rattle.scene_fields.specs.Faults.{line_fault_text}
+use Rattle.scene_fields.specs.declared.fault.ReadFault.{ReadFault}
+use Rattle.scene_fields.specs.declared.fault.ReadFault.TheVariants as read
+use Rattle.command_line.specs.declared.fault.Fault.{Fault}
+use Rattle.command_line.specs.declared.fault.Fault.TheVariants as fault
+use Rattle.command_line.specs.declared.fault.FaultLine.{FaultLine}
+use Rattle.command_line.specs.declared.fault.Program.{Program}
+use Rattle.command_line.specs.declared.fault.Program.TheVariants as program
+
+-- what is said of a fault
+abbrev pub fault_text : Fault → List ℕ
+fault_text fault.Usage = codes "the command line is wrong"
+fault_text (fault.CannotRead file) = codes "cannot read " ++ file.now
+fault_text (fault.CannotWrite file) = codes "cannot write " ++ file.now
+fault_text (fault.Line n f) = codes "line " ++ (decimal n ++ (codes ": " ++ line_fault_text f))
+fault_text fault.WriteFailed = codes "write failed"
+fault_text fault.StoreFailed = codes "store write failed"
+fault_text fault.OutOfMemory = codes "out of memory"
+
+abbrev pub program_name : Program → List ℕ
+program_name program.Report = codes "report"
+program_name program.Follow = codes "follow"
+
+-- the words that a program takes
+abbrev pub usage_of : Program → List ℕ
+usage_of program.Report = codes "usage: report [--color] [--counter] [--replay] [--unload] [--level L] [--store PATH] [--store-success] [--store-failure] FILE"
+usage_of program.Follow = codes "usage: follow [--color] [--counter] [--replay] [--unload] [--level L] [--store PATH] [--store-success] [--store-failure] [FILE]"
+
+abbrev pub said_by : Program → Fault → List ℕ
+said_by by fault.Usage = usage_of by
+said_by by other = fault_text other
+
+-- the line on standard error
+abbrev pub fault_line : FaultLine → List ℕ
+fault_line it = program_name it.program ++ (codes ": " ++ said_by it.program it.fault)
+
+-- 2 where nothing was printed, 3 where a beginning of the report was
+abbrev pub status_of : Fault → ℕ
+status_of fault.Usage = 2
+status_of (fault.CannotRead file) = 2
+status_of (fault.CannotWrite file) = 2
+status_of (fault.Line n f) = 2
+status_of fault.WriteFailed = 3
+status_of fault.StoreFailed = 3
+status_of fault.OutOfMemory = 3
+
+-- a line of a scene is wrong, memory was refused, or this file cannot be read
+abbrev pub IsJudgeFault : List ℕ → Fault → Type 0
+IsJudgeFault file fault.Usage = ⊥
+IsJudgeFault file (fault.CannotRead f) = f.now ≡ file
+IsJudgeFault file (fault.CannotWrite f) = ⊥
+IsJudgeFault file (fault.Line n f) = ⊤
+IsJudgeFault file fault.WriteFailed = ⊥
+IsJudgeFault file fault.StoreFailed = ⊥
+IsJudgeFault file fault.OutOfMemory = ⊤
+
+-- what the program tells of a scene that could not be read
+abbrev pub fault_of_read : ReadFault → Fault
+fault_of_read (read.Line n f) = fault.Line n f
+fault_of_read read.OutOfMemory = fault.OutOfMemory
+
+-- what is told where an error of this kind was met: the fault, unless the error says that memory was refused
+abbrev pub fault_by_kind : ErrorKind → Fault → Fault
+fault_by_kind kind.OutOfMemory told = fault.OutOfMemory
+fault_by_kind _ told = told

@@ -1,0 +1,72 @@
+//! A file read in pieces of whole lines, so that no more than one of them is in memory.
+
+ghost use Rattle.std.specs.Prelude.{◌≡◌, ℕ, List, Some, IfOk, IfErr};
+ghost use Rattle.std.specs.Io.Buffered.{reader_buffer, reader_remaining};
+ghost use Rattle.command_line.specs.Pieces.{IsBehind, IsNextPiece, IsUnread};
+
+use crate::fault::Fault;
+use memchr::memrchr;
+use run_model::memory::OutOfMemory;
+use std::io::{BufRead, BufReader, ErrorKind, Read};
+
+/// Reads the next lines into the buffer: all whole ones that the reader has at hand, or one that is longer, without the line feed that
+/// ends them. It answers whether there was a line.
+pub fn next_piece<'a, R: Read>(
+    file: &'a str,
+    reader: &mut BufReader<R>,
+    piece: &mut Vec<u8>,
+) -> Result<bool, Fault<'a>>
+    ensures piece { IfOk result (λ has_line. (text : List ℕ) → reader_remaining R.remaining reader.old ≡ Some text → IsNextPiece text has_line piece.new.items (reader_remaining R.remaining reader.new)) }
+    ensures err { IfErr result (IsUnread file.now) }
+{
+    piece.clear();
+    for _turn in 0..u64::MAX {
+        match reader.fill_buf() {
+            Ok(_) => {}
+            Err(error) if error.kind() == ErrorKind::Interrupted => continue,
+            Err(error) => return Err(Fault::CannotRead { file }.by_kind(error.kind())),
+        }
+        match take_at_hand(reader, piece)? {
+            Taken::Lines => return Ok(true),
+            Taken::Part => {}
+            // The file ends here.
+            Taken::Nothing => return Ok(!piece.is_empty()),
+        }
+    }
+    Err(Fault::CannotRead { file })
+}
+
+// What was taken of the bytes that a reader has at hand.
+#[derive(Clone, Copy)]
+enum Taken {
+    // Whole lines, and the line feed that ends the last.
+    Lines,
+    // All of them, which are a part of a line.
+    Part,
+    // Nothing, since it has none.
+    Nothing,
+}
+
+// Takes the whole lines that the reader has at hand, or all that it has of a longer one.
+fn take_at_hand<R: Read>(
+    reader: &mut BufReader<R>,
+    piece: &mut Vec<u8>,
+) -> Result<Taken, OutOfMemory>
+    ensures { IfOk result (λ taken. (text : List ℕ) → reader_remaining R.remaining reader.old ≡ Some text → IsBehind taken (reader_buffer reader.old) text piece.old.items piece.new.items (reader_remaining R.remaining reader.new)) }
+{
+    let at_hand = reader.buffer();
+    match memrchr(b'\n', at_hand) {
+        Some(at) => {
+            piece.extend_from_slice(&at_hand[..at])?;
+            reader.consume(at + 1);
+            Ok(Taken::Lines)
+        }
+        None if at_hand.is_empty() => Ok(Taken::Nothing),
+        None => {
+            let count = at_hand.len();
+            piece.extend_from_slice(at_hand)?;
+            reader.consume(count);
+            Ok(Taken::Part)
+        }
+    }
+}

@@ -1,0 +1,5 @@
+pub mod Configs
+pub mod Moments
+pub mod SceneAttempts
+pub mod Scenes
+pub mod States

@@ -1,0 +1,131 @@
+-- What a scene asks of a reporter.
+use Rattle.std.specs.Prelude.{◌≡◌, ℕ, List, [], ◌∷◌, ◌++◌, Bool, true, false, not, ◌||◌, Option}
+use Rattle.run_model.specs.Outputs.{has_loaded_output}
+use Rattle.run_model.specs.Stats.{planned_stats}
+use Rattle.run_model.specs.Statuses.{is_success}
+use Rattle.run_model.specs.declared.event.TestEventKind.{TestEventKind}
+use Rattle.run_model.specs.declared.event.TestEventKind.TheVariants as kind
+use Rattle.run_model.specs.declared.info.InfoResponse.{InfoResponse}
+use Rattle.run_model.specs.declared.info.InfoResponse.TheVariants as response
+use Rattle.run_model.specs.declared.info.UnitState.{UnitState}
+use Rattle.run_names.specs.declared.level.CancelReason.{CancelReason}
+use Rattle.run_names.specs.declared.name.TestInstanceId.{TestInstanceId}
+use Rattle.run_model.specs.declared.replay.ReplayHeader.{ReplayHeader}
+use Rattle.run_model.specs.declared.stats.RunStats.{RunStats}
+use Rattle.run_model.specs.declared.call.ReportCall.{ReportCall}
+use Rattle.run_model.specs.declared.call.ReportCall.TheVariants as call
+use Rattle.scene_events.specs.Moments.{moment_of}
+use Rattle.scene_events.specs.SceneAttempts.{script_status}
+use Rattle.run_model.specs.Attempts.{Written}
+use Rattle.scene_events.specs.States.{unit_state}
+use Rattle.scene_events.specs.declared.scene.event.SceneEvent.{SceneEvent}
+use Rattle.scene_events.specs.declared.scene.event.SceneEvent.TheVariants as scene
+use Rattle.scene_events.specs.declared.scene.info_events.ScriptAnswer.{ScriptAnswer}
+use Rattle.scene_events.specs.declared.scene.info_events.TestAnswer.{TestAnswer}
+use Rattle.scene_events.specs.declared.scene.info_events.UnitAnswer.{UnitAnswer}
+use Rattle.scene_events.specs.declared.scene.replay_calls.SceneHeader.{SceneHeader}
+use Rattle.scene_events.specs.declared.scene.script_events.SceneScript.{SceneScript}
+use Rattle.scene_events.specs.declared.scene.test_events.SceneTest.{SceneTest}
+
+-- a reporter's test has the names of a scene's
+abbrev pub HasNames : SceneTest → TestInstanceId → Type 0
+HasNames test instance = (instance.binary_id.now ≡ test.binary_id) × (instance.test_name.now ≡ test.test_name)
+
+-- a reporter's event has the script of a scene's
+abbrev pub IsOfScript : SceneScript → List ℕ → List ℕ → List (List ℕ) → Type 0
+IsOfScript script id program args = (id ≡ script.script_id) × (program ≡ script.program) × (args ≡ script.args)
+
+-- a reporter's answer has the state and the output of a scene's
+abbrev pub HasAnswer : UnitAnswer → UnitState → Written → Type 0
+HasAnswer answer state output = (state ≡ unit_state answer.state) × (output ≡ answer.output)
+
+-- a reporter's answer is that of a scene's setup script, or of a scene's test
+abbrev pub IsScriptAnswer : ScriptAnswer → InfoResponse → Type 0
+IsScriptAnswer e (response.SetupScript r) = (r.stress_index ≡ e.stress_index) × IsOfScript e.script r.script_id r.program r.args × HasAnswer e.answer r.state r.output
+IsScriptAnswer e (response.Test r) = ⊥
+
+abbrev pub IsTestAnswer : TestAnswer → InfoResponse → Type 0
+IsTestAnswer e (response.SetupScript r) = ⊥
+IsTestAnswer e (response.Test r) =
+    (r.stress_index ≡ e.test.stress_index) × HasNames e.test r.test_instance × (r.retry_data ≡ e.retry_data) × HasAnswer e.answer r.state r.output
+
+-- statistics that count nothing, with this reason
+abbrev pub nothing_counted : Option CancelReason → RunStats
+nothing_counted reason = record (planned_stats 0) { cancel_reason = reason }
+
+-- a reporter's event says what a scene's does
+abbrev pub SaysSame : SceneEvent → TestEventKind → Type 0
+SaysSame (scene.RunStarted e) (kind.RunStarted test_list run_id profile_name) = (test_list ≡ e.test_list) × (run_id ≡ e.run_id) × (profile_name ≡ e.profile_name)
+SaysSame (scene.StressSubRunStarted e) (kind.StressSubRunStarted progress) = progress ≡ e.progress
+SaysSame (scene.SetupScriptStarted e) (kind.SetupScriptStarted stress index total id program args) =
+    (stress ≡ e.stress_index) × (index ≡ e.index) × (total ≡ e.total) × IsOfScript e.script id program args
+SaysSame (scene.SetupScriptSlow e) (kind.SetupScriptSlow stress id program args elapsed will_terminate) =
+    (stress ≡ e.stress_index) × IsOfScript e.script id program args × (elapsed ≡ e.elapsed) × (will_terminate ≡ e.will_terminate)
+SaysSame (scene.SetupScriptFinished e) (kind.SetupScriptFinished stress id program args status) =
+    (stress ≡ e.stress_index) × IsOfScript e.script id program args × (status ≡ script_status e.attempt)
+SaysSame (scene.TestStarted e) (kind.TestStarted stress test stats command) =
+    (stress ≡ e.test.stress_index) × HasNames e.test test × (stats ≡ e.current_stats) × (command ≡ e.command_line)
+SaysSame (scene.TestSlow e) (kind.TestSlow stress test retry_data elapsed will_terminate) =
+    (stress ≡ e.test.stress_index) × HasNames e.test test × (retry_data ≡ e.retry_data) × (elapsed ≡ e.elapsed) × (will_terminate ≡ e.will_terminate)
+SaysSame (scene.TestAttemptFailedWillRetry e) (kind.TestAttemptFailedWillRetry stress test status delay failure) =
+    (stress ≡ e.test.stress_index) × HasNames e.test test × (status ≡ e.attempt) × (delay ≡ e.delay_before_next_attempt) × (failure ≡ e.failure_output)
+SaysSame (scene.TestRetryStarted e) (kind.TestRetryStarted stress test retry_data command) =
+    (stress ≡ e.test.stress_index) × HasNames e.test test × (retry_data ≡ e.retry_data) × (command ≡ e.command_line)
+SaysSame (scene.TestFinished e) (kind.TestFinished stress test success failure statuses stats) =
+    (stress ≡ e.test.stress_index) × HasNames e.test test
+    × (success ≡ e.success_output) × (failure ≡ e.failure_output)
+    × (statuses ≡ e.attempts) × (stats ≡ e.current_stats)
+SaysSame (scene.TestSkipped e) (kind.TestSkipped stress test) = (stress ≡ e.stress_index) × HasNames e test
+SaysSame (scene.RunBeginCancel e) (kind.RunBeginCancel scripts stats running) =
+    (scripts ≡ e.setup_scripts_running) × (running ≡ e.running) × (stats ≡ nothing_counted e.reason)
+SaysSame (scene.RunBeginKill e) (kind.RunBeginKill scripts stats running) =
+    (scripts ≡ e.setup_scripts_running) × (running ≡ e.running) × (stats ≡ nothing_counted e.reason)
+SaysSame (scene.RunPaused e) (kind.RunPaused scripts running) = (scripts ≡ e.setup_scripts_running) × (running ≡ e.running)
+SaysSame (scene.RunContinued e) (kind.RunContinued scripts running) = (scripts ≡ e.setup_scripts_running) × (running ≡ e.running)
+SaysSame (scene.InfoStarted e) (kind.InfoStarted total stats) = (total ≡ e.total) × (stats ≡ e.run_stats)
+SaysSame (scene.ScriptAnswered e) (kind.InfoResponse index total answer) = (index ≡ e.index) × (total ≡ e.total) × IsScriptAnswer e answer
+SaysSame (scene.TestAnswered e) (kind.InfoResponse index total answer) = (index ≡ e.index) × (total ≡ e.total) × IsTestAnswer e answer
+SaysSame (scene.InfoFinished e) (kind.InfoFinished missing) = missing ≡ e.missing
+SaysSame (scene.InputEnter e) (kind.InputEnter stats running) = (stats ≡ e.current_stats) × (running ≡ e.running)
+SaysSame (scene.StressSubRunFinished e) (kind.StressSubRunFinished progress elapsed stats) =
+    (progress ≡ e.progress) × (elapsed ≡ e.sub_elapsed) × (stats ≡ e.sub_stats)
+SaysSame (scene.RunFinished e) (kind.RunFinished elapsed run_stats outstanding) =
+    (elapsed ≡ e.elapsed) × (run_stats ≡ e.run_stats) × (outstanding ≡ e.outstanding_not_seen)
+SaysSame event other = ⊥
+
+-- how long the run had taken when this happened, which a scene says only where the state of the run or of its units was
+-- asked for
+abbrev pub told_elapsed : SceneEvent → ℕ
+told_elapsed (scene.InfoStarted e) = e.elapsed.0
+told_elapsed (scene.InputEnter e) = e.elapsed.0
+told_elapsed other = 0
+
+-- a reporter's header says what a scene's does
+abbrev pub SaysSameRun : SceneHeader → ReplayHeader → Type 0
+SaysSameRun header replay =
+    (replay.run_id ≡ header.run_id) × (replay.unique_prefix ≡ header.unique_prefix)
+    × (moment_of replay.started_at ≡ header.started_at) × (replay.status ≡ header.status)
+
+-- a call of a reporter that is what a scene asks for
+abbrev pub IsCallOf : SceneEvent → ReportCall → Type 0
+IsCallOf event (call.Event e) = (e.elapsed.0 ≡ told_elapsed event) × SaysSame event e.kind
+IsCallOf (scene.Prefix prefix) (call.Prefix p) = p ≡ prefix
+IsCallOf (scene.Header header) (call.Header h) = SaysSameRun header h
+IsCallOf event other = ⊥
+
+-- a reporter may refuse a call of the event: what a unit wrote was left unread, or an attempt that succeeded is told as one that is
+-- tried again. A header counts among them, though none is refused
+abbrev pub needs_judging : SceneEvent → Bool
+needs_judging (scene.TestFinished e) = not (has_loaded_output e.attempts.last.output)
+needs_judging (scene.TestAttemptFailedWillRetry e) = is_success e.attempt.result || not (has_loaded_output e.attempt.output)
+needs_judging (scene.SetupScriptFinished e) = not (has_loaded_output e.attempt.output)
+needs_judging (scene.ScriptAnswered e) = not (has_loaded_output e.answer.output)
+needs_judging (scene.TestAnswered e) = not (has_loaded_output e.answer.output)
+needs_judging (scene.Header header) = true
+needs_judging other = false
+
+-- the list has one call more, which is the event
+pub record AddsCallOf (event : SceneEvent) (old new : List ReportCall) : Type 0 where
+  pub call : ReportCall
+  pub of_event : IsCallOf event call
+  pub added : new ≡ old ++ call ∷ []

@@ -1,0 +1,94 @@
+//! A run as the lines of a scene tell it, with names of its own, and the calls that its events are.
+
+ghost use Rattle.std.specs.Prelude.{◌≡◌, IfOk};
+ghost use Rattle.std.specs.List.{AllZip};
+ghost use Rattle.scene_events.specs.Scenes.{IsCallOf};
+
+pub mod attempts;
+pub mod event;
+pub mod info_events;
+pub mod replay_calls;
+pub mod run_events;
+pub mod script_events;
+pub mod states;
+pub mod stress_events;
+pub mod test_events;
+
+use event::SceneEvent;
+use run_model::call::ReportCall;
+use run_model::config::{NextestRunMode, TestOutputDisplay};
+use run_model::level::FinalStatusLevel;
+use run_model::memory::OutOfMemory;
+use std::alloc::Global;
+
+/// What the lines of a scene tell: how the run is reported, and its events in order.
+#[derive(Drop)]
+pub struct ToldRun {
+    /// How it is reported.
+    pub config: SceneConfig,
+    /// Its events.
+    pub events: Vec<SceneEvent>,
+    /// The line of each event, from 1.
+    pub lines: Vec<u64>,
+}
+
+/// How a run is reported.
+#[derive(Clone, Copy)]
+pub struct SceneConfig {
+    /// The level from which on the summary lists a test.
+    pub final_status_level: FinalStatusLevel,
+    /// How many tests the run has, which decides the width of a counter that is not known.
+    pub run_count: usize,
+    /// Whether the run runs tests or benchmarks.
+    pub mode: NextestRunMode,
+    /// When the output of tests that succeed is shown, whatever their events say.
+    pub success_output: Option<TestOutputDisplay>,
+    /// When the output of tests that fail is shown, whatever their events say.
+    pub failure_output: Option<TestOutputDisplay>,
+    /// Whether tests write to the terminal themselves, so that nothing is captured.
+    pub no_capture: bool,
+    /// Whether a test that starts is shown by its command.
+    pub verbose: bool,
+    /// Whether output stands without indentation.
+    pub no_output_indent: bool,
+    /// Whether the report has characters beyond ASCII.
+    pub use_unicode: bool,
+    /// Whether streams that were captured empty are shown.
+    pub display_empty_outputs: bool,
+}
+
+impl SceneConfig {
+    ghost use Rattle.scene_events.specs.Configs.{unconfigured};
+
+    /// What counts where no line says anything else.
+    pub fn new() -> SceneConfig
+        ensures { result ≡ unconfigured }
+    {
+        SceneConfig {
+            final_status_level: FinalStatusLevel::Flaky,
+            run_count: 0,
+            mode: NextestRunMode::Test,
+            success_output: None,
+            failure_output: None,
+            no_capture: false,
+            verbose: false,
+            no_output_indent: false,
+            use_unicode: false,
+            display_empty_outputs: false,
+        }
+    }
+}
+
+/// The calls that the events make of a reporter, in order, with what they say of output. They borrow the events' names.
+pub fn whole_calls<'a>(
+    alloc: Global,
+    events: &'a [SceneEvent],
+) -> Result<Vec<ReportCall<'a>>, OutOfMemory>
+    ensures calls { IfOk result (λ calls. AllZip IsCallOf events.now calls.items) }
+{
+    let mut calls = Vec::with_capacity(alloc, events.len())?;
+    for event in events {
+        event.push_call(alloc, &mut calls)?;
+    }
+    Ok(calls)
+}

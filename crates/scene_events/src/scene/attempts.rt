@@ -1,0 +1,373 @@
+//! The attempts of a test in a short form: most are one attempt that wrote nothing, and a scene may hold a million.
+
+ghost use Rattle.std.specs.Prelude.{◌≡◌, IfOk};
+ghost use Rattle.scene_events.specs.SceneAttempts.{silence};
+
+use run_model::boxed::Boxed;
+use run_model::memory::OutOfMemory;
+use run_model::output::{
+    ChildExecutionOutputDescription, ChildOutputDescription, ChildSingleOutput, LiveSpec,
+};
+use run_model::status::{
+    ExecuteStatus, ExecutionResultDescription, ExecutionStatuses, FlakyResult, RetryData,
+    SetupScriptExecuteStatus,
+};
+use run_model::time::Nanos;
+use std::alloc::Global;
+use std::marker::Model;
+
+/// The attempts of a test, in order. There is at least one. Contracts see them as a reporter's.
+#[derive(Drop)]
+pub struct SceneAttempts {
+    // The last one, but for what it wrote.
+    time_taken: Nanos,
+    result: ExecutionResultDescription,
+    more: MoreAttempts,
+    retry_data: RetryData,
+    is_slow: bool,
+    flaky_result: FlakyResult,
+}
+
+// What there is beside how the last attempt ended.
+#[derive(Drop)]
+enum MoreAttempts {
+    // Nothing: it is the only attempt, and was silent. Most are.
+    Nothing,
+    // It is the only attempt, and wrote this.
+    Output(Boxed<ChildExecutionOutputDescription<LiveSpec>>),
+    // There are others before it.
+    Earlier(Boxed<EarlierAttempts>),
+}
+
+// The attempts before the last one, and what that one wrote.
+#[derive(Drop)]
+struct EarlierAttempts {
+    attempts: Vec<SceneAttempt>,
+    last_output: SceneOutput,
+}
+
+impl Model for SceneAttempts {
+    ghost use Rattle.run_model.specs.Attempts.{Attempts};
+    ghost use Rattle.run_model.specs.declared.output.ChildOutputDescription.{ChildOutputDescription};
+    ghost use Rattle.run_model.specs.declared.output.LiveSpec.{LiveSpec};
+
+    ghost Value = { Attempts LiveSpec ChildOutputDescription };
+
+    ghost use Rattle.scene_events.specs.SceneAttempts.{earlier_in, written_last};
+
+    ghost view = { λ a. record {
+      earlier = earlier_in a.more;
+      last = record {
+        time_taken = a.time_taken;
+        retry_data = a.retry_data;
+        result = a.result;
+        output = written_last a.result a.more;
+        is_slow = a.is_slow;
+      };
+      flaky_result = a.flaky_result;
+    } };
+}
+
+impl SceneAttempts {
+    ghost use Rattle.run_model.specs.Outputs.{has_loaded_output};
+
+    /// The attempts before the last one, in order, and the last; and what a success after earlier attempts counts as. It allocates
+    /// only where there are earlier ones.
+    pub fn with_last(
+        alloc: Global,
+        earlier: Vec<SceneAttempt>,
+        last: SceneAttempt,
+        flaky_result: FlakyResult,
+    ) -> Result<Self, OutOfMemory>
+        ensures earlier { IfOk result (λ attempts. attempts.earlier ≡ earlier.items) }
+        ensures last { IfOk result (λ attempts. attempts.last ≡ last) }
+        ensures flaky { IfOk result (λ attempts. attempts.flaky_result ≡ flaky_result) }
+    {
+        let SceneAttempt {
+            time_taken,
+            result,
+            output,
+            retry_data,
+            is_slow,
+        } = last;
+        let more = if earlier.is_empty() {
+            match output {
+                SceneOutput::Silent => MoreAttempts::Nothing,
+                SceneOutput::Told(output) => MoreAttempts::Output(output),
+            }
+        } else {
+            let earlier = EarlierAttempts {
+                attempts: earlier,
+                last_output: output,
+            };
+            MoreAttempts::Earlier(Boxed::new(alloc, earlier)?)
+        };
+        Ok(SceneAttempts {
+            time_taken,
+            result,
+            more,
+            retry_data,
+            is_slow,
+            flaky_result,
+        })
+    }
+
+    /// Whether what the last attempt wrote is there, and not left unread.
+    pub fn has_loaded_output(&self) -> bool
+        ensures { result ≡ has_loaded_output self.now.last.output }
+    {
+        match &self.more {
+            MoreAttempts::Nothing => true,
+            MoreAttempts::Output(output) => output.get().has_loaded_output(),
+            MoreAttempts::Earlier(earlier) => earlier.get().last_output.is_loaded(),
+        }
+    }
+
+    /// The attempts as an event has them. Copies their texts and shares the bytes of their outputs.
+    pub fn statuses(&self, alloc: Global) -> Result<ExecutionStatuses<LiveSpec>, OutOfMemory>
+        ensures { IfOk result (λ statuses. statuses ≡ self.now) }
+    {
+        let earlier = match &self.more {
+            MoreAttempts::Earlier(earlier) => statuses_of(
+                alloc,
+                earlier.get().attempts.as_slice(),
+            )?,
+            _ => Vec::new(alloc),
+        };
+        let last = self.last_status(alloc)?;
+        Ok(ExecutionStatuses::with_last(earlier, last, self.flaky_result))
+    }
+
+    // The last attempt as `ExecuteStatus`. Most wrote nothing; those are built here.
+    #[inline(never)]
+    fn last_status(&self, alloc: Global) -> Result<ExecuteStatus<LiveSpec>, OutOfMemory>
+        ensures { IfOk result (λ status. status ≡ self.now.last) }
+    {
+        let MoreAttempts::Nothing = &self.more else {
+            return self.told_status(alloc);
+        };
+        Ok(ExecuteStatus {
+            time_taken: self.time_taken,
+            retry_data: self.retry_data,
+            result: self.result.copy(alloc)?,
+            output: silence(self.result.copy(alloc)?),
+            is_slow: self.is_slow,
+        })
+    }
+
+    // The same of one that wrote something.
+    #[inline(never)]
+    fn told_status(&self, alloc: Global) -> Result<ExecuteStatus<LiveSpec>, OutOfMemory>
+        ensures { IfOk result (λ status. status ≡ self.now.last) }
+    {
+        let output = match &self.more {
+            MoreAttempts::Nothing => silence(self.result.copy(alloc)?),
+            MoreAttempts::Output(output) => output.get().copy(alloc)?,
+            MoreAttempts::Earlier(earlier) => {
+                earlier.get().last_output.copy_of(alloc, &self.result)?
+            }
+        };
+        Ok(ExecuteStatus {
+            time_taken: self.time_taken,
+            retry_data: self.retry_data,
+            result: self.result.copy(alloc)?,
+            output,
+            is_slow: self.is_slow,
+        })
+    }
+}
+
+// These attempts as an event has them. Most tests have none, and pass by what this function clears at its start.
+#[inline(never)]
+fn statuses_of(
+    alloc: Global,
+    attempts: &[SceneAttempt],
+) -> Result<Vec<ExecuteStatus<LiveSpec>>, OutOfMemory>
+    ensures { IfOk result (λ statuses. statuses.items ≡ attempts.now) }
+{
+    let mut statuses = Vec::with_capacity(alloc, attempts.len())?;
+    for attempt in attempts {
+        statuses.push(attempt.status(alloc)?)?;
+    }
+    Ok(statuses)
+}
+
+/// An attempt of a test. Contracts see it as a reporter's.
+#[derive(Drop)]
+pub struct SceneAttempt {
+    time_taken: Nanos,
+    result: ExecutionResultDescription,
+    output: SceneOutput,
+    retry_data: RetryData,
+    is_slow: bool,
+}
+
+// What an attempt wrote.
+#[derive(Drop)]
+enum SceneOutput {
+    // Both streams were captured, and hold nothing.
+    Silent,
+    // All else.
+    Told(Boxed<ChildExecutionOutputDescription<LiveSpec>>),
+}
+
+impl SceneOutput {
+    ghost use Rattle.run_model.specs.Outputs.{has_loaded_output};
+    ghost use Rattle.scene_events.specs.SceneAttempts.{is_loaded, written};
+
+    // Whether it is there, and not left unread.
+    fn is_loaded(&self) -> bool
+        ensures { result ≡ is_loaded self.now }
+    {
+        match self {
+            SceneOutput::Told(output) => output.get().has_loaded_output(),
+            SceneOutput::Silent => true,
+        }
+    }
+
+    // What an attempt that ended so wrote, as an event has it.
+    fn copy_of(
+        &self,
+        alloc: Global,
+        outcome: &ExecutionResultDescription,
+    ) -> Result<ChildExecutionOutputDescription<LiveSpec>, OutOfMemory>
+        ensures { IfOk result (λ output. output ≡ written outcome.now self.now) }
+    {
+        match self {
+            SceneOutput::Told(output) => output.get().copy(alloc),
+            SceneOutput::Silent => Ok(silence(outcome.copy(alloc)?)),
+        }
+    }
+}
+
+impl Model for SceneAttempt {
+    ghost use Rattle.run_model.specs.declared.output.ChildOutputDescription.{ChildOutputDescription};
+    ghost use Rattle.run_model.specs.declared.output.LiveSpec.{LiveSpec};
+    ghost use Rattle.run_model.specs.declared.status.ExecuteStatus.{ExecuteStatus};
+
+    ghost Value = { ExecuteStatus LiveSpec ChildOutputDescription };
+
+    ghost use Rattle.scene_events.specs.SceneAttempts.{written};
+
+    ghost view = { λ a. record {
+      time_taken = a.time_taken;
+      retry_data = a.retry_data;
+      result = a.result;
+      output = written a.result a.output;
+      is_slow = a.is_slow;
+    } };
+}
+
+impl SceneAttempt {
+    ghost use Rattle.run_model.specs.Outputs.{has_loaded_output};
+    ghost use Rattle.run_model.specs.Statuses.{is_success};
+    ghost use Rattle.scene_events.specs.SceneAttempts.{script_status};
+
+    /// An attempt whose streams were both captured, and hold nothing. It allocates nothing.
+    pub fn silent(
+        outcome: ExecutionResultDescription,
+        time_taken: Nanos,
+        retry_data: RetryData,
+        is_slow: bool,
+    ) -> Self
+        ensures { result ≡ record {
+          time_taken = time_taken;
+          retry_data = retry_data;
+          result = outcome;
+          output = silence outcome;
+          is_slow = is_slow;
+        } }
+    {
+        SceneAttempt {
+            time_taken,
+            result: outcome,
+            output: SceneOutput::Silent,
+            retry_data,
+            is_slow,
+        }
+    }
+
+    /// An attempt with what it wrote, for which it allocates.
+    pub fn with_output(
+        alloc: Global,
+        outcome: ExecutionResultDescription,
+        time_taken: Nanos,
+        retry_data: RetryData,
+        is_slow: bool,
+        output: ChildExecutionOutputDescription<LiveSpec>,
+    ) -> Result<Self, OutOfMemory>
+        ensures { IfOk result (λ attempt. attempt ≡ record {
+          time_taken = time_taken;
+          retry_data = retry_data;
+          result = outcome;
+          output = output;
+          is_slow = is_slow;
+        }) }
+    {
+        Ok(SceneAttempt {
+            time_taken,
+            result: outcome,
+            output: SceneOutput::Told(Boxed::new(alloc, output)?),
+            retry_data,
+            is_slow,
+        })
+    }
+
+    /// Whether it succeeded.
+    pub fn is_success(&self) -> bool
+        ensures { result ≡ is_success self.now.result }
+    {
+        self.result.is_success()
+    }
+
+    /// Whether what it wrote is there, and not left unread.
+    pub fn has_loaded_output(&self) -> bool
+        ensures { result ≡ has_loaded_output self.now.output }
+    {
+        self.output.is_loaded()
+    }
+
+    /// The attempt as an event has it. Copies its texts and shares the bytes of its output.
+    pub fn status(&self, alloc: Global) -> Result<ExecuteStatus<LiveSpec>, OutOfMemory>
+        ensures { IfOk result (λ status. status ≡ self.now) }
+    {
+        Ok(ExecuteStatus {
+            time_taken: self.time_taken,
+            retry_data: self.retry_data,
+            result: self.result.copy(alloc)?,
+            output: self.output.copy_of(alloc, &self.result)?,
+            is_slow: self.is_slow,
+        })
+    }
+
+    /// The attempt of a setup script as an event has it. Copies its texts and shares the bytes of its output.
+    pub fn script_status(
+        &self,
+        alloc: Global,
+    ) -> Result<SetupScriptExecuteStatus<LiveSpec>, OutOfMemory>
+        ensures { IfOk result (λ status. status ≡ script_status self.now) }
+    {
+        Ok(SetupScriptExecuteStatus {
+            time_taken: self.time_taken,
+            result: self.result.copy(alloc)?,
+            output: self.output.copy_of(alloc, &self.result)?,
+            is_slow: self.is_slow,
+        })
+    }
+}
+
+// The output of an attempt with this result that wrote nothing.
+#[inline(always)]
+fn silence(outcome: ExecutionResultDescription) -> ChildExecutionOutputDescription<LiveSpec>
+    ensures { result ≡ silence outcome }
+{
+    ChildExecutionOutputDescription::Output {
+        result: Some(outcome),
+        output: ChildOutputDescription::Split {
+            stdout: Some(ChildSingleOutput::empty()),
+            stderr: Some(ChildSingleOutput::empty()),
+        },
+        errors: None,
+        highlight: None,
+    }
+}

@@ -1,0 +1,162 @@
+//! The events that tell what the units of a run are doing.
+
+ghost use Rattle.std.specs.Prelude.{◌≡◌, OnOk, OnErr};
+ghost use Rattle.scene_events.specs.Scenes.{AddsCallOf};
+ghost use Rattle.scene_events.specs.declared.scene.event.SceneEvent.{SceneEvent};
+
+use super::event::{call_after, call_of};
+use super::script_events::SceneScript;
+use super::states::SceneState;
+use super::test_events::SceneTest;
+use run_model::boxed::Boxed;
+use run_model::call::ReportCall;
+use run_model::event::TestEventKind;
+use run_model::info::{InfoResponse, SetupScriptInfoResponse, TestInfoResponse};
+use run_model::memory::OutOfMemory;
+use run_model::output::{ChildExecutionOutputDescription, LiveSpec};
+use run_model::stats::RunStats;
+use run_model::status::RetryData;
+use run_model::stress::StressIndex;
+use run_model::time::Nanos;
+use std::alloc::Global;
+
+/// All units are asked what they are doing.
+#[derive(Clone, Copy)]
+pub struct InfoStart {
+    /// How long the run has taken.
+    pub elapsed: Nanos,
+    /// How many units are asked.
+    pub total: usize,
+    /// The counts of the run.
+    pub run_stats: RunStats,
+}
+
+/// A setup script says what it is doing.
+#[derive(Drop)]
+pub struct ScriptAnswer {
+    /// The place of its answer, from 0.
+    pub index: usize,
+    /// How many units were asked.
+    pub total: usize,
+    /// Which iteration of a stress run it belongs to.
+    pub stress_index: Option<StressIndex>,
+    /// The script.
+    pub script: SceneScript,
+    /// What it says.
+    pub answer: UnitAnswer,
+}
+
+/// A test says what it is doing.
+#[derive(Drop)]
+pub struct TestAnswer {
+    /// The place of its answer, from 0.
+    pub index: usize,
+    /// How many units were asked.
+    pub total: usize,
+    /// The test.
+    pub test: SceneTest,
+    /// Which attempt it is.
+    pub retry_data: RetryData,
+    /// What it says.
+    pub answer: UnitAnswer,
+}
+
+/// What a unit says. Answers are rare and large, so they have memory of their own.
+#[derive(Drop)]
+pub struct UnitAnswer {
+    /// What it is doing.
+    pub state: Boxed<SceneState>,
+    /// What it has written so far.
+    pub output: Boxed<ChildExecutionOutputDescription<LiveSpec>>,
+}
+
+/// No further answers are waited for.
+#[derive(Clone, Copy)]
+pub struct InfoFinish {
+    /// How many units have not answered.
+    pub missing: usize,
+}
+
+impl InfoStart {
+    /// Pushes this event as a `ReportCall`.
+    pub fn push_call<'a>(&self, calls: &mut Vec<ReportCall<'a>>) -> Result<(), OutOfMemory>
+        ensures call { OnOk result (AddsCallOf (SceneEvent.InfoStarted self.now) calls.old.items calls.new.items) }
+        ensures unchanged { OnErr result (calls.new.items ≡ calls.old.items) }
+    {
+        let kind = TestEventKind::InfoStarted {
+            total: self.total,
+            run_stats: self.run_stats,
+        };
+        calls.push(call_after(self.elapsed, kind))?;
+        Ok(())
+    }
+}
+
+impl ScriptAnswer {
+    /// Pushes this event as a `ReportCall`.
+    pub fn push_call<'a>(
+        &self,
+        alloc: Global,
+        calls: &mut Vec<ReportCall<'a>>,
+    ) -> Result<(), OutOfMemory>
+        ensures call { OnOk result (AddsCallOf (SceneEvent.ScriptAnswered self.now) calls.old.items calls.new.items) }
+        ensures unchanged { OnErr result (calls.new.items ≡ calls.old.items) }
+    {
+        let script = self.script.copy(alloc)?;
+        let state = self.answer.state.get().state(alloc)?;
+        let output = self.answer.output.get().copy(alloc)?;
+        calls.push(call_of(TestEventKind::InfoResponse {
+            index: self.index,
+            total: self.total,
+            response: InfoResponse::SetupScript(SetupScriptInfoResponse {
+                stress_index: self.stress_index,
+                script_id: script.script_id,
+                program: script.program,
+                args: script.args,
+                state: Boxed::new(alloc, state)?,
+                output: Boxed::new(alloc, output)?,
+            }),
+        }))?;
+        Ok(())
+    }
+}
+
+impl TestAnswer {
+    /// Pushes this event as a `ReportCall`.
+    pub fn push_call<'a>(
+        &'a self,
+        alloc: Global,
+        calls: &mut Vec<ReportCall<'a>>,
+    ) -> Result<(), OutOfMemory>
+        ensures call { OnOk result (AddsCallOf (SceneEvent.TestAnswered self.now) calls.old.items calls.new.items) }
+        ensures unchanged { OnErr result (calls.new.items ≡ calls.old.items) }
+    {
+        let state = self.answer.state.get().state(alloc)?;
+        let output = self.answer.output.get().copy(alloc)?;
+        calls.push(call_of(TestEventKind::InfoResponse {
+            index: self.index,
+            total: self.total,
+            response: InfoResponse::Test(TestInfoResponse {
+                stress_index: self.test.stress_index,
+                test_instance: self.test.instance(),
+                retry_data: self.retry_data,
+                state: Boxed::new(alloc, state)?,
+                output: Boxed::new(alloc, output)?,
+            }),
+        }))?;
+        Ok(())
+    }
+}
+
+impl InfoFinish {
+    /// Pushes this event as a `ReportCall`.
+    pub fn push_call<'a>(&self, calls: &mut Vec<ReportCall<'a>>) -> Result<(), OutOfMemory>
+        ensures call { OnOk result (AddsCallOf (SceneEvent.InfoFinished self.now) calls.old.items calls.new.items) }
+        ensures unchanged { OnErr result (calls.new.items ≡ calls.old.items) }
+    {
+        calls.push(call_of(TestEventKind::InfoFinished {
+            missing: self.missing,
+        }))?;
+        Ok(())
+    }
+}

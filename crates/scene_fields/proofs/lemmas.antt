@@ -1,0 +1,12 @@
+pub mod Cuts
+pub mod Displays
+pub mod Marks
+pub mod Moves
+pub mod NonZero
+pub mod Numbers
+pub mod Pairs
+pub mod ShortNumbers
+pub mod Tabs
+pub mod Unescaped
+pub mod Utf8
+pub mod WordLists

@@ -1,0 +1,63 @@
+-- Where a text is cut at a byte (for `first_line`, `split_at_byte`, `split_fields`, `read_owned`).
+use Rattle.std.proofs.Common.{◌≡◌, ℕ, zero, suc, ◌+◌, ◌<◌, ◌≤◌, List, [], ◌∷◌, ◌++◌, Bool, true, false, length, get_or, take, drop, refl, ap, sym, ◌∙◌, ◌==◌, Option, None, Some, subst, arith, inl, inr, add-one}
+use Rattle.std.proofs.Math.Seq.{drop-cons}
+use Rattle.std.proofs.lemmas.List.{take-append-drop}
+use Rattle.std.proofs.lemmas.Bool.{cases_Bool}
+use Rattle.std.proofs.lemmas.Bool.Decides.{nat_tests}
+use Rattle.memchr.specs.Find.{IsFirstByte, is_byte, Nowhere, NoneBefore, Passes}
+use Rattle.std.specs.Option.{is_some}
+use Rattle.scene_fields.specs.Split.{Lacks, parted, cut}
+
+is_false : (x : Bool) → ¬ (x ≡ true) → x ≡ false
+is_false x h = elim (cases_Bool x) [ inl p ↦ absurd (h p) | inr p ↦ p ]
+
+-- no place has the byte
+pub Lacks-from_each : (b : ℕ) (t : List ℕ) → Nowhere (Passes (is_byte b) t) 0 (length t) → Lacks b t
+Lacks-from_each b [] h = tt
+Lacks-from_each b (c ∷ t) h = (is_false (c == b) (h 0 (omega arith) (omega arith)), Lacks-from_each b t (λ k l m. h (suc k) (omega arith) (omega arith)))
+
+-- none up to a place has it
+pub Lacks-take : (b : ℕ) (t : List ℕ) (n : ℕ) → n ≤ length t → Nowhere (Passes (is_byte b) t) 0 n → Lacks b (take n t)
+Lacks-take b t zero l h = tt
+Lacks-take b [] (suc n) l h = tt
+Lacks-take b (c ∷ t) (suc n) l h = (is_false (c == b) (h 0 (omega arith) (omega arith)), Lacks-take b t n (omega arith) (λ k p m. h (suc k) (omega arith) (omega arith)))
+
+-- the parts before and after the first place
+pub cut_at : (b : ℕ) (t : List ℕ) (k : ℕ) → NoneBefore (Passes (is_byte b) t) 0 (length t) k → Passes (is_byte b) t k → Lacks b (take k t) × (t ≡ take k t ++ (b ∷ drop (k + 1) t))
+cut_at b t k first here =
+    let within : k < length t = first.high in
+    let is_b : get_or t k 0 ≡ b = grind (arith, nat_tests, here) in
+    let back : drop k t ≡ b ∷ drop (k + 1) t = drop-cons t k 0 within ∙ rw (is_b, add-one) refl in
+    (Lacks-take b t k (omega arith) first.before, sym (take-append-drop k t) ∙ ap (λ u. take k t ++ u) back)
+
+-- a text without the byte is one piece
+pub parted-lacks : (b : ℕ) (t : List ℕ) → Lacks b t → parted b t ≡ t ∷ []
+unfolding parted
+parted-lacks b [] h = refl
+parted-lacks b (c ∷ t) h = let e = parted-lacks b t h.1 in rw (h.0, e) refl
+
+-- and so is one in which no such byte was found
+pub parted-missed : (b : ℕ) (hay t : List ℕ) (found : Option ℕ) → hay ≡ t → is_some found ≡ false → IsFirstByte (is_byte b) hay found → parted b t ≡ t ∷ []
+parted-missed b hay t None same none missed = subst (λ u. parted b u ≡ u ∷ []) same (parted-lacks b hay (Lacks-from_each b hay missed))
+parted-missed b hay t (Some k) same none found = cc
+
+is_itself : (b : ℕ) → (b == b) ≡ true
+is_itself b = grind (arith, nat_tests)
+
+-- and one that has it begins with what stands before the first one
+pub parted-parts : (b : ℕ) (x y : List ℕ) → Lacks b x → parted b (x ++ (b ∷ y)) ≡ x ∷ parted b y
+unfolding parted
+parted-parts b [] y h = rw (is_itself b) refl
+parted-parts b (c ∷ x) y h = let e = parted-parts b x y h.1 in rw (h.0, e) refl
+
+-- a text without the byte is not cut
+pub cut-lacks : (b : ℕ) (t : List ℕ) → Lacks b t → None ≡ cut b t
+unfolding cut
+cut-lacks b [] h = refl
+cut-lacks b (c ∷ t) h = let e = sym (cut-lacks b t h.1) in rw (h.0, e) refl
+
+-- and one that has it is cut at the first one
+pub cut-parts : (b : ℕ) (x y : List ℕ) → Lacks b x → cut b (x ++ (b ∷ y)) ≡ Some (x, y)
+unfolding cut
+cut-parts b [] y h = rw (is_itself b) refl
+cut-parts b (c ∷ x) y h = let e = cut-parts b x y h.1 in rw (h.0, e) refl

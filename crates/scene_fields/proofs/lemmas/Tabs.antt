@@ -1,0 +1,60 @@
+-- The pieces of a text between the places of a byte (for `read_bytes`, `split_fields`).
+use Rattle.std.proofs.Common.{◌≡◌, ℕ, ◌+◌, ◌-◌, ◌<◌, ◌≤◌, List, [], ◌∷◌, ◌++◌, Bool, true, ◌==◌, length, take, drop, ap, sym, ◌∙◌, subst, length-drop, append_assoc, arith}
+use Rattle.std.proofs.lemmas.List.{get_or-drop, drop-drop, map-append}
+use Rattle.memchr.specs.Find.{is_byte, Nowhere, NoneBefore, Passes}
+use Rattle.std.specs.Borrow.{Bor}
+use Rattle.scene_fields.specs.Split.{Lacks, parted, field_texts}
+use Rattle.scene_fields.proofs.lemmas.Cuts.{Lacks-from_each, cut_at, parted-lacks, parted-parts}
+
+-- from place i on, the first of n places that passes the test is k
+pub record IsNextPlace (test : ℕ → Bool) (hay : List ℕ) (i n k : ℕ) : Type 0 where
+  pub low : i ≤ k
+  pub high : k < i + n
+  pub passes : Passes test hay k
+  pub before : Nowhere (Passes test hay) i k
+
+module _ (b : ℕ) (t : List ℕ) (start : ℕ) (within : start ≤ length t) where
+  abbrev rest : List ℕ
+  rest = drop start t
+
+  -- places in the rest are places in the text
+  back : (k : ℕ) → Passes (is_byte b) rest k → Passes (is_byte b) t (start + k)
+  back k p = subst (λ c. (c == b) ≡ true) (get_or-drop start t k 0) p
+
+  forth : (k : ℕ) → Passes (is_byte b) t (start + k) → Passes (is_byte b) rest k
+  forth k p = subst (λ c. (c == b) ≡ true) (sym (get_or-drop start t k 0)) p
+
+  -- the text from start on, cut at its first such byte
+  pub cut_here : (place : ℕ) → IsNextPlace (is_byte b) t start (length t - start) place → Lacks b (take (place - start) rest) × (rest ≡ take (place - start) rest ++ (b ∷ drop (place + 1) t))
+  cut_here place r =
+      let at : place ≡ start + (place - start) = omega (arith, r.low) in
+      let room : place - start < length rest = simp length-drop (omega (arith, r.low, r.high)) in
+      let first : NoneBefore (Passes (is_byte b) rest) 0 (length rest) (place - start) = record { low = omega arith; high = room; before = λ j l u p. r.before (start + j) (omega arith) (omega arith) (back j p) } in
+      let cut = cut_at b rest (place - start) first (forth (place - start) (subst (λ n. Passes (is_byte b) t n) at r.passes)) in
+      let e : start + (place - start + 1) ≡ place + 1 = omega (arith, r.low) in
+      (cut.0, cut.1 ∙ ap (λ u. take (place - start) rest ++ (b ∷ u)) (drop-drop _ _ t ∙ ap (λ n. drop n t) e))
+
+  pub piece_here : (place : ℕ) → IsNextPlace (is_byte b) t start (length t - start) place → parted b rest ≡ take (place - start) rest ∷ parted b (drop (place + 1) t)
+  piece_here place r = let cut = cut_here place r in ap (parted b) cut.1 ∙ parted-parts b _ _ cut.0
+
+  -- no such byte is left
+  pub lacks_here : Nowhere (Passes (is_byte b) t) start (length t) → Lacks b rest
+  lacks_here none = Lacks-from_each b rest (λ j l u p. none (start + j) (omega arith) (bound j u) (back j p))
+    where
+      bound : (j : ℕ) → j < length rest → start + j < length t
+      bound j u = let d = length-drop start t in omega (arith, d, u)
+
+  pub last_piece : Nowhere (Passes (is_byte b) t) start (length t) → parted b rest ≡ rest ∷ []
+  last_piece none = parted-lacks b rest (lacks_here none)
+
+-- one more piece was found
+module _ (front : List (Bor (List ℕ))) (piece : Bor (List ℕ)) (rest : List (List ℕ)) (whole : List (List ℕ)) where
+  pub one_more : (later : List (List ℕ)) → field_texts front ++ rest ≡ whole → rest ≡ piece.now ∷ later → field_texts (front ++ piece ∷ []) ++ later ≡ whole
+  one_more later so_far cut =
+      ap (λ us. us ++ later) (map-append (λ (u : Bor (List ℕ)). u.now) front (piece ∷ []))
+      ∙ append_assoc (field_texts front) (piece.now ∷ []) later
+      ∙ ap (λ us. field_texts front ++ us) (sym cut)
+      ∙ so_far
+
+  pub one_last : field_texts front ++ rest ≡ whole → rest ≡ piece.now ∷ [] → field_texts (front ++ piece ∷ []) ≡ whole
+  one_last so_far cut = map-append (λ (u : Bor (List ℕ)). u.now) front (piece ∷ []) ∙ ap (λ us. field_texts front ++ us) (sym cut) ∙ so_far

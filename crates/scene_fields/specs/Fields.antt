@@ -1,0 +1,90 @@
+-- The fields of a line from left to right: what they say, or the first fault that is met.
+use Rattle.std.specs.Prelude.{◌≡◌, ℕ, ◌+◌, ◌%◌, List, [], ◌∷◌, length, Bool, true, false, ◌==◌, ◌&&◌, nat_le, if◌then◌else◌, Option, None, Some, Result, Ok, Err, ⊤, ◌⊎◌}
+use Rattle.std.specs.Borrow.{Bor}
+use Rattle.scene_fields.specs.declared.fault.LineFault.{LineFault}
+use Rattle.scene_fields.specs.declared.fault.LineFault.TheVariants.{WrongNumberOfFields, BadField}
+use Rattle.scene_fields.specs.declared.fault.LineError.{LineError}
+use Rattle.scene_fields.specs.declared.fault.LineError.TheVariants as error
+
+-- how many fields were taken, and those that are left
+pub record Place : Type 0 where
+  pub number : ℕ
+  pub left : List (List ℕ)
+
+-- what the fields from some place on say, and the place after them; or the first fault
+abbrev pub Line : Type 0 → Type 0
+Line X = Place → Result (X × Place) LineFault
+
+abbrev pub goes_on : {A B : Type 0} → (A → Line B) → Result (A × Place) LineFault → Result (B × Place) LineFault
+goes_on f (Ok x) = f x.0 x.1
+goes_on f (Err e) = Err e
+
+infixl 10 ◌>>=◌
+abbrev pub ◌>>=◌ : {A B : Type 0} → Line A → (A → Line B) → Line B
+l >>= f = λ p. goes_on f (l p)
+
+abbrev pub says : {X : Type 0} → X → Line X
+says x p = Ok (x, p)
+
+-- the next field
+abbrev pub taken : ℕ → List (List ℕ) → Result (List ℕ × Place) LineFault
+taken n [] = Err WrongNumberOfFields
+taken n (t ∷ ts) = Ok (t, record { number = n + 1; left = ts })
+
+abbrev pub next : Line (List ℕ)
+next p = taken p.number p.left
+
+-- the value of the field that was just taken, if it has one
+abbrev pub valued : {X : Type 0} → Option X → Line X
+valued None p = Err (BadField p.number)
+valued (Some x) p = Ok (x, p)
+
+-- the value of the next field
+abbrev pub field : {X : Type 0} → (List ℕ → Option X) → Line X
+field value_in = do
+  t ← next
+  valued (value_in t)
+
+-- what so many fields say
+abbrev pub exactly : {X : Type 0} → ℕ → Line X → Line X
+exactly n line p = if length p.left == n then line p else Err WrongNumberOfFields
+
+-- what eight fields say with one attempt or more, each of which has eight
+abbrev pub with_attempts : {X : Type 0} → Line X → Line X
+with_attempts line p = if nat_le 16 (length p.left) && (length p.left % 8 == 0) then line p else Err WrongNumberOfFields
+
+-- what a function that takes no memory returned, and where it left the fields
+abbrev pub answered : {X : Type 0} → Result X LineFault → Place → Result (X × Place) LineFault
+answered (Ok x) place = Ok (x, place)
+answered (Err f) place = Err f
+
+-- a field that was taken, by its text
+abbrev pub taken_text : Result (Bor (List ℕ)) LineFault → Result (List ℕ) LineFault
+taken_text (Ok t) = Ok t.now
+taken_text (Err f) = Err f
+
+-- the fields as they are where so many may be left, and else the fault of a wrong number
+abbrev pub IsKeptWhere : Bool → Place → Result Place LineFault → Type 0
+IsKeptWhere takes old (Ok new) = (takes ≡ true) × (new ≡ old)
+IsKeptWhere takes old (Err f) = (takes ≡ false) × (f ≡ WrongNumberOfFields)
+
+-- a line has the fault, unless memory was refused
+abbrev pub Fails : {Y : Type 0} → LineError → Result Y LineFault → Type 0
+Fails error.OutOfMemory told = ⊤
+Fails (error.Fault f) told = told ≡ Err f
+
+-- what a function returned, and where it left the fields, is what the line says from old on, unless memory was refused
+abbrev pub Gives : {X Y : Type 0} → (X → Y) → Place → Result X LineError → Place → Line Y → Type 0
+Gives view old (Ok x) new line = line old ≡ Ok (view x, new)
+Gives view old (Err e) new line = Fails e (line old)
+
+-- the next field was read by a call that may answer so
+abbrev pub ReadsBy : {X : Type 0} → (Bor (List ℕ) → Option X → Type 0) → Place → Result X LineFault → Place → Type 0
+ReadsBy answers old (Ok x) new = (t : Bor (List ℕ)) × answers t (Some x) × (next old ≡ Ok (t.now, new))
+ReadsBy answers old (Err f) new = (next old ≡ Err f) ⊎ ((t : Bor (List ℕ)) × answers t None × (next old ≡ Ok (t.now, new)) × (f ≡ BadField new.number))
+
+-- the same of a call that takes memory
+abbrev pub TriesBy : {X : Type 0} → (Bor (List ℕ) → Option X → Type 0) → Place → Result X LineError → Place → Type 0
+TriesBy answers old (Ok x) new = ReadsBy answers old (Ok x) new
+TriesBy answers old (Err error.OutOfMemory) new = ⊤
+TriesBy {X} answers old (Err (error.Fault f)) new = ReadsBy {X = X} answers old (Err f) new

@@ -1,0 +1,10 @@
+pub mod Counts
+pub mod Faults
+pub mod Fields
+pub mod Lists
+pub mod Marks
+pub mod Numbers
+pub mod Results
+pub mod Split
+pub mod Texts
+pub mod Values

@@ -1,0 +1,86 @@
+-- Texts as a scene writes them, where a backslash begins an escape.
+use Rattle.std.specs.Prelude.{◌≡◌, ℕ, zero, suc, ◌+◌, ◌*◌, ◌≤◌, List, [], ◌∷◌, ◌++◌, ◌==◌, ◌&&◌, nat_lt, nat_le, if◌then◌else◌, Option, None, Some, string_bytes, drop, length, take}
+use Rattle.std.specs.Option.{option_map}
+use Rattle.std.specs.Borrow.{Bor}
+use Rattle.std.specs.Char.{digit_value}
+use Rattle.std.specs.declared.alloc.Global.{Global}
+use Rattle.std.specs.declared.borrow.CowStr.{CowStr}
+use Rattle.std.specs.declared.borrow.CowStr.TheVariants.{Borrowed, Owned}
+use Rattle.scene_fields.specs.Split.{Lacks}
+
+-- the text that is borrowed or owned
+abbrev pub cow_text : CowStr Global → List ℕ
+cow_text (Borrowed t) = t.now
+cow_text (Owned t) = string_bytes t
+
+-- no escape begins in the text
+abbrev pub IsPlain : List ℕ → Type 0
+IsPlain t = Lacks 92 t
+
+-- the number, unless it is above this
+abbrev pub up_to : ℕ → ℕ → Option ℕ
+up_to most n = if nat_le n most then Some n else None
+
+-- the byte of an `x` and two digits
+abbrev pub hex_escape : ℕ → List ℕ → Option ℕ
+hex_escape most [] = None
+hex_escape most (high ∷ []) = None
+hex_escape most (high ∷ low ∷ t) =
+    if nat_lt (digit_value high) 16 && nat_lt (digit_value low) 16 then up_to most (16 * digit_value high + digit_value low)
+    else None
+
+-- the byte that an escape gives, by what follows the backslash: `n`, `t`, `r`, `e`, a backslash, or `x` and two digits
+-- that write a byte of at most `most`
+abbrev pub escape_byte : ℕ → List ℕ → Option ℕ
+escape_byte most [] = None
+escape_byte most (c ∷ t) =
+    if c == 110 then Some 10
+    else (if c == 116 then Some 9
+    else (if c == 114 then Some 13
+    else (if c == 101 then Some 27
+    else (if c == 92 then Some 92
+    else (if c == 120 then hex_escape most t else None)))))
+
+-- how many bytes after the backslash belong to the escape
+abbrev pub escape_len : List ℕ → ℕ
+escape_len [] = 0
+escape_len (c ∷ t) = if c == 120 then 3 else 1
+
+-- a byte before a text
+abbrev pub prepended : Option ℕ → Option (List ℕ) → Option (List ℕ)
+prepended None t = None
+prepended (Some c) t = option_map (λ u. c ∷ u) t
+
+-- what a text stands for once so many bytes are passed over
+unfoldable pub unescaped_after : ℕ → ℕ → List ℕ → Option (List ℕ)
+unescaped_after most skip [] = Some []
+unescaped_after most zero (c ∷ t) =
+    if c == 92 then prepended (escape_byte most t) (unescaped_after most (escape_len t) t)
+    else prepended (Some c) (unescaped_after most 0 t)
+unescaped_after most (suc skip) (c ∷ t) = unescaped_after most skip t
+
+-- what a text stands for, if its escapes are good ones
+abbrev pub unescaped : ℕ → List ℕ → Option (List ℕ)
+unescaped most t = unescaped_after most 0 t
+
+-- a text, and the bytes of a stream
+abbrev pub text_in : List ℕ → Option (List ℕ)
+text_in t = unescaped 127 t
+
+abbrev pub bytes_in : List ℕ → Option (List ℕ)
+bytes_in t = unescaped 255 t
+
+-- a text grew by plain text and by what the escape after it gives, and this follows the escape
+pub record AddsStretch (old plain escape new : List ℕ) (after : Bor (List ℕ)) : Type 0 where
+  pub byte : ℕ
+  pub gives : escape_byte 127 escape ≡ Some byte
+  pub grown : new ≡ (old ++ plain) ++ (byte ∷ [])
+  pub follows : after.now ≡ drop (escape_len escape) escape
+
+-- so many bytes from a place on, in which no escape begins, were moved down to another place, and what follows them is as it was
+pub record MovesPlain (old new : List ℕ) (from to count : ℕ) : Type 0 where
+  pub within : from + count ≤ length old
+  pub long : length new ≡ length old
+  pub plain : IsPlain (take count (drop from old))
+  pub front : take (to + count) new ≡ take to old ++ take count (drop from old)
+  pub rest : drop (from + count) new ≡ drop (from + count) old

@@ -1,0 +1,127 @@
+//! What can be wrong with a line of a scene, and why a scene could not be read.
+
+ghost use Rattle.std.specs.Prelude.{◌≡◌, Some};
+ghost use Rattle.scene_fields.specs.declared.fault.ReadFault.TheVariants.{OutOfMemory};
+ghost use Rattle.scene_fields.specs.Faults.{line_fault_text, read_fault_text};
+
+use run_model::memory::OutOfMemory;
+use std::alloc::AllocFailed;
+use std::error::Error;
+use std::fmt;
+use std::fmt::Formatter;
+
+/// What is wrong with a line of a scene. Of several faults the first of these is the one that is told.
+#[derive(Clone, Copy, Debug, PartialEq, Eq)]
+pub enum LineFault {
+    /// Its bytes are not UTF-8.
+    NotUtf8,
+    /// Its first field names no event.
+    UnknownEvent,
+    /// It configures the run after an event.
+    ConfigAfterEvent,
+    /// It has too few fields or too many.
+    WrongNumberOfFields,
+    /// It says that another attempt follows one that succeeded.
+    RetriedSuccess,
+    /// The report needs output that it says was left unread.
+    OutputNotLoaded,
+    /// This field, from 1 for the event's name, is not what its event takes there. It is the first such field.
+    BadField(usize),
+}
+
+impl fmt::Display for LineFault {
+    ghost output = { λ fault. Some (line_fault_text fault) };
+
+    fn fmt<W: fmt::Write>(&self, f: &mut Formatter<W>) -> fmt::Result {
+        match self {
+            LineFault::NotUtf8 => f.write_str("not UTF-8"),
+            LineFault::UnknownEvent => f.write_str("unknown event"),
+            LineFault::ConfigAfterEvent => f.write_str("config after an event"),
+            LineFault::WrongNumberOfFields => f.write_str("wrong number of fields"),
+            LineFault::RetriedSuccess => f.write_str("a retried attempt succeeded"),
+            LineFault::OutputNotLoaded => f.write_str("output not loaded"),
+            LineFault::BadField(field) => write!(f, "bad field {field}"),
+        }
+    }
+}
+
+impl Error for LineFault {}
+
+/// Why a scene could not be read.
+///
+/// ```
+/// let fault = ReadFault::Line { line: 2, fault: LineFault::UnknownEvent };
+/// assert_eq!(fault.to_string(alloc)?.as_str(), "line 2: unknown event");
+/// ```
+#[derive(Clone, Copy, Debug, PartialEq, Eq)]
+pub enum ReadFault {
+    /// A line of the scene is wrong.
+    Line {
+        /// Which one, from 1.
+        line: u64,
+        /// What is wrong with it.
+        fault: LineFault,
+    },
+    /// A growth of memory was refused.
+    OutOfMemory,
+}
+
+impl fmt::Display for ReadFault {
+    ghost output = { λ fault. Some (read_fault_text fault) };
+
+    fn fmt<W: fmt::Write>(&self, f: &mut Formatter<W>) -> fmt::Result {
+        match self {
+            ReadFault::Line { line, fault } => write!(f, "line {line}: {fault}"),
+            ReadFault::OutOfMemory => f.write_str("out of memory"),
+        }
+    }
+}
+
+impl Error for ReadFault {}
+
+impl<T: Drop> From<AllocFailed<T>> for ReadFault {
+    ghost from_gives = { λ _ fault. fault ≡ OutOfMemory };
+
+    fn from(_refused: AllocFailed<T>) -> ReadFault {
+        ReadFault::OutOfMemory
+    }
+}
+
+/// Why a line could not be read.
+#[derive(Clone, Copy, PartialEq, Eq)]
+pub enum LineError {
+    /// The line is wrong.
+    Fault(LineFault),
+    /// A growth of memory was refused.
+    OutOfMemory,
+}
+
+impl From<LineFault> for LineError {
+    ghost use Rattle.scene_fields.specs.declared.fault.LineError.{LineError};
+
+    ghost from_gives = { λ fault error. error ≡ LineError.Fault fault };
+
+    fn from(fault: LineFault) -> LineError {
+        LineError::Fault(fault)
+    }
+}
+
+impl From<OutOfMemory> for LineError {
+    ghost use Rattle.scene_fields.specs.declared.fault.LineError.{LineError};
+
+    ghost from_gives = { λ _ error. error ≡ LineError.OutOfMemory };
+
+    fn from(_refused: OutOfMemory) -> LineError {
+        LineError::OutOfMemory
+    }
+}
+
+impl<T: Drop> From<AllocFailed<T>> for LineError {
+    ghost use Rattle.scene_fields.specs.declared.fault.LineError.{LineError};
+
+    ghost from_gives = { λ _ error. error ≡ LineError.OutOfMemory };
+
+    fn from(_refused: AllocFailed<T>) -> LineError {
+        LineError::OutOfMemory
+    }
+}

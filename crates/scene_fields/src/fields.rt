@@ -1,0 +1,214 @@
+//! A line of a scene, taken apart from left to right.
+
+ghost use Rattle.std.specs.Prelude.{◌≡◌, ◌+◌, ◌++◌, ◌≤◌, ◌%◌, ◌^◌, ◌==◌, ◌&&◌, [], ◌∷◌, MatchOption, MatchResult, OnOk, drop, length, nat_le, Ok};
+ghost use Rattle.scene_fields.specs.Split.{parted, field_texts};
+ghost use Rattle.scene_fields.specs.declared.fault.LineFault.{LineFault};
+ghost use Rattle.scene_fields.specs.Fields.{IsKeptWhere, Place, ReadsBy, TriesBy, answered, next, taken_text};
+
+use super::marks::{first_place, marks_from, without_place};
+use super::owned_text::OwnedText;
+use crate::fault::{LineError, LineFault};
+use bytes::BytesMut;
+use run_model::memory::OutOfMemory;
+use std::alloc::Global;
+use std::marker::Model;
+use std::mem;
+
+/// A line or an output of at least so many bytes keeps the memory that it was read into; a shorter one is copied.
+pub const LARGE: usize = 65_536;
+
+/// Splits a line into its fields, which tabs separate. They take the place of what the list held.
+pub fn split_fields<'a>(line: &'a str, fields: &mut Vec<&'a str>) -> Result<(), OutOfMemory>
+    ensures { OnOk result (field_texts fields.new.items ≡ parted 9 line.now) }
+{
+    fields.clear();
+    let bytes = line.as_bytes();
+    let mut start = 0;
+    let mut from = 0;
+    while from < bytes.len() {
+        let mut tabs = marks_from(b'\t', bytes, from);
+        while tabs != 0 {
+            let place = first_place(tabs);
+            let tab = from + place;
+            fields.push(&line[start..tab])?;
+            start = tab + 1;
+            tabs = without_place(tabs, place);
+        }
+        from += 32;
+    }
+    fields.push(&line[start..])?;
+    Ok(())
+}
+
+/// The fields of a line, which are taken one after the other. Contracts see how many were taken, and those that are left.
+#[derive(Drop)]
+pub struct Fields<'a> {
+    left: &'a [&'a str],
+    // The fields of a large line. There are none behind fields that are borrowed.
+    owned: &'a mut [OwnedText],
+    number: usize,
+    ghost counted: { number + length left.now + length owned.now ≤ 2 ^ 63 },
+}
+
+impl<'a> Model for Fields<'a> {
+    ghost Value = { Place };
+
+    ghost view = { λ f. record { number = f.number; left = field_texts f.left.now ++ f.owned.now } };
+}
+
+impl<'a> Fields<'a> {
+    /// The fields of a line, none of them taken.
+    pub fn new(fields: &'a [&'a str]) -> Fields<'a>
+        ensures { result ≡ record { number = 0; left = field_texts fields.now } }
+    {
+        Fields {
+            left: fields,
+            owned: &mut [],
+            number: 0,
+        }
+    }
+
+    /// The fields of a large line, none of them taken.
+    pub fn of_large_line(fields: &'a mut [OwnedText]) -> Fields<'a>
+        ensures { result ≡ record { number = 0; left = fields.old } }
+    {
+        Fields {
+            left: &[],
+            owned: fields,
+            number: 0,
+        }
+    }
+
+    /// The fields, of which so many must be left to take.
+    pub fn exactly(self, count: usize) -> Result<Fields<'a>, LineFault>
+        ensures { IsKeptWhere (length self.entry.left == count) self.entry result }
+    {
+        if self.len() != count {
+            return Err(LineFault::WrongNumberOfFields);
+        }
+        Ok(self)
+    }
+
+    /// The fields, of which eight must be left to take with one attempt or more: each has eight.
+    pub fn with_attempts(self) -> Result<Fields<'a>, LineFault>
+        ensures { IsKeptWhere (nat_le 16 (length self.entry.left) && (length self.entry.left % 8 == 0)) self.entry result }
+    {
+        let count = self.len();
+        if count < 16 || count % 8 != 0 {
+            return Err(LineFault::WrongNumberOfFields);
+        }
+        Ok(self)
+    }
+
+    /// How many fields are left to take.
+    pub fn len(&self) -> usize
+        ensures { result ≡ length self.now.left }
+    {
+        self.left.len() + self.owned.len()
+    }
+
+    /// The fields that are left to take, up to those that have memory of their own.
+    pub fn borrowed(&self) -> &'a [&'a str]
+        ensures { self.now.left ≡ field_texts result.now ++ drop (length result.now) self.now.left }
+    {
+        self.left
+    }
+
+    /// Skips the given number of fields.
+    pub fn pass(&mut self, count: usize)
+        requires { count ≤ length self.old.left }
+        ensures number { self.new.number ≡ self.old.number + count }
+        ensures left { self.new.left ≡ drop count self.old.left }
+    {
+        let here = count.min(self.left.len());
+        self.left = &self.left[here..];
+        let owned = mem::take(&mut self.owned);
+        self.owned = &mut owned[count - here..];
+        self.number += count;
+    }
+
+    /// Takes a field.
+    pub fn take(&mut self) -> Result<&'a str, LineFault>
+        ensures { next self.old ≡ answered (taken_text result) self.new }
+    {
+        let [field, left @ ..] = self.left else {
+            let (field, owned) = first_text(mem::take(&mut self.owned))?;
+            self.owned = owned;
+            self.number += 1;
+            return Ok(field);
+        };
+        self.left = left;
+        self.number += 1;
+        Ok(field)
+    }
+
+    /// Takes the memory of the next field, if that is a large one of a large line.
+    pub fn take_memory(&mut self, alloc: Global) -> Option<BytesMut>
+        ensures { MatchOption result (self.new ≡ self.old) (λ memory. (next self.old ≡ Ok (memory.items, self.new)) × (2 ≤ length memory.items)) }
+    {
+        if !self.left.is_empty() {
+            return None;
+        }
+        let owned = mem::take(&mut self.owned);
+        let is_large = match owned.first() {
+            Some(field) => field.len() >= LARGE,
+            None => false,
+        };
+        if !is_large {
+            self.owned = owned;
+            return None;
+        }
+        let (field, left) = owned.split_first_mut()?;
+        self.owned = left;
+        self.number += 1;
+        Some(mem::replace(field, OwnedText::empty(alloc)).into_memory())
+    }
+
+    /// The fault of the field that was taken last.
+    pub fn bad_field(&self) -> LineFault
+        ensures { result ≡ LineFault.BadField self.now.number }
+    {
+        LineFault::BadField(self.number)
+    }
+
+    /// Takes a field, and reads it by a function that answers None where the field is a bad one.
+    pub fn read<T: Drop, F: FnOnce(&'a str) -> Option<T>>(
+        &mut self,
+        read: F,
+    ) -> Result<T, LineFault>
+        requires { F.IsAlwaysCallable read }
+        ensures { ReadsBy (F.post read) self.old result self.new }
+    {
+        let field = self.take()?;
+        match read(field) {
+            Some(value) => Ok(value),
+            None => Err(LineFault::BadField(self.number)),
+        }
+    }
+
+    /// Takes a field, and reads it as `read` does, by a function that allocates.
+    pub fn try_read<T: Drop, F: FnOnce(&'a str) -> Result<Option<T>, OutOfMemory>>(
+        &mut self,
+        read: F,
+    ) -> Result<T, LineError>
+        requires { F.IsAlwaysCallable read }
+        ensures { TriesBy (λ t value. F.post read t (Ok value)) self.old result self.new }
+    {
+        let field = self.take()?;
+        match read(field)? {
+            Some(value) => Ok(value),
+            None => Err(LineError::Fault(LineFault::BadField(self.number))),
+        }
+    }
+}
+
+// The first of these texts, and the others.
+#[cold]
+fn first_text(texts: &mut [OwnedText]) -> Result<(&str, &mut [OwnedText]), LineFault>
+    ensures { MatchResult result (λ parts. texts.old ≡ parts.0.now ∷ parts.1.now) (λ fault. (texts.old ≡ []) × (fault ≡ LineFault.WrongNumberOfFields)) }
+{
+    match texts.split_first_mut() {
+        Some((text, rest)) => Ok((text.as_str(), rest)),
+        None => Err(LineFault::WrongNumberOfFields),
+    }
+}

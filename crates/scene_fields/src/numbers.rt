@@ -1,0 +1,119 @@
+//! Numbers as a scene writes them.
+//!
+//! They are decimal, and zeros may stand in front. A plus never does, and a minus only where a number may be negative.
+
+ghost use Rattle.std.specs.Prelude.{◌≡◌, ◌<◌, ◌≤◌, ◌^◌, length};
+ghost use Rattle.std.specs.Option.{SomeIff};
+ghost use Rattle.std.specs.Str.Parse.{IsNumeral, digits_value, signed_digits_value};
+ghost use Rattle.scene_fields.specs.Numbers.{IsSigned, code_in, nanos_in, number_in};
+
+use run_model::time::Nanos;
+
+/// Reads a count, which is anything that a `usize` holds.
+///
+/// ```
+/// assert_eq!(read_count("007"), Some(7));
+/// assert_eq!(read_count("+7"), None);
+/// ```
+pub fn read_count(text: &str) -> Option<usize>
+    ensures { result ≡ number_in 64 text.now }
+{
+    parse_count(text)
+}
+
+// The number that digits without a plus write.
+fn parse_count(text: &str) -> Option<usize>
+    ensures { SomeIff result (IsNumeral 10 text.now × (digits_value 10 text.now < 2 ^ 64)) (digits_value 10 text.now) }
+{
+    if let Some(number) = short_number(text.as_bytes()) {
+        return Some(number as usize);
+    }
+    if text.starts_with('+') {
+        return None;
+    }
+    text.parse().ok()
+}
+
+// The number that at most nineteen digits write. It fits 64 bits whatever they are, so that no digit needs a test of overflow.
+#[inline]
+fn short_number(text: &[u8]) -> Option<u64>
+    ensures { SomeIff result (IsNumeral 10 text.now × (length text.now ≤ 19)) (digits_value 10 text.now) }
+{
+    if text.is_empty() || text.len() > 19 {
+        return None;
+    }
+    let mut number = 0;
+    for byte in text {
+        let digit = byte.wrapping_sub(b'0');
+        if digit > 9 {
+            return None;
+        }
+        number = number * 10 + u64::from(digit);
+    }
+    Some(number)
+}
+
+/// Reads a number of attempts or the like, which is anything that a `u32` holds.
+pub fn read_small_count(text: &str) -> Option<u32>
+    ensures { result ≡ number_in 32 text.now }
+{
+    parse_small_count(text)
+}
+
+// The same of 32 bits.
+fn parse_small_count(text: &str) -> Option<u32>
+    ensures { SomeIff result (IsNumeral 10 text.now × (digits_value 10 text.now < 2 ^ 32)) (digits_value 10 text.now) }
+{
+    if text.starts_with('+') {
+        return None;
+    }
+    text.parse().ok()
+}
+
+/// Reads a duration in nanoseconds.
+pub fn read_nanos(text: &str) -> Option<Nanos>
+    ensures { result ≡ nanos_in text.now }
+{
+    Some(Nanos(read_wide_count(text)?))
+}
+
+// Reads a number of 128 bits.
+fn read_wide_count(text: &str) -> Option<u128>
+    ensures { result ≡ number_in 128 text.now }
+{
+    parse_wide_count(text)
+}
+
+// The number of 128 bits that digits without a plus write.
+fn parse_wide_count(text: &str) -> Option<u128>
+    ensures { SomeIff result (IsNumeral 10 text.now × (digits_value 10 text.now < 2 ^ 128)) (digits_value 10 text.now) }
+{
+    if let Some(number) = short_number(text.as_bytes()) {
+        return Some(u128::from(number));
+    }
+    if text.starts_with('+') {
+        return None;
+    }
+    text.parse().ok()
+}
+
+/// Reads an exit code or the like, which may have a minus in front.
+///
+/// ```
+/// assert_eq!(read_code("-0"), Some(0));
+/// ```
+pub fn read_code(text: &str) -> Option<i32>
+    ensures { result ≡ code_in text.now }
+{
+    parse_code(text)
+}
+
+// The number that digits write, perhaps after a minus.
+fn parse_code(text: &str) -> Option<i32>
+    ensures { SomeIff result (IsSigned text.now) (signed_digits_value 10 text.now) }
+{
+    if text.starts_with('+') {
+        return None;
+    }
+    text.parse().ok()
+}

@@ -1,0 +1,106 @@
+//! A text in memory of its own.
+//!
+//! The fields of a large line are cut out of its memory without a copy, and the largest output in it keeps that memory: a scene with one
+//! large output takes hardly more memory than its file has bytes.
+
+ghost use Rattle.std.specs.Prelude.{◌≡◌, ◌<◌, ◌+◌, true, false, IfOk, MatchOption, drop, length, slice_index, take};
+ghost use Rattle.std.specs.Str.{is_utf8};
+ghost use Rattle.scene_fields.specs.Split.{parted};
+
+use bytes::BytesMut;
+use memchr::memchr;
+use run_model::memory::OutOfMemory;
+use std::alloc::Global;
+use std::marker::Model;
+
+/// A text in memory of its own. Contracts see its bytes.
+#[derive(Drop)]
+pub struct OwnedText {
+    memory: BytesMut,
+    ghost valid: { is_utf8 memory.items ≡ true },
+}
+
+impl Model for OwnedText {
+    ghost use Rattle.std.specs.Prelude.{List, ℕ};
+
+    ghost Value = { List ℕ };
+
+    ghost view = { λ t. t.memory.items };
+}
+
+impl OwnedText {
+    /// The text that these bytes are, if they are valid UTF-8. It copies nothing.
+    #[tactic(auto, using(crate::proofs::lemmas::Utf8::utf8_passes, crate::proofs::lemmas::Utf8::utf8_fails))]
+    pub fn new(bytes: Vec<u8>) -> Option<OwnedText>
+        ensures { MatchOption result (is_utf8 bytes.items ≡ false) (λ text. (text ≡ bytes.items) × (is_utf8 bytes.items ≡ true)) }
+    {
+        match str::from_utf8(bytes.as_slice()) {
+            Ok(_) => Some(OwnedText {
+                memory: BytesMut::from_vec(bytes),
+            }),
+            Err(_) => None,
+        }
+    }
+
+    /// No text, for which nothing is allocated.
+    pub fn empty(alloc: Global) -> OwnedText
+        ensures { length result ≡ 0 }
+    {
+        OwnedText {
+            memory: BytesMut::new(alloc),
+        }
+    }
+
+    /// How many bytes it has.
+    pub fn len(&self) -> usize
+        ensures { result ≡ length self.now }
+    {
+        self.memory.len()
+    }
+
+    /// The text.
+    pub fn as_str(&self) -> &str
+        ensures { result.now ≡ self.now }
+    {
+        match str::from_utf8(self.memory.as_slice()) {
+            Ok(text) => text,
+            Err(_) => unreachable!(),
+        }
+    }
+
+    /// Its memory.
+    pub fn into_memory(self) -> BytesMut
+        ensures { result.items ≡ self }
+    {
+        let OwnedText { memory } = self;
+        memory
+    }
+
+    /// Splits a line into its fields, which tabs separate. It copies nothing.
+    pub fn split_fields(self, alloc: Global) -> Result<Vec<OwnedText>, OutOfMemory>
+        ensures { IfOk result (λ fields. fields.items ≡ parted 9 self) }
+    {
+        let mut fields = Vec::new(alloc);
+        let mut rest = self;
+        while let Some(tab) = memchr(b'\t', rest.memory.as_slice()) {
+            let (field, after) = rest.cut(tab)?;
+            fields.push(field)?;
+            rest = after;
+        }
+        fields.push(rest)?;
+        Ok(fields)
+    }
+
+    // What stands before an ASCII character, and what follows it.
+    fn cut(self, at: usize) -> Result<(OwnedText, OwnedText), OutOfMemory>
+        requires within { at < length self }
+        requires ascii { slice_index self at < 128 }
+        ensures front { IfOk result (λ parts. parts.0 ≡ take at self) }
+        ensures rest { IfOk result (λ parts. parts.1 ≡ drop (at + 1) self) }
+    {
+        let OwnedText { mut memory } = self;
+        let front = memory.split_to(at)?;
+        memory.advance(1);
+        Ok((OwnedText { memory: front }, OwnedText { memory }))
+    }
+}

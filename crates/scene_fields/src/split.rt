@@ -1,0 +1,66 @@
+//! A text cut at a byte.
+//!
+//! It does what `str::split_once` does, and finds the byte in a long text by memchr, since outputs are searched for backslashes from one
+//! end to the other.
+
+ghost use Rattle.std.specs.Prelude.{◌≡◌, ◌<◌, ◌≤◌, ◌+◌, [], ◌∷◌, ◌++◌, length, IfSome, MatchOption};
+ghost use Rattle.memchr.specs.Find.{IsFirstByte, is_byte};
+ghost use Rattle.scene_fields.specs.Split.{Lacks, cut, cut_texts, parted, pieces_left, size_left};
+
+use memchr::memchr;
+
+/// Up to how many bytes a text is short: there a call of memchr costs more than to look at each.
+const SHORT: usize = 64;
+
+// Where the first of these bytes stands.
+#[inline]
+fn first_place(byte: u8, text: &[u8]) -> Option<usize>
+    ensures { IsFirstByte (is_byte byte) text.now result }
+{
+    if text.len() <= SHORT {
+        text.iter().position(|other| *other == byte)
+    } else {
+        memchr(byte, text)
+    }
+}
+
+/// What stands before the first of these bytes in a text, and what follows it. The byte is an ASCII one.
+///
+/// ```
+/// assert_eq!(split_at_byte("a=b=c", b'='), Some(("a", "b=c")));
+/// ```
+pub fn split_at_byte(text: &str, byte: u8) -> Option<(&str, &str)>
+    requires { byte < 128 }
+    ensures parts { MatchOption result (Lacks byte text.now) (λ x. Lacks byte x.0.now × (text.now ≡ x.0.now ++ (byte ∷ x.1.now))) }
+    ensures cut { cut_texts result ≡ cut byte text.now }
+    ensures parted { MatchOption result (parted byte text.now ≡ text.now ∷ []) (λ x. parted byte text.now ≡ x.0.now ∷ parted byte x.1.now) }
+    ensures shorter { IfSome result (λ x. length x.1.now + 1 ≤ length text.now) }
+{
+    let Some(at) = first_place(byte, text.as_bytes()) else {
+        return None;
+    };
+    Some((&text[..at], &text[at + 1..]))
+}
+
+/// What stands before the first of these bytes in a text, and what follows it, if it has one. The byte is an ASCII one.
+pub(crate) fn first_piece(text: &str, byte: u8) -> (&str, Option<&str>)
+    requires { byte < 128 }
+    ensures pieces { parted byte text.now ≡ result.0.now ∷ pieces_left byte result.1 }
+    ensures shorter { size_left result.1 ≤ length text.now }
+{
+    match split_at_byte(text, byte) {
+        Some((piece, after)) => (piece, Some(after)),
+        None => (text, None),
+    }
+}
+
+/// The first line of a text, and the lines that follow it, where some do.
+pub fn first_line(text: &[u8]) -> (&[u8], Option<&[u8]>)
+    ensures lines { parted 10 text.now ≡ result.0.now ∷ pieces_left 10 result.1 }
+    ensures shorter { size_left result.1 ≤ length text.now }
+{
+    match memchr(b'\n', text) {
+        Some(at) => (&text[..at], Some(&text[at + 1..])),
+        None => (text, None),
+    }
+}

@@ -1,0 +1,129 @@
+//! Texts as a scene writes them.
+//!
+//! A backslash begins an escape: `\n`, `\t`, `\r`, `\e`, `\\`, and `\x` with two hexadecimal digits, which gives a byte. In
+//! a text that byte is at most 7f; in the bytes that a test wrote it is any.
+
+ghost use Rattle.std.specs.Prelude.{◌≡◌, ◌≤◌, ◌<◌, ◌-◌, ◌+◌, ◌*◌, ◌==◌, Some, None, drop, length, slice_index, string_bytes, IfOk, IfSome, MatchOption};
+ghost use Rattle.std.specs.Char.{digit_value};
+ghost use Rattle.std.specs.Option.{option_map, SomeIff};
+ghost use Rattle.scene_fields.specs.Texts.{cow_text, AddsStretch, bytes_in, escape_byte, escape_len, text_in};
+
+use super::marks::{find_byte, first_place, marks_from, without_place};
+use super::split::split_at_byte;
+use run_model::memory::OutOfMemory;
+use std::alloc::Global;
+use std::borrow::CowStr;
+
+/// The greatest byte that an escape may give in a text.
+const ASCII: u8 = 0x7f;
+
+/// Reads a text. It allocates only where there is an escape; `None` means a bad field.
+///
+/// ```
+/// let text = read_text(alloc, r"a\tb")?;
+/// assert_eq!(text.map(|text| text.as_str() == "a\tb"), Some(true));
+/// ```
+#[inline(always)]
+pub fn read_text(alloc: Global, field: &str) -> Result<Option<CowStr<'_, Global>>, OutOfMemory>
+    ensures { IfOk result (λ text. option_map cow_text text ≡ text_in field.now) }
+{
+    if find_byte(b'\\', field.as_bytes()).is_none() {
+        return Ok(Some(CowStr::Borrowed(field)));
+    }
+    let mut text = String::with_capacity(alloc, field.len())?;
+    let mut rest = field;
+    while let Some((plain, escape)) = split_at_byte(rest, b'\\') {
+        let Some(after) = push_stretch(&mut text, plain, escape)? else {
+            return Ok(None);
+        };
+        rest = after;
+    }
+    text.push_str(rest)?;
+    Ok(Some(CowStr::Owned(text)))
+}
+
+/// Adds what stands before an escape, and what the escape gives. It answers what follows the escape; `None` means a bad one.
+pub(crate) fn push_stretch<'a>(
+    text: &mut String,
+    plain: &str,
+    escape: &'a str,
+) -> Result<Option<&'a str>, OutOfMemory>
+    ensures { IfOk result (λ after. MatchOption after (escape_byte 127 escape.now ≡ None) (AddsStretch (string_bytes text.old) plain.now escape.now (string_bytes text.new))) }
+{
+    text.push_str(plain)?;
+    let Some((byte, after)) = read_escape(escape, ASCII) else {
+        return Ok(None);
+    };
+    text.push(char::from(byte))?;
+    Ok(Some(after))
+}
+
+/// Reads the bytes that a test wrote. `None` means a bad field.
+pub fn read_bytes(alloc: Global, field: &str) -> Result<Option<Vec<u8>>, OutOfMemory>
+    ensures { IfOk result (λ bytes. option_map (λ v. v.items) bytes ≡ bytes_in field.now) }
+{
+    let field = field.as_bytes();
+    let mut bytes = Vec::with_capacity(alloc, field.len())?;
+    let mut start = 0;
+    let mut from = 0;
+    while from < field.len() {
+        let mut marks = marks_from(b'\\', field, from);
+        while marks != 0 {
+            let place = first_place(marks);
+            marks = without_place(marks, place);
+            let escape = from + place;
+            // The second backslash of an escape begins none.
+            if escape < start {
+                continue;
+            }
+            bytes.extend_from_slice(&field[start..escape])?;
+            let Some((byte, len)) = escape_at(&field[escape + 1..], u8::MAX) else {
+                return Ok(None);
+            };
+            bytes.push(byte)?;
+            start = escape + 1 + len;
+        }
+        from += 32;
+    }
+    bytes.extend_from_slice(&field[start..])?;
+    Ok(Some(bytes))
+}
+
+// Reads what an escape gives, without its backslash, each byte by digits at most `most`; and what follows the escape.
+fn read_escape(escape: &str, most: u8) -> Option<(u8, &str)>
+    ensures { MatchOption result (escape_byte most escape.now ≡ None) (λ x. (escape_byte most escape.now ≡ Some x.0) × (x.1.now ≡ drop (escape_len escape.now) escape.now)) }
+{
+    let (byte, len) = escape_at(escape.as_bytes(), most)?;
+    Some((byte, &escape[len..]))
+}
+
+/// The byte that an escape gives, and how many bytes the escape has behind its backslash, with which `escape` does not begin. The digits of
+/// an `x` write `most` at most. None is a text that begins with no escape.
+#[inline(always)]
+pub(crate) fn escape_at(escape: &[u8], most: u8) -> Option<(u8, usize)>
+    ensures byte { option_map (λ x. x.0) result ≡ escape_byte most escape.now }
+    ensures len { IfSome result (λ x. (x.1 ≡ escape_len escape.now) × (1 ≤ x.1) × (x.1 ≤ length escape.now) × (slice_index escape.now (x.1 - 1) < 128)) }
+{
+    match escape {
+        [b'n', ..] => Some((b'\n', 1)),
+        [b't', ..] => Some((b'\t', 1)),
+        [b'r', ..] => Some((b'\r', 1)),
+        [b'e', ..] => Some((b'\x1b', 1)),
+        [b'\\', ..] => Some((b'\\', 1)),
+        [b'x', high, low, ..] => {
+            let byte = hex_byte(*high, *low)?;
+            if byte <= most { Some((byte, 3)) } else { None }
+        }
+        _ => None,
+    }
+}
+
+// The byte that two hexadecimal digits write.
+#[cold]
+fn hex_byte(high: u8, low: u8) -> Option<u8>
+    ensures { SomeIff result ((digit_value high < 16) × (digit_value low < 16)) (16 * digit_value high + digit_value low) }
+{
+    let high = char::from(high).to_digit(16)?;
+    let low = char::from(low).to_digit(16)?;
+    u8::try_from(16 * high + low).ok()
+}

@@ -1,5 +1,0 @@
-use Rattle.scene_text.proofs.lemmas.Numbers.{number_by}
-use Rattle.scene_text.proofs.reader.numbers.read_count.Goals as goal
-
-pub returns : goal.returns
-returns c = number_by 64 _ _ c.parse_count.ensures
