@@ -1,14 +1,14 @@
 #!/usr/bin/env python3
-"""bench/scene.py [--outputs] [--passed] [--events] [--skips] [--kept=ORDER] COUNT: writes a scene of so many finished tests to standard output, always the same one.
+"""bench/scene.py [--outputs] [--passed] [--events] [--skips] [--kept=ORDER] COUNT: writes a scene of so many finished
+tests to standard output, always the same one.
 
-Nine in ten pass; names have the lengths of a large workspace's, and each line carries the whole statistics, as in a run.
-With --outputs each test has written some lines, coloured as cargo's are; a test that failed shows them at once.
-With --passed every test passes, and the summary lists none.
-With --kept every test passes and the summary lists it; tests finish in the order of the summary (`ordered`), in the opposite
-one (`reversed`) or in none (`shuffled`).
-With --skips all tests are skipped, and the report says nothing of them.
-With --events the run is told as it goes: a setup script, each test's start, slow ones, attempts that are tried again, skipped
-tests, the state on request, what a test is doing, and a pause.
+Nine in ten pass; names have the lengths of a large workspace's, and each line carries the whole statistics, as in a
+run. With --outputs each test has written some lines, coloured as cargo's are; a test that failed shows them at once.
+With --passed every test passes, and the summary lists none. With --kept every test passes and the summary lists it;
+tests finish in the order of the summary (`ordered`), in the opposite one (`reversed`) or in none (`shuffled`). With
+--skips all tests are skipped, and the report says nothing of them. With --events the run is told as it goes: a setup
+script, each test's start, slow ones, attempts that are tried again, skipped tests, the state on request, what a test is
+doing, and a pause.
 """
 import random
 import sys
@@ -19,11 +19,16 @@ MODULES = ["parser", "parser::tokens", "store::index::tests", "net", "tests"]
 
 
 OUTPUT = "\\nrunning 1 test\\ntest {name} ... {word}\\n\\ntest result: {word}. 1 of 1; finished in 0.01s\\n"
-PANIC = "\\e[1mthread\\e[0m '{name}' panicked at src/parser/tokens.rs:214:9:\\nassertion `left == right` failed\\n  left: {i}\\n right: 0\\nnote: run with `RUST_BACKTRACE=1`\\n"
+PANIC = (
+    "\\e[1mthread\\e[0m '{name}' panicked at src/parser/tokens.rs:214:9:\\nassertion `left == right` failed\\n"
+    "  left: {i}\\n right: 0\\nnote: run with `RUST_BACKTRACE=1`\\n"
+)
 
 
 def kept_lines(count, order):
-    tests = sorted((BINARIES[i % len(BINARIES)], f"{MODULES[i % len(MODULES)]}::case_{i:05}_of_the_table") for i in range(count))
+    tests = sorted(
+        (BINARIES[i % len(BINARIES)], f"{MODULES[i % len(MODULES)]}::case_{i:05}_of_the_table") for i in range(count)
+    )
     if order == "reversed":
         tests.reverse()
     elif order == "shuffled":
@@ -34,7 +39,8 @@ def kept_lines(count, order):
     yield f"run\t{RUN_ID}\tdefault\t{count}\t{len(BINARIES)}\t-"
     for i, (binary, name) in enumerate(tests):
         stats = f"initial={count} finished={i + 1} passed={i + 1}"
-        yield f"done\t-\t{binary}\t{name}\tnever\tnever\tpass\t{stats}\t1\tpass\t{(i * 7_919_000_003) % 3_000_000_000}\t0\tsplit\t\t\t-\t-"
+        nanos = (i * 7_919_000_003) % 3_000_000_000
+        yield f"done\t-\t{binary}\t{name}\tnever\tnever\tpass\t{stats}\t1\tpass\t{nanos}\t0\tsplit\t\t\t-\t-"
     yield f"end\t99000000000\tinitial={count} finished={count} passed={count}\t0\t-"
 
 
@@ -100,7 +106,8 @@ def lines(count, has_outputs, all_pass):
             display = "immediate"
             stdout = OUTPUT.format(name=name, word="FAILED" if fails else "ok")
             stderr = PANIC.format(name=name, i=i) if fails else ""
-        yield f"done\t-\t{binary}\t{name}\tnever\t{display}\tpass\t{stats}\t1\t{result}\t{nanos}\t0\tsplit\t{stdout}\t{stderr}\t-\t-"
+        attempt = f"{result}\t{nanos}\t0\tsplit\t{stdout}\t{stderr}\t-\t-"
+        yield f"done\t-\t{binary}\t{name}\tnever\t{display}\tpass\t{stats}\t1\t{attempt}"
     yield f"end\t99000000000\tinitial={count} finished={count} passed={passed} failed={failed}\t0\t-"
 
 

@@ -46,7 +46,9 @@ def main():
     height = 2 * MARGIN + LINE * len(lines)
     print(f'<svg xmlns="http://www.w3.org/2000/svg" width="{width}" height="{height}" viewBox="0 0 {width} {height}">')
     print(f'<rect width="{width}" height="{height}" rx="8" fill="{BACKGROUND}"/>')
-    print('<g font-family="ui-monospace, SFMono-Regular, Menlo, Consolas, monospace" font-size="14" xml:space="preserve">')
+    print(
+        '<g font-family="ui-monospace, SFMono-Regular, Menlo, Consolas, monospace" font-size="14" xml:space="preserve">'
+    )
     style = (None, False)
     for number, line in enumerate(lines):
         found, style = spans(line, style)

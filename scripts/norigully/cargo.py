@@ -8,15 +8,17 @@ from dataclasses import dataclass, field
 LIBRARIES = ("lib", "rlib", "dylib", "cdylib", "staticlib", "proc-macro")
 # The options of `cargo test` whose value is a word of its own.
 WITH_A_VALUE = {
-    "-p", "--package", "--exclude", "--test", "--bin", "--example", "--bench", "-F", "--features", "--profile", "--target", "--target-dir",
-    "--manifest-path", "--color", "--config", "-Z", "--build-jobs", "--lockfile-path", "-C",
+    *("-p", "--package", "--exclude", "--test", "--bin", "--example", "--bench", "-F", "--features", "--profile"),
+    *("--target", "--target-dir", "--manifest-path", "--color", "--config", "-Z", "--build-jobs", "--lockfile-path"),
+    "-C",
 }
 # What describes a package for `cargo metadata`, too.
 OF_METADATA = {"--manifest-path", "--config", "-Z", "--lockfile-path"}
 
 
 def binary_id(package, target):
-    """nextest's `RustBinaryId`: the package alone for its library, else with the target's name, and its kind but for tests."""
+    """nextest's `RustBinaryId`: the package alone for its library, else with the target's name, and its kind but for
+    tests."""
     kind, name = target["kind"][0], target["name"]
     if kind in LIBRARIES:
         return package
@@ -24,7 +26,8 @@ def binary_id(package, target):
 
 
 def package_of(package_id):
-    """`path+file:///x/itoa-1.0.1#itoa@1.0.1`, `path+file:///x/itoa#1.0.1` or, of an older cargo, `itoa 1.0.1 (path..)`."""
+    """`path+file:///x/itoa-1.0.1#itoa@1.0.1`, `path+file:///x/itoa#1.0.1` or, of an older cargo, `itoa 1.0.1
+    (path..)`."""
     place, found, rest = package_id.partition("#")
     if not found:
         return package_id.split(" ")[0]
@@ -62,14 +65,17 @@ class Package:
 
     @staticmethod
     def all_of(words):
-        """The packages of a workspace, by their ids, for the words of a build. Where Cargo does not tell them, there are none."""
+        """The packages of a workspace, by their ids, for the words of a build. Where Cargo does not tell them, there
+        are none."""
         given, at = [], 0
         while at < len(words):
             count = 2 if words[at] in WITH_A_VALUE else 1
             if words[at].partition("=")[0] in OF_METADATA or words[at] in ("--offline", "--locked", "--frozen"):
                 given += words[at : at + count]
             at += count
-        told = subprocess.run(["cargo", "metadata", "--no-deps", "--format-version", "1", *given], capture_output=True, text=True)
+        told = subprocess.run(
+            ["cargo", "metadata", "--no-deps", "--format-version", "1", *given], capture_output=True, text=True
+        )
         if told.returncode:
             return {}
         return {it["id"]: Package.from_metadata(it) for it in json.loads(told.stdout)["packages"]}
@@ -81,11 +87,17 @@ class Package:
         numbers, _, pre = version.partition("-")
         major, minor, patch = numbers.split(".")
         told = {
-            "NAME": it["name"], "VERSION": it["version"], "VERSION_MAJOR": major, "VERSION_MINOR": minor, "VERSION_PATCH": patch,
-            "VERSION_PRE": pre, "AUTHORS": ":".join(it["authors"]), "DESCRIPTION": it["description"] or "", "HOMEPAGE": it["homepage"] or "",
-            "REPOSITORY": it["repository"] or "", "LICENSE": it["license"] or "", "LICENSE_FILE": it["license_file"] or "",
-            "RUST_VERSION": it.get("rust_version") or "", "README": it.get("readme") or "",
+            "NAME": it["name"],
+            "VERSION": it["version"],
+            "VERSION_MAJOR": major,
+            "VERSION_MINOR": minor,
+            "VERSION_PATCH": patch,
+            "VERSION_PRE": pre,
+            "AUTHORS": ":".join(it["authors"]),
         }
+        # What a package may leave out is an empty text.
+        for key in ("description", "homepage", "repository", "license", "license_file", "rust_version", "readme"):
+            told[key.upper()] = it.get(key) or ""
         environment = {f"CARGO_PKG_{key}": value for key, value in told.items()}
         environment |= {"CARGO_MANIFEST_DIR": folder, "CARGO_MANIFEST_PATH": it["manifest_path"]}
         return Package(it["name"], folder, environment)

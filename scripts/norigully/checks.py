@@ -6,11 +6,14 @@ import shutil
 import sys
 
 from norigully import TOP
+from norigully.programs import program
 
 CRATES = TOP / "crates"
+CASES = TOP / "cases"
+REPORT, FOLLOW = program("report"), program("follow")
 
 
-def need_program(program, makes="./test, or `rt run -- /dev/null` in crates/report, makes it"):
+def need_program(program, makes="./build makes it"):
     """Ends the script where there is no such program."""
     if not os.access(program, os.X_OK):
         sys.exit(f"{sys.argv[0]}: there is no program {program}: {makes}")
@@ -22,14 +25,21 @@ def need_tool(tool):
         sys.exit(f"{sys.argv[0]}: there is no {tool} on the PATH")
 
 
+def case_words(args):
+    """The words of a case, which stand in NAME.args: one a line, `{}` for its scene."""
+    return args.read_text().split("\n")[:-1]
+
+
 def words_of(file, name):
-    """The words that a definition of specs/ gives to the kinds of something, as in `line_word line.Run = codes "run"`."""
+    """The words that a definition of specs/ gives to the kinds of something, as in `line_word line.Run = codes
+    "run"`."""
     text = (CRATES / file).read_text()
     return set(re.findall(rf'^{name} [\w.]+ = codes "(.*)"$', text, re.M))
 
 
 def line_words():
-    """The words of all kinds of line: `config`, and those of the rows of lines that tell an event, as in `(codes "run", exactly 5 ..)`."""
+    """The words of all kinds of line: `config`, and those of the rows of lines that tell an event, as in `(codes "run",
+    exactly 5 ..)`."""
     text = (CRATES / "scene_text/specs/Lines.antt").read_text()
     return {"config", *re.findall(r'^ +(?:∷ )?\(codes "(.*?)", ', text, re.M)}
 
@@ -45,6 +55,12 @@ class Checks:
         self.done += 1
         if not holds:
             self.failed += 1
+            print(f"FAILED: {message}")
+
+    def count(self, done, failed, message):
+        """Counts what was checked elsewhere, and tells the message where some of it failed."""
+        self.done, self.failed = self.done + done, self.failed + int(failed)
+        if failed:
             print(f"FAILED: {message}")
 
     def end(self):

@@ -8,7 +8,8 @@ class Bad(Exception):
 
 
 def convert(name, doc, lines):
-    """Writes the lines of a scene, once all are made; tells what is wrong in one line, with status 2. `--help` prints the script's doc."""
+    """Writes the lines of a scene, once all are made; tells what is wrong in one line, with status 2. `--help` prints
+    the script's doc."""
     if sys.argv[1:] in (["--help"], ["-h"]):
         print(doc, end="")
         return

@@ -1,4 +1,5 @@
-"""The kit that proves this repository: whether it is here, whether it is of the right logic, and how many checks it may run side by side."""
+"""The kit that proves this repository: whether it is here, whether it is of the right logic, and how many checks it may
+run side by side."""
 
 import os
 import shutil
@@ -7,7 +8,7 @@ import sys
 
 # Proofs hold for every kit of this logic, whatever its own name is (`rt version` prints both).
 LOGIC = "dac8208d650f15bf"
-# What a check takes at most, and what it takes mostly, in megabytes.
+# What a check mostly takes is less, and for a moment it is as much, in megabytes.
 MEGABYTES_A_CHECK = 3500
 
 
@@ -15,16 +16,17 @@ def version():
     """What `rt version` prints, as `rattle-kit-13f logic dac8208d650f15bf`; None where there is no `rt`."""
     if not shutil.which("rt"):
         return None
-    return subprocess.run(["rt", "version"], stdin=subprocess.DEVNULL, capture_output=True, text=True).stdout.strip()
+    ran = subprocess.run(["rt", "version"], stdin=subprocess.DEVNULL, capture_output=True, text=True, errors="replace")
+    return " ".join(ran.stdout.split())
 
 
 def mismatch():
     """Why nothing can be proved or built here, in one line; None where the kit is of the right logic."""
     found = version()
     if found is None:
-        return f"there is no rt on the PATH: this needs a Rattle kit of logic {LOGIC} (README.md)"
-    if LOGIC not in found.split():
-        return f"the kit here is `{found}`, and this needs one of logic {LOGIC} (README.md)"
+        return f"there is no rt on the PATH, and this needs a Rattle kit of logic {LOGIC}"
+    if f"logic {LOGIC}" not in found:
+        return f"the kit here is `{found}`, and this needs one of logic {LOGIC}"
     return None
 
 
@@ -36,9 +38,9 @@ def require(program):
 
 
 def jobs():
-    """How many checks run side by side: RT_JOBS where it is set, else as many as there are processors, and memory for."""
-    if os.environ.get("RT_JOBS"):
-        return int(os.environ["RT_JOBS"])
+    """How many checks run side by side: RT_JOBS where it is set, else as many as processors and memory allow."""
+    if os.environ.get("RT_JOBS", "").isdecimal():
+        return max(1, int(os.environ["RT_JOBS"]))
     with open("/proc/meminfo") as memory:
         kilobytes = next(int(line.split()[1]) for line in memory if line.startswith("MemAvailable:"))
-    return max(1, min(os.cpu_count() or 1, kilobytes // 1024 // MEGABYTES_A_CHECK))
+    return max(1, min(len(os.sched_getaffinity(0)), kilobytes // 1024 // MEGABYTES_A_CHECK))

@@ -1,4 +1,5 @@
-"""Which part of a failed test's output says why it failed, as nextest finds it: the last panic's message, or the error that the test returned."""
+"""Which part of a failed test's output says why it failed, as nextest finds it: the last panic's message, or the error
+that the test returned."""
 
 import re
 
@@ -12,12 +13,11 @@ DID_NOT_PANIC = re.compile(rb"^note: test did not panic as expected.*$", re.M)
 
 def highlight_in(stdout, stderr):
     """The stream, the offset in bytes and the text of what says why, or None where nothing fits."""
-    for stream, output, pattern in (("err", stderr, PANICKED), ("err", stderr, RETURNED), ("out", stdout, DID_NOT_PANIC)):
-        found = [*pattern.finditer(output)]
+    for pattern in (PANICKED, RETURNED):
+        found = [*pattern.finditer(stderr)]
         if found:
             start = found[-1].start()
-            behind = BEHIND.search(output, found[-1].end())
-            end = behind.start() if behind and pattern is not DID_NOT_PANIC else found[-1].end() if pattern is DID_NOT_PANIC else len(output)
-            text = output[start:end].rstrip()
-            return stream, start, text
-    return None
+            behind = BEHIND.search(stderr, found[-1].end())
+            return "err", start, stderr[start : behind.start() if behind else None].rstrip()
+    found = DID_NOT_PANIC.search(stdout)
+    return ("out", found.start(), found[0].rstrip()) if found else None

@@ -1,7 +1,7 @@
 """Lines of scenes: what the scripts that make scenes share. No other script knows the format (docs/SCENES.md).
 
-`text` spells a text, `words` a list of them, `attempt` an attempt of a test, and `Run` writes the lines of a run, each with the
-statistics after it. The statistics follow nextest's `RunStats`; each rule stands where it is used.
+`text` spells a text, `words` a list of them, `attempt` an attempt of a test, and `Run` writes the lines of a run, each
+with the statistics after it. The statistics follow nextest's `RunStats`; each rule stands where it is used.
 """
 
 import signal
@@ -73,7 +73,9 @@ def nanos(seconds):
 class Attempt:
     """An attempt of a test: how it ended (a result as docs/SCENES.md has it), how long it took, and what it wrote."""
 
-    def __init__(self, result, seconds, stdout=None, stderr=None, combined=None, is_slow=False, start_error=None, highlight=None):
+    def __init__(
+        self, result, seconds, stdout=None, stderr=None, combined=None, is_slow=False, start_error=None, highlight=None
+    ):
         self.result, self.is_slow = result, is_slow
         output = ["split", stream(stdout), stream(stderr)]
         if combined is not None:
@@ -118,7 +120,9 @@ class Run:
         self.line("kill", "0", str(running), reason)
 
     def slow(self, binary, name, attempt, total, seconds, will_terminate=False):
-        self.line("slow", "-", text(binary), text(name), str(attempt), str(total), nanos(seconds), str(int(will_terminate)))
+        self.line(
+            "slow", "-", text(binary), text(name), str(attempt), str(total), nanos(seconds), str(int(will_terminate))
+        )
 
     def skip(self, binary, name):
         # `RunStats::skipped` counts each test that is skipped.
@@ -148,7 +152,18 @@ class Run:
         """A test finished, of whose attempts so many are allowed; as many as were made where that is not known."""
         self.count_finished(attempts)
         fields = [field for attempt in attempts for field in attempt.fields]
-        self.line("done", "-", text(binary), text(name), success, failure, "pass", self.stats(), str(total or len(attempts)), *fields)
+        self.line(
+            "done",
+            "-",
+            text(binary),
+            text(name),
+            success,
+            failure,
+            "pass",
+            self.stats(),
+            str(total or len(attempts)),
+            *fields,
+        )
 
     def end(self, seconds):
         self.line("end", nanos(seconds), self.stats(), "0", "-")

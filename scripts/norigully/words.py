@@ -1,4 +1,5 @@
-"""The words that `report` and `follow` take, listed once for all scripts. `scripts/check-run` holds their usage against the programs' own."""
+"""The words that `report` and `follow` take, listed once for all scripts. `scripts/check-run` holds their usage against
+the programs' own."""
 
 import re
 from dataclasses import dataclass, field
@@ -6,7 +7,7 @@ from dataclasses import dataclass, field
 FLAGS = ("--color", "--counter", "--replay", "--unload", "--store-success", "--store-failure")
 LEVELS = ("none", "fail", "retry", "slow", "leak", "pass", "skip", "all")
 # In the order in which usage shows them.
-SHOWN = ("--color", "--counter", "--replay", "--unload", "--level L", "--store PATH", "--store-success", "--store-failure")
+SHOWN = ("--color", "--counter", "--replay", "--unload", "--level L", "--store PATH", *FLAGS[-2:])
 
 
 def usage(program):
@@ -17,7 +18,8 @@ def usage(program):
 
 @dataclass
 class Options:
-    """What words ask for: the options before the file, and the file; None where `follow` reads standard input without being told so."""
+    """What words ask for: the options before the file, and the file; None where `follow` reads standard input without
+    being told so."""
 
     given: list = field(default_factory=list)
     store_at: int | None = None
@@ -31,8 +33,8 @@ class Options:
 
 
 def options_of(program, words):
-    """Reads the words of a program; None where they are used wrongly. The rules are those of the program, which takes words that are UTF-8 alone;
-    `--no-color` is a word of ./run."""
+    """Reads the words of a program; None where they are used wrongly. The rules are those of the program, which takes
+    words that are UTF-8 alone; `--no-color` is a word of ./run."""
     if any(re.search("[\ud800-\udfff]", word) for word in words):
         return None
     options, at = Options(), 0

@@ -1,6 +1,6 @@
 /* Loaded before the C library, it makes one call of a program fail: the growth of memory, or the write to standard output or to a file
    that was opened, or the read, whose number FAULT_AT says, of the kind that FAULT_KIND names. A short write takes one byte. It creates
-   the file FAULT_TOLD where the call came. `scripts/faults` builds and uses it. */
+   the file FAULT_TOLD where the call came. `scripts/check-faults` builds and uses it. */
 #define _GNU_SOURCE
 #include <dlfcn.h>
 #include <errno.h>
