@@ -5,6 +5,7 @@ its own bytes now. Dates say nothing: a checkout or a `touch` changes them, and 
 """
 
 import hashlib
+import os
 import shutil
 
 from norigully import TOP
@@ -53,15 +54,25 @@ def sum_file(name, top=TOP):
     return program(name, top).with_suffix(".sum")
 
 
+def sources_of(crate, top=TOP):
+    """The paths of the files that a crate's proof reads, in its folder and in order."""
+    folder = str(top / "crates" / crate)
+    walks = (walk for part in PARTS for walk in os.walk(f"{folder}/{part}"))
+    return folder, sorted(os.path.relpath(f"{at}/{name}", folder) for at, _, names in walks for name in names)
+
+
 def sum_of_sources(name, top=TOP):
     """A sum of all that the program is made of: its line of crates.txt and those below, and their files."""
     found, lines = hashlib.sha256(), lines_of(top)
     for crate in with_those_below([name], top):
         found.update(f"{lines[crate]}\n".encode())
-        folder = top / "crates" / crate
-        for file in sorted(it for part in PARTS for it in (folder / part).rglob("*") if it.is_file()):
-            found.update(f"{file.relative_to(folder)} {file.stat().st_size}\n".encode())
-            found.update(file.read_bytes())
+        folder, files = sources_of(crate, top)
+        for file in files:
+            # Each ./run does this: a path object a file would take as long as the rest.
+            with open(f"{folder}/{file}", "rb") as source:
+                text = source.read()
+            found.update(f"{file} {len(text)}\n".encode())
+            found.update(text)
     return found.hexdigest()
 
 
