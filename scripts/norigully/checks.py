@@ -6,7 +6,7 @@ import shutil
 import sys
 
 from norigully import TOP
-from norigully.programs import program
+from norigully.programs import note_sources, program, sum_of_sources
 
 CRATES = TOP / "crates"
 CASES = TOP / "cases"
@@ -42,6 +42,23 @@ def line_words():
     exactly 5 ..)`."""
     text = (CRATES / "scene_text/specs/Lines.antt").read_text()
     return {"config", *re.findall(r'^ +(?:∷ )?\(codes "(.*?)", ', text, re.M)}
+
+
+def copy_of_run(folder, programs):
+    """A folder with ./run, what it needs, and these programs by their names as if they had just been built."""
+    copy_scripts(folder)
+    (folder / "crates.txt").write_text("".join(f"{name}:\n" for name in programs))
+    for name, made in programs.items():
+        (folder / "crates" / name / "out").mkdir(parents=True)
+        shutil.copy(made, program(name, folder))
+        note_sources(name, sum_of_sources(name, folder), folder)
+
+
+def copy_scripts(folder):
+    """Copies ./run, ./build and what they share."""
+    shutil.copytree(TOP / "scripts/norigully", folder / "scripts/norigully")
+    for name in ("run", "build"):
+        shutil.copy(TOP / name, folder)
 
 
 class Checks:
