@@ -2,6 +2,8 @@
 """Draws what a terminal shows of coloured text: reads the bytes of a report, writes an SVG.
 
     ./run --color --counter cases/picture.scene | scripts/picture.py > docs/report.svg
+    scripts/run-tests --manifest-path cases/real/mixed/Cargo.toml --lib -j 1 --no-fail-fast | \\
+        ./run --follow --color --counter | scripts/picture.py > docs/cargo.svg
 
 It knows the sequences that a report has: bold, the eight colours, bright black and the reset.
 """
