@@ -2,7 +2,7 @@
 //! a later call writes nor one that is refused.
 
 use super::{ALL_OUTPUT, RECORDS, REPORT, are_first, begin_next, calls_of, run_over, two_tests};
-use crate::testing::{line_builder, retried_success, write_event};
+use crate::testing::{line_builder, make_call, retried_success, write_event};
 use console_reporter::imp::{DisplayReporter, ReportCall, RunFault, WriteEventError};
 use plain_text::write_str::{TextBuffer, WriteStr};
 use run_model::event::TestEvent;
@@ -50,9 +50,9 @@ impl Devices {
         Ok((Devices::under(report, records), answer))
     }
 
-    // Writes every event, also those after a fault, behind one that is refused. It gives back the devices, and whether that one was
+    // Makes every call, also those after a fault, behind an event that is refused. It gives back the devices, and whether that one was
     // refused and all after the first that failed answered so.
-    fn write_all(
+    fn make_all(
         self,
         alloc: Global,
         refused: &TestEvent<'_>,
@@ -73,7 +73,7 @@ impl Devices {
         );
         let is_refused = write_event(&mut reporter, refused)
             == Err(WriteEventError::RetriedSuccess);
-        let is_silent = write_events(&mut reporter, calls);
+        let is_silent = make_calls(alloc, &mut reporter, calls);
         let _writers = reporter.into_writers();
         Ok((Devices::under(report, records), is_refused && is_silent))
     }
@@ -113,17 +113,15 @@ impl Devices {
     }
 }
 
-// Writes the events of these calls, also those after a fault, and ends the report. Whether all after the first that failed answered so.
-fn write_events<W: WriteStr, S: WriteStr>(
+// Makes these calls, also those after a fault, and ends the report. Whether all after the first that failed answered so.
+fn make_calls<W: WriteStr, S: WriteStr>(
+    alloc: Global,
     reporter: &mut DisplayReporter<'_, W, S>,
     calls: &[ReportCall<'_>],
 ) -> bool {
     let (mut has_failed, mut is_silent) = (false, true);
     for call in calls {
-        let ReportCall::Event(event) = call else {
-            continue;
-        };
-        let answer = write_event(reporter, event);
+        let answer = make_call(alloc, reporter, call);
         is_silent = is_silent && (!has_failed || answer == Err(WriteEventError::Failed));
         has_failed = has_failed || answer.is_err();
     }
@@ -151,7 +149,7 @@ fn count_faults(
             return Err(Fail::from("a fault left another text"));
         }
         let again = Devices::failing_at(alloc, failing, number);
-        let (again, is_silent) = again.write_all(alloc, refused, calls)?;
+        let (again, is_silent) = again.make_all(alloc, refused, calls)?;
         if !(is_silent && again.took_the_same(&devices)) {
             return Err(Fail::from("a call after the fault did not answer that it failed"));
         }
