@@ -198,12 +198,13 @@ fn follow<R: BufRead, W: Write>(
 #[test]
 fn reads_on_after_an_interrupt(rt: HostRuntime) -> Result<(), Fail> {
     let alloc = rt.alloc();
-    // 72,000 bytes that no report shows, and a run.
-    let mut text = String::new(alloc);
+    // A run behind 72,000 bytes that no report shows.
+    let (config, run) = TWO_TESTS.split_at("config\tfinal\tfail\n".len());
+    let mut text = String::from_str(alloc, config)?;
     for _ in 0..6000 {
         text.push_str("skip\t-\ta\tt1\n")?;
     }
-    text.push_str(TWO_TESTS.split_once('\n').map_or("", |(_, run)| run))?;
+    text.push_str(run)?;
     let reader = || Interrupted {
         text: text.as_bytes(),
         is_next: false,
