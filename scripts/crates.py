@@ -7,6 +7,7 @@ same.
 import hashlib
 import os
 import pathlib
+import re
 import shutil
 import sys
 
@@ -78,6 +79,13 @@ class Crate:
         if newest(there.values()) > newest([self.made(), *self.made().rglob("*")]):
             return f"{self.name} has changed since it was built"
         return None
+
+    def functions(self):
+        """The names by which rattle calls its functions, as its library tells them. A program tells none."""
+        parts = self.rlib() / "toolchain/checked.json"
+        told = parts.read_text() if parts.is_file() else ""
+        found = re.findall(rf'"part/Rattle-{self.name}-proofs\.([^"]*)\.Code"', told)
+        return {it.replace(".", "::") for it in found}
 
     def check(self):
         """rattle's words that check it, in the folder where they run, over the libraries below."""
