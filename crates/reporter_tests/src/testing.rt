@@ -84,3 +84,20 @@ pub fn make_call<W: WriteStr, S: WriteStr>(
 ) -> Result<(), WriteEventError> {
     reporter.make_call(alloc, call)
 }
+
+/// Makes these calls, also those after one that failed, if none has before, and ends the report. Whether all after the first that failed
+/// answered so.
+pub fn make_calls<W: WriteStr, S: WriteStr>(
+    alloc: Global,
+    reporter: &mut DisplayReporter<'_, W, S>,
+    has_failed_before: bool,
+    calls: &[ReportCall<'_>],
+) -> bool {
+    let (mut has_failed, mut is_silent) = (has_failed_before, true);
+    for call in calls {
+        let answer = make_call(alloc, reporter, call);
+        is_silent = is_silent && (!has_failed || answer == Err(WriteEventError::Failed));
+        has_failed = has_failed || answer.is_err();
+    }
+    is_silent && (!has_failed || reporter.finish() == Err(WriteEventError::Failed))
+}

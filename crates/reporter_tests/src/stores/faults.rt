@@ -2,9 +2,9 @@
 //! a later call writes nor one that is refused.
 
 use super::{ALL_OUTPUT, RECORDS, REPORT, are_first, begin_next, calls_of, run_over, two_tests};
-use crate::testing::{line_builder, make_call, retried_success, write_event};
-use console_reporter::imp::{DisplayReporter, ReportCall, RunFault, WriteEventError};
-use plain_text::write_str::{TextBuffer, WriteStr};
+use crate::testing::{line_builder, make_calls, retried_success, write_event};
+use console_reporter::imp::{ReportCall, RunFault, WriteEventError};
+use plain_text::write_str::TextBuffer;
 use run_model::event::TestEvent;
 use std::alloc::Global;
 use std::mem;
@@ -73,7 +73,7 @@ impl Devices {
         );
         let is_refused = write_event(&mut reporter, refused)
             == Err(WriteEventError::RetriedSuccess);
-        let is_silent = make_calls(alloc, &mut reporter, calls);
+        let is_silent = make_calls(alloc, &mut reporter, false, calls);
         let _writers = reporter.into_writers();
         Ok((Devices::under(report, records), is_refused && is_silent))
     }
@@ -111,21 +111,6 @@ impl Devices {
             }
         }
     }
-}
-
-// Makes these calls, also those after a fault, and ends the report. Whether all after the first that failed answered so.
-fn make_calls<W: WriteStr, S: WriteStr>(
-    alloc: Global,
-    reporter: &mut DisplayReporter<'_, W, S>,
-    calls: &[ReportCall<'_>],
-) -> bool {
-    let (mut has_failed, mut is_silent) = (false, true);
-    for call in calls {
-        let answer = make_call(alloc, reporter, call);
-        is_silent = is_silent && (!has_failed || answer == Err(WriteEventError::Failed));
-        has_failed = has_failed || answer.is_err();
-    }
-    is_silent && (!has_failed || reporter.finish() == Err(WriteEventError::Failed))
 }
 
 // Runs the calls over devices of which one fails at its first call, its second, and so on until it does not, and says how often it
