@@ -2,7 +2,7 @@
 //! reporter's clauses for each. What drops an event or a reporter is proved in each crate that does so: the tests give reporters back as
 //! their writers, and let events go undropped.
 
-use console_reporter::imp::{DisplayReporter, DisplayReporterBuilder, WriteEventError};
+use console_reporter::imp::{DisplayReporter, DisplayReporterBuilder, ReportCall, WriteEventError};
 use plain_text::write_str::WriteStr;
 use run_model::config::TestOutputDisplay;
 use run_model::event::{TestEvent, TestEventKind};
@@ -74,4 +74,30 @@ pub fn write_event<W: WriteStr, S: WriteStr>(
     event: &TestEvent<'_>,
 ) -> Result<(), WriteEventError> {
     reporter.write_event(event)
+}
+
+/// Makes a call of a reporter.
+pub fn make_call<W: WriteStr, S: WriteStr>(
+    alloc: Global,
+    reporter: &mut DisplayReporter<'_, W, S>,
+    call: &ReportCall<'_>,
+) -> Result<(), WriteEventError> {
+    reporter.make_call(alloc, call)
+}
+
+/// Makes these calls, also those after one that failed, if none has before, and ends the report. Whether all after the first that failed
+/// answered so.
+pub fn make_calls<W: WriteStr, S: WriteStr>(
+    alloc: Global,
+    reporter: &mut DisplayReporter<'_, W, S>,
+    has_failed_before: bool,
+    calls: &[ReportCall<'_>],
+) -> bool {
+    let (mut has_failed, mut is_silent) = (has_failed_before, true);
+    for call in calls {
+        let answer = make_call(alloc, reporter, call);
+        is_silent = is_silent && (!has_failed || answer == Err(WriteEventError::Failed));
+        has_failed = has_failed || answer.is_err();
+    }
+    is_silent && (!has_failed || reporter.finish() == Err(WriteEventError::Failed))
 }

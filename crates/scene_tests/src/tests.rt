@@ -2,10 +2,11 @@
 
 use run_model::level::StatusLevel;
 use scenes::fault::{Fault, FaultLine, LineFault, Program, ReadFault};
+use scenes::follow::{RunOutcome, follow_scene};
 use scenes::program::{judge, report_scene, write_report};
 use scenes::words::{Options, StoreOptions, words};
 use std::alloc::Global;
-use std::io::{ErrorKind, Read, Write};
+use std::io::{BufRead, BufReader, ErrorKind, Read, Write};
 use std::test::Fail;
 use std::{io, mem};
 use store_text::config::StoreConfig;
@@ -125,8 +126,12 @@ fn report_judged_to(alloc: Global, text: &str, device: &mut Device) -> Result<()
 }
 
 #[test]
-fn stops_where_the_device_fails(rt: HostRuntime) -> Result<(), Fail> {
+fn writes_the_report_and_stops_where_the_device_fails(rt: HostRuntime) -> Result<(), Fail> {
     let alloc = rt.alloc();
+    // Of the bytes that a device holds which is lent, no clause of `write_report` speaks.
+    let mut roomy = Device::with_room(alloc, 600)?;
+    assert!(rt; report_judged_to(alloc, TWO_TESTS, &mut roomy).is_ok());
+    assert!(rt; roomy.taken() == OF_TWO_TESTS.as_bytes());
     let mut device = Device::with_room(alloc, 10)?;
     let Err(fault) = report_judged_to(alloc, TWO_TESTS, &mut device) else {
         return Err(Fail::from("the device failed"));
@@ -157,6 +162,67 @@ impl Read for Failing<'_> {
         self.text = rest;
         Ok(n)
     }
+}
+
+// A reader that gives one byte a read, and is interrupted before each.
+#[derive(Drop)]
+struct Interrupted<'a> {
+    text: &'a [u8],
+    is_next: bool,
+}
+
+impl Read for Interrupted<'_> {
+    fn read(&mut self, buf: &mut [u8]) -> io::Result<usize> {
+        self.is_next = !self.is_next;
+        if self.is_next {
+            return Err(io::Error::from(ErrorKind::Interrupted));
+        }
+        let n = buf.len().min(self.text.len()).min(1);
+        let (front, rest) = self.text.split_at(n);
+        buf[..n].copy_from_slice(front);
+        self.text = rest;
+        Ok(n)
+    }
+}
+
+// Follows a scene. It has no clause, as `report_and_store`.
+fn follow<R: BufRead, W: Write>(
+    alloc: Global,
+    reader: &mut R,
+    writer: W,
+) -> (Result<RunOutcome, Fault<'static>>, W) {
+    let (outcome, writer, _) = follow_scene(alloc, &OPTIONS, reader, writer, io::sink());
+    (outcome, writer)
+}
+
+#[test]
+fn reads_on_after_an_interrupt(rt: HostRuntime) -> Result<(), Fail> {
+    let alloc = rt.alloc();
+    // A run behind 72,000 bytes that no report shows.
+    let (config, run) = TWO_TESTS.split_at("config\tfinal\tfail\n".len());
+    let mut text = String::from_str(alloc, config)?;
+    for _ in 0..6000 {
+        text.push_str("skip\t-\ta\tt1\n")?;
+    }
+    text.push_str(run)?;
+    let reader = || Interrupted {
+        text: text.as_bytes(),
+        is_next: false,
+    };
+    let (outcome, printed, _) = report_and_store(
+        alloc,
+        &OPTIONS,
+        reader(),
+        Vec::new(alloc),
+        Vec::new(alloc),
+    );
+    outcome?;
+    let mut buffered = BufReader::new(alloc, reader())?;
+    let (outcome, followed) = follow(alloc, &mut buffered, Vec::new(alloc));
+    assert!(rt; outcome? == RunOutcome::Failed);
+    let report = OF_TWO_TESTS.as_bytes();
+    assert!(rt; printed.as_slice() == report && followed.as_slice() == report);
+    Ok(())
 }
 
 #[test]

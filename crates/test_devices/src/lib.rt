@@ -19,6 +19,8 @@ pub enum Failure {
     NothingTaken,
     /// Flushes answer an error.
     FlushError,
+    /// Every other write is interrupted, from the first on, and takes no byte.
+    Interrupted,
 }
 
 /// A device for tests: it takes at most [`BYTES_AT_ONCE`] a call, and fails from a call of its on, in a chosen way.
@@ -28,6 +30,7 @@ pub struct Device {
     room: usize,
     calls_left: usize,
     failure: Failure,
+    is_interrupted: bool,
 }
 
 impl Device {
@@ -45,6 +48,7 @@ impl Device {
             room: usize::MAX,
             calls_left: call,
             failure,
+            is_interrupted: false,
         }
     }
 
@@ -63,6 +67,7 @@ impl Device {
             room,
             calls_left: usize::MAX,
             failure: Failure::Error,
+            is_interrupted: false,
         })
     }
 
@@ -104,13 +109,19 @@ impl Write for Device {
                 }
             }
             Failure::FlushError => {}
+            Failure::Interrupted => {
+                self.is_interrupted = !self.is_interrupted;
+                if self.is_interrupted {
+                    return Err(io::Error::from(ErrorKind::Interrupted));
+                }
+            }
         }
         self.take(buf)
     }
 
     fn flush(&mut self) -> io::Result<()> {
         match self.failure {
-            Failure::NothingTaken => Ok(()),
+            Failure::NothingTaken | Failure::Interrupted => Ok(()),
             Failure::Error | Failure::FlushError => self.call(),
         }
     }

@@ -2,9 +2,9 @@
 //! a later call writes nor one that is refused.
 
 use super::{ALL_OUTPUT, RECORDS, REPORT, are_first, begin_next, calls_of, run_over, two_tests};
-use crate::testing::{line_builder, retried_success, write_event};
-use console_reporter::imp::{DisplayReporter, ReportCall, RunFault, WriteEventError};
-use plain_text::write_str::{TextBuffer, WriteStr};
+use crate::testing::{line_builder, make_calls, retried_success, write_event};
+use console_reporter::imp::{ReportCall, RunFault, WriteEventError};
+use plain_text::write_str::TextBuffer;
 use run_model::event::TestEvent;
 use std::alloc::Global;
 use std::mem;
@@ -50,9 +50,9 @@ impl Devices {
         Ok((Devices::under(report, records), answer))
     }
 
-    // Writes every event, also those after a fault, behind one that is refused. It gives back the devices, and whether that one was
+    // Makes every call, also those after a fault, behind an event that is refused. It gives back the devices, and whether that one was
     // refused and all after the first that failed answered so.
-    fn write_all(
+    fn make_all(
         self,
         alloc: Global,
         refused: &TestEvent<'_>,
@@ -73,7 +73,7 @@ impl Devices {
         );
         let is_refused = write_event(&mut reporter, refused)
             == Err(WriteEventError::RetriedSuccess);
-        let is_silent = write_events(&mut reporter, calls);
+        let is_silent = make_calls(alloc, &mut reporter, false, calls);
         let _writers = reporter.into_writers();
         Ok((Devices::under(report, records), is_refused && is_silent))
     }
@@ -113,23 +113,6 @@ impl Devices {
     }
 }
 
-// Writes the events of these calls, also those after a fault, and ends the report. Whether all after the first that failed answered so.
-fn write_events<W: WriteStr, S: WriteStr>(
-    reporter: &mut DisplayReporter<'_, W, S>,
-    calls: &[ReportCall<'_>],
-) -> bool {
-    let (mut has_failed, mut is_silent) = (false, true);
-    for call in calls {
-        let ReportCall::Event(event) = call else {
-            continue;
-        };
-        let answer = write_event(reporter, event);
-        is_silent = is_silent && (!has_failed || answer == Err(WriteEventError::Failed));
-        has_failed = has_failed || answer.is_err();
-    }
-    is_silent && (!has_failed || reporter.finish() == Err(WriteEventError::Failed))
-}
-
 // Runs the calls over devices of which one fails at its first call, its second, and so on until it does not, and says how often it
 // did.
 fn count_faults(
@@ -151,7 +134,7 @@ fn count_faults(
             return Err(Fail::from("a fault left another text"));
         }
         let again = Devices::failing_at(alloc, failing, number);
-        let (again, is_silent) = again.write_all(alloc, refused, calls)?;
+        let (again, is_silent) = again.make_all(alloc, refused, calls)?;
         if !(is_silent && again.took_the_same(&devices)) {
             return Err(Fail::from("a call after the fault did not answer that it failed"));
         }
