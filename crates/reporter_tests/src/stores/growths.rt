@@ -1,4 +1,4 @@
-//! A report and its records whose memory may be refused. With ample memory both are whole. `scripts/faults` runs this test once for
+//! A report and its records whose memory may be refused. With ample memory both are whole. `scripts/check-faults` runs this test once for
 //! each growth, which is refused then: it answers that, and panics where a text is no beginning of what is told.
 
 use super::{ALL_OUTPUT, RECORDS, REPORT, are_first, begin_next, calls_of, run_over, two_tests};

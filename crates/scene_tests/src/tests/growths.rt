@@ -1,4 +1,4 @@
-//! Reports whose memory may be refused. With ample memory each is whole. `scripts/faults` runs these tests once for each growth,
+//! Reports whose memory may be refused. With ample memory each is whole. `scripts/check-faults` runs these tests once for each growth,
 //! which is refused then: a test answers that, and panics where a text is no beginning of what is told.
 
 use super::pieces::large_line;
