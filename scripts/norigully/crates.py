@@ -11,7 +11,8 @@ import re
 import shutil
 import sys
 
-TOP = pathlib.Path(__file__).resolve().parent.parent
+from norigully import TOP
+
 LIBS = pathlib.Path(os.environ.get("LIBS") or TOP).resolve()
 KIT = pathlib.Path(shutil.which("rt") or sys.exit("there is no rt on the PATH")).resolve().parent.parent
 PARTS = ("src", "specs", "proofs")
