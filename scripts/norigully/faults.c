@@ -1,6 +1,6 @@
 /* Loaded before the C library, it makes one call of a program fail: the growth of memory, or the write to standard output or to a file
-   that was opened, or the read, whose number FAULT_AT says, of the kind that FAULT_KIND names. A short write takes one byte. It creates
-   the file FAULT_TOLD where the call came. `scripts/check-faults` builds and uses it. */
+   that was opened, or the read, whose number FAULT_AT says, of the kind that FAULT_KIND names. A short write takes one byte; what is
+   interrupted takes or gives none, and may be tried again. It creates the file FAULT_TOLD where the call came. `scripts/check-faults` builds and uses it. */
 #define _GNU_SOURCE
 #include <dlfcn.h>
 #include <errno.h>
@@ -21,10 +21,12 @@ __attribute__((constructor)) static void begin(void)
     }
 }
 
-/* Whether this call, of these kinds, is the one. */
-static int fails(const char *one, const char *other)
+/* Whether this call, of this kind, or of it with `short-` or `interrupted-` before, is the one. */
+static int fails(const char *plain)
 {
-    if (calls_before < 0 || (strcmp(kind, one) && strcmp(kind, other)))
+    const char *rest = strstr(kind, plain);
+    if (calls_before < 0 || !rest || strcmp(rest, plain)
+        || (rest != kind && strncmp(kind, "short-", rest - kind) && strncmp(kind, "interrupted-", rest - kind)))
         return 0;
     if (calls_before-- > 0)
         return 0;
@@ -44,7 +46,7 @@ void *malloc(size_t size)
     static void *(*real)(size_t);
     if (!real)
         real = next("malloc");
-    return fails("growth", "growth") ? NULL : real(size);
+    return fails("growth") ? NULL : real(size);
 }
 
 void *realloc(void *block, size_t size)
@@ -52,7 +54,7 @@ void *realloc(void *block, size_t size)
     static void *(*real)(void *, size_t);
     if (!real)
         real = next("realloc");
-    return fails("growth", "growth") ? NULL : real(block, size);
+    return fails("growth") ? NULL : real(block, size);
 }
 
 ssize_t write(int file, const void *bytes, size_t count)
@@ -60,11 +62,10 @@ ssize_t write(int file, const void *bytes, size_t count)
     static ssize_t (*real)(int, const void *, size_t);
     if (!real)
         real = next("write");
-    const char *fault = file == 1 ? "write" : "store-write", *taking_one = file == 1 ? "short-write" : "short-store-write";
-    if (file != 2 && fails(fault, taking_one)) {
-        if (!strcmp(kind, taking_one))
+    if (file != 2 && fails(file == 1 ? "write" : "store-write")) {
+        if (!strncmp(kind, "short-", 6))
             return real(file, bytes, count ? 1 : 0);
-        errno = ENOSPC;
+        errno = strncmp(kind, "interrupted-", 12) ? ENOSPC : EINTR;
         return -1;
     }
     return real(file, bytes, count);
@@ -75,8 +76,8 @@ ssize_t read(int file, void *bytes, size_t count)
     static ssize_t (*real)(int, void *, size_t);
     if (!real)
         real = next("read");
-    if (fails("read", "read")) {
-        errno = EIO;
+    if (fails("read")) {
+        errno = strncmp(kind, "interrupted-", 12) ? EIO : EINTR;
         return -1;
     }
     return real(file, bytes, count);
