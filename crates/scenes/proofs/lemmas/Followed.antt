@@ -132,7 +132,7 @@ module _ {W S : Type 0} {m : Meaning W} {n : Meaning S} (laws : WriterLaws m) (o
                 delivered = broke.breaks.delivered of_store;
               };
           whole_records = λ is.
-              let of_device = device_error broke.error broke.unrefused (sym broke.is ∙ is) (broke.breaks.stopped config past here_stands) in
+              let of_device = device_error m _ _ _ broke.error broke.unrefused (sym broke.is ∙ is) (broke.breaks.stopped config past here_stands) in
               let same = store_behind (store_meaning n) now.reporter.store next.reporter.store entry broke.error of_device (broke.breaks.store_stopped config past here_stands) in
               record {
                 later = broke.call ∷ [];

@@ -347,6 +347,10 @@ module _ {W S : Type 0} (m : Meaning W) (n : Meaning S) (options : Options) (sta
         accepted = h.accepted;
         stopped = rw (← old_is, ← new_is) h.stopped;
         store_stopped = rw (← store_same) (stops_there n a b (stored (store_for options) h.past) f h.store_stopped);
+        whole_text = λ e. rw (← old_is, ← new_is) (h.whole_text e);
+        whole_records = λ e.
+            let k = h.whole_records e in
+            rw (← store_same) (record { later = k.later; earlier = k.earlier; is = k.is; accepted = k.accepted; delivered = k.delivered });
       }
 
   pub told_both : (come_to : RunOutcome) (run : Told) → ReportsTold m (store_meaning n) options start.writer.now now.writer.now start.store now.store come_to run → ReportsTold m n options old new a.writer.now store_new come_to run

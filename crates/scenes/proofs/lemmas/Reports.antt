@@ -47,13 +47,13 @@ store_error Memory is = absurd (memory_no_store is)
 store_error Failed is = absurd (write_no_store is)
 store_error StoreIo is = refl
 
-pub device_error : {S : Type 0} {m : Meaning S} {a b : S} {t : Text} (e : WriteEventError) → refusal_in e ≡ None → fault_for e ≡ WriteFailed → Stops m a t e b → e ≡ Io
-device_error RetriedSuccess none is h = absurd (not_refused RetriedSuccess none refl)
-device_error OutputNotLoaded none is h = absurd (not_refused OutputNotLoaded none refl)
-device_error Io none is h = refl
-device_error Memory none is h = absurd (memory_no_device is)
-device_error Failed none is h = absurd h
-device_error StoreIo none is h = absurd (write_no_store (sym is))
+pub device_error : {S : Type 0} (m : Meaning S) (a b : S) (t : Text) (e : WriteEventError) → refusal_in e ≡ None → fault_for e ≡ WriteFailed → Stops m a t e b → e ≡ Io
+device_error m a b t RetriedSuccess none is h = absurd (not_refused RetriedSuccess none refl)
+device_error m a b t OutputNotLoaded none is h = absurd (not_refused OutputNotLoaded none refl)
+device_error m a b t Io none is h = refl
+device_error m a b t Memory none is h = absurd (memory_no_device is)
+device_error m a b t Failed none is h = absurd h
+device_error m a b t StoreIo none is h = absurd (write_no_store (sym is))
 
 -- at a fault of the store the whole text was accepted, and at one of the device the store is as it was
 pub text_behind : {S : Type 0} (m : Meaning S) (a b : S) (t : Text) (e : WriteEventError) → e ≡ StoreIo → Stops m a t e b → m.accepts a t b
@@ -314,7 +314,7 @@ module _ (options : Options) (scene : Scene) where
             delivered = here.delivered of_store;
           })
           (λ is.
-          let of_device = device_error error unrefused is (here.stopped config (handed h.made) (h.tells.stands config stands)) in
+          let of_device = device_error m _ _ _ error unrefused is (here.stopped config (handed h.made) (h.tells.stands config stands)) in
           let same = store_behind (store_meaning n) now.store next.store _ error of_device (here.store_stopped config (handed h.made) (h.tells.stands config stands)) in
           record {
             later = reverse more.0 ++ r.made ∷ [];
@@ -372,7 +372,7 @@ module _ (options : Options) (scene : Scene) where
               delivered = broke.delivered of_store;
             })
             (λ is.
-            let of_device = device_error error unrefused is (broke.stopped config (handed h.made) (h.tells.stands config stands)) in
+            let of_device = device_error m _ _ _ error unrefused is (broke.stopped config (handed h.made) (h.tells.stands config stands)) in
             let same = store_behind (store_meaning n) now.store next.store _ error of_device (broke.store_stopped config (handed h.made) (h.tells.stands config stands)) in
             record {
               later = [];
