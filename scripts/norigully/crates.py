@@ -53,18 +53,21 @@ class Crate:
         folder, files = sources_of(self.name, top)
         return {it: pathlib.Path(folder, it) for it in files}
 
-    def sum(self):
+    def sum(self, known):
         """A sum of all that its proof rests on: the kit, its line of crates.txt, its files, and those of the crates
-        below."""
-        files = [(path, file.read_bytes()) for path, file in self.sources().items()]
-        said = ((kit.folder() / "KIT-ID").read_text(), self.line, files, [it.sum() for it in self.deps()])
-        return hashlib.sha256(repr(said).encode()).hexdigest()
+        below. What is known, by the crates' names, is not summed again, and this one is added."""
+        if self.name not in known:
+            files = [(path, file.read_bytes()) for path, file in self.sources().items()]
+            below = [it.sum(known) for it in self.deps()]
+            said = ((kit.folder() / "KIT-ID").read_text(), self.line, files, below)
+            known[self.name] = hashlib.sha256(repr(said).encode()).hexdigest()
+        return known[self.name]
 
-    def why_not_current(self):
+    def why_not_current(self, known=None):
         """Why what the gate left of it is not of the sources that stand here, or None. Its mark tells; where there is
-        none, since `rt ci` was called by hand, the dates do."""
+        none, since `rt ci` was called by hand, the dates do. What is known are sums, as in `sum`."""
         if self.mark().is_file():
-            is_same = self.mark().read_text() == self.sum()
+            is_same = self.mark().read_text() == self.sum({} if known is None else known)
             return None if is_same else f"{self.name} has changed since the gate proved it"
         if not self.made().exists():
             return f"{self.name} is not built"
