@@ -1,31 +1,28 @@
-"""The crates of crates.txt, the libraries that the gate left of them, and rattle's words to check a crate over these.
+"""The libraries that the gate left of each crate, whether they are current, and rattle's words to check a crate over
+them: for scripts/prove, which marks what it proved, and the checks that take it (check-one, check-mistakes, check-c).
 
 With LIBS=FOLDER the libraries are those of another copy of the repository, which serve as far as its sources are the
-same.
+same. A mark is a sum of the kit and of the sources, since it says what that kit proved. The sums beside the programs
+(programs.py) are others: they have no kit in them.
 """
 
 import hashlib
 import os
 import pathlib
 import re
-import shutil
-import sys
 
-from norigully import TOP
+from norigully import TOP, kit
+from norigully.crate_list import lines_of, named_in, sources_of, with_those_below
 
 LIBS = pathlib.Path(os.environ.get("LIBS") or TOP).resolve()
-KIT = pathlib.Path(shutil.which("rt") or sys.exit("there is no rt on the PATH")).resolve().parent.parent
-PARTS = ("src", "specs", "proofs")
 
 
 class Crate:
     """A line of crates.txt: a crate, its kind if that is told, and the libraries that it names."""
 
-    def __init__(self, line, of):
-        head, _, named = line.partition(":")
-        self.name, *kinds = head.split()
-        self.is_static = "staticlib" in kinds
-        self.line, self.named, self.of = line, named.split(), of
+    def __init__(self, name, line, of):
+        self.name, self.line, self.named, self.of = name, line, named_in(line), of
+        self.is_static = "staticlib" in line.partition(":")[0].split()[1:]
         self.folder = TOP / "crates" / self.name
         self.is_program = (self.folder / "src/main.rt").is_file()
 
@@ -34,11 +31,8 @@ class Crate:
         return [self.of[it] for it in self.named if it in self.of]
 
     def below(self):
-        """All crates of this repository that it stands on, each after those that it stands on itself."""
-        found = {}
-        for dep in self.deps():
-            found |= {it.name: it for it in [*dep.below(), dep]}
-        return list(found.values())
+        """All crates of this repository that it stands on, lowest first."""
+        return [self.of[it] for it in with_those_below([self.name]) if it != self.name]
 
     def rlib(self):
         return LIBS / f"crates/{self.name}/out/rlib/{self.name}.rlib"
@@ -55,22 +49,25 @@ class Crate:
         return self.made().parent / "sources"
 
     def sources(self, top=TOP):
-        """Its files in a copy of the repository, by their paths in the crate."""
-        files = (it for part in PARTS for it in (top / "crates" / self.name / part).rglob("*"))
-        return {it.relative_to(top / "crates" / self.name).as_posix(): it for it in files if it.is_file()}
+        """Its files in a copy of the repository, by their paths in the crate and in order."""
+        folder, files = sources_of(self.name, top)
+        return {it: pathlib.Path(folder, it) for it in files}
 
-    def sum(self):
+    def sum(self, known):
         """A sum of all that its proof rests on: the kit, its line of crates.txt, its files, and those of the crates
-        below."""
-        files = [(path, file.read_bytes()) for path, file in sorted(self.sources().items())]
-        said = ((KIT / "KIT-ID").read_text(), self.line, files, [it.sum() for it in self.deps()])
-        return hashlib.sha256(repr(said).encode()).hexdigest()
+        below. What is known, by the crates' names, is not summed again, and this one is added."""
+        if self.name not in known:
+            files = [(path, file.read_bytes()) for path, file in self.sources().items()]
+            below = [it.sum(known) for it in self.deps()]
+            said = ((kit.folder() / "KIT-ID").read_text(), self.line, files, below)
+            known[self.name] = hashlib.sha256(repr(said).encode()).hexdigest()
+        return known[self.name]
 
-    def why_not_current(self):
+    def why_not_current(self, known=None):
         """Why what the gate left of it is not of the sources that stand here, or None. Its mark tells; where there is
-        none, since `rt ci` was called by hand, the dates do."""
+        none, since `rt ci` was called by hand, the dates do. What is known are sums, as in `sum`."""
         if self.mark().is_file():
-            is_same = self.mark().read_text() == self.sum()
+            is_same = self.mark().read_text() == self.sum({} if known is None else known)
             return None if is_same else f"{self.name} has changed since the gate proved it"
         if not self.made().exists():
             return f"{self.name} is not built"
@@ -90,16 +87,16 @@ class Crate:
 
     def check(self):
         """rattle's words that check it, in the folder where they run, over the libraries below."""
-        top = f"src/{'main' if self.is_program else 'lib'}.rt"
-        words = [KIT / "bin/rattle", "check", "--crate-name", self.name, top]
+        at, top = kit.folder(), f"src/{'main' if self.is_program else 'lib'}.rt"
+        words = [at / "bin/rattle", "check", "--crate-name", self.name, top]
         for it in ["std", *(it for it in self.named if it not in self.of)]:
-            words += ["--extern", f"{it}={KIT}/rlibs/{it}.rlib"]
-        words += ["-L", f"dependency={KIT}/rlibs"]
+            words += ["--extern", f"{it}={at}/rlibs/{it}.rlib"]
+        words += ["-L", f"dependency={at}/rlibs"]
         for it in self.deps():
             words += ["--extern", f"{it.name}={it.rlib()}"]
         for it in self.below():
             words += ["-L", f"dependency={it.rlib().parent}"]
-        words += ["--antt-project", f"{KIT}/rattle/logic/antt-project.json", "--logic-built", f"{KIT}/logic_built"]
+        words += ["--antt-project", f"{at}/rattle/logic/antt-project.json", "--logic-built", f"{at}/logic_built"]
         words += ["--links", f"{self.name}=", "--jobs", "1"]
         return words + (["--crate-type", "staticlib"] if self.is_static else [])
 
@@ -112,7 +109,5 @@ def newest(files):
 def listed():
     """The crates by their names, the lowest layer first."""
     found = {}
-    lines = (it.partition("#")[0].strip() for it in (TOP / "crates.txt").read_text().splitlines())
-    for crate in (Crate(it, found) for it in lines if it):
-        found[crate.name] = crate
+    found.update({name: Crate(name, line, found) for name, line in lines_of().items()})
     return found

@@ -1,7 +1,9 @@
 """The kit that proves this repository: whether it is here, whether it is of the right logic, and how many checks it may
 run side by side."""
 
+import functools
 import os
+import pathlib
 import shutil
 import subprocess
 import sys
@@ -10,6 +12,12 @@ import sys
 LOGIC = "dac8208d650f15bf"
 # What a check mostly takes is less, and for a moment it is as much, in megabytes.
 MEGABYTES_A_CHECK = 3500
+
+
+@functools.cache
+def folder():
+    """Where the kit stands. It ends the program where there is none."""
+    return pathlib.Path(shutil.which("rt") or sys.exit("there is no rt on the PATH")).resolve().parent.parent
 
 
 def version():

@@ -1,47 +1,17 @@
-"""The crates of crates.txt, and the proved programs: where they stand, and whether one is of the sources here.
+"""The proved programs: where they stand, and whether one is of the sources here. ./run asks it at each call.
 
 A proved program is current where the sums that were written beside it when it was built are those of its sources and of
-its own bytes now. Dates say nothing: a checkout or a `touch` changes them, and no byte.
+its own bytes now. Dates say nothing: a checkout or a `touch` changes them, and no byte. The kit is no part of these
+sums, since a built program runs where there is none; it is part of the gate's marks (crates.py), which say what a kit
+proved.
 """
 
 import hashlib
-import os
-import shutil
 
 from norigully import TOP
+from norigully.crate_list import lines_of, sources_of, with_those_below
 
 PROGRAMS = ("report", "follow")
-# The parts of a crate that its proof reads.
-PARTS = ("src", "specs", "proofs")
-# What stands in a crate's folder and is no part of what is built of it.
-NOT_BUILT_FROM = ("out", "must-fail", "mistakes")
-
-
-def lines_of(top=TOP):
-    """The lines of crates.txt by their crate, lowest first, without comments."""
-    lines = (line.partition("#")[0].strip() for line in (top / "crates.txt").read_text().splitlines())
-    return {line.partition(":")[0].split()[0]: line for line in lines if line}
-
-
-def with_those_below(names, top=TOP):
-    """These crates and all crates of the repository that they stand on, lowest first."""
-    lines, found = lines_of(top), set()
-
-    def take(name):
-        if name in lines and name not in found:
-            found.add(name)
-            for below in lines[name].partition(":")[2].split():
-                take(below)
-
-    for name in names:
-        take(name)
-    return [name for name in lines if name in found]
-
-
-def copy_crate(name, target, top=TOP):
-    """Copies what a crate is built from into another repository."""
-    ignored = shutil.ignore_patterns(*NOT_BUILT_FROM)
-    shutil.copytree(top / "crates" / name, target / "crates" / name, ignore=ignored)
 
 
 def program(name, top=TOP):
@@ -52,13 +22,6 @@ def program(name, top=TOP):
 def sum_file(name, top=TOP):
     """Where its sums stand."""
     return program(name, top).with_suffix(".sum")
-
-
-def sources_of(crate, top=TOP):
-    """The paths of the files that a crate's proof reads, in its folder and in order."""
-    folder = str(top / "crates" / crate)
-    walks = (walk for part in PARTS for walk in os.walk(f"{folder}/{part}"))
-    return folder, sorted(os.path.relpath(f"{at}/{name}", folder) for at, _, names in walks for name in names)
 
 
 def sum_of_sources(name, top=TOP):
