@@ -4,9 +4,11 @@ ghost use Rattle.std.specs.Prelude.{◌≡◌, IfOk, [], None, Some};
 ghost use Rattle.console_reporter.specs.Accepted.{decider_of};
 ghost use Rattle.console_reporter.specs.Configuration.{configured, configured_in, configured_with_store, default_builder, settings_of};
 ghost use Rattle.console_reporter.specs.HeldState.{StandsAfter};
+ghost use Rattle.console_reporter.specs.Slots.{config_of};
 ghost use Rattle.event_text.specs.Settings.{overrides_by};
 
 use super::reporter::DisplayReporter;
+use super::store::Store;
 use event_text::settings::{Settings, counter_width_for, overrides_for, styles_for, theme_for};
 use plain_text::write_str::WriteStr;
 use reporter_state::decider::OutputLoadDecider;
@@ -131,14 +133,7 @@ impl DisplayReporterBuilder {
         ensures no_store { result.store ≡ None }
         ensures stands { StandsAfter (configured self surroundings.use_unicode surroundings.is_terminal surroundings.is_ci surroundings.display_empty_outputs) [] result }
     {
-        self.build(
-            alloc,
-            writer,
-            surroundings.use_unicode,
-            surroundings.is_terminal,
-            surroundings.is_ci,
-            surroundings.display_empty_outputs,
-        )
+        self.build_in(alloc, writer, None, surroundings)
     }
 
     /// A reporter to a writer, to which nothing is written yet. It allocates nothing.
@@ -162,8 +157,13 @@ impl DisplayReporterBuilder {
         ensures no_store { result.store ≡ None }
         ensures stands { StandsAfter (configured self use_unicode is_terminal is_ci display_empty_outputs) [] result }
     {
-        let settings = self.settings(use_unicode, is_terminal, is_ci, display_empty_outputs);
-        DisplayReporter::new(alloc, writer, settings)
+        let surroundings = Surroundings {
+            use_unicode,
+            is_terminal,
+            is_ci,
+            display_empty_outputs,
+        };
+        self.build_for(alloc, writer, surroundings)
     }
 
     /// A reporter to a writer that also writes a record of each finished test to a second one. To neither is written yet. It
@@ -192,8 +192,41 @@ impl DisplayReporterBuilder {
         ensures store { result.store ≡ Some (record { writer = store_writer.entry; config = store }) }
         ensures stands { StandsAfter (configured_with_store store self use_unicode is_terminal is_ci display_empty_outputs) [] result }
     {
-        let settings = self.settings(use_unicode, is_terminal, is_ci, display_empty_outputs);
-        DisplayReporter::with_store(alloc, writer, store_writer, store, settings)
+        let surroundings = Surroundings {
+            use_unicode,
+            is_terminal,
+            is_ci,
+            display_empty_outputs,
+        };
+        let store = Store::new(store_writer, store);
+        self.build_in(alloc, writer, Some(store), surroundings)
+    }
+
+    /// A reporter to a writer, and to a store where there is one, in these surroundings. To neither is written yet. It allocates nothing.
+    ///
+    /// ```
+    /// use console_reporter::imp::Store;
+    /// let mut records = String::new(alloc);
+    /// let store = Some(Store::new(&mut records, store));
+    /// let mut reporter = builder.build_in(alloc, &mut out, store, Surroundings::default());
+    /// reporter.write_event(&event)?;
+    /// drop(reporter);
+    /// assert_eq!(records.as_str(), "5:alpha,2:t1,4:PASS,0:,\n");
+    /// ```
+    pub fn build_in<'a, W: WriteStr, S: WriteStr>(
+        self,
+        alloc: Global,
+        writer: &'a mut W,
+        store: Option<Store<'a, S>>,
+        surroundings: Surroundings,
+    ) -> DisplayReporter<'a, W, S>
+        ensures same_reference { result.writer.ghost_name ≡ writer.entry.ghost_name }
+        ensures untouched { result.writer.now ≡ writer.old }
+        ensures store { result.store ≡ store.entry }
+        ensures stands { StandsAfter (configured_in self surroundings (config_of store.entry)) [] result }
+    {
+        let settings = self.settings(surroundings);
+        DisplayReporter::new(alloc, writer, store, settings)
     }
 
     /// What decides by an event's metadata whether the reporter refuses it, and whether it shows or stores its output: the decider that the
@@ -228,15 +261,15 @@ impl DisplayReporterBuilder {
     }
 
     // What a reporter goes by that is built so.
-    fn settings(
-        self,
-        use_unicode: bool,
-        is_terminal: bool,
-        is_ci: bool,
-        display_empty_outputs: bool,
-    ) -> Settings
-        ensures { result ≡ settings_of (configured self use_unicode is_terminal is_ci display_empty_outputs) }
+    fn settings(self, surroundings: Surroundings) -> Settings
+        ensures { result ≡ settings_of (configured_in self surroundings None) }
     {
+        let Surroundings {
+            use_unicode,
+            is_terminal,
+            is_ci,
+            display_empty_outputs,
+        } = surroundings;
         let resolved = self.display_config.resolve(is_terminal, is_ci);
         let overrides = self.overrides();
         Settings {

@@ -66,43 +66,21 @@ pub struct DisplayReporter<'a, W, S> {
 }
 
 impl<'a, W: WriteStr, S: WriteStr> DisplayReporter<'a, W, S> {
-    // A reporter without a store that goes by these settings, and has made no call yet. It allocates nothing.
+    // A reporter that goes by these settings, and has made no call yet. It allocates nothing.
     pub(super) fn new(
         alloc: Global,
         writer: &'a mut W,
+        store: Option<Store<'a, S>>,
         settings: Settings,
     ) -> DisplayReporter<'a, W, S>
         ensures same_reference { result.writer.ghost_name ≡ writer.entry.ghost_name }
         ensures untouched { result.writer.now ≡ writer.old }
-        ensures no_store { result.store ≡ None }
-        ensures stands { (config : Configuration) → settings ≡ settings_of config → config.store ≡ None → StandsAfter config [] result }
+        ensures store { result.store ≡ store.entry }
+        ensures stands { (config : Configuration) → settings ≡ settings_of config → config_of store.entry ≡ config.store → StandsAfter config [] result }
     {
         DisplayReporter {
             writer,
-            store: None,
-            state: ReporterState::new(alloc, settings),
-        }
-    }
-
-    // The same with a store.
-    pub(super) fn with_store(
-        alloc: Global,
-        writer: &'a mut W,
-        store_writer: &'a mut S,
-        store: StoreConfig,
-        settings: Settings,
-    ) -> DisplayReporter<'a, W, S>
-        ensures same_reference { result.writer.ghost_name ≡ writer.entry.ghost_name }
-        ensures untouched { result.writer.now ≡ writer.old }
-        ensures store { result.store ≡ Some (record { writer = store_writer.entry; config = store }) }
-        ensures stands { (config : Configuration) → settings ≡ settings_of config → config.store ≡ Some store → StandsAfter config [] result }
-    {
-        DisplayReporter {
-            writer,
-            store: Some(Store {
-                writer: store_writer,
-                config: store,
-            }),
+            store,
             state: ReporterState::new(alloc, settings),
         }
     }
@@ -348,13 +326,28 @@ impl<'a, W: WriteStr, S: WriteStr> DisplayReporter<'a, W, S> {
         ensures writer { result.0 ≡ self.entry.writer }
         ensures store { result.1 ≡ option_map (λ s. s.writer) self.entry.store }
     {
+        let (writer, store) = self.into_parts();
+        (writer, store.map(|store| store.writer))
+    }
+
+    /// Gives the writer and the store back as they are.
+    ///
+    /// ```
+    /// let (writer, store) = reporter.into_parts();
+    /// writer.write_str("done\n")?;
+    /// assert!(store.is_none());
+    /// ```
+    pub fn into_parts(self) -> (&'a mut W, Option<Store<'a, S>>)
+        ensures writer { result.0 ≡ self.entry.writer }
+        ensures store { result.1 ≡ self.entry.store }
+    {
         let DisplayReporter {
             writer,
             store,
             state,
         } = self;
         drop(state);
-        (writer, store.map(|store| store.writer))
+        (writer, store)
     }
 
     // Makes the calls, and stops at the first fault.

@@ -188,8 +188,8 @@ pub fn run_report_with_store<W: WriteStr, S: WriteStr>(
     }
 }
 
-// Both writers end as they are.
-fn give_back<W, S>(writer: &mut W, store_writer: &mut S)
+/// Takes back the two writers that a reporter with a store wrote to: both end as they are.
+pub fn give_back<W, S>(writer: &mut W, store_writer: &mut S)
     ensures writer { writer.new ≡ writer.old }
     ensures store_writer { store_writer.new ≡ store_writer.old }
 {

@@ -19,6 +19,13 @@ pub struct Store<'a, S> {
 }
 
 impl<'a, S: WriteStr> Store<'a, S> {
+    /// A store that takes its records to this writer.
+    pub fn new(writer: &'a mut S, config: StoreConfig) -> Store<'a, S>
+        ensures { result ≡ record { writer = writer.entry; config = config } }
+    {
+        Store { writer, config }
+    }
+
     /// Writes the record of an event, if it has one, and delivers it.
     pub fn deliver_record(&mut self, event: &TestEvent<'_>) -> Result<(), WriteFault>
         ensures same { self.new.writer.ghost_name ≡ self.old.writer.ghost_name }
