@@ -2,7 +2,7 @@
 use Rattle.std.specs.Prelude.{◌≡◌, ◌⊎◌, ℕ, ◌+◌, ◌-◌, ◌<◌, ◌^◌, List, [], ◌∷◌, ◌++◌, length, reverse, Bool, true, false, Option, None, Some, Ok, Err, ⊤}
 use Rattle.std.specs.Io.BufRead.{drop_through, take_through}
 use Rattle.std.specs.List.{AllZip}
-use Rattle.std.specs.Option.{option_and_then}
+use Rattle.std.specs.Option.{option_map}
 use Rattle.plain_text.specs.Writer.{Meaning}
 use Rattle.run_model.specs.Stats.{final_stats_of, stress_stats_of}
 use Rattle.run_model.specs.declared.call.ReportCall.{ReportCall}
@@ -25,19 +25,16 @@ use Rattle.console_reporter.specs.HeldState.{StandsAfter}
 use Rattle.console_reporter.specs.Stored.{stored}
 use Rattle.console_reporter.specs.Telling.{AreDelivered, Breaks, Tells, TellsRun}
 use Rattle.reporter_state.specs.declared.faults.WriteEventError.{WriteEventError}
-use Rattle.reporter_state.specs.declared.faults.WriteEventError.TheVariants.{RetriedSuccess, OutputNotLoaded, Io, Memory, Failed, StoreIo}
 use Rattle.scene_text.specs.SceneTexts.{AllTell, Told, line_said, lines_before, nothing_told, text_told}
 use Rattle.scene_events.specs.Scenes.{IsCallOf}
 use Rattle.scene_fields.specs.Split.{parted}
 use Rattle.scene_fields.specs.declared.fault.LineFault.{LineFault}
-use Rattle.scene_fields.specs.declared.fault.LineFault.TheVariants as line
 use Rattle.scene_text.specs.declared.reader.LineSaid.{LineSaid}
 use Rattle.scene_text.specs.declared.reader.LineSaid.TheVariants as said
 use Rattle.scene_text.specs.declared.reader.LinesBefore.{LinesBefore}
 use Rattle.scene_events.specs.declared.scene.SceneConfig.{SceneConfig}
 use Rattle.scene_events.specs.declared.scene.event.SceneEvent.{SceneEvent}
-use Rattle.scenes.specs.Judged.{line_fault_for}
-use Rattle.scenes.specs.Reports.{HasFirstCalls, StopsStore, StopsText, configuration_for, fault_for, store_for}
+use Rattle.scenes.specs.Reports.{HasFirstCalls, StopsStore, StopsText, configuration_for, fault_at_call, store_for}
 use Rattle.scenes.specs.SpelledRuns.{PrintsTold}
 use Rattle.scenes.specs.Unloads.{decider_for}
 use Rattle.command_line.specs.declared.fault.Fault.{Fault}
@@ -87,15 +84,6 @@ status_of_outcome outcome.Success = 0
 status_of_outcome outcome.NoTestsRun = 4
 status_of_outcome outcome.Failed = 100
 
--- what the program tells where the call of the line of this number stopped
-abbrev pub fault_at_call : ℕ → WriteEventError → Fault
-fault_at_call n RetriedSuccess = fault.Line n line.RetriedSuccess
-fault_at_call n OutputNotLoaded = fault.Line n line.OutputNotLoaded
-fault_at_call n Io = fault.WriteFailed
-fault_at_call n Memory = fault.OutOfMemory
-fault_at_call n Failed = fault.WriteFailed
-fault_at_call n StoreIo = fault.StoreFailed
-
 -- what a line is read by that stands behind an event
 abbrev pub behind : SceneConfig → LinesBefore
 behind config = record { config = config; is_begun = true }
@@ -125,7 +113,7 @@ module _ {W S : Type 0} (m : Meaning W) (n : Meaning S) where
   pub record RefusesEvent (event : SceneEvent) (f : LineFault) (old : Follower W S) : Type 0 where
     pub call : ReportCall
     pub of_event : IsCallOf event call
-    pub refused : (config : Configuration) (past : List ReportCall) → StandsAfter config past old.reporter → option_and_then line_fault_for (refusal config call) ≡ Some f
+    pub refused : (config : Configuration) (past : List ReportCall) → StandsAfter config past old.reporter → (n : ℕ) → option_map (fault_at_call n) (refusal config call) ≡ Some (fault.Line n f)
 
   -- the event's call was begun, and this fault stopped it, which is no refusal
   pub record BreaksEvent (event : SceneEvent) (fault : Fault) (old new : Follower W S) : Type 0 where
@@ -135,7 +123,7 @@ module _ {W S : Type 0} (m : Meaning W) (n : Meaning S) where
     pub breaks : Breaks m n old.reporter (Some call) error new.reporter
     pub unrefused : refusal_in error ≡ None
     pub accepted : (config : Configuration) (past : List ReportCall) → StandsAfter config past old.reporter → refusal config call ≡ None
-    pub is : fault ≡ fault_for error
+    pub is : (n : ℕ) → fault ≡ fault_at_call n error
 
   -- the event of the line of this number was not told: it is refused and nothing was done, memory was refused before anything was
   -- done, or its call was begun
@@ -195,7 +183,7 @@ pub record IsRefusedEvent (options : Options) (run : Told) (t : List ℕ) (f : L
   pub says : line_said (lines_before run) t ≡ Ok (said.Event event)
   pub call : ReportCall
   pub of_event : IsCallOf event call
-  pub refused : option_and_then line_fault_for (refusal_by (decider_for options run.config) call) ≡ Some f
+  pub refused : (n : ℕ) → option_map (fault_at_call n) (refusal_by (decider_for options run.config) call) ≡ Some (fault.Line n f)
 
 -- the line of this number has this fault behind those before it, of which P holds
 pub record StopsAtLine (options : Options) (text : List ℕ) (P : Told → Type 0) (number : ℕ) (f : LineFault) : Type 0 where

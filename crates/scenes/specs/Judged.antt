@@ -1,12 +1,10 @@
 -- Scenes that are judged: each line by itself, and then whether the scene's reporter would refuse an event.
 use Rattle.std.specs.Prelude.{◌≡◌, ◌⊎◌, ℕ, List, get_or, Option, None, Some, Result, Ok, Err, ⊤}
-use Rattle.std.specs.Option.{option_and_then, option_map}
+use Rattle.std.specs.Option.{option_map}
 use Rattle.reporter_state.specs.Refusals.{first_refused, refusal_at_by, refusal_by}
 use Rattle.reporter_state.specs.declared.decider.OutputLoadDecider.{OutputLoadDecider}
 use Rattle.run_model.specs.declared.call.ReportCall.{ReportCall}
-use Rattle.reporter_state.specs.declared.faults.WriteEventError.{WriteEventError}
-use Rattle.reporter_state.specs.declared.faults.WriteEventError.TheVariants.{RetriedSuccess, OutputNotLoaded, Io, Memory, Failed, StoreIo}
-use Rattle.scenes.specs.Reports.{AreCallsOf}
+use Rattle.scenes.specs.Reports.{AreCallsOf, fault_at_call}
 use Rattle.scene_text.specs.SceneTexts.{event_lines, nothing_told, text_told}
 use Rattle.scene_fields.specs.Split.{parted}
 use Rattle.scene_events.specs.Scenes.{IsCallOf}
@@ -15,7 +13,6 @@ use Rattle.scenes.specs.Unloads.{decider_for}
 use Rattle.command_line.specs.declared.fault.Fault.{Fault}
 use Rattle.command_line.specs.declared.fault.Fault.TheVariants as fault
 use Rattle.scene_fields.specs.declared.fault.LineFault.{LineFault}
-use Rattle.scene_fields.specs.declared.fault.LineFault.TheVariants as line
 use Rattle.scenes.specs.ToldScenes.{IsReadFault, IsSceneRead, scene_told}
 use Rattle.scenes.specs.declared.scene.Scene.{Scene}
 use Rattle.command_line.specs.declared.words.Options.{Options}
@@ -31,32 +28,18 @@ pub record Judged : Type 0 where
   pub options : Options
   pub scene : Scene
 
--- what the line of a call says that is refused so
-abbrev pub line_fault_for : WriteEventError → Option LineFault
-line_fault_for RetriedSuccess = Some line.RetriedSuccess
-line_fault_for OutputNotLoaded = Some line.OutputNotLoaded
-line_fault_for Io = None
-line_fault_for Memory = None
-line_fault_for Failed = None
-line_fault_for StoreIo = None
-
--- the same of an error that is a refusal
-abbrev pub fault_of_refusal : WriteEventError → LineFault
-fault_of_refusal RetriedSuccess = line.RetriedSuccess
-fault_of_refusal _ = line.OutputNotLoaded
-
--- an event was judged by its call: this is what its line says, if the call is refused
-pub record JudgesEvent (d : OutputLoadDecider) (event : SceneEvent) (fault : Option LineFault) : Type 0 where
+-- the event of the line of this number was judged by its call: this is the fault, if the call is refused
+pub record JudgesEvent (d : OutputLoadDecider) (n : ℕ) (event : SceneEvent) (fault : Option Fault) : Type 0 where
   pub call : ReportCall
   pub of_event : IsCallOf event call
-  pub is : fault ≡ option_map fault_of_refusal (refusal_by d call)
+  pub is : fault ≡ option_map (fault_at_call n) (refusal_by d call)
 
 -- the line is that of the first call that is refused, and it says why
 pub record IsRefusedLine (options : Options) (scene : Scene) (calls : List ReportCall) (n : ℕ) (f : LineFault) : Type 0 where
   pub place : ℕ
   pub refused : first_refused (decider_for options scene.config) calls ≡ Some place
   pub number : n ≡ get_or scene.lines.items place 0
-  pub says : option_and_then line_fault_for (refusal_at_by (decider_for options scene.config) calls place) ≡ Some f
+  pub says : option_map (fault_at_call n) (refusal_at_by (decider_for options scene.config) calls place) ≡ Some (fault.Line n f)
 
 -- the same of the scene's calls
 pub record IsRefusedThere (options : Options) (scene : Scene) (n : ℕ) (f : LineFault) : Type 0 where

@@ -23,6 +23,7 @@ use Rattle.run_model.specs.declared.call.ReportCall.{ReportCall}
 use Rattle.reporter_state.specs.declared.faults.WriteEventError.{WriteEventError}
 use Rattle.reporter_state.specs.declared.faults.WriteEventError.TheVariants.{RetriedSuccess, OutputNotLoaded, Io, Memory, Failed, StoreIo}
 use Rattle.scene_events.specs.Scenes.{IsCallOf}
+use Rattle.scene_fields.specs.declared.fault.LineFault.TheVariants as line
 use Rattle.scene_events.specs.declared.scene.SceneConfig.{SceneConfig}
 use Rattle.command_line.specs.declared.fault.Fault.{Fault}
 use Rattle.command_line.specs.declared.fault.Fault.TheVariants.{Usage, CannotRead, CannotWrite, Line, WriteFailed, StoreFailed, OutOfMemory}
@@ -76,14 +77,14 @@ report_of options config calls = report (configuration_for options config) (reve
 abbrev pub stored_of : Options → List ReportCall → Text
 stored_of options calls = stored (store_for options) (reverse calls)
 
--- what the program tells where its report stopped
-abbrev pub fault_for : WriteEventError → Fault
-fault_for RetriedSuccess = WriteFailed
-fault_for OutputNotLoaded = WriteFailed
-fault_for Io = WriteFailed
-fault_for Memory = OutOfMemory
-fault_for Failed = WriteFailed
-fault_for StoreIo = StoreFailed
+-- what the program tells where the call of the line of this number stopped: its number only where the call is refused
+abbrev pub fault_at_call : ℕ → WriteEventError → Fault
+fault_at_call n RetriedSuccess = Line n line.RetriedSuccess
+fault_at_call n OutputNotLoaded = Line n line.OutputNotLoaded
+fault_at_call n Io = WriteFailed
+fault_at_call n Memory = OutOfMemory
+fault_at_call n Failed = WriteFailed
+fault_at_call n StoreIo = StoreFailed
 
 -- From old, the error ended the report of calls, of which a beginning was accepted, and left new. A fault of the store lets a whole
 -- beginning stand.

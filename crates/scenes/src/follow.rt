@@ -5,21 +5,20 @@
 
 ghost use Rattle.std.specs.Prelude.{◌≡◌, ◌+◌, ◌<◌, ℕ, List, None, Some, Ok, IfOk, IfErr, OnOk};
 ghost use Rattle.console_reporter.specs.HeldState.{HasFailed};
-ghost use Rattle.console_reporter.specs.Slots.{store_meaning};
+ghost use Rattle.console_reporter.specs.Slots.{IsSameStore, config_of, store_delivered, store_meaning};
 ghost use Rattle.console_reporter.specs.Telling.{AreDelivered, IsSameReporter};
-ghost use Rattle.plain_text.specs.StringWriter.{string_meaning};
 ghost use Rattle.scenes.specs.Reports.{store_for};
-ghost use Rattle.scenes.specs.Follow.{BreaksOff, BreaksTold, HasFirst, HasNoEvent, HasTold, HasToldTo, IsCountable, IsNextLine, IsRefusedMemory, IsStart, KeepsUp, LeavesEvent, LeavesLine, OfText, PrintsFollowed, ReportsTold, StopsBy, TellsEvent, TellsLine, behind, fault_at_call, outcome_after, outcome_of, status_of_outcome};
+ghost use Rattle.scenes.specs.Follow.{BreaksOff, BreaksTold, HasFirst, HasNoEvent, HasTold, HasToldTo, IsCountable, IsNextLine, IsRefusedMemory, IsStart, KeepsUp, LeavesEvent, LeavesLine, OfText, PrintsFollowed, ReportsTold, StopsBy, TellsEvent, TellsLine, behind, outcome_after, outcome_of, status_of_outcome};
 ghost use Rattle.command_line.specs.Pieces.{IsUnread};
 ghost use Rattle.scene_text.specs.SceneTexts.{line_said};
 ghost use Rattle.scenes.specs.SpelledRuns.{BeginsTold, PrintsTold};
 
-use crate::reporter::{builder_of, give_back, give_both_back, surroundings_of};
+use crate::reporter::{builder_of, fault_at_call, surroundings_of};
 use crate::scene::SceneConfig;
 use crate::scene::event::SceneEvent;
-use command_line::fault::{Fault, LineFault};
+use command_line::fault::Fault;
 use command_line::words::Options;
-use console_reporter::imp::{DisplayReporter, ReportCall, WriteEventError};
+use console_reporter::imp::{DisplayReporter, ReportCall, Store, give_back};
 use console_reporter::write_str::{TextBuffer, WriteStr};
 use run_model::event::TestEventKind;
 use run_model::stats::{FinalRunStats, RunFinishedStats, StressFinalRunStats};
@@ -28,7 +27,6 @@ use scene_text::reader::split::first_line;
 use scene_text::reader::{LineSaid, LinesBefore, read_line};
 use std::alloc::{AllocError, Global};
 use std::io::{BufRead, Write};
-use store_text::config::StoreConfig;
 
 /// How a followed run stands.
 #[derive(Clone, Copy, PartialEq, Eq)]
@@ -178,25 +176,6 @@ impl<'a, W: WriteStr, S: WriteStr> Follower<'a, W, S> {
     }
 }
 
-// What the program tells where the call of the line of this number stopped.
-fn fault_at_call(number: u64, error: WriteEventError) -> Fault<'static>
-    ensures { result ≡ fault_at_call number error }
-{
-    match error {
-        WriteEventError::RetriedSuccess => Fault::Line {
-            line: number,
-            fault: LineFault::RetriedSuccess,
-        },
-        WriteEventError::OutputNotLoaded => Fault::Line {
-            line: number,
-            fault: LineFault::OutputNotLoaded,
-        },
-        WriteEventError::Io | WriteEventError::Failed => Fault::WriteFailed,
-        WriteEventError::Memory => Fault::OutOfMemory,
-        WriteEventError::StoreIo => Fault::StoreFailed,
-    }
-}
-
 // Reads the next line into the buffer, with the line feed that ends it. It answers whether there was one.
 fn next_line<'a, R: BufRead>(
     file: &'a str,
@@ -292,13 +271,11 @@ pub fn follow_scene<'a, R: BufRead, W: Write, S: Write>(
         Ok(out) => out,
         Err((AllocError, writer)) => return (Err(Fault::OutOfMemory), writer, store_writer),
     };
-    let store = match options.store {
-        Some(store) => store,
-        None => {
-            let outcome = follow_alone(alloc, options, reader, &mut out);
-            let (writer, _pending) = out.into_inner();
-            return (outcome, writer, store_writer);
-        }
+    let Some(store) = options.store else {
+        let no_store = None::<Store<'_, String>>;
+        let (outcome, _lent, _) = follow_to(alloc, options, reader, &mut out, no_store);
+        let (writer, _pending) = out.into_inner();
+        return (outcome, writer, store_writer);
     };
     let mut records = match TextBuffer::new(alloc, store_writer) {
         Ok(records) => records,
@@ -307,34 +284,52 @@ pub fn follow_scene<'a, R: BufRead, W: Write, S: Write>(
             return (Err(Fault::OutOfMemory), writer, store_writer);
         }
     };
-    let outcome = follow_both(alloc, options, store.config, reader, &mut out, &mut records);
+    let store = Store::new(&mut records, store.config);
+    let (outcome, lent, store) = follow_to(alloc, options, reader, &mut out, Some(store));
+    match store {
+        Some(store) => {
+            let Store {
+                writer: store_writer,
+                config: _,
+            } = store;
+            give_back(lent, store_writer);
+        }
+        None => unreachable!(),
+    }
     let (writer, _pending) = out.into_inner();
     let (store_writer, _unstored) = records.into_inner();
     (outcome, writer, store_writer)
 }
 
-// Follows the lines to a writer, where the options ask for no records.
-fn follow_alone<'a, R: BufRead, W: WriteStr>(
+// Follows the lines to a writer, and to a store where there is one. It gives both back.
+fn follow_to<'a, 'w, R: BufRead, W: WriteStr, S: WriteStr>(
     alloc: Global,
     options: &Options<'a>,
     reader: &mut R,
-    writer: &mut W,
-) -> Result<RunOutcome, Fault<'a>>
-    requires { store_for options.now ≡ None }
-    ensures ok { IfOk result (λ come_to. (text : List ℕ) → R.remaining reader.old ≡ Some text → W.meaning.is_delivered writer.old
-        → OfText text (ReportsTold W.meaning (store_meaning string_meaning) options.now writer.old writer.new None None come_to)) }
-    ensures err { IfErr result (λ fault. (text : List ℕ) → R.remaining reader.old ≡ Some text → W.meaning.is_delivered writer.old
-        → StopsBy options.now text (HasToldTo W.meaning (store_meaning string_meaning) options.now writer.old writer.new None None) (BreaksTold W.meaning (store_meaning string_meaning) options.now writer.old writer.new None None) fault) }
+    writer: &'w mut W,
+    store: Option<Store<'w, S>>,
+) -> (
+    Result<RunOutcome, Fault<'a>>,
+    &'w mut W,
+    Option<Store<'w, S>>,
+)
+    requires { config_of store ≡ store_for options.now }
+    ensures same_reference { result.1.ghost_name ≡ writer.entry.ghost_name }
+    ensures same_store { IsSameStore store.entry result.2 }
+    ensures ok { IfOk result.0 (λ come_to. (text : List ℕ) → R.remaining reader.old ≡ Some text → W.meaning.is_delivered writer.old → store_delivered S.meaning store.entry
+        → OfText text (ReportsTold W.meaning (store_meaning S.meaning) options.now writer.old result.1.now store.entry result.2 come_to)) }
+    ensures err { IfErr result.0 (λ fault. (text : List ℕ) → R.remaining reader.old ≡ Some text → W.meaning.is_delivered writer.old → store_delivered S.meaning store.entry
+        → StopsBy options.now text (HasToldTo W.meaning (store_meaning S.meaning) options.now writer.old result.1.now store.entry result.2) (BreaksTold W.meaning (store_meaning S.meaning) options.now writer.old result.1.now store.entry result.2) fault) }
 {
     let head = match read_head(alloc, options.file, reader) {
         Ok(head) => head,
-        Err(fault) => return Err(fault),
+        Err(fault) => return (Err(fault), writer, store),
     };
     let builder = match builder_of(alloc, options, &head.config) {
         Ok(builder) => builder,
-        Err(fault) => return Err(fault),
+        Err(fault) => return (Err(fault), writer, store),
     };
-    let reporter = builder.build_for(alloc, writer, surroundings_of(&head.config));
+    let reporter = builder.build_in(alloc, writer, store, surroundings_of(&head.config));
     let mut follower = Follower::new(head.config, reporter);
     let outcome = follow_first(alloc, options, reader, head.first, &mut follower);
     let Follower {
@@ -342,63 +337,10 @@ fn follow_alone<'a, R: BufRead, W: WriteStr>(
         outcome: come_to,
         reporter,
     } = follower;
-    let (writer, _store_writer) = reporter.into_writers();
-    give_back(writer);
+    let (writer, store) = reporter.into_parts();
     match outcome {
-        Ok(()) => Ok(come_to),
-        Err(fault) => Err(fault),
-    }
-}
-
-// The same where they ask for records.
-fn follow_both<'a, R: BufRead, W: WriteStr, S: WriteStr>(
-    alloc: Global,
-    options: &Options<'a>,
-    store: StoreConfig,
-    reader: &mut R,
-    writer: &mut W,
-    store_writer: &mut S,
-) -> Result<RunOutcome, Fault<'a>>
-    requires { store_for options.now ≡ Some store }
-    ensures ok { IfOk result (λ come_to. (text : List ℕ) → R.remaining reader.old ≡ Some text → W.meaning.is_delivered writer.old → S.meaning.is_delivered store_writer.old
-        → OfText text (ReportsTold W.meaning S.meaning options.now writer.old writer.new store_writer.old store_writer.new come_to)) }
-    ensures err { IfErr result (λ fault. (text : List ℕ) → R.remaining reader.old ≡ Some text → W.meaning.is_delivered writer.old → S.meaning.is_delivered store_writer.old
-        → StopsBy options.now text (HasToldTo W.meaning S.meaning options.now writer.old writer.new store_writer.old store_writer.new) (BreaksTold W.meaning S.meaning options.now writer.old writer.new store_writer.old store_writer.new) fault) }
-{
-    let head = match read_head(alloc, options.file, reader) {
-        Ok(head) => head,
-        Err(fault) => return Err(fault),
-    };
-    let builder = match builder_of(alloc, options, &head.config) {
-        Ok(builder) => builder,
-        Err(fault) => return Err(fault),
-    };
-    let (is_terminal, is_ci) = (false, false);
-    let reporter = builder.build_with_store(
-        alloc,
-        writer,
-        store_writer,
-        store,
-        head.config.use_unicode,
-        is_terminal,
-        is_ci,
-        head.config.display_empty_outputs,
-    );
-    let mut follower = Follower::new(head.config, reporter);
-    let outcome = follow_first(alloc, options, reader, head.first, &mut follower);
-    let Follower {
-        config: _,
-        outcome: come_to,
-        reporter,
-    } = follower;
-    let (writer, store_writer) = reporter.into_writers();
-    match store_writer {
-        Some(store_writer) => give_both_back(writer, store_writer),
-        None => unreachable!(),
-    }
-    match outcome {
-        Ok(()) => Ok(come_to),
-        Err(fault) => Err(fault),
+        Ok(()) => (Ok(come_to), writer, store),
+        Err(fault) => (Err(fault), writer, store),
     }
 }
 

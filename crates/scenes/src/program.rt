@@ -8,25 +8,24 @@ ghost use Rattle.command_line.specs.declared.fault.Fault.{Fault};
 ghost use Rattle.scene_fields.specs.Split.{parted};
 ghost use Rattle.command_line.specs.Faults.{IsJudgeFault};
 ghost use Rattle.console_reporter.specs.HeldState.{StandsAfter};
-ghost use Rattle.console_reporter.specs.Slots.{store_meaning};
+ghost use Rattle.console_reporter.specs.Slots.{IsSameStore, config_of, store_delivered, store_meaning};
 ghost use Rattle.console_reporter.specs.Telling.{AreDelivered, IsSameReporter};
-ghost use Rattle.plain_text.specs.StringWriter.{string_meaning};
 ghost use Rattle.scenes.specs.Follow.{BreaksTold, HasToldTo};
-ghost use Rattle.scenes.specs.Judged.{IsJudged, IsJudgedFault, IsSceneAccepted, IsSceneRefused, JudgesEvent, fault_of_refusal};
-ghost use Rattle.scenes.specs.Reports.{configuration_for, fault_for, store_for};
+ghost use Rattle.scenes.specs.Judged.{IsJudged, IsJudgedFault, IsSceneAccepted, IsSceneRefused, JudgesEvent};
+ghost use Rattle.scenes.specs.Reports.{configuration_for, store_for};
 ghost use Rattle.scene_text.specs.SceneTexts.{AllTell, IsFaultThere, event_lines, lines_told, nothing_told, text_told, told};
 ghost use Rattle.scenes.specs.SpelledRuns.{BeginsReport, BeginsRun, IsRejected, PrintsReport, PrintsRun};
 ghost use Rattle.scene_events.specs.Scenes.{IsCallOf};
 ghost use Rattle.scenes.specs.Unloads.{IsReadyCall};
 ghost use Rattle.scenes.specs.ToldScenes.{IsReadFault, IsSceneRead, scene_told};
 
-use crate::reporter::{builder_of, decider_of, give_back, give_both_back, surroundings_of};
+use crate::reporter::{builder_of, decider_of, fault_at_call, surroundings_of};
 use crate::scene::Scene;
 use crate::scene::event::SceneEvent;
-use command_line::fault::{Fault, LineFault};
+use command_line::fault::Fault;
 use command_line::pieces::next_piece;
 use command_line::words::Options;
-use console_reporter::imp::{DisplayReporter, OutputLoadDecider, ReportCall, WriteEventError};
+use console_reporter::imp::{DisplayReporter, OutputLoadDecider, ReportCall, Store, give_back};
 use console_reporter::write_str::{TextBuffer, WriteStr};
 use run_model::memory::OutOfMemory;
 use scene_text::fault::ReadFault;
@@ -35,7 +34,6 @@ use std::alloc::{AllocError, Global};
 use std::io::{BufReader, Read, Write};
 use std::marker::Model;
 use std::mem;
-use store_text::config::StoreConfig;
 
 // How many bytes are read of a file at once.
 const BYTES_AT_ONCE: usize = 16_384;
@@ -160,31 +158,33 @@ fn judge_events(alloc: Global, options: &Options<'_>, scene: &Scene) -> Result<(
     let mut refused = None;
     for place in 0..scene.events.len() {
         let line = scene.line_of(place);
-        let fault = judge_event(alloc, &decider, &scene.events[place], &mut buffer)?;
-        refused = refused.or(fault.map(|fault| (line, fault)));
+        let fault = judge_event(alloc, &decider, line, &scene.events[place], &mut buffer)?;
+        refused = refused.or(fault);
     }
     match refused {
         None => Ok(()),
-        Some((line, fault)) => Err(Fault::Line { line, fault }),
+        Some(fault) => Err(fault),
     }
 }
 
-// What the line of an event says whose call is refused. Where a reporter may refuse it, its call is made for this alone, in this buffer.
+// The fault of the line of this number, if the call of its event is refused. Where a reporter may refuse it, the call is made for this
+// alone, in this buffer.
 #[tactic(auto, using(crate::proofs::lemmas::UnmadeCalls::judged_unmade))]
 fn judge_event<'a>(
     alloc: Global,
     decider: &OutputLoadDecider,
+    line: u64,
     event: &'a SceneEvent,
     buffer: &mut Vec<ReportCall<'a>>,
-) -> Result<Option<LineFault>, OutOfMemory>
-    ensures { IfOk result (JudgesEvent decider.now event.now) }
+) -> Result<Option<Fault<'static>>, OutOfMemory>
+    ensures { IfOk result (JudgesEvent decider.now line event.now) }
 {
     if !event.needs_judging() {
         return Ok(None);
     }
     let call = call_in(alloc, event, buffer)?;
     match decider.refusal(call) {
-        Some(error) => Ok(Some(fault_of_refusal(error))),
+        Some(error) => Ok(Some(fault_at_call(line, error))),
         None => Ok(None),
     }
 }
@@ -202,16 +202,6 @@ fn call_in<'r, 'a>(
     match buffer.as_mut_slice().first_mut() {
         Some(call) => Ok(call),
         None => unreachable!(),
-    }
-}
-
-// The fault of a line whose call is refused with this error.
-fn fault_of_refusal(error: WriteEventError) -> LineFault
-    ensures { result ≡ fault_of_refusal error }
-{
-    match error {
-        WriteEventError::RetriedSuccess => LineFault::RetriedSuccess,
-        _ => LineFault::OutputNotLoaded,
     }
 }
 
@@ -291,53 +281,15 @@ pub fn report_judged<W: Write, S: Write>(
     ensures no_store { judged.now.options.store ≡ None → result.2 ≡ store_writer }
 {
     let (options, scene) = (judged.options, judged.scene);
-    match options.store {
-        None => {
-            let (outcome, writer) = report_alone(alloc, options, scene, writer);
-            (outcome, writer, store_writer)
-        }
-        Some(store) => report_both(alloc, options, scene, store.config, writer, store_writer),
-    }
-}
-
-// `report_judged` without a store; a second device stays as it is.
-fn report_alone<W: Write>(
-    alloc: Global,
-    options: &Options<'_>,
-    scene: &Scene,
-    writer: W,
-) -> (Result<(), Fault<'static>>, W)
-    requires store_asked { store_for options.now ≡ None }
-    requires accepted { IsSceneAccepted options.now scene.now }
-    ensures ok { (held : Option (List ℕ)) → OnOk result.0 (PrintsReport options.now scene.now (W.contents writer) (W.contents result.1) held held) }
-    ensures err { (held : Option (List ℕ)) → IfErr result.0 (λ fault. BeginsReport options.now scene.now fault (W.contents writer) (W.contents result.1) held held) }
-{
-    let mut out = match TextBuffer::new(alloc, writer) {
-        Ok(out) => out,
-        Err((AllocError, writer)) => return (Err(Fault::OutOfMemory), writer),
-    };
-    let outcome = report_to(alloc, options, scene, &mut out);
-    let (writer, _pending) = out.into_inner();
-    (outcome, writer)
-}
-
-// The same where they ask for records. Both buffers are made before any byte.
-fn report_both<W: Write, S: Write>(
-    alloc: Global,
-    options: &Options<'_>,
-    scene: &Scene,
-    store: StoreConfig,
-    writer: W,
-    store_writer: S,
-) -> (Result<(), Fault<'static>>, W, S)
-    requires store_asked { store_for options.now ≡ Some store }
-    requires accepted { IsSceneAccepted options.now scene.now }
-    ensures ok { OnOk result.0 (PrintsReport options.now scene.now (W.contents writer) (W.contents result.1) (S.contents store_writer) (S.contents result.2)) }
-    ensures err { IfErr result.0 (λ fault. BeginsReport options.now scene.now fault (W.contents writer) (W.contents result.1) (S.contents store_writer) (S.contents result.2)) }
-{
     let mut out = match TextBuffer::new(alloc, writer) {
         Ok(out) => out,
         Err((AllocError, writer)) => return (Err(Fault::OutOfMemory), writer, store_writer),
+    };
+    let Some(store) = options.store else {
+        let no_store = None::<Store<'_, String>>;
+        let (outcome, _lent, _) = report_to(alloc, options, scene, &mut out, no_store);
+        let (writer, _pending) = out.into_inner();
+        return (outcome, writer, store_writer);
     };
     let mut records = match TextBuffer::new(alloc, store_writer) {
         Ok(records) => records,
@@ -346,75 +298,49 @@ fn report_both<W: Write, S: Write>(
             return (Err(Fault::OutOfMemory), writer, store_writer);
         }
     };
-    let outcome = report_and_store_to(alloc, options, scene, store, &mut out, &mut records);
+    let store = Store::new(&mut records, store.config);
+    let (outcome, lent, store) = report_to(alloc, options, scene, &mut out, Some(store));
+    match store {
+        Some(store) => {
+            let Store {
+                writer: store_writer,
+                config: _,
+            } = store;
+            give_back(lent, store_writer);
+        }
+        None => unreachable!(),
+    }
     let (writer, _pending) = out.into_inner();
     let (store_writer, _unstored) = records.into_inner();
     (outcome, writer, store_writer)
 }
 
-// Writes the report of a scene that is accepted, and delivers it. On a fault the writer has accepted a beginning of it.
-fn report_to<W: WriteStr>(
+// Writes the report of a scene that is accepted, and its records where there is a store, and delivers both. On a fault the writers have
+// accepted a beginning. It gives both back.
+fn report_to<'w, W: WriteStr, S: WriteStr>(
     alloc: Global,
     options: &Options<'_>,
     scene: &Scene,
-    writer: &mut W,
-) -> Result<(), Fault<'static>>
-    requires store_asked { store_for options.now ≡ None }
+    writer: &'w mut W,
+    store: Option<Store<'w, S>>,
+) -> (Result<(), Fault<'static>>, &'w mut W, Option<Store<'w, S>>)
+    requires store_asked { config_of store ≡ store_for options.now }
     requires delivered { W.meaning.is_delivered writer.old }
+    requires store_delivered { store_delivered S.meaning store }
     requires accepted { IsSceneAccepted options.now scene.now }
-    ensures ok { OnOk result (HasToldTo W.meaning (store_meaning string_meaning) options.now writer.old writer.new None None (scene_told scene.now)) }
-    ensures err { IfErr result (BreaksTold W.meaning (store_meaning string_meaning) options.now writer.old writer.new None None (scene_told scene.now)) }
+    ensures same_reference { result.1.ghost_name ≡ writer.entry.ghost_name }
+    ensures same_store { IsSameStore store.entry result.2 }
+    ensures ok { OnOk result.0 (HasToldTo W.meaning (store_meaning S.meaning) options.now writer.old result.1.now store.entry result.2 (scene_told scene.now)) }
+    ensures err { IfErr result.0 (BreaksTold W.meaning (store_meaning S.meaning) options.now writer.old result.1.now store.entry result.2 (scene_told scene.now)) }
 {
     let builder = match builder_of(alloc, options, &scene.config) {
         Ok(builder) => builder,
-        Err(fault) => return Err(fault),
+        Err(fault) => return (Err(fault), writer, store),
     };
-    let mut reporter = builder.build_for(alloc, writer, surroundings_of(&scene.config));
+    let mut reporter = builder.build_in(alloc, writer, store, surroundings_of(&scene.config));
     let outcome = report_events(alloc, options, scene, &mut reporter);
-    let (writer, _store_writer) = reporter.into_writers();
-    give_back(writer);
-    outcome
-}
-
-// The same, and the records to a second writer.
-fn report_and_store_to<W: WriteStr, S: WriteStr>(
-    alloc: Global,
-    options: &Options<'_>,
-    scene: &Scene,
-    store: StoreConfig,
-    writer: &mut W,
-    store_writer: &mut S,
-) -> Result<(), Fault<'static>>
-    requires store_asked { store_for options.now ≡ Some store }
-    requires delivered { W.meaning.is_delivered writer.old }
-    requires store_delivered { S.meaning.is_delivered store_writer.old }
-    requires accepted { IsSceneAccepted options.now scene.now }
-    ensures ok { OnOk result (HasToldTo W.meaning S.meaning options.now writer.old writer.new store_writer.old store_writer.new (scene_told scene.now)) }
-    ensures err { IfErr result (BreaksTold W.meaning S.meaning options.now writer.old writer.new store_writer.old store_writer.new (scene_told scene.now)) }
-{
-    let config = &scene.config;
-    let builder = match builder_of(alloc, options, config) {
-        Ok(builder) => builder,
-        Err(fault) => return Err(fault),
-    };
-    let (is_terminal, is_ci) = (false, false);
-    let mut reporter = builder.build_with_store(
-        alloc,
-        writer,
-        store_writer,
-        store,
-        config.use_unicode,
-        is_terminal,
-        is_ci,
-        config.display_empty_outputs,
-    );
-    let outcome = report_events(alloc, options, scene, &mut reporter);
-    let (writer, store_writer) = reporter.into_writers();
-    match store_writer {
-        Some(store_writer) => give_both_back(writer, store_writer),
-        None => unreachable!(),
-    }
-    outcome
+    let (writer, store) = reporter.into_parts();
+    (outcome, writer, store)
 }
 
 // Makes the calls of a scene that is accepted, each when its turn comes, and ends the report.
@@ -439,11 +365,12 @@ fn report_events<W: WriteStr, S: WriteStr>(
             Err(OutOfMemory) => return Err(Fault::OutOfMemory),
         };
         if let Err(error) = reporter.make_call(alloc, call) {
-            return Err(fault_of(error));
+            return Err(fault_at_call(scene.line_of(place), error));
         }
     }
+    // The end of a report is never refused, so no line is told.
     if let Err(error) = reporter.finish() {
-        return Err(fault_of(error));
+        return Err(fault_at_call(0, error));
     }
     Ok(())
 }
@@ -463,18 +390,4 @@ fn ready_call<'r, 'a>(
         decider.unload(call);
     }
     Ok(call)
-}
-
-// The program's fault where its report stopped. A scene that was judged has no event that is refused.
-fn fault_of(error: WriteEventError) -> Fault<'static>
-    ensures { result ≡ fault_for error }
-{
-    match error {
-        WriteEventError::RetriedSuccess
-        | WriteEventError::OutputNotLoaded
-        | WriteEventError::Io
-        | WriteEventError::Failed => Fault::WriteFailed,
-        WriteEventError::Memory => Fault::OutOfMemory,
-        WriteEventError::StoreIo => Fault::StoreFailed,
-    }
 }

@@ -1,16 +1,16 @@
-//! The reporter of a scene: what it is built from, and what it decides by.
+//! The reporter of a scene: what it is built from, what it decides by, and what the program tells of its errors.
 
 ghost use Rattle.std.specs.Prelude.{◌≡◌, IfOk, IfErr};
-ghost use Rattle.scenes.specs.Reports.{builder_for, kind_for, progress_for, surroundings_of};
+ghost use Rattle.scenes.specs.Reports.{builder_for, fault_at_call, kind_for, progress_for, surroundings_of};
 ghost use Rattle.scenes.specs.Unloads.{decider_for};
 ghost use Rattle.command_line.specs.declared.fault.Fault.{Fault};
 
 use crate::scene::SceneConfig;
-use command_line::fault::Fault;
+use command_line::fault::{Fault, LineFault};
 use command_line::words::Options;
 use console_reporter::config::{DisplayConfig, ShowProgress};
 use console_reporter::imp::{
-    DisplayReporterBuilder, DisplayerKind, OutputLoadDecider, Surroundings,
+    DisplayReporterBuilder, DisplayerKind, OutputLoadDecider, Surroundings, WriteEventError,
 };
 use run_model::config::CompiledDefaultFilter;
 use std::alloc::Global;
@@ -90,18 +90,21 @@ fn kind_for(options: &Options<'_>) -> DisplayerKind
     }
 }
 
-/// Takes a writer back that a reporter wrote to: it ends as it is.
-pub(crate) fn give_back<W>(writer: &mut W)
-    ensures { writer.new ≡ writer.old }
+/// What the program tells where the call of the line of this number stopped: its number only where the call is refused.
+pub(crate) fn fault_at_call(number: u64, error: WriteEventError) -> Fault<'static>
+    ensures { result ≡ fault_at_call number error }
 {
-    let _writer = writer;
-}
-
-/// The same of two.
-pub(crate) fn give_both_back<W, S>(writer: &mut W, store_writer: &mut S)
-    ensures writer { writer.new ≡ writer.old }
-    ensures store_writer { store_writer.new ≡ store_writer.old }
-{
-    let _store_writer = store_writer;
-    let _writer = writer;
+    match error {
+        WriteEventError::RetriedSuccess => Fault::Line {
+            line: number,
+            fault: LineFault::RetriedSuccess,
+        },
+        WriteEventError::OutputNotLoaded => Fault::Line {
+            line: number,
+            fault: LineFault::OutputNotLoaded,
+        },
+        WriteEventError::Io | WriteEventError::Failed => Fault::WriteFailed,
+        WriteEventError::Memory => Fault::OutOfMemory,
+        WriteEventError::StoreIo => Fault::StoreFailed,
+    }
 }

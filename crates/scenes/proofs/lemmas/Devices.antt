@@ -1,6 +1,6 @@
--- What a device holds of a report that stopped (for `report_alone`, `report_both`, `follow_scene`).
-use Rattle.std.proofs.Common.{◌≡◌, ℕ, List, [], ◌∷◌, Option, None, Some, refl, sym, ap, ◌∙◌, append-nil, inl, inr}
-use Rattle.std.specs.Option.{option_map_or}
+-- What a device holds of a report that stopped (for `report_judged`, `follow_scene`).
+use Rattle.std.proofs.Common.{◌≡◌, ℕ, List, [], ◌∷◌, Option, None, Some, refl, sym, ap, ◌∙◌, append-nil, inl, inr, true}
+use Rattle.std.specs.Option.{is_some, option_map_or}
 use Rattle.plain_text.specs.TextBuffer.{buffer_meaning}
 use Rattle.plain_text.specs.Writer.{Meaning}
 use Rattle.plain_text.specs.declared.write_str.text_buffer.TextBuffer.{TextBuffer}
@@ -10,6 +10,7 @@ use Rattle.console_reporter.specs.Stored.{stored}
 use Rattle.run_model.specs.declared.call.ReportCall.{ReportCall}
 use Rattle.run_model.specs.declared.call.ReportCall.TheVariants.{Event, Header, Prefix}
 use Rattle.store_text.specs.declared.config.StoreConfig.{StoreConfig}
+use Rattle.scene_fields.specs.declared.fault.LineFault.{LineFault}
 use Rattle.scenes.specs.Reports.{Begins, IsStop, StopsStore, StopsText, store_for}
 use Rattle.command_line.specs.declared.fault.Fault.{Fault}
 use Rattle.command_line.specs.declared.fault.Fault.TheVariants.{Usage, CannotRead, CannotWrite, Line, WriteFailed, StoreFailed, OutOfMemory}
@@ -54,6 +55,9 @@ memory_no_device is = cc
 pub write_no_store : WriteFailed ≡ StoreFailed → ⊥
 write_no_store is = cc
 
+pub line_no_store : (n : ℕ) (f : LineFault) → Line n f ≡ StoreFailed → ⊥
+line_no_store n f is = cc
+
 -- a device that stayed as it was holds the empty beginning
 pub untouched_begins : (before after : Option (List ℕ)) (text : List ℕ) → after ≡ before → Begins before after text
 untouched_begins before after text same = λ old new is_old is_new.
@@ -65,24 +69,15 @@ untouched_begins before after text same = λ old new is_old is_new.
       grown = ap (λ (o : Option (List ℕ)). option_map_or (λ t. t) o []) so ∙ sym (append-nil old);
     }
 
--- a report without a store stops by its writer or for want of memory, and with one by the store too
-pub stop_alone : {S : Type 0} (m : Meaning S) (options : Options) (a b : S) (text : List ℕ) (fault : Fault) → StopsText m a text fault b → (fault ≡ StoreFailed → ⊥) → IsStop options fault
-stop_alone m options a b text Usage h known = absurd h
-stop_alone m options a b text (CannotRead file) h known = absurd h
-stop_alone m options a b text (CannotWrite file) h known = absurd h
-stop_alone m options a b text (Line n f) h known = absurd h
-stop_alone m options a b text WriteFailed h known = tt
-stop_alone m options a b text StoreFailed h known = absurd (known refl)
-stop_alone m options a b text OutOfMemory h known = tt
-
-pub stop_both : {S : Type 0} (m : Meaning S) (options : Options) (store : StoreConfig) → store_for options ≡ Some store → (a b : S) (text : List ℕ) (fault : Fault) → StopsText m a text fault b → IsStop options fault
-stop_both m options store has a b text Usage h = absurd h
-stop_both m options store has a b text (CannotRead file) h = absurd h
-stop_both m options store has a b text (CannotWrite file) h = absurd h
-stop_both m options store has a b text (Line n f) h = absurd h
-stop_both m options store has a b text WriteFailed h = tt
-stop_both m options store has a b text StoreFailed h = rw has refl
-stop_both m options store has a b text OutOfMemory h = tt
+-- a report stops by its writer, by the store where there is one, or for want of memory
+pub stop_by : {S : Type 0} (m : Meaning S) (options : Options) (a b : S) (text : List ℕ) (fault : Fault) → StopsText m a text fault b → (fault ≡ StoreFailed → is_some (store_for options) ≡ true) → IsStop options fault
+stop_by m options a b text Usage h there = absurd h
+stop_by m options a b text (CannotRead file) h there = absurd h
+stop_by m options a b text (CannotWrite file) h there = absurd h
+stop_by m options a b text (Line n f) h there = absurd h
+stop_by m options a b text WriteFailed h there = tt
+stop_by m options a b text StoreFailed h there = there refl
+stop_by m options a b text OutOfMemory h there = tt
 
 -- nothing is stored without a store
 no_record : (past : List ReportCall) → stored None past ≡ []

@@ -1,7 +1,7 @@
 -- A follower tells one event more, or leaves one (for `follow_first`, `follow_rest`, `tell_line`).
 use Rattle.std.proofs.Common.{◌≡◌, ℕ, ◌+◌, true, List, [], ◌∷◌, ◌++◌, None, Some, Ok, Err, reverse, refl, sym, ap, ◌∙◌, subst, append-nil, inl, inr}
 use Rattle.std.specs.List.{AllZip}
-use Rattle.std.specs.Option.{is_some, option_and_then}
+use Rattle.std.specs.Option.{is_some, option_map}
 use Rattle.std.proofs.lemmas.List.{reverse-append}
 use Rattle.plain_text.specs.Writer.{Meaning, WriterLaws}
 use Rattle.run_model.specs.declared.call.ReportCall.{ReportCall}
@@ -26,10 +26,9 @@ use Rattle.scene_text.specs.declared.reader.LineSaid.{LineSaid}
 use Rattle.scene_text.specs.declared.reader.LineSaid.TheVariants as said
 use Rattle.scene_text.specs.declared.reader.LinesBefore.{LinesBefore}
 use Rattle.scene_events.specs.declared.scene.event.SceneEvent.{SceneEvent}
-use Rattle.scenes.specs.Follow.{AtLine, BreaksEvent, BreaksOff, Follows, HasTold, LeavesEvent, LeavesLine, LeavesSaid, RefusesEvent, StopsBehind, StopsBy, TellsEvent, TellsLine, TellsSaid, fault_at_call, run_outcome}
-use Rattle.scenes.specs.Judged.{line_fault_for}
+use Rattle.scenes.specs.Follow.{AtLine, BreaksEvent, BreaksOff, Follows, HasTold, LeavesEvent, LeavesLine, LeavesSaid, RefusesEvent, StopsBehind, StopsBy, TellsEvent, TellsLine, TellsSaid, run_outcome}
 use Rattle.command_line.specs.Pieces.{IsUnread}
-use Rattle.scenes.specs.Reports.{StopsStore, StopsText, configuration_for, fault_for}
+use Rattle.scenes.specs.Reports.{StopsStore, StopsText, configuration_for, fault_at_call}
 use Rattle.scenes.specs.Unloads.{decider_for}
 use Rattle.command_line.specs.declared.fault.Fault.{Fault}
 use Rattle.command_line.specs.declared.fault.Fault.TheVariants as fault
@@ -52,24 +51,24 @@ with_reporter old r = record { config = old.config; outcome = old.outcome; repor
 
 -- a call that was refused, or broke off (for `tell_event`)
 module _ {W S : Type 0} (m : Meaning W) (n : Meaning S) (number : ℕ) (event : SceneEvent) (old : Follower W S) (call : ReportCall) (of_event : IsCallOf event call) where
-  says_refused : (f : LineFault) (e : WriteEventError) → line_fault_for e ≡ Some f → ((config : Configuration) (past : List ReportCall) → StandsAfter config past old.reporter → Some e ≡ refusal config call) → RefusesEvent m n event f old
-  says_refused f e is refused = record { call = call; of_event = of_event; refused = λ config past stands. ap (option_and_then line_fault_for) (sym (refused config past stands)) ∙ is }
+  says_refused : (f : LineFault) (e : WriteEventError) → ((k : ℕ) → fault_at_call k e ≡ fault.Line k f) → ((config : Configuration) (past : List ReportCall) → StandsAfter config past old.reporter → Some e ≡ refusal config call) → RefusesEvent m n event f old
+  says_refused f e is refused = record { call = call; of_event = of_event; refused = λ config past stands k. ap (option_map (fault_at_call k)) (sym (refused config past stands)) ∙ ap Some (is k) }
 
   module _ (r : DisplayReporter W S) where
-    breaks_by : (e : WriteEventError) → Breaks m n old.reporter (Some call) e r → refusal_in e ≡ None → ((config : Configuration) (past : List ReportCall) → StandsAfter config past old.reporter → None ≡ refusal config call) →
-        BreaksEvent m n event (fault_for e) old (with_reporter old r)
-    breaks_by e breaks none refused =
-        record { call = call; of_event = of_event; error = e; breaks = breaks; unrefused = none; accepted = λ config past stands. sym (refused config past stands); is = refl }
+    breaks_by : (e : WriteEventError) → ((k : ℕ) → fault_at_call number e ≡ fault_at_call k e) → Breaks m n old.reporter (Some call) e r → refusal_in e ≡ None → ((config : Configuration) (past : List ReportCall) → StandsAfter config past old.reporter → None ≡ refusal config call) →
+        BreaksEvent m n event (fault_at_call number e) old (with_reporter old r)
+    breaks_by e any breaks none refused =
+        record { call = call; of_event = of_event; error = e; breaks = breaks; unrefused = none; accepted = λ config past stands. sym (refused config past stands); is = any }
 
     pub left_by : (e : WriteEventError) → Breaks m n old.reporter (Some call) e r →
         ((config : Configuration) (past : List ReportCall) → StandsAfter config past old.reporter → refusal_in e ≡ refusal config call) → (is_some (refusal_in e) ≡ true → r ≡ old.reporter) →
         LeavesEvent m n number event (fault_at_call number e) old (with_reporter old r)
-    left_by RetriedSuccess breaks refused same = (refl, ap (with_reporter old) (same refl), says_refused line.RetriedSuccess RetriedSuccess refl refused)
-    left_by OutputNotLoaded breaks refused same = (refl, ap (with_reporter old) (same refl), says_refused line.OutputNotLoaded OutputNotLoaded refl refused)
-    left_by Io breaks refused same = breaks_by Io breaks refl refused
-    left_by Memory breaks refused same = inr (breaks_by Memory breaks refl refused)
-    left_by Failed breaks refused same = breaks_by Failed breaks refl refused
-    left_by StoreIo breaks refused same = breaks_by StoreIo breaks refl refused
+    left_by RetriedSuccess breaks refused same = (refl, ap (with_reporter old) (same refl), says_refused line.RetriedSuccess RetriedSuccess (λ k. refl) refused)
+    left_by OutputNotLoaded breaks refused same = (refl, ap (with_reporter old) (same refl), says_refused line.OutputNotLoaded OutputNotLoaded (λ k. refl) refused)
+    left_by Io breaks refused same = breaks_by Io (λ k. refl) breaks refl refused
+    left_by Memory breaks refused same = inr (breaks_by Memory (λ k. refl) breaks refl refused)
+    left_by Failed breaks refused same = breaks_by Failed (λ k. refl) breaks refl refused
+    left_by StoreIo breaks refused same = breaks_by StoreIo (λ k. refl) breaks refl refused
 
 -- a call more of a past is the last of its calls
 reverse_more : (past : List ReportCall) (call : ReportCall) → reverse (call ∷ past) ≡ reverse past ++ call ∷ []
@@ -120,10 +119,10 @@ module _ {W S : Type 0} {m : Meaning W} {n : Meaning S} (laws : WriterLaws m) (o
           past = broke.call ∷ past;
           of_run = calls_more e broke.call broke.of_event;
           accepted = accepted_more broke.call (broke.accepted config past here_stands);
-          stopped = subst (λ f. StopsText m a (t ++ u) f c) (sym broke.is) (told_text laws a c (t ++ u) broke.error broke.unrefused ended);
-          store_stopped = subst (λ f. StopsStore (store_meaning n) start.reporter.store (records ++ entry) f next.reporter.store) (sym broke.is) (told_store (store-laws others) start.reporter.store next.reporter.store (records ++ entry) broke.error broke.unrefused store_ended);
+          stopped = subst (λ f. StopsText m a (t ++ u) f c) (sym (broke.is 0)) (told_text laws a c (t ++ u) 0 broke.error broke.unrefused ended);
+          store_stopped = subst (λ f. StopsStore (store_meaning n) start.reporter.store (records ++ entry) f next.reporter.store) (sym (broke.is 0)) (told_store (store-laws others) start.reporter.store next.reporter.store (records ++ entry) 0 broke.error broke.unrefused store_ended);
           whole_text = λ is.
-              let of_store = store_error broke.error (sym broke.is ∙ is) in
+              let of_store = store_error 0 broke.error (sym (broke.is 0) ∙ is) in
               record {
                 later = [];
                 earlier = broke.call ∷ past;
@@ -132,7 +131,7 @@ module _ {W S : Type 0} {m : Meaning W} {n : Meaning S} (laws : WriterLaws m) (o
                 delivered = broke.breaks.delivered of_store;
               };
           whole_records = λ is.
-              let of_device = device_error m _ _ _ broke.error broke.unrefused (sym broke.is ∙ is) (broke.breaks.stopped config past here_stands) in
+              let of_device = device_error m _ _ _ 0 broke.error broke.unrefused (sym (broke.is 0) ∙ is) (broke.breaks.stopped config past here_stands) in
               let same = store_behind (store_meaning n) now.reporter.store next.reporter.store entry broke.error of_device (broke.breaks.store_stopped config past here_stands) in
               record {
                 later = broke.call ∷ [];

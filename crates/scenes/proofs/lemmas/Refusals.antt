@@ -1,10 +1,10 @@
 -- What the line of the first refused call says (for `judge_events`).
-use Rattle.std.proofs.Common.{◌≡◌, ℕ, ◌+◌, ◌<◌, ◌≤◌, List, [], ◌∷◌, ◌++◌, Bool, Option, true, false, length, take, arith, get_or, refl, sym, ap, subst, ◌∙◌, None, Some, inl, inr}
+use Rattle.std.proofs.Common.{◌≡◌, ℕ, ◌+◌, ◌<◌, ◌≤◌, List, [], ◌∷◌, ◌++◌, Bool, Option, true, false, length, take, arith, get_or, refl, sym, ap, subst, ◌∙◌, ◌⊎◌, None, Some, inl, inr, unwrap_or}
 use Rattle.std.specs.Option.{is_some, option_and_then, option_map, option_or}
 use Rattle.std.specs.List.{AllZip, position, position_or_len, slice_get}
 use Rattle.std.proofs.lemmas.Bool.{cases_Bool, cases_lt, false≢true}
 use Rattle.std.proofs.lemmas.Grind.{common_steps}
-use Rattle.std.proofs.lemmas.List.{length-append}
+use Rattle.std.proofs.lemmas.List.{length-append, take_all}
 use Rattle.std.proofs.lemmas.List.Sums.{fails_before_first, position_or_len_is}
 use Rattle.std.proofs.lemmas.List.Quantifiers.{position-Some}
 use Rattle.std.proofs.lemmas.Option.{slice_get-get_or, slice_get_past}
@@ -16,10 +16,14 @@ use Rattle.run_model.specs.declared.call.ReportCall.TheVariants.{Event, Header, 
 use Rattle.reporter_state.specs.declared.decider.OutputLoadDecider.{OutputLoadDecider}
 use Rattle.scene_events.specs.Scenes.{IsCallOf}
 use Rattle.scene_events.specs.declared.scene.event.SceneEvent.{SceneEvent}
-use Rattle.scenes.specs.Judged.{IsRefusedLine, JudgesEvent, fault_of_refusal, line_fault_for}
+use Rattle.scenes.specs.Judged.{IsSceneRefused, JudgesEvent}
+use Rattle.scenes.specs.Reports.{fault_at_call}
 use Rattle.scenes.specs.Unloads.{decider_for}
 use Rattle.scenes.proofs.lemmas.EventCalls.{last_there, same_there, zip_long, zip_place}
+use Rattle.command_line.specs.declared.fault.Fault.{Fault}
+use Rattle.command_line.specs.declared.fault.Fault.TheVariants as fault
 use Rattle.scene_fields.specs.declared.fault.LineFault.{LineFault}
+use Rattle.scene_fields.specs.declared.fault.LineFault.TheVariants as line
 use Rattle.scenes.specs.declared.scene.Scene.{Scene}
 use Rattle.command_line.specs.declared.words.Options.{Options}
 
@@ -29,23 +33,31 @@ position-None p xs i d e within =
     let all : length xs ≤ position_or_len p xs = grind (arith, common_steps) in
     fails_before_first p xs i d (omega (arith, within, all))
 
--- a call that is refused says why
-says-why : (d : OutputLoadDecider) (call : ReportCall) → option_and_then line_fault_for (refusal_by d call) ≡ option_map fault_of_refusal (refusal_by d call)
-says-why d (Event e) = elim (cases_Bool (is_retried_success e.kind)) [
-  | inl y ↦ rw y refl
-  | inr n ↦ elim (cases_Bool (lacks_output d e.kind)) [ inl l ↦ rw (n, l) refl | inr m ↦ rw (n, m) refl ]
+-- a call that is refused is told by its line
+is_line : (d : OutputLoadDecider) (call : ReportCall) (n : ℕ) → (option_map (fault_at_call n) (refusal_by d call) ≡ None) ⊎ ((f : LineFault) × (option_map (fault_at_call n) (refusal_by d call) ≡ Some (fault.Line n f)))
+is_line d (Event e) n = elim (cases_Bool (is_retried_success e.kind)) [
+  | inl y ↦ inr (line.RetriedSuccess, rw y refl)
+  | inr k ↦ elim (cases_Bool (lacks_output d e.kind)) [ inl l ↦ inr (line.OutputNotLoaded, rw (k, l) refl) | inr m ↦ inl (rw (k, m) refl) ]
 ]
-says-why d (Header k) = refl
-says-why d (Prefix p) = refl
+is_line d (Header k) n = inl refl
+is_line d (Prefix p) n = inl refl
+
+same_told : (o : Option Fault) (n : ℕ) (x : Fault) → (o ≡ None) ⊎ ((f : LineFault) × (o ≡ Some (fault.Line n f))) → o ≡ Some x → (f : LineFault) × (x ≡ fault.Line n f)
+same_told o n x (inl none) told = absurd (cc)
+same_told o n x (inr line) told = (line.0, ap (λ (y : Option Fault). unwrap_or y x) (sym told ∙ line.1))
+
+pub told_by_line : (d : OutputLoadDecider) (o : Option ReportCall) (n : ℕ) (x : Fault) → option_map (fault_at_call n) (option_and_then (refusal_by d) o) ≡ Some x → (f : LineFault) × (x ≡ fault.Line n f)
+told_by_line d None n x told = absurd (cc)
+told_by_line d (Some call) n x told = same_told _ n x (is_line d call n) told
 
 -- of what is made of an error, or of none
-mapped_none : (o : Option WriteEventError) → None ≡ option_map fault_of_refusal o → is_some o ≡ false
-mapped_none None h = refl
-mapped_none (Some e) h = absurd (cc)
+mapped_none : (n : ℕ) (o : Option WriteEventError) → None ≡ option_map (fault_at_call n) o → is_some o ≡ false
+mapped_none n None h = refl
+mapped_none n (Some e) h = absurd (cc)
 
-mapped_some : (o : Option WriteEventError) (f : LineFault) → Some f ≡ option_map fault_of_refusal o → is_some o ≡ true
-mapped_some None f h = absurd (cc)
-mapped_some (Some e) f h = refl
+mapped_some : (n : ℕ) (o : Option WriteEventError) (f : Fault) → Some f ≡ option_map (fault_at_call n) o → is_some o ≡ true
+mapped_some n None f h = absurd (cc)
+mapped_some n (Some e) f h = refl
 
 -- an item behind others, of which none passes, or one does
 module _ {X : Type 0} (p : X → Bool) (xs : List X) (x : X) where
@@ -83,14 +95,30 @@ module _ (options : Options) (scene : Scene) where
   abbrev pub judge : OutputLoadDecider
   judge = decider_for options scene.config
 
-  abbrev pub FirstIs : List ReportCall → Option (ℕ × LineFault) → Type 0
-  FirstIs calls None = first_refused judge calls ≡ None
-  FirstIs calls (Some x) = IsRefusedLine options scene calls x.0 x.1
+  -- this is what is told of the first call that is refused
+  pub record IsToldOf (calls : List ReportCall) (x : Fault) : Type 0 where
+    pub place : ℕ
+    pub refused : first_refused judge calls ≡ Some place
+    pub says : option_map (fault_at_call (get_or scene.lines.items place 0)) (refusal_at_by judge calls place) ≡ Some x
 
-  pub record HasJudged (i : ℕ) (refused : Option (ℕ × LineFault)) : Type 0 where
+  abbrev pub FirstIs : List ReportCall → Option Fault → Type 0
+  FirstIs calls None = first_refused judge calls ≡ None
+  FirstIs calls (Some x) = IsToldOf calls x
+
+  pub record HasJudged (i : ℕ) (refused : Option Fault) : Type 0 where
     pub calls : List ReportCall
     pub of_first : AllZip IsCallOf (take i scene.events.items) calls
     pub first : FirstIs calls refused
+
+  -- all events were judged
+  pub all_judged : (i : ℕ) → length scene.events.items ≤ i → (x : Fault) → HasJudged i (Some x) → IsSceneRefused options scene x
+  all_judged i past x h =
+      let l = told_by_line judge (slice_get h.calls h.first.place) (get_or scene.lines.items h.first.place 0) x h.first.says in
+      subst (IsSceneRefused options scene) (sym l.1) (record {
+        calls = h.calls;
+        of_scene = subst (λ es. AllZip IsCallOf es h.calls) (take_all i scene.events.items past) h.of_first;
+        refused = record { place = h.first.place; refused = h.first.refused; number = refl; says = h.first.says ∙ ap Some l.1 };
+      })
 
   -- one event more was judged
   module _ (i : ℕ) (e : SceneEvent) (within : i < length scene.events.items) (is : e ≡ get_or scene.events.items i e) where
@@ -98,8 +126,8 @@ module _ (options : Options) (scene : Scene) where
     calls_more calls call h of_event = zip_place scene.events.items calls i e call within is h of_event
 
     -- one is refused already
-    judged_after : (x : ℕ × LineFault) (fault : Option LineFault) → HasJudged i (Some x) → JudgesEvent judge e fault → HasJudged (i + 1) (Some x)
-    judged_after x fault now j =
+    judged_after : (x : Fault) (n : ℕ) (fault : Option Fault) → HasJudged i (Some x) → JudgesEvent judge n e fault → HasJudged (i + 1) (Some x)
+    judged_after x n fault now j =
         let at : ℕ = now.first.place in
         let here = position-Some (λ c. is_some (refusal_by judge c)) now.calls at j.call now.first.refused in
         record {
@@ -108,41 +136,38 @@ module _ (options : Options) (scene : Scene) where
           first = record {
             place = at;
             refused = still_passes (λ c. is_some (refusal_by judge c)) now.calls j.call at now.first.refused;
-            number = now.first.number;
-            says = ap (λ o. option_and_then line_fault_for (option_and_then (refusal_by judge) o)) (same_there now.calls j.call at here.0) ∙ now.first.says;
+            says = ap (λ o. option_map (fault_at_call (get_or scene.lines.items at 0)) (option_and_then (refusal_by judge) o)) (same_there now.calls j.call at here.0) ∙ now.first.says;
           };
         }
 
     -- its call is accepted
-    judged_accepted : (refused : Option (ℕ × LineFault)) → HasJudged i refused → JudgesEvent judge e None → HasJudged (i + 1) refused
-    judged_accepted None now j = record {
+    judged_accepted : (n : ℕ) → HasJudged i None → JudgesEvent judge n e None → HasJudged (i + 1) None
+    judged_accepted n now j = record {
       calls = now.calls ++ j.call ∷ [];
       of_first = calls_more now.calls j.call now.of_first j.of_event;
-      first = none_more (λ c. is_some (refusal_by judge c)) now.calls j.call now.first (mapped_none (refusal_by judge j.call) j.is);
+      first = none_more (λ c. is_some (refusal_by judge c)) now.calls j.call now.first (mapped_none n (refusal_by judge j.call) j.is);
     }
-    judged_accepted (Some x) now j = judged_after x None now j
 
     -- its call is the first that is refused
-    judged_refused : (f : LineFault) → HasJudged i None → JudgesEvent judge e (Some f) → HasJudged (i + 1) (Some (get_or scene.lines.items i 0, f))
-    judged_refused f now j =
+    judged_refused : (x : Fault) → HasJudged i None → JudgesEvent judge (get_or scene.lines.items i 0) e (Some x) → HasJudged (i + 1) (Some x)
+    judged_refused x now j =
+        let n : ℕ = get_or scene.lines.items i 0 in
         let long : length now.calls ≡ i = zip_long scene.events.items now.calls i within now.of_first in
         record {
           calls = now.calls ++ j.call ∷ [];
           of_first = calls_more now.calls j.call now.of_first j.of_event;
           first = record {
             place = i;
-            refused = subst (λ n. first_refused judge (now.calls ++ j.call ∷ []) ≡ Some n) long (last_passes (λ c. is_some (refusal_by judge c)) now.calls j.call now.first (mapped_some (refusal_by judge j.call) f j.is));
-            number = refl;
-            says = ap (λ o. option_and_then line_fault_for (option_and_then (refusal_by judge) o)) (ap (λ n. slice_get (now.calls ++ j.call ∷ []) n) (sym long) ∙ last_there now.calls j.call) ∙ says-why judge j.call ∙ sym j.is;
+            refused = subst (λ k. first_refused judge (now.calls ++ j.call ∷ []) ≡ Some k) long (last_passes (λ c. is_some (refusal_by judge c)) now.calls j.call now.first (mapped_some n (refusal_by judge j.call) x j.is));
+            says = ap (λ o. option_map (fault_at_call n) (option_and_then (refusal_by judge) o)) (ap (λ k. slice_get (now.calls ++ j.call ∷ []) k) (sym long) ∙ last_there now.calls j.call) ∙ sym j.is;
           };
         }
 
     -- the fault of the first that is refused stays
-    pub judged_more : (refused : Option (ℕ × LineFault)) (fault : Option LineFault) (n : ℕ) → n ≡ get_or scene.lines.items i 0 → HasJudged i refused → JudgesEvent judge e fault →
-        HasJudged (i + 1) (option_or refused (option_map (λ f. (n, f)) fault))
-    judged_more (Some x) fault n line now j = judged_after x fault now j
-    judged_more None None n line now j = judged_accepted None now j
-    judged_more None (Some f) n line now j = subst (λ k. HasJudged (i + 1) (Some (k, f))) (sym line) (judged_refused f now j)
+    pub judged_more : (refused fault : Option Fault) (n : ℕ) → n ≡ get_or scene.lines.items i 0 → HasJudged i refused → JudgesEvent judge n e fault → HasJudged (i + 1) (option_or refused fault)
+    judged_more (Some x) fault n line now j = judged_after x n fault now j
+    judged_more None None n line now j = judged_accepted n now j
+    judged_more None (Some x) n line now j = judged_refused x now (subst (λ k. JudgesEvent judge k e (Some x)) line j)
 
 -- of an error or of none
 is_none_where : (o : Option WriteEventError) → is_some o ≡ false → o ≡ None

@@ -25,35 +25,36 @@ use Rattle.reporter_state.specs.declared.faults.WriteEventError.TheVariants.{Ret
 use Rattle.run_model.specs.declared.call.ReportCall.{ReportCall}
 use Rattle.scene_events.specs.Scenes.{IsCallOf}
 use Rattle.scene_events.specs.declared.scene.event.SceneEvent.{SceneEvent}
+use Rattle.scene_fields.specs.declared.fault.LineFault.TheVariants as line
 use Rattle.scenes.specs.Follow.{BreaksTold, HasToldTo, run_outcome}
 use Rattle.scenes.specs.Judged.{IsSceneAccepted}
-use Rattle.scenes.specs.Reports.{AreCallsOf, Ends, HasFirstCalls, EndsStore, StopsStore, StopsText, configuration_for, fault_for}
+use Rattle.scenes.specs.Reports.{AreCallsOf, Ends, HasFirstCalls, EndsStore, StopsStore, StopsText, configuration_for, fault_at_call}
 use Rattle.scenes.specs.ToldScenes.{scene_told}
 use Rattle.scenes.specs.Unloads.{IsReadyCall, decider_for}
 use Rattle.command_line.specs.declared.fault.Fault.{Fault}
 use Rattle.command_line.specs.declared.fault.Fault.TheVariants.{OutOfMemory, StoreFailed, WriteFailed}
 use Rattle.scenes.specs.declared.scene.Scene.{Scene}
 use Rattle.command_line.specs.declared.words.Options.{Options}
-use Rattle.scenes.proofs.lemmas.Devices.{memory_no_device, memory_no_store, write_no_store}
+use Rattle.scenes.proofs.lemmas.Devices.{line_no_store, memory_no_device, memory_no_store, write_no_store}
 use Rattle.scenes.proofs.lemmas.EventCalls.{behind_there, same_first, zip_both, zip_place}
 use Rattle.scenes.proofs.lemmas.Refusals.{none_refused_at}
 
 -- the errors that the program tells as a fault of one of its devices
-pub store_error : (e : WriteEventError) → fault_for e ≡ StoreFailed → e ≡ StoreIo
-store_error RetriedSuccess is = absurd (write_no_store is)
-store_error OutputNotLoaded is = absurd (write_no_store is)
-store_error Io is = absurd (write_no_store is)
-store_error Memory is = absurd (memory_no_store is)
-store_error Failed is = absurd (write_no_store is)
-store_error StoreIo is = refl
+pub store_error : (k : ℕ) (e : WriteEventError) → fault_at_call k e ≡ StoreFailed → e ≡ StoreIo
+store_error k RetriedSuccess is = absurd (line_no_store k line.RetriedSuccess is)
+store_error k OutputNotLoaded is = absurd (line_no_store k line.OutputNotLoaded is)
+store_error k Io is = absurd (write_no_store is)
+store_error k Memory is = absurd (memory_no_store is)
+store_error k Failed is = absurd (write_no_store is)
+store_error k StoreIo is = refl
 
-pub device_error : {S : Type 0} (m : Meaning S) (a b : S) (t : Text) (e : WriteEventError) → refusal_in e ≡ None → fault_for e ≡ WriteFailed → Stops m a t e b → e ≡ Io
-device_error m a b t RetriedSuccess none is h = absurd (not_refused RetriedSuccess none refl)
-device_error m a b t OutputNotLoaded none is h = absurd (not_refused OutputNotLoaded none refl)
-device_error m a b t Io none is h = refl
-device_error m a b t Memory none is h = absurd (memory_no_device is)
-device_error m a b t Failed none is h = absurd h
-device_error m a b t StoreIo none is h = absurd (write_no_store (sym is))
+pub device_error : {S : Type 0} (m : Meaning S) (a b : S) (t : Text) (k : ℕ) (e : WriteEventError) → refusal_in e ≡ None → fault_at_call k e ≡ WriteFailed → Stops m a t e b → e ≡ Io
+device_error m a b t k RetriedSuccess none is h = absurd (not_refused RetriedSuccess none refl)
+device_error m a b t k OutputNotLoaded none is h = absurd (not_refused OutputNotLoaded none refl)
+device_error m a b t k Io none is h = refl
+device_error m a b t k Memory none is h = absurd (memory_no_device is)
+device_error m a b t k Failed none is h = absurd h
+device_error m a b t k StoreIo none is h = absurd (write_no_store (sym is))
 
 -- at a fault of the store the whole text was accepted, and at one of the device the store is as it was
 pub text_behind : {S : Type 0} (m : Meaning S) (a b : S) (t : Text) (e : WriteEventError) → e ≡ StoreIo → Stops m a t e b → m.accepts a t b
@@ -122,30 +123,30 @@ module _ {S : Type 0} {m : Meaning S} (laws : WriterLaws m) where
   store_joined a b c t u StoreIo p h = laws.goes_on a b c t u _ p h
 
   -- where no call is refused, that is a fault of the program
-  pub told_text : (a c : S) (t : Text) (e : WriteEventError) → refusal_in e ≡ None → Ends m a t e c → StopsText m a t (fault_for e) c
-  told_text a c t RetriedSuccess none h = absurd (not_refused RetriedSuccess none refl)
-  told_text a c t OutputNotLoaded none h = absurd (not_refused OutputNotLoaded none refl)
-  told_text a c t Io none h = h
-  told_text a c t Memory none h = h
-  told_text a c t Failed none h = absurd h
-  told_text a c t StoreIo none h = h
+  pub told_text : (a c : S) (t : Text) (k : ℕ) (e : WriteEventError) → refusal_in e ≡ None → Ends m a t e c → StopsText m a t (fault_at_call k e) c
+  told_text a c t k RetriedSuccess none h = absurd (not_refused RetriedSuccess none refl)
+  told_text a c t k OutputNotLoaded none h = absurd (not_refused OutputNotLoaded none refl)
+  told_text a c t k Io none h = h
+  told_text a c t k Memory none h = h
+  told_text a c t k Failed none h = absurd h
+  told_text a c t k StoreIo none h = h
 
-  pub told_store : (a c : S) (t : Text) (e : WriteEventError) → refusal_in e ≡ None → EndsStore m a t e c → StopsStore m a t (fault_for e) c
-  told_store a c t RetriedSuccess none h = absurd (not_refused RetriedSuccess none refl)
-  told_store a c t OutputNotLoaded none h = absurd (not_refused OutputNotLoaded none refl)
-  told_store a c t Io none h = h
-  told_store a c t Memory none h = h
-  told_store a c t Failed none h = absurd h
-  told_store a c t StoreIo none h = h
+  pub told_store : (a c : S) (t : Text) (k : ℕ) (e : WriteEventError) → refusal_in e ≡ None → EndsStore m a t e c → StopsStore m a t (fault_at_call k e) c
+  told_store a c t k RetriedSuccess none h = absurd (not_refused RetriedSuccess none refl)
+  told_store a c t k OutputNotLoaded none h = absurd (not_refused OutputNotLoaded none refl)
+  told_store a c t k Io none h = h
+  told_store a c t k Memory none h = h
+  told_store a c t k Failed none h = absurd h
+  told_store a c t k StoreIo none h = h
 
   -- what stopped a part of a text stopped the whole
-  pub stops_in : (a b c : S) (t u rest whole : Text) (e : WriteEventError) → whole ≡ (t ++ u) ++ rest → refusal_in e ≡ None → m.accepts a t b → Stops m b u e c → StopsText m a whole (fault_for e) c
-  stops_in a b c t u rest whole e is none p h =
-      subst (λ x. StopsText m a x (fault_for e) c) (sym is) (told_text a c ((t ++ u) ++ rest) e none (ends_longer a c (t ++ u) rest e (ends_joined a b c t u e p h)))
+  pub stops_in : (a b c : S) (t u rest whole : Text) (k : ℕ) (e : WriteEventError) → whole ≡ (t ++ u) ++ rest → refusal_in e ≡ None → m.accepts a t b → Stops m b u e c → StopsText m a whole (fault_at_call k e) c
+  stops_in a b c t u rest whole k e is none p h =
+      subst (λ x. StopsText m a x (fault_at_call k e) c) (sym is) (told_text a c ((t ++ u) ++ rest) k e none (ends_longer a c (t ++ u) rest e (ends_joined a b c t u e p h)))
 
-  pub stores_in : (a b c : S) (t u rest whole : Text) (e : WriteEventError) → whole ≡ (t ++ u) ++ rest → refusal_in e ≡ None → m.accepts a t b → StopsRecord m b u e c → StopsStore m a whole (fault_for e) c
-  stores_in a b c t u rest whole e is none p h =
-      subst (λ x. StopsStore m a x (fault_for e) c) (sym is) (told_store a c ((t ++ u) ++ rest) e none (store_longer a c (t ++ u) rest e (store_joined a b c t u e p h)))
+  pub stores_in : (a b c : S) (t u rest whole : Text) (k : ℕ) (e : WriteEventError) → whole ≡ (t ++ u) ++ rest → refusal_in e ≡ None → m.accepts a t b → StopsRecord m b u e c → StopsStore m a whole (fault_at_call k e) c
+  stores_in a b c t u rest whole k e is none p h =
+      subst (λ x. StopsStore m a x (fault_at_call k e) c) (sym is) (told_store a c ((t ++ u) ++ rest) k e none (store_longer a c (t ++ u) rest e (store_joined a b c t u e p h)))
 
   -- memory was refused behind a beginning
   text_before : (a b : S) (t rest whole : Text) → whole ≡ t ++ rest → m.accepts a t b → StopsText m a whole OutOfMemory b
@@ -285,9 +286,9 @@ module _ (options : Options) (scene : Scene) where
 
       -- a call broke off
       pub broke_reported : (i : ℕ) (now next : DisplayReporter W S) (e : SceneEvent) → i < length scene.events.items → e ≡ get_or scene.events.items i e → (call : ReportCall) → IsReadyCall options decider e call →
-          HasReported m n i old now → (error : WriteEventError) → Breaks m n now (Some call) error next → refusal_in error ≡ refusal config call →
-          BreaksTold m (store_meaning n) options old.writer.now next.writer.now old.store next.store (scene_told scene) (fault_for error)
-      broke_reported i now next e within is call r h error broke refused =
+          HasReported m n i old now → (number : ℕ) (error : WriteEventError) → Breaks m n now (Some call) error next → refusal_in error ≡ refusal config call →
+          BreaksTold m (store_meaning n) options old.writer.now next.writer.now old.store next.store (scene_told scene) (fault_at_call number error)
+      broke_reported i now next e within is call r h number error broke refused =
           let more = others_left i e within is h.left h.of_others in
           let made : List ReportCall = h.made ++ r.made ∷ [] in
           let calls : List ReportCall = made ++ more.0 in
@@ -297,13 +298,13 @@ module _ (options : Options) (scene : Scene) where
           let here : Breaks m n now (Some (ready r.made)) error next = subst (λ c. Breaks m n now (Some c) error next) r.ready broke in
           let b = report_begins made more.0 in
           let k = stored_begins made more.0 in
-          stopped_at calls of_scene (fault_for error) next
-          (stops_in laws old.writer.now now.writer.now next.writer.now (report config (handed h.made)) (text config (handed h.made) (ready r.made)) b.rest _ error
+          stopped_at calls of_scene (fault_at_call number error) next
+          (stops_in laws old.writer.now now.writer.now next.writer.now (report config (handed h.made)) (text config (handed h.made) (ready r.made)) b.rest _ number error
           (b.is ∙ ap (λ past. report config past ++ b.rest) (handed_more h.made r.made)) unrefused (h.tells.accepted config stands) (here.stopped config (handed h.made) (h.tells.stands config stands)))
-          (stores_in (store-laws others) old.store now.store next.store (stored config.store (handed h.made)) (stored_text config.store (ready r.made)) k.rest _ error
+          (stores_in (store-laws others) old.store now.store next.store (stored config.store (handed h.made)) (stored_text config.store (ready r.made)) k.rest _ number error
           (k.is ∙ ap (λ past. stored config.store past ++ k.rest) (handed_more h.made r.made)) unrefused (h.tells.stored config stands) (here.store_stopped config (handed h.made) (h.tells.stands config stands)))
           (λ is.
-          let of_store = store_error error is in
+          let of_store = store_error number error is in
           record {
             later = reverse more.0;
             earlier = reverse made;
@@ -314,7 +315,7 @@ module _ (options : Options) (scene : Scene) where
             delivered = here.delivered of_store;
           })
           (λ is.
-          let of_device = device_error m _ _ _ error unrefused is (here.stopped config (handed h.made) (h.tells.stands config stands)) in
+          let of_device = device_error m _ _ _ number error unrefused is (here.stopped config (handed h.made) (h.tells.stands config stands)) in
           let same = store_behind (store_meaning n) now.store next.store _ error of_device (here.store_stopped config (handed h.made) (h.tells.stands config stands)) in
           record {
             later = reverse more.0 ++ r.made ∷ [];
@@ -354,15 +355,15 @@ module _ (options : Options) (scene : Scene) where
         )
 
         -- and the report could not be ended
-        pub unended : (error : WriteEventError) → Breaks m n now None error next → refusal_in error ≡ None →
-            BreaksTold m (store_meaning n) options old.writer.now next.writer.now old.store next.store (scene_told scene) (fault_for error)
-        unended error broke unrefused = stopped_at h.made of_all (fault_for error) next
-            (stops_in laws old.writer.now now.writer.now next.writer.now (report config (handed h.made)) [] [] _ error (whole ∙ sym (append-nil _) ∙ sym (append-nil _)) unrefused
+        pub unended : (number : ℕ) (error : WriteEventError) → Breaks m n now None error next → refusal_in error ≡ None →
+            BreaksTold m (store_meaning n) options old.writer.now next.writer.now old.store next.store (scene_told scene) (fault_at_call number error)
+        unended number error broke unrefused = stopped_at h.made of_all (fault_at_call number error) next
+            (stops_in laws old.writer.now now.writer.now next.writer.now (report config (handed h.made)) [] [] _ number error (whole ∙ sym (append-nil _) ∙ sym (append-nil _)) unrefused
             (h.tells.accepted config stands) (broke.stopped config (handed h.made) (h.tells.stands config stands)))
-            (stores_in (store-laws others) old.store now.store next.store (stored config.store (handed h.made)) [] [] _ error (whole_stored ∙ sym (append-nil _) ∙ sym (append-nil _)) unrefused
+            (stores_in (store-laws others) old.store now.store next.store (stored config.store (handed h.made)) [] [] _ number error (whole_stored ∙ sym (append-nil _) ∙ sym (append-nil _)) unrefused
             (h.tells.stored config stands) (broke.store_stopped config (handed h.made) (h.tells.stands config stands)))
             (λ is.
-            let of_store = store_error error is in
+            let of_store = store_error number error is in
             record {
               later = [];
               earlier = reverse h.made;
@@ -372,7 +373,7 @@ module _ (options : Options) (scene : Scene) where
               delivered = broke.delivered of_store;
             })
             (λ is.
-            let of_device = device_error m _ _ _ error unrefused is (broke.stopped config (handed h.made) (h.tells.stands config stands)) in
+            let of_device = device_error m _ _ _ number error unrefused is (broke.stopped config (handed h.made) (h.tells.stands config stands)) in
             let same = store_behind (store_meaning n) now.store next.store _ error of_device (broke.store_stopped config (handed h.made) (h.tells.stands config stands)) in
             record {
               later = [];

@@ -1,4 +1,4 @@
--- A run that was spelled and printed (for `judge`, `report_scene`), and one that was not begun (for `report_alone`, `report_both`, `report_to`, `report_and_store_to`).
+-- A run that was spelled and printed (for `judge`, `report_scene`), and one that was not begun (for `report_judged`, `report_to`).
 use Rattle.std.proofs.Common.{◌≡◌, ℕ, List, [], reverse, Option, ◌⊎◌, None, inl, inr, refl, subst, sym}
 use Rattle.std.specs.Prelude.{Result, Ok, Err, IfErr, OnOk}
 use Rattle.std.specs.List.{AllZip}

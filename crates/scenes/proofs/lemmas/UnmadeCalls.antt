@@ -1,5 +1,5 @@
 -- Events whose call need not be made to judge them (for `judge_event`).
-use Rattle.std.proofs.Common.{◌≡◌, Bool, true, false, not, ◌||◌, None, refl, sym, ap, ◌∙◌, inl, inr}
+use Rattle.std.proofs.Common.{◌≡◌, ℕ, Bool, true, false, not, ◌||◌, None, refl, sym, ap, ◌∙◌, inl, inr}
 use Rattle.std.specs.Option.{option_map}
 use Rattle.std.proofs.lemmas.Bool.{cases_Bool, false≢true}
 use Rattle.reporter_state.specs.KeptTests.{lent}
@@ -21,7 +21,8 @@ use Rattle.scene_events.specs.States.{unit_state}
 use Rattle.scene_events.specs.declared.scene.event.SceneEvent.{SceneEvent}
 use Rattle.scene_events.specs.declared.scene.event.SceneEvent.TheVariants as scene
 use Rattle.scene_events.specs.declared.scene.test_events.SceneTest.{SceneTest}
-use Rattle.scenes.specs.Judged.{JudgesEvent, fault_of_refusal}
+use Rattle.scenes.specs.Judged.{JudgesEvent}
+use Rattle.scenes.specs.Reports.{fault_at_call}
 use Rattle.scenes.proofs.lemmas.EventCalls.{lacking, lacking_attempt, refusal_of_call, told_refusal}
 
 not_false : (b : Bool) → not b ≡ false → b ≡ true
@@ -47,14 +48,14 @@ named t = record { binary_id = lent t.binary_id; test_name = lent t.test_name }
 abbrev told_call : SceneEvent → TestEventKind → ReportCall
 told_call event k = call.Event (record { elapsed = record { 0 = told_elapsed event }; kind = k })
 
-judged_by : (d : OutputLoadDecider) (event : SceneEvent) (k : TestEventKind) → SaysSame event k → told_refusal d event ≡ None → JudgesEvent d event None
-judged_by d event k same none =
+judged_by : (d : OutputLoadDecider) (event : SceneEvent) (k : TestEventKind) → SaysSame event k → told_refusal d event ≡ None → (n : ℕ) → JudgesEvent d n event None
+judged_by d event k same none n =
     let of_event : IsCallOf event (told_call event k) = (refl, same) in
-    record { call = told_call event k; of_event = of_event; is = sym (ap (option_map fault_of_refusal) (refusal_of_call d event (told_call event k) of_event ∙ none)) }
+    record { call = told_call event k; of_event = of_event; is = sym (ap (option_map (fault_at_call n)) (refusal_of_call d event (told_call event k) of_event ∙ none)) }
 
 -- an event that needs no judging is refused by no reporter
-pub judged_unmade : (d : OutputLoadDecider) (event : SceneEvent) → needs_judging event ≡ false → JudgesEvent d event None
-judged_unmade d (scene.Prefix p) off = record { call = call.Prefix p; of_event = refl; is = refl }
+pub judged_unmade : (d : OutputLoadDecider) (event : SceneEvent) → needs_judging event ≡ false → (n : ℕ) → JudgesEvent d n event None
+judged_unmade d (scene.Prefix p) off = λ n. record { call = call.Prefix p; of_event = refl; is = refl }
 judged_unmade d (scene.Header h) off = absurd (false≢true (sym off))
 judged_unmade d (scene.RunStarted e) off = judged_by d (scene.RunStarted e) (kind.RunStarted e.test_list e.run_id e.profile_name) (refl, refl, refl) refl
 judged_unmade d (scene.StressSubRunStarted e) off = judged_by d (scene.StressSubRunStarted e) (kind.StressSubRunStarted e.progress) refl refl

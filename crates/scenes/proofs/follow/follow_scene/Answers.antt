@@ -1,20 +1,28 @@
-use Rattle.std.proofs.Common.{◌≡◌, ◌∙◌, Some, ap, refl}
+use Rattle.std.proofs.Common.{◌≡◌, ◌∙◌, None, Some, ap, refl, rules}
+use Rattle.plain_text.specs.StringWriter.{string_meaning}
+use Rattle.plain_text.specs.TextBuffer.{buffer_meaning}
 use Rattle.scenes.specs.Follow.{HasNoEvent}
-use Rattle.scenes.proofs.lemmas.FollowedDevices.{followed_alone, followed_both, left_alone, left_both, nothing_held}
+use Rattle.scenes.proofs.lemmas.FollowedDevices.{followed, keeps_none, keeps_some, left, nothing_held, same_there}
 use Rattle.scenes.proofs.follow.follow_scene.Goals as goal
 
 pub returns-in-Err-clause-err : goal.returns-in-Err-clause-err
 returns-in-Err-clause-err g c = λ text known. nothing_held c.args.options.now text HasNoEvent _ _ _ _ (ap g.W.Write.contents c.in-Err.ensures.err) refl
 
-pub returns-in-None-clause-ok : goal.returns-in-None-clause-ok
-returns-in-None-clause-ok g c = λ text known.
-    followed_alone g.W.Write.contents c.args.options.now c.in-Ok.out c.follow_alone-outcome.new.writer c.in-Ok.ensures.ok.1 text c.args.writer c.into_inner-writer.result.0 c.in-Ok.ensures.ok.0 c.into_inner-writer.ensures.writer
-    c.follow_alone-outcome.result (rw c.in-None.is refl) _ _ refl (λ t. g.R.Read.remaining c.args.reader.now ≡ Some t) _ known c.in-Ok.ensures.ok.1 c.follow_alone-outcome.ensures.ok
+pub returns-in_default-clause-ok : goal.returns-in_default-clause-ok
+returns-in_default-clause-ok g c = λ text known.
+    let out = c.in-Ok.ensures.ok in
+    let made = c.follow_to-lent in
+    followed g.W.Write.contents string_meaning c.args.options.now c.in-Ok.out made.result.1.now out.1 c.args.writer c.into_inner-writer.result.0 out.0 (search rules)
+    None made.result.2 _ _ (keeps_none c.args.options.now string_meaning made.result.2 (search rules) (g.S.Write.contents c.args.store_writer))
+    text (λ t. g.R.Read.remaining c.args.reader.now ≡ Some t) _ _ known out.1 tt made.result.0 made.ensures.ok
 
-pub returns-in-None-clause-err : goal.returns-in-None-clause-err
-returns-in-None-clause-err g c = λ text known.
-    left_alone g.W.Write.contents c.args.options.now c.in-Ok.out c.follow_alone-outcome.new.writer c.in-Ok.ensures.ok.1 text c.args.writer c.into_inner-writer.result.0 c.in-Ok.ensures.ok.0 c.into_inner-writer.ensures.writer
-    c.follow_alone-outcome.result (rw c.in-None.is refl) _ _ refl (λ t. g.R.Read.remaining c.args.reader.now ≡ Some t) _ known c.in-Ok.ensures.ok.1 c.follow_alone-outcome.ensures.err
+pub returns-in_default-clause-err : goal.returns-in_default-clause-err
+returns-in_default-clause-err g c = λ text known.
+    let out = c.in-Ok.ensures.ok in
+    let made = c.follow_to-lent in
+    left g.W.Write.contents string_meaning c.args.options.now c.in-Ok.out made.result.1.now out.1 c.args.writer c.into_inner-writer.result.0 out.0 (search rules)
+    None made.result.2 _ _ (keeps_none c.args.options.now string_meaning made.result.2 (search rules) (g.S.Write.contents c.args.store_writer))
+    text (λ t. g.R.Read.remaining c.args.reader.now ≡ Some t) _ _ known out.1 tt made.result.0 made.ensures.err
 
 pub returns-in-Err-new-clause-err : goal.returns-in-Err-new-clause-err
 returns-in-Err-new-clause-err g c = λ text known.
@@ -22,12 +30,26 @@ returns-in-Err-new-clause-err g c = λ text known.
 
 pub returns-clause-ok : goal.returns-clause-ok
 returns-clause-ok g c = λ text known.
-    followed_both g.W.Write.contents c.args.options.now c.in-Ok.out c.follow_both-outcome.new.writer c.in-Ok.ensures.ok.1 text c.args.writer c.into_inner-writer-2.result.0 c.in-Ok.ensures.ok.0 c.into_inner-writer-2.ensures.writer
-    c.follow_both-outcome.result g.S.Write.contents c.in-Some.store.config (rw c.in-Some.is refl) c.in-Ok-new.records c.follow_both-outcome.new.store_writer c.in-Ok-new.ensures.ok.1 c.args.store_writer c.into_inner-store_writer.result.0 c.in-Ok-new.ensures.ok.0
-    c.into_inner-store_writer.ensures.writer (λ t. g.R.Read.remaining c.args.reader.now ≡ Some t) _ _ known c.in-Ok.ensures.ok.1 c.in-Ok-new.ensures.ok.1 c.follow_both-outcome.ensures.ok
+    let out = c.in-Ok.ensures.ok in
+    let records = c.in-Ok-new.ensures.ok in
+    let store = c.new-store in
+    let made = c.follow_to-lent-2 in
+    let names = same_there store.result c.in-Some-store.store made.result.2 c.in-Some-store.is made.ensures.same_store ∙ ap (λ s. s.writer.ghost_name) store.ensures in
+    let empty = ap (λ s. s.writer.now.pending.items) store.ensures ∙ records.1 in
+    followed g.W.Write.contents (buffer_meaning g.S.Write.contents) c.args.options.now c.in-Ok.out made.result.1.now out.1 c.args.writer c.into_inner-writer-2.result.0 out.0 (search rules) (Some store.result) made.result.2 _ _
+    (keeps_some c.args.options.now g.S.Write.contents store.result c.in-Some-store.store made.result.2 (rw c.in-Some.is refl) empty c.in-Some-store.is
+    c.args.store_writer c.into_inner-store_writer.result.0 (ap (λ s. s.writer.now.writer) store.ensures ∙ records.0) (search rules))
+    text (λ t. g.R.Read.remaining c.args.reader.now ≡ Some t) _ _ known out.1 empty made.result.0 made.ensures.ok
 
 pub returns-clause-err : goal.returns-clause-err
 returns-clause-err g c = λ text known.
-    left_both g.W.Write.contents c.args.options.now c.in-Ok.out c.follow_both-outcome.new.writer c.in-Ok.ensures.ok.1 text c.args.writer c.into_inner-writer-2.result.0 c.in-Ok.ensures.ok.0 c.into_inner-writer-2.ensures.writer
-    c.follow_both-outcome.result g.S.Write.contents c.in-Some.store.config (rw c.in-Some.is refl) c.in-Ok-new.records c.follow_both-outcome.new.store_writer c.in-Ok-new.ensures.ok.1 c.args.store_writer c.into_inner-store_writer.result.0 c.in-Ok-new.ensures.ok.0
-    c.into_inner-store_writer.ensures.writer (λ t. g.R.Read.remaining c.args.reader.now ≡ Some t) _ _ known c.in-Ok.ensures.ok.1 c.in-Ok-new.ensures.ok.1 c.follow_both-outcome.ensures.err
+    let out = c.in-Ok.ensures.ok in
+    let records = c.in-Ok-new.ensures.ok in
+    let store = c.new-store in
+    let made = c.follow_to-lent-2 in
+    let names = same_there store.result c.in-Some-store.store made.result.2 c.in-Some-store.is made.ensures.same_store ∙ ap (λ s. s.writer.ghost_name) store.ensures in
+    let empty = ap (λ s. s.writer.now.pending.items) store.ensures ∙ records.1 in
+    left g.W.Write.contents (buffer_meaning g.S.Write.contents) c.args.options.now c.in-Ok.out made.result.1.now out.1 c.args.writer c.into_inner-writer-2.result.0 out.0 (search rules) (Some store.result) made.result.2 _ _
+    (keeps_some c.args.options.now g.S.Write.contents store.result c.in-Some-store.store made.result.2 (rw c.in-Some.is refl) empty c.in-Some-store.is
+    c.args.store_writer c.into_inner-store_writer.result.0 (ap (λ s. s.writer.now.writer) store.ensures ∙ records.0) (search rules))
+    text (λ t. g.R.Read.remaining c.args.reader.now ≡ Some t) _ _ known out.1 empty made.result.0 made.ensures.err

@@ -25,10 +25,10 @@ pub returns-in-Err-make_call-clause-err : goal.returns-in-Err-make_call-clause-e
 returns-in-Err-make_call-clause-err g c =
     let i = c.loop-place.invariant in
     let decides = c.output_load_decider-decider.ensures.stands (configuration_for c.args.options.now c.args.scene.now.config) _ c.requires.stands in
-    rw (c.fault_of.ensures)
+    rw (c.fault_at_call.ensures)
     (broke_reported c.args.options.now c.args.scene.now g.met.W.WriteStr.laws g.met.S.WriteStr.laws c.args.reporter.now c.requires.accepted c.requires.stands
     c.loop-place.place c.loop-place.reporter c.make_call.new.self c.index.result.now (search rules) c.index.ensures c.in-Ok.call.now
-    (subst (λ d. IsReadyCall c.args.options.now d c.index.result.now c.in-Ok.call.now) decides c.in-Ok.ensures) i.reported c.in-Err-make_call.error c.in-Err-make_call.ensures.err
+    (subst (λ d. IsReadyCall c.args.options.now d c.index.result.now c.in-Ok.call.now) decides c.in-Ok.ensures) i.reported _ c.in-Err-make_call.error c.in-Err-make_call.ensures.err
     (c.in-Err-make_call.ensures.refused (configuration_for c.args.options.now c.args.scene.now.config) (handed c.args.options.now c.args.scene.now c.loop-place.invariant.reported.made) (i.reported.tells.stands (configuration_for c.args.options.now c.args.scene.now.config) c.requires.stands)))
 
 pub returns-clause-ok : goal.returns-clause-ok
@@ -38,6 +38,6 @@ returns-clause-ok g c =
 
 pub returns-in-Err-finish-clause-err : goal.returns-in-Err-finish-clause-err
 returns-in-Err-finish-clause-err g c =
-    rw (c.fault_of-in-Err-finish.ensures)
+    rw (c.fault_at_call-in-Err-finish.ensures)
     (unended c.args.options.now c.args.scene.now g.met.W.WriteStr.laws g.met.S.WriteStr.laws c.args.reporter.now c.requires.accepted c.requires.stands
-    c.loop-place.place (search rules) c.loop-place.reporter c.finish.new.self c.loop-place.invariant.reported c.in-Err-finish.error c.in-Err-finish.ensures.call.err (c.in-Err-finish.ensures.call.unrefused tt))
+    c.loop-place.place (search rules) c.loop-place.reporter c.finish.new.self c.loop-place.invariant.reported _ c.in-Err-finish.error c.in-Err-finish.ensures.call.err (c.in-Err-finish.ensures.call.unrefused tt))
