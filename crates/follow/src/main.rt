@@ -4,42 +4,23 @@
 //! producer that died must not look like a success. What goes wrong is one line on standard error and the status.
 #![tactic(auto)]
 
-use scenes::fault::{Fault, FaultLine, Program};
+use scenes::fault::{Fault, Program};
 use scenes::follow::{RunOutcome, follow_scene};
+use scenes::process::{arguments, tell};
 use scenes::words::{Options, words_or_input};
 use std::fs::File;
-use std::io::{BufReader, Read};
+use std::io::{self, BufReader, Read};
 use std::process::ExitCode;
-use std::{env, io};
 
 fn main(rt: HostRuntime) -> ExitCode {
-    let status = match command_line(&rt) {
+    let status = match arguments(&rt) {
         Ok(mut args) => match run(&rt, &mut args) {
             Ok(outcome) => end(&rt, outcome),
-            Err(fault) => tell(&rt, fault),
+            Err(fault) => tell(&rt, Program::Follow, fault),
         },
-        Err(fault) => tell(&rt, fault),
+        Err(fault) => tell(&rt, Program::Follow, fault),
     };
     ExitCode::from(status)
-}
-
-// The words that follow the program's name.
-fn command_line(rt: &HostRuntime) -> Result<Vec<String>, Fault<'static>> {
-    match env::args(rt) {
-        Ok(args) => args
-            .skip(1)
-            .collect(rt.alloc())
-            .map_err(|_| Fault::OutOfMemory),
-        Err(e) if e.kind() == io::ErrorKind::OutOfMemory => Err(Fault::OutOfMemory),
-        Err(_) => Err(Fault::Usage),
-    }
-}
-
-// Prints the line of a fault, and answers the status to end with.
-fn tell(rt: &HostRuntime, fault: Fault<'_>) -> u8 {
-    let program = Program::Follow;
-    let _ = rt.eprintln(FaultLine { program, fault });
-    fault.status()
 }
 
 // Answers the status of the run. Of a run that did not end it prints a line.

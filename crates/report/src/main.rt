@@ -4,42 +4,24 @@
 //! status, and nothing stands on standard output unless the whole scene was accepted and PATH was made or emptied.
 #![tactic(auto)]
 
-use scenes::fault::{Fault, FaultLine, Program};
+use scenes::fault::{Fault, Program};
+use scenes::process::{arguments, tell};
 use scenes::program::{judge_scene, read_whole, report_judged};
 use scenes::words::words;
 use std::fs::File;
+use std::io;
 use std::mem::ManuallyDrop;
 use std::process::ExitCode;
-use std::{env, io};
 
 fn main(rt: HostRuntime) -> ExitCode {
-    let status = match command_line(&rt) {
+    let status = match arguments(&rt) {
         Ok(args) => match run(&rt, args.as_slice()) {
             Ok(()) => 0,
-            Err(fault) => tell(&rt, fault),
+            Err(fault) => tell(&rt, Program::Report, fault),
         },
-        Err(fault) => tell(&rt, fault),
+        Err(fault) => tell(&rt, Program::Report, fault),
     };
     ExitCode::from(status)
-}
-
-// The words that follow the program's name.
-fn command_line(rt: &HostRuntime) -> Result<Vec<String>, Fault<'static>> {
-    match env::args(rt) {
-        Ok(args) => args
-            .skip(1)
-            .collect(rt.alloc())
-            .map_err(|_| Fault::OutOfMemory),
-        Err(e) if e.kind() == io::ErrorKind::OutOfMemory => Err(Fault::OutOfMemory),
-        Err(_) => Err(Fault::Usage),
-    }
-}
-
-// Prints the line of a fault, and answers the status to end with.
-fn tell(rt: &HostRuntime, fault: Fault<'_>) -> u8 {
-    let program = Program::Report;
-    let _ = rt.eprintln(FaultLine { program, fault });
-    fault.status()
 }
 
 // Runs the program on its words. The file of the records is made or emptied once the scene is accepted, and before a byte is written.

@@ -3,10 +3,11 @@
 //! One module a concern: `scene` is a run that was read and makes the calls of a reporter, `reporter` is what that is built from,
 //! `program` the whole way from a file's bytes to those of its report and its records, and `follow` the same line by line. How a text
 //! tells a run stands in the crate `scene_text`, and the words of a command line, pieces of a file and faults in `command_line`. The
-//! programs `report` and `follow` do the rest: files and the line of a fault.
+//! programs `report` and `follow` do the rest: files, and what `process` has for both.
 #![tactic(auto)]
 
 pub mod follow;
+pub mod process;
 pub mod program;
 pub mod reporter;
 pub mod scene;
