@@ -16,8 +16,8 @@ const SHOWING_SKIPS: Options<'static> = Options {
     ..OPTIONS
 };
 
-// Pushes a text so often.
-fn push_often(to: &mut String, text: &str, count: usize) -> Result<(), AllocError> {
+/// Pushes a text so often.
+pub fn push_often(to: &mut String, text: &str, count: usize) -> Result<(), AllocError> {
     for _ in 0..count {
         to.push_str(text)?;
     }

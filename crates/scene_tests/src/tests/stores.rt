@@ -2,8 +2,8 @@
 //! outputs they need is in `cases/program`.
 
 use super::{
-    ASKED, CANCELLED, DONE, OF_ASKED, OF_CANCELLED, OF_TWO_TESTS, OPTIONS, STORING, TWO_TESTS,
-    report_and_store,
+    ASKED, CANCELLED, DONE, OF_ASKED, OF_CANCELLED, OF_TWO_TESTS, OPTIONS, STORED_OF_TWO_TESTS,
+    STORING, TWO_TESTS, report_and_store,
 };
 use scenes::fault::Fault;
 use scenes::words::Options;
@@ -61,7 +61,7 @@ fn rows() -> [(Run, [usize; 2], [usize; 2]); 5] {
         options: STORING,
         scene: TWO_TESTS,
         whole: OF_TWO_TESTS,
-        records: "5:alpha,2:t1,4:PASS,0:,\n5:alpha,7:mod::t2,4:FAIL,0:,\n",
+        records: STORED_OF_TWO_TESTS,
     };
     let unstored = Run {
         options: OPTIONS,
