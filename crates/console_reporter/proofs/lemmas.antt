@@ -4,7 +4,6 @@ pub mod EntryColourPairs
 pub mod Exactness
 pub mod Independence
 pub mod Isolation
-pub mod Loads
 pub mod OtherOutputs
 pub mod Pasts
 pub mod Promises

@@ -1,4 +1,4 @@
-//! The program `follow`: it reads a scene line by line, and prints nextest's console report of each line before it reads the next.
+//! The program `follow`: it reads the lines of a scene as they come, and prints nextest's console report of each before it reads more.
 //!
 //! Its status is that of the run: 0 for a success, 100 for a failure, 4 where no test ran, and 3 for a run that did not end, since a
 //! producer that died must not look like a success. What goes wrong is one line on standard error and the status.
@@ -9,7 +9,7 @@ use scenes::follow::{RunOutcome, follow_scene};
 use scenes::process::{arguments, tell};
 use scenes::words::{Options, words_or_input};
 use std::fs::File;
-use std::io::{self, BufReader, Read};
+use std::io::{self, Read};
 use std::process::ExitCode;
 
 fn main(rt: HostRuntime) -> ExitCode {
@@ -52,14 +52,11 @@ fn follow<'a, R: Read + Drop>(
     reader: R,
 ) -> Result<RunOutcome, Fault<'a>> {
     let alloc = rt.alloc();
-    let Ok(mut reader) = BufReader::new(alloc, reader) else {
-        return Err(Fault::OutOfMemory);
-    };
     let Some(store) = options.store else {
-        return follow_scene(alloc, options, &mut reader, io::writer(rt), io::sink()).0;
+        return follow_scene(alloc, options, reader, io::writer(rt), io::sink()).0;
     };
     match File::create(rt, store.file) {
-        Ok(records) => follow_scene(alloc, options, &mut reader, io::writer(rt), records).0,
+        Ok(records) => follow_scene(alloc, options, reader, io::writer(rt), records).0,
         Err(error) => Err(Fault::CannotWrite { file: store.file }.by_kind(error.kind())),
     }
 }

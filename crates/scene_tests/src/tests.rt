@@ -1,12 +1,13 @@
 //! The program over scenes and writers in memory.
 
+use self::pieces::push_often;
 use run_model::level::StatusLevel;
 use scenes::fault::{Fault, FaultLine, LineFault, Program, ReadFault};
 use scenes::follow::{RunOutcome, follow_scene};
 use scenes::program::{judge, report_scene, write_report};
 use scenes::words::{Options, StoreOptions, words};
-use std::alloc::Global;
-use std::io::{BufRead, BufReader, ErrorKind, Read, Write};
+use std::alloc::{AllocError, Global};
+use std::io::{ErrorKind, Read, Write};
 use std::test::Fail;
 use std::{io, mem};
 use store_text::config::StoreConfig;
@@ -66,6 +67,9 @@ const OF_TWO_TESTS: &str = "------------
         FAIL [   1.500s] alpha mod::t2
 ";
 
+/// What is stored of it.
+const STORED_OF_TWO_TESTS: &str = "5:alpha,2:t1,4:PASS,0:,\n5:alpha,7:mod::t2,4:FAIL,0:,\n";
+
 /// A run that is cancelled twice.
 const CANCELLED: &str = "cancel\t0\t0\tinterrupt\n\
 cancel\t0\t0\tsignal\n\
@@ -116,11 +120,16 @@ fn report_and_store<R: Read + Drop, W: Write, S: Write>(
     report_scene(alloc, options, reader, writer, store_writer)
 }
 
-// What reporting a scene to this device answers, once it is read and judged: the scene is not dropped, since what drops one is proved
-// in each crate that does.
-fn report_judged_to(alloc: Global, text: &str, device: &mut Device) -> Result<(), Fault<'static>> {
-    let scene = judge(alloc, &OPTIONS, text.as_bytes())?;
-    let outcome = write_report(alloc, &OPTIONS, &scene, device, io::sink());
+// What reporting a scene and its records to these devices answers, once it is read and judged: the scene is not dropped, since what
+// drops one is proved in each crate that does.
+fn report_judged_to(
+    alloc: Global,
+    text: &str,
+    device: &mut Device,
+    store: &mut Device,
+) -> Result<(), Fault<'static>> {
+    let scene = judge(alloc, &STORING, text.as_bytes())?;
+    let outcome = write_report(alloc, &STORING, &scene, device, store);
     mem::forget(scene);
     outcome
 }
@@ -129,16 +138,20 @@ fn report_judged_to(alloc: Global, text: &str, device: &mut Device) -> Result<()
 fn writes_the_report_and_stops_where_the_device_fails(rt: HostRuntime) -> Result<(), Fail> {
     let alloc = rt.alloc();
     // Of the bytes that a device holds which is lent, no clause of `write_report` speaks.
-    let mut roomy = Device::with_room(alloc, 600)?;
-    assert!(rt; report_judged_to(alloc, TWO_TESTS, &mut roomy).is_ok());
+    let (mut roomy, mut store) = (
+        Device::with_room(alloc, 600)?,
+        Device::with_room(alloc, 600)?,
+    );
+    assert!(rt; report_judged_to(alloc, TWO_TESTS, &mut roomy, &mut store).is_ok());
     assert!(rt; roomy.taken() == OF_TWO_TESTS.as_bytes());
-    let mut device = Device::with_room(alloc, 10)?;
-    let Err(fault) = report_judged_to(alloc, TWO_TESTS, &mut device) else {
+    assert!(rt; store.taken() == STORED_OF_TWO_TESTS.as_bytes());
+    let (mut device, mut unstored) = (Device::with_room(alloc, 10)?, Device::with_room(alloc, 10)?);
+    let Err(fault) = report_judged_to(alloc, TWO_TESTS, &mut device, &mut unstored) else {
         return Err(Fail::from("the device failed"));
     };
     assert_eq!(rt; fault.to_string(alloc)?.as_str(), "write failed");
     assert_eq!(rt; fault.status(), 3);
-    assert!(rt; device.taken() == b"----------".as_slice());
+    assert!(rt; device.taken() == b"----------".as_slice() && unstored.taken().is_empty());
     Ok(())
 }
 
@@ -186,25 +199,34 @@ impl Read for Interrupted<'_> {
 }
 
 // Follows a scene. It has no clause, as `report_and_store`.
-fn follow<R: BufRead, W: Write>(
+fn follow<R: Read + Drop, W: Write>(
     alloc: Global,
-    reader: &mut R,
+    reader: R,
     writer: W,
 ) -> (Result<RunOutcome, Fault<'static>>, W) {
     let (outcome, writer, _) = follow_scene(alloc, &OPTIONS, reader, writer, io::sink());
     (outcome, writer)
 }
 
+// So many turns of a loop: more than 16 bits count.
+const MANY: usize = 70_000;
+
+// Two tests, behind a line of so many bytes, and behind so many lines before the first event and after it. No report shows these.
+fn behind_many_lines(alloc: Global) -> Result<String, AllocError> {
+    let (config, run) = TWO_TESTS.split_at("config\tfinal\tfail\n".len());
+    let mut text = String::from_str(alloc, config)?;
+    push_often(&mut text, "#", MANY)?;
+    push_often(&mut text, "\n", MANY)?;
+    text.push_str("skip\t-\ta\tt1")?;
+    push_often(&mut text, "\n", MANY)?;
+    text.push_str(run)?;
+    Ok(text)
+}
+
 #[test]
 fn reads_on_after_an_interrupt(rt: HostRuntime) -> Result<(), Fail> {
     let alloc = rt.alloc();
-    // A run behind 72,000 bytes that no report shows.
-    let (config, run) = TWO_TESTS.split_at("config\tfinal\tfail\n".len());
-    let mut text = String::from_str(alloc, config)?;
-    for _ in 0..6000 {
-        text.push_str("skip\t-\ta\tt1\n")?;
-    }
-    text.push_str(run)?;
+    let text = behind_many_lines(alloc)?;
     let reader = || Interrupted {
         text: text.as_bytes(),
         is_next: false,
@@ -217,8 +239,7 @@ fn reads_on_after_an_interrupt(rt: HostRuntime) -> Result<(), Fail> {
         Vec::new(alloc),
     );
     outcome?;
-    let mut buffered = BufReader::new(alloc, reader())?;
-    let (outcome, followed) = follow(alloc, &mut buffered, Vec::new(alloc));
+    let (outcome, followed) = follow(alloc, reader(), Vec::new(alloc));
     assert!(rt; outcome? == RunOutcome::Failed);
     let report = OF_TWO_TESTS.as_bytes();
     assert!(rt; printed.as_slice() == report && followed.as_slice() == report);

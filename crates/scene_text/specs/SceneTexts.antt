@@ -11,9 +11,7 @@ use Rattle.scene_fields.specs.declared.fault.LineFault.{LineFault}
 use Rattle.scene_fields.specs.declared.fault.LineFault.TheVariants.{NotUtf8, ConfigAfterEvent, WrongNumberOfFields}
 use Rattle.scene_fields.specs.declared.fault.ReadFault.{ReadFault}
 use Rattle.scene_fields.specs.declared.fault.ReadFault.TheVariants as fault
-use Rattle.scene_text.specs.declared.reader.LineSaid.{LineSaid}
-use Rattle.scene_text.specs.declared.reader.LineSaid.TheVariants as said
-use Rattle.scene_text.specs.declared.reader.LinesBefore.{LinesBefore}
+use Rattle.scene_text.specs.declared.reader.LinesRead.{LinesRead}
 use Rattle.scene_events.specs.declared.scene.ToldRun.{ToldRun}
 use Rattle.scene_events.specs.declared.scene.SceneConfig.{SceneConfig}
 use Rattle.scene_events.specs.declared.scene.event.SceneEvent.{SceneEvent}
@@ -34,13 +32,23 @@ abbrev pub is_begun : List SceneEvent → Bool
 is_begun [] = false
 is_begun (e ∷ es) = true
 
--- what a line is read by of what the lines before it tell
+-- what a line is read by of the lines before it: how they say that the run is reported, and whether one of them tells an event
+pub record LinesBefore : Type 0 where
+  pub config : SceneConfig
+  pub is_begun : Bool
+
 abbrev pub lines_before : Told → LinesBefore
 lines_before before = record { config = before.config; is_begun = is_begun before.events }
 
--- what a line says: the configuration that it makes, or its event
+-- what a line says: nothing, how the run is reported, with what the lines before it say of that, or an event
+pub data LineSaid : Type 0 where
+  SaysNothing : LineSaid
+  SaysConfig : SceneConfig → LineSaid
+  SaysEvent : SceneEvent → LineSaid
+
+-- the configuration that a line makes
 abbrev pub says_config : Result (SceneConfig × Place) LineFault → Result LineSaid LineFault
-says_config (Ok x) = Ok (said.Config x.0)
+says_config (Ok x) = Ok (SaysConfig x.0)
 says_config (Err f) = Err f
 
 -- the event that fields tell, wherever they end
@@ -49,7 +57,7 @@ event_told (Ok x) = Ok x.0
 event_told (Err f) = Err f
 
 abbrev pub says_event : Result SceneEvent LineFault → Result LineSaid LineFault
-says_event (Ok e) = Ok (said.Event e)
+says_event (Ok e) = Ok (SaysEvent e)
 says_event (Err f) = Err f
 
 -- a line that configures the run, which may not stand behind an event
@@ -71,26 +79,40 @@ is_passed_over (c ∷ t) = c == 35
 -- what a line says behind others, or what is wrong with it
 unfoldable pub line_said : LinesBefore → List ℕ → Result LineSaid LineFault
 line_said before t =
-    if is_passed_over t then Ok said.Nothing
+    if is_passed_over t then Ok SaysNothing
     else (if is_utf8 t then words_said before (parted 9 t) else Err NotUtf8)
 
 -- what is told once a line has said this
 abbrev pub with_said : Told → LineSaid → Told
-with_said before said.Nothing = before
-with_said before (said.Config config) = record before { config = config }
-with_said before (said.Event e) = record before { events = before.events ++ e ∷ [] }
+with_said before SaysNothing = before
+with_said before (SaysConfig config) = record before { config = config }
+with_said before (SaysEvent e) = record before { events = before.events ++ e ∷ [] }
 
 abbrev pub told_with : Told → Result LineSaid LineFault → Result Told LineFault
 told_with before (Ok s) = Ok (with_said before s)
 told_with before (Err f) = Err f
 
--- what is told after these fields of a line, or what is wrong with them
-abbrev pub words_told : Told → List (List ℕ) → Result Told LineFault
-words_told before words = told_with before (words_said (lines_before before) words)
-
 -- what is told after a line, or what is wrong with it
 unfoldable pub line_told : Told → List ℕ → Result Told LineFault
 line_told before t = told_with before (line_said (lines_before before) t)
+
+-- the same where an event may stand before all that is told
+abbrev pub is_begun_behind : Bool → List SceneEvent → Bool
+is_begun_behind true es = true
+is_begun_behind false es = is_begun es
+
+abbrev pub lines_behind : Bool → Told → LinesBefore
+lines_behind begun before = record { config = before.config; is_begun = is_begun_behind begun before.events }
+
+abbrev pub words_told_behind : Bool → Told → List (List ℕ) → Result Told LineFault
+words_told_behind begun before words = told_with before (words_said (lines_behind begun before) words)
+
+unfoldable pub line_told_behind : Bool → Told → List ℕ → Result Told LineFault
+line_told_behind begun before t = told_with before (line_said (lines_behind begun before) t)
+
+-- what is told behind these events
+abbrev pub told_after : List SceneEvent → Told → Told
+told_after base before = record { config = before.config; events = base ++ before.events }
 
 abbrev pub lines_told_after : (Told → Result Told (ℕ × LineFault)) → ℕ → Result Told LineFault → Result Told (ℕ × LineFault)
 lines_told_after next n (Ok after) = next after
@@ -118,12 +140,6 @@ unfoldable pub event_lines : ℕ → Told → List (List ℕ) → List ℕ
 event_lines n before [] = []
 event_lines n before (t ∷ ts) = lines_from n before (λ after. event_lines (n + 1) after ts) (line_told before t)
 
--- what was returned is what is told, unless memory was refused
-abbrev pub IsAnswer : Result ToldRun ReadFault → Result Told (ℕ × LineFault) → Type 0
-IsAnswer (Ok scene) read = read ≡ Ok (told scene)
-IsAnswer (Err (fault.Line n f)) read = read ≡ Err (n, f)
-IsAnswer (Err fault.OutOfMemory) read = ⊤
-
 -- what was returned is what a line says, or its fault; or memory was refused
 abbrev pub IsSaid : {X : Type 0} → Result X LineError → Result X LineFault → Type 0
 IsSaid (Ok s) read = read ≡ Ok s
@@ -143,15 +159,34 @@ abbrev pub IsFaultHere : ℕ → Result Told LineFault → ReadFault → Type 0
 IsFaultHere n told (fault.Line m f) = (m ≡ n) × (told ≡ Err f)
 IsFaultHere n told fault.OutOfMemory = ⊤
 
--- the fault is that of lines that tell this, or memory was refused
-abbrev pub IsFaultThere : Result Told (ℕ × LineFault) → ReadFault → Type 0
-IsFaultThere read (fault.Line n f) = read ≡ Err (n, f)
-IsFaultThere read fault.OutOfMemory = ⊤
-
 -- each line tells, one after the other
 abbrev pub AllTell : Told → List (List ℕ) → Told → Type 0
 AllTell before [] after = before ≡ after
 AllTell before (t ∷ ts) after = (mid : Told) × (line_told before t ≡ Ok mid) × AllTell mid ts after
+
+-- two runs have the same
+abbrev pub IsSameRun : ToldRun → ToldRun → Type 0
+IsSameRun a b = (told b ≡ told a) × (b.lines.items ≡ a.lines.items)
+
+-- These lines were read, behind whatever events were forgotten: they tell one after the other, and the lines of their events are noted.
+pub record ReadsLines (old new : LinesRead) (lines : List (List ℕ)) : Type 0 where
+  pub tells : (base : List SceneEvent) → is_begun base ≡ old.is_begun → AllTell (told_after base (told old.run)) lines (told_after base (told new.run))
+  pub noted : (base : List SceneEvent) → is_begun base ≡ old.is_begun → new.run.lines.items ≡ old.run.lines.items ++ event_lines old.next (told_after base (told old.run)) lines
+  pub begun : new.is_begun ≡ old.is_begun
+  pub place : new.next ≡ old.next + length lines
+
+-- the first of these lines has the fault, and this number, unless memory was refused
+abbrev pub IsNextFault : ℕ → Told → List (List ℕ) → ReadFault → Type 0
+IsNextFault n before lines (fault.Line m f) = (m ≡ n) × ((t : List ℕ) × (more : List (List ℕ)) × (lines ≡ t ∷ more) × (line_told before t ≡ Err f))
+IsNextFault n before lines fault.OutOfMemory = ⊤
+
+-- the first of these lines were read, and the next has the fault, unless memory was refused
+pub record LeavesLines (old new : LinesRead) (lines : List (List ℕ)) (f : ReadFault) : Type 0 where
+  pub front : List (List ℕ)
+  pub rest : List (List ℕ)
+  pub whole : lines ≡ front ++ rest
+  pub reads : ReadsLines old new front
+  pub wrong : (base : List SceneEvent) → is_begun base ≡ old.is_begun → IsNextFault new.next (told_after base (told new.run)) rest f
 
 -- the lines before the one of this number tell, and that one has the fault
 pub record IsFirstFault (lines : List (List ℕ)) (number : ℕ) (f : LineFault) : Type 0 where
@@ -163,8 +198,3 @@ pub record IsFirstFault (lines : List (List ℕ)) (number : ℕ) (f : LineFault)
   pub before : Told
   pub told_so_far : AllTell nothing_told front before
   pub wrong : line_told before line ≡ Err f
-
--- the fault is the first one of the text, or memory was refused
-abbrev pub IsFaultOf : List ℕ → ReadFault → Type 0
-IsFaultOf text (fault.Line n f) = IsFirstFault (parted 10 text) n f
-IsFaultOf text fault.OutOfMemory = ⊤

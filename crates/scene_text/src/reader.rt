@@ -6,9 +6,9 @@
 //! runs, of the run and of its units' answers have, and the calls of a replay, `moments` when it was, `states` what a unit is
 //! doing, and `outputs` what it wrote.
 
-ghost use Rattle.std.specs.Prelude.{◌≡◌, ◌+◌, ◌++◌, [], length, IfOk, IfErr, OnOk, Ok};
+ghost use Rattle.std.specs.Prelude.{◌≡◌, ◌++◌, [], false, IfErr, OnErr, OnOk, Ok};
 ghost use Rattle.scene_fields.specs.Split.{parted};
-ghost use Rattle.scene_text.specs.SceneTexts.{AllTell, IsAnswer, IsFaultOf, IsFaultHere, IsFaultThere, IsSaid, IsTold, event_lines, fault_at, is_begun, is_passed_over, line_here, line_said, line_told, lines_told, nothing_told, text_told, told, words_said, words_told};
+ghost use Rattle.scene_text.specs.SceneTexts.{IsFaultHere, IsSameRun, IsTold, LeavesLines, ReadsLines, fault_at, is_begun, is_begun_behind, is_passed_over, line_here, line_told_behind, nothing_told, told, words_told_behind};
 
 mod info_lines;
 mod lines;
@@ -33,60 +33,20 @@ pub use scene_fields::split;
 use scene_fields::split::first_line;
 use std::alloc::Global;
 
-/// What a line is read by of the lines before it.
-#[derive(Clone, Copy)]
-pub struct LinesBefore {
-    /// How they say that the run is reported.
-    pub config: SceneConfig,
-    /// Whether one of them tells an event, after which no line configures the run.
-    pub is_begun: bool,
-}
-
-/// What a line says.
-#[derive(Drop)]
-pub enum LineSaid {
-    /// Nothing: it is empty, or begins with `#`.
-    Nothing,
-    /// How the run is reported, with what the lines before it say of that.
-    Config(SceneConfig),
-    /// An event.
-    Event(SceneEvent),
-}
-
-/// Reads a scene. Its lines end in line feeds, which the last may lack; empty lines and lines that begin with `#` are
-/// skipped. The error is that of the first line that is wrong.
+/// What the lines of a scene tell that were read so far. A scene that comes in pieces is read with no more than one of them in memory.
 ///
 /// ```
-/// let scene = read_scene(alloc, b"# a run of no test\nconfig\tfinal\tall\n")?;
-/// assert_eq!(scene.config.final_status_level, FinalStatusLevel::All);
-/// ```
-pub fn read_scene(alloc: Global, text: &[u8]) -> Result<ToldRun, ReadFault>
-    // Each line tells, one after the other, and all of them tell the scene.
-    ensures scene { IfOk result (λ scene. AllTell nothing_told (parted 10 text.now) (told scene)) }
-    // The lines before the fault's tell, and that line has the fault.
-    ensures fault { IfErr result (IsFaultOf text.now) }
-    // The scene knows the lines of its events.
-    ensures lines { IfOk result (λ scene. scene.lines.items ≡ event_lines 1 nothing_told (parted 10 text.now)) }
-    // It is what the text tells, unless memory is refused.
-    ensures answer { IsAnswer result (text_told text.now) }
-{
-    match LinesRead::new(alloc).read_more(alloc, text) {
-        Ok(read) => Ok(read.run),
-        Err(fault) => Err(fault),
-    }
-}
-
-/// The first lines of a scene, which were read: a scene that comes in pieces is read with no more than one of them in memory.
-///
-/// ```
-/// let read = LinesRead::new(alloc).read_more(alloc, b"config\tfinal\tall\n# a comment")?;
+/// let mut read = LinesRead::new(alloc);
+/// read.read_more(alloc, b"config\tfinal\tall\n# a comment")?;
 /// assert_eq!(read.next, 3);
 /// assert_eq!(read.run.config.final_status_level, FinalStatusLevel::All);
 /// ```
 #[derive(Drop)]
 pub struct LinesRead {
-    /// What they tell.
+    /// What they tell, but for the events that were forgotten.
     pub run: ToldRun,
+    /// Whether an event was forgotten. Behind an event no line configures the run.
+    pub is_begun: bool,
     /// The number of the line that follows.
     pub next: u64,
 }
@@ -96,6 +56,7 @@ impl LinesRead {
     pub fn new(alloc: Global) -> LinesRead
         ensures told { told result.run ≡ nothing_told }
         ensures lines { result.run.lines.items ≡ [] }
+        ensures begun { result.is_begun ≡ false }
         ensures next { result.next ≡ 1 }
     {
         LinesRead {
@@ -104,32 +65,50 @@ impl LinesRead {
                 events: Vec::new(alloc),
                 lines: Vec::new(alloc),
             },
+            is_begun: false,
             next: 1,
         }
     }
 
-    /// Reads the lines of a text that follow these. A text that ends in a line feed ends in an empty line: what follows it is another
-    /// line. The error is that of the first line that is wrong.
-    pub fn read_more(self, alloc: Global, text: &[u8]) -> Result<LinesRead, ReadFault>
-        // These lines tell, one after the other, behind those before them.
-        ensures told { IfOk result (λ read. lines_told self.next (told self.run) (parted 10 text.now) ≡ Ok (told read.run)) }
-        ensures lines { IfOk result (λ read. read.run.lines.items ≡ self.run.lines.items ++ event_lines self.next (told self.run) (parted 10 text.now)) }
-        ensures next { IfOk result (λ read. read.next ≡ self.next + length (parted 10 text.now)) }
-        ensures fault { IfErr result (IsFaultThere (lines_told self.next (told self.run) (parted 10 text.now))) }
+    /// Forgets the events that were read. The lines that follow still stand behind them.
+    pub fn forget_events(&mut self)
+        ensures config { self.new.run.config ≡ self.old.run.config }
+        ensures events { self.new.run.events.items ≡ [] }
+        ensures lines { self.new.run.lines.items ≡ [] }
+        ensures begun { self.new.is_begun ≡ is_begun_behind self.old.is_begun self.old.run.events.items }
+        ensures next { self.new.next ≡ self.old.next }
     {
-        let LinesRead { mut run, next } = self;
+        self.is_begun = is_begun_behind(self.is_begun, self.run.events.as_slice());
+        self.run.events.clear();
+        self.run.lines.clear();
+    }
+
+    /// Reads the lines of a text that follow these. A text that ends in a line feed ends in an empty line: what follows it is another
+    /// line. The error is that of the first line that is wrong; the lines before it are read then, and `next` is its number.
+    pub fn read_more(&mut self, alloc: Global, text: &[u8]) -> Result<(), ReadFault>
+        ensures read { OnOk result (ReadsLines self.old self.new (parted 10 text.now)) }
+        ensures left { IfErr result (LeavesLines self.old self.new (parted 10 text.now)) }
+    {
         let mut fields = Vec::new(alloc);
         let mut rest = Some(text);
-        for number in next..u64::MAX {
+        for number in self.next..u64::MAX {
             let left = match rest {
                 Some(left) => left,
-                None => return Ok(LinesRead { run, next: number }),
+                None => return Ok(()),
             };
             let (line, after) = first_line(left);
-            match read_numbered(alloc, number, line, &mut fields, &mut run) {
+            match read_numbered(
+                alloc,
+                number,
+                line,
+                &mut fields,
+                self.is_begun,
+                &mut self.run,
+            ) {
                 Ok(()) => rest = after,
                 Err(fault) => return Err(fault),
             }
+            self.next = number + 1;
         }
         // No text has so many lines.
         Err(ReadFault::OutOfMemory)
@@ -139,44 +118,44 @@ impl LinesRead {
     /// is decoded where it stands.
     ///
     /// ```
-    /// let text = Vec::from_slice(alloc, b"config\tfinal\tall")?;
-    /// let read = LinesRead::new(alloc).read_owned(alloc, text)?;
+    /// let mut read = LinesRead::new(alloc);
+    /// read.read_owned(alloc, Vec::from_slice(alloc, b"config\tfinal\tall")?)?;
     /// assert_eq!(read.run.config.final_status_level, FinalStatusLevel::All);
     /// ```
-    pub fn read_owned(self, alloc: Global, text: Vec<u8>) -> Result<LinesRead, ReadFault>
-        ensures told { IfOk result (λ read. lines_told self.next (told self.run) (parted 10 text.items) ≡ Ok (told read.run)) }
-        ensures lines { IfOk result (λ read. read.run.lines.items ≡ self.run.lines.items ++ event_lines self.next (told self.run) (parted 10 text.items)) }
-        ensures next { IfOk result (λ read. read.next ≡ self.next + length (parted 10 text.items)) }
-        ensures fault { IfErr result (IsFaultThere (lines_told self.next (told self.run) (parted 10 text.items))) }
+    pub fn read_owned(&mut self, alloc: Global, text: Vec<u8>) -> Result<(), ReadFault>
+        ensures read { OnOk result (ReadsLines self.old self.new (parted 10 text.items)) }
+        ensures left { IfErr result (LeavesLines self.old self.new (parted 10 text.items)) }
     {
         if memchr(b'\n', text.as_slice()).is_some() || self.next == u64::MAX {
             return self.read_more(alloc, text.as_slice());
         }
-        let LinesRead { mut run, next } = self;
-        match read_owned_line(alloc, next, text, &mut run) {
-            Ok(()) => Ok(LinesRead {
-                run,
-                next: next + 1,
-            }),
+        let number = self.next;
+        match read_owned_line(alloc, number, text, self.is_begun, &mut self.run) {
+            Ok(()) => {
+                self.next = number + 1;
+                Ok(())
+            }
             Err(fault) => Err(fault),
         }
     }
 }
 
-// Reads the line of this number into the scene, and notes the number where the line tells an event.
+// Reads the line of this number into the run, and notes the number where the line tells an event. The list is for its fields.
 #[inline(always)]
 fn read_numbered<'a>(
     alloc: Global,
     number: u64,
     line: &'a [u8],
     fields: &mut Vec<&'a str>,
-    scene: &mut ToldRun,
+    is_begun: bool,
+    run: &mut ToldRun,
 ) -> Result<(), ReadFault>
-    ensures ok { OnOk result (line_told (told scene.old) line.now ≡ Ok (told scene.new)) }
-    ensures lines { OnOk result (scene.new.lines.items ≡ scene.old.lines.items ++ line_here number (told scene.old) (told scene.new)) }
-    ensures err { IfErr result (IsFaultHere number (line_told (told scene.old) line.now)) }
+    ensures ok { OnOk result (line_told_behind is_begun (told run.old) line.now ≡ Ok (told run.new)) }
+    ensures lines { OnOk result (run.new.lines.items ≡ run.old.lines.items ++ line_here number (told run.old) (told run.new)) }
+    ensures err { IfErr result (IsFaultHere number (line_told_behind is_begun (told run.old) line.now)) }
+    ensures unread { OnErr result (IsSameRun run.old run.new) }
 {
-    match tell_line(alloc, number, line, fields, scene) {
+    match read_line(alloc, number, line, fields, is_begun, run) {
         Ok(()) => Ok(()),
         Err(error) => Err(fault_at(number, error)),
     }
@@ -187,30 +166,34 @@ fn read_owned_line(
     alloc: Global,
     number: u64,
     line: Vec<u8>,
-    scene: &mut ToldRun,
+    is_begun: bool,
+    run: &mut ToldRun,
 ) -> Result<(), ReadFault>
-    ensures ok { OnOk result (line_told (told scene.old) line.items ≡ Ok (told scene.new)) }
-    ensures lines { OnOk result (scene.new.lines.items ≡ scene.old.lines.items ++ line_here number (told scene.old) (told scene.new)) }
-    ensures err { IfErr result (IsFaultHere number (line_told (told scene.old) line.items)) }
+    ensures ok { OnOk result (line_told_behind is_begun (told run.old) line.items ≡ Ok (told run.new)) }
+    ensures lines { OnOk result (run.new.lines.items ≡ run.old.lines.items ++ line_here number (told run.old) (told run.new)) }
+    ensures err { IfErr result (IsFaultHere number (line_told_behind is_begun (told run.old) line.items)) }
+    ensures unread { OnErr result (IsSameRun run.old run.new) }
 {
-    match tell_owned_line(alloc, number, line, scene) {
+    match read_split_line(alloc, number, line, is_begun, run) {
         Ok(()) => Ok(()),
         Err(error) => Err(fault_at(number, error)),
     }
 }
 
-// Reads a line into the scene. The list is for its fields.
+// Reads a line into the run.
 #[inline(always)]
-#[tactic(auto, unfolding(crate::specs::SceneTexts::line_said, crate::specs::SceneTexts::line_told), using(scene_fields::proofs::lemmas::Utf8::utf8_passes, scene_fields::proofs::lemmas::Utf8::utf8_fails))]
-fn tell_line<'a>(
+#[tactic(auto, unfolding(crate::specs::SceneTexts::line_said, crate::specs::SceneTexts::line_told_behind), using(scene_fields::proofs::lemmas::Utf8::utf8_passes, scene_fields::proofs::lemmas::Utf8::utf8_fails))]
+fn read_line<'a>(
     alloc: Global,
     number: u64,
     line: &'a [u8],
     fields: &mut Vec<&'a str>,
-    scene: &mut ToldRun,
+    is_begun: bool,
+    run: &mut ToldRun,
 ) -> Result<(), LineError>
-    ensures told { IsTold result (told scene.new) (line_told (told scene.old) line.now) }
-    ensures lines { OnOk result (scene.new.lines.items ≡ scene.old.lines.items ++ line_here number (told scene.old) (told scene.new)) }
+    ensures told { IsTold result (told run.new) (line_told_behind is_begun (told run.old) line.now) }
+    ensures lines { OnOk result (run.new.lines.items ≡ run.old.lines.items ++ line_here number (told run.old) (told run.new)) }
+    ensures unread { OnErr result (IsSameRun run.old run.new) }
 {
     if is_passed_over(line) {
         return Ok(());
@@ -219,19 +202,21 @@ fn tell_line<'a>(
         return Err(LineError::Fault(LineFault::NotUtf8));
     };
     split_fields(line, fields)?;
-    tell_fields(alloc, number, Fields::new(fields.as_slice()), scene)
+    read_fields(alloc, number, Fields::new(fields.as_slice()), is_begun, run)
 }
 
-// Reads a line that has its own memory into the scene.
-#[tactic(auto, unfolding(crate::specs::SceneTexts::line_said, crate::specs::SceneTexts::line_told))]
-fn tell_owned_line(
+// Reads a line that has its own memory into the run.
+#[tactic(auto, unfolding(crate::specs::SceneTexts::line_said, crate::specs::SceneTexts::line_told_behind))]
+fn read_split_line(
     alloc: Global,
     number: u64,
     line: Vec<u8>,
-    scene: &mut ToldRun,
+    is_begun: bool,
+    run: &mut ToldRun,
 ) -> Result<(), LineError>
-    ensures told { IsTold result (told scene.new) (line_told (told scene.old) line.items) }
-    ensures lines { OnOk result (scene.new.lines.items ≡ scene.old.lines.items ++ line_here number (told scene.old) (told scene.new)) }
+    ensures told { IsTold result (told run.new) (line_told_behind is_begun (told run.old) line.items) }
+    ensures lines { OnOk result (run.new.lines.items ≡ run.old.lines.items ++ line_here number (told run.old) (told run.new)) }
+    ensures unread { OnErr result (IsSameRun run.old run.new) }
 {
     if is_passed_over(line.as_slice()) {
         return Ok(());
@@ -240,49 +225,51 @@ fn tell_owned_line(
         return Err(LineError::Fault(LineFault::NotUtf8));
     };
     let mut fields = line.split_fields(alloc)?;
-    tell_fields(
-        alloc,
-        number,
-        Fields::of_large_line(fields.as_mut_slice()),
-        scene,
-    )
+    let fields = Fields::of_large_line(fields.as_mut_slice());
+    read_fields(alloc, number, fields, is_begun, run)
 }
 
-// Reads the fields of a line into the scene. An event is large, and goes from its reader straight to the list.
+// Reads the fields of a line into the run. An event is large, and goes from its reader straight to the list. What is wrong leaves the run as
+// it was, so the number has its room first.
 #[inline(always)]
 #[tactic(auto, using(std::proofs::lemmas::Bool::Decides::nat_tests))]
-fn tell_fields(
+fn read_fields(
     alloc: Global,
     number: u64,
     fields: Fields<'_>,
-    scene: &mut ToldRun,
+    is_begun: bool,
+    run: &mut ToldRun,
 ) -> Result<(), LineError>
     requires { fields.number ≡ 0 }
-    ensures told { IsTold result (told scene.new) (words_told (told scene.old) fields.entry.left) }
-    ensures lines { OnOk result (scene.new.lines.items ≡ scene.old.lines.items ++ line_here number (told scene.old) (told scene.new)) }
+    ensures told { IsTold result (told run.new) (words_told_behind is_begun (told run.old) fields.entry.left) }
+    ensures lines { OnOk result (run.new.lines.items ≡ run.old.lines.items ++ line_here number (told run.old) (told run.new)) }
+    ensures unread { OnErr result (IsSameRun run.old run.new) }
 {
     let mut fields = fields;
     match fields.take()? {
-        "config" if is_begun(scene.events.as_slice()) => Err(LineError::Fault(
+        "config" if is_begun_behind(is_begun, run.events.as_slice()) => Err(LineError::Fault(
             LineFault::ConfigAfterEvent,
         )),
         "config" => {
-            scene.config = read_config(&mut fields.exactly(2)?, scene.config)?;
+            run.config = read_config(&mut fields.exactly(2)?, run.config)?;
             Ok(())
         }
         word => {
-            scene.events.push(read_event(alloc, word, fields)?)?;
-            scene.lines.push(number)?;
+            if run.lines.reserve(1).is_err() {
+                return Err(LineError::OutOfMemory);
+            }
+            run.events.push(read_event(alloc, word, fields)?)?;
+            run.lines.push(number)?;
             Ok(())
         }
     }
 }
 
-// Whether there is an event among these.
-fn is_begun(events: &[SceneEvent]) -> bool
-    ensures { result ≡ is_begun events.now }
+// Whether an event was forgotten, or is among these.
+fn is_begun_behind(is_begun: bool, events: &[SceneEvent]) -> bool
+    ensures { result ≡ is_begun_behind is_begun events.now }
 {
-    !events.is_empty()
+    is_begun || !events.is_empty()
 }
 
 // The fault of a scene whose line of this number cannot be read.
@@ -295,50 +282,9 @@ fn fault_at(line: u64, error: LineError) -> ReadFault
     }
 }
 
-/// Reads one line, without the line feed that ends it, behind lines that tell this. The error is what is wrong with the line (of a bad
-/// field the number, from 1 for the event's name), or that memory was refused.
-///
-/// ```
-/// use scene_text::scene::SceneConfig;
-/// let before = LinesBefore { config: SceneConfig::new(), is_begun: true };
-/// assert!(matches!(read_line(alloc, b"# no event", before), Ok(LineSaid::Nothing)));
-/// assert!(read_line(alloc, b"config\tfinal\tall", before).is_err()); // it comes too late
-/// ```
-#[tactic(auto, unfolding(crate::specs::SceneTexts::line_said), using(scene_fields::proofs::lemmas::Utf8::utf8_passes, scene_fields::proofs::lemmas::Utf8::utf8_fails))]
-pub fn read_line(alloc: Global, line: &[u8], before: LinesBefore) -> Result<LineSaid, LineError>
-    ensures { IsSaid result (line_said before line.now) }
-{
-    if is_passed_over(line) {
-        return Ok(LineSaid::Nothing);
-    }
-    let Ok(line) = str::from_utf8(line) else {
-        return Err(LineError::Fault(LineFault::NotUtf8));
-    };
-    let mut fields = Vec::new(alloc);
-    split_fields(line, &mut fields)?;
-    read_fields(alloc, Fields::new(fields.as_slice()), before)
-}
-
 // Whether a line is empty, or begins with `#`.
 fn is_passed_over(line: &[u8]) -> bool
     ensures { result ≡ is_passed_over line.now }
 {
     matches!(line, [] | [b'#', ..])
-}
-
-// Reads a line that was split into its fields.
-fn read_fields(
-    alloc: Global,
-    fields: Fields<'_>,
-    before: LinesBefore,
-) -> Result<LineSaid, LineError>
-    requires { fields.number ≡ 0 }
-    ensures { IsSaid result (words_said before fields.entry.left) }
-{
-    let mut fields = fields;
-    match fields.take()? {
-        "config" if before.is_begun => Err(LineError::Fault(LineFault::ConfigAfterEvent)),
-        "config" => Ok(LineSaid::Config(read_config(&mut fields.exactly(2)?, before.config)?)),
-        word => Ok(LineSaid::Event(read_event(alloc, word, fields)?)),
-    }
 }

@@ -1,10 +1,11 @@
 pub mod Devices
 pub mod EventCalls
+pub mod EventLines
 pub mod Followed
 pub mod FollowedDevices
+pub mod FollowedRuns
 pub mod Heads
 pub mod NoConfig
-pub mod Pieces
 pub mod ReadLines
 pub mod Refusals
 pub mod Reports

@@ -1,6 +1,5 @@
 -- A report that keeps up with its lines: what a line does, what stops one, and what the run came to.
-use Rattle.std.specs.Prelude.{◌≡◌, ◌⊎◌, ℕ, ◌+◌, ◌-◌, ◌<◌, ◌^◌, List, [], ◌∷◌, ◌++◌, length, reverse, Bool, true, false, Option, None, Some, Ok, Err, ⊤}
-use Rattle.std.specs.Io.BufRead.{drop_through, take_through}
+use Rattle.std.specs.Prelude.{◌≡◌, ◌⊎◌, ℕ, List, [], ◌∷◌, ◌++◌, get_or, length, reverse, Bool, true, Option, None, Some, Result, Ok, Err}
 use Rattle.std.specs.List.{AllZip}
 use Rattle.std.specs.Option.{option_map}
 use Rattle.plain_text.specs.Writer.{Meaning}
@@ -25,15 +24,14 @@ use Rattle.console_reporter.specs.HeldState.{StandsAfter}
 use Rattle.console_reporter.specs.Stored.{stored}
 use Rattle.console_reporter.specs.Telling.{AreDelivered, Breaks, Tells, TellsRun}
 use Rattle.reporter_state.specs.declared.faults.WriteEventError.{WriteEventError}
-use Rattle.scene_text.specs.SceneTexts.{AllTell, Told, line_said, lines_before, nothing_told, text_told}
+use Rattle.scene_text.specs.SceneTexts.{SaysEvent, Told, is_begun, line_said, lines_before, text_told, told, told_after}
+use Rattle.scene_text.specs.declared.reader.LinesRead.{LinesRead}
 use Rattle.scene_events.specs.Scenes.{IsCallOf}
-use Rattle.scene_fields.specs.Split.{parted}
 use Rattle.scene_fields.specs.declared.fault.LineFault.{LineFault}
-use Rattle.scene_text.specs.declared.reader.LineSaid.{LineSaid}
-use Rattle.scene_text.specs.declared.reader.LineSaid.TheVariants as said
-use Rattle.scene_text.specs.declared.reader.LinesBefore.{LinesBefore}
 use Rattle.scene_events.specs.declared.scene.SceneConfig.{SceneConfig}
+use Rattle.scene_events.specs.declared.scene.ToldRun.{ToldRun}
 use Rattle.scene_events.specs.declared.scene.event.SceneEvent.{SceneEvent}
+use Rattle.scenes.specs.Read.{AtLine, HasRead}
 use Rattle.scenes.specs.Reports.{HasFirstCalls, StopsStore, StopsText, configuration_for, fault_at_call, store_for}
 use Rattle.scenes.specs.SpelledRuns.{PrintsTold}
 use Rattle.scenes.specs.Unloads.{decider_for}
@@ -84,10 +82,6 @@ status_of_outcome outcome.Success = 0
 status_of_outcome outcome.NoTestsRun = 4
 status_of_outcome outcome.Failed = 100
 
--- what a line is read by that stands behind an event
-abbrev pub behind : SceneConfig → LinesBefore
-behind config = record { config = config; is_begun = true }
-
 module _ {W S : Type 0} (m : Meaning W) (n : Meaning S) where
   -- An event was told: its call is none that is refused, and was made; it decides what the run has come to.
   pub record TellsEvent (event : SceneEvent) (old new : Follower W S) : Type 0 where
@@ -96,18 +90,6 @@ module _ {W S : Type 0} (m : Meaning W) (n : Meaning S) where
     pub tells : Tells m n old.reporter (Some call) new.reporter
     pub accepted : (config : Configuration) (past : List ReportCall) → StandsAfter config past old.reporter → refusal config call ≡ None
     pub outcome : new.outcome ≡ outcome_after old.outcome call
-
-  -- what a line does that says this
-  abbrev pub TellsSaid : LineSaid → Follower W S → Follower W S → Type 0
-  TellsSaid said.Nothing old new = new ≡ old
-  TellsSaid (said.Config config) old new = ⊥
-  TellsSaid (said.Event e) old new = TellsEvent e old new
-
-  -- a line was told: it has no fault, and its event was told, if it says one
-  pub record TellsLine (t : List ℕ) (old new : Follower W S) : Type 0 where
-    pub said : LineSaid
-    pub says : line_said (behind old.config) t ≡ Ok said
-    pub tells : TellsSaid said old new
 
   -- the event's call is refused, and this is why
   pub record RefusesEvent (event : SceneEvent) (f : LineFault) (old : Follower W S) : Type 0 where
@@ -136,51 +118,10 @@ module _ {W S : Type 0} (m : Meaning W) (n : Meaning S) where
   LeavesEvent k event fault.StoreFailed old new = BreaksEvent event fault.StoreFailed old new
   LeavesEvent k event fault.OutOfMemory old new = (new ≡ old) ⊎ BreaksEvent event fault.OutOfMemory old new
 
-  -- a line says an event that was not told
-  pub record LeavesSaid (k : ℕ) (t : List ℕ) (fault : Fault) (old new : Follower W S) : Type 0 where
-    pub event : SceneEvent
-    pub says : line_said (behind old.config) t ≡ Ok (said.Event event)
-    pub leaves : LeavesEvent k event fault old new
-
-  -- the same of the line of this number: it has this fault of its own and nothing was done, or says an event that was not told; or memory
-  -- was refused before anything was done
-  abbrev pub LeavesLine : ℕ → List ℕ → Fault → Follower W S → Follower W S → Type 0
-  LeavesLine k t fault.Usage old new = ⊥
-  LeavesLine k t (fault.CannotRead file) old new = ⊥
-  LeavesLine k t (fault.CannotWrite file) old new = ⊥
-  LeavesLine k t (fault.Line j f) old new = ((j ≡ k) × (new ≡ old) × (line_said (behind old.config) t ≡ Err f)) ⊎ LeavesSaid k t (fault.Line j f) old new
-  LeavesLine k t fault.WriteFailed old new = LeavesSaid k t fault.WriteFailed old new
-  LeavesLine k t fault.StoreFailed old new = LeavesSaid k t fault.StoreFailed old new
-  LeavesLine k t fault.OutOfMemory old new = (new ≡ old) ⊎ LeavesSaid k t fault.OutOfMemory old new
-
--- what was read of a reader: no line, where it had nothing left, or a line with what ends it
-abbrev pub IsNextLine : List ℕ → Bool → List ℕ → Option (List ℕ) → Type 0
-IsNextLine text false buffer rest = text ≡ []
-IsNextLine text true buffer rest = (0 < length buffer) × (buffer ≡ take_through 10 text) × (rest ≡ Some (drop_through 10 text))
-
--- lines that are left of a text: its pieces, or none where it ended with the line before
-abbrev pub AreLeft : List (List ℕ) → List ℕ → Type 0
-AreLeft lines text = (lines ≡ parted 10 text) ⊎ ((lines ≡ []) × (text ≡ []))
-
--- a text's first lines tell this, and these lines follow, of which the first has this number
-pub record AtLine (text : List ℕ) (run : Told) (lines : List (List ℕ)) (number : ℕ) : Type 0 where
-  pub front : List (List ℕ)
-  pub whole : parted 10 text ≡ front ++ lines
-  pub place : number ≡ length front + 1
-  pub tells : AllTell nothing_told front run
-
--- the same of a reader that has the lines that follow
-pub record IsReadTo (text : List ℕ) (run : Told) (number : ℕ) (remaining : Option (List ℕ)) : Type 0 where
-  pub lines : List (List ℕ)
-  pub at : AtLine text run lines number
-  pub rest : List ℕ
-  pub remains : remaining ≡ Some rest
-  pub left : AreLeft lines rest
-
 -- a line behind these says an event whose call is refused, and this is why
 pub record IsRefusedEvent (options : Options) (run : Told) (t : List ℕ) (f : LineFault) : Type 0 where
   pub event : SceneEvent
-  pub says : line_said (lines_before run) t ≡ Ok (said.Event event)
+  pub says : line_said (lines_before run) t ≡ Ok (SaysEvent event)
   pub call : ReportCall
   pub of_event : IsCallOf event call
   pub refused : (n : ℕ) → option_map (fault_at_call n) (refusal_by (decider_for options run.config) call) ≡ Some (fault.Line n f)
@@ -247,9 +188,9 @@ module _ {W T : Type 0} (m : Meaning W) (k : Meaning T) (options : Options) wher
     pub whole_records : f ≡ fault.WriteFailed → HasFirstCalls k (stored (store_for options)) past store_old store_new
 
 module _ {W S : Type 0} (m : Meaning W) (n : Meaning S) (options : Options) where
-  -- a follower that has told nothing yet
-  pub record IsStart (start : Follower W S) : Type 0 where
-    pub stands : StandsAfter (configuration_for options start.config) [] start.reporter
+  -- a follower of a run that is reported so, which has told nothing yet
+  pub record IsStart (config : SceneConfig) (start : Follower W S) : Type 0 where
+    pub stands : StandsAfter (configuration_for options config) [] start.reporter
     pub delivered : AreDelivered m n start.reporter
     pub outcome : start.outcome ≡ outcome.NotEnded
 
@@ -257,18 +198,30 @@ module _ {W S : Type 0} (m : Meaning W) (n : Meaning S) (options : Options) wher
   pub record Follows (start now : Follower W S) (run : Told) : Type 0 where
     pub past : List ReportCall
     pub of_run : AllZip IsCallOf run.events (reverse past)
-    pub begun : lines_before run ≡ behind now.config
     pub stands : StandsAfter (configuration_for options run.config) [] start.reporter
     pub tells : TellsRun m n start.reporter past now.reporter
     pub accepted : first_refused (decider_for options run.config) (reverse past) ≡ None
     pub delivered : AreDelivered m n now.reporter
     pub outcome : now.outcome ≡ run_outcome past
 
-  -- the same, and a reader stands behind the lines of a text that tell it
-  pub record KeepsUp (text : List ℕ) (start now : Follower W S) (number : ℕ) (remaining : Option (List ℕ)) : Type 0 where
+  -- the first of these events were told, and the next was not
+  pub record StopsAtEvent (run : ToldRun) (base : List SceneEvent) (fault : Fault) (start new : Follower W S) : Type 0 where
+    pub front : List SceneEvent
+    pub event : SceneEvent
+    pub rest : List SceneEvent
+    pub whole : run.events.items ≡ front ++ event ∷ rest
+    pub now : Follower W S
+    pub follows : Follows start now (record { config = run.config; events = base ++ front })
+    pub leaves : LeavesEvent m n (get_or run.lines.items (length front) 0) event fault now new
+
+  -- it has told all that was read of a text so far, and an event is among that
+  pub record KeepsUp (text : List ℕ) (start now : Follower W S) (read : LinesRead) (more : Result Bool Fault) (remaining : Option (List ℕ)) : Type 0 where
+    pub front : List (List ℕ)
     pub run : Told
-    pub read : IsReadTo text run number remaining
+    pub has : HasRead options.file.now text front run read more remaining
     pub follows : Follows start now run
+    pub all : run ≡ told_after run.events (told read.run)
+    pub begun : is_begun run.events ≡ true
 
   -- what a follower has told, by its two writers
   abbrev pub HasTold : Follower W S → Follower W S → Told → Type 0
@@ -279,34 +232,6 @@ module _ {W S : Type 0} (m : Meaning W) (n : Meaning S) (options : Options) wher
   abbrev pub BreaksOff : Follower W S → Follower W S → Told → Fault → Type 0
   BreaksOff start now run fault =
       BreaksTold m (store_meaning n) options start.reporter.writer.now now.reporter.writer.now start.reporter.store now.reporter.store run fault
-
--- lines tell no event
-abbrev pub HasNoEvent : Told → Type 0
-HasNoEvent run = run.events ≡ []
-
--- and memory was refused behind them
-abbrev pub IsRefusedMemory : Told → Fault → Type 0
-IsRefusedMemory run f = HasNoEvent run × (f ≡ fault.OutOfMemory)
-
--- the first event stands in the line of this number, behind lines that make this configuration
-pub record IsFirstEvent (text : List ℕ) (config : SceneConfig) (number : ℕ) (event : SceneEvent) (remaining : Option (List ℕ)) : Type 0 where
-  pub t : List ℕ
-  pub more : List (List ℕ)
-  pub at : AtLine text (record { config = config; events = [] }) (t ∷ more) number
-  pub says : line_said (record { config = config; is_begun = false }) t ≡ Ok (said.Event event)
-  pub rest : List ℕ
-  pub remains : remaining ≡ Some rest
-  pub left : AreLeft more rest
-
--- the lines before the first event make this configuration, and the text ends with them, or that event follows
-abbrev pub HasFirst : List ℕ → SceneConfig → Option (ℕ × SceneEvent) → Option (List ℕ) → Type 0
-HasFirst text config None remaining = text_told text ≡ Ok (record { config = config; events = [] })
-HasFirst text config (Some x) remaining = IsFirstEvent text config x.0 x.1 remaining
-
--- the first event stands in a line that is not the last that can be counted
-abbrev pub IsCountable : Option (ℕ × SceneEvent) → Type 0
-IsCountable None = ⊤
-IsCountable (Some x) = x.0 < 2 ^ 64 - 1
 
 -- the bytes grew by the report of the run that the text tells, and the outcome is that of its calls
 pub record PrintsFollowed (options : Options) (come_to : RunOutcome) (old new store_old store_new : Option (List ℕ)) (run : Told) : Type 0 where

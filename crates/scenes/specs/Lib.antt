@@ -1,5 +1,6 @@
 pub mod Follow
 pub mod Judged
+pub mod Read
 pub mod Reports
 pub mod SpelledRuns
 pub mod ToldScenes

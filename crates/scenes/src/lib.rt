@@ -9,6 +9,7 @@
 pub mod follow;
 pub mod process;
 pub mod program;
+mod read;
 pub mod reporter;
 pub mod scene;
 

@@ -3,7 +3,7 @@
 //! A scene is read, then judged, and then reported. Judging has no device in its hands, and a report takes what judging gives, so no byte
 //! comes out before a scene is judged, and none of a scene that is refused.
 
-ghost use Rattle.std.specs.Prelude.{◌≡◌, ◌⊎◌, ◌+◌, ◌++◌, ℕ, List, [], length, Option, None, Some, Ok, IfOk, IfErr, OnOk};
+ghost use Rattle.std.specs.Prelude.{◌≡◌, ◌⊎◌, ℕ, List, [], Option, None, Some, IfOk, IfErr, OnOk};
 ghost use Rattle.command_line.specs.declared.fault.Fault.{Fault};
 ghost use Rattle.scene_fields.specs.Split.{parted};
 ghost use Rattle.command_line.specs.Faults.{IsJudgeFault};
@@ -13,30 +13,25 @@ ghost use Rattle.console_reporter.specs.Telling.{AreDelivered, IsSameReporter};
 ghost use Rattle.scenes.specs.Follow.{BreaksTold, HasToldTo};
 ghost use Rattle.scenes.specs.Judged.{IsJudged, IsJudgedFault, IsSceneAccepted, IsSceneRefused, JudgesEvent};
 ghost use Rattle.scenes.specs.Reports.{configuration_for, store_for};
-ghost use Rattle.scene_text.specs.SceneTexts.{AllTell, IsFaultThere, event_lines, lines_told, nothing_told, text_told, told};
+ghost use Rattle.scene_text.specs.SceneTexts.{AllTell, event_lines, nothing_told, text_told};
 ghost use Rattle.scenes.specs.SpelledRuns.{BeginsReport, BeginsRun, IsRejected, PrintsReport, PrintsRun};
 ghost use Rattle.scene_events.specs.Scenes.{IsCallOf};
 ghost use Rattle.scenes.specs.Unloads.{IsReadyCall};
 ghost use Rattle.scenes.specs.ToldScenes.{IsReadFault, IsSceneRead, scene_told};
 
+use crate::read::{BYTES_AT_ONCE, read_next};
 use crate::reporter::{builder_of, decider_of, fault_at_call, surroundings_of};
 use crate::scene::Scene;
 use crate::scene::event::SceneEvent;
 use command_line::fault::Fault;
-use command_line::pieces::next_piece;
 use command_line::words::Options;
 use console_reporter::imp::{DisplayReporter, OutputLoadDecider, ReportCall, Store, give_back};
 use console_reporter::write_str::{TextBuffer, WriteStr};
 use run_model::memory::OutOfMemory;
-use scene_text::fault::ReadFault;
-use scene_text::reader::{LARGE, LinesRead};
+use scene_text::reader::LinesRead;
 use std::alloc::{AllocError, Global};
 use std::io::{BufReader, Read, Write};
 use std::marker::Model;
-use std::mem;
-
-// How many bytes are read of a file at once.
-const BYTES_AT_ONCE: usize = 16_384;
 
 /// A scene that was judged: its reporter refuses no call of it.
 #[derive(Drop)]
@@ -98,7 +93,7 @@ pub fn read_whole<'a, R: Read + Drop>(
     let mut piece = Vec::new(alloc);
     let mut read = LinesRead::new(alloc);
     for _turn in 0..u64::MAX {
-        match next_piece(options.file, &mut buffered, &mut piece) {
+        match read_next(alloc, options.file, &mut buffered, &mut piece, &mut read) {
             Ok(true) => {}
             Ok(false) => {
                 return Ok(Scene {
@@ -109,25 +104,8 @@ pub fn read_whole<'a, R: Read + Drop>(
             }
             Err(fault) => return Err(fault),
         }
-        read = match read_piece(alloc, read, &mut piece) {
-            Ok(more) => more,
-            Err(fault) => return Err(Fault::from(fault)),
-        };
     }
     Err(Fault::CannotRead { file: options.file })
-}
-
-// Reads the lines of a piece. A large one is a line by itself, which gives up its memory to the output that it holds.
-fn read_piece(alloc: Global, read: LinesRead, piece: &mut Vec<u8>) -> Result<LinesRead, ReadFault>
-    ensures told { IfOk result (λ more. lines_told read.next (told read.run) (parted 10 piece.old.items) ≡ Ok (told more.run)) }
-    ensures lines { IfOk result (λ more. more.run.lines.items ≡ read.run.lines.items ++ event_lines read.next (told read.run) (parted 10 piece.old.items)) }
-    ensures next { IfOk result (λ more. more.next ≡ read.next + length (parted 10 piece.old.items)) }
-    ensures fault { IfErr result (IsFaultThere (lines_told read.next (told read.run) (parted 10 piece.old.items))) }
-{
-    if piece.len() < LARGE {
-        return read.read_more(alloc, piece.as_slice());
-    }
-    read.read_owned(alloc, mem::replace(piece, Vec::new(alloc)))
 }
 
 /// Checks that the reporter refuses no event of a scene. Only what was checked can be reported.
@@ -189,8 +167,8 @@ fn judge_event<'a>(
     }
 }
 
-// Makes the call of an event in a buffer, in place of what stood there: calls are large, and nothing is allocated for each.
-fn call_in<'r, 'a>(
+/// Makes the call of an event in a buffer, in place of what stood there: calls are large, and nothing is allocated for each.
+pub(crate) fn call_in<'r, 'a>(
     alloc: Global,
     event: &'a SceneEvent,
     buffer: &'r mut Vec<ReportCall<'a>>,

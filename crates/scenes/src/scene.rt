@@ -1,6 +1,6 @@
 //! A run as a scene holds it, and the calls that it makes of its reporter.
 
-ghost use Rattle.std.specs.Prelude.{◌≡◌, IfOk, IfErr};
+ghost use Rattle.std.specs.Prelude.{◌≡◌, IfOk, IfErr, get_or};
 ghost use Rattle.scenes.specs.Unloads.{AreReadyCallsOf};
 
 use crate::reporter::decider_of;
@@ -26,16 +26,11 @@ pub struct Scene {
 }
 
 impl Scene {
-    ghost use Rattle.std.specs.Prelude.{get_or};
-
     /// The line of the event at this place, from 1; 0 where there is no such event.
     pub fn line_of(&self, place: usize) -> u64
         ensures { result ≡ get_or self.now.lines.items place 0 }
     {
-        match self.lines.get(place) {
-            Some(line) => *line,
-            None => 0,
-        }
+        line_at(self.lines.as_slice(), place)
     }
 
     /// The calls that the scene makes of a reporter, in order. They borrow its names. Where the options ask for it, the output
@@ -56,5 +51,15 @@ impl Scene {
         let decider = decider_of(alloc, options, &self.config)?;
         unload_skipped(&decider, calls.as_mut_slice());
         Ok(calls)
+    }
+}
+
+// The line at this place, or 0.
+pub(crate) fn line_at(lines: &[u64], place: usize) -> u64
+    ensures { result ≡ get_or lines.now place 0 }
+{
+    match lines.get(place) {
+        Some(line) => *line,
+        None => 0,
     }
 }

@@ -1,7 +1,7 @@
 //! The calls of a reporter.
 
-ghost use Rattle.std.specs.Prelude.{◌≡◌, ◌⊎◌, List, [], ◌∷◌, OnOk, OnErr, IfErr, IsErrOf, None, Some, nat_lt, reverse, take, true, false};
-ghost use Rattle.std.specs.Option.{is_some, option_map};
+ghost use Rattle.std.specs.Prelude.{◌≡◌, ◌⊎◌, List, [], ◌∷◌, OnOk, IfErr, IsErrOf, None, Some, nat_lt, reverse, take, true, false};
+ghost use Rattle.std.specs.Option.{option_map};
 ghost use Rattle.run_names.specs.Levels.{reason_rank};
 ghost use Rattle.plain_text.specs.Writer.{Puts, one_further};
 ghost use Rattle.run_text.specs.Header.{replay_header_text};
@@ -15,7 +15,7 @@ ghost use Rattle.reporter_state.specs.Loads.{lacks_output};
 ghost use Rattle.reporter_state.specs.Entries.{hiding_rank};
 ghost use Rattle.console_reporter.specs.Exactness.{IsExact};
 ghost use Rattle.reporter_state.specs.Refusals.{refusal_in};
-ghost use Rattle.console_reporter.specs.Outcomes.{IsOfConsole, Stops, IsOfLines, answered_refusal, error_for, store_error_for};
+ghost use Rattle.console_reporter.specs.Outcomes.{IsOfConsole, Stops, error_for, store_error_for};
 ghost use Rattle.console_reporter.specs.Report.{end_of_run_text, event_text, finished_text, listed_text, text, report};
 ghost use Rattle.console_reporter.specs.Slots.{config_of, store_accepts, store_delivered, store_may_refuse, store_meaning};
 ghost use Rattle.console_reporter.specs.Stored.{record_of, stored};

@@ -1,6 +1,6 @@
 //! A store: the second writer of a reporter, which takes a record of each finished test.
 
-ghost use Rattle.std.specs.Prelude.{◌≡◌, [], None, OnOk, Some};
+ghost use Rattle.std.specs.Prelude.{◌≡◌, OnOk, Some};
 ghost use Rattle.plain_text.specs.Writer.{Puts};
 ghost use Rattle.console_reporter.specs.Stored.{record_of};
 

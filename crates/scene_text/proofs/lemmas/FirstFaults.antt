@@ -1,11 +1,8 @@
--- The first fault is the one that is told (for `read_scene`).
-use Rattle.std.proofs.Common.{◌≡◌, ℕ, ◌+◌, List, [], ◌∷◌, ◌++◌, Result, Ok, Err, IfOk, IfErr, length, refl, sym, ap, ◌∙◌, arith, inl, inr, ◌⊎◌}
+-- The first fault of lines is the one that they tell (for the program, which reads them).
+use Rattle.std.proofs.Common.{◌≡◌, ℕ, ◌+◌, List, [], ◌∷◌, ◌++◌, Result, Ok, Err, length, refl, sym, ap, ◌∙◌, arith, inl, inr, ◌⊎◌}
 use Rattle.scene_fields.specs.Split.{parted}
-use Rattle.scene_text.specs.SceneTexts.{Told, told, nothing_told, line_told, lines_told, text_told, AllTell, IsFaultOf, IsFaultThere, IsAnswer}
+use Rattle.scene_text.specs.SceneTexts.{AllTell, IsFirstFault, Told, line_told, lines_told, nothing_told, text_told}
 use Rattle.scene_fields.specs.declared.fault.LineFault.{LineFault}
-use Rattle.scene_fields.specs.declared.fault.ReadFault.{ReadFault}
-use Rattle.scene_fields.specs.declared.fault.ReadFault.TheVariants as fault
-use Rattle.scene_events.specs.declared.scene.ToldRun.{ToldRun}
 
 -- either a line tells, or it is wrong
 line_cases : (r : Result Told LineFault) → ((mid : Told) × (r ≡ Ok mid)) ⊎ ((f : LineFault) × (r ≡ Err f))
@@ -37,7 +34,7 @@ same_fault : (m n : ℕ) (g f : LineFault) → is_wrong m g ≡ is_wrong n f →
 same_fault m n g f p = let e : (m, g) ≡ (n, f) = same_wrong (m, g) (n, f) p in (ap (λ x. x.0) e, ap (λ x. x.1) e)
 
 -- lines that tell, tell one after the other
-all_tell : (n : ℕ) (before : Told) (ts : List (List ℕ)) (after : Told) → lines_told n before ts ≡ Ok after → AllTell before ts after
+pub all_tell : (n : ℕ) (before : Told) (ts : List (List ℕ)) (after : Told) → lines_told n before ts ≡ Ok after → AllTell before ts after
 unfolding lines_told
 all_tell n before [] after h = same_told before after h
 all_tell n before (t ∷ ts) after h = elim (line_cases (line_told before t)) [
@@ -68,18 +65,8 @@ first_fault first before (t ∷ ts) n f h = elim (line_cases (line_told before t
       record { front = []; line = t; rest = ts; whole = refl; place = omega (arith, s.0); last = before; told_so_far = refl; wrong = x.1 ∙ ap (λ g. Err g) s.1 }
 ]
 
-pub tells_scene : (r : Result ToldRun ReadFault) (text : List ℕ) → IsAnswer r (text_told text) → IfOk r (λ scene. AllTell nothing_told (parted 10 text) (told scene))
-tells_scene (Ok scene) text h = all_tell 1 nothing_told (parted 10 text) (told scene) h
-tells_scene (Err e) text h = tt
-
-pub tells_fault : (r : Result ToldRun ReadFault) (text : List ℕ) → IsAnswer r (text_told text) → IfErr r (IsFaultOf text)
-tells_fault (Ok scene) text h = tt
-tells_fault (Err fault.OutOfMemory) text h = tt
-tells_fault (Err (fault.Line n f)) text h =
+-- the first fault of a text
+pub text_fault : (text : List ℕ) (n : ℕ) (f : LineFault) → text_told text ≡ Err (n, f) → IsFirstFault (parted 10 text) n f
+text_fault text n f h =
     let r = first_fault 1 nothing_told (parted 10 text) n f h in
     record { front = r.front; line = r.line; rest = r.rest; whole = r.whole; place = r.place; before = r.last; told_so_far = r.told_so_far; wrong = r.wrong }
-
--- the same of the fault that lines have
-pub fault_tells : (text : List ℕ) (f : ReadFault) → IsFaultThere (text_told text) f → IsFaultOf text f
-fault_tells text (fault.Line n f) h = tells_fault (Err (fault.Line n f)) text h
-fault_tells text fault.OutOfMemory h = tt

@@ -1,5 +1,5 @@
--- A follower tells one event more, or leaves one (for `follow_first`, `follow_rest`, `tell_line`).
-use Rattle.std.proofs.Common.{◌≡◌, ℕ, ◌+◌, true, List, [], ◌∷◌, ◌++◌, None, Some, Ok, Err, reverse, refl, sym, ap, ◌∙◌, subst, append-nil, inl, inr}
+-- A follower tells one event more, or leaves one (for `tell_event`, `tell_run`, `tell_read`, `follow_lines`).
+use Rattle.std.proofs.Common.{◌≡◌, ℕ, ◌+◌, true, List, [], ◌∷◌, ◌++◌, Option, None, Some, Result, Ok, Err, reverse, refl, sym, ap, ◌∙◌, subst, append-nil, inl, inr}
 use Rattle.std.specs.List.{AllZip}
 use Rattle.std.specs.Option.{is_some, option_map}
 use Rattle.std.proofs.lemmas.List.{reverse-append}
@@ -18,15 +18,16 @@ use Rattle.console_reporter.specs.declared.imp.reporter.DisplayReporter.{Display
 use Rattle.reporter_state.specs.declared.faults.WriteEventError.{WriteEventError}
 use Rattle.reporter_state.specs.declared.faults.WriteEventError.TheVariants.{RetriedSuccess, OutputNotLoaded, Io, Memory, Failed, StoreIo}
 use Rattle.console_reporter.proofs.lemmas.Stores.{store-laws}
-use Rattle.scene_text.specs.SceneTexts.{Told, is_begun, line_said, line_told, lines_before, with_said}
+use Rattle.scene_text.specs.SceneTexts.{IsNextFault, LineSaid, SaysEvent, Told, line_said, line_told, lines_before, told_with, with_said}
 use Rattle.scene_events.specs.Scenes.{IsCallOf}
 use Rattle.scene_fields.specs.declared.fault.LineFault.{LineFault}
 use Rattle.scene_fields.specs.declared.fault.LineFault.TheVariants as line
-use Rattle.scene_text.specs.declared.reader.LineSaid.{LineSaid}
-use Rattle.scene_text.specs.declared.reader.LineSaid.TheVariants as said
-use Rattle.scene_text.specs.declared.reader.LinesBefore.{LinesBefore}
+use Rattle.scene_fields.specs.declared.fault.ReadFault.{ReadFault}
+use Rattle.scene_fields.specs.declared.fault.ReadFault.TheVariants as read
 use Rattle.scene_events.specs.declared.scene.event.SceneEvent.{SceneEvent}
-use Rattle.scenes.specs.Follow.{AtLine, BreaksEvent, BreaksOff, Follows, HasTold, LeavesEvent, LeavesLine, LeavesSaid, RefusesEvent, StopsBehind, StopsBy, TellsEvent, TellsLine, TellsSaid, run_outcome}
+use Rattle.scenes.specs.Follow.{BreaksEvent, BreaksOff, Follows, HasTold, LeavesEvent, RefusesEvent, StopsBehind, StopsBy, TellsEvent, run_outcome}
+use Rattle.scenes.specs.Read.{AtLine, IsMore}
+use Rattle.command_line.specs.Faults.{fault_of_read}
 use Rattle.command_line.specs.Pieces.{IsUnread}
 use Rattle.scenes.specs.Reports.{StopsStore, StopsText, configuration_for, fault_at_call}
 use Rattle.scenes.specs.Unloads.{decider_for}
@@ -40,14 +41,46 @@ use Rattle.scenes.proofs.lemmas.Refusals.{none_more}
 use Rattle.scenes.proofs.lemmas.Devices.{memory_no_device, memory_no_store}
 use Rattle.scenes.proofs.lemmas.Reports.{device_error, ends_joined, store_behind, store_error, store_joined, text_behind, told_more, told_store, told_text}
 
--- an event more has begun the run
-begun_more : (es : List SceneEvent) (e : SceneEvent) → is_begun (es ++ e ∷ []) ≡ true
-begun_more [] e = refl
-begun_more (x ∷ es) e = refl
+abbrev is_wrong : LineFault → Result LineSaid LineFault
+is_wrong f = Err f
+
+wrong_with : (before : Told) (f : LineFault) (r : Result LineSaid LineFault) → told_with before r ≡ Err f → r ≡ Err f
+wrong_with before f (Ok s) h = absurd (cc)
+wrong_with before f (Err g) h = (let same : g ≡ f = cc in ap is_wrong same)
+
+wrong_said : (run : Told) (t : List ℕ) (f : LineFault) → line_told run t ≡ Err f → line_said (lines_before run) t ≡ Err f
+unfolding line_told
+wrong_said run t f h = wrong_with run f (line_said (lines_before run) t) h
+
+-- what is told so far holds, and nothing more could be read behind it
+module _ (options : Options) (text : List ℕ) (P : Told → Type 0) (Q : Told → Fault → Type 0) (run : Told) (holds : P run) (refused : Q run fault.OutOfMemory) (left : List (List ℕ)) (number : ℕ) (at : AtLine text run left number) where
+  left_unread : (file : List ℕ) (f : Fault) → IsUnread file f → StopsBy options text P Q f
+  left_unread file fault.Usage h = absurd h
+  left_unread file (fault.CannotRead f) h = record { run = run; lines = left; number = number; at = at; holds = holds }
+  left_unread file (fault.CannotWrite f) h = absurd h
+  left_unread file (fault.Line j f) h = absurd h
+  left_unread file fault.WriteFailed h = absurd h
+  left_unread file fault.StoreFailed h = absurd h
+  left_unread file fault.OutOfMemory h = record { run = run; lines = left; number = number; at = at; holds = refused }
+
+  left_wrong : (f : ReadFault) → IsNextFault number run left f → StopsBy options text P Q (fault_of_read f)
+  left_wrong (read.Line j f) h = record {
+    run = run;
+    t = h.1.0;
+    more = h.1.1;
+    at = record { front = at.front; whole = at.whole ∙ ap (λ ls. at.front ++ ls) h.1.2; place = h.0 ∙ at.place; tells = at.tells };
+    wrong = inl (wrong_said run h.1.0 f h.1.3);
+    holds = holds;
+  }
+  left_wrong read.OutOfMemory h = record { run = run; lines = left; number = number; at = at; holds = refused }
+
+  pub nothing_more : (file : List ℕ) (f : Fault) (remaining : Option (List ℕ)) → IsMore file (Err f) run left number remaining → StopsBy options text P Q f
+  nothing_more file f remaining (inl h) = left_unread file f h
+  nothing_more file f remaining (inr x) = subst (StopsBy options text P Q) (sym x.1) (left_wrong x.0 x.2)
 
 -- a follower with this reporter
 abbrev pub with_reporter : {W S : Type 0} → Follower W S → DisplayReporter W S → Follower W S
-with_reporter old r = record { config = old.config; outcome = old.outcome; reporter = r }
+with_reporter old r = record { outcome = old.outcome; reporter = r }
 
 -- a call that was refused, or broke off (for `tell_event`)
 module _ {W S : Type 0} (m : Meaning W) (n : Meaning S) (number : ℕ) (event : SceneEvent) (old : Follower W S) (call : ReportCall) (of_event : IsCallOf event call) where
@@ -88,13 +121,11 @@ module _ {W S : Type 0} {m : Meaning W} {n : Meaning S} (laws : WriterLaws m) (o
     accepted_more call none = subst (λ calls. first_refused (decider_for options run.config) calls ≡ None) (sym (reverse_more past call)) (none_more (λ c. is_some (refusal_by (decider_for options run.config) c)) (reverse past) call accepted (ap is_some none))
 
     -- an event more was told
-    pub told_event : (e : SceneEvent) → run.config ≡ now.config → next.config ≡ now.config → now.outcome ≡ run_outcome past → TellsEvent m n e now next → AreDelivered m n next.reporter →
-        Follows m n options start next (with_said run (said.Event e))
+    told_event : (e : SceneEvent) → now.outcome ≡ run_outcome past → TellsEvent m n e now next → AreDelivered m n next.reporter → Follows m n options start next (with_said run (SaysEvent e))
     unfolding run_outcome
-    told_event e configured same outcome told delivered = record {
+    told_event e outcome told delivered = record {
       past = told.call ∷ past;
       of_run = calls_more e told.call told.of_event;
-      begun = rw (configured, same, begun_more run.events e) refl;
       stands = stands;
       tells = told_more laws others start.reporter now.reporter next.reporter past told.call tells told.tells;
       accepted = accepted_more told.call (told.accepted (configuration_for options run.config) past here_stands);
@@ -103,7 +134,7 @@ module _ {W S : Type 0} {m : Meaning W} {n : Meaning S} (laws : WriterLaws m) (o
     }
 
     -- an event's call broke off
-    pub broke_event : (e : SceneEvent) (fault : Fault) → AreDelivered m n now.reporter → BreaksEvent m n e fault now next → BreaksOff m n options start next (with_said run (said.Event e)) fault
+    broke_event : (e : SceneEvent) (fault : Fault) → AreDelivered m n now.reporter → BreaksEvent m n e fault now next → BreaksOff m n options start next (with_said run (SaysEvent e)) fault
     broke_event e fault delivered broke =
         let config = configuration_for options run.config in
         let a = start.reporter.writer.now in
@@ -143,7 +174,7 @@ module _ {W S : Type 0} {m : Meaning W} {n : Meaning S} (laws : WriterLaws m) (o
         }
 
     -- memory was refused before another call
-    pub broke_before : next ≡ now → BreaksOff m n options start next run fault.OutOfMemory
+    broke_before : next ≡ now → BreaksOff m n options start next run fault.OutOfMemory
     broke_before same =
         let config = configuration_for options run.config in
         subst (λ x. BreaksOff m n options start x run fault.OutOfMemory) (sym same) (record {
@@ -157,7 +188,7 @@ module _ {W S : Type 0} {m : Meaning W} {n : Meaning S} (laws : WriterLaws m) (o
         })
 
     -- what was told stands
-    pub has_told : next ≡ now → AreDelivered m n now.reporter → now.outcome ≡ run_outcome past → HasTold m n options start next run
+    has_told : next ≡ now → AreDelivered m n now.reporter → now.outcome ≡ run_outcome past → HasTold m n options start next run
     has_told same delivered outcome =
         let config = configuration_for options run.config in
         subst (λ x. HasTold m n options start x run) (sym same) (record {
@@ -172,18 +203,18 @@ module _ {W S : Type 0} {m : Meaning W} {n : Meaning S} (laws : WriterLaws m) (o
         })
 
     -- the event of a line was left
-    module _ (whole t : List ℕ) (more : List (List ℕ)) (number : ℕ) (at : AtLine whole run (t ∷ more) number) (e : SceneEvent) (says : line_said (lines_before run) t ≡ Ok (said.Event e))
+    module _ (whole t : List ℕ) (more : List (List ℕ)) (number : ℕ) (at : AtLine whole run (t ∷ more) number) (e : SceneEvent) (says : line_said (lines_before run) t ≡ Ok (SaysEvent e))
         (delivered : AreDelivered m n now.reporter) (outcome : now.outcome ≡ run_outcome past) where
       left_event : (fault : Fault) → BreaksEvent m n e fault now next → StopsBehind whole (λ r. BreaksOff m n options start next r fault)
       left_event fault broke = record {
-        run = with_said run (said.Event e);
+        run = with_said run (SaysEvent e);
         lines = more;
         number = number + 1;
-        at = at_more whole run t more number (with_said run (said.Event e)) at (line_tells run t (said.Event e) says);
+        at = at_more whole run t more number (with_said run (SaysEvent e)) at (line_tells run t (SaysEvent e) says);
         holds = broke_event e fault delivered broke;
       }
 
-      pub leaves_event : (f : Fault) → LeavesEvent m n number e f now next → StopsBy options whole (HasTold m n options start next) (BreaksOff m n options start next) f
+      leaves_event : (f : Fault) → LeavesEvent m n number e f now next → StopsBy options whole (HasTold m n options start next) (BreaksOff m n options start next) f
       leaves_event fault.Usage h = absurd h
       leaves_event (fault.CannotRead file) h = absurd h
       leaves_event (fault.CannotWrite file) h = absurd h
@@ -200,69 +231,20 @@ module _ {W S : Type 0} {m : Meaning W} {n : Meaning S} (laws : WriterLaws m) (o
       leaves_event fault.OutOfMemory (inl same) = record { run = run; lines = t ∷ more; number = number; at = at; holds = broke_before same }
       leaves_event fault.OutOfMemory (inr broke) = left_event fault.OutOfMemory broke
 
-  -- of a follower that keeps up
+  -- of a follower that has told this
   module _ (options : Options) (start now next : Follower W S) (run : Told) (follows : Follows m n options start now run) where
-    configured : run.config ≡ now.config
-    configured = ap (λ (b : LinesBefore). b.config) follows.begun
+    pub one_told : (e : SceneEvent) → TellsEvent m n e now next → AreDelivered m n next.reporter → Follows m n options start next (with_said run (SaysEvent e))
+    one_told e told delivered = told_event options start now next run follows.past follows.of_run follows.stands follows.tells follows.accepted e follows.outcome told delivered
 
-    -- it has told what it has
     pub now_told : next ≡ now → HasTold m n options start next run
     now_told same = has_told options start now next run follows.past follows.of_run follows.stands follows.tells follows.accepted same follows.delivered follows.outcome
 
-    told_said : (t : List ℕ) (s : LineSaid) → line_said (lines_before run) t ≡ Ok s → next.config ≡ now.config → TellsSaid m n s now next → AreDelivered m n next.reporter →
-        (after : Told) × (line_told run t ≡ Ok after) × Follows m n options start next after
-    told_said t said.Nothing says same tells delivered = (run, line_tells run t said.Nothing says, subst (λ x. Follows m n options start x run) (sym tells) follows)
-    told_said t (said.Config c) says same tells delivered = absurd tells
-    told_said t (said.Event e) says same tells delivered = (
-      with_said run (said.Event e),
-      line_tells run t (said.Event e) says,
-      told_event options start now next run follows.past follows.of_run follows.stands follows.tells follows.accepted e configured same follows.outcome tells delivered,
-    )
+    -- the event of the next line was left
+    pub one_left : (whole t : List ℕ) (more : List (List ℕ)) (number : ℕ) → AtLine whole run (t ∷ more) number → (e : SceneEvent) → line_said (lines_before run) t ≡ Ok (SaysEvent e) → (f : Fault) → LeavesEvent m n number e f now next →
+        StopsBy options whole (HasTold m n options start next) (BreaksOff m n options start next) f
+    one_left whole t more number at e says f leaves =
+        leaves_event options start now next run follows.past follows.of_run follows.stands follows.tells follows.accepted whole t more number at e says follows.delivered follows.outcome f leaves
 
-    -- a line more was told
-    pub told_line : (t : List ℕ) → next.config ≡ now.config → TellsLine m n t now next → AreDelivered m n next.reporter → (after : Told) × (line_told run t ≡ Ok after) × Follows m n options start next after
-    told_line t same told delivered = told_said t told.said (subst (λ b. line_said b t ≡ Ok told.said) (sym follows.begun) told.says) same told.tells delivered
-
-    -- the next line was left, or could not be read
-    module _ (whole : List ℕ) (lines : List (List ℕ)) (number : ℕ) (at : AtLine whole run lines number) where
-      stopped_before : next ≡ now → StopsBy options whole (HasTold m n options start next) (BreaksOff m n options start next) fault.OutOfMemory
-      stopped_before same = record {
-        run = run;
-        lines = lines;
-        number = number;
-        at = at;
-        holds = broke_before options start now next run follows.past follows.of_run follows.stands follows.tells follows.accepted same;
-      }
-
-      pub left_reader : next ≡ now → (file : List ℕ) (f : Fault) → IsUnread file f → StopsBy options whole (HasTold m n options start next) (BreaksOff m n options start next) f
-      left_reader same file fault.Usage h = absurd h
-      left_reader same file (fault.CannotRead f) h = record { run = run; lines = lines; number = number; at = at; holds = now_told same }
-      left_reader same file (fault.CannotWrite f) h = absurd h
-      left_reader same file (fault.Line j f) h = absurd h
-      left_reader same file fault.WriteFailed h = absurd h
-      left_reader same file fault.StoreFailed h = absurd h
-      left_reader same file fault.OutOfMemory h = stopped_before same
-
-    module _ (whole t : List ℕ) (more : List (List ℕ)) (number : ℕ) (at : AtLine whole run (t ∷ more) number) where
-      left_said : (f : Fault) → LeavesSaid m n number t f now next → StopsBy options whole (HasTold m n options start next) (BreaksOff m n options start next) f
-      left_said f h =
-          leaves_event options start now next run follows.past follows.of_run follows.stands follows.tells follows.accepted whole t more number at h.event
-          (subst (λ b. line_said b t ≡ Ok (said.Event h.event)) (sym follows.begun) h.says) follows.delivered follows.outcome f h.leaves
-
-      pub left_line : (f : Fault) → LeavesLine m n number t f now next → StopsBy options whole (HasTold m n options start next) (BreaksOff m n options start next) f
-      left_line fault.Usage h = absurd h
-      left_line (fault.CannotRead file) h = absurd h
-      left_line (fault.CannotWrite file) h = absurd h
-      left_line (fault.Line j f) (inl h) = record {
-        run = run;
-        t = t;
-        more = more;
-        at = record { front = at.front; whole = at.whole; place = h.0 ∙ at.place; tells = at.tells };
-        wrong = inl (subst (λ b. line_said b t ≡ Err f) (sym follows.begun) h.2);
-        holds = now_told h.1;
-      }
-      left_line (fault.Line j f) (inr h) = left_said (fault.Line j f) h
-      left_line fault.WriteFailed h = left_said fault.WriteFailed h
-      left_line fault.StoreFailed h = left_said fault.StoreFailed h
-      left_line fault.OutOfMemory (inl same) = stopped_before whole (t ∷ more) number at same
-      left_line fault.OutOfMemory (inr h) = left_said fault.OutOfMemory h
+    -- memory was refused before the next event
+    pub now_refused : BreaksOff m n options start now run fault.OutOfMemory
+    now_refused = broke_before options start now now run follows.past follows.of_run follows.stands follows.tells follows.accepted refl

@@ -25,7 +25,7 @@ use Rattle.scene_text.specs.SceneTexts.{Told, nothing_told}
 use Rattle.scene_events.specs.Scenes.{IsCallOf}
 use Rattle.scene_fields.specs.Split.{parted}
 use Rattle.scene_events.specs.declared.scene.SceneConfig.{SceneConfig}
-use Rattle.scenes.specs.Follow.{BreaksTold, HasNoEvent, HasToldTo, IsRefusedMemory, IsStart, OfText, PrintsFollowed, ReportsTold, StopsBy, run_outcome}
+use Rattle.scenes.specs.Follow.{BreaksTold, HasToldTo, IsStart, OfText, PrintsFollowed, ReportsTold, StopsBy, run_outcome}
 use Rattle.scenes.specs.Reports.{Begins, HasFirstCalls, HoldsFirstCalls, StopsStore, builder_for, configuration_for, store_for, surroundings_of}
 use Rattle.scenes.specs.SpelledRuns.{BeginsTold, PrintsTold}
 use Rattle.command_line.specs.declared.fault.Fault.{Fault}
@@ -34,6 +34,7 @@ use Rattle.scenes.specs.declared.follow.Follower.{Follower}
 use Rattle.scenes.specs.declared.follow.RunOutcome.{RunOutcome}
 use Rattle.scenes.specs.declared.follow.RunOutcome.TheVariants as outcome
 use Rattle.command_line.specs.declared.words.Options.{Options}
+use Rattle.scenes.proofs.lemmas.Heads.{HasNoEvent, IsRefusedMemory}
 use Rattle.scenes.proofs.lemmas.Devices.{memory_no_device, memory_no_store, nothing_stored, stop_by, store_begins, text_begins, untouched_begins}
 
 -- what holds of the lines before, holds also of what follows from it
@@ -213,21 +214,25 @@ module _ {W T : Type 0} (m : Meaning W) (k : Meaning T) (laws : WriterLaws m) (o
   })
 
   module _ (delivered : m.is_delivered old) (also : k.is_delivered store_old) where
-    told_nothing : (run : Told) → HasNoEvent run → HasToldTo m k options old old store_old store_old run
+    reports_nothing : (run : Told) → HasNoEvent run → ReportsTold m k options old old store_old store_old outcome.NotEnded run
     unfolding run_outcome
-    told_nothing run none = (
-      outcome.NotEnded,
-      record {
-        past = [];
-        of_run = no_calls run none;
-        accepted = refl;
-        reported = laws.nothing old;
-        kept = others.nothing store_old;
-        delivered = delivered;
-        store_delivered = also;
-        outcome = refl;
-      },
-    )
+    reports_nothing run none = record {
+      past = [];
+      of_run = no_calls run none;
+      accepted = refl;
+      reported = laws.nothing old;
+      kept = others.nothing store_old;
+      delivered = delivered;
+      store_delivered = also;
+      outcome = refl;
+    }
+
+    told_nothing : (run : Told) → HasNoEvent run → HasToldTo m k options old old store_old store_old run
+    told_nothing run none = (outcome.NotEnded, reports_nothing run none)
+
+    -- the text has no event
+    pub head_told : OfText text HasNoEvent → OfText text (ReportsTold m k options old old store_old store_old outcome.NotEnded)
+    head_told h = record { run = h.run; spelled = h.spelled; holds = reports_nothing h.run h.holds }
 
     -- a line before the first event stopped it
     pub head_stops : (f : Fault) → StopsBy options text HasNoEvent IsRefusedMemory f → StopsBy options text (HasToldTo m k options old old store_old store_old) (BreaksTold m k options old old store_old store_old) f
@@ -246,9 +251,9 @@ ready m n r old store same also delivered store_delivered = record { writer = rw
 
 -- a follower that was made with it
 pub starts : {W S : Type 0} (m : Meaning W) (n : Meaning S) (options : Options) (config : SceneConfig) (r : DisplayReporter W S) → StandsAfter (configuration_for options config) [] r → AreDelivered m n r →
-    (start : Follower W S) → start.config ≡ config → start.outcome ≡ outcome.NotEnded → start.reporter ≡ r → IsStart m n options start
-starts m n options config r stands delivered start configured_so not_ended reports = record {
-  stands = rw (configured_so, reports) stands;
+    (start : Follower W S) → start.outcome ≡ outcome.NotEnded → start.reporter ≡ r → IsStart m n options config start
+starts m n options config r stands delivered start not_ended reports = record {
+  stands = rw reports stands;
   delivered = rw reports delivered;
   outcome = not_ended;
 }

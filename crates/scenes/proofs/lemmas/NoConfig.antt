@@ -1,26 +1,27 @@
--- A line behind an event makes no configuration (for `tell_line`).
-use Rattle.std.proofs.Common.{◌≡◌, ℕ, List, [], ◌∷◌, bytes_eq, codes, Result, Ok, Err, inl, inr}
+-- A line behind an event makes no configuration (for `follow_lines`).
+use Rattle.std.proofs.Common.{◌≡◌, ℕ, List, [], ◌∷◌, ◌++◌, true, bytes_eq, codes, Result, Ok, Err, refl, sym, ap, ◌∙◌, subst, inl, inr}
 use Rattle.std.specs.Str.{is_utf8}
 use Rattle.std.proofs.lemmas.Bool.{cases_Bool}
 use Rattle.scene_fields.specs.Fields.{Place}
 use Rattle.scene_text.specs.Lines.{event_line_fields}
-use Rattle.scene_text.specs.SceneTexts.{event_told, is_passed_over, line_said, says_event, word_said, words_said}
+use Rattle.scene_text.specs.SceneTexts.{AllTell, LineSaid, LinesBefore, SaysConfig, SaysEvent, SaysNothing, Told, event_told, is_begun, is_passed_over, line_said, line_told, lines_before, says_event, told_with, with_said, word_said, words_said}
 use Rattle.scene_fields.specs.Split.{parted}
 use Rattle.scene_fields.specs.declared.fault.LineFault.{LineFault}
-use Rattle.scene_text.specs.declared.reader.LineSaid.{LineSaid}
-use Rattle.scene_text.specs.declared.reader.LineSaid.TheVariants as said
 use Rattle.scene_events.specs.declared.scene.SceneConfig.{SceneConfig}
 use Rattle.scene_events.specs.declared.scene.event.SceneEvent.{SceneEvent}
-use Rattle.scenes.specs.Follow.{behind}
+
+-- what a line is read by that stands behind an event
+abbrev behind : SceneConfig → LinesBefore
+behind config = record { config = config; is_begun = true }
 
 abbrev Said : Type 0
 Said = Result LineSaid LineFault
 
 -- it says no configuration
 abbrev SaysNone : Said → Type 0
-SaysNone (Ok said.Nothing) = Unit {0}
-SaysNone (Ok (said.Config c)) = ⊥
-SaysNone (Ok (said.Event e)) = Unit {0}
+SaysNone (Ok SaysNothing) = Unit {0}
+SaysNone (Ok (SaysConfig c)) = ⊥
+SaysNone (Ok (SaysEvent e)) = Unit {0}
 SaysNone (Err f) = Unit {0}
 
 by_event : (r : Result SceneEvent LineFault) → SaysNone (says_event r)
@@ -47,5 +48,24 @@ says_none config t = elim (cases_Bool (is_passed_over t)) [
   ]
 ]
 
-pub no_config : (config made : SceneConfig) (t : List ℕ) → line_said (behind config) t ≡ Ok (said.Config made) → ⊥
-no_config config made t h = rw h at (says_none config t)
+begun_more : (es : List SceneEvent) (e : SceneEvent) → is_begun es ≡ true → is_begun (es ++ e ∷ []) ≡ true
+begun_more [] e begun = refl
+begun_more (x ∷ es) e begun = refl
+
+with_none : (before after : Told) (r : Said) → SaysNone r → told_with before r ≡ Ok after → is_begun before.events ≡ true → (after.config ≡ before.config) × (is_begun after.events ≡ true)
+with_none before after (Ok SaysNothing) none h begun = (let same : before ≡ after = cc in (ap (λ x. x.config) (sym same), subst (λ x. is_begun x.events ≡ true) same begun))
+with_none before after (Ok (SaysConfig c)) none h begun = absurd none
+with_none before after (Ok (SaysEvent e)) none h begun =
+    let same : with_said before (SaysEvent e) ≡ after = cc in (ap (λ x. x.config) (sym same), subst (λ x. is_begun x.events ≡ true) same (begun_more before.events e begun))
+with_none before after (Err f) none h begun = absurd (cc)
+
+one_kept : (before after : Told) (t : List ℕ) → is_begun before.events ≡ true → line_told before t ≡ Ok after → (after.config ≡ before.config) × (is_begun after.events ≡ true)
+unfolding line_told
+one_kept before after t begun h =
+    let same : lines_before before ≡ behind before.config = rw begun refl in
+    with_none before after (line_said (lines_before before) t) (subst (λ b. SaysNone (line_said b t)) (sym same) (says_none before.config t)) h begun
+
+-- lines behind an event keep the configuration
+pub config_kept : (before : Told) (ts : List (List ℕ)) (after : Told) → is_begun before.events ≡ true → AllTell before ts after → after.config ≡ before.config
+config_kept before [] after begun h = ap (λ x. x.config) (sym h)
+config_kept before (t ∷ ts) after begun h = (let one = one_kept before h.0 t begun h.1 in config_kept h.0 ts after one.1 h.2 ∙ one.0)

@@ -1,136 +1,262 @@
--- Lines that a reader gives one after the other, and what they tell (for `follow_rest`, `read_head`).
-use Rattle.std.proofs.Common.{◌≡◌, ℕ, ◌+◌, Bool, true, false, List, [], ◌∷◌, ◌++◌, Option, Some, Ok, length, refl, sym, ap, ◌∙◌, subst, arith, append-nil, append_assoc, inl, inr, ◌==◌}
-use Rattle.std.specs.Io.BufRead.{drop_through, take_through}
+-- Lines that were read piece by piece (for `read_next`, `read_whole`, `read_head`, `follow_rest`).
+use Rattle.std.proofs.Common.{◌≡◌, ℕ, ◌+◌, Bool, true, false, List, [], ◌∷◌, ◌++◌, Option, None, Some, Result, Ok, Err, length, refl, sym, ap, ◌∙◌, subst, arith, append-nil, append_assoc, inl, inr, ◌==◌}
+use Rattle.std.specs.Io.Buffered.{reader_buffer, reader_capacity, reader_inner, reader_remaining}
+use Rattle.std.specs.Io.KnownBytes.{prepend_known}
 use Rattle.std.specs.List.{onto_first}
-use Rattle.std.proofs.lemmas.Bool.{cases_Bool, false≢true}
+use Rattle.std.specs.declared.io.buffered.BufReader.{BufReader}
+use Rattle.std.specs.Prelude.{nat_lt}
+use Rattle.std.proofs.lemmas.Bool.Decides.{nat_tests}
+use Rattle.std.proofs.lemmas.Bool.{cases_Bool}
 use Rattle.std.proofs.lemmas.List.{length-append}
-use Rattle.scene_text.specs.SceneTexts.{AllTell, Told, line_said, line_told, lines_before, lines_told, nothing_told, text_told, with_said}
+use Rattle.command_line.specs.Faults.{fault_of_read}
+use Rattle.command_line.specs.Pieces.{IsNextPiece, IsUnread}
+use Rattle.command_line.specs.declared.fault.Fault.{Fault}
+use Rattle.command_line.specs.declared.fault.Fault.TheVariants as program
 use Rattle.scene_fields.specs.Split.{parted}
-use Rattle.scene_text.specs.declared.reader.LineSaid.{LineSaid}
-use Rattle.scenes.specs.Follow.{AreLeft, AtLine, IsNextLine, IsReadTo}
+use Rattle.scene_fields.specs.declared.fault.ReadFault.{ReadFault}
+use Rattle.scene_fields.specs.declared.fault.ReadFault.TheVariants as fault
+use Rattle.scene_text.specs.SceneTexts.{AllTell, IsNextFault, LeavesLines, LineSaid, ReadsLines, Told, event_lines, is_begun, is_begun_behind, line_said, line_told, lines_before, lines_told, nothing_told, text_told, told, told_after, with_said}
+use Rattle.scene_text.specs.declared.reader.LinesRead.{LinesRead}
+use Rattle.scene_text.proofs.lemmas.FirstFaults.{text_fault}
+use Rattle.scene_text.proofs.lemmas.Tellings.{all_append, all_told, begun_behind, noted_append, wrong_told}
+use Rattle.scenes.specs.Read.{AreLeft, AtLine, HasRead, IsMore}
+use Rattle.scenes.specs.ToldScenes.{IsReadFault, IsSceneRead}
 
-abbrev Text : Type 0
-Text = List ℕ
-
-abbrev head : Text → List Text → Text
-head other [] = other
-head other (t ∷ ts) = t
-
-same_head : (t u : Text) (ts us : List Text) → t ∷ ts ≡ u ∷ us → t ≡ u
-same_head t u ts us e = ap (head t) e
-
--- a text has a first piece
-pub record HasPiece (text : Text) : Type 0 where
-  pub first : Text
-  pub more : List Text
+-- a text has a first line
+record HasLine (text : List ℕ) : Type 0 where
+  pub first : List ℕ
+  pub more : List (List ℕ)
   pub is : parted 10 text ≡ first ∷ more
 
-pub has_first : (text : Text) → HasPiece text
+has_line : (text : List ℕ) → HasLine text
 unfolding parted
-has_first [] = record { first = []; more = []; is = refl }
-has_first (c ∷ t) = elim (cases_Bool (c == 10)) [
+has_line [] = record { first = []; more = []; is = refl }
+has_line (c ∷ t) = elim (cases_Bool (c == 10)) [
   | inl y ↦ record { first = []; more = parted 10 t; is = rw y refl }
-  | inr n ↦ (let h = has_first t in record { first = c ∷ h.first; more = h.more; is = rw n (ap (onto_first c) h.is) })
+  | inr n ↦ (let h = has_line t in record { first = c ∷ h.first; more = h.more; is = rw n (ap (onto_first c) h.is) })
 ]
 
--- a text begins with this line, and others are left of it behind its first line feed
-record IsHead (text line : Text) : Type 0 where
-  pub more : List Text
-  pub is : parted 10 text ≡ line ∷ more
-  pub left : AreLeft more (drop_through 10 text)
-
-head_is : (text line : Text) (more : List Text) → parted 10 (take_through 10 text) ≡ line ∷ more → IsHead text line
+-- the lines of two texts that a line feed parts
+parted_joined : (front back : List ℕ) → parted 10 (front ++ 10 ∷ back) ≡ parted 10 front ++ parted 10 back
 unfolding parted
-head_is [] line more h = record { more = []; is = ap (λ (t : Text). t ∷ []) (same_head _ _ _ _ h); left = inr (refl, refl) }
-head_is (c ∷ t) line more h = elim (cases_Bool (c == 10)) [
-  | inl y ↦
-      let h1 : parted 10 (c ∷ []) ≡ line ∷ more = rw y at h in
-      let h2 : [] ∷ [] ∷ [] ≡ line ∷ more = rw y at h1 in
-      let e : [] ≡ line = same_head [] line ([] ∷ []) more h2 in
-      record { more = parted 10 t; is = rw y (ap (λ (u : Text). u ∷ parted 10 t) e); left = rw y (inl refl) }
+parted_joined [] back = refl
+parted_joined (c ∷ t) back = elim (cases_Bool (c == 10)) [
+  | inl y ↦ rw y (ap (λ (ts : List (List ℕ)). [] ∷ ts) (parted_joined t back))
   | inr n ↦
-      let first = has_first (take_through 10 t) in
-      let r = head_is t first.first first.more first.is in
-      let h1 : parted 10 (c ∷ take_through 10 t) ≡ line ∷ more = rw n at h in
-      let h2 : onto_first c (parted 10 (take_through 10 t)) ≡ line ∷ more = rw n at h1 in
-      let e : c ∷ first.first ≡ line = same_head (c ∷ first.first) line first.more more (ap (onto_first c) (sym first.is) ∙ h2) in
-      record { more = r.more; is = rw n (ap (onto_first c) r.is ∙ ap (λ (u : Text). u ∷ r.more) e); left = rw n r.left }
+      let h = has_line t in
+      let joined : parted 10 (t ++ 10 ∷ back) ≡ (h.first ∷ h.more) ++ parted 10 back = parted_joined t back ∙ ap (λ ts. ts ++ parted 10 back) h.is in
+      rw n (ap (onto_first c) joined ∙ ap (λ ts. onto_first c ts ++ parted 10 back) (sym h.is))
 ]
 
--- lines that tell one after the other
-pub all_told : (n : ℕ) (before : Told) (ts : List Text) (after : Told) → AllTell before ts after → lines_told n before ts ≡ Ok after
-unfolding lines_told
-all_told n before [] after h = ap Ok h
-all_told n before (t ∷ ts) after h = rw h.1 (all_told (n + 1) h.0 ts after h.2)
+-- what is left begins with the lines of the next piece
+record IsCut (left : List (List ℕ)) (piece : List ℕ) (remaining : Option (List ℕ)) : Type 0 where
+  pub others : List (List ℕ)
+  pub is : left ≡ parted 10 piece ++ others
+  pub rest : List ℕ
+  pub remains : remaining ≡ Some rest
+  pub are : AreLeft others rest
 
--- one line more tells
-pub tells_more : (before : Told) (ts : List Text) (mid : Told) (t : Text) (after : Told) → AllTell before ts mid → line_told mid t ≡ Ok after → AllTell before (ts ++ t ∷ []) after
-tells_more before [] mid t after h one = (after, subst (λ b. line_told b t ≡ Ok after) (sym h) one, refl)
-tells_more before (u ∷ ts) mid t after h one = (h.0, h.1, tells_more h.0 ts mid t after h.2 one)
+cut : (left : List (List ℕ)) (rest piece : List ℕ) (remaining : Option (List ℕ)) → AreLeft left rest → IsNextPiece rest true piece remaining → IsCut left piece remaining
+cut left rest piece remaining (inl lines) (more, remains, inl feed) =
+    record { others = parted 10 more; is = lines ∙ ap (parted 10) feed ∙ parted_joined piece more; rest = more; remains = remains; are = inl refl }
+cut left rest piece remaining (inl lines) (more, remains, inr end) =
+    record { others = []; is = lines ∙ ap (parted 10) end.0 ∙ sym (append-nil (parted 10 piece)); rest = more; remains = remains; are = inr (refl, end.1) }
+cut left rest piece remaining (inr none) (more, remains, inl feed) =
+    let size = ap length (sym none.1 ∙ feed) ∙ length-append piece (10 ∷ more) in absurd (omega (arith, size))
+cut left rest piece remaining (inr none) (more, remains, inr end) =
+    let size = ap length (sym none.1 ∙ end.0) in absurd (omega (arith, size, end.2))
+
+known_behind : (o : Option (List ℕ)) → prepend_known [] o ≡ o
+known_behind None = refl
+known_behind (Some xs) = refl
+
+-- what a new reader has is what its inner one has
+pub new_reader : {T A : Type 0} (remaining : T → Option (List ℕ)) (r : BufReader T A) (inner : T) (size : ℕ) → reader_inner r ≡ inner → reader_buffer r ≡ [] → reader_capacity r ≡ size → (size == 0) ≡ false →
+    reader_remaining remaining r ≡ remaining inner
+new_reader remaining r inner size is empty sized some = rw (sized, some, empty, is) (known_behind (remaining inner))
+
+-- no line was read of a text that a reader has
+pub none_read : (file text : List ℕ) (read : LinesRead) (remaining : Option (List ℕ)) → told read.run ≡ nothing_told → read.run.lines.items ≡ [] → read.is_begun ≡ false → read.next ≡ 1 → remaining ≡ Some text →
+    HasRead file text [] nothing_told read (Ok true) remaining
+unfolding event_lines
+none_read file text read remaining tells noted begun place known = record {
+  lines = [];
+  left = parted 10 text;
+  whole = refl;
+  forgotten = refl;
+  tells = ap (told_after []) (sym tells);
+  noted = noted;
+  place = place ∙ omega (arith);
+  begun = sym begun;
+  more_is = (text, known, inl refl);
+}
+
+module _ (file text : List ℕ) (front : List (List ℕ)) (before : Told) (old new : LinesRead) where
+  module _ (remaining : Option (List ℕ)) (has : HasRead file text front before old (Ok true) remaining) where
+    -- further lines were read
+    module _ (lines left : List (List ℕ)) (is : has.left ≡ lines ++ left) (reads : ReadsLines old new lines) (more : Result Bool Fault) (after : Option (List ℕ)) where
+      further : IsMore file more (told_after before.events (told new.run)) left new.next after → HasRead file text front before new more after
+      further more_is =
+          let size = length-append has.lines lines in
+          record {
+            lines = has.lines ++ lines;
+            left = left;
+            whole = has.whole ∙ ap (λ ls. front ++ ls) (ap (λ ls. has.lines ++ ls) is ∙ sym (append_assoc has.lines lines left));
+            forgotten = has.forgotten;
+            tells = all_append before has.lines (told_after before.events (told old.run)) lines (told_after before.events (told new.run)) has.tells (reads.tells before.events has.begun);
+            noted =
+                reads.noted before.events has.begun ∙ ap (λ ls. ls ++ event_lines old.next (told_after before.events (told old.run)) lines) has.noted
+                ∙ sym (noted_append (length front + 1) old.next before has.lines (told_after before.events (told old.run)) lines has.place has.tells);
+            place = omega (arith, size, reads.place, has.place);
+            begun = has.begun ∙ sym reads.begun;
+            more_is = more_is;
+          }
+
+    -- a piece was read
+    pub piece_read : (piece : List ℕ) (after : Option (List ℕ)) → ((rest : List ℕ) → remaining ≡ Some rest → IsNextPiece rest true piece after) → ReadsLines old new (parted 10 piece) → HasRead file text front before new (Ok true) after
+    piece_read piece after next reads =
+        let c = cut has.left has.more_is.0 piece after has.more_is.2 (next has.more_is.0 has.more_is.1) in
+        further (parted 10 piece) c.others c.is reads (Ok true) after (c.rest, c.remains, c.are)
+
+    next_fault : (n : ℕ) (run : Told) (lines others : List (List ℕ)) (f : ReadFault) → IsNextFault n run lines f → IsNextFault n run (lines ++ others) f
+    next_fault n run lines others (fault.Line m f) h = (h.0, (h.1.0, h.1.1 ++ others, ap (λ ls. ls ++ others) h.1.2, h.1.3))
+    next_fault n run lines others fault.OutOfMemory h = tt
+
+    -- a line of it has a fault
+    pub piece_left : (piece : List ℕ) (after : Option (List ℕ)) → ((rest : List ℕ) → remaining ≡ Some rest → IsNextPiece rest true piece after) → (f : ReadFault) (fault : Fault) → fault ≡ fault_of_read f →
+        LeavesLines old new (parted 10 piece) f → HasRead file text front before new (Err fault) after
+    piece_left piece after next f fault is leaves =
+        let c = cut has.left has.more_is.0 piece after has.more_is.2 (next has.more_is.0 has.more_is.1) in
+        further leaves.front (leaves.rest ++ c.others) (c.is ∙ ap (λ ls. ls ++ c.others) leaves.whole ∙ append_assoc leaves.front leaves.rest c.others) leaves.reads (Err fault) after
+        (inr (f, is, next_fault new.next (told_after before.events (told new.run)) leaves.rest c.others f (leaves.wrong before.events has.begun)))
+
+  -- no line more was read
+  module _ (remaining after : Option (List ℕ)) (has : HasRead file text front before old (Ok true) remaining) (same : new ≡ old) where
+    still : (more : Result Bool Fault) → IsMore file more (told_after before.events (told old.run)) has.left old.next after → HasRead file text front before new more after
+    still more more_is = subst (λ r. HasRead file text front before r more after) (sym same) (record {
+      lines = has.lines;
+      left = has.left;
+      whole = has.whole;
+      forgotten = has.forgotten;
+      tells = has.tells;
+      noted = has.noted;
+      place = has.place;
+      begun = has.begun;
+      more_is = more_is;
+    })
+
+    -- the file has ended
+    pub none_left : ((rest : List ℕ) → remaining ≡ Some rest → rest ≡ []) → HasRead file text front before new (Ok false) after
+    none_left none = still (Ok false) (subst (AreLeft has.left) (none has.more_is.0 has.more_is.1) has.more_is.2)
+
+    -- or it could not be read
+    pub unread : (fault : Fault) → IsUnread file fault → HasRead file text front before new (Err fault) after
+    unread fault is = still (Err fault) (inl is)
 
 -- a line tells what it says
-pub line_tells : (run : Told) (t : Text) (s : LineSaid) → line_said (lines_before run) t ≡ Ok s → line_told run t ≡ Ok (with_said run s)
+pub line_tells : (run : Told) (t : List ℕ) (s : LineSaid) → line_said (lines_before run) t ≡ Ok s → line_told run t ≡ Ok (with_said run s)
 unfolding line_told
 line_tells run t s h = rw h refl
 
--- an empty line tells nothing
-empty_tells : (run : Told) → line_told run [] ≡ Ok run
-unfolding line_told line_said
-empty_tells run = refl
+-- the place behind a line that tells
+pub at_more : (text : List ℕ) (run : Told) (t : List ℕ) (lines : List (List ℕ)) (number : ℕ) (after : Told) → AtLine text run (t ∷ lines) number → line_told run t ≡ Ok after → AtLine text after lines (number + 1)
+at_more text run t lines number after at told = record {
+  front = at.front ++ t ∷ [];
+  whole = at.whole ∙ sym (append_assoc at.front (t ∷ []) lines);
+  place = (let size = length-append at.front (t ∷ []) in omega (arith, at.place, size));
+  tells = all_append nothing_told at.front run (t ∷ []) after at.tells (after, told, refl);
+}
 
--- of whether a line was read
-pub none_left : (has_line : Bool) → has_line ≡ false → (text buffer : Text) (rest : Option Text) → IsNextLine text has_line buffer rest → text ≡ []
-none_left true e text buffer rest h = absurd (false≢true (sym e))
-none_left false e text buffer rest h = h
+not_less : (n : ℕ) → nat_lt n n ≡ false
+not_less n = grind (arith, nat_tests)
 
-pub one_left : (has_line : Bool) → has_line ≡ true → (text buffer : Text) (rest : Option Text) → IsNextLine text has_line buffer rest → IsNextLine text true buffer rest
-one_left true e text buffer rest h = h
-one_left false e text buffer rest h = absurd (false≢true e)
+-- the events that were read are forgotten
+module _ (file text : List ℕ) (front : List (List ℕ)) (before : Told) (old new : LinesRead) (more : Result Bool Fault) (remaining : Option (List ℕ)) (has : HasRead file text front before old more remaining) where
+  abbrev pub read_told : Told
+  read_told = told_after before.events (told old.run)
 
-module _ (text : Text) (run : Told) where
-  -- the place behind a line that tells
-  pub at_more : (t : Text) (lines : List Text) (number : ℕ) (after : Told) → AtLine text run (t ∷ lines) number → line_told run t ≡ Ok after → AtLine text after lines (number + 1)
-  at_more t lines number after at told = record {
-    front = at.front ++ t ∷ [];
-    whole = at.whole ∙ sym (append_assoc at.front (t ∷ []) lines);
-    place = (let size = length-append at.front (t ∷ []) in omega (arith, at.place, size));
-    tells = tells_more nothing_told at.front run t after at.tells told;
-  }
+  module _ (config : new.run.config ≡ old.run.config) (events : new.run.events.items ≡ []) (lines : new.run.lines.items ≡ []) (begun : new.is_begun ≡ is_begun_behind old.is_begun old.run.events.items) (next : new.next ≡ old.next) where
+    pub all_forgotten : read_told ≡ told_after read_told.events (told new.run)
+    all_forgotten = rw (config, events, append-nil read_told.events) refl
 
-  -- a line that was read next
-  pub record IsNext (line : Text) (number : ℕ) (remaining : Option Text) : Type 0 where
-    pub more : List Text
-    pub at : AtLine text run (line ∷ more) number
-    pub rest : Text
-    pub remains : remaining ≡ Some rest
-    pub left : AreLeft more rest
+    pub forgets : HasRead file text (front ++ has.lines) read_told new more remaining
+    unfolding event_lines
+    forgets = record {
+      lines = [];
+      left = has.left;
+      whole = has.whole ∙ sym (append_assoc front has.lines has.left);
+      forgotten = all_append nothing_told front before has.lines read_told has.forgotten has.tells;
+      tells = all_forgotten;
+      noted = lines;
+      place = (let size = length-append front has.lines in omega (arith, size, next, has.place));
+      begun = begun_behind before.events old.run.events.items ∙ ap (λ b. is_begun_behind b old.run.events.items) has.begun ∙ sym begun;
+      more_is = subst (λ n. IsMore file more (told_after read_told.events (told new.run)) has.left n remaining) (sym next) (subst (λ r. IsMore file more r has.left old.next remaining) all_forgotten has.more_is);
+    }
 
-  pub read_next : (number : ℕ) (remaining after : Option Text) (buffer line : Text) (tail : List Text) → IsReadTo text run number remaining →
-      ((xs : Text) → remaining ≡ Some xs → IsNextLine xs true buffer after) → parted 10 buffer ≡ line ∷ tail → IsNext line number after
-  read_next number remaining after buffer line tail read next cut =
-      let here = next read.rest read.remains in
-      let first = head_is read.rest line tail (subst (λ b. parted 10 b ≡ line ∷ tail) here.1 cut) in
-      elim read.left [
-        | inl lines ↦ record {
-          more = first.more;
-          at = record { front = read.at.front; whole = read.at.whole ∙ ap (λ ls. read.at.front ++ ls) (lines ∙ first.is); place = read.at.place; tells = read.at.tells };
-          rest = drop_through 10 read.rest;
-          remains = here.2;
-          left = first.left;
-        }
-        | inr none ↦ (let empty : buffer ≡ [] = here.1 ∙ ap (take_through 10) none.1 in let size : length buffer ≡ 0 = ap length empty in absurd (omega (arith, here.0, size)))
-      ]
+-- a text that was read from its beginning
+module _ (file text : List ℕ) (read : LinesRead) where
+  -- an empty line tells nothing
+  empty_tells : (run : Told) → line_told run [] ≡ Ok run
+  unfolding line_told line_said
+  empty_tells run = refl
 
-  -- nothing is left to be read
-  pub read_whole : (number : ℕ) (remaining : Option Text) → IsReadTo text run number remaining → ((xs : Text) → remaining ≡ Some xs → xs ≡ []) → text_told text ≡ Ok run
+  empty_noted : (n : ℕ) (run : Told) → event_lines n run ([] ∷ []) ≡ []
+  unfolding event_lines line_told line_said
+  empty_noted n run = rw (not_less (length run.events)) refl
+
+  -- to its end
+  module _ (front : List (List ℕ)) (before : Told) (remaining : Option (List ℕ)) (has : HasRead file text front before read (Ok false) remaining) where
+    abbrev pub after : Told
+    after = told_after before.events (told read.run)
+
+    abbrev first_lines : List (List ℕ)
+    first_lines = front ++ has.lines
+
+    first_told : AllTell nothing_told first_lines after
+    first_told = all_append nothing_told front before has.lines after has.forgotten has.tells
+
+    pub spells : text_told text ≡ Ok after
+    unfolding parted
+    spells = elim has.more_is [
+      | inl last ↦
+          let all : parted 10 text ≡ first_lines ++ [] ∷ [] = has.whole ∙ ap (λ ls. front ++ (has.lines ++ ls)) last ∙ sym (append_assoc front has.lines ([] ∷ [])) in
+          ap (lines_told 1 nothing_told) all ∙ all_told 1 nothing_told (first_lines ++ [] ∷ []) after (all_append nothing_told first_lines after ([] ∷ []) after first_told (after, empty_tells after, refl))
+      | inr none ↦
+          let all : parted 10 text ≡ first_lines = has.whole ∙ ap (λ ls. front ++ (has.lines ++ ls)) none.0 ∙ ap (λ ls. front ++ ls) (append-nil has.lines) in
+          ap (lines_told 1 nothing_told) all ∙ all_told 1 nothing_told first_lines after first_told
+    ]
+
+  pub notes : (remaining : Option (List ℕ)) → HasRead file text [] nothing_told read (Ok false) remaining → read.run.lines.items ≡ event_lines 1 nothing_told (parted 10 text)
   unfolding parted
-  read_whole number remaining read none =
-      let end : read.rest ≡ [] = none read.rest read.remains in
-      elim read.left [
-        | inl lines ↦
-            let last : parted 10 text ≡ read.at.front ++ ([] ∷ []) = read.at.whole ∙ ap (λ ls. read.at.front ++ ls) (lines ∙ ap (parted 10) end) in
-            subst (λ ls. lines_told 1 nothing_told ls ≡ Ok run) (sym last) (all_told 1 nothing_told _ run (tells_more nothing_told read.at.front run [] run read.at.tells (empty_tells run)))
-        | inr gone ↦
-            let last : parted 10 text ≡ read.at.front = read.at.whole ∙ ap (λ ls. read.at.front ++ ls) gone.0 ∙ append-nil read.at.front in
-            subst (λ ls. lines_told 1 nothing_told ls ≡ Ok run) (sym last) (all_told 1 nothing_told _ run read.at.tells)
-      ]
+  notes remaining has = elim has.more_is [
+    | inl last ↦
+        let all : parted 10 text ≡ has.lines ++ [] ∷ [] = has.whole ∙ ap (λ ls. has.lines ++ ls) last in
+        has.noted ∙ sym (append-nil _) ∙ ap (λ ls. event_lines 1 nothing_told has.lines ++ ls) (sym (empty_noted read.next (told read.run)))
+        ∙ sym (noted_append 1 read.next nothing_told has.lines (told read.run) ([] ∷ []) has.place has.tells) ∙ ap (event_lines 1 nothing_told) (sym all)
+    | inr none ↦ has.noted ∙ ap (event_lines 1 nothing_told) (sym (has.whole ∙ ap (λ ls. has.lines ++ ls) none.0 ∙ append-nil has.lines))
+  ]
+
+  -- or to a fault
+  fault_told : (n : ℕ) (lines : List (List ℕ)) → AllTell nothing_told lines (told read.run) → n ≡ 1 + length lines → (left : List (List ℕ)) → parted 10 text ≡ lines ++ left → (f : ReadFault) → IsNextFault n (told read.run) left f →
+      IsSceneRead (Err (fault_of_read f)) (text_told text) × IsReadFault text (fault_of_read f)
+  fault_told n lines tells place left whole (fault.Line m g) h =
+      let here = h.1 in
+      let wrong : text_told text ≡ Err (m, g) =
+      ap (lines_told 1 nothing_told) (whole ∙ ap (λ ls. lines ++ ls) here.2) ∙ wrong_told 1 nothing_told lines (told read.run) here.0 here.1 g m (h.0 ∙ place) tells here.3 in
+      (wrong, text_fault text m g wrong)
+  fault_told n lines tells place left whole fault.OutOfMemory h = (tt, tt)
+
+  unread_told : (fault : Fault) → IsUnread file fault → IsSceneRead (Err fault) (text_told text) × IsReadFault text fault
+  unread_told program.Usage is = absurd is
+  unread_told (program.CannotRead f) is = (tt, tt)
+  unread_told (program.CannotWrite f) is = absurd is
+  unread_told (program.Line n f) is = absurd is
+  unread_told program.WriteFailed is = absurd is
+  unread_told program.StoreFailed is = absurd is
+  unread_told program.OutOfMemory is = (tt, tt)
+
+  pub stopped_read : (remaining : Option (List ℕ)) (fault : Fault) → HasRead file text [] nothing_told read (Err fault) remaining → IsSceneRead (Err fault) (text_told text) × IsReadFault text fault
+  stopped_read remaining fault has = elim has.more_is [
+    | inl is ↦ unread_told fault is
+    | inr x ↦ subst (λ f. IsSceneRead (Err f) (text_told text) × IsReadFault text f) (sym x.1) (fault_told read.next has.lines has.tells has.place has.left has.whole x.0 x.2)
+  ]

@@ -1,47 +1,34 @@
-use Rattle.std.proofs.Common.{Ok, Err, sym, subst}
+use Rattle.std.proofs.Common.{◌≡◌, [], ◌∙◌, refl}
 use Rattle.std.specs.Io.Buffered.{reader_remaining}
-use Rattle.scene_text.proofs.lemmas.FirstFaults.{tells_scene}
-use Rattle.scene_text.specs.SceneTexts.{text_told}
-use Rattle.command_line.specs.Pieces.{IsNextPiece}
-use Rattle.scenes.specs.ToldScenes.{IsReadFault, IsSceneRead}
-use Rattle.scenes.proofs.lemmas.Pieces.{read_all, read_piece, read_wrong, wrong_text}
+use Rattle.scene_text.specs.SceneTexts.{nothing_told}
+use Rattle.scene_text.proofs.lemmas.FirstFaults.{all_tell}
+use Rattle.scenes.proofs.lemmas.ReadLines.{new_reader, none_read, notes, spells, stopped_read}
 use Rattle.scenes.proofs.program.read_whole.Goals as goal
+
+pub loop-turn-init : goal.loop-turn-init
+loop-turn-init g c = λ text known.
+    let has : reader_remaining g.R.Read.remaining c.in-Ok.buffered ≡ g.R.Read.remaining c.args.reader = new_reader g.R.Read.remaining c.in-Ok.buffered c.args.reader 16384 c.in-Ok.ensures.inner c.in-Ok.ensures.empty c.in-Ok.ensures.capacity refl in
+    none_read c.args.options.now.file.now text c.new-read.result _ c.new-read.ensures.told c.new-read.ensures.lines c.new-read.ensures.begun c.new-read.ensures.next (has ∙ known)
 
 pub returns-in-Ok-false-clause-scene : goal.returns-in-Ok-false-clause-scene
 returns-in-Ok-false-clause-scene g c = λ text known.
-    let r = c.loop-turn.invariant text known in
-    let none = subst (λ has_line. IsNextPiece r.rest has_line c.next_piece.new.piece.items (reader_remaining g.R.Read.remaining c.next_piece.new.reader)) c.in-Ok-false.field-0-test (c.in-Ok-false.ensures.piece r.rest r.remains) in
-    tells_scene (Ok c.loop-turn.read.run) text ((read_all text c.loop-turn.read.run c.loop-turn.read.next _ r none).0)
+    all_tell 1 nothing_told _ _ (spells c.args.options.now.file.now text c.read_next.new.read [] nothing_told _ (rw (c.in-Ok-false.is, c.in-Ok-false.field-0-test) at c.read_next.ensures.read text [] nothing_told (c.loop-turn.invariant text known)))
 
 pub returns-in-Ok-false-clause-lines : goal.returns-in-Ok-false-clause-lines
 returns-in-Ok-false-clause-lines g c = λ text known.
-    let r = c.loop-turn.invariant text known in
-    let none = subst (λ has_line. IsNextPiece r.rest has_line c.next_piece.new.piece.items (reader_remaining g.R.Read.remaining c.next_piece.new.reader)) c.in-Ok-false.field-0-test (c.in-Ok-false.ensures.piece r.rest r.remains) in
-    (read_all text c.loop-turn.read.run c.loop-turn.read.next _ r none).1
+    notes c.args.options.now.file.now text c.read_next.new.read _ (rw (c.in-Ok-false.is, c.in-Ok-false.field-0-test) at c.read_next.ensures.read text [] nothing_told (c.loop-turn.invariant text known))
 
 pub returns-in-Ok-false-clause-answer : goal.returns-in-Ok-false-clause-answer
 returns-in-Ok-false-clause-answer g c = λ text known.
-    let r = c.loop-turn.invariant text known in
-    let none = subst (λ has_line. IsNextPiece r.rest has_line c.next_piece.new.piece.items (reader_remaining g.R.Read.remaining c.next_piece.new.reader)) c.in-Ok-false.field-0-test (c.in-Ok-false.ensures.piece r.rest r.remains) in
-    (read_all text c.loop-turn.read.run c.loop-turn.read.next _ r none).0
+    spells c.args.options.now.file.now text c.read_next.new.read [] nothing_told _ (rw (c.in-Ok-false.is, c.in-Ok-false.field-0-test) at c.read_next.ensures.read text [] nothing_told (c.loop-turn.invariant text known))
 
-pub returns-in-Err-read_piece-clause-first_fault : goal.returns-in-Err-read_piece-clause-first_fault
-returns-in-Err-read_piece-clause-first_fault g c = λ text known.
-    let r = c.loop-turn.invariant text known in
-    let piece = subst (λ has_line. IsNextPiece r.rest has_line c.next_piece.new.piece.items (reader_remaining g.R.Read.remaining c.next_piece.new.reader)) c.in-Ok-true.field-0-test (c.in-Ok-true.ensures.piece r.rest r.remains) in
-    let wrong = wrong_text text c.in-Err-read_piece.fault (read_wrong text c.loop-turn.read.run c.loop-turn.read.next _ r c.next_piece.new.piece.items _ piece c.in-Err-read_piece.fault c.in-Err-read_piece.ensures.fault) in
-    subst (IsReadFault text) (sym c.from.ensures) wrong.1
+pub returns-in-Err-read_next-clause-first_fault : goal.returns-in-Err-read_next-clause-first_fault
+returns-in-Err-read_next-clause-first_fault g c = λ text known.
+    (stopped_read c.args.options.now.file.now text c.read_next.new.read _ c.in-Err-read_next.fault (rw c.in-Err-read_next.is at c.read_next.ensures.read text [] nothing_told (c.loop-turn.invariant text known))).1
 
-pub returns-in-Err-read_piece-clause-answer : goal.returns-in-Err-read_piece-clause-answer
-returns-in-Err-read_piece-clause-answer g c = λ text known.
-    let r = c.loop-turn.invariant text known in
-    let piece = subst (λ has_line. IsNextPiece r.rest has_line c.next_piece.new.piece.items (reader_remaining g.R.Read.remaining c.next_piece.new.reader)) c.in-Ok-true.field-0-test (c.in-Ok-true.ensures.piece r.rest r.remains) in
-    let wrong = wrong_text text c.in-Err-read_piece.fault (read_wrong text c.loop-turn.read.run c.loop-turn.read.next _ r c.next_piece.new.piece.items _ piece c.in-Err-read_piece.fault c.in-Err-read_piece.ensures.fault) in
-    subst (λ f. IsSceneRead (Err f) (text_told text)) (sym c.from.ensures) wrong.0
+pub returns-in-Err-read_next-clause-answer : goal.returns-in-Err-read_next-clause-answer
+returns-in-Err-read_next-clause-answer g c = λ text known.
+    (stopped_read c.args.options.now.file.now text c.read_next.new.read _ c.in-Err-read_next.fault (rw c.in-Err-read_next.is at c.read_next.ensures.read text [] nothing_told (c.loop-turn.invariant text known))).0
 
 pub loop-turn-preserved : goal.loop-turn-preserved
-loop-turn-preserved g c = λ text known.
-    let r = c.loop-turn.invariant text known in
-    let piece = subst (λ has_line. IsNextPiece r.rest has_line c.next_piece.new.piece.items (reader_remaining g.R.Read.remaining c.next_piece.new.reader)) c.in-Ok-true.field-0-test (c.in-Ok-true.ensures.piece r.rest r.remains) in
-    read_piece text c.loop-turn.read.run c.loop-turn.read.next _ r c.next_piece.new.piece.items _ piece c.in-Ok-read_piece.more.run c.in-Ok-read_piece.more.next
-    c.in-Ok-read_piece.ensures.told c.in-Ok-read_piece.ensures.lines c.in-Ok-read_piece.ensures.next
+loop-turn-preserved g c = λ text known. rw (c.in-Ok-true.is, c.in-Ok-true.field-0-test) at c.read_next.ensures.read text [] nothing_told (c.loop-turn.invariant text known)
