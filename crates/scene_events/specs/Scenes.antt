@@ -1,5 +1,5 @@
 -- What a scene asks of a reporter.
-use Rattle.std.specs.Prelude.{◌≡◌, ℕ, List, [], ◌∷◌, ◌++◌, Bool, true, false, not, ◌||◌, Option}
+use Rattle.std.specs.Prelude.{◌≡◌, ℕ, List, [], ◌∷◌, ◌++◌, Bool, true, false, not, ◌||◌, Option, Result, Ok, Err}
 use Rattle.run_model.specs.Outputs.{has_loaded_output}
 use Rattle.run_model.specs.Stats.{planned_stats}
 use Rattle.run_model.specs.Statuses.{is_success}
@@ -129,3 +129,13 @@ pub record AddsCallOf (event : SceneEvent) (old new : List ReportCall) : Type 0 
   pub call : ReportCall
   pub of_event : IsCallOf event call
   pub added : new ≡ old ++ call ∷ []
+
+-- the call of an event was pushed; an error leaves the list as it was
+abbrev pub PushesCallOf : {T E : Type 0} → SceneEvent → List ReportCall → Result T E → List ReportCall → Type 0
+PushesCallOf event old (Ok x) new = AddsCallOf event old new
+PushesCallOf event old (Err e) new = new ≡ old
+
+-- the same of a call that is known
+abbrev pub IsPushed : {T E : Type 0} → ReportCall → List ReportCall → Result T E → List ReportCall → Type 0
+IsPushed call old (Ok x) new = new ≡ old ++ call ∷ []
+IsPushed call old (Err e) new = new ≡ old

@@ -1,8 +1,6 @@
 //! A run as the lines of a scene tell it, with names of its own, and the calls that its events are.
 
-ghost use Rattle.std.specs.Prelude.{◌≡◌, IfOk};
-ghost use Rattle.std.specs.List.{AllZip};
-ghost use Rattle.scene_events.specs.Scenes.{IsCallOf};
+ghost use Rattle.std.specs.Prelude.{◌≡◌};
 
 pub mod attempts;
 pub mod event;
@@ -15,11 +13,8 @@ pub mod stress_events;
 pub mod test_events;
 
 use event::SceneEvent;
-use run_model::call::ReportCall;
 use run_model::config::{NextestRunMode, TestOutputDisplay};
 use run_model::level::FinalStatusLevel;
-use run_model::memory::OutOfMemory;
-use std::alloc::Global;
 
 /// What the lines of a scene tell: how the run is reported, and its events in order.
 #[derive(Drop)]
@@ -77,18 +72,4 @@ impl SceneConfig {
             display_empty_outputs: false,
         }
     }
-}
-
-/// The calls that the events make of a reporter, in order, with what they say of output. They borrow the events' names.
-pub fn whole_calls<'a>(
-    alloc: Global,
-    events: &'a [SceneEvent],
-) -> Result<Vec<ReportCall<'a>>, OutOfMemory>
-    ensures calls { IfOk result (λ calls. AllZip IsCallOf events.now calls.items) }
-{
-    let mut calls = Vec::with_capacity(alloc, events.len())?;
-    for event in events {
-        event.push_call(alloc, &mut calls)?;
-    }
-    Ok(calls)
 }

@@ -8,7 +8,7 @@
 
 ghost use Rattle.std.specs.Prelude.{◌≡◌, ◌++◌, [], false, IfErr, OnErr, OnOk, Ok};
 ghost use Rattle.scene_fields.specs.Split.{parted};
-ghost use Rattle.scene_text.specs.SceneTexts.{IsFaultHere, IsSameRun, IsTold, LeavesLines, ReadsLines, fault_at, is_begun, is_begun_behind, is_passed_over, line_here, line_told_behind, nothing_told, told, words_told_behind};
+ghost use Rattle.scene_text.specs.SceneTexts.{IsSameRun, IsTold, LeavesLines, ReadsLines, fault_at, is_begun, is_begun_behind, is_passed_over, line_here, line_told_behind, nothing_told, told, words_told_behind};
 
 mod info_lines;
 mod lines;
@@ -97,7 +97,7 @@ impl LinesRead {
                 None => return Ok(()),
             };
             let (line, after) = first_line(left);
-            match read_numbered(
+            match read_line(
                 alloc,
                 number,
                 line,
@@ -106,7 +106,7 @@ impl LinesRead {
                 &mut self.run,
             ) {
                 Ok(()) => rest = after,
-                Err(fault) => return Err(fault),
+                Err(error) => return Err(fault_at(number, error)),
             }
             self.next = number + 1;
         }
@@ -115,7 +115,7 @@ impl LinesRead {
     }
 
     /// Reads the lines of a text as `read_more` does. A line that stands alone there gives its memory to a large output in it, which
-    /// is decoded where it stands.
+    /// is decoded where it stands. The errors are those of `read_more`.
     ///
     /// ```
     /// let mut read = LinesRead::new(alloc);
@@ -135,52 +135,12 @@ impl LinesRead {
                 self.next = number + 1;
                 Ok(())
             }
-            Err(fault) => Err(fault),
+            Err(error) => Err(fault_at(number, error)),
         }
     }
 }
 
 // Reads the line of this number into the run, and notes the number where the line tells an event. The list is for its fields.
-#[inline(always)]
-fn read_numbered<'a>(
-    alloc: Global,
-    number: u64,
-    line: &'a [u8],
-    fields: &mut Vec<&'a str>,
-    is_begun: bool,
-    run: &mut ToldRun,
-) -> Result<(), ReadFault>
-    ensures ok { OnOk result (line_told_behind is_begun (told run.old) line.now ≡ Ok (told run.new)) }
-    ensures lines { OnOk result (run.new.lines.items ≡ run.old.lines.items ++ line_here number (told run.old) (told run.new)) }
-    ensures err { IfErr result (IsFaultHere number (line_told_behind is_begun (told run.old) line.now)) }
-    ensures unread { OnErr result (IsSameRun run.old run.new) }
-{
-    match read_line(alloc, number, line, fields, is_begun, run) {
-        Ok(()) => Ok(()),
-        Err(error) => Err(fault_at(number, error)),
-    }
-}
-
-// Reads the line of this number, which has its own memory, as `read_numbered` does.
-fn read_owned_line(
-    alloc: Global,
-    number: u64,
-    line: Vec<u8>,
-    is_begun: bool,
-    run: &mut ToldRun,
-) -> Result<(), ReadFault>
-    ensures ok { OnOk result (line_told_behind is_begun (told run.old) line.items ≡ Ok (told run.new)) }
-    ensures lines { OnOk result (run.new.lines.items ≡ run.old.lines.items ++ line_here number (told run.old) (told run.new)) }
-    ensures err { IfErr result (IsFaultHere number (line_told_behind is_begun (told run.old) line.items)) }
-    ensures unread { OnErr result (IsSameRun run.old run.new) }
-{
-    match read_split_line(alloc, number, line, is_begun, run) {
-        Ok(()) => Ok(()),
-        Err(error) => Err(fault_at(number, error)),
-    }
-}
-
-// Reads a line into the run.
 #[inline(always)]
 #[tactic(auto, unfolding(crate::specs::SceneTexts::line_said, crate::specs::SceneTexts::line_told_behind), using(scene_fields::proofs::lemmas::Utf8::utf8_passes, scene_fields::proofs::lemmas::Utf8::utf8_fails))]
 fn read_line<'a>(
@@ -205,9 +165,9 @@ fn read_line<'a>(
     read_fields(alloc, number, Fields::new(fields.as_slice()), is_begun, run)
 }
 
-// Reads a line that has its own memory into the run.
+// Reads the line of this number, which has its own memory, as `read_line` does.
 #[tactic(auto, unfolding(crate::specs::SceneTexts::line_said, crate::specs::SceneTexts::line_told_behind))]
-fn read_split_line(
+fn read_owned_line(
     alloc: Global,
     number: u64,
     line: Vec<u8>,
@@ -230,7 +190,7 @@ fn read_split_line(
 }
 
 // Reads the fields of a line into the run. An event is large, and goes from its reader straight to the list. What is wrong leaves the run as
-// it was, so the number has its room first.
+// it was: an event whose line cannot be noted goes again.
 #[inline(always)]
 #[tactic(auto, using(std::proofs::lemmas::Bool::Decides::nat_tests))]
 fn read_fields(
@@ -255,11 +215,12 @@ fn read_fields(
             Ok(())
         }
         word => {
-            if run.lines.reserve(1).is_err() {
+            let count = run.events.len();
+            run.events.push(read_event(alloc, word, fields)?)?;
+            if run.lines.push(number).is_err() {
+                run.events.truncate(count);
                 return Err(LineError::OutOfMemory);
             }
-            run.events.push(read_event(alloc, word, fields)?)?;
-            run.lines.push(number)?;
             Ok(())
         }
     }

@@ -1,14 +1,16 @@
 pub mod Devices
 pub mod EventCalls
 pub mod EventLines
-pub mod Followed
 pub mod FollowedDevices
 pub mod FollowedRuns
 pub mod Heads
 pub mod NoConfig
 pub mod ReadLines
+pub mod ReadyCalls
 pub mod Refusals
 pub mod Reports
+pub mod SceneReporters
 pub mod SpelledRuns
 pub mod Unloads
 pub mod UnmadeCalls
+pub mod Zips

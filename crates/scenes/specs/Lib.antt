@@ -1,7 +1,9 @@
 pub mod Follow
 pub mod Judged
+pub mod Outcomes
 pub mod Read
 pub mod Reports
+pub mod SceneReporter
 pub mod SpelledRuns
 pub mod ToldScenes
 pub mod Unloads

@@ -86,25 +86,6 @@ fault_at_call n Memory = OutOfMemory
 fault_at_call n Failed = WriteFailed
 fault_at_call n StoreIo = StoreFailed
 
--- From old, the error ended the report of calls, of which a beginning was accepted, and left new. A fault of the store lets a whole
--- beginning stand.
-abbrev pub Ends : {S : Type 0} → Meaning S → S → Text → WriteEventError → S → Type 0
-Ends m old text RetriedSuccess new = HasFront m old text new
-Ends m old text OutputNotLoaded new = HasFront m old text new
-Ends m old text Io new = Stops m old text Io new
-Ends m old text Memory new = Stops m old text Memory new
-Ends m old text Failed new = Stops m old text Failed new
-Ends m old text StoreIo new = HasFront m old text new
-
--- the same of what is stored of them: a fault of the first writer lets a whole beginning stand
-abbrev pub EndsStore : {S : Type 0} → Meaning S → S → Text → WriteEventError → S → Type 0
-EndsStore m old text RetriedSuccess new = HasFront m old text new
-EndsStore m old text OutputNotLoaded new = HasFront m old text new
-EndsStore m old text Io new = HasFront m old text new
-EndsStore m old text Memory new = StopsRecord m old text Memory new
-EndsStore m old text Failed new = StopsRecord m old text Failed new
-EndsStore m old text StoreIo new = StopsRecord m old text StoreIo new
-
 -- From old, this fault of the program stopped the report, of which a beginning was accepted, and left new: its writer's, its
 -- store's, or memory was refused. No other fault stops one.
 abbrev pub StopsText : {S : Type 0} → Meaning S → S → Text → Fault → S → Type 0

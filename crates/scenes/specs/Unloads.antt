@@ -1,6 +1,6 @@
 -- The calls that a scene's reporter gets: those of its events, where it is asked for with the output left unread that no report
 -- shows.
-use Rattle.std.specs.Prelude.{◌≡◌, List, if◌then◌else◌}
+use Rattle.std.specs.Prelude.{◌≡◌, Bool, List, if◌then◌else◌}
 use Rattle.console_reporter.specs.Accepted.{decider_of}
 use Rattle.console_reporter.specs.Isolation.{IsIsolated}
 use Rattle.reporter_state.specs.Unread.{unread, unread_call}
@@ -17,6 +17,14 @@ use Rattle.command_line.specs.declared.words.Options.{Options}
 abbrev pub decider_for : Options → SceneConfig → OutputLoadDecider
 decider_for options config = decider_of (configuration_for options config)
 
+-- a call as it is, or with its output left unread where the decider skips it
+abbrev pub ready_if : Bool → OutputLoadDecider → ReportCall → ReportCall
+ready_if unloads d call = if unloads then unread_call d call else call
+
+-- a call as the scene's reporter gets it: where that is asked for, with the output left unread that no report shows
+abbrev pub ready : Options → SceneConfig → ReportCall → ReportCall
+ready options config = ready_if options.unload_skipped (decider_for options config)
+
 -- the calls of the scene, or the same with the output left unread that the decider skips
 abbrev pub unloaded_for : Options → Scene → List ReportCall → List ReportCall
 unloaded_for options scene made = if options.unload_skipped then unread (decider_for options scene.config) made else made
@@ -25,7 +33,7 @@ unloaded_for options scene made = if options.unload_skipped then unread (decider
 pub record IsReadyCall (options : Options) (d : OutputLoadDecider) (event : SceneEvent) (call : ReportCall) : Type 0 where
   pub made : ReportCall
   pub of_event : IsCallOf event made
-  pub ready : call ≡ (if options.unload_skipped then unread_call d made else made)
+  pub ready : call ≡ ready_if options.unload_skipped d made
 
 -- the calls are those, and so they have the report of the scene's calls, and the first that is refused is the same
 pub record AreReadyCallsOf (options : Options) (scene : Scene) (calls : List ReportCall) : Type 0 where

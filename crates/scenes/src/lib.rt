@@ -7,10 +7,12 @@
 #![tactic(auto)]
 
 pub mod follow;
+mod outcome;
 pub mod process;
 pub mod program;
 mod read;
 pub mod reporter;
 pub mod scene;
+mod scene_reporter;
 
 pub use command_line::{fault, words};

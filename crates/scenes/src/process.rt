@@ -7,7 +7,8 @@ ghost use Rattle.command_line.specs.declared.fault.Fault.{Fault};
 use command_line::fault::{Fault, FaultLine, Program};
 use std::{env, io};
 
-/// The words that follow the program's name.
+/// The words that follow the program's name. No clause says which they are, since none of the kit does; each stored run shows it. The error is
+/// `Usage` where a word is no text, or that memory is refused.
 pub fn arguments(rt: &HostRuntime) -> Result<Vec<String>, Fault<'static>>
     ensures err { IfErr result (λ fault. (fault ≡ Fault.Usage) ⊎ (fault ≡ Fault.OutOfMemory)) }
 {

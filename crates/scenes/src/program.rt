@@ -7,25 +7,22 @@ ghost use Rattle.std.specs.Prelude.{◌≡◌, ◌⊎◌, ℕ, List, [], Option,
 ghost use Rattle.command_line.specs.declared.fault.Fault.{Fault};
 ghost use Rattle.scene_fields.specs.Split.{parted};
 ghost use Rattle.command_line.specs.Faults.{IsJudgeFault};
-ghost use Rattle.console_reporter.specs.HeldState.{StandsAfter};
 ghost use Rattle.console_reporter.specs.Slots.{IsSameStore, config_of, store_delivered, store_meaning};
-ghost use Rattle.console_reporter.specs.Telling.{AreDelivered, IsSameReporter};
-ghost use Rattle.scenes.specs.Follow.{BreaksTold, HasToldTo};
+ghost use Rattle.scenes.specs.SceneReporter.{BreaksTold, HasToldTo};
 ghost use Rattle.scenes.specs.Judged.{IsJudged, IsJudgedFault, IsSceneAccepted, IsSceneRefused, JudgesEvent};
-ghost use Rattle.scenes.specs.Reports.{configuration_for, store_for};
+ghost use Rattle.scenes.specs.Reports.{store_for};
 ghost use Rattle.scene_text.specs.SceneTexts.{AllTell, event_lines, nothing_told, text_told};
 ghost use Rattle.scenes.specs.SpelledRuns.{BeginsReport, BeginsRun, IsRejected, PrintsReport, PrintsRun};
-ghost use Rattle.scene_events.specs.Scenes.{IsCallOf};
-ghost use Rattle.scenes.specs.Unloads.{IsReadyCall};
 ghost use Rattle.scenes.specs.ToldScenes.{IsReadFault, IsSceneRead, scene_told};
 
 use crate::read::{BYTES_AT_ONCE, read_next};
 use crate::reporter::{builder_of, decider_of, fault_at_call, surroundings_of};
 use crate::scene::Scene;
 use crate::scene::event::SceneEvent;
+use crate::scene_reporter::{SceneReporter, call_in};
 use command_line::fault::Fault;
 use command_line::words::Options;
-use console_reporter::imp::{DisplayReporter, OutputLoadDecider, ReportCall, Store, give_back};
+use console_reporter::imp::{OutputLoadDecider, ReportCall, Store, give_back};
 use console_reporter::write_str::{TextBuffer, WriteStr};
 use run_model::memory::OutOfMemory;
 use scene_text::reader::LinesRead;
@@ -167,22 +164,6 @@ fn judge_event<'a>(
     }
 }
 
-/// Makes the call of an event in a buffer, in place of what stood there: calls are large, and nothing is allocated for each.
-pub(crate) fn call_in<'r, 'a>(
-    alloc: Global,
-    event: &'a SceneEvent,
-    buffer: &'r mut Vec<ReportCall<'a>>,
-) -> Result<&'r mut ReportCall<'a>, OutOfMemory>
-    ensures { IfOk result (λ call. IsCallOf event.now call.now) }
-{
-    buffer.clear();
-    event.push_call(alloc, buffer)?;
-    match buffer.as_mut_slice().first_mut() {
-        Some(call) => Ok(call),
-        None => unreachable!(),
-    }
-}
-
 /// Reads a scene to its end, judges it, and writes its report to a device and its records to a second one, if the options ask for
 /// them. It gives both devices back: the whole way from a file's bytes to those of both texts. A scene that has a fault leaves the
 /// devices as they were.
@@ -315,57 +296,10 @@ fn report_to<'w, W: WriteStr, S: WriteStr>(
         Ok(builder) => builder,
         Err(fault) => return (Err(fault), writer, store),
     };
-    let mut reporter = builder.build_in(alloc, writer, store, surroundings_of(&scene.config));
-    let outcome = report_events(alloc, options, scene, &mut reporter);
-    let (writer, store) = reporter.into_parts();
-    (outcome, writer, store)
-}
-
-// Makes the calls of a scene that is accepted, each when its turn comes, and ends the report.
-fn report_events<W: WriteStr, S: WriteStr>(
-    alloc: Global,
-    options: &Options<'_>,
-    scene: &Scene,
-    reporter: &mut DisplayReporter<'_, W, S>,
-) -> Result<(), Fault<'static>>
-    requires stands { StandsAfter (configuration_for options.now scene.now.config) [] reporter.old }
-    requires delivered { AreDelivered W.meaning S.meaning reporter.old }
-    requires accepted { IsSceneAccepted options.now scene.now }
-    ensures same { IsSameReporter reporter.old reporter.new }
-    ensures ok { OnOk result (HasToldTo W.meaning (store_meaning S.meaning) options.now reporter.old.writer.now reporter.new.writer.now reporter.old.store reporter.new.store (scene_told scene.now)) }
-    ensures err { IfErr result (BreaksTold W.meaning (store_meaning S.meaning) options.now reporter.old.writer.now reporter.new.writer.now reporter.old.store reporter.new.store (scene_told scene.now)) }
-{
-    let decider = reporter.output_load_decider();
-    let mut buffer = Vec::new(alloc);
-    for place in 0..scene.events.len() {
-        let call = match ready_call(alloc, options, &decider, &scene.events[place], &mut buffer) {
-            Ok(call) => call,
-            Err(OutOfMemory) => return Err(Fault::OutOfMemory),
-        };
-        if let Err(error) = reporter.make_call(alloc, call) {
-            return Err(fault_at_call(scene.line_of(place), error));
-        }
-    }
-    // The end of a report is never refused, so no line is told.
-    if let Err(error) = reporter.finish() {
-        return Err(fault_at_call(0, error));
-    }
-    Ok(())
-}
-
-// The call of an event in a buffer, with its output left unread where that is asked for and the report does not show it.
-fn ready_call<'r, 'a>(
-    alloc: Global,
-    options: &Options<'_>,
-    decider: &OutputLoadDecider,
-    event: &'a SceneEvent,
-    buffer: &'r mut Vec<ReportCall<'a>>,
-) -> Result<&'r ReportCall<'a>, OutOfMemory>
-    ensures { IfOk result (λ call. IsReadyCall options.now decider.now event.now call.now) }
-{
-    let call = call_in(alloc, event, buffer)?;
-    if options.unload_skipped {
-        decider.unload(call);
-    }
-    Ok(call)
+    let reporter = builder.build_in(alloc, writer, store, surroundings_of(&scene.config));
+    let mut reporter = SceneReporter::new(reporter);
+    let (events, lines) = (scene.events.as_slice(), scene.lines.as_slice());
+    let reported = reporter.report_events(alloc, options, events, lines);
+    let (writer, store) = reporter.reporter.into_parts();
+    (reported, writer, store)
 }

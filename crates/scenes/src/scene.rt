@@ -1,13 +1,15 @@
 //! A run as a scene holds it, and the calls that it makes of its reporter.
 
 ghost use Rattle.std.specs.Prelude.{◌≡◌, IfOk, IfErr, get_or};
+ghost use Rattle.std.specs.List.{AllZip};
+ghost use Rattle.scene_events.specs.Scenes.{IsCallOf};
 ghost use Rattle.scenes.specs.Unloads.{AreReadyCallsOf};
 
 use crate::reporter::decider_of;
 use command_line::fault::Fault;
 use command_line::words::Options;
 use console_reporter::imp::{ReportCall, unload_skipped};
-use scene_text::scene::whole_calls;
+use run_model::memory::OutOfMemory;
 pub use scene_text::scene::{
     SceneConfig, attempts, event, info_events, replay_calls, run_events, script_events, states,
     stress_events, test_events,
@@ -52,6 +54,20 @@ impl Scene {
         unload_skipped(&decider, calls.as_mut_slice());
         Ok(calls)
     }
+}
+
+// The calls of events, in order, with what they say of output.
+fn whole_calls<'a>(
+    alloc: Global,
+    events: &'a [event::SceneEvent],
+) -> Result<Vec<ReportCall<'a>>, OutOfMemory>
+    ensures calls { IfOk result (λ calls. AllZip IsCallOf events.now calls.items) }
+{
+    let mut calls = Vec::with_capacity(alloc, events.len())?;
+    for event in events {
+        event.push_call(alloc, &mut calls)?;
+    }
+    Ok(calls)
 }
 
 // The line at this place, or 0.

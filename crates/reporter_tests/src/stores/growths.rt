@@ -43,11 +43,11 @@ fn two_texts_that_grow(rt: HostRuntime) -> Result<(), Fail> {
 fn calls_after_memory_was_refused(rt: HostRuntime) -> Result<(), Fail> {
     let alloc = rt.alloc();
     let tests = two_tests(alloc)?;
-    let calls = calls_of(alloc, &tests)?;
-    let prefix = ShortestRunIdPrefix::new(alloc, "0", "0000000-0000-4000-8000-000000000001");
-    let prefix = ReportCall::Prefix(prefix?);
-    let (mut report, mut records) = (String::new(alloc), String::new(alloc));
     let builder = line_builder(alloc)?;
+    let prefix = ShortestRunIdPrefix::new(alloc, "0", "0000000-0000-4000-8000-000000000001")?;
+    let calls = calls_of(alloc, &tests)?;
+    let prefix = ReportCall::Prefix(prefix);
+    let (mut report, mut records) = (String::new(alloc), String::new(alloc));
     let mut reporter = builder.build_with_store(
         alloc,
         &mut report,

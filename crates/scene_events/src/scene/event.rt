@@ -1,6 +1,7 @@
 //! The events of a scene.
 
-ghost use Rattle.std.specs.Prelude.{◌≡◌, OnOk, OnErr};
+ghost use Rattle.std.specs.Prelude.{◌≡◌};
+ghost use Rattle.scene_events.specs.Scenes.{IsPushed, PushesCallOf};
 
 use super::info_events::{InfoFinish, InfoStart, ScriptAnswer, TestAnswer};
 use super::replay_calls::{SceneHeader, push_prefix_call};
@@ -74,8 +75,7 @@ pub enum SceneEvent {
 const _: () = prove!(size_of::<SceneEvent>() == 288);
 
 impl SceneEvent {
-    ghost use Rattle.std.specs.Prelude.{IfOk};
-    ghost use Rattle.scene_events.specs.Scenes.{AddsCallOf, IsCallOf, needs_judging};
+    ghost use Rattle.scene_events.specs.Scenes.{needs_judging};
 
     /// Whether its call has to be looked at to know whether a reporter refuses it: output of it was left unread, or an attempt that
     /// succeeded is told as one that is tried again. No reporter refuses any other event; a header, of which a run has one, counts
@@ -101,14 +101,21 @@ impl SceneEvent {
         }
     }
 
-    /// Pushes this event as a `ReportCall`, which is built in place: it is large.
+    /// Pushes the call that this event is. It borrows the event's names.
+    ///
+    /// ```
+    /// use scene_events::scene::run_events::RunPause;
+    /// let paused = SceneEvent::RunPaused(RunPause { setup_scripts_running: 0, running: 2 });
+    /// let mut calls = Vec::new(alloc);
+    /// paused.push_call(alloc, &mut calls)?;
+    /// assert!(matches!(calls.as_slice(), [ReportCall::Event(_)]));
+    /// ```
     pub fn push_call<'a>(
         &'a self,
         alloc: Global,
         calls: &mut Vec<ReportCall<'a>>,
     ) -> Result<(), OutOfMemory>
-        ensures call { OnOk result (AddsCallOf self.now calls.old.items calls.new.items) }
-        ensures unchanged { OnErr result (calls.new.items ≡ calls.old.items) }
+        ensures { PushesCallOf self.now calls.old.items result calls.new.items }
     {
         match self {
             SceneEvent::Prefix(prefix) => push_prefix_call(alloc, prefix, calls),
@@ -137,38 +144,36 @@ impl SceneEvent {
             SceneEvent::RunFinished(finish) => finish.push_call(alloc, calls),
         }
     }
-
-    /// The call that this event is. It borrows the event's names.
-    ///
-    /// ```
-    /// use scene_events::scene::run_events::RunPause;
-    /// let paused = SceneEvent::RunPaused(RunPause { setup_scripts_running: 0, running: 2 });
-    /// assert!(matches!(paused.call(alloc)?, ReportCall::Event(_)));
-    /// ```
-    pub fn call(&self, alloc: Global) -> Result<ReportCall<'_>, OutOfMemory>
-        ensures { IfOk result (IsCallOf self.now) }
-    {
-        let mut calls = Vec::new(alloc);
-        self.push_call(alloc, &mut calls)?;
-        match calls.pop() {
-            Some(call) => Ok(call),
-            None => unreachable!(),
-        }
-    }
 }
 
-/// The call of an event that a scene does not say the time of.
+/// Pushes an event that a scene does not say the time of.
 #[inline(always)]
-pub fn call_of(kind: TestEventKind<'_>) -> ReportCall<'_>
-    ensures { result ≡ ReportCall.Event (record { elapsed = record { 0 = 0 }; kind = kind.entry }) }
+pub fn push_event<'a>(
+    calls: &mut Vec<ReportCall<'a>>,
+    kind: TestEventKind<'a>,
+) -> Result<(), OutOfMemory>
+    ensures { IsPushed (ReportCall.Event (record { elapsed = record { 0 = 0 }; kind = kind.entry })) calls.old.items result calls.new.items }
 {
-    call_after(Nanos(0), kind)
+    push_event_after(calls, Nanos(0), kind)
 }
 
-/// The call of an event, and how long the run had taken when it happened.
+/// Pushes an event, and how long the run had taken when it happened.
 #[inline(always)]
-pub fn call_after(elapsed: Nanos, kind: TestEventKind<'_>) -> ReportCall<'_>
-    ensures { result ≡ ReportCall.Event (record { elapsed = elapsed; kind = kind.entry }) }
+pub fn push_event_after<'a>(
+    calls: &mut Vec<ReportCall<'a>>,
+    elapsed: Nanos,
+    kind: TestEventKind<'a>,
+) -> Result<(), OutOfMemory>
+    ensures { IsPushed (ReportCall.Event (record { elapsed = elapsed; kind = kind.entry })) calls.old.items result calls.new.items }
 {
-    ReportCall::Event(TestEvent { elapsed, kind })
+    push(calls, ReportCall::Event(TestEvent { elapsed, kind }))
+}
+
+/// Pushes a call, which is built in place: it is large.
+#[inline(always)]
+pub fn push<'a>(calls: &mut Vec<ReportCall<'a>>, call: ReportCall<'a>) -> Result<(), OutOfMemory>
+    ensures { IsPushed call.entry calls.old.items result calls.new.items }
+{
+    calls.push(call)?;
+    Ok(())
 }

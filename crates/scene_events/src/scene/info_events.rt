@@ -1,10 +1,9 @@
 //! The events that tell what the units of a run are doing.
 
-ghost use Rattle.std.specs.Prelude.{◌≡◌, OnOk, OnErr};
-ghost use Rattle.scene_events.specs.Scenes.{AddsCallOf};
+ghost use Rattle.scene_events.specs.Scenes.{PushesCallOf};
 ghost use Rattle.scene_events.specs.declared.scene.event.SceneEvent.{SceneEvent};
 
-use super::event::{call_after, call_of};
+use super::event::{push_event, push_event_after};
 use super::script_events::SceneScript;
 use super::states::SceneState;
 use super::test_events::SceneTest;
@@ -80,15 +79,13 @@ pub struct InfoFinish {
 impl InfoStart {
     /// Pushes this event as a `ReportCall`.
     pub fn push_call<'a>(&self, calls: &mut Vec<ReportCall<'a>>) -> Result<(), OutOfMemory>
-        ensures call { OnOk result (AddsCallOf (SceneEvent.InfoStarted self.now) calls.old.items calls.new.items) }
-        ensures unchanged { OnErr result (calls.new.items ≡ calls.old.items) }
+        ensures { PushesCallOf (SceneEvent.InfoStarted self.now) calls.old.items result calls.new.items }
     {
         let kind = TestEventKind::InfoStarted {
             total: self.total,
             run_stats: self.run_stats,
         };
-        calls.push(call_after(self.elapsed, kind))?;
-        Ok(())
+        push_event_after(calls, self.elapsed, kind)
     }
 }
 
@@ -99,25 +96,26 @@ impl ScriptAnswer {
         alloc: Global,
         calls: &mut Vec<ReportCall<'a>>,
     ) -> Result<(), OutOfMemory>
-        ensures call { OnOk result (AddsCallOf (SceneEvent.ScriptAnswered self.now) calls.old.items calls.new.items) }
-        ensures unchanged { OnErr result (calls.new.items ≡ calls.old.items) }
+        ensures { PushesCallOf (SceneEvent.ScriptAnswered self.now) calls.old.items result calls.new.items }
     {
         let script = self.script.copy(alloc)?;
         let state = self.answer.state.get().state(alloc)?;
         let output = self.answer.output.get().copy(alloc)?;
-        calls.push(call_of(TestEventKind::InfoResponse {
-            index: self.index,
-            total: self.total,
-            response: InfoResponse::SetupScript(SetupScriptInfoResponse {
-                stress_index: self.stress_index,
-                script_id: script.script_id,
-                program: script.program,
-                args: script.args,
-                state: Boxed::new(alloc, state)?,
-                output: Boxed::new(alloc, output)?,
-            }),
-        }))?;
-        Ok(())
+        push_event(
+            calls,
+            TestEventKind::InfoResponse {
+                index: self.index,
+                total: self.total,
+                response: InfoResponse::SetupScript(SetupScriptInfoResponse {
+                    stress_index: self.stress_index,
+                    script_id: script.script_id,
+                    program: script.program,
+                    args: script.args,
+                    state: Boxed::new(alloc, state)?,
+                    output: Boxed::new(alloc, output)?,
+                }),
+            },
+        )
     }
 }
 
@@ -128,35 +126,37 @@ impl TestAnswer {
         alloc: Global,
         calls: &mut Vec<ReportCall<'a>>,
     ) -> Result<(), OutOfMemory>
-        ensures call { OnOk result (AddsCallOf (SceneEvent.TestAnswered self.now) calls.old.items calls.new.items) }
-        ensures unchanged { OnErr result (calls.new.items ≡ calls.old.items) }
+        ensures { PushesCallOf (SceneEvent.TestAnswered self.now) calls.old.items result calls.new.items }
     {
         let state = self.answer.state.get().state(alloc)?;
         let output = self.answer.output.get().copy(alloc)?;
-        calls.push(call_of(TestEventKind::InfoResponse {
-            index: self.index,
-            total: self.total,
-            response: InfoResponse::Test(TestInfoResponse {
-                stress_index: self.test.stress_index,
-                test_instance: self.test.instance(),
-                retry_data: self.retry_data,
-                state: Boxed::new(alloc, state)?,
-                output: Boxed::new(alloc, output)?,
-            }),
-        }))?;
-        Ok(())
+        push_event(
+            calls,
+            TestEventKind::InfoResponse {
+                index: self.index,
+                total: self.total,
+                response: InfoResponse::Test(TestInfoResponse {
+                    stress_index: self.test.stress_index,
+                    test_instance: self.test.instance(),
+                    retry_data: self.retry_data,
+                    state: Boxed::new(alloc, state)?,
+                    output: Boxed::new(alloc, output)?,
+                }),
+            },
+        )
     }
 }
 
 impl InfoFinish {
     /// Pushes this event as a `ReportCall`.
     pub fn push_call<'a>(&self, calls: &mut Vec<ReportCall<'a>>) -> Result<(), OutOfMemory>
-        ensures call { OnOk result (AddsCallOf (SceneEvent.InfoFinished self.now) calls.old.items calls.new.items) }
-        ensures unchanged { OnErr result (calls.new.items ≡ calls.old.items) }
+        ensures { PushesCallOf (SceneEvent.InfoFinished self.now) calls.old.items result calls.new.items }
     {
-        calls.push(call_of(TestEventKind::InfoFinished {
-            missing: self.missing,
-        }))?;
-        Ok(())
+        push_event(
+            calls,
+            TestEventKind::InfoFinished {
+                missing: self.missing,
+            },
+        )
     }
 }

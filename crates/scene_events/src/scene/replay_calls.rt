@@ -1,9 +1,10 @@
 //! What a replay asks of a reporter that is no event.
 
-ghost use Rattle.std.specs.Prelude.{◌≡◌, OnOk, OnErr};
-ghost use Rattle.scene_events.specs.Scenes.{AddsCallOf};
+ghost use Rattle.std.specs.Prelude.{◌≡◌};
+ghost use Rattle.scene_events.specs.Scenes.{PushesCallOf};
 ghost use Rattle.scene_events.specs.declared.scene.event.SceneEvent.{SceneEvent};
 
+use super::event::push;
 use jiff::civil::{Date, DateTime, Time};
 use run_model::abort::DescriptionText;
 use run_model::call::ReportCall;
@@ -62,20 +63,21 @@ impl SceneHeader {
         alloc: Global,
         calls: &mut Vec<ReportCall<'a>>,
     ) -> Result<(), OutOfMemory>
-        ensures call { OnOk result (AddsCallOf (SceneEvent.Header self.now) calls.old.items calls.new.items) }
-        ensures unchanged { OnErr result (calls.new.items ≡ calls.old.items) }
+        ensures { PushesCallOf (SceneEvent.Header self.now) calls.old.items result calls.new.items }
     {
         let unique_prefix = match &self.unique_prefix {
             Some(prefix) => Some(prefix.copy(alloc)?),
             None => None,
         };
-        calls.push(ReportCall::Header(ReplayHeader {
-            run_id: self.run_id,
-            unique_prefix,
-            started_at: self.started_at.date_time,
-            status: self.status.copy(alloc)?,
-        }))?;
-        Ok(())
+        push(
+            calls,
+            ReportCall::Header(ReplayHeader {
+                run_id: self.run_id,
+                unique_prefix,
+                started_at: self.started_at.date_time,
+                status: self.status.copy(alloc)?,
+            }),
+        )
     }
 }
 
@@ -85,9 +87,7 @@ pub fn push_prefix_call<'a>(
     prefix: &ShortestRunIdPrefix,
     calls: &mut Vec<ReportCall<'a>>,
 ) -> Result<(), OutOfMemory>
-    ensures call { OnOk result (AddsCallOf (SceneEvent.Prefix prefix.now) calls.old.items calls.new.items) }
-    ensures unchanged { OnErr result (calls.new.items ≡ calls.old.items) }
+    ensures { PushesCallOf (SceneEvent.Prefix prefix.now) calls.old.items result calls.new.items }
 {
-    calls.push(ReportCall::Prefix(prefix.copy(alloc)?))?;
-    Ok(())
+    push(calls, ReportCall::Prefix(prefix.copy(alloc)?))
 }

@@ -1,10 +1,10 @@
 //! The events of a run.
 
-ghost use Rattle.std.specs.Prelude.{◌≡◌, IfOk, OnOk, OnErr};
-ghost use Rattle.scene_events.specs.Scenes.{AddsCallOf, nothing_counted};
+ghost use Rattle.std.specs.Prelude.{◌≡◌, IfOk};
+ghost use Rattle.scene_events.specs.Scenes.{PushesCallOf, nothing_counted};
 ghost use Rattle.scene_events.specs.declared.scene.event.SceneEvent.{SceneEvent};
 
-use super::event::{call_after, call_of};
+use super::event::{push_event, push_event_after};
 use run_model::call::ReportCall;
 use run_model::event::{TestCounts, TestEventKind};
 use run_model::level::CancelReason;
@@ -76,57 +76,61 @@ impl RunStart {
         alloc: Global,
         calls: &mut Vec<ReportCall<'a>>,
     ) -> Result<(), OutOfMemory>
-        ensures call { OnOk result (AddsCallOf (SceneEvent.RunStarted self.now) calls.old.items calls.new.items) }
-        ensures unchanged { OnErr result (calls.new.items ≡ calls.old.items) }
+        ensures { PushesCallOf (SceneEvent.RunStarted self.now) calls.old.items result calls.new.items }
     {
-        calls.push(call_of(TestEventKind::RunStarted {
-            test_list: self.test_list,
-            run_id: self.run_id,
-            profile_name: ProfileName::new(alloc, self.profile_name.as_str())?,
-        }))?;
-        Ok(())
+        push_event(
+            calls,
+            TestEventKind::RunStarted {
+                test_list: self.test_list,
+                run_id: self.run_id,
+                profile_name: ProfileName::new(alloc, self.profile_name.as_str())?,
+            },
+        )
     }
 }
 
 impl RunCancel {
     /// Pushes the begin of a cancel as a `ReportCall`. A scene tells no counts there.
     pub fn push_cancel_call<'a>(&self, calls: &mut Vec<ReportCall<'a>>) -> Result<(), OutOfMemory>
-        ensures call { OnOk result (AddsCallOf (SceneEvent.RunBeginCancel self.now) calls.old.items calls.new.items) }
-        ensures unchanged { OnErr result (calls.new.items ≡ calls.old.items) }
+        ensures { PushesCallOf (SceneEvent.RunBeginCancel self.now) calls.old.items result calls.new.items }
     {
-        calls.push(call_of(TestEventKind::RunBeginCancel {
-            setup_scripts_running: self.setup_scripts_running,
-            current_stats: nothing_counted(self.reason),
-            running: self.running,
-        }))?;
-        Ok(())
+        push_event(
+            calls,
+            TestEventKind::RunBeginCancel {
+                setup_scripts_running: self.setup_scripts_running,
+                current_stats: nothing_counted(self.reason),
+                running: self.running,
+            },
+        )
     }
 
     /// Pushes the begin of a kill in the same way.
     pub fn push_kill_call<'a>(&self, calls: &mut Vec<ReportCall<'a>>) -> Result<(), OutOfMemory>
-        ensures call { OnOk result (AddsCallOf (SceneEvent.RunBeginKill self.now) calls.old.items calls.new.items) }
-        ensures unchanged { OnErr result (calls.new.items ≡ calls.old.items) }
+        ensures { PushesCallOf (SceneEvent.RunBeginKill self.now) calls.old.items result calls.new.items }
     {
-        calls.push(call_of(TestEventKind::RunBeginKill {
-            setup_scripts_running: self.setup_scripts_running,
-            current_stats: nothing_counted(self.reason),
-            running: self.running,
-        }))?;
-        Ok(())
+        push_event(
+            calls,
+            TestEventKind::RunBeginKill {
+                setup_scripts_running: self.setup_scripts_running,
+                current_stats: nothing_counted(self.reason),
+                running: self.running,
+            },
+        )
     }
 }
 
 impl RunPause {
     /// Pushes that the run is paused as a `ReportCall`.
     pub fn push_paused_call<'a>(&self, calls: &mut Vec<ReportCall<'a>>) -> Result<(), OutOfMemory>
-        ensures call { OnOk result (AddsCallOf (SceneEvent.RunPaused self.now) calls.old.items calls.new.items) }
-        ensures unchanged { OnErr result (calls.new.items ≡ calls.old.items) }
+        ensures { PushesCallOf (SceneEvent.RunPaused self.now) calls.old.items result calls.new.items }
     {
-        calls.push(call_of(TestEventKind::RunPaused {
-            setup_scripts_running: self.setup_scripts_running,
-            running: self.running,
-        }))?;
-        Ok(())
+        push_event(
+            calls,
+            TestEventKind::RunPaused {
+                setup_scripts_running: self.setup_scripts_running,
+                running: self.running,
+            },
+        )
     }
 
     /// Pushes that the run continues as a `ReportCall`.
@@ -134,29 +138,28 @@ impl RunPause {
         &self,
         calls: &mut Vec<ReportCall<'a>>,
     ) -> Result<(), OutOfMemory>
-        ensures call { OnOk result (AddsCallOf (SceneEvent.RunContinued self.now) calls.old.items calls.new.items) }
-        ensures unchanged { OnErr result (calls.new.items ≡ calls.old.items) }
+        ensures { PushesCallOf (SceneEvent.RunContinued self.now) calls.old.items result calls.new.items }
     {
-        calls.push(call_of(TestEventKind::RunContinued {
-            setup_scripts_running: self.setup_scripts_running,
-            running: self.running,
-        }))?;
-        Ok(())
+        push_event(
+            calls,
+            TestEventKind::RunContinued {
+                setup_scripts_running: self.setup_scripts_running,
+                running: self.running,
+            },
+        )
     }
 }
 
 impl StateRequest {
     /// Pushes this event as a `ReportCall`.
     pub fn push_call<'a>(&self, calls: &mut Vec<ReportCall<'a>>) -> Result<(), OutOfMemory>
-        ensures call { OnOk result (AddsCallOf (SceneEvent.InputEnter self.now) calls.old.items calls.new.items) }
-        ensures unchanged { OnErr result (calls.new.items ≡ calls.old.items) }
+        ensures { PushesCallOf (SceneEvent.InputEnter self.now) calls.old.items result calls.new.items }
     {
         let kind = TestEventKind::InputEnter {
             current_stats: self.current_stats,
             running: self.running,
         };
-        calls.push(call_after(self.elapsed, kind))?;
-        Ok(())
+        push_event_after(calls, self.elapsed, kind)
     }
 }
 
@@ -167,19 +170,20 @@ impl RunFinish {
         alloc: Global,
         calls: &mut Vec<ReportCall<'a>>,
     ) -> Result<(), OutOfMemory>
-        ensures call { OnOk result (AddsCallOf (SceneEvent.RunFinished self.now) calls.old.items calls.new.items) }
-        ensures unchanged { OnErr result (calls.new.items ≡ calls.old.items) }
+        ensures { PushesCallOf (SceneEvent.RunFinished self.now) calls.old.items result calls.new.items }
     {
         let outstanding_not_seen = match &self.outstanding_not_seen {
             Some(outstanding) => Some(copy_not_seen(alloc, outstanding)?),
             None => None,
         };
-        calls.push(call_of(TestEventKind::RunFinished {
-            elapsed: self.elapsed,
-            run_stats: self.run_stats,
-            outstanding_not_seen,
-        }))?;
-        Ok(())
+        push_event(
+            calls,
+            TestEventKind::RunFinished {
+                elapsed: self.elapsed,
+                run_stats: self.run_stats,
+                outstanding_not_seen,
+            },
+        )
     }
 }
 

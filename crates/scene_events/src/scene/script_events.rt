@@ -1,11 +1,11 @@
 //! The events of setup scripts.
 
-ghost use Rattle.std.specs.Prelude.{◌≡◌, IfOk, OnOk, OnErr};
-ghost use Rattle.scene_events.specs.Scenes.{AddsCallOf};
+ghost use Rattle.std.specs.Prelude.{◌≡◌, IfOk};
+ghost use Rattle.scene_events.specs.Scenes.{PushesCallOf};
 ghost use Rattle.scene_events.specs.declared.scene.event.SceneEvent.{SceneEvent};
 
 use super::attempts::SceneAttempt;
-use super::event::call_of;
+use super::event::push_event;
 use run_model::call::ReportCall;
 use run_model::command::CommandLine;
 use run_model::event::TestEventKind;
@@ -83,19 +83,20 @@ impl SetupStart {
         alloc: Global,
         calls: &mut Vec<ReportCall<'a>>,
     ) -> Result<(), OutOfMemory>
-        ensures call { OnOk result (AddsCallOf (SceneEvent.SetupScriptStarted self.now) calls.old.items calls.new.items) }
-        ensures unchanged { OnErr result (calls.new.items ≡ calls.old.items) }
+        ensures { PushesCallOf (SceneEvent.SetupScriptStarted self.now) calls.old.items result calls.new.items }
     {
         let script = self.script.copy(alloc)?;
-        calls.push(call_of(TestEventKind::SetupScriptStarted {
-            stress_index: self.stress_index,
-            index: self.index,
-            total: self.total,
-            script_id: script.script_id,
-            program: script.program,
-            args: script.args,
-        }))?;
-        Ok(())
+        push_event(
+            calls,
+            TestEventKind::SetupScriptStarted {
+                stress_index: self.stress_index,
+                index: self.index,
+                total: self.total,
+                script_id: script.script_id,
+                program: script.program,
+                args: script.args,
+            },
+        )
     }
 }
 
@@ -106,19 +107,20 @@ impl SlowSetup {
         alloc: Global,
         calls: &mut Vec<ReportCall<'a>>,
     ) -> Result<(), OutOfMemory>
-        ensures call { OnOk result (AddsCallOf (SceneEvent.SetupScriptSlow self.now) calls.old.items calls.new.items) }
-        ensures unchanged { OnErr result (calls.new.items ≡ calls.old.items) }
+        ensures { PushesCallOf (SceneEvent.SetupScriptSlow self.now) calls.old.items result calls.new.items }
     {
         let script = self.script.copy(alloc)?;
-        calls.push(call_of(TestEventKind::SetupScriptSlow {
-            stress_index: self.stress_index,
-            script_id: script.script_id,
-            program: script.program,
-            args: script.args,
-            elapsed: self.elapsed,
-            will_terminate: self.will_terminate,
-        }))?;
-        Ok(())
+        push_event(
+            calls,
+            TestEventKind::SetupScriptSlow {
+                stress_index: self.stress_index,
+                script_id: script.script_id,
+                program: script.program,
+                args: script.args,
+                elapsed: self.elapsed,
+                will_terminate: self.will_terminate,
+            },
+        )
     }
 }
 
@@ -129,18 +131,19 @@ impl SetupFinish {
         alloc: Global,
         calls: &mut Vec<ReportCall<'a>>,
     ) -> Result<(), OutOfMemory>
-        ensures call { OnOk result (AddsCallOf (SceneEvent.SetupScriptFinished self.now) calls.old.items calls.new.items) }
-        ensures unchanged { OnErr result (calls.new.items ≡ calls.old.items) }
+        ensures { PushesCallOf (SceneEvent.SetupScriptFinished self.now) calls.old.items result calls.new.items }
     {
         let script = self.script.copy(alloc)?;
         let run_status = self.attempt.script_status(alloc)?;
-        calls.push(call_of(TestEventKind::SetupScriptFinished {
-            stress_index: self.stress_index,
-            script_id: script.script_id,
-            program: script.program,
-            args: script.args,
-            run_status,
-        }))?;
-        Ok(())
+        push_event(
+            calls,
+            TestEventKind::SetupScriptFinished {
+                stress_index: self.stress_index,
+                script_id: script.script_id,
+                program: script.program,
+                args: script.args,
+                run_status,
+            },
+        )
     }
 }

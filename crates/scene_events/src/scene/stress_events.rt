@@ -1,10 +1,9 @@
 //! The events of the iterations of a stress run.
 
-ghost use Rattle.std.specs.Prelude.{OnOk, OnErr, ◌≡◌};
-ghost use Rattle.scene_events.specs.Scenes.{AddsCallOf};
+ghost use Rattle.scene_events.specs.Scenes.{PushesCallOf};
 ghost use Rattle.scene_events.specs.declared.scene.event.SceneEvent.{SceneEvent};
 
-use super::event::call_of;
+use super::event::push_event;
 use run_model::call::ReportCall;
 use run_model::event::TestEventKind;
 use run_model::memory::OutOfMemory;
@@ -33,27 +32,29 @@ pub struct SubRunFinish {
 impl SubRunStart {
     /// Pushes this event as a `ReportCall`.
     pub fn push_call<'a>(&self, calls: &mut Vec<ReportCall<'a>>) -> Result<(), OutOfMemory>
-        ensures call { OnOk result (AddsCallOf (SceneEvent.StressSubRunStarted self.now) calls.old.items calls.new.items) }
-        ensures unchanged { OnErr result (calls.new.items ≡ calls.old.items) }
+        ensures { PushesCallOf (SceneEvent.StressSubRunStarted self.now) calls.old.items result calls.new.items }
     {
-        calls.push(call_of(TestEventKind::StressSubRunStarted {
-            progress: self.progress,
-        }))?;
-        Ok(())
+        push_event(
+            calls,
+            TestEventKind::StressSubRunStarted {
+                progress: self.progress,
+            },
+        )
     }
 }
 
 impl SubRunFinish {
     /// Pushes this event as a `ReportCall`.
     pub fn push_call<'a>(&self, calls: &mut Vec<ReportCall<'a>>) -> Result<(), OutOfMemory>
-        ensures call { OnOk result (AddsCallOf (SceneEvent.StressSubRunFinished self.now) calls.old.items calls.new.items) }
-        ensures unchanged { OnErr result (calls.new.items ≡ calls.old.items) }
+        ensures { PushesCallOf (SceneEvent.StressSubRunFinished self.now) calls.old.items result calls.new.items }
     {
-        calls.push(call_of(TestEventKind::StressSubRunFinished {
-            progress: self.progress,
-            sub_elapsed: self.sub_elapsed,
-            sub_stats: self.sub_stats,
-        }))?;
-        Ok(())
+        push_event(
+            calls,
+            TestEventKind::StressSubRunFinished {
+                progress: self.progress,
+                sub_elapsed: self.sub_elapsed,
+                sub_stats: self.sub_stats,
+            },
+        )
     }
 }

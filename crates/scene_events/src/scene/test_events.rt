@@ -1,11 +1,10 @@
 //! The events of tests.
 
-ghost use Rattle.std.specs.Prelude.{◌≡◌, OnOk, OnErr};
-ghost use Rattle.scene_events.specs.Scenes.{AddsCallOf};
+ghost use Rattle.scene_events.specs.Scenes.{PushesCallOf};
 ghost use Rattle.scene_events.specs.declared.scene.event.SceneEvent.{SceneEvent};
 
 use super::attempts::{SceneAttempt, SceneAttempts};
-use super::event::call_of;
+use super::event::push_event;
 use run_model::call::ReportCall;
 use run_model::command::CommandLine;
 use run_model::config::TestOutputDisplay;
@@ -100,14 +99,15 @@ impl SceneTest {
         &'a self,
         calls: &mut Vec<ReportCall<'a>>,
     ) -> Result<(), OutOfMemory>
-        ensures call { OnOk result (AddsCallOf (SceneEvent.TestSkipped self.now) calls.old.items calls.new.items) }
-        ensures unchanged { OnErr result (calls.new.items ≡ calls.old.items) }
+        ensures { PushesCallOf (SceneEvent.TestSkipped self.now) calls.old.items result calls.new.items }
     {
-        calls.push(call_of(TestEventKind::TestSkipped {
-            stress_index: self.stress_index,
-            test_instance: self.instance(),
-        }))?;
-        Ok(())
+        push_event(
+            calls,
+            TestEventKind::TestSkipped {
+                stress_index: self.stress_index,
+                test_instance: self.instance(),
+            },
+        )
     }
 
     /// The test as an event has it. It borrows the names.
@@ -125,51 +125,54 @@ impl SceneTest {
 impl TestStart {
     /// Pushes this event as a `ReportCall`.
     pub fn push_call<'a>(&'a self, calls: &mut Vec<ReportCall<'a>>) -> Result<(), OutOfMemory>
-        ensures call { OnOk result (AddsCallOf (SceneEvent.TestStarted self.now) calls.old.items calls.new.items) }
-        ensures unchanged { OnErr result (calls.new.items ≡ calls.old.items) }
+        ensures { PushesCallOf (SceneEvent.TestStarted self.now) calls.old.items result calls.new.items }
     {
         let command_line = self.command_line.copy()?;
-        calls.push(call_of(TestEventKind::TestStarted {
-            stress_index: self.test.stress_index,
-            test_instance: self.test.instance(),
-            current_stats: self.current_stats,
-            command_line,
-        }))?;
-        Ok(())
+        push_event(
+            calls,
+            TestEventKind::TestStarted {
+                stress_index: self.test.stress_index,
+                test_instance: self.test.instance(),
+                current_stats: self.current_stats,
+                command_line,
+            },
+        )
     }
 }
 
 impl TestRetryStart {
     /// Pushes this event as a `ReportCall`.
     pub fn push_call<'a>(&'a self, calls: &mut Vec<ReportCall<'a>>) -> Result<(), OutOfMemory>
-        ensures call { OnOk result (AddsCallOf (SceneEvent.TestRetryStarted self.now) calls.old.items calls.new.items) }
-        ensures unchanged { OnErr result (calls.new.items ≡ calls.old.items) }
+        ensures { PushesCallOf (SceneEvent.TestRetryStarted self.now) calls.old.items result calls.new.items }
     {
         let command_line = self.command_line.copy()?;
-        calls.push(call_of(TestEventKind::TestRetryStarted {
-            stress_index: self.test.stress_index,
-            test_instance: self.test.instance(),
-            retry_data: self.retry_data,
-            command_line,
-        }))?;
-        Ok(())
+        push_event(
+            calls,
+            TestEventKind::TestRetryStarted {
+                stress_index: self.test.stress_index,
+                test_instance: self.test.instance(),
+                retry_data: self.retry_data,
+                command_line,
+            },
+        )
     }
 }
 
 impl SlowTest {
     /// Pushes this event as a `ReportCall`.
     pub fn push_call<'a>(&'a self, calls: &mut Vec<ReportCall<'a>>) -> Result<(), OutOfMemory>
-        ensures call { OnOk result (AddsCallOf (SceneEvent.TestSlow self.now) calls.old.items calls.new.items) }
-        ensures unchanged { OnErr result (calls.new.items ≡ calls.old.items) }
+        ensures { PushesCallOf (SceneEvent.TestSlow self.now) calls.old.items result calls.new.items }
     {
-        calls.push(call_of(TestEventKind::TestSlow {
-            stress_index: self.test.stress_index,
-            test_instance: self.test.instance(),
-            retry_data: self.retry_data,
-            elapsed: self.elapsed,
-            will_terminate: self.will_terminate,
-        }))?;
-        Ok(())
+        push_event(
+            calls,
+            TestEventKind::TestSlow {
+                stress_index: self.test.stress_index,
+                test_instance: self.test.instance(),
+                retry_data: self.retry_data,
+                elapsed: self.elapsed,
+                will_terminate: self.will_terminate,
+            },
+        )
     }
 }
 
@@ -180,18 +183,19 @@ impl FailedAttempt {
         alloc: Global,
         calls: &mut Vec<ReportCall<'a>>,
     ) -> Result<(), OutOfMemory>
-        ensures call { OnOk result (AddsCallOf (SceneEvent.TestAttemptFailedWillRetry self.now) calls.old.items calls.new.items) }
-        ensures unchanged { OnErr result (calls.new.items ≡ calls.old.items) }
+        ensures { PushesCallOf (SceneEvent.TestAttemptFailedWillRetry self.now) calls.old.items result calls.new.items }
     {
         let run_status = self.attempt.status(alloc)?;
-        calls.push(call_of(TestEventKind::TestAttemptFailedWillRetry {
-            stress_index: self.test.stress_index,
-            test_instance: self.test.instance(),
-            run_status,
-            delay_before_next_attempt: self.delay_before_next_attempt,
-            failure_output: self.failure_output,
-        }))?;
-        Ok(())
+        push_event(
+            calls,
+            TestEventKind::TestAttemptFailedWillRetry {
+                stress_index: self.test.stress_index,
+                test_instance: self.test.instance(),
+                run_status,
+                delay_before_next_attempt: self.delay_before_next_attempt,
+                failure_output: self.failure_output,
+            },
+        )
     }
 }
 
@@ -202,18 +206,19 @@ impl TestFinish {
         alloc: Global,
         calls: &mut Vec<ReportCall<'a>>,
     ) -> Result<(), OutOfMemory>
-        ensures call { OnOk result (AddsCallOf (SceneEvent.TestFinished self.now) calls.old.items calls.new.items) }
-        ensures unchanged { OnErr result (calls.new.items ≡ calls.old.items) }
+        ensures { PushesCallOf (SceneEvent.TestFinished self.now) calls.old.items result calls.new.items }
     {
         let run_statuses = self.attempts.statuses(alloc)?;
-        calls.push(call_of(TestEventKind::TestFinished {
-            stress_index: self.test.stress_index,
-            test_instance: self.test.instance(),
-            success_output: self.success_output,
-            failure_output: self.failure_output,
-            run_statuses,
-            current_stats: self.current_stats,
-        }))?;
-        Ok(())
+        push_event(
+            calls,
+            TestEventKind::TestFinished {
+                stress_index: self.test.stress_index,
+                test_instance: self.test.instance(),
+                success_output: self.success_output,
+                failure_output: self.failure_output,
+                run_statuses,
+                current_stats: self.current_stats,
+            },
+        )
     }
 }

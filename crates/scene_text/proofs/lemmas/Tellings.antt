@@ -4,10 +4,13 @@ use Rattle.std.specs.Prelude.{nat_lt}
 use Rattle.std.proofs.lemmas.Bool.Decides.{nat_tests}
 use Rattle.std.proofs.lemmas.List.{length-append}
 use Rattle.scene_events.specs.declared.scene.event.SceneEvent.{SceneEvent}
+use Rattle.scene_fields.specs.Fields.{Fails}
+use Rattle.scene_fields.specs.declared.fault.LineError.{LineError}
+use Rattle.scene_fields.specs.declared.fault.LineError.TheVariants as error
 use Rattle.scene_fields.specs.declared.fault.LineFault.{LineFault}
 use Rattle.scene_fields.specs.declared.fault.ReadFault.{ReadFault}
 use Rattle.scene_fields.specs.declared.fault.ReadFault.TheVariants as fault
-use Rattle.scene_text.specs.SceneTexts.{AllTell, IsFaultHere, IsNextFault, IsSameRun, LeavesLines, LineSaid, ReadsLines, SaysConfig, SaysEvent, SaysNothing, Told, event_lines, is_begun, is_begun_behind, line_here, line_said, line_told, line_told_behind, lines_behind, lines_before, lines_told, told, told_after, told_with, with_said}
+use Rattle.scene_text.specs.SceneTexts.{AllTell, IsFaultHere, IsNextFault, IsSameRun, LeavesLines, LineSaid, ReadsLines, SaysConfig, SaysEvent, SaysNothing, Told, event_lines, fault_at, is_begun, is_begun_behind, line_here, line_said, line_told, line_told_behind, lines_behind, lines_before, lines_told, told, told_after, told_with, with_said}
 use Rattle.scene_text.specs.declared.reader.LinesRead.{LinesRead}
 
 -- lines tell, and others behind them
@@ -88,6 +91,11 @@ less_after n a b = grind (arith, nat_tests)
 
 here_after : (base : List SceneEvent) (n : ℕ) (before after : Told) → line_here n (told_after base before) (told_after base after) ≡ line_here n before after
 here_after base n before after = rw (length-append base before.events, length-append base after.events, less_after (length base) (length before.events) (length after.events)) refl
+
+-- what is told of a line that is wrong
+pub fault_here : (n : ℕ) (error : LineError) (read : Result Told LineFault) → Fails error read → IsFaultHere n read (fault_at n error)
+fault_here n (error.Fault f) read h = (refl, h)
+fault_here n error.OutOfMemory read h = tt
 
 -- no line was read
 pub reads_none : (old : LinesRead) → ReadsLines old old []

@@ -25,14 +25,16 @@ use Rattle.scene_text.specs.SceneTexts.{Told, nothing_told}
 use Rattle.scene_events.specs.Scenes.{IsCallOf}
 use Rattle.scene_fields.specs.Split.{parted}
 use Rattle.scene_events.specs.declared.scene.SceneConfig.{SceneConfig}
-use Rattle.scenes.specs.Follow.{BreaksTold, HasToldTo, IsStart, OfText, PrintsFollowed, ReportsTold, StopsBy, run_outcome}
+use Rattle.scenes.specs.Follow.{OfText, PrintsFollowed, StopsBy}
+use Rattle.scenes.specs.Outcomes.{run_outcome}
+use Rattle.scenes.specs.SceneReporter.{BreaksTold, HasToldTo, IsStart, ReportsTold}
 use Rattle.scenes.specs.Reports.{Begins, HasFirstCalls, HoldsFirstCalls, StopsStore, builder_for, configuration_for, store_for, surroundings_of}
 use Rattle.scenes.specs.SpelledRuns.{BeginsTold, PrintsTold}
 use Rattle.command_line.specs.declared.fault.Fault.{Fault}
 use Rattle.command_line.specs.declared.fault.Fault.TheVariants as fault
-use Rattle.scenes.specs.declared.follow.Follower.{Follower}
-use Rattle.scenes.specs.declared.follow.RunOutcome.{RunOutcome}
-use Rattle.scenes.specs.declared.follow.RunOutcome.TheVariants as outcome
+use Rattle.scenes.specs.declared.scene_reporter.SceneReporter.{SceneReporter}
+use Rattle.scenes.specs.declared.outcome.RunOutcome.{RunOutcome}
+use Rattle.scenes.specs.declared.outcome.RunOutcome.TheVariants as outcome
 use Rattle.command_line.specs.declared.words.Options.{Options}
 use Rattle.scenes.proofs.lemmas.Heads.{HasNoEvent, IsRefusedMemory}
 use Rattle.scenes.proofs.lemmas.Devices.{memory_no_device, memory_no_store, nothing_stored, stop_by, store_begins, text_begins, untouched_begins}
@@ -251,7 +253,7 @@ ready m n r old store same also delivered store_delivered = record { writer = rw
 
 -- a follower that was made with it
 pub starts : {W S : Type 0} (m : Meaning W) (n : Meaning S) (options : Options) (config : SceneConfig) (r : DisplayReporter W S) → StandsAfter (configuration_for options config) [] r → AreDelivered m n r →
-    (start : Follower W S) → start.outcome ≡ outcome.NotEnded → start.reporter ≡ r → IsStart m n options config start
+    (start : SceneReporter W S) → start.outcome ≡ outcome.NotEnded → start.reporter ≡ r → IsStart m n options config start
 starts m n options config r stands delivered start not_ended reports = record {
   stands = rw reports stands;
   delivered = rw reports delivered;

@@ -1,140 +1,219 @@
--- A follower tells what was read (for `tell_run`, `tell_read`, `follow_lines`).
-use Rattle.std.proofs.Common.{◌≡◌, ℕ, suc, ◌+◌, ◌<◌, Bool, true, false, List, [], ◌∷◌, ◌++◌, Option, Result, Ok, Err, length, take, drop, get_or, refl, sym, ap, ◌∙◌, subst, arith, append_assoc, inl}
-use Rattle.std.proofs.Math.Seq.{drop-cons}
-use Rattle.std.proofs.lemmas.List.{length-append, length-take-le, take-append-drop, take_more}
+-- What is read of a text that is followed is reported, or left (for `follow_lines`).
+use Rattle.std.proofs.Common.{◌≡◌, ℕ, ◌+◌, Bool, true, false, List, [], ◌∷◌, ◌++◌, Option, Result, Ok, Err, length, map, get_or, reverse, refl, sym, ap, ◌∙◌, subst, arith, append_assoc, inl, inr}
+use Rattle.std.specs.Borrow.{Bor}
+use Rattle.std.specs.List.{AllZip}
+use Rattle.std.proofs.lemmas.Bool.{cases_Bool, false≢true}
+use Rattle.std.proofs.lemmas.List.{length-append, reverse-reverse}
 use Rattle.plain_text.specs.Writer.{Meaning, WriterLaws}
-use Rattle.console_reporter.specs.Telling.{AreDelivered}
-use Rattle.console_reporter.proofs.lemmas.Runs.{run_begun}
+use Rattle.run_model.specs.declared.call.ReportCall.{ReportCall}
+use Rattle.console_reporter.specs.Report.{report}
+use Rattle.console_reporter.specs.Slots.{store_meaning}
+use Rattle.console_reporter.specs.Stored.{stored}
+use Rattle.command_line.specs.Faults.{fault_of_read}
+use Rattle.command_line.specs.Pieces.{IsUnread}
 use Rattle.command_line.specs.declared.fault.Fault.{Fault}
+use Rattle.command_line.specs.declared.fault.Fault.TheVariants as fault
 use Rattle.command_line.specs.declared.words.Options.{Options}
+use Rattle.scene_events.specs.Scenes.{IsCallOf}
 use Rattle.scene_events.specs.declared.scene.SceneConfig.{SceneConfig}
-use Rattle.scene_events.specs.declared.scene.ToldRun.{ToldRun}
 use Rattle.scene_events.specs.declared.scene.event.SceneEvent.{SceneEvent}
-use Rattle.scene_text.specs.SceneTexts.{AllTell, Told, is_begun, is_begun_behind, nothing_told, told, told_after}
+use Rattle.scene_fields.specs.declared.fault.LineFault.{LineFault}
+use Rattle.scene_fields.specs.declared.fault.ReadFault.{ReadFault}
+use Rattle.scene_fields.specs.declared.fault.ReadFault.TheVariants as read
+use Rattle.scene_text.specs.SceneTexts.{IsNextFault, LineSaid, SaysEvent, Told, is_begun, is_begun_behind, line_said, line_told, lines_before, nothing_told, told, told_after, told_with, with_said}
 use Rattle.scene_text.specs.declared.reader.LinesRead.{LinesRead}
 use Rattle.scene_text.proofs.lemmas.Tellings.{all_append, begun_behind}
-use Rattle.scenes.specs.Follow.{BreaksOff, Follows, HasTold, IsStart, KeepsUp, LeavesEvent, OfText, StopsAtEvent, StopsBy, TellsEvent, run_outcome}
-use Rattle.command_line.specs.Pieces.{IsUnread}
+use Rattle.scenes.specs.Follow.{KeepsUp, OfText, StopsBehind, StopsBy}
+use Rattle.scenes.specs.Outcomes.{run_outcome}
 use Rattle.scenes.specs.Read.{AtLine, HasRead, IsMore}
-use Rattle.scenes.specs.declared.follow.Follower.{Follower}
+use Rattle.scenes.specs.Reports.{configuration_for}
+use Rattle.scenes.specs.SceneReporter.{BreaksEvent, BreaksOff, Follows, HasTold, IsStart, LeavesEvent, StopsAtEvent}
+use Rattle.scenes.specs.Unloads.{decider_for, ready}
+use Rattle.scenes.specs.declared.scene_reporter.SceneReporter.{SceneReporter}
 use Rattle.scenes.proofs.lemmas.EventLines.{event_at}
-use Rattle.scenes.proofs.lemmas.Followed.{nothing_more, now_refused, now_told, one_left, one_told}
 use Rattle.scenes.proofs.lemmas.NoConfig.{config_kept}
-use Rattle.scenes.proofs.lemmas.ReadLines.{all_forgotten, forgets, spells}
+use Rattle.scenes.proofs.lemmas.ReadLines.{at_more, forgets, line_tells, spells}
+use Rattle.scenes.proofs.lemmas.SceneReporters.{broke_before, broke_event, made_refused, now_told, starts}
+
+abbrev is_wrong : LineFault → Result LineSaid LineFault
+is_wrong f = Err f
+
+wrong_with : (before : Told) (f : LineFault) (r : Result LineSaid LineFault) → told_with before r ≡ Err f → r ≡ Err f
+wrong_with before f (Ok s) h = absurd (cc)
+wrong_with before f (Err g) h = (let same : g ≡ f = cc in ap is_wrong same)
+
+wrong_said : (run : Told) (t : List ℕ) (f : LineFault) → line_told run t ≡ Err f → line_said (lines_before run) t ≡ Err f
+unfolding line_told
+wrong_said run t f h = wrong_with run f (line_said (lines_before run) t) h
+
+-- what is told so far holds, and nothing more could be read behind it
+module _ (options : Options) (text : List ℕ) (P : Told → Type 0) (Q : Told → Fault → Type 0) (run : Told) (holds : P run) (refused : Q run fault.OutOfMemory) (left : List (List ℕ)) (number : ℕ) (at : AtLine text run left number) where
+  left_unread : (file : List ℕ) (f : Fault) → IsUnread file f → StopsBy options text P Q f
+  left_unread file fault.Usage h = absurd h
+  left_unread file (fault.CannotRead f) h = record { run = run; lines = left; number = number; at = at; holds = holds }
+  left_unread file (fault.CannotWrite f) h = absurd h
+  left_unread file (fault.Line j f) h = absurd h
+  left_unread file fault.WriteFailed h = absurd h
+  left_unread file fault.StoreFailed h = absurd h
+  left_unread file fault.OutOfMemory h = record { run = run; lines = left; number = number; at = at; holds = refused }
+
+  left_wrong : (f : ReadFault) → IsNextFault number run left f → StopsBy options text P Q (fault_of_read f)
+  left_wrong (read.Line j f) h = record {
+    run = run;
+    t = h.1.0;
+    more = h.1.1;
+    at = record { front = at.front; whole = at.whole ∙ ap (λ ls. at.front ++ ls) h.1.2; place = h.0 ∙ at.place; tells = at.tells };
+    wrong = inl (wrong_said run h.1.0 f h.1.3);
+    holds = holds;
+  }
+  left_wrong read.OutOfMemory h = record { run = run; lines = left; number = number; at = at; holds = refused }
+
+  pub nothing_more : (file : List ℕ) (f : Fault) (remaining : Option (List ℕ)) → IsMore file (Err f) run left number remaining → StopsBy options text P Q f
+  nothing_more file f remaining (inl h) = left_unread file f h
+  nothing_more file f remaining (inr x) = subst (StopsBy options text P Q) (sym x.1) (left_wrong x.0 x.2)
 
 -- what is told, by its parts
 told_same : (a : Told) (config : SceneConfig) (events : List SceneEvent) → a.config ≡ config → a.events ≡ events → a ≡ record { config = config; events = events }
 told_same a config events p q = rw (sym p, sym q) refl
 
-module _ {W S : Type 0} {m : Meaning W} {n : Meaning S} (laws : WriterLaws m) (others : WriterLaws n) (options : Options) (start : Follower W S) where
-  -- the event at this place
-  module _ (run : ToldRun) (base : List SceneEvent) (place : ℕ) (now next : Follower W S) (e : SceneEvent) (within : place < length run.events.items) (is : e ≡ get_or run.events.items place e)
-      (follows : Follows m n options start now (record { config = run.config; events = base ++ take place run.events.items })) where
-    -- was told
-    pub told_to : TellsEvent m n e now next → AreDelivered m n next.reporter → Follows m n options start next (record { config = run.config; events = base ++ take (place + 1) run.events.items })
-    told_to tells delivered =
-        let es = run.events.items in
-        let more : take (place + 1) es ≡ take place es ++ e ∷ [] = take_more es place e within ∙ ap (λ x. take place es ++ x ∷ []) (sym is) in
-        let all : (base ++ take place es) ++ e ∷ [] ≡ base ++ take (place + 1) es = append_assoc base (take place es) (e ∷ []) ∙ ap (λ xs. base ++ xs) (sym more) in
-        subst (λ xs. Follows m n options start next (record { config = run.config; events = xs })) all (one_told laws others options start now next (record { config = run.config; events = base ++ take place es }) follows e tells delivered)
+not_begun : (es : List SceneEvent) → is_begun es ≡ false → es ≡ []
+not_begun [] h = refl
+not_begun (e ∷ es) h = absurd (false≢true (sym h))
 
-    -- or left
-    pub stops_to : (number : ℕ) → number ≡ get_or run.lines.items place 0 → (f : Fault) → LeavesEvent m n number e f now next → StopsAtEvent m n options run base f start next
-    stops_to number numbered f leaves =
-        let es = run.events.items in
-        let size : length (take place es) ≡ place = length-take-le place es (omega (arith, within)) in
-        record {
-          front = take place es;
-          event = e;
-          rest = drop (suc place) es;
-          whole = sym (take-append-drop place es) ∙ ap (λ xs. take place es ++ xs) (drop-cons es place e within ∙ ap (λ x. x ∷ drop (suc place) es) (sym is));
-          now = now;
-          follows = follows;
-          leaves = subst (λ k. LeavesEvent m n k e f now next) (numbered ∙ ap (λ k. get_or run.lines.items k 0) (sym size)) leaves;
-        }
+no_call : (calls : List ReportCall) → AllZip IsCallOf [] calls → calls ≡ []
+no_call [] h = refl
+no_call (c ∷ calls) h = absurd h
 
-  -- what was read of a text
-  module _ (text : List ℕ) (front : List (List ℕ)) (before : Told) (old : LinesRead) (more : Result Bool Fault) (remaining : Option (List ℕ)) (has : HasRead options.file.now text front before old more remaining) (next : Follower W S) where
-    -- was told, and is forgotten
-    pub keeps_up : (new : LinesRead) → new.run.config ≡ old.run.config → new.run.events.items ≡ [] → new.run.lines.items ≡ [] → new.is_begun ≡ is_begun_behind old.is_begun old.run.events.items → new.next ≡ old.next →
-        Follows m n options start next (told_after before.events (told old.run)) → is_begun (before.events ++ old.run.events.items) ≡ true → KeepsUp m n options text start next new more remaining
-    keeps_up new config events lines begun number follows is_begun_now = record {
-      front = front ++ has.lines;
-      run = told_after before.events (told old.run);
-      has = forgets options.file.now text front before old new more remaining has config events lines begun number;
-      follows = follows;
-      all = all_forgotten options.file.now text front before old new more remaining has config events lines begun number;
-      begun = is_begun_now;
+module _ {W S : Type 0} {m : Meaning W} {n : Meaning S} (laws : WriterLaws m) (others : WriterLaws n) (options : Options) (text : List ℕ) (start : SceneReporter W S) where
+  -- the event of the next line was left
+  module _ (now next : SceneReporter W S) (run : Told) (follows : Follows m n options start now run) (t : List ℕ) (more : List (List ℕ)) (number : ℕ) (at : AtLine text run (t ∷ more) number) (e : SceneEvent) (says : line_said (lines_before run) t ≡ Ok (SaysEvent e)) where
+    left_event : (f : Fault) → BreaksEvent m n options (decider_for options run.config) e f now next → StopsBehind text (λ r. BreaksOff m n options start next r f)
+    left_event f broke = record {
+      run = with_said run (SaysEvent e);
+      lines = more;
+      number = number + 1;
+      at = at_more text run t more number (with_said run (SaysEvent e)) at (line_tells run t (SaysEvent e) says);
+      holds = broke_event laws others options start now next run follows e f broke;
     }
 
-    -- or an event of it was left
-    pub stops_run : (f : Fault) → StopsAtEvent m n options old.run before.events f start next → StopsBy options text (HasTold m n options start next) (BreaksOff m n options start next) f
-    stops_run f stop =
-        let at = event_at (length front + 1) before has.lines (told_after before.events (told old.run)) has.tells stop.front stop.event stop.rest (ap (λ es. before.events ++ es) stop.whole) in
-        let mid_is = told_same at.mid old.run.config (before.events ++ stop.front) at.config at.events in
-        let number = get_or old.run.lines.items (length stop.front) 0 in
-        let size = length-append front at.skipped in
-        let numbered : number ≡ length front + 1 + length at.skipped = ap (λ ls. get_or ls (length stop.front) 0) has.noted ∙ at.number in
-        one_left laws others options start stop.now next at.mid (subst (Follows m n options start stop.now) (sym mid_is) stop.follows) text at.t (at.more ++ has.left) number
-        (record {
-          front = front ++ at.skipped;
-          whole =
-              has.whole ∙ ap (λ ls. front ++ (ls ++ has.left)) at.whole ∙ ap (λ ls. front ++ ls) (append_assoc at.skipped (at.t ∷ at.more) has.left)
-              ∙ sym (append_assoc front at.skipped (at.t ∷ (at.more ++ has.left)));
-          place = omega (arith, numbered, size);
-          tells = all_append nothing_told front before at.skipped at.mid has.forgotten at.tells;
-        }) stop.event at.says f stop.leaves
-
-  -- nothing was told yet
-  pub starts : (config : SceneConfig) → IsStart m n options config start → Follows m n options start start (record { config = config; events = [] })
-  unfolding run_outcome
-  starts config begins = record {
-    past = [];
-    of_run = tt;
-    stands = begins.stands;
-    tells = run_begun laws others start.reporter;
-    accepted = refl;
-    delivered = begins.delivered;
-    outcome = begins.outcome;
-  }
-
-  -- all was told that was read
-  module _ (text : List ℕ) (now : Follower W S) (read : LinesRead) where
-    -- and the text ends there
-    pub told_all : (remaining : Option (List ℕ)) → KeepsUp m n options text start now read (Ok false) remaining → OfText text (HasTold m n options start now)
-    told_all remaining k = record {
-      run = k.run;
-      spelled = spells options.file.now text read k.front k.run remaining k.has ∙ ap (λ r. Ok r) (sym k.all);
-      holds = now_told laws others options start now now k.run k.follows refl;
+    one_left : (f : Fault) → LeavesEvent m n options (decider_for options run.config) number e f now next → StopsBy options text (HasTold m n options start next) (BreaksOff m n options start next) f
+    one_left fault.Usage h = absurd h
+    one_left (fault.CannotRead file) h = absurd h
+    one_left (fault.CannotWrite file) h = absurd h
+    one_left (fault.Line j f) h = record {
+      run = run;
+      t = t;
+      more = more;
+      at = record { front = at.front; whole = at.whole; place = h.0 ∙ at.place; tells = at.tells };
+      wrong = inr (record { event = e; says = says; call = h.2.of_event.made; of_event = h.2.of_event.of_event; refused = made_refused laws others options start now now run follows e f h.2 });
+      holds = now_told laws others options start now next run follows h.1;
     }
+    one_left fault.WriteFailed h = left_event fault.WriteFailed h
+    one_left fault.StoreFailed h = left_event fault.StoreFailed h
+    one_left fault.OutOfMemory (inl same) = record { run = run; lines = t ∷ more; number = number; at = at; holds = broke_before laws others options start now next run follows same }
+    one_left fault.OutOfMemory (inr broke) = left_event fault.OutOfMemory broke
 
-    here : (more : Result Bool Fault) (remaining : Option (List ℕ)) (k : KeepsUp m n options text start now read more remaining) → AtLine text k.run k.has.left read.next
-    here more remaining k =
+  -- nothing was reported yet
+  pub keeps_up : (read : LinesRead) (more : Result Bool Fault) (remaining : Option (List ℕ)) → HasRead options.file.now text [] nothing_told read more remaining → is_begun read.run.events.items ≡ true →
+      IsStart m n options read.run.config start → KeepsUp m n options text start start read more remaining
+  keeps_up read more remaining has begun is_start = record { front = []; before = nothing_told; has = has; follows = starts laws others options start read.run.config is_start; begun = begun }
+
+  module _ (now : SceneReporter W S) (read : LinesRead) (more : Result Bool Fault) (remaining : Option (List ℕ)) (k : KeepsUp m n options text start now read more remaining) where
+    abbrev run : Told
+    run = told_after k.before.events (told read.run)
+
+    here : AtLine text run k.has.left read.next
+    here =
         let size = length-append k.front k.has.lines in
         record {
           front = k.front ++ k.has.lines;
           whole = k.has.whole ∙ sym (append_assoc k.front k.has.lines k.has.left);
           place = (let place = k.has.place in omega (arith, place, size));
-          tells = all_append nothing_told k.front k.run k.has.lines k.run k.has.forgotten (subst (AllTell k.run k.has.lines) (sym k.all) k.has.tells);
+          tells = all_append nothing_told k.front k.before k.has.lines run k.has.forgotten k.has.tells;
         }
 
-    -- or nothing more could be read
-    pub told_first : (f : Fault) (remaining : Option (List ℕ)) → KeepsUp m n options text start now read (Err f) remaining → StopsBy options text (HasTold m n options start now) (BreaksOff m n options start now) f
-    told_first f remaining k =
-        nothing_more options text (HasTold m n options start now) (BreaksOff m n options start now) k.run (now_told laws others options start now now k.run k.follows refl) (now_refused laws others options start now now k.run k.follows)
-        k.has.left read.next (here (Err f) remaining k) options.file.now f remaining (subst (λ r. IsMore options.file.now (Err f) r k.has.left read.next remaining) (sym k.all) k.has.more_is)
+    -- an event of what was read was left
+    pub stops_run : (next : SceneReporter W S) (f : Fault) → StopsAtEvent m n options read.run.config read.run.events.items read.run.lines.items k.before.events f start next →
+        StopsBy options text (HasTold m n options start next) (BreaksOff m n options start next) f
+    stops_run next f stop =
+        let at = event_at (length k.front + 1) k.before k.has.lines run k.has.tells stop.front stop.event stop.rest (ap (λ es. k.before.events ++ es) stop.whole) in
+        let mid_is = told_same at.mid read.run.config (k.before.events ++ stop.front) at.config at.events in
+        let number = get_or read.run.lines.items (length stop.front) 0 in
+        let size = length-append k.front at.skipped in
+        let numbered : number ≡ length k.front + 1 + length at.skipped = ap (λ ls. get_or ls (length stop.front) 0) k.has.noted ∙ at.number in
+        one_left stop.now next at.mid (subst (Follows m n options start stop.now) (sym mid_is) stop.follows) at.t (at.more ++ k.has.left) number
+        (record {
+          front = k.front ++ at.skipped;
+          whole =
+              k.has.whole ∙ ap (λ ls. k.front ++ (ls ++ k.has.left)) at.whole ∙ ap (λ ls. k.front ++ ls) (append_assoc at.skipped (at.t ∷ at.more) k.has.left)
+              ∙ sym (append_assoc k.front at.skipped (at.t ∷ (at.more ++ k.has.left)));
+          place = omega (arith, numbered, size);
+          tells = all_append nothing_told k.front k.before at.skipped at.mid k.has.forgotten at.tells;
+        }) stop.event at.says f (subst (λ c. LeavesEvent m n options (decider_for options c) number stop.event f stop.now next) (sym at.config) stop.leaves)
 
-    -- or there are lines that no number counts
-    pub told_uncounted : (more : Result Bool Fault) (remaining : Option (List ℕ)) → KeepsUp m n options text start now read more remaining → (f : Fault) → IsUnread options.file.now f →
-        StopsBy options text (HasTold m n options start now) (BreaksOff m n options start now) f
-    told_uncounted more remaining k f is =
-        nothing_more options text (HasTold m n options start now) (BreaksOff m n options start now) k.run (now_told laws others options start now now k.run k.follows refl) (now_refused laws others options start now now k.run k.follows)
-        k.has.left read.next (here more remaining k) options.file.now f remaining (inl is)
+    -- what was reported before
+    none_told : k.before.events ≡ [] → HasTold m n options start now k.before
+    unfolding run_outcome
+    none_told none =
+        let no_calls = no_call (reverse k.follows.past) (subst (λ es. AllZip IsCallOf es (reverse k.follows.past)) none k.follows.of_run) in
+        let no_past : k.follows.past ≡ [] = sym (reverse-reverse k.follows.past) ∙ ap reverse no_calls in
+        let config = configuration_for options read.run.config in
+        record {
+          past = [];
+          of_run = subst (λ es. AllZip IsCallOf es []) (sym none) tt;
+          accepted = refl;
+          reported = subst (λ p. m.accepts start.reporter.writer.now (report config (map (ready options read.run.config) p)) now.reporter.writer.now) no_past (k.follows.tells.accepted config k.follows.stands);
+          kept = subst (λ p. (store_meaning n).accepts start.reporter.store (stored config.store (map (ready options read.run.config) p)) now.reporter.store) no_past (k.follows.tells.stored config k.follows.stands);
+          delivered = k.follows.delivered.writer;
+          store_delivered = k.follows.delivered.store;
+          outcome = k.follows.outcome ∙ ap run_outcome no_past;
+        }
 
-    -- further lines were read behind it
-    module _ (remaining : Option (List ℕ)) (k : KeepsUp m n options text start now read (Ok true) remaining) (new : LinesRead) (more : Result Bool Fault) (after : Option (List ℕ)) (has : HasRead options.file.now text k.front k.run new more after) where
-      pub follows_still : Follows m n options start now (record { config = new.run.config; events = k.run.events })
-      follows_still = subst (Follows m n options start now) (told_same k.run new.run.config k.run.events (sym (config_kept k.run has.lines (told_after k.run.events (told new.run)) k.begun has.tells)) refl) k.follows
+    told_before : HasTold m n options start now k.before
+    told_before = elim (cases_Bool (is_begun k.before.events)) [
+      | inl begun ↦
+          now_told laws others options start now now k.before
+          (subst (λ c. Follows m n options start now (record { config = c; events = k.before.events })) (config_kept k.before k.has.lines run begun k.has.tells) k.follows) refl
+      | inr not ↦ none_told (not_begun k.before.events not)
+    ]
 
-      pub begun_still : is_begun (k.run.events ++ new.run.events.items) ≡ true
-      begun_still = begun_behind k.run.events new.run.events.items ∙ ap (λ b. is_begun_behind b new.run.events.items) k.begun
+    -- there are lines that no number counts
+    pub told_uncounted : (file : Bor (List ℕ)) → StopsBy options text (HasTold m n options start now) (BreaksOff m n options start now) (fault.CannotRead file)
+    told_uncounted file = record {
+      run = k.before;
+      lines = k.has.lines ++ k.has.left;
+      number = length k.front + 1;
+      at = record { front = k.front; whole = k.has.whole; place = refl; tells = k.has.forgotten };
+      holds = told_before;
+    }
+
+    -- all that was read was reported
+    module _ (next : SceneReporter W S) (reported : Follows m n options start next (record { config = read.run.config; events = k.before.events ++ read.run.events.items })) where
+      -- and the text ends there
+      pub told_all : more ≡ Ok false → OfText text (HasTold m n options start next)
+      told_all last = record {
+        run = run;
+        spelled = spells options.file.now text read k.front k.before remaining (subst (λ r. HasRead options.file.now text k.front k.before read r remaining) last k.has);
+        holds = now_told laws others options start next next run reported refl;
+      }
+
+      -- or nothing more could be read
+      pub told_first : (f : Fault) → more ≡ Err f → StopsBy options text (HasTold m n options start next) (BreaksOff m n options start next) f
+      told_first f is =
+          nothing_more options text (HasTold m n options start next) (BreaksOff m n options start next) run (now_told laws others options start next next run reported refl) (broke_before laws others options start next next run reported refl)
+          k.has.left read.next here options.file.now f remaining (subst (λ r. IsMore options.file.now r run k.has.left read.next remaining) is k.has.more_is)
+
+      -- or further lines were read behind it
+      pub reads_on : (new : LinesRead) (goes_on : Result Bool Fault) (after : Option (List ℕ)) → HasRead options.file.now text (k.front ++ k.has.lines) run new goes_on after → KeepsUp m n options text start next new goes_on after
+      reads_on new goes_on after has = record {
+        front = k.front ++ k.has.lines;
+        before = run;
+        has = has;
+        follows = subst (λ c. Follows m n options start next (record { config = c; events = run.events })) (sym (config_kept run has.lines (told_after run.events (told new.run)) k.begun has.tells)) reported;
+        begun = begun_behind run.events new.run.events.items ∙ ap (λ b. is_begun_behind b new.run.events.items) k.begun;
+      }
+
+    -- what was read is forgotten
+    module _ (new : LinesRead) (config : new.run.config ≡ read.run.config) (events : new.run.events.items ≡ []) (lines : new.run.lines.items ≡ []) (begun : new.is_begun ≡ is_begun_behind read.is_begun read.run.events.items) (next : new.next ≡ read.next) where
+      pub forgotten : more ≡ Ok true → HasRead options.file.now text (k.front ++ k.has.lines) run new (Ok true) remaining
+      forgotten goes_on = subst (λ r. HasRead options.file.now text (k.front ++ k.has.lines) run new r remaining) goes_on (forgets options.file.now text k.front k.before read new more remaining k.has config events lines begun next)

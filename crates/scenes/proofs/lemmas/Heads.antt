@@ -10,7 +10,7 @@ use Rattle.scene_text.specs.SceneTexts.{Told, is_begun, nothing_told, told}
 use Rattle.scene_text.specs.declared.reader.LinesRead.{LinesRead}
 use Rattle.scenes.specs.Follow.{OfText, StopsBy}
 use Rattle.scenes.specs.Read.{HasRead}
-use Rattle.scenes.proofs.lemmas.Followed.{nothing_more}
+use Rattle.scenes.proofs.lemmas.FollowedRuns.{nothing_more}
 use Rattle.scenes.proofs.lemmas.ReadLines.{spells}
 
 -- lines tell no event

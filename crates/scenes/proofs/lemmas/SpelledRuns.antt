@@ -7,7 +7,7 @@ use Rattle.plain_text.specs.Writer.{Meaning, WriterLaws}
 use Rattle.reporter_state.specs.Refusals.{first_refused}
 use Rattle.scene_events.specs.Scenes.{IsCallOf}
 use Rattle.command_line.specs.Faults.{IsJudgeFault}
-use Rattle.scenes.specs.Follow.{BreaksTold}
+use Rattle.scenes.specs.SceneReporter.{BreaksTold}
 use Rattle.scenes.specs.Judged.{IsRefusedText, IsSceneAccepted, IsSceneRefused}
 use Rattle.scenes.specs.Unloads.{decider_for}
 use Rattle.scenes.specs.ToldScenes.{scene_told}

@@ -1,47 +1,44 @@
-use Rattle.std.proofs.Common.{[], refl}
+use Rattle.std.proofs.Common.{refl, rules}
 use Rattle.command_line.specs.declared.fault.Fault.TheVariants as fault
 use Rattle.console_reporter.proofs.lemmas.Runs.{same-after}
-use Rattle.scene_text.specs.SceneTexts.{nothing_told}
-use Rattle.scenes.proofs.lemmas.FollowedRuns.{begun_still, follows_still, starts, told_all, told_first, told_uncounted}
+use Rattle.scenes.proofs.lemmas.FollowedRuns.{forgotten, keeps_up, reads_on, stops_run, told_all, told_first, told_uncounted}
 use Rattle.scenes.proofs.follow.follow_lines.Goals as goal
-
-pub returns-in-Err-clause-err : goal.returns-in-Err-clause-err
-returns-in-Err-clause-err g c = λ text has begun start.
-    c.in-Err.ensures.left c.args.options.now text c.args.follower.now [] nothing_told c.args.more _ has (starts g.met.W.WriteStr.laws g.met.S.WriteStr.laws c.args.options.now c.args.follower.now c.args.read.now.run.config start)
 
 pub loop-turn-init : goal.loop-turn-init
 loop-turn-init g c = record {
-  same = c.tell_read.ensures.same;
-  keeps_up = λ text has begun start.
-      c.in-Ok.ensures.told c.args.options.now text c.args.follower.now [] nothing_told c.args.more _ has (starts g.met.W.WriteStr.laws g.met.S.WriteStr.laws c.args.options.now c.args.follower.now c.args.read.now.run.config start) begun;
+  same = search rules;
+  keeps_up = λ text has begun start. keeps_up g.met.W.WriteStr.laws g.met.S.WriteStr.laws c.args.options.now text c.args.reporter.now c.args.read.now c.args.more _ has begun start;
 }
+
+pub returns-in-Err-clause-err : goal.returns-in-Err-clause-err
+returns-in-Err-clause-err g c = λ text has begun start.
+    let k = c.loop-turn.invariant.keeps_up text has begun start in
+    stops_run g.met.W.WriteStr.laws g.met.S.WriteStr.laws c.args.options.now text c.args.reporter.now c.loop-turn.reporter c.loop-turn.read c.loop-turn.more _ k c.report_events.new.self c.in-Err.fault
+    (rw (c.as_slice-events.ensures.value, c.as_slice-lines.ensures.value) at c.in-Err.ensures.left c.loop-turn.read.run.config c.args.reporter.now k.before.events k.follows)
 
 pub returns-in-Ok-false-clause-ok : goal.returns-in-Ok-false-clause-ok
 returns-in-Ok-false-clause-ok g c = λ text has begun start.
-    told_all g.met.W.WriteStr.laws g.met.S.WriteStr.laws c.args.options.now c.args.follower.now text c.loop-turn.follower c.loop-turn.read _ (rw (c.in-Ok-false.is, c.in-Ok-false.field-0-test) at c.loop-turn.invariant.keeps_up text has begun start)
+    let k = c.loop-turn.invariant.keeps_up text has begun start in
+    told_all g.met.W.WriteStr.laws g.met.S.WriteStr.laws c.args.options.now text c.args.reporter.now c.loop-turn.reporter c.loop-turn.read c.loop-turn.more _ k c.report_events.new.self
+    (rw c.as_slice-events.ensures.value at c.in-Ok.ensures.told c.loop-turn.read.run.config c.args.reporter.now k.before.events k.follows) (rw (c.in-Ok-false.is, c.in-Ok-false.field-0-test) refl)
 
 pub returns-in-Err-more-clause-err : goal.returns-in-Err-more-clause-err
 returns-in-Err-more-clause-err g c = λ text has begun start.
-    told_first g.met.W.WriteStr.laws g.met.S.WriteStr.laws c.args.options.now c.args.follower.now text c.loop-turn.follower c.loop-turn.read c.in-Err-more.fault _ (rw c.in-Err-more.is at c.loop-turn.invariant.keeps_up text has begun start)
-
-pub returns-in-Err-tell_read-clause-err : goal.returns-in-Err-tell_read-clause-err
-returns-in-Err-tell_read-clause-err g c = λ text has begun start.
-    let k = rw (c.in-Ok-true.is, c.in-Ok-true.field-0-test) at c.loop-turn.invariant.keeps_up text has begun start in
-    let more = c.read_next-more.ensures.read text k.front k.run k.has in
-    c.in-Err-tell_read.ensures.left c.args.options.now text c.args.follower.now k.front k.run _ _ more
-    (follows_still g.met.W.WriteStr.laws g.met.S.WriteStr.laws c.args.options.now c.args.follower.now text c.loop-turn.follower c.loop-turn.read _ k c.read_next-more.new.read _ _ more)
+    let k = c.loop-turn.invariant.keeps_up text has begun start in
+    told_first g.met.W.WriteStr.laws g.met.S.WriteStr.laws c.args.options.now text c.args.reporter.now c.loop-turn.reporter c.loop-turn.read c.loop-turn.more _ k c.report_events.new.self
+    (rw c.as_slice-events.ensures.value at c.in-Ok.ensures.told c.loop-turn.read.run.config c.args.reporter.now k.before.events k.follows) c.in-Err-more.fault c.in-Err-more.is
 
 pub loop-turn-preserved : goal.loop-turn-preserved
 loop-turn-preserved g c = record {
-  same = same-after c.loop-turn.invariant.same c.tell_read-in-loop-turn.ensures.same;
+  same = same-after c.loop-turn.invariant.same c.report_events.ensures.same;
   keeps_up = λ text has begun start.
-      let k = rw (c.in-Ok-true.is, c.in-Ok-true.field-0-test) at c.loop-turn.invariant.keeps_up text has begun start in
-      let more = c.read_next-more.ensures.read text k.front k.run k.has in
-      c.in-Ok-tell_read.ensures.told c.args.options.now text c.args.follower.now k.front k.run _ _ more
-      (follows_still g.met.W.WriteStr.laws g.met.S.WriteStr.laws c.args.options.now c.args.follower.now text c.loop-turn.follower c.loop-turn.read _ k c.read_next-more.new.read _ _ more)
-      (begun_still g.met.W.WriteStr.laws g.met.S.WriteStr.laws c.args.options.now c.args.follower.now text c.loop-turn.follower c.loop-turn.read _ k c.read_next-more.new.read _ _ more);
+      let k = c.loop-turn.invariant.keeps_up text has begun start in
+      let read = forgotten g.met.W.WriteStr.laws g.met.S.WriteStr.laws c.args.options.now text c.args.reporter.now c.loop-turn.reporter c.loop-turn.read c.loop-turn.more _ k
+      c.forget_events.new.self c.forget_events.ensures.config c.forget_events.ensures.events c.forget_events.ensures.lines c.forget_events.ensures.begun c.forget_events.ensures.next (rw (c.in-Ok-true.is, c.in-Ok-true.field-0-test) refl) in
+      reads_on g.met.W.WriteStr.laws g.met.S.WriteStr.laws c.args.options.now text c.args.reporter.now c.loop-turn.reporter c.loop-turn.read c.loop-turn.more _ k c.report_events.new.self
+      (rw c.as_slice-events.ensures.value at c.in-Ok.ensures.told c.loop-turn.read.run.config c.args.reporter.now k.before.events k.follows) c.read_next-more.new.read c.read_next-more.result _ (c.read_next-more.ensures.read text _ _ read);
 }
 
 pub returns-clause-err : goal.returns-clause-err
 returns-clause-err g c = λ text has begun start.
-    told_uncounted g.met.W.WriteStr.laws g.met.S.WriteStr.laws c.args.options.now c.args.follower.now text c.loop-turn.follower c.loop-turn.read _ _ (c.loop-turn.invariant.keeps_up text has begun start) (fault.CannotRead c.args.options.now.file) refl
+    told_uncounted g.met.W.WriteStr.laws g.met.S.WriteStr.laws c.args.options.now text c.args.reporter.now c.loop-turn.reporter c.loop-turn.read c.loop-turn.more _ (c.loop-turn.invariant.keeps_up text has begun start) c.args.options.now.file

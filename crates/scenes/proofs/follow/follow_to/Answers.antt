@@ -4,7 +4,8 @@ use Rattle.console_reporter.specs.Slots.{config_of, store_meaning}
 use Rattle.console_reporter.proofs.lemmas.Stores.{store-laws}
 use Rattle.scene_text.specs.SceneTexts.{nothing_told}
 use Rattle.scenes.specs.Read.{HasRead}
-use Rattle.scenes.specs.Follow.{BreaksOff, BreaksTold, HasTold, HasToldTo, OfText, ReportsTold, StopsBy}
+use Rattle.scenes.specs.Follow.{OfText, StopsBy}
+use Rattle.scenes.specs.SceneReporter.{BreaksOff, BreaksTold, HasTold, HasToldTo, ReportsTold}
 use Rattle.scenes.proofs.lemmas.FollowedDevices.{built, head_stops, head_told, moved, nothing_stops, ready, starts, stops_so}
 use Rattle.scenes.proofs.lemmas.Heads.{ends_at, head_ends, head_left, is_none, is_some_begun}
 use Rattle.scenes.proofs.lemmas.ReadLines.{none_read}
@@ -32,39 +33,39 @@ returns-in-Err-builder_of-clause-err g c = λ text known delivered also.
     nothing_stops g.W.WriteStr.meaning (store_meaning g.S.WriteStr.meaning) g.met.W.WriteStr.laws (store-laws g.met.S.WriteStr.laws) c.args.options.now text c.args.writer.now c.args.store _
     c.in-Err-builder_of.fault c.in-Err-builder_of.ensures.err
 
-pub returns-in-Ok-outcome-clause-ok : goal.returns-in-Ok-outcome-clause-ok
-returns-in-Ok-outcome-clause-ok g c = λ text known delivered also.
+pub returns-in-Ok-followed-clause-ok : goal.returns-in-Ok-followed-clause-ok
+returns-in-Ok-followed-clause-ok g c = λ text known delivered also.
     let first = none_read c.args.options.now.file.now text c.new-read.result _ c.new-read.ensures.told c.new-read.ensures.lines c.new-read.ensures.begun c.new-read.ensures.next known in
     let read = c.read_head-more.new.read in
-    let made = c.new-follower in
+    let made = c.new-reporter in
     let made_of = c.build_in-reporter in
     let parts = c.into_parts-writer.ensures in
     let stands = built c.args.options.now read.run.config c.in-Ok-builder_of.builder c.in-Ok-builder_of.ensures.ok c.surroundings_of.result c.surroundings_of.ensures (config_of c.args.store) c.requires made_of.result made_of.ensures.stands in
     let delivers = ready g.W.WriteStr.meaning g.S.WriteStr.meaning made_of.result c.args.writer.now c.args.store made_of.ensures.untouched made_of.ensures.store delivered also in
     let begins = starts g.W.WriteStr.meaning g.S.WriteStr.meaning c.args.options.now read.run.config made_of.result stands delivers made.result made.ensures.outcome made.ensures.reporter in
     let some = is_some_begun read.run.events.items (sym (ap (λ n. n == 0) read.run.events.ok.0) ∙ sym c.is_empty.ensures ∙ c.if-is_empty.false) in
-    moved (λ a b x y. OfText text (ReportsTold g.W.WriteStr.meaning (store_meaning g.S.WriteStr.meaning) c.args.options.now a b x y c.follow_lines-outcome.new.follower.outcome))
+    moved (λ a b x y. OfText text (ReportsTold g.W.WriteStr.meaning (store_meaning g.S.WriteStr.meaning) c.args.options.now a b x y c.follow_lines-followed.new.reporter.outcome))
     (ap (λ r. r.writer.now) made.ensures.reporter ∙ made_of.ensures.untouched) (ap (λ w. w.now) (sym parts.writer)) (ap (λ r. r.store) made.ensures.reporter ∙ made_of.ensures.store) (sym parts.store)
-    (c.in-Ok-outcome.ensures.ok text (c.read_head-more.ensures.read text [] nothing_told first) some begins)
+    (c.in-Ok-followed.ensures.ok text (c.read_head-more.ensures.read text [] nothing_told first) some begins)
 
 pub returns-clause-err : goal.returns-clause-err
 returns-clause-err g c = λ text known delivered also.
     let first = none_read c.args.options.now.file.now text c.new-read.result _ c.new-read.ensures.told c.new-read.ensures.lines c.new-read.ensures.begun c.new-read.ensures.next known in
     let read = c.read_head-more.new.read in
-    let made = c.new-follower in
+    let made = c.new-reporter in
     let made_of = c.build_in-reporter in
     let parts = c.into_parts-writer.ensures in
-    let now = c.follow_lines-outcome.new.follower in
+    let now = c.follow_lines-followed.new.reporter in
     let m = g.W.WriteStr.meaning in
     let k = store_meaning g.S.WriteStr.meaning in
     let stands = built c.args.options.now read.run.config c.in-Ok-builder_of.builder c.in-Ok-builder_of.ensures.ok c.surroundings_of.result c.surroundings_of.ensures (config_of c.args.store) c.requires made_of.result made_of.ensures.stands in
     let delivers = ready g.W.WriteStr.meaning g.S.WriteStr.meaning made_of.result c.args.writer.now c.args.store made_of.ensures.untouched made_of.ensures.store delivered also in
     let begins = starts g.W.WriteStr.meaning g.S.WriteStr.meaning c.args.options.now read.run.config made_of.result stands delivers made.result made.ensures.outcome made.ensures.reporter in
     let some = is_some_begun read.run.events.items (sym (ap (λ n. n == 0) read.run.events.ok.0) ∙ sym c.is_empty.ensures ∙ c.if-is_empty.false) in
-    moved (λ a b x y. StopsBy c.args.options.now text (HasToldTo m k c.args.options.now a b x y) (BreaksTold m k c.args.options.now a b x y) c.in-Err-outcome.fault)
+    moved (λ a b x y. StopsBy c.args.options.now text (HasToldTo m k c.args.options.now a b x y) (BreaksTold m k c.args.options.now a b x y) c.in-Err-followed.fault)
     (ap (λ r. r.writer.now) made.ensures.reporter ∙ made_of.ensures.untouched) (ap (λ w. w.now) (sym parts.writer)) (ap (λ r. r.store) made.ensures.reporter ∙ made_of.ensures.store) (sym parts.store)
     (stops_so c.args.options.now text (HasTold g.W.WriteStr.meaning g.S.WriteStr.meaning c.args.options.now made.result now)
     (HasToldTo m k c.args.options.now made.result.reporter.writer.now now.reporter.writer.now made.result.reporter.store now.reporter.store)
     (BreaksOff g.W.WriteStr.meaning g.S.WriteStr.meaning c.args.options.now made.result now)
     (BreaksTold m k c.args.options.now made.result.reporter.writer.now now.reporter.writer.now made.result.reporter.store now.reporter.store)
-    (λ run p. (now.outcome, p)) (λ run f q. q) c.in-Err-outcome.fault (c.in-Err-outcome.ensures.err text (c.read_head-more.ensures.read text [] nothing_told first) some begins))
+    (λ run p. (now.outcome, p)) (λ run f q. q) c.in-Err-followed.fault (c.in-Err-followed.ensures.err text (c.read_head-more.ensures.read text [] nothing_told first) some begins))

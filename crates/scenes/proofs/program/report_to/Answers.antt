@@ -1,10 +1,11 @@
-use Rattle.std.proofs.Common.{ap, subst, sym}
+use Rattle.std.proofs.Common.{[], ap, refl, subst, sym, ◌∙◌}
 use Rattle.std.specs.Prelude.{IfErr, OnOk}
 use Rattle.console_reporter.specs.Slots.{IsSameStore, config_of, store_meaning}
 use Rattle.console_reporter.proofs.lemmas.Stores.{same-store, store-laws}
-use Rattle.scenes.specs.Follow.{BreaksTold, HasToldTo}
+use Rattle.scenes.specs.SceneReporter.{BreaksTold, Follows, HasToldTo, StopsAtEvent}
 use Rattle.scenes.specs.ToldScenes.{scene_told}
-use Rattle.scenes.proofs.lemmas.FollowedDevices.{built, moved, ready}
+use Rattle.scenes.proofs.lemmas.FollowedDevices.{built, from_err, from_ok, moved, ready, starts}
+use Rattle.scenes.proofs.lemmas.SceneReporters as reporters
 use Rattle.scenes.proofs.lemmas.SpelledRuns.{unbuilt}
 use Rattle.scenes.proofs.program.report_to.Goals as goal
 
@@ -16,32 +17,45 @@ returns-in-Err-clause-err g c =
     unbuilt c.args.options.now c.args.scene.now c.requires.accepted g.W.WriteStr.meaning (store_meaning g.S.WriteStr.meaning) g.met.W.WriteStr.laws (store-laws g.met.S.WriteStr.laws) c.args.writer.now c.args.store
     c.in-Err.fault c.in-Err.ensures.err
 
-pub report_events-outcome-requires-clause-stands : goal.report_events-outcome-requires-clause-stands
-report_events-outcome-requires-clause-stands g c =
-    built c.args.options.now c.args.scene.now.config c.in-Ok.builder c.in-Ok.ensures.ok c.surroundings_of.result c.surroundings_of.ensures (config_of c.args.store) c.requires.store_asked
-    c.build_in-reporter.result c.build_in-reporter.ensures.stands
-
-pub report_events-outcome-requires-clause-delivered : goal.report_events-outcome-requires-clause-delivered
-report_events-outcome-requires-clause-delivered g c =
-    ready g.W.WriteStr.meaning g.S.WriteStr.meaning c.build_in-reporter.result c.args.writer.now c.args.store c.build_in-reporter.ensures.untouched c.build_in-reporter.ensures.store c.requires.delivered c.requires.store_delivered
-
 pub returns-clause-same_store : goal.returns-clause-same_store
 returns-clause-same_store g c =
-    subst (λ x. IsSameStore x c.into_parts-writer.result.1) c.build_in-reporter.ensures.store
-    (subst (λ y. IsSameStore c.build_in-reporter.result.store y) (sym c.into_parts-writer.ensures.store) c.report_events-outcome.ensures.same.store)
+    let made = c.new-reporter.ensures.reporter in
+    subst (λ x. IsSameStore x c.into_parts-writer.result.1) (ap (λ r. r.store) made ∙ c.build_in-reporter.ensures.store)
+    (subst (λ y. IsSameStore c.new-reporter.result.reporter.store y) (sym c.into_parts-writer.ensures.store) c.report_events-reported.ensures.same.store)
 
 pub returns-clause-ok : goal.returns-clause-ok
 returns-clause-ok g c =
-    let built = c.build_in-reporter.ensures in
+    let made = c.new-reporter in
+    let made_of = c.build_in-reporter in
     let parts = c.into_parts-writer.ensures in
-    let made = c.report_events-outcome in
-    moved (λ a b x y. OnOk made.result (HasToldTo g.W.WriteStr.meaning (store_meaning g.S.WriteStr.meaning) c.args.options.now a b x y (scene_told c.args.scene.now)))
-    built.untouched (ap (λ w. w.now) (sym parts.writer)) built.store (sym parts.store) made.ensures.ok
+    let reported = c.report_events-reported in
+    let config = c.args.scene.now.config in
+    let stands = built c.args.options.now config c.in-Ok.builder c.in-Ok.ensures.ok c.surroundings_of.result c.surroundings_of.ensures (config_of c.args.store) c.requires.store_asked made_of.result made_of.ensures.stands in
+    let delivers = ready g.W.WriteStr.meaning g.S.WriteStr.meaning made_of.result c.args.writer.now c.args.store made_of.ensures.untouched made_of.ensures.store c.requires.delivered c.requires.store_delivered in
+    let begins = starts g.W.WriteStr.meaning g.S.WriteStr.meaning c.args.options.now config made_of.result stands delivers made.result made.ensures.outcome made.ensures.reporter in
+    let nothing = reporters.starts g.met.W.WriteStr.laws g.met.S.WriteStr.laws c.args.options.now made.result config begins in
+    moved (λ a b x y. OnOk reported.result (HasToldTo g.W.WriteStr.meaning (store_meaning g.S.WriteStr.meaning) c.args.options.now a b x y (scene_told c.args.scene.now)))
+    (ap (λ r. r.writer.now) made.ensures.reporter ∙ made_of.ensures.untouched) (ap (λ w. w.now) (sym parts.writer)) (ap (λ r. r.store) made.ensures.reporter ∙ made_of.ensures.store) (sym parts.store)
+    (from_ok reported.result (λ told. (
+      reported.new.self.outcome,
+      reporters.now_told g.met.W.WriteStr.laws g.met.S.WriteStr.laws c.args.options.now made.result reported.new.self reported.new.self (scene_told c.args.scene.now)
+          (subst (λ es. Follows g.W.WriteStr.meaning g.S.WriteStr.meaning c.args.options.now made.result reported.new.self (record { config = config; events = es })) c.as_slice-events.ensures.value (told config made.result [] nothing)) refl,
+    )) reported.ensures.told)
 
 pub returns-clause-err : goal.returns-clause-err
 returns-clause-err g c =
-    let built = c.build_in-reporter.ensures in
+    let made = c.new-reporter in
+    let made_of = c.build_in-reporter in
     let parts = c.into_parts-writer.ensures in
-    let made = c.report_events-outcome in
-    moved (λ a b x y. IfErr made.result (BreaksTold g.W.WriteStr.meaning (store_meaning g.S.WriteStr.meaning) c.args.options.now a b x y (scene_told c.args.scene.now)))
-    built.untouched (ap (λ w. w.now) (sym parts.writer)) built.store (sym parts.store) made.ensures.err
+    let reported = c.report_events-reported in
+    let config = c.args.scene.now.config in
+    let stands = built c.args.options.now config c.in-Ok.builder c.in-Ok.ensures.ok c.surroundings_of.result c.surroundings_of.ensures (config_of c.args.store) c.requires.store_asked made_of.result made_of.ensures.stands in
+    let delivers = ready g.W.WriteStr.meaning g.S.WriteStr.meaning made_of.result c.args.writer.now c.args.store made_of.ensures.untouched made_of.ensures.store c.requires.delivered c.requires.store_delivered in
+    let begins = starts g.W.WriteStr.meaning g.S.WriteStr.meaning c.args.options.now config made_of.result stands delivers made.result made.ensures.outcome made.ensures.reporter in
+    let nothing = reporters.starts g.met.W.WriteStr.laws g.met.S.WriteStr.laws c.args.options.now made.result config begins in
+    moved (λ a b x y. IfErr reported.result (BreaksTold g.W.WriteStr.meaning (store_meaning g.S.WriteStr.meaning) c.args.options.now a b x y (scene_told c.args.scene.now)))
+    (ap (λ r. r.writer.now) made.ensures.reporter ∙ made_of.ensures.untouched) (ap (λ w. w.now) (sym parts.writer)) (ap (λ r. r.store) made.ensures.reporter ∙ made_of.ensures.store) (sym parts.store)
+    (from_err reported.result (λ f left. reporters.stops_scene c.args.options.now c.args.scene.now c.requires.accepted g.met.W.WriteStr.laws g.met.S.WriteStr.laws made.result reported.new.self f
+    (subst (λ es. StopsAtEvent g.W.WriteStr.meaning g.S.WriteStr.meaning c.args.options.now config es c.args.scene.now.lines.items [] f made.result reported.new.self) c.as_slice-events.ensures.value
+    (subst (λ ls. StopsAtEvent g.W.WriteStr.meaning g.S.WriteStr.meaning c.args.options.now config c.as_slice-events.result.now ls [] f made.result reported.new.self) c.as_slice-lines.ensures.value (left config made.result [] nothing))))
+    reported.ensures.left)

@@ -1,8 +1,0 @@
-use Rattle.scene_events.proofs.lemmas.Zips.{AllZip-more}
-use Rattle.scene_events.specs.Scenes.{IsCallOf}
-use Rattle.scene_events.proofs.scene.whole_calls.Goals as goal
-
-pub loop-event-preserved : goal.loop-event-preserved
-loop-event-preserved c =
-    let adds = c.in_ok-push_call.ensures.call in
-    rw adds.added (AllZip-more IsCallOf _ _ _ _ _ c.loop-event-test.true c.event-item.is c.loop-event.invariant adds.of_event)

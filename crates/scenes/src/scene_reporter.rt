@@ -1,0 +1,135 @@
+//! The events of a scene, each made a call of the reporter: what both programs do with the lines that were read.
+
+ghost use Rattle.std.specs.Prelude.{◌≡◌, ◌++◌, List, [], IfOk, IfErr, OnOk};
+ghost use Rattle.console_reporter.specs.HeldState.{HasFailed};
+ghost use Rattle.console_reporter.specs.Telling.{AreDelivered, IsSameReporter};
+ghost use Rattle.scene_events.specs.Scenes.{IsCallOf};
+ghost use Rattle.scenes.specs.SceneReporter.{Follows, LeavesEvent, StopsAtEvent, TellsEvent};
+ghost use Rattle.scenes.specs.Unloads.{IsReadyCall};
+
+use crate::outcome::RunOutcome;
+use crate::reporter::fault_at_call;
+use crate::scene::event::SceneEvent;
+use crate::scene::{SceneConfig, line_at};
+use command_line::fault::Fault;
+use command_line::words::Options;
+use console_reporter::imp::{DisplayReporter, OutputLoadDecider, ReportCall};
+use console_reporter::write_str::WriteStr;
+use run_model::memory::OutOfMemory;
+use std::alloc::Global;
+
+/// A reporter of a scene's events, and how their run stands.
+#[derive(Drop)]
+pub(crate) struct SceneReporter<'a, W, S> {
+    pub(crate) outcome: RunOutcome,
+    pub(crate) reporter: DisplayReporter<'a, W, S>,
+}
+
+impl<'a, W: WriteStr, S: WriteStr> SceneReporter<'a, W, S> {
+    /// Takes a reporter that has made no call yet.
+    pub(crate) fn new(reporter: DisplayReporter<'a, W, S>) -> SceneReporter<'a, W, S>
+        ensures outcome { result.outcome ≡ RunOutcome.NotEnded }
+        ensures reporter { result.reporter ≡ reporter.entry }
+    {
+        SceneReporter {
+            outcome: RunOutcome::NotEnded,
+            reporter,
+        }
+    }
+
+    /// Reports events, which stand on these lines, one after the other: the text of each is written and delivered, and then its record. An
+    /// event that is refused is the fault of its line, and is left unreported with those behind it. Once a call has failed, none is made: an
+    /// event is then answered by `WriteFailed`, unless memory is refused.
+    pub(crate) fn report_events(
+        &mut self,
+        alloc: Global,
+        options: &Options<'_>,
+        events: &[SceneEvent],
+        lines: &[u64],
+    ) -> Result<(), Fault<'static>>
+        ensures same { IsSameReporter self.old.reporter self.new.reporter }
+        ensures told { OnOk result ((config : SceneConfig) (start : SceneReporter W S) (base : List SceneEvent) → Follows W.meaning S.meaning options.now start self.old (record { config = config; events = base })
+            → Follows W.meaning S.meaning options.now start self.new (record { config = config; events = base ++ events.now })) }
+        ensures left { IfErr result (λ fault. (config : SceneConfig) (start : SceneReporter W S) (base : List SceneEvent) → Follows W.meaning S.meaning options.now start self.old (record { config = config; events = base })
+            → StopsAtEvent W.meaning S.meaning options.now config events.now lines.now base fault start self.new) }
+        // Once its reporter has failed, it stays as it is, and no event is answered by Ok.
+        ensures failed { HasFailed self.old.reporter → (self.new ≡ self.old) × OnOk result (events.now ≡ []) }
+    {
+        let decider = self.reporter.output_load_decider();
+        let mut buffer = Vec::new(alloc);
+        for place in 0..events.len() {
+            let number = line_at(lines, place);
+            match self.report_event(
+                alloc,
+                options,
+                &decider,
+                number,
+                &events[place],
+                &mut buffer,
+            ) {
+                Ok(()) => {}
+                Err(fault) => return Err(fault),
+            }
+        }
+        Ok(())
+    }
+
+    // Reports the event of the line of this number. Its call is made in the buffer.
+    fn report_event<'e>(
+        &mut self,
+        alloc: Global,
+        options: &Options<'_>,
+        decider: &OutputLoadDecider,
+        number: u64,
+        event: &'e SceneEvent,
+        buffer: &mut Vec<ReportCall<'e>>,
+    ) -> Result<(), Fault<'static>>
+        ensures same { IsSameReporter self.old.reporter self.new.reporter }
+        ensures told { OnOk result (TellsEvent W.meaning S.meaning options.now decider.now event.now self.old self.new) }
+        ensures delivered { AreDelivered W.meaning S.meaning self.old.reporter → OnOk result (AreDelivered W.meaning S.meaning self.new.reporter) }
+        ensures left { IfErr result (λ fault. LeavesEvent W.meaning S.meaning options.now decider.now number event.now fault self.old self.new) }
+        ensures failed { HasFailed self.old.reporter → (self.new ≡ self.old) × OnOk result ⊥ }
+    {
+        let call = ready_call(alloc, options, decider, event, buffer)?;
+        match self.reporter.make_call(alloc, call) {
+            Ok(()) => {
+                self.outcome = self.outcome.after(call);
+                Ok(())
+            }
+            Err(error) => Err(fault_at_call(number, error)),
+        }
+    }
+}
+
+// The call of an event in a buffer, with its output left unread where that is asked for and the report does not show it.
+fn ready_call<'r, 'a>(
+    alloc: Global,
+    options: &Options<'_>,
+    decider: &OutputLoadDecider,
+    event: &'a SceneEvent,
+    buffer: &'r mut Vec<ReportCall<'a>>,
+) -> Result<&'r ReportCall<'a>, OutOfMemory>
+    ensures { IfOk result (λ call. IsReadyCall options.now decider.now event.now call.now) }
+{
+    let call = call_in(alloc, event, buffer)?;
+    if options.unload_skipped {
+        decider.unload(call);
+    }
+    Ok(call)
+}
+
+/// Makes the call of an event in a buffer, in place of what stood there: calls are large, and nothing is allocated for each.
+pub(crate) fn call_in<'r, 'a>(
+    alloc: Global,
+    event: &'a SceneEvent,
+    buffer: &'r mut Vec<ReportCall<'a>>,
+) -> Result<&'r mut ReportCall<'a>, OutOfMemory>
+    ensures { IfOk result (λ call. IsCallOf event.now call.now) }
+{
+    buffer.clear();
+    event.push_call(alloc, buffer)?;
+    match buffer.as_mut_slice().first_mut() {
+        Some(call) => Ok(call),
+        None => unreachable!(),
+    }
+}
