@@ -1,18 +1,18 @@
--- The keys at which entries are kept, and what a map of them shows.
-use Rattle.std.specs.Prelude.{◌≡◌, ℕ, ◌-◌, ◌<◌, List, [], ◌∷◌, map}
+-- The keys by which entries are ordered, and what a list of entries with their places shows.
+use Rattle.std.specs.Prelude.{◌≡◌, ℕ, ◌-◌, ◌<◌, ◌≤◌, Bool, List, [], ◌∷◌, count_by, length, map}
 use Rattle.std.specs.declared.cmp.Ordering.{Ordering}
-use Rattle.std.specs.Ordering.{nat_cmp, on, then_cmp}
+use Rattle.std.specs.Ordering.{is_lt, nat_cmp, on, then_cmp}
 use Rattle.std.specs.Cmp.{IsTotalOrder, then_total, on_total, nat_cmp_total}
 use Rattle.std.specs.Cmp.Lexicographic.{lists_total, nat_list_cmp_total}
 use Rattle.std.specs.List.{AllByRecursion}
+use Rattle.std.specs.List.Sorted.{ties}
 use Rattle.run_names.specs.Levels.{final_rank}
 use Rattle.run_names.specs.declared.name.OwnedTestInstanceId.{OwnedTestInstanceId}
-use Rattle.reporter_state.specs.Entries.{counter_key, entry_key, iteration_key}
-use Rattle.reporter_state.specs.Order.{key_cmp}
-use Rattle.reporter_state.specs.declared.entry_key.EntryKey.{EntryKey}
-use Rattle.reporter_state.specs.declared.final_output.FinalOutput.{FinalOutput}
+use Rattle.reporter_state.specs.Entries.{counter_key, final_level_of_output, iteration_key}
+use Rattle.reporter_state.specs.Order.{key_cmp, ordered_by}
 use Rattle.reporter_state.specs.declared.final_output.FinalOutputEntry.{FinalOutputEntry}
 use Rattle.reporter_state.specs.declared.kept_test.KeptTest.{KeptTest}
+use Rattle.reporter_state.specs.declared.placed_entry.PlacedEntry.{PlacedEntry}
 
 -- the parts of a key from the instance, from the counter and from the iteration on
 abbrev pub instance_key : OwnedTestInstanceId → List (List ℕ)
@@ -25,26 +25,40 @@ abbrev pub test_key : KeptTest → List (List ℕ)
 test_key t = iteration_key t.stress_index ∷ counted_key t
 
 -- the final order's part of a key
-abbrev pub order_key : EntryKey → List (List ℕ)
-order_key k = ((7 - final_rank k.level) ∷ []) ∷ test_key k.test
+abbrev pub order_key : PlacedEntry → List (List ℕ)
+order_key p = ((7 - final_rank p.level) ∷ []) ∷ test_key p.entry.test
 
--- the order of keys: the final order's, and then that in which entries were kept
-abbrev pub placed_cmp : EntryKey → EntryKey → Ordering
-placed_cmp = then_cmp (on order_key key_cmp) (on (λ k. k.place) nat_cmp)
+-- the order of entries with their places: the final order's, and then that in which they were kept
+abbrev pub placed_cmp : PlacedEntry → PlacedEntry → Ordering
+placed_cmp = then_cmp (on order_key key_cmp) (on (λ p. p.place) nat_cmp)
 
 pub placed_total : IsTotalOrder placed_cmp
-placed_total = then_total (on_total order_key (lists_total nat_list_cmp_total)) (on_total (λ k. k.place) nat_cmp_total)
+placed_total = then_total (on_total order_key (lists_total nat_list_cmp_total)) (on_total (λ p. p.place) nat_cmp_total)
 
--- the entry of which a key holds the test and a map the rest
-abbrev pub entry_at : EntryKey × FinalOutput → FinalOutputEntry
-entry_at p = record { test = p.0.test; output = p.1 }
+abbrev pub is_placed_before : PlacedEntry → PlacedEntry → Bool
+is_placed_before a b = is_lt (placed_cmp a b)
 
-abbrev pub entries_at : List (EntryKey × FinalOutput) → List FinalOutputEntry
-entries_at ps = map entry_at ps
+abbrev pub placed_order : List PlacedEntry → List PlacedEntry
+placed_order ps = ordered_by is_placed_before ps
 
--- the key is its entry's, and one of the first so many
-abbrev pub IsKeyed : ℕ → EntryKey × FinalOutput → Type 0
-IsKeyed count p = (order_key p.0 ≡ entry_key (entry_at p)) × (p.0.place < count)
+-- an entry before which so many were kept
+abbrev pub placed_at : FinalOutputEntry → ℕ → PlacedEntry
+placed_at e place = record { entry = e; place = place; level = final_level_of_output e.output }
 
-abbrev pub AreKeyed : ℕ → List (EntryKey × FinalOutput) → Type 0
-AreKeyed count ps = AllByRecursion (IsKeyed count) ps
+abbrev pub entries_of : List PlacedEntry → List FinalOutputEntry
+entries_of ps = map (λ (p : PlacedEntry). p.entry) ps
+
+-- the level is its entry's, and the place one of the first so many
+abbrev pub IsPlaced : ℕ → PlacedEntry → Type 0
+IsPlaced count p = (p.level ≡ final_level_of_output p.entry.output) × (p.place < count)
+
+abbrev pub ArePlaced : ℕ → List PlacedEntry → Type 0
+ArePlaced count ps = AllByRecursion (IsPlaced count) ps
+
+-- no two are equal: they differ by their places
+abbrev pub AreApart : List PlacedEntry → Type 0
+AreApart ps = (p : PlacedEntry) → count_by (ties is_placed_before p) ps ≤ 1
+
+-- each has its level and a place of its own
+abbrev pub HavePlaces : List PlacedEntry → Type 0
+HavePlaces ps = ArePlaced (length ps) ps × AreApart ps

@@ -5,18 +5,19 @@ ghost use Rattle.plain_text.specs.Writer.{Puts};
 ghost use Rattle.test_text.specs.StatusLine.{status_line};
 ghost use Rattle.test_text.specs.declared.status_line.StatusLineKind.{StatusLineKind};
 ghost use Rattle.reporter_state.specs.Entries.{final_text, entries_text, final_order, IsFinalOrder};
+ghost use Rattle.reporter_state.specs.Keys.{entries_of};
 ghost use Rattle.reporter_state.specs.KeptTests.{borrowed_test};
 ghost use Rattle.reporter_state.specs.declared.final_output.FinalOutputEntry.{FinalOutputEntry};
 
-use crate::entry_key::EntryKey;
 use crate::final_output::{FinalOutput, FinalOutputEntry};
 use crate::kept_test::KeptTest;
+use crate::placed_entry::PlacedEntry;
 use event_text::attempt_output::write_test_execute_status;
 use event_text::settings::Settings;
 use plain_text::write_str::{WriteFault, WriteStr};
+use run_model::memory::OutOfMemory;
 use run_model::status::StatusSummary;
-use std::alloc::{AllocError, Global};
-use std::collections::BTreeMap;
+use std::alloc::Global;
 use std::marker::Model;
 use test_text::status_line::{StatusLine, StatusLineKind, write_status_line};
 use test_text::test_skipped::write_skip_line;
@@ -24,21 +25,20 @@ use test_text::test_skipped::write_skip_line;
 /// The entries that a summary lists. Contracts see them as the list in which it shows them.
 #[derive(Drop)]
 pub struct KeptEntries {
-    // a key holds the test of its entry
-    by_key: BTreeMap<EntryKey, FinalOutput>,
+    // as they were kept; a summary that was written left those before it in their order
+    entries: Vec<PlacedEntry>,
 }
 
 impl Model for KeptEntries {
     ghost use Rattle.std.specs.Prelude.{List};
-    ghost use Rattle.std.specs.BTreeMap.{btree_map_len};
-    ghost use Rattle.reporter_state.specs.Keys.{AreKeyed, entries_at};
+    ghost use Rattle.reporter_state.specs.Keys.{HavePlaces, entries_of, placed_order};
     ghost use Rattle.reporter_state.specs.declared.final_output.FinalOutputEntry.{FinalOutputEntry};
 
     ghost Value = { List FinalOutputEntry };
 
-    ghost view = { λ k. entries_at k.by_key.entries };
+    ghost view = { λ k. entries_of (placed_order k.entries.items) };
 
-    ghost invariant = { λ k. AreKeyed (btree_map_len k.by_key) k.by_key.entries };
+    ghost invariant = { λ k. HavePlaces k.entries.items };
 }
 
 impl KeptEntries {
@@ -48,33 +48,27 @@ impl KeptEntries {
         ensures { result ≡ final_order [] }
     {
         KeptEntries {
-            by_key: BTreeMap::new(alloc),
+            entries: Vec::new(alloc),
         }
     }
 
-    /// Keeps an entry in its place in the final order: after those of its key that were kept before.
-    pub fn keep(&mut self, entry: FinalOutputEntry) -> Result<(), AllocError>
+    /// Keeps an entry: in the final order it comes after those of its key that were kept before.
+    pub fn keep(&mut self, alloc: Global, entry: FinalOutputEntry) -> Result<(), OutOfMemory>
         ensures ok { OnOk result ((kept : List FinalOutputEntry) → self.old ≡ final_order kept → self.new ≡ final_order (kept ++ entry ∷ [])) }
         ensures err { OnErr result (self.new ≡ self.old) }
     {
-        let FinalOutputEntry { test, output } = entry;
-        let key = EntryKey {
-            level: output.final_status_level(),
-            test,
-            place: self.by_key.len(),
-        };
-        self.by_key.insert(key, output)?;
+        let placed = PlacedEntry::new(alloc, entry, self.entries.len())?;
+        self.entries.push(placed)?;
         Ok(())
     }
 
-    /// Writes the entries in their order. It allocates nothing.
-    pub fn write<W: WriteStr>(&self, w: &mut W, settings: &Settings) -> Result<(), WriteFault>
-        ensures { Puts W.meaning w.old (entries_text settings.now self.now) result w.new }
+    /// Writes the entries in their order. It allocates nothing: they are ordered where they stand.
+    pub fn write<W: WriteStr>(&mut self, w: &mut W, settings: &Settings) -> Result<(), WriteFault>
+        ensures text { Puts W.meaning w.old (entries_text settings.now self.old) result w.new }
+        ensures same { self.new ≡ self.old }
     {
-        for (key, output) in self.by_key.iter() {
-            write_entry(w, settings, &key.test, output)?;
-        }
-        Ok(())
+        self.entries.sort_unstable();
+        write_entries(w, settings, &self.entries)
     }
 }
 
@@ -85,6 +79,21 @@ pub fn one_final_order()
     ensures exists { (kept : List FinalOutputEntry) → IsFinalOrder kept (final_order kept) }
     ensures only { (kept order : List FinalOutputEntry) → IsFinalOrder kept order → order ≡ final_order kept }
 {}
+
+// Writes entries as they stand.
+fn write_entries<W: WriteStr>(
+    w: &mut W,
+    settings: &Settings,
+    entries: &[PlacedEntry],
+) -> Result<(), WriteFault>
+    ensures { Puts W.meaning w.old (entries_text settings.now (entries_of entries.now)) result w.new }
+{
+    for placed in entries {
+        let FinalOutputEntry { test, output } = placed.entry.get();
+        write_entry(w, settings, test, output)?;
+    }
+    Ok(())
+}
 
 // Writes an entry: its line, and what the last attempt wrote where that is kept; or that the test was skipped.
 #[tactic(auto, unfolding(crate::specs::Entries::final_text), using(crate::proofs::lemmas::KeptTests::skip_of_kept))]

@@ -2,16 +2,16 @@
 //!
 //! One module a concern: `decider` says what is decided of an event by its metadata, `faults` how a call fails, `effect` what an event
 //! does beside its text, `final_output` what is kept of a test for the summary, `loaded_output` the output in it, `kept_test` the test
-//! with names of its own, `entry_key` what an entry is ordered by, `kept` how entries are held and listed, and `state` what is known of
+//! with names of its own, `placed_entry` what an entry is ordered by, `kept` how entries are held and listed, and `state` what is known of
 //! the calls before.
 #![tactic(auto)]
 
 pub mod decider;
 pub mod effect;
-pub mod entry_key;
 pub mod faults;
 pub mod final_output;
 pub mod kept;
 pub mod kept_test;
 pub mod loaded_output;
+pub mod placed_entry;
 pub mod state;

@@ -108,7 +108,7 @@ impl ReporterState {
             return Ok(());
         }
         let entry = FinalOutputEntry::of_test(self.alloc, finished)?;
-        self.kept.keep(entry)?;
+        self.kept.keep(self.alloc, entry)?;
         Ok(())
     }
 
@@ -127,7 +127,7 @@ impl ReporterState {
             return Ok(());
         }
         let entry = FinalOutputEntry::skipped(self.alloc, test)?;
-        self.kept.keep(entry)?;
+        self.kept.keep(self.alloc, entry)?;
         Ok(())
     }
 }

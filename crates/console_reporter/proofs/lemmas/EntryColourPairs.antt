@@ -22,7 +22,8 @@ use Rattle.run_text.specs.PlainRuns.{IsPlainPrefix}
 use Rattle.reporter_state.specs.Effects.{final_output, finished_entry, is_kept, is_skip_kept, entry_of}
 use Rattle.reporter_state.specs.Entries.{cancel, prefix, kept, final_order, is_before, final_text, entries_text}
 use Rattle.reporter_state.specs.KeptTests.{borrowed_test}
-use Rattle.reporter_state.specs.Order.{put_in, ordered_by}
+use Rattle.reporter_state.proofs.lemmas.Keys.{is_before-ranks}
+use Rattle.reporter_state.proofs.lemmas.Orders.{All-ordered_by}
 use Rattle.console_reporter.specs.PlainCalls.{IsPlainKind, IsPlainCall}
 use Rattle.run_model.specs.declared.call.ReportCall.{ReportCall}
 use Rattle.run_model.specs.declared.call.ReportCall.TheVariants.{Event, Header, Prefix}
@@ -55,20 +56,9 @@ pub All-append : {X : Type 0} (P : X → Type 0) (xs ys : List X) → AllByRecur
 All-append P [] ys h j = j
 All-append P (x ∷ xs) ys h j = (h.0, All-append P xs ys h.1 j)
 
-All-put_in : (P : FinalOutputEntry → Type 0) (e : FinalOutputEntry) (es : List FinalOutputEntry) → P e → AllByRecursion P es → AllByRecursion P (put_in is_before e es)
-unfolding put_in
-All-put_in P e [] h j = (h, tt)
-All-put_in P e (f ∷ es) h j = let more = All-put_in P e es h j.1 in go (is_before f e) more
-  where
-    go : (b : Bool) → AllByRecursion P (put_in is_before e es) → AllByRecursion P (cond b (f ∷ put_in is_before e es) (e ∷ f ∷ es))
-    go true more = (j.0, more)
-    go false more = (h, j)
-
 -- the final order holds the entries that were kept
 pub All-final_order : (P : FinalOutputEntry → Type 0) (es : List FinalOutputEntry) → AllByRecursion P es → AllByRecursion P (final_order es)
-unfolding ordered_by
-All-final_order P [] h = tt
-All-final_order P (e ∷ es) h = All-put_in P e (ordered_by is_before es) h.0 (All-final_order P es h.1)
+All-final_order P es h = All-ordered_by is_before is_before-ranks P es h
 
 -- what is kept of a test that finished
 plain-finished : (k : Bool) (f : TestFinish) → IsPlainFinish k f → IsPlainFinal k (final_output f)

@@ -1,11 +1,12 @@
--- Lists in order, with ties as they came: there is exactly one (for the lemmas of Inserts, Pasts).
-use Rattle.std.proofs.Common.{suc-add, ap₂, ◌≡◌, zero, suc, Bool, true, false, not, cond, List, [], ◌∷◌, ◌++◌, filter, refl, sym, ◌∙◌, ap, arith, inl, inr, IsSortedBy}
+-- Lists in order, with ties as they came: there is exactly one (for the lemmas of PlacedEntries, Pasts).
+use Rattle.std.proofs.Common.{suc-add, ap₂, ◌≡◌, ◌≤◌, zero, suc, length, if◌then◌else◌, count_by, subst, IsPermutation, Bool, true, false, not, cond, List, [], ◌∷◌, ◌++◌, filter, refl, sym, ◌∙◌, ap, arith, inl, inr, IsSortedBy}
 use Rattle.std.specs.Cmp.{IsStrictWeakOrder}
 use Rattle.std.specs.List.{AllByRecursion}
 use Rattle.std.specs.List.Sorted.{ties, IsStableBy}
 use Rattle.std.proofs.lemmas.Bool.{false≢true, cases_Bool, and_parts, not-true}
-use Rattle.std.proofs.lemmas.List.Elements.{recursion_from_All}
-use Rattle.std.proofs.lemmas.List.Sorted.{sorted_far}
+use Rattle.std.proofs.lemmas.List.Elements.{recursion_from_All, All-from_recursion}
+use Rattle.std.proofs.lemmas.List.Sorted.{sorted_far, All-permutation, sum_by-IsPermutation}
+use Rattle.std.proofs.lemmas.List.Sums.{length-filter}
 use Rattle.reporter_state.specs.Order.{put_in, ordered_by}
 
 -- each element is not above those after it
@@ -13,13 +14,43 @@ abbrev pub IsRising : {X : Type 0} → (X → X → Bool) → List X → Type 0
 IsRising lt [] = Unit {0}
 IsRising lt (e ∷ es) = AllByRecursion (λ f. lt f e ≡ false) es × IsRising lt es
 
-filter-none : {X : Type 0} (p : X → Bool) (xs : List X) → AllByRecursion (λ x. p x ≡ false) xs → filter p xs ≡ []
+pub filter-none : {X : Type 0} (p : X → Bool) (xs : List X) → AllByRecursion (λ x. p x ≡ false) xs → filter p xs ≡ []
 filter-none p [] h = refl
 filter-none p (x ∷ xs) h = rw h.0 (filter-none p xs h.1)
 
-All-more : {X : Type 0} (P Q : X → Type 0) → ((x : X) → P x → Q x) → (xs : List X) → AllByRecursion P xs → AllByRecursion Q xs
+pub All-more : {X : Type 0} (P Q : X → Type 0) → ((x : X) → P x → Q x) → (xs : List X) → AllByRecursion P xs → AllByRecursion Q xs
 All-more P Q f [] h = tt
 All-more P Q f (x ∷ xs) h = (f x h.0, All-more P Q f xs h.1)
+
+-- the elements that pass are one, if all that pass are that one
+passes-one : {X : Type 0} (p : X → Bool) (x : X) (xs : List X) → AllByRecursion (λ y. p y ≡ true → y ≡ x) xs → AllByRecursion (λ y. y ≡ x) (filter p xs)
+passes-one p x [] all = tt
+passes-one p x (y ∷ ys) all = let more = passes-one p x ys all.1 in elim (cases_Bool (p y)) [ inl t ↦ rw t (all.0 t, more) | inr n ↦ rw n more ]
+
+one-passes : {X : Type 0} (p : X → Bool) (x : X) (xs : List X) → AllByRecursion (λ y. y ≡ x) (filter p xs) → AllByRecursion (λ y. p y ≡ true → y ≡ x) xs
+one-passes p x [] all = tt
+one-passes p x (y ∷ ys) all = elim (cases_Bool (p y)) [
+  | inl t ↦ (let found = rw t at all in (λ h. found.0, one-passes p x ys found.1))
+  | inr n ↦ (λ h. absurd (false≢true (sym n ∙ h)), one-passes p x ys (rw n at all))
+]
+
+moved-alone : {X : Type 0} (p : X → Bool) (xs ys zs ws : List X) → IsPermutation xs ys → filter p xs ≡ zs → filter p ys ≡ ws → length ws ≡ length zs → length zs ≤ 1 → ws ≡ zs
+moved-alone p xs ys [] [] moved a b same few = refl
+moved-alone p xs ys [] (w ∷ ws) moved a b same few = absurd (omega arith)
+moved-alone p xs ys (z ∷ []) [] moved a b same few = absurd (omega arith)
+moved-alone {X} p xs ys (z ∷ []) (w ∷ []) moved a b same few =
+    let P : X → Type 0 = λ y. p y ≡ true → y ≡ z in
+    let all = one-passes p z xs (subst (AllByRecursion (λ y. y ≡ z)) (sym a) (refl, tt)) in
+    let found = passes-one p z ys (recursion_from_All P ys (All-permutation P xs ys moved (All-from_recursion P xs all))) in
+    ap (λ y. y ∷ []) (subst (AllByRecursion (λ y. y ≡ z)) b found).0
+moved-alone p xs ys (z ∷ []) (w ∷ v ∷ ws) moved a b same few = absurd (omega arith)
+moved-alone p xs ys (z ∷ y ∷ zs) ws moved a b same few = absurd (omega arith)
+
+-- where at most one element passes, the one that does is the same in another order
+pub same_alone : {X : Type 0} (p : X → Bool) (xs ys : List X) → IsPermutation xs ys → count_by p xs ≤ 1 → filter p ys ≡ filter p xs
+same_alone p xs ys moved few =
+    let same = length-filter p ys ∙ sum_by-IsPermutation (λ x. if p x then 1 else 0) xs ys moved ∙ sym (length-filter p xs) in
+    moved-alone p xs ys (filter p xs) (filter p ys) moved refl refl same (omega (arith, length-filter p xs))
 
 -- an element before the first one that is greater
 abbrev pub put_last : {X : Type 0} → (X → X → Bool) → X → List X → List X
@@ -106,6 +137,11 @@ module _ {X : Type 0} (lt : X → X → Bool) (o : IsStrictWeakOrder lt) where
     | inl t ↦ rw t (All-put_in (λ g. lt g f ≡ false) e fs (o.one_way f e t) h.0, more)
     | inr n ↦ rw n ((n, All-more (λ g. lt g f ≡ false) (λ g. lt g e ≡ false) (λ g a. o.chain g f e a n) fs h.0), (h.0, h.1))
   ]
+
+  pub All-ordered_by : (P : X → Type 0) (es : List X) → AllByRecursion P es → AllByRecursion P (ordered_by lt es)
+  unfolding ordered_by
+  All-ordered_by P [] all = tt
+  All-ordered_by P (e ∷ es) all = All-put_in P e (ordered_by lt es) all.0 (All-ordered_by P es all.1)
 
   pub rising-ordered_by : (es : List X) → IsRising lt (ordered_by lt es)
   unfolding ordered_by

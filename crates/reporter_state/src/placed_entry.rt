@@ -1,57 +1,79 @@
-//! The key at which an entry of the summary is kept.
+//! An entry of the summary with its place among those that were kept.
 
-ghost use Rattle.std.specs.Prelude.{◌≡◌, refl, Some};
+ghost use Rattle.std.specs.Prelude.{◌≡◌, refl, Some, IfOk};
 ghost use Rattle.std.specs.Ordering.{as_partial_cmp, eq_by_cmp, nat_cmp};
 ghost use Rattle.std.specs.Cmp.{eq_by_cmp_equiv, partial_equiv_from_equiv, partial_order_from_total};
 ghost use Rattle.std.specs.Cmp.Lexicographic.{slice_cmp};
 ghost use Rattle.reporter_state.specs.Entries.{counter_key, iteration_key};
-ghost use Rattle.reporter_state.specs.Keys.{counted_key, instance_key, order_key, placed_cmp, placed_total, test_key};
+ghost use Rattle.reporter_state.specs.Keys.{counted_key, instance_key, order_key, placed_at, placed_cmp, placed_total, test_key};
 ghost use Rattle.reporter_state.specs.Order.{key_cmp};
 
+use crate::final_output::FinalOutputEntry;
 use crate::kept_test::KeptTest;
 use report_text::helpers::DisplayCounterIndex;
+use run_model::boxed::Boxed;
 use run_model::level::FinalStatusLevel;
+use run_model::memory::OutOfMemory;
 use run_model::name::OwnedTestInstanceId;
 use run_model::stress::StressIndex;
+use std::alloc::Global;
 use std::cmp::Ordering;
 
-/// What an entry is ordered by: its final level, the greatest first, then the iteration, then the counter where one is
-/// shown, then the bytes of the binary's id and of the test's name, and then how many entries were kept before.
+/// An entry with its place. It is ordered by its final level, the greatest first, then by the iteration, then by the counter where
+/// one is shown, then by the bytes of the binary's id and of the test's name, and then by how many entries were kept before.
 #[derive(Drop)]
-pub struct EntryKey {
+pub struct PlacedEntry {
+    /// The entry. It stands apart, so that a move is cheap.
+    pub entry: Boxed<FinalOutputEntry>,
+    /// How many entries were kept before, so that no two are equal.
+    pub place: usize,
     /// The level from which on the summary lists the test.
     pub level: FinalStatusLevel,
-    /// The test.
-    pub test: KeptTest,
-    /// How many entries were kept before, so that no two have one key.
-    pub place: usize,
 }
 
-impl PartialEq for EntryKey {
+impl PlacedEntry {
+    /// An entry before which so many were kept. It allocates for the entry.
+    pub fn new(
+        alloc: Global,
+        entry: FinalOutputEntry,
+        place: usize,
+    ) -> Result<PlacedEntry, OutOfMemory>
+        ensures { IfOk result (λ p. p ≡ placed_at entry place) }
+    {
+        let level = entry.output.final_status_level();
+        Ok(PlacedEntry {
+            entry: Boxed::new(alloc, entry)?,
+            place,
+            level,
+        })
+    }
+}
+
+impl PartialEq for PlacedEntry {
     ghost eq = { eq_by_cmp placed_cmp };
 
     ghost laws = { partial_equiv_from_equiv (eq_by_cmp_equiv placed_total) };
 
-    fn eq(&self, other: &EntryKey) -> bool {
+    fn eq(&self, other: &PlacedEntry) -> bool {
         self.cmp(other).is_eq()
     }
 }
 
-impl Eq for EntryKey {
+impl Eq for PlacedEntry {
     ghost laws = { eq_by_cmp_equiv placed_total };
 }
 
-impl PartialOrd for EntryKey {
+impl PartialOrd for PlacedEntry {
     ghost partial_cmp = { as_partial_cmp placed_cmp };
 
     ghost laws = { partial_order_from_total placed_total };
 
-    fn partial_cmp(&self, other: &EntryKey) -> Option<Ordering> {
+    fn partial_cmp(&self, other: &PlacedEntry) -> Option<Ordering> {
         Some(self.cmp(other))
     }
 }
 
-impl Ord for EntryKey {
+impl Ord for PlacedEntry {
     ghost cmp = { placed_cmp };
 
     ghost total = { placed_total };
@@ -60,7 +82,7 @@ impl Ord for EntryKey {
 
     ghost matches_eq = { λ x y. refl };
 
-    fn cmp(&self, other: &EntryKey) -> Ordering {
+    fn cmp(&self, other: &PlacedEntry) -> Ordering {
         match compare_order(self, other) {
             Ordering::Less => Ordering::Less,
             Ordering::Equal => self.place.cmp(&other.place),
@@ -70,12 +92,12 @@ impl Ord for EntryKey {
 }
 
 // Compares as the final order does, which does not look at places. Most entries that are compared are of one level.
-fn compare_order(left: &EntryKey, right: &EntryKey) -> Ordering
+fn compare_order(left: &PlacedEntry, right: &PlacedEntry) -> Ordering
     ensures { result ≡ key_cmp (order_key left.now) (order_key right.now) }
 {
     let (below, right_below) = (left.level.below_all(), right.level.below_all());
     if below == right_below {
-        return compare_tests(&left.test, &right.test);
+        return compare_tests(&left.entry.get().test, &right.entry.get().test);
     }
     below.cmp(&right_below)
 }

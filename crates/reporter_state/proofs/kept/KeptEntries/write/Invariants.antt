@@ -1,8 +1,0 @@
-use Rattle.plain_text.specs.Writer.{Owes}
-use Rattle.reporter_state.specs.Entries.{entries_text}
-use Rattle.reporter_state.specs.Keys.{entries_at}
-use Rattle.reporter_state.proofs.kept.KeptEntries.write.Given as goal
-
--- the entries that are left are owed
-abbrev pub invariant-loop-key : goal.invariant-loop-key
-invariant-loop-key g l = Owes g.W.WriteStr.meaning l.fn.w (entries_text l.settings (entries_at l.initial.key-iterator)) l.w (entries_text l.settings (entries_at l.key-iterator))
