@@ -1,3 +1,4 @@
+pub mod Deferred
 pub mod Devices
 pub mod EventCalls
 pub mod EventLines

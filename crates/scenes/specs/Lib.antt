@@ -1,3 +1,4 @@
+pub mod Deferred
 pub mod Follow
 pub mod Judged
 pub mod Outcomes

@@ -6,6 +6,7 @@
 //! programs `report` and `follow` do the rest: files, and what `process` has for both.
 #![tactic(auto)]
 
+mod deferred;
 pub mod follow;
 mod outcome;
 pub mod process;

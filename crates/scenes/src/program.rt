@@ -15,6 +15,7 @@ ghost use Rattle.scene_text.specs.SceneTexts.{AllTell, event_lines, nothing_told
 ghost use Rattle.scenes.specs.SpelledRuns.{BeginsReport, BeginsRun, IsRejected, PrintsReport, PrintsRun};
 ghost use Rattle.scenes.specs.ToldScenes.{IsReadFault, IsSceneRead, scene_told};
 
+use crate::deferred::{Deferred, deliver_rest};
 use crate::read::{BYTES_AT_ONCE, read_next};
 use crate::reporter::{builder_of, decider_of, fault_at_call, surroundings_of};
 use crate::scene::Scene;
@@ -246,7 +247,10 @@ pub fn report_judged<W: Write, S: Write>(
     };
     let Some(store) = options.store else {
         let no_store = None::<Store<'_, String>>;
-        let (outcome, _lent, _) = report_to(alloc, options, scene, &mut out, no_store);
+        let mut deferred = Deferred { writer: out };
+        let (reported, _lent, _) = report_to(alloc, options, scene, &mut deferred, no_store);
+        let mut out = deferred.writer;
+        let outcome = deliver_rest(&mut out, reported);
         let (writer, _pending) = out.into_inner();
         return (outcome, writer, store_writer);
     };
