@@ -54,8 +54,8 @@ impl Run {
     }
 }
 
-// Scenes; how many writes of seven bytes the texts of a scene's calls take, each delivered by itself, and how many flushes: one for each
-// call and one at the end; and the same of its records.
+// Scenes; how many writes of seven bytes the texts of a scene take, and how many flushes: where records are stored each call delivers its
+// text, and else all is delivered at the end; and the same of its records.
 fn rows() -> [(Run, [usize; 2], [usize; 2]); 5] {
     let two_tests = Run {
         options: STORING,
@@ -88,11 +88,11 @@ fn rows() -> [(Run, [usize; 2], [usize; 2]); 5] {
         records: "5:alpha,2:t1,4:PASS,0:,\n",
     };
     [
-        (two_tests, [48, 5], [9, 5]),
-        (unstored, [48, 5], [0, 0]),
-        (cancelled, [33, 5], [3, 5]),
-        (asked, [12, 2], [0, 0]),
-        (done, [5, 2], [4, 2]),
+        (two_tests, [48, 4], [9, 4]),
+        (unstored, [47, 1], [0, 0]),
+        (cancelled, [33, 4], [3, 4]),
+        (asked, [12, 1], [0, 0]),
+        (done, [5, 1], [4, 1]),
     ]
 }
 
