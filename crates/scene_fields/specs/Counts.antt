@@ -19,10 +19,15 @@ abbrev pub counts_after : {S : Type 0} → (S → Option S) → Option S → Opt
 counts_after next None = None
 counts_after next (Some after) = next after
 
+-- one pair more, whose key and value an `=` parts
+abbrev pub after_pair : {S : Type 0} → (S → List ℕ → List ℕ → Option S) → S → Option (List ℕ × List ℕ) → Option S
+after_pair pair_in before None = None
+after_pair pair_in before (Some x) = pair_in before x.0 x.1
+
 -- each pair in turn, by what one says
-unfoldable pub in_turn : {S : Type 0} → (S → List ℕ → Option S) → S → List (List ℕ) → Option S
+unfoldable pub in_turn : {S : Type 0} → (S → List ℕ → List ℕ → Option S) → S → List (List ℕ) → Option S
 in_turn pair_in before [] = Some before
-in_turn pair_in before (t ∷ ts) = counts_after (λ after. in_turn pair_in after ts) (pair_in before t)
+in_turn pair_in before (t ∷ ts) = counts_after (λ after. in_turn pair_in after ts) (after_pair pair_in before (cut 61 t))
 
 abbrev pub stats_key_word : StatsKey → List ℕ
 stats_key_word stats.Initial = codes "initial"
@@ -89,13 +94,9 @@ new_stat before t (Some key) =
     if get_or before.has_key (stats_place key) false then None
     else option_map (λ stats. record { stats = stats; has_key = slice_set before.has_key (stats_place key) true }) (with_stat before.stats key t)
 
-abbrev pub stats_cut : StatsRead → Option (List ℕ × List ℕ) → Option StatsRead
-stats_cut before None = None
-stats_cut before (Some x) = new_stat before x.1 (stats_key_in x.0)
-
 -- one pair more
-abbrev pub stats_pair : StatsRead → List ℕ → Option StatsRead
-stats_pair before t = stats_cut before (cut 61 t)
+abbrev pub stats_pair : StatsRead → List ℕ → List ℕ → Option StatsRead
+stats_pair before word value = new_stat before value (stats_key_in word)
 
 -- before any pair
 abbrev pub no_stats : StatsRead
@@ -142,12 +143,8 @@ new_skip before t (Some key) =
     if get_or before.has_key (skips_place key) false then None
     else option_map (λ counts. record { counts = counts; has_key = slice_set before.has_key (skips_place key) true }) (with_skip before.counts key t)
 
-abbrev pub skips_cut : SkipsRead → Option (List ℕ × List ℕ) → Option SkipsRead
-skips_cut before None = None
-skips_cut before (Some x) = new_skip before x.1 (skips_key_in x.0)
-
-abbrev pub skips_pair : SkipsRead → List ℕ → Option SkipsRead
-skips_pair before t = skips_cut before (cut 61 t)
+abbrev pub skips_pair : SkipsRead → List ℕ → List ℕ → Option SkipsRead
+skips_pair before word value = new_skip before value (skips_key_in word)
 
 abbrev pub no_skips : SkipsRead
 no_skips = record {

@@ -3,10 +3,12 @@
 //! It does what `str::split_once` does, and finds the byte in a long text by memchr, since outputs are searched for backslashes from one
 //! end to the other.
 
-ghost use Rattle.std.specs.Prelude.{◌≡◌, ◌<◌, ◌≤◌, ◌+◌, [], ◌∷◌, ◌++◌, length, IfSome, MatchOption};
+ghost use Rattle.std.specs.Prelude.{◌≡◌, ◌≢◌, ◌<◌, ◌≤◌, ◌+◌, [], ◌∷◌, ◌++◌, drop, length, take, IfSome, MatchOption};
+ghost use Rattle.std.specs.Str.{IsCharBoundary};
 ghost use Rattle.memchr.specs.Find.{IsFirstByte, is_byte};
-ghost use Rattle.scene_fields.specs.Split.{Lacks, cut, cut_texts, parted, pieces_left, size_left};
+ghost use Rattle.scene_fields.specs.Split.{Lacks, cut, cut_texts, parted, pieces_from, pieces_left, size_from, size_left};
 
+use super::marks::find_byte;
 use memchr::memchr;
 
 /// Up to how many bytes a text is short: there a call of memchr costs more than to look at each.
@@ -42,16 +44,42 @@ pub fn split_at_byte(text: &str, byte: u8) -> Option<(&str, &str)>
     Some((&text[..at], &text[at + 1..]))
 }
 
-/// What stands before the first of these bytes in a text, and what follows it, if it has one. The byte is an ASCII one.
-pub(crate) fn first_piece(text: &str, byte: u8) -> (&str, Option<&str>)
-    requires { byte < 128 }
-    ensures pieces { parted byte text.now ≡ result.0.now ∷ pieces_left byte result.1 }
-    ensures shorter { size_left result.1 ≤ length text.now }
+/// The piece of a text from a place on, up to the next of these bytes, and where the piece after that begins, if there is one. The byte is
+/// an ASCII one.
+#[inline(always)]
+pub(crate) fn piece_from(text: &str, start: usize, byte: u8) -> (&str, Option<usize>)
+    requires ascii { byte < 128 }
+    requires some { byte ≢ 0 }
+    requires boundary { IsCharBoundary text.now start }
+    ensures pieces { parted byte (drop start text.now) ≡ result.0.now ∷ pieces_from byte text.now result.1 }
+    ensures piece { result.0.now ≡ take (length result.0.now) (drop start text.now) }
+    ensures boundary { IfSome result.1 (λ next. IsCharBoundary text.now next) }
+    ensures shorter { size_from text.now result.1 + start ≤ length text.now }
 {
-    match split_at_byte(text, byte) {
-        Some((piece, after)) => (piece, Some(after)),
-        None => (text, None),
+    match find_byte(byte, text.as_bytes(), start) {
+        Some(end) => (&text[start..end], Some(end + 1)),
+        None => (&text[start..], None),
     }
+}
+
+/// `split_at_byte` of a piece, whose bytes are those of a text from a place on: there are mostly 32 of them to look at.
+#[inline(always)]
+pub(crate) fn split_piece<'a>(
+    piece: &'a str,
+    byte: u8,
+    text: &str,
+    start: usize,
+) -> Option<(&'a str, &'a str)>
+    requires ascii { byte < 128 }
+    requires some { byte ≢ 0 }
+    requires piece { piece.now ≡ take (length piece.now) (drop start text.now) }
+    ensures { cut_texts result ≡ cut byte piece.now }
+{
+    let at = find_byte(byte, text.as_bytes(), start)? - start;
+    if at >= piece.len() {
+        return None;
+    }
+    Some((&piece[..at], &piece[at + 1..]))
 }
 
 /// The first line of a text, and the lines that follow it, where some do.
