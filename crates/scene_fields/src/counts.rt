@@ -3,18 +3,46 @@
 //! Single spaces part the pairs, as in `passed=2 failed=1`, and each key stands there once. What has no pair is 0, and `-`
 //! stands for no pair at all. Each function answers None for a bad field.
 
-ghost use Rattle.std.specs.Prelude.{◌≡◌, Some};
+ghost use Rattle.std.specs.Prelude.{◌≡◌, ℕ, List, true, Option, None};
 ghost use Rattle.std.specs.Option.{option_map};
 ghost use Rattle.scene_fields.specs.Split.{parted};
 ghost use Rattle.scene_fields.specs.Numbers.{number_in};
-ghost use Rattle.scene_fields.specs.Counts.{in_turn, no_skips, no_stats, skips_in, skips_key_in, skips_pair, stats_in, stats_key_in, stats_pair, with_skip, with_stat};
+ghost use Rattle.scene_fields.specs.Counts.{has_space, in_turn, no_skips, no_stats, skips_in, skips_key_in, skips_no_space, skips_pair, stats_in, stats_key_in, stats_no_space, stats_pair, with_skip, with_stat};
 
-use super::marks::{first_place, marks_from, without_place};
 use super::numbers::read_count;
 use super::split::{first_piece, split_at_byte};
 use super::values::read_reason;
 use run_model::event::SkipCounts;
 use run_model::stats::RunStats;
+
+// What pairs say, read one after the other.
+trait Accumulator {
+    // What is known after one pair more, if that is a good one.
+    ghost pair_in: { Self → List ℕ → List ℕ → Option Self };
+
+    // Reads one pair more.
+    fn read_pair(&mut self, word: &str, value: &str) -> Option<()>
+        ensures { option_map (λ _. self.new) result ≡ pair_in self.old word.now value.now };
+
+    // No key has a space in it.
+    ghost no_space: { (before : Self) (word value : List ℕ) → has_space word ≡ true → pair_in before word value ≡ None };
+}
+
+// Reads pairs with single spaces between them. A space is looked for only after an `=`: if one stands before it, that pair has no `=`, and
+// the word before the `=` is no key, since it has a space. Inlined, so that no call is made for a pair.
+#[inline(always)]
+fn read_pairs<R: Accumulator>(pairs: &str, read: &mut R) -> Option<()>
+    ensures { option_map (λ _. read.new) result ≡ in_turn R.pair_in read.old (parted 32 pairs.now) }
+{
+    let mut rest = Some(pairs);
+    while let Some(left) = rest {
+        let (word, after) = split_at_byte(left, b'=')?;
+        let (value, others) = first_piece(after, b' ');
+        read.read_pair(word, value)?;
+        rest = others;
+    }
+    Some(())
+}
 
 /// A key of a run's statistics.
 #[derive(Clone, Copy, PartialEq, Eq)]
@@ -95,12 +123,14 @@ impl StatsRead {
             has_key: [false; STATS_KEYS],
         }
     }
+}
 
-    // Reads one pair more, whose key must be a new one.
-    fn read_pair(&mut self, pair: &str) -> Option<()>
-        ensures { option_map (λ _. self.new) result ≡ stats_pair self.old pair.now }
-    {
-        let (word, value) = split_at_byte(pair, b'=')?;
+impl Accumulator for StatsRead {
+    ghost pair_in = { stats_pair };
+
+    // The key must be a new one.
+    #[inline(always)]
+    fn read_pair(&mut self, word: &str, value: &str) -> Option<()> {
         let key = read_stats_key(word)?;
         let place = key as usize;
         if self.has_key[place] {
@@ -109,6 +139,8 @@ impl StatsRead {
         self.has_key[place] = true;
         set_stat(&mut self.stats, key, value)
     }
+
+    ghost no_space = { stats_no_space };
 }
 
 // Sets what the key counts.
@@ -151,37 +183,16 @@ fn set_count(count: &mut usize, value: &str) -> Option<()>
 /// let stats = RunStats { finished_count: 1, failed: 1, cancel_reason: Some(CancelReason::Signal), ..RunStats::new(2) };
 /// assert_eq!(read_stats("initial=2 finished=1 failed=1 cancel=signal"), Some(stats));
 /// ```
+#[inline(never)] // so that the statistics are copied once on their way out
 #[tactic(auto, unfolding(crate::specs::Counts::stats_in))]
 pub fn read_stats(field: &str) -> Option<RunStats>
     ensures { result ≡ stats_in field.now }
 {
-    if field == "-" {
-        return Some(StatsRead::new().stats);
-    }
-    read_stats_pairs(field)
-}
-
-// Reads pairs with single spaces between them. Not inlined, so that statistics are copied once on their way out.
-#[inline(never)]
-fn read_stats_pairs(pairs: &str) -> Option<RunStats>
-    ensures { result ≡ option_map (λ read. read.stats) (in_turn stats_pair no_stats (parted 32 pairs.now)) }
-{
-    let bytes = pairs.as_bytes();
     let mut read = StatsRead::new();
-    let mut start = 0;
-    let mut from = 0;
-    while from < bytes.len() {
-        let mut spaces = marks_from(b' ', bytes, from);
-        while spaces != 0 {
-            let place = first_place(spaces);
-            let space = from + place;
-            read.read_pair(&pairs[start..space])?;
-            start = space + 1;
-            spaces = without_place(spaces, place);
-        }
-        from += 32;
+    if field == "-" {
+        return Some(read.stats);
     }
-    read.read_pair(&pairs[start..])?;
+    read_pairs(field, &mut read)?;
     Some(read.stats)
 }
 
@@ -233,23 +244,18 @@ impl SkipsRead {
         ensures { result ≡ no_skips }
     {
         SkipsRead {
-            counts: SkipCounts {
-                skipped_tests: 0,
-                skipped_tests_rerun: 0,
-                skipped_tests_non_benchmark: 0,
-                skipped_tests_default_filter: 0,
-                skipped_binaries: 0,
-                skipped_binaries_default_filter: 0,
-            },
+            counts: SkipCounts::default(),
             has_key: [false; SKIPS_KEYS],
         }
     }
+}
 
-    // Reads one pair more, whose key must be a new one.
-    fn read_pair(&mut self, pair: &str) -> Option<()>
-        ensures { option_map (λ _. self.new) result ≡ skips_pair self.old pair.now }
-    {
-        let (word, value) = split_at_byte(pair, b'=')?;
+impl Accumulator for SkipsRead {
+    ghost pair_in = { skips_pair };
+
+    // The key must be a new one.
+    #[inline(always)]
+    fn read_pair(&mut self, word: &str, value: &str) -> Option<()> {
         let key = read_skips_key(word)?;
         let place = key as usize;
         if self.has_key[place] {
@@ -258,6 +264,8 @@ impl SkipsRead {
         self.has_key[place] = true;
         set_skip(&mut self.counts, key, value)
     }
+
+    ghost no_space = { skips_no_space };
 }
 
 // Sets what the key counts.
@@ -285,22 +293,10 @@ fn set_skip(counts: &mut SkipCounts, key: SkipsKey, value: &str) -> Option<()>
 pub fn read_skips(field: &str) -> Option<SkipCounts>
     ensures { result ≡ skips_in field.now }
 {
-    if field == "-" {
-        return Some(SkipsRead::new().counts);
-    }
-    read_skips_pairs(field)
-}
-
-// Reads pairs with single spaces between them.
-fn read_skips_pairs(pairs: &str) -> Option<SkipCounts>
-    ensures { result ≡ option_map (λ read. read.counts) (in_turn skips_pair no_skips (parted 32 pairs.now)) }
-{
     let mut read = SkipsRead::new();
-    let mut rest = Some(pairs);
-    while let Some(left) = rest {
-        let (pair, after) = first_piece(left, b' ');
-        read.read_pair(pair)?;
-        rest = after;
+    if field == "-" {
+        return Some(read.counts);
     }
+    read_pairs(field, &mut read)?;
     Some(read.counts)
 }
