@@ -40,8 +40,8 @@ pub fn block_from(bytes: &[u8], from: usize) -> u8x32
     u8x32::from_array(block)
 }
 
-/// Where the first of these bytes stands, in bytes from 0. It is for names, of which most have no such byte: it looks at 32 of them at once,
-/// where `split_at_byte` looks at each, and a call of memchr costs more than either.
+/// Where the first of these bytes stands, in bytes from 0. It is for names, of which most have no such byte, and for the front of a text: it
+/// looks at 32 bytes at once, and a call of memchr costs more than that.
 #[inline(always)]
 pub fn find_byte(byte: u8, bytes: &[u8]) -> Option<usize>
     requires { byte ≢ 0 }

@@ -7,21 +7,34 @@ ghost use Rattle.std.specs.Prelude.{◌≡◌, ◌<◌, ◌≤◌, ◌+◌, [], 
 ghost use Rattle.memchr.specs.Find.{IsFirstByte, is_byte};
 ghost use Rattle.scene_fields.specs.Split.{Lacks, cut, cut_texts, parted, pieces_left, size_left};
 
+use super::marks::find_byte;
 use memchr::memchr;
 
-/// Up to how many bytes a text is short: there a call of memchr costs more than to look at each.
-const SHORT: usize = 64;
+/// How many bytes at the front of a text are looked at at once: what is looked for stands mostly there.
+const NEAR: usize = 16;
 
 // Where the first of these bytes stands.
-#[inline]
+#[inline(always)]
 fn first_place(byte: u8, text: &[u8]) -> Option<usize>
     ensures { IsFirstByte (is_byte byte) text.now result }
 {
-    if text.len() <= SHORT {
-        text.iter().position(|other| *other == byte)
-    } else {
-        memchr(byte, text)
+    if text.len() < NEAR {
+        return text.iter().position(|other| *other == byte);
     }
+    if byte != 0 {
+        if let Some(place) = find_byte(byte, &text[..NEAR]) {
+            return Some(place);
+        }
+    }
+    first_far_place(byte, text)
+}
+
+// The same by memchr, whose code is too long to stand in each caller.
+#[inline(never)]
+fn first_far_place(byte: u8, text: &[u8]) -> Option<usize>
+    ensures { IsFirstByte (is_byte byte) text.now result }
+{
+    memchr(byte, text)
 }
 
 /// What stands before the first of these bytes in a text, and what follows it. The byte is an ASCII one.
@@ -29,6 +42,7 @@ fn first_place(byte: u8, text: &[u8]) -> Option<usize>
 /// ```
 /// assert_eq!(split_at_byte("a=b=c", b'='), Some(("a", "b=c")));
 /// ```
+#[inline(always)]
 pub fn split_at_byte(text: &str, byte: u8) -> Option<(&str, &str)>
     requires { byte < 128 }
     ensures parts { MatchOption result (Lacks byte text.now) (λ x. Lacks byte x.0.now × (text.now ≡ x.0.now ++ (byte ∷ x.1.now))) }
@@ -43,6 +57,7 @@ pub fn split_at_byte(text: &str, byte: u8) -> Option<(&str, &str)>
 }
 
 /// What stands before the first of these bytes in a text, and what follows it, if it has one. The byte is an ASCII one.
+#[inline(always)]
 pub(crate) fn first_piece(text: &str, byte: u8) -> (&str, Option<&str>)
     requires { byte < 128 }
     ensures pieces { parted byte text.now ≡ result.0.now ∷ pieces_left byte result.1 }
