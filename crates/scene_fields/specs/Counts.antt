@@ -1,6 +1,10 @@
 -- Counts, as pairs of a key and a number.
-use Rattle.std.specs.Prelude.{ℕ, List, [], ◌∷◌, true, false, if◌then◌else◌, get_or, slice_set, Option, None, Some, codes, bytes_eq}
-use Rattle.std.specs.Option.{option_map}
+use Rattle.std.specs.Prelude.{◌≡◌, ◌==◌, ℕ, List, [], ◌∷◌, Bool, true, false, if◌then◌else◌, get_or, slice_set, Option, None, Some, codes, bytes_eq}
+use Rattle.std.specs.List.{list_any}
+use Rattle.std.specs.Option.{option_and_then, option_map}
+use Rattle.std.proofs.Common.{ap, inl, inr, refl}
+use Rattle.std.proofs.lemmas.Bool.{cases_Bool, or_parts}
+use Rattle.std.proofs.lemmas.Slice.Eq.{bytes_eq-Decides}
 use Rattle.run_model.specs.Stats.{planned_stats}
 use Rattle.run_model.specs.declared.event.SkipCounts.{SkipCounts}
 use Rattle.run_model.specs.declared.stats.RunStats.{RunStats}
@@ -14,20 +18,23 @@ use Rattle.scene_fields.specs.declared.counts.SkipsKey.{SkipsKey}
 use Rattle.scene_fields.specs.declared.counts.SkipsKey.TheVariants as skips
 use Rattle.scene_fields.specs.declared.counts.SkipsRead.{SkipsRead}
 
--- what is known after pairs, where there is something
-abbrev pub counts_after : {S : Type 0} → (S → Option S) → Option S → Option S
-counts_after next None = None
-counts_after next (Some after) = next after
-
--- one pair more, whose key and value an `=` parts
-abbrev pub after_pair : {S : Type 0} → (S → List ℕ → List ℕ → Option S) → S → Option (List ℕ × List ℕ) → Option S
-after_pair pair_in before None = None
-after_pair pair_in before (Some x) = pair_in before x.0 x.1
-
--- each pair in turn, by what one says
+-- each pair in turn, by what its key and its value say, which the first `=` parts
 unfoldable pub in_turn : {S : Type 0} → (S → List ℕ → List ℕ → Option S) → S → List (List ℕ) → Option S
 in_turn pair_in before [] = Some before
-in_turn pair_in before (t ∷ ts) = counts_after (λ after. in_turn pair_in after ts) (after_pair pair_in before (cut 61 t))
+in_turn pair_in before (t ∷ ts) = option_and_then (λ after. in_turn pair_in after ts) (option_and_then (λ x. pair_in before x.0 x.1) (cut 61 t))
+
+abbrev pub has_space : List ℕ → Bool
+has_space t = list_any (λ c. c == 32) t
+
+-- a text with a space is none of the words, if they have none
+pub none_of_words : {V : Type 0} (word : V → List ℕ) (vs : List V) (t : List ℕ) → list_any (λ v. has_space (word v)) vs ≡ false → has_space t ≡ true → of_word word vs t ≡ None
+none_of_words word [] t none h = refl
+none_of_words word (v ∷ vs) t none h =
+    let parts = or_parts (has_space (word v)) _ none in
+    elim (cases_Bool (bytes_eq t (word v))) [
+      | inl e ↦ (let same : has_space t ≡ has_space (word v) = ap has_space ((bytes_eq-Decides t (word v)).0 e) in cc parts.0)
+      | inr e ↦ rw e (none_of_words word vs t parts.1 h)
+    ]
 
 abbrev pub stats_key_word : StatsKey → List ℕ
 stats_key_word stats.Initial = codes "initial"
@@ -46,10 +53,13 @@ stats_key_word stats.SetupExec = codes "setupexec"
 stats_key_word stats.SetupTimedOut = codes "setuptimedout"
 stats_key_word stats.Cancel = codes "cancel"
 
+abbrev pub stats_keys : List StatsKey
+stats_keys =
+    stats.Initial ∷ stats.Finished ∷ stats.Passed ∷ stats.Slow ∷ stats.Flaky ∷ stats.Leaky ∷ stats.Failed ∷ stats.LeakyFailed
+    ∷ stats.Exec ∷ stats.TimedOut ∷ stats.Skipped ∷ stats.SetupFailed ∷ stats.SetupExec ∷ stats.SetupTimedOut ∷ stats.Cancel ∷ []
+
 abbrev pub stats_key_in : List ℕ → Option StatsKey
-stats_key_in t =
-    of_word stats_key_word (stats.Initial ∷ stats.Finished ∷ stats.Passed ∷ stats.Slow ∷ stats.Flaky ∷ stats.Leaky ∷ stats.Failed ∷ stats.LeakyFailed
-    ∷ stats.Exec ∷ stats.TimedOut ∷ stats.Skipped ∷ stats.SetupFailed ∷ stats.SetupExec ∷ stats.SetupTimedOut ∷ stats.Cancel ∷ []) t
+stats_key_in t = of_word stats_key_word stats_keys t
 
 -- which of the keys it is
 abbrev pub stats_place : StatsKey → ℕ
@@ -98,6 +108,9 @@ new_stat before t (Some key) =
 abbrev pub stats_pair : StatsRead → List ℕ → List ℕ → Option StatsRead
 stats_pair before word value = new_stat before value (stats_key_in word)
 
+pub stats_no_space : (before : StatsRead) (word value : List ℕ) → has_space word ≡ true → stats_pair before word value ≡ None
+stats_no_space before word value h = ap (new_stat before value) (none_of_words stats_key_word stats_keys word refl h)
+
 -- before any pair
 abbrev pub no_stats : StatsRead
 no_stats = record {
@@ -117,8 +130,11 @@ skips_key_word skips.Filter = codes "filter"
 skips_key_word skips.Binaries = codes "binaries"
 skips_key_word skips.BinaryFilter = codes "binfilter"
 
+abbrev pub skips_keys : List SkipsKey
+skips_keys = skips.Rerun ∷ skips.NonBenchmark ∷ skips.Tests ∷ skips.Filter ∷ skips.Binaries ∷ skips.BinaryFilter ∷ []
+
 abbrev pub skips_key_in : List ℕ → Option SkipsKey
-skips_key_in t = of_word skips_key_word (skips.Rerun ∷ skips.NonBenchmark ∷ skips.Tests ∷ skips.Filter ∷ skips.Binaries ∷ skips.BinaryFilter ∷ []) t
+skips_key_in t = of_word skips_key_word skips_keys t
 
 abbrev pub skips_place : SkipsKey → ℕ
 skips_place skips.Rerun = 0
@@ -145,6 +161,9 @@ new_skip before t (Some key) =
 
 abbrev pub skips_pair : SkipsRead → List ℕ → List ℕ → Option SkipsRead
 skips_pair before word value = new_skip before value (skips_key_in word)
+
+pub skips_no_space : (before : SkipsRead) (word value : List ℕ) → has_space word ≡ true → skips_pair before word value ≡ None
+skips_no_space before word value h = ap (new_skip before value) (none_of_words skips_key_word skips_keys word refl h)
 
 abbrev pub no_skips : SkipsRead
 no_skips = record {

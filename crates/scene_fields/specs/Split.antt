@@ -1,5 +1,5 @@
 -- Texts cut at a byte.
-use Rattle.std.specs.Prelude.{◌≡◌, ℕ, ◌+◌, ◌-◌, List, [], ◌∷◌, map, false, ◌==◌, if◌then◌else◌, drop, length, Option, None, Some, ⊤}
+use Rattle.std.specs.Prelude.{◌≡◌, ℕ, ◌+◌, List, [], ◌∷◌, map, false, ◌==◌, if◌then◌else◌, length, Option, None, Some, ⊤}
 use Rattle.std.specs.List.{slice_split}
 use Rattle.std.specs.Option.{option_map}
 use Rattle.std.specs.Borrow.{Bor}
@@ -22,16 +22,6 @@ pieces_left b (Some t) = parted b t.now
 abbrev pub size_left : Option (Bor (List ℕ)) → ℕ
 size_left None = 0
 size_left (Some t) = length t.now + 1
-
--- the pieces of a text from a place on, where there is one
-abbrev pub pieces_from : ℕ → List ℕ → Option ℕ → List (List ℕ)
-pieces_from b t None = []
-pieces_from b t (Some k) = parted b (drop k t)
-
--- more than is left from there on
-abbrev pub size_from : List ℕ → Option ℕ → ℕ
-size_from t None = 0
-size_from t (Some k) = length t - k + 1
 
 -- what stands before the first such byte, and what follows it, if there is one
 unfoldable pub cut : ℕ → List ℕ → Option (List ℕ × List ℕ)

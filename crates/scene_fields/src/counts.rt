@@ -3,14 +3,14 @@
 //! Single spaces part the pairs, as in `passed=2 failed=1`, and each key stands there once. What has no pair is 0, and `-`
 //! stands for no pair at all. Each function answers None for a bad field.
 
-ghost use Rattle.std.specs.Prelude.{◌≡◌, ℕ, List, Option};
+ghost use Rattle.std.specs.Prelude.{◌≡◌, ℕ, List, true, Option, None};
 ghost use Rattle.std.specs.Option.{option_map};
 ghost use Rattle.scene_fields.specs.Split.{parted};
 ghost use Rattle.scene_fields.specs.Numbers.{number_in};
-ghost use Rattle.scene_fields.specs.Counts.{in_turn, no_skips, no_stats, skips_in, skips_key_in, skips_pair, stats_in, stats_key_in, stats_pair, with_skip, with_stat};
+ghost use Rattle.scene_fields.specs.Counts.{has_space, in_turn, no_skips, no_stats, skips_in, skips_key_in, skips_no_space, skips_pair, stats_in, stats_key_in, stats_no_space, stats_pair, with_skip, with_stat};
 
 use super::numbers::read_count;
-use super::split::{piece_from, split_piece};
+use super::split::{first_piece, split_at_byte};
 use super::values::read_reason;
 use run_model::event::SkipCounts;
 use run_model::stats::RunStats;
@@ -23,19 +23,23 @@ trait Accumulator {
     // Reads one pair more.
     fn read_pair(&mut self, word: &str, value: &str) -> Option<()>
         ensures { option_map (λ _. self.new) result ≡ pair_in self.old word.now value.now };
+
+    // No key has a space in it.
+    ghost no_space: { (before : Self) (word value : List ℕ) → has_space word ≡ true → pair_in before word value ≡ None };
 }
 
-// Reads pairs with single spaces between them. It stands in its callers, so that each pair is read without a call.
+// Reads pairs with single spaces between them. A space is looked for only after an `=`: if one stands before it, that pair has no `=`, and
+// the word before the `=` is no key, since it has a space. Inlined, so that no call is made for a pair.
 #[inline(always)]
 fn read_pairs<R: Accumulator>(pairs: &str, read: &mut R) -> Option<()>
     ensures { option_map (λ _. read.new) result ≡ in_turn R.pair_in read.old (parted 32 pairs.now) }
 {
-    let mut rest = Some(0);
-    while let Some(start) = rest {
-        let (pair, after) = piece_from(pairs, start, b' ');
-        let (word, value) = split_piece(pair, b'=', pairs, start)?;
+    let mut rest = Some(pairs);
+    while let Some(left) = rest {
+        let (word, after) = split_at_byte(left, b'=')?;
+        let (value, others) = first_piece(after, b' ');
         read.read_pair(word, value)?;
-        rest = after;
+        rest = others;
     }
     Some(())
 }
@@ -135,6 +139,8 @@ impl Accumulator for StatsRead {
         self.has_key[place] = true;
         set_stat(&mut self.stats, key, value)
     }
+
+    ghost no_space = { stats_no_space };
 }
 
 // Sets what the key counts.
@@ -171,13 +177,13 @@ fn set_count(count: &mut usize, value: &str) -> Option<()>
     Some(())
 }
 
-/// Reads the statistics of a run. Not inlined, so that they are copied once on their way out.
+/// Reads the statistics of a run.
 ///
 /// ```
 /// let stats = RunStats { finished_count: 1, failed: 1, cancel_reason: Some(CancelReason::Signal), ..RunStats::new(2) };
 /// assert_eq!(read_stats("initial=2 finished=1 failed=1 cancel=signal"), Some(stats));
 /// ```
-#[inline(never)]
+#[inline(never)] // so that the statistics are copied once on their way out
 #[tactic(auto, unfolding(crate::specs::Counts::stats_in))]
 pub fn read_stats(field: &str) -> Option<RunStats>
     ensures { result ≡ stats_in field.now }
@@ -238,14 +244,7 @@ impl SkipsRead {
         ensures { result ≡ no_skips }
     {
         SkipsRead {
-            counts: SkipCounts {
-                skipped_tests: 0,
-                skipped_tests_rerun: 0,
-                skipped_tests_non_benchmark: 0,
-                skipped_tests_default_filter: 0,
-                skipped_binaries: 0,
-                skipped_binaries_default_filter: 0,
-            },
+            counts: SkipCounts::default(),
             has_key: [false; SKIPS_KEYS],
         }
     }
@@ -265,6 +264,8 @@ impl Accumulator for SkipsRead {
         self.has_key[place] = true;
         set_skip(&mut self.counts, key, value)
     }
+
+    ghost no_space = { skips_no_space };
 }
 
 // Sets what the key counts.

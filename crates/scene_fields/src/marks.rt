@@ -5,7 +5,7 @@
 
 ghost use Rattle.std.specs.Prelude.{◌≡◌, ◌≢◌, ◌+◌, ◌<◌, ◌≤◌, ℕ, length, slice_index};
 ghost use Rattle.std.specs.Int.{bit_at};
-ghost use Rattle.memchr.specs.Find.{IsFirst, Passes, is_byte};
+ghost use Rattle.memchr.specs.Find.{IsFirstByte, is_byte};
 ghost use Rattle.scene_fields.specs.Marks.{Marks};
 
 use std::simd::prelude::*;
@@ -40,16 +40,16 @@ pub fn block_from(bytes: &[u8], from: usize) -> u8x32
     u8x32::from_array(block)
 }
 
-/// Where the first of these bytes from a place on stands. It is for short texts: it looks at 32 bytes at once, where `split_at_byte` looks
-/// at each, and a call of memchr costs more than either.
+/// Where the first of these bytes stands, in bytes from 0. It is for names, of which most have no such byte, and for the front of a text: it
+/// looks at 32 bytes at once, and a call of memchr costs more than that.
 #[inline(always)]
-pub fn find_byte(byte: u8, bytes: &[u8], start: usize) -> Option<usize>
+pub fn find_byte(byte: u8, bytes: &[u8]) -> Option<usize>
     requires { byte ≢ 0 }
-    ensures { IsFirst (Passes (is_byte byte) bytes.now) start (length bytes.now) result }
+    ensures { IsFirstByte (is_byte byte) bytes.now result }
 {
-    let mut from = start;
+    let mut from = 0;
     while from < bytes.len() {
-        let marks = marks_from(byte, bytes, from);
+        let marks = marks_of(byte, block_from(bytes, from));
         if marks != 0 {
             return Some(from + first_place(marks));
         }

@@ -3,27 +3,38 @@
 //! It does what `str::split_once` does, and finds the byte in a long text by memchr, since outputs are searched for backslashes from one
 //! end to the other.
 
-ghost use Rattle.std.specs.Prelude.{◌≡◌, ◌≢◌, ◌<◌, ◌≤◌, ◌+◌, [], ◌∷◌, ◌++◌, drop, length, take, IfSome, MatchOption};
-ghost use Rattle.std.specs.Str.{IsCharBoundary};
+ghost use Rattle.std.specs.Prelude.{◌≡◌, ◌<◌, ◌≤◌, ◌+◌, [], ◌∷◌, ◌++◌, length, IfSome, MatchOption};
 ghost use Rattle.memchr.specs.Find.{IsFirstByte, is_byte};
-ghost use Rattle.scene_fields.specs.Split.{Lacks, cut, cut_texts, parted, pieces_from, pieces_left, size_from, size_left};
+ghost use Rattle.scene_fields.specs.Split.{Lacks, cut, cut_texts, parted, pieces_left, size_left};
 
 use super::marks::find_byte;
 use memchr::memchr;
 
-/// Up to how many bytes a text is short: there a call of memchr costs more than to look at each.
-const SHORT: usize = 64;
+/// How many bytes at the front of a text are looked at at once: what is looked for stands mostly there.
+const NEAR: usize = 16;
 
 // Where the first of these bytes stands.
-#[inline]
+#[inline(always)]
 fn first_place(byte: u8, text: &[u8]) -> Option<usize>
     ensures { IsFirstByte (is_byte byte) text.now result }
 {
-    if text.len() <= SHORT {
-        text.iter().position(|other| *other == byte)
-    } else {
-        memchr(byte, text)
+    if text.len() < NEAR {
+        return text.iter().position(|other| *other == byte);
     }
+    if byte != 0 {
+        if let Some(place) = find_byte(byte, &text[..NEAR]) {
+            return Some(place);
+        }
+    }
+    first_far_place(byte, text)
+}
+
+// The same by memchr, whose code is too long to stand in each caller.
+#[inline(never)]
+fn first_far_place(byte: u8, text: &[u8]) -> Option<usize>
+    ensures { IsFirstByte (is_byte byte) text.now result }
+{
+    memchr(byte, text)
 }
 
 /// What stands before the first of these bytes in a text, and what follows it. The byte is an ASCII one.
@@ -31,6 +42,7 @@ fn first_place(byte: u8, text: &[u8]) -> Option<usize>
 /// ```
 /// assert_eq!(split_at_byte("a=b=c", b'='), Some(("a", "b=c")));
 /// ```
+#[inline(always)]
 pub fn split_at_byte(text: &str, byte: u8) -> Option<(&str, &str)>
     requires { byte < 128 }
     ensures parts { MatchOption result (Lacks byte text.now) (λ x. Lacks byte x.0.now × (text.now ≡ x.0.now ++ (byte ∷ x.1.now))) }
@@ -44,42 +56,17 @@ pub fn split_at_byte(text: &str, byte: u8) -> Option<(&str, &str)>
     Some((&text[..at], &text[at + 1..]))
 }
 
-/// The piece of a text from a place on, up to the next of these bytes, and where the piece after that begins, if there is one. The byte is
-/// an ASCII one.
+/// What stands before the first of these bytes in a text, and what follows it, if it has one. The byte is an ASCII one.
 #[inline(always)]
-pub(crate) fn piece_from(text: &str, start: usize, byte: u8) -> (&str, Option<usize>)
-    requires ascii { byte < 128 }
-    requires some { byte ≢ 0 }
-    requires boundary { IsCharBoundary text.now start }
-    ensures pieces { parted byte (drop start text.now) ≡ result.0.now ∷ pieces_from byte text.now result.1 }
-    ensures piece { result.0.now ≡ take (length result.0.now) (drop start text.now) }
-    ensures boundary { IfSome result.1 (λ next. IsCharBoundary text.now next) }
-    ensures shorter { size_from text.now result.1 + start ≤ length text.now }
+pub(crate) fn first_piece(text: &str, byte: u8) -> (&str, Option<&str>)
+    requires { byte < 128 }
+    ensures pieces { parted byte text.now ≡ result.0.now ∷ pieces_left byte result.1 }
+    ensures shorter { size_left result.1 ≤ length text.now }
 {
-    match find_byte(byte, text.as_bytes(), start) {
-        Some(end) => (&text[start..end], Some(end + 1)),
-        None => (&text[start..], None),
+    match split_at_byte(text, byte) {
+        Some((piece, after)) => (piece, Some(after)),
+        None => (text, None),
     }
-}
-
-/// `split_at_byte` of a piece, whose bytes are those of a text from a place on: there are mostly 32 of them to look at.
-#[inline(always)]
-pub(crate) fn split_piece<'a>(
-    piece: &'a str,
-    byte: u8,
-    text: &str,
-    start: usize,
-) -> Option<(&'a str, &'a str)>
-    requires ascii { byte < 128 }
-    requires some { byte ≢ 0 }
-    requires piece { piece.now ≡ take (length piece.now) (drop start text.now) }
-    ensures { cut_texts result ≡ cut byte piece.now }
-{
-    let at = find_byte(byte, text.as_bytes(), start)? - start;
-    if at >= piece.len() {
-        return None;
-    }
-    Some((&piece[..at], &piece[at + 1..]))
 }
 
 /// The first line of a text, and the lines that follow it, where some do.

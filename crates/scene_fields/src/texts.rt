@@ -27,7 +27,7 @@ const ASCII: u8 = 0x7f;
 pub fn read_text(alloc: Global, field: &str) -> Result<Option<CowStr<'_, Global>>, OutOfMemory>
     ensures { IfOk result (λ text. option_map cow_text text ≡ text_in field.now) }
 {
-    if find_byte(b'\\', field.as_bytes(), 0).is_none() {
+    if find_byte(b'\\', field.as_bytes()).is_none() {
         return Ok(Some(CowStr::Borrowed(field)));
     }
     let mut text = String::with_capacity(alloc, field.len())?;

@@ -1,13 +1,10 @@
-use Rattle.std.proofs.Common.{◌-◌, ◌≤◌, length}
+use Rattle.std.proofs.Common.{◌-◌, length}
 use Rattle.memchr.specs.Find.{is_byte, Nowhere, Passes}
 use Rattle.scene_fields.proofs.marks.find_byte.Given as goal
 
 -- the byte stands nowhere so far
 abbrev pub invariant-loop-from : goal.invariant-loop-from
-invariant-loop-from l = record {
-  near : l.fn.start ≤ l.from;
-  none : Nowhere (Passes (is_byte l.byte) l.bytes) l.fn.start l.from;
-}
+invariant-loop-from l = Nowhere (Passes (is_byte l.byte) l.bytes) 0 l.from
 
 abbrev pub decreases-loop-from : goal.decreases-loop-from
 decreases-loop-from l = length l.bytes - l.from
