@@ -42,7 +42,7 @@ Holds-trans a b c p q = record { more = p.more ++ q.more; grown = Appends-trans 
 module _ {W : Type 0} (contents : W → Option (List ℕ)) where
   -- what was delivered, if it is known, and then what is pending
   abbrev pub buffer_text : TextBuffer W → Option (List ℕ)
-  buffer_text b = append_known (contents b.writer) b.pending.items
+  buffer_text b = append_known (contents b.writer) b.pending
 
   pub record BufferAccepts (a : TextBuffer W) (t : List ℕ) (b : TextBuffer W) : Type 0 where
     pub grown : Appends (buffer_text a) (buffer_text b) t
@@ -61,7 +61,7 @@ module _ {W : Type 0} (contents : W → Option (List ℕ)) where
     stops = BufferStops;
     text = buffer_text;
     adds = λ _ t. t;
-    is_delivered = λ b. b.pending.items ≡ [];
+    is_delivered = λ b. b.pending ≡ [];
     may_refuse = λ _. ⊥;
     failures = λ b. b.failures;
   }

@@ -10,12 +10,14 @@ ghost use Rattle.plain_text.specs.Writer.{Meaning, WriterLaws, Puts};
 
 mod delivery;
 mod on_formatter;
+mod pending_bytes;
 mod text_buffer;
 
 pub use delivery::delivery_law;
 pub use on_formatter::OnFormatter;
+pub use pending_bytes::CAPACITY;
 use std::alloc::AllocError;
-pub use text_buffer::{CAPACITY, TextBuffer};
+pub use text_buffer::TextBuffer;
 
 /// Why a text could not be written whole. A beginning of it was accepted.
 #[derive(Clone, Copy, Debug, PartialEq, Eq)]

@@ -26,13 +26,13 @@ begins_of old held new pending text none h =
     }
 
 module _ {W : Type 0} (contents : W → Option (List ℕ)) (a b : TextBuffer W) (old new text : List ℕ) (before : contents a.writer ≡ Some old) (after : contents b.writer ≡ Some new) where
-  pub accepted_delivers : BufferAccepts contents a text b → Delivers old a.pending.items new b.pending.items text
+  pub accepted_delivers : BufferAccepts contents a text b → Delivers old a.pending new b.pending text
   accepted_delivers h =
       let grown = h.grown in
       let holds = h.holds.grown in
-      taken_of old a.pending.items new b.pending.items text h.holds.more (rw (before, after) at holds) (rw (before, after) at grown)
+      taken_of old a.pending new b.pending text h.holds.more (rw (before, after) at holds) (rw (before, after) at grown)
 
-  pub stopped_delivers : (fault : WriteFault) → BufferStops contents a text fault b → DeliversWithin old a.pending.items new b.pending.items text
+  pub stopped_delivers : (fault : WriteFault) → BufferStops contents a text fault b → DeliversWithin old a.pending new b.pending text
   stopped_delivers fault h =
       let grown = h.grown.grown in
       let holds = h.holds.grown in
@@ -40,8 +40,8 @@ module _ {W : Type 0} (contents : W → Option (List ℕ)) (a b : TextBuffer W) 
         front = h.grown.front;
         rest = h.grown.rest;
         whole = h.grown.whole;
-        delivers = taken_of old a.pending.items new b.pending.items h.grown.front h.holds.more (rw (before, after) at holds) (rw (before, after) at grown);
+        delivers = taken_of old a.pending new b.pending h.grown.front h.holds.more (rw (before, after) at holds) (rw (before, after) at grown);
       }
 
-  pub stopped_begins : (fault : WriteFault) → a.pending.items ≡ [] → BufferStops contents a text fault b → GrowsWithin old new text
-  stopped_begins fault none h = begins_of old a.pending.items new b.pending.items text none (stopped_delivers fault h)
+  pub stopped_begins : (fault : WriteFault) → a.pending ≡ [] → BufferStops contents a text fault b → GrowsWithin old new text
+  stopped_begins fault none h = begins_of old a.pending new b.pending text none (stopped_delivers fault h)

@@ -13,9 +13,9 @@ use std::io::Write;
 #[tactic(auto, using(crate::proofs::lemmas::Deliveries::accepted_delivers))]
 pub fn delivery_law<W: Write>()
     ensures accepted { (a b : TextBuffer W) (old new text : List ℕ) → W.contents a.writer ≡ Some old → W.contents b.writer ≡ Some new →
-        (buffer_meaning W.contents).accepts a text b → Delivers old a.pending.items new b.pending.items text }
+        (buffer_meaning W.contents).accepts a text b → Delivers old a.pending new b.pending text }
     ensures stopped { (a b : TextBuffer W) (old new text : List ℕ) (fault : WriteFault) → W.contents a.writer ≡ Some old → W.contents b.writer ≡ Some new →
-        (buffer_meaning W.contents).stops a text fault b → DeliversWithin old a.pending.items new b.pending.items text }
+        (buffer_meaning W.contents).stops a text fault b → DeliversWithin old a.pending new b.pending text }
     ensures begins { (a b : TextBuffer W) (old new text : List ℕ) (fault : WriteFault) → W.contents a.writer ≡ Some old → W.contents b.writer ≡ Some new →
-        a.pending.items ≡ [] → (buffer_meaning W.contents).stops a text fault b → GrowsWithin old new text }
+        a.pending ≡ [] → (buffer_meaning W.contents).stops a text fault b → GrowsWithin old new text }
 {}

@@ -3,16 +3,14 @@
 //! Reports are made of short texts, so a call for each would cost more than the texts do. The memory is reserved once,
 //! and no later call takes any.
 
-ghost use Rattle.std.specs.Prelude.{◌≡◌, ℕ, ◌+◌, ◌-◌, ◌≤◌, ◌<◌, ◌++◌, [], List, length, take, drop, vec_len, vec_capacity};
+ghost use Rattle.std.specs.Prelude.{◌≡◌, ◌≤◌, length, take};
 ghost use Rattle.std.specs.Bool.{OnTrue};
-ghost use Rattle.std.specs.Io.KnownBytes.{Appends, Keeps};
+ghost use Rattle.std.specs.Io.KnownBytes.{Appends};
 
+use super::pending_bytes::{CAPACITY, PendingBytes};
 use super::{WriteFault, WriteStr};
 use std::alloc::{AllocError, Global};
 use std::io::{ErrorKind, Write};
-
-/// How many bytes are gathered before they are delivered.
-pub const CAPACITY: usize = 8192;
 
 /// Gathers text and delivers it to a device, such as a file or standard output.
 ///
@@ -29,10 +27,8 @@ pub const CAPACITY: usize = 8192;
 #[derive(Drop)]
 pub struct TextBuffer<W> {
     writer: W,
-    pending: Vec<u8>,
+    pending: PendingBytes,
     failures: u64,
-    ghost short: { vec_len pending ≤ 8192 },
-    ghost roomy: { 8192 ≤ vec_capacity pending },
 }
 
 impl<W: Write> TextBuffer<W> {
@@ -42,10 +38,10 @@ impl<W: Write> TextBuffer<W> {
 
     /// Reserves the memory, 8,192 bytes, once. Where that is refused, the device is given back.
     pub fn new(alloc: Global, writer: W) -> Result<TextBuffer<W>, (AllocError, W)>
-        ensures ok { IfOk result (λ b. (b.writer ≡ writer) × (b.pending.items ≡ []) × (b.failures ≡ 0)) }
+        ensures ok { IfOk result (λ b. (b.writer ≡ writer) × (b.pending ≡ []) × (b.failures ≡ 0)) }
         ensures err { IfErr result (λ refused. refused.1 ≡ writer) }
     {
-        match Vec::with_capacity(alloc, CAPACITY) {
+        match PendingBytes::new(alloc) {
             Ok(pending) => Ok(TextBuffer {
                 writer,
                 pending,
@@ -58,18 +54,18 @@ impl<W: Write> TextBuffer<W> {
     /// The device, and the bytes that it has not taken.
     pub fn into_inner(self) -> (W, Vec<u8>)
         ensures writer { result.0 ≡ self.writer }
-        ensures pending { result.1.items ≡ self.pending.items }
+        ensures pending { result.1.items ≡ self.pending }
     {
-        (self.writer, self.pending)
+        (self.writer, self.pending.into_vec())
     }
 
     // Delivers what is pending. What a failure leaves stays pending.
     fn deliver(&mut self) -> Result<(), WriteFault>
         ensures text { Puts (buffer_meaning W.contents) self.old [] result self.new }
-        ensures empty { OnOk result (self.new.pending.items ≡ []) }
+        ensures empty { OnOk result (self.new.pending ≡ []) }
     {
         let (sent, is_all) = send(self.pending.as_slice(), &mut self.writer);
-        remove_front(&mut self.pending, sent);
+        self.pending.remove_front(sent);
         if !is_all {
             self.failures = self.failures.wrapping_add(1);
             return Err(WriteFault::Device);
@@ -82,8 +78,8 @@ impl<W: Write> TextBuffer<W> {
     fn write_bytes(&mut self, bytes: &[u8]) -> Result<(), WriteFault>
         ensures { Puts (buffer_meaning W.contents) self.old bytes.now result self.new }
     {
-        if bytes.len() <= CAPACITY - self.pending.len() {
-            append(&mut self.pending, bytes);
+        if bytes.len() <= self.pending.room() {
+            self.pending.push(bytes);
             return Ok(());
         }
         self.write_long(bytes)
@@ -110,10 +106,10 @@ impl<W: Write> TextBuffer<W> {
         requires { length piece.now ≤ 8192 }
         ensures { Puts (buffer_meaning W.contents) self.old piece.now result self.new }
     {
-        if piece.len() > CAPACITY - self.pending.len() {
+        if piece.len() > self.pending.room() {
             self.deliver()?;
         }
-        append(&mut self.pending, piece);
+        self.pending.push(piece);
         Ok(())
     }
 }
@@ -160,27 +156,4 @@ fn send<W: Write>(bytes: &[u8], to: &mut W) -> (usize, bool)
         }
     }
     (sent, false)
-}
-
-fn remove_front(buf: &mut Vec<u8>, n: usize)
-    requires { n ≤ vec_len buf.old }
-    ensures items { buf.new.items ≡ drop n buf.old.items }
-    ensures len { vec_len buf.new ≡ vec_len buf.old - n }
-    ensures capacity { vec_capacity buf.new ≡ vec_capacity buf.old }
-{
-    let len = buf.len();
-    buf.as_mut_slice().copy_within(n..len, 0);
-    buf.truncate(len - n);
-}
-
-#[inline]
-fn append(buf: &mut Vec<u8>, bytes: &[u8])
-    requires { vec_len buf.old + length bytes.now ≤ vec_capacity buf.old }
-    ensures items { buf.new.items ≡ buf.old.items ++ bytes.now }
-    ensures len { vec_len buf.new ≡ vec_len buf.old + length bytes.now }
-    ensures capacity { vec_capacity buf.old ≤ vec_capacity buf.new }
-{
-    let Ok(()) = buf.extend_from_slice(bytes) else {
-        unreachable!()
-    };
 }

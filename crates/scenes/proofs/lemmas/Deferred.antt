@@ -97,7 +97,7 @@ module _ {W S : Type 0} (contents : W → Option (List ℕ)) (n : Meaning S) (op
   abbrev AreBroken : Option (Store S) → Fault → Type 0
   AreBroken y f = BreaksTold (deferred_meaning below) (store_meaning n) options old now None y run f
 
-  told_whole : (y : Option (Store S)) → AreTold y → BufferAccepts contents now.writer [] c → c.pending.items ≡ [] → HasToldTo below (store_meaning n) options old.writer c None y run
+  told_whole : (y : Option (Store S)) → AreTold y → BufferAccepts contents now.writer [] c → c.pending ≡ [] → HasToldTo below (store_meaning n) options old.writer c None y run
   told_whole y h rest delivered = (
     h.0,
     record {
@@ -144,7 +144,7 @@ module _ {W S : Type 0} (contents : W → Option (List ℕ)) (n : Meaning S) (op
 
   -- how the report ended, and the delivery of its rest
   pub delivered : (y : Option (Store S)) (reported outcome : Result (Unit {0}) Fault) → OnOk reported (AreTold y) →
-      OnOk outcome ((reported ≡ Ok tt) × BufferAccepts contents now.writer [] c × (c.pending.items ≡ [])) → OnOk outcome (HasToldTo below (store_meaning n) options old.writer c None y run)
+      OnOk outcome ((reported ≡ Ok tt) × BufferAccepts contents now.writer [] c × (c.pending ≡ [])) → OnOk outcome (HasToldTo below (store_meaning n) options old.writer c None y run)
   delivered y (Ok done) (Ok tt) told h = told_whole y told h.1 h.2
   delivered y (Err f) (Ok tt) told h = absurd (let wrong = h.0 in cc)
   delivered y reported (Err f) told h = tt

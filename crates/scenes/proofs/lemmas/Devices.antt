@@ -16,11 +16,11 @@ use Rattle.command_line.specs.declared.fault.Fault.{Fault}
 use Rattle.command_line.specs.declared.fault.Fault.TheVariants.{Usage, CannotRead, CannotWrite, Line, WriteFailed, StoreFailed, OutOfMemory}
 use Rattle.command_line.specs.declared.words.Options.{Options}
 
-module _ {W : Type 0} (contents : W → Option (List ℕ)) (a b : TextBuffer W) (none : a.pending.items ≡ []) (text : List ℕ) where
+module _ {W : Type 0} (contents : W → Option (List ℕ)) (a b : TextBuffer W) (none : a.pending ≡ []) (text : List ℕ) where
   -- a beginning of the text was accepted, and of that the device took a beginning
   front_begins : HasFront (buffer_meaning contents) a text b → Begins (contents a.writer) (contents b.writer) text
   front_begins h = λ old new before after.
-      begins_of old a.pending.items new b.pending.items text none
+      begins_of old a.pending new b.pending text none
       (record { front = h.front; rest = h.rest; whole = h.whole; delivers = accepted_delivers contents a b old new h.front before after h.accepted })
 
   -- a fault that stopped the text left a beginning of it

@@ -71,13 +71,13 @@ by_past : (P : List ReportCall → Type 0) (past : List ReportCall) → P past �
 by_past P past h = subst P (sym (reverse-reverse past)) h
 
 -- where a buffer accepted and delivered the texts of some first calls, its device holds them
-holds_first : {W : Type 0} (contents : W → Option (List ℕ)) (a b : TextBuffer W) → a.pending.items ≡ [] → (texts : List ReportCall → Text) (past : List ReportCall) →
+holds_first : {W : Type 0} (contents : W → Option (List ℕ)) (a b : TextBuffer W) → a.pending ≡ [] → (texts : List ReportCall → Text) (past : List ReportCall) →
     HasFirstCalls (buffer_meaning contents) texts past a b → HoldsFirstCalls texts past (contents a.writer) (contents b.writer)
 holds_first contents a b none texts past h = record {
   later = h.later;
   earlier = h.earlier;
   is = h.is;
-  grown = delivered_appends (contents a.writer) (contents b.writer) a.pending.items b.pending.items (texts h.earlier) none h.delivered h.accepted.grown;
+  grown = delivered_appends (contents a.writer) (contents b.writer) a.pending b.pending (texts h.earlier) none h.delivered h.accepted.grown;
 }
 
 -- a store that is there stops as its writer does
@@ -106,11 +106,11 @@ keeps_none options n y off held = record {
 }
 
 -- with one it has what its buffer wrote
-pub keeps_some : {S : Type 0} (options : Options) (contents : S → Option (List ℕ)) (c d : Store (TextBuffer S)) (y : Option (Store (TextBuffer S))) → is_some (store_for options) ≡ true → c.writer.now.pending.items ≡ [] → y ≡ Some d →
+pub keeps_some : {S : Type 0} (options : Options) (contents : S → Option (List ℕ)) (c d : Store (TextBuffer S)) (y : Option (Store (TextBuffer S))) → is_some (store_for options) ≡ true → c.writer.now.pending ≡ [] → y ≡ Some d →
     (old new : S) → c.writer.now.writer ≡ old → new ≡ d.writer.now.writer → Keeps options (buffer_meaning contents) (Some c) y (contents old) (contents new)
 keeps_some options contents c d y on none is old new old_is new_is =
     let here : Keeps options (buffer_meaning contents) (Some c) (Some d) (contents c.writer.now.writer) (contents d.writer.now.writer) = record {
-      kept = λ past accepted delivered. delivered_appends (contents c.writer.now.writer) (contents d.writer.now.writer) c.writer.now.pending.items d.writer.now.pending.items (stored (store_for options) past) none delivered accepted.grown;
+      kept = λ past accepted delivered. delivered_appends (contents c.writer.now.writer) (contents d.writer.now.writer) c.writer.now.pending d.writer.now.pending (stored (store_for options) past) none delivered accepted.grown;
       begun = λ past f stopped. store_begins contents c.writer.now d.writer.now none (stored (store_for options) past) f (stops_there (buffer_meaning contents) c d (stored (store_for options) past) f stopped);
       there = λ past stopped. on;
     } in
@@ -128,7 +128,7 @@ moved P {old} {old'} {new} {new'} {x} {x'} {y} {y'} d e f g h =
     subst (λ a. P a new' x' y') d (subst (λ b. P old b x' y') e (subst (λ c. P old new c y') f (subst (λ z. P old new x z) g h)))
 
 -- What two devices hold of a report, where the first one's bytes are what its buffer wrote.
-module _ {W S : Type 0} (contents : W → Option (List ℕ)) (n : Meaning S) (options : Options) (a b : TextBuffer W) (none : a.pending.items ≡ []) (old new : W) (old_is : a.writer ≡ old) (new_is : new ≡ b.writer)
+module _ {W S : Type 0} (contents : W → Option (List ℕ)) (n : Meaning S) (options : Options) (a b : TextBuffer W) (none : a.pending ≡ []) (old new : W) (old_is : a.writer ≡ old) (new_is : new ≡ b.writer)
     (x y : Option (Store S)) (before after : Option (List ℕ)) (keeps : Keeps options n x y before after) where
   there_by : (past : List ReportCall) (f : Fault) → StopsStore (store_meaning n) x (stored (store_for options) past) f y → f ≡ fault.StoreFailed → is_some (store_for options) ≡ true
   there_by past f h is = keeps.there past (subst (λ g. StopsStore (store_meaning n) x (stored (store_for options) past) g y) is h)
@@ -136,7 +136,7 @@ module _ {W S : Type 0} (contents : W → Option (List ℕ)) (n : Meaning S) (op
   prints : (come_to : RunOutcome) (run : Told) → ReportsTold (buffer_meaning contents) (store_meaning n) options a b x y come_to run → PrintsFollowed options come_to (contents old) (contents new) before after run
   prints come_to run h =
       let t = report (configuration_for options run.config) h.past in
-      let grown : Appends (contents a.writer) (contents b.writer) t = delivered_appends (contents a.writer) (contents b.writer) a.pending.items b.pending.items t none h.delivered h.reported.grown in
+      let grown : Appends (contents a.writer) (contents b.writer) t = delivered_appends (contents a.writer) (contents b.writer) a.pending b.pending t none h.delivered h.reported.grown in
       record {
         printed = record {
           calls = reverse h.past;

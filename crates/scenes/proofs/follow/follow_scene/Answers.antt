@@ -43,7 +43,7 @@ returns-clause-ok g c = λ text known.
     let store = c.new-store in
     let made = c.follow_to-lent-2 in
     let names = same_there store.result c.in-Some-store.store made.result.2 c.in-Some-store.is made.ensures.same_store ∙ ap (λ s. s.writer.ghost_name) store.ensures in
-    let empty = ap (λ s. s.writer.now.pending.items) store.ensures ∙ records.1 in
+    let empty = ap (λ s. s.writer.now.pending) store.ensures ∙ records.1 in
     followed g.W.Write.contents (buffer_meaning g.S.Write.contents) c.args.options.now c.in-Ok-new.out made.result.1.now out.1 c.args.writer c.into_inner-writer-2.result.0 out.0 (search rules) (Some store.result) made.result.2 _ _
     (keeps_some c.args.options.now g.S.Write.contents store.result c.in-Some-store.store made.result.2 (rw c.in-Some.is refl) empty c.in-Some-store.is
     c.args.store_writer c.into_inner-store_writer.result.0 (ap (λ s. s.writer.now.writer) store.ensures ∙ records.0) (search rules))
@@ -57,7 +57,7 @@ returns-clause-err g c = λ text known.
     let store = c.new-store in
     let made = c.follow_to-lent-2 in
     let names = same_there store.result c.in-Some-store.store made.result.2 c.in-Some-store.is made.ensures.same_store ∙ ap (λ s. s.writer.ghost_name) store.ensures in
-    let empty = ap (λ s. s.writer.now.pending.items) store.ensures ∙ records.1 in
+    let empty = ap (λ s. s.writer.now.pending) store.ensures ∙ records.1 in
     left g.W.Write.contents (buffer_meaning g.S.Write.contents) c.args.options.now c.in-Ok-new.out made.result.1.now out.1 c.args.writer c.into_inner-writer-2.result.0 out.0 (search rules) (Some store.result) made.result.2 _ _
     (keeps_some c.args.options.now g.S.Write.contents store.result c.in-Some-store.store made.result.2 (rw c.in-Some.is refl) empty c.in-Some-store.is
     c.args.store_writer c.into_inner-store_writer.result.0 (ap (λ s. s.writer.now.writer) store.ensures ∙ records.0) (search rules))

@@ -23,7 +23,7 @@ returns-in_default-clause-ok g c =
     (printed g.W.Write.contents string_meaning c.judged.inside.options.now c.in-Ok.out rest.new.out out.1 c.args.writer c.into_inner-writer.result.0 out.0 (search rules)
     None made.result.2 _ _ (keeps_none c.judged.inside.options.now string_meaning made.result.2 (search rules) (g.S.Write.contents c.args.store_writer)) run rest.result
     (delivered g.W.Write.contents string_meaning c.judged.inside.options.now (record { writer = c.in-Ok.out }) made.result.1.now rest.new.out run made.result.2 made.result.0 rest.result made.ensures.ok
-    (subst (λ b. OnOk rest.result ((made.result.0 ≡ Ok tt) × BufferAccepts g.W.Write.contents b.writer [] rest.new.out × (rest.new.out.pending.items ≡ []))) settled rest.ensures.ok)))
+    (subst (λ b. OnOk rest.result ((made.result.0 ≡ Ok tt) × BufferAccepts g.W.Write.contents b.writer [] rest.new.out × (rest.new.out.pending ≡ []))) settled rest.ensures.ok)))
 
 pub returns-in_default-clause-err : goal.returns-in_default-clause-err
 returns-in_default-clause-err g c =
@@ -52,7 +52,7 @@ returns-clause-ok g c =
     let names = same_there store.result c.in-Some-store.store made.result.2 c.in-Some-store.is made.ensures.same_store ∙ ap (λ s. s.writer.ghost_name) store.ensures in
     rw (← c.judged.view_is)
     (printed g.W.Write.contents (buffer_meaning g.S.Write.contents) c.judged.inside.options.now c.in-Ok.out made.result.1.now out.1 c.args.writer c.into_inner-writer-2.result.0 out.0 (search rules) (Some store.result) made.result.2 _ _
-    (keeps_some c.judged.inside.options.now g.S.Write.contents store.result c.in-Some-store.store made.result.2 (rw c.in-Some.is refl) (ap (λ s. s.writer.now.pending.items) store.ensures ∙ records.1) c.in-Some-store.is
+    (keeps_some c.judged.inside.options.now g.S.Write.contents store.result c.in-Some-store.store made.result.2 (rw c.in-Some.is refl) (ap (λ s. s.writer.now.pending) store.ensures ∙ records.1) c.in-Some-store.is
     c.args.store_writer c.into_inner-store_writer.result.0 (ap (λ s. s.writer.now.writer) store.ensures ∙ records.0) (search rules))
     (scene_told c.judged.inside.scene.now) made.result.0 made.ensures.ok)
 
@@ -65,6 +65,6 @@ returns-clause-err g c =
     let names = same_there store.result c.in-Some-store.store made.result.2 c.in-Some-store.is made.ensures.same_store ∙ ap (λ s. s.writer.ghost_name) store.ensures in
     rw (← c.judged.view_is)
     (begun g.W.Write.contents (buffer_meaning g.S.Write.contents) c.judged.inside.options.now c.in-Ok.out made.result.1.now out.1 c.args.writer c.into_inner-writer-2.result.0 out.0 (search rules) (Some store.result) made.result.2 _ _
-    (keeps_some c.judged.inside.options.now g.S.Write.contents store.result c.in-Some-store.store made.result.2 (rw c.in-Some.is refl) (ap (λ s. s.writer.now.pending.items) store.ensures ∙ records.1) c.in-Some-store.is
+    (keeps_some c.judged.inside.options.now g.S.Write.contents store.result c.in-Some-store.store made.result.2 (rw c.in-Some.is refl) (ap (λ s. s.writer.now.pending) store.ensures ∙ records.1) c.in-Some-store.is
     c.args.store_writer c.into_inner-store_writer.result.0 (ap (λ s. s.writer.now.writer) store.ensures ∙ records.0) (search rules))
     (scene_told c.judged.inside.scene.now) made.result.0 made.ensures.err)
