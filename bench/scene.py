@@ -1,6 +1,6 @@
 #!/usr/bin/env python3
-"""bench/scene.py [--outputs] [--passed] [--events] [--skips] [--kept=ORDER] COUNT: writes a scene of so many finished
-tests to standard output, always the same one.
+"""bench/scene.py [--outputs] [--passed] [--events] [--skips] [--kept=ORDER] [--kind=KIND] COUNT: writes a scene of so
+many finished tests to standard output, always the same one.
 
 Nine in ten pass; names have the lengths of a large workspace's, and each line carries the whole statistics, as in a
 run. With --outputs each test has written some lines, coloured as cargo's are; a test that failed shows them at once.
@@ -8,7 +8,7 @@ With --passed every test passes, and the summary lists none. With --kept every t
 tests finish in the order of the summary (`ordered`), in the opposite one (`reversed`) or in none (`shuffled`). With
 --skips all tests are skipped, and the report says nothing of them. With --events the run is told as it goes: a setup
 script, each test's start, slow ones, attempts that are tried again, skipped tests, the state on request, what a test is
-doing, and a pause.
+doing, and a pause. With --kind all lines are of that kind: `start`, `retry` or `answer` with an output, or `setup`.
 """
 import random
 import sys
@@ -81,6 +81,22 @@ def event_lines(count):
     yield f"end\t99000000000\tinitial={count} finished={count} passed={count}\t0\t-"
 
 
+def kind_lines(count, kind):
+    yield "config\tfinal\tfail"
+    yield f"run\t{RUN_ID}\tdefault\t{count}\t{len(BINARIES)}\t-"
+    for i in range(count):
+        name = f"{MODULES[i % len(MODULES)]}::case_{i:05}_of_the_table"
+        test = f"{BINARIES[i % len(BINARIES)]}\t{name}"
+        output = "split\t" + OUTPUT.format(name=name, word="ok") + "\t\t-\t-"
+        yield {
+            "start": f"start\t-\t{test}\tinitial={count} finished={i} passed={i}\tcargo\\,test",
+            "retry": f"retry\t-\t{test}\t1\t2\t1000000000\tnever\tfail:101\t1500000000\t0\t{output}",
+            "answer": f"answer-test\t{i}\t{count}\t-\t{test}\t1\t1\trunning:42:1500000000:-\t-\t{output}",
+            "setup": f"setup\t-\t{i}\t{count}\tsetup-{i:05}\tcargo\trun\\,-p\\,db",
+        }[kind]
+    yield f"end\t99000000000\tinitial={count} finished={count} passed={count}\t0\t-"
+
+
 def skip_lines(count):
     yield "config\tfinal\tfail"
     yield f"run\t{RUN_ID}\tdefault\t{count}\t{len(BINARIES)}\t-"
@@ -114,8 +130,11 @@ def lines(count, has_outputs, all_pass):
 if __name__ == "__main__":
     count = int(sys.argv[-1])
     orders = [word.removeprefix("--kept=") for word in sys.argv[1:] if word.startswith("--kept=")]
+    kinds = [word.removeprefix("--kind=") for word in sys.argv[1:] if word.startswith("--kind=")]
     if orders:
         scene = kept_lines(count, orders[0])
+    elif kinds:
+        scene = kind_lines(count, kinds[0])
     elif "--events" in sys.argv:
         scene = event_lines(count)
     elif "--skips" in sys.argv:
