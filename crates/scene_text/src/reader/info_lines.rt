@@ -1,6 +1,7 @@
 //! The lines that tell what the units of a run are doing.
 
-ghost use Rattle.scene_fields.specs.Fields.{Gives};
+ghost use Rattle.std.specs.Prelude.{◌≡◌};
+ghost use Rattle.scene_fields.specs.Fields.{Gives, answered};
 ghost use Rattle.scene_text.specs.InfoLines.{answer_fields, answer_script_line_fields, answer_test_line_fields, info_end_line_fields, info_line_fields};
 
 use super::outputs::read_output;
@@ -13,7 +14,7 @@ use scene_events::scene::info_events::{
     InfoFinish, InfoStart, ScriptAnswer, TestAnswer, UnitAnswer,
 };
 use scene_fields::counts::read_stats;
-use scene_fields::fault::LineError;
+use scene_fields::fault::{LineError, LineFault};
 use scene_fields::fields::Fields;
 use scene_fields::numbers::{read_count, read_nanos};
 use scene_fields::values::read_stress_index;
@@ -21,8 +22,8 @@ use std::alloc::Global;
 
 /// Reads an `info` line: how long the run has taken, how many units were asked, and its statistics.
 #[tactic(auto, unfolding(crate::specs::InfoLines::info_line_fields))]
-pub fn read_info(fields: &mut Fields<'_>) -> Result<SceneEvent, LineError>
-    ensures { Gives (λ e. e) fields.old result fields.new info_line_fields }
+pub fn read_info(fields: &mut Fields<'_>) -> Result<SceneEvent, LineFault>
+    ensures { info_line_fields fields.old ≡ answered result fields.new }
 {
     let elapsed = fields.read(read_nanos)?;
     let total = fields.read(read_count)?;
@@ -36,8 +37,8 @@ pub fn read_info(fields: &mut Fields<'_>) -> Result<SceneEvent, LineError>
 
 /// Reads an `infoend` line: how many units have not answered.
 #[tactic(auto, unfolding(crate::specs::InfoLines::info_end_line_fields))]
-pub fn read_info_end(fields: &mut Fields<'_>) -> Result<SceneEvent, LineError>
-    ensures { Gives (λ e. e) fields.old result fields.new info_end_line_fields }
+pub fn read_info_end(fields: &mut Fields<'_>) -> Result<SceneEvent, LineFault>
+    ensures { info_end_line_fields fields.old ≡ answered result fields.new }
 {
     let missing = fields.read(read_count)?;
     Ok(SceneEvent::InfoFinished(InfoFinish { missing }))

@@ -69,8 +69,8 @@ pub fn read_pause(fields: &mut Fields<'_>) -> Result<RunPause, LineFault>
 
 /// Reads an `input` line: how long the run has taken, its statistics, and how many units run.
 #[tactic(auto, unfolding(crate::specs::RunLines::input_line_fields))]
-pub fn read_input(fields: &mut Fields<'_>) -> Result<SceneEvent, LineError>
-    ensures { Gives (λ e. e) fields.old result fields.new input_line_fields }
+pub fn read_input(fields: &mut Fields<'_>) -> Result<SceneEvent, LineFault>
+    ensures { input_line_fields fields.old ≡ answered result fields.new }
 {
     let elapsed = fields.read(read_nanos)?;
     let current_stats = fields.read(read_stats)?;

@@ -1,7 +1,7 @@
 //! The lines of stress runs.
 
 ghost use Rattle.std.specs.Prelude.{◌≡◌};
-ghost use Rattle.scene_fields.specs.Fields.{Gives};
+ghost use Rattle.scene_fields.specs.Fields.{Gives, answered};
 ghost use Rattle.scene_text.specs.StressLines.{completed_in, end_stress_line_fields, progress_in, stress_count_in, sub_end_line_fields, sub_start_line_fields};
 
 use super::run_lines::read_not_seen;
@@ -11,7 +11,7 @@ use scene_events::scene::event::SceneEvent;
 use scene_events::scene::run_events::RunFinish;
 use scene_events::scene::stress_events::{SubRunFinish, SubRunStart};
 use scene_fields::counts::read_stats;
-use scene_fields::fault::LineError;
+use scene_fields::fault::{LineError, LineFault};
 use scene_fields::fields::Fields;
 use scene_fields::numbers::{read_nanos, read_small_count};
 use scene_fields::split::split_at_byte;
@@ -20,8 +20,8 @@ use std::alloc::Global;
 
 /// Reads a `substart` line: how far the stress run has come.
 #[tactic(auto, unfolding(crate::specs::StressLines::sub_start_line_fields))]
-pub fn read_sub_start(fields: &mut Fields<'_>) -> Result<SceneEvent, LineError>
-    ensures { Gives (λ e. e) fields.old result fields.new sub_start_line_fields }
+pub fn read_sub_start(fields: &mut Fields<'_>) -> Result<SceneEvent, LineFault>
+    ensures { sub_start_line_fields fields.old ≡ answered result fields.new }
 {
     let progress = fields.read(read_progress)?;
     Ok(SceneEvent::StressSubRunStarted(SubRunStart { progress }))
@@ -29,8 +29,8 @@ pub fn read_sub_start(fields: &mut Fields<'_>) -> Result<SceneEvent, LineError>
 
 /// Reads a `subend` line: how far the stress run has come, how long the iteration took, and its statistics.
 #[tactic(auto, unfolding(crate::specs::StressLines::sub_end_line_fields))]
-pub fn read_sub_end(fields: &mut Fields<'_>) -> Result<SceneEvent, LineError>
-    ensures { Gives (λ e. e) fields.old result fields.new sub_end_line_fields }
+pub fn read_sub_end(fields: &mut Fields<'_>) -> Result<SceneEvent, LineFault>
+    ensures { sub_end_line_fields fields.old ≡ answered result fields.new }
 {
     let progress = fields.read(read_progress)?;
     let sub_elapsed = fields.read(read_nanos)?;
