@@ -36,5 +36,5 @@ deferred_laws laws = record {
 -- The report had ended by this fault, and its rest was delivered, unless its device had failed; or the device failed now.
 abbrev pub DeliversRest : {W : Type 0} → (W → Option (List ℕ)) → Result (Unit {0}) Fault → TextBuffer W → TextBuffer W → Fault → Type 0
 DeliversRest contents outcome old new f =
-    ((outcome ≡ Err f) × (f ≡ WriteFailed → new ≡ old) × BufferAccepts contents old [] new)
+    ((outcome ≡ Err f) × (f ≡ WriteFailed → new ≡ old) × BufferAccepts contents old [] new × ((f ≡ WriteFailed → ⊥) → new.pending ≡ []))
     ⊎ ((outcome ≡ Err WriteFailed → ⊥) × (f ≡ WriteFailed) × BufferStops contents old [] Device new)
