@@ -21,6 +21,7 @@ fn first_place(byte: u8, text: &[u8]) -> Option<usize>
     if text.len() < NEAR {
         return text.iter().position(|other| *other == byte);
     }
+    // zeros fill a block behind the text
     if byte != 0 {
         if let Some(place) = find_byte(byte, &text[..NEAR]) {
             return Some(place);

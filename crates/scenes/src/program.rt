@@ -167,7 +167,7 @@ fn judge_event<'a>(
 
 /// Reads a scene to its end, judges it, and writes its report to a device and its records to a second one, if the options ask for
 /// them. It gives both devices back: the whole way from a file's bytes to those of both texts. A scene that has a fault leaves the
-/// devices as they were.
+/// devices as they were. The text is delivered as by [`report_judged`].
 pub fn report_scene<'a, R: Read + Drop, W: Write, S: Write>(
     alloc: Global,
     options: &Options<'a>,
@@ -208,7 +208,7 @@ fn report_read<W: Write, S: Write>(
 }
 
 /// Writes the report of a scene to a device, and its records to a second one, if the options ask for them. It judges the scene first, and
-/// a scene that is refused leaves the devices as they were.
+/// a scene that is refused leaves the devices as they were. The text is delivered as by [`report_judged`].
 pub fn write_report<W: Write + Drop, S: Write + Drop>(
     alloc: Global,
     options: &Options<'_>,
@@ -229,7 +229,8 @@ pub fn write_report<W: Write + Drop, S: Write + Drop>(
 }
 
 /// Writes the report of a scene that was judged to a device, and its records to a second one where the options ask for them, and gives
-/// both devices back.
+/// both devices back. Without records the text goes to its device when 8,192 bytes are gathered and at the end; with records it goes
+/// there at each call, before the records of that call.
 pub fn report_judged<W: Write, S: Write>(
     alloc: Global,
     judged: &JudgedScene<'_>,

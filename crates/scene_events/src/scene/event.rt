@@ -146,9 +146,9 @@ impl SceneEvent {
     }
 }
 
-/// Pushes an event that a scene does not say the time of.
+/// Pushes an event that a scene does not say the time of. Where memory is refused, the calls stay as they were.
 #[inline(always)]
-pub fn push_event<'a>(
+pub(super) fn push_event<'a>(
     calls: &mut Vec<ReportCall<'a>>,
     kind: TestEventKind<'a>,
 ) -> Result<(), OutOfMemory>
@@ -157,9 +157,10 @@ pub fn push_event<'a>(
     push_event_after(calls, Nanos(0), kind)
 }
 
-/// Pushes an event, and how long the run had taken when it happened.
+/// Pushes an event, and how long the run had taken when it happened, in nanoseconds. Where memory is refused, the calls stay
+/// as they were.
 #[inline(always)]
-pub fn push_event_after<'a>(
+pub(super) fn push_event_after<'a>(
     calls: &mut Vec<ReportCall<'a>>,
     elapsed: Nanos,
     kind: TestEventKind<'a>,
@@ -169,9 +170,12 @@ pub fn push_event_after<'a>(
     push(calls, ReportCall::Event(TestEvent { elapsed, kind }))
 }
 
-/// Pushes a call, which is built in place: it is large.
+/// Pushes a call, which is built in place: it is large. Where memory is refused, the calls stay as they were.
 #[inline(always)]
-pub fn push<'a>(calls: &mut Vec<ReportCall<'a>>, call: ReportCall<'a>) -> Result<(), OutOfMemory>
+pub(super) fn push<'a>(
+    calls: &mut Vec<ReportCall<'a>>,
+    call: ReportCall<'a>,
+) -> Result<(), OutOfMemory>
     ensures { IsPushed call.entry calls.old.items result calls.new.items }
 {
     calls.push(call)?;
