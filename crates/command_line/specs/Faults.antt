@@ -1,4 +1,4 @@
--- What the program says of a fault, and the status that it ends with.
+-- The message of a fault, and the status that the program ends with.
 use Rattle.std.specs.Prelude.{◌≡◌, ℕ, List, ◌++◌, codes, decimal, ⊤}
 use Rattle.std.specs.declared.io.ErrorKind.{ErrorKind}
 use Rattle.std.specs.declared.io.ErrorKind.TheVariants as kind
@@ -11,7 +11,7 @@ use Rattle.command_line.specs.declared.fault.FaultLine.{FaultLine}
 use Rattle.command_line.specs.declared.fault.Program.{Program}
 use Rattle.command_line.specs.declared.fault.Program.TheVariants as program
 
--- what is said of a fault
+-- the message of a fault
 abbrev pub fault_text : Fault → List ℕ
 fault_text fault.Usage = codes "the command line is wrong"
 fault_text (fault.CannotRead file) = codes "cannot read " ++ file.now
@@ -58,12 +58,12 @@ IsJudgeFault file fault.WriteFailed = ⊥
 IsJudgeFault file fault.StoreFailed = ⊥
 IsJudgeFault file fault.OutOfMemory = ⊤
 
--- what the program tells of a scene that could not be read
+-- the fault of a scene that could not be read
 abbrev pub fault_of_read : ReadFault → Fault
 fault_of_read (read.Line n f) = fault.Line n f
 fault_of_read read.OutOfMemory = fault.OutOfMemory
 
--- what is told where an error of this kind was met: the fault, unless the error says that memory was refused
+-- the fault where an error of this kind was met: this one, unless memory was refused
 abbrev pub fault_by_kind : ErrorKind → Fault → Fault
 fault_by_kind kind.OutOfMemory told = fault.OutOfMemory
 fault_by_kind _ told = told

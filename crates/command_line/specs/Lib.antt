@@ -1,3 +1,3 @@
 pub mod Faults
 pub mod Pieces
-pub mod Words
+pub mod Args

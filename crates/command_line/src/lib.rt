@@ -4,6 +4,6 @@
 //! status that a program then ends with.
 #![tactic(auto)]
 
+pub mod args;
 pub mod fault;
 pub mod pieces;
-pub mod words;

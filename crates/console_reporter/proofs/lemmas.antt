@@ -1,5 +1,5 @@
 pub mod Calls
-pub mod CalmRuns
+pub mod UninterruptedRuns
 pub mod EntryColourPairs
 pub mod Exactness
 pub mod Independence

@@ -1,6 +1,6 @@
 -- The law of colour: colour adds nothing that is visible, and takes nothing away.
 use Rattle.std.specs.Prelude.{◌≡◌, ℕ, List, Bool, true, false, reverse}
-use Rattle.plain_text.specs.Alike.{IsAlike}
+use Rattle.plain_text.specs.EqualButEndSpaces.{IsEqualButEndSpaces}
 use Rattle.plain_text.specs.Escapes.{visible}
 use Rattle.console_reporter.specs.Configuration.{Configuration}
 use Rattle.console_reporter.specs.PlainCalls.{ArePlain, IsPlainConfiguration}
@@ -13,13 +13,13 @@ abbrev pub in_colour : Bool → Configuration → Configuration
 in_colour b config = record config { builder = record config.builder { should_colorize = b } }
 
 -- what is visible in colour is alike what is written without colour: the text of each call, and the whole report
-pub record IsAlikeInColour (config : Configuration) (calls : List ReportCall) : Type 0 where
-  pub at_each : (position : ℕ) → IsAlike (visible (text_at (in_colour true config) calls position)) (text_at (in_colour false config) calls position)
-  pub whole : IsAlike (visible (report (in_colour true config) (reverse calls))) (report (in_colour false config) (reverse calls))
+pub record IsEqualInColour (config : Configuration) (calls : List ReportCall) : Type 0 where
+  pub at_each : (position : ℕ) → IsEqualButEndSpaces (visible (text_at (in_colour true config) calls position)) (text_at (in_colour false config) calls position)
+  pub whole : IsEqualButEndSpaces (visible (report (in_colour true config) (reverse calls))) (report (in_colour false config) (reverse calls))
 
 -- it is so where no text that is handed in holds an escape character
 abbrev pub ColourLaw : Configuration → List ReportCall → Type 0
-ColourLaw config calls = IsPlainConfiguration config → ArePlain true calls → IsAlikeInColour config calls
+ColourLaw config calls = IsPlainConfiguration config → ArePlain true calls → IsEqualInColour config calls
 
 -- what is stored is the same, byte for byte, in colour and without: the record of each call, and all that is stored
 pub record IsSameStoredInColour (config : Configuration) (calls : List ReportCall) : Type 0 where

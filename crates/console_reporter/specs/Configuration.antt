@@ -10,8 +10,8 @@ use Rattle.unit_report.specs.declared.config.ResolvedDisplay.{ResolvedDisplay}
 use Rattle.unit_report.specs.declared.config.ShowProgress.TheVariants.{Auto}
 use Rattle.unit_report.specs.declared.unit_output.DisplayerKind.TheVariants.{Live}
 use Rattle.unit_report.specs.declared.unit_output.overrides.OutputDisplayOverrides.{OutputDisplayOverrides}
-use Rattle.event_text.specs.Settings.{counter_width_of, overrides_by, theme_of}
-use Rattle.event_text.specs.declared.settings.Settings.{Settings}
+use Rattle.text_parts.specs.Settings.{counter_width_of, overrides_by, theme_of}
+use Rattle.text_parts.specs.declared.settings.Settings.{Settings}
 use Rattle.store_text.specs.declared.config.StoreConfig.{StoreConfig}
 use Rattle.console_reporter.specs.declared.imp.builder.DisplayReporterBuilder.{DisplayReporterBuilder}
 use Rattle.console_reporter.specs.declared.imp.builder.Surroundings.{Surroundings}

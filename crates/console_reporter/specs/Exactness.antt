@@ -8,7 +8,7 @@ use Rattle.run_model.specs.declared.output.ChildOutputDescription.TheVariants.{C
 use Rattle.run_model.specs.declared.output_event.LoadOutput.TheVariants.{Load}
 use Rattle.plain_text.specs.Texts.{Text}
 use Rattle.run_model.specs.Attempts.{Written}
-use Rattle.console_reporter.specs.Calm.{AreCalm, EndsRun}
+use Rattle.console_reporter.specs.Uninterrupted.{AreUninterrupted, EndsRun}
 use Rattle.console_reporter.specs.Configuration.{Configuration}
 use Rattle.reporter_state.specs.Loads.{decision}
 use Rattle.console_reporter.specs.Report.{report_texts}
@@ -51,10 +51,10 @@ IsObserved config before event after = IsSeen config before event after ⊎ IsSt
 abbrev pub IsLoaded : OutputLoadDecider → TestEvent → Type 0
 IsLoaded decider event = decision decider event.kind ≡ Some Load
 
--- In every list of calls an event is observed only where the decider answers Load; and in calm calls, of which the last is the
+-- In every list of calls an event is observed only where the decider answers Load; and in uninterrupted calls, of which the last is the
 -- end of a run, it is observed exactly where the decider answers Load.
 abbrev pub IsExact : Configuration → OutputLoadDecider → Type 0
 IsExact config decider =
     (before after : List ReportCall) (event : TestEvent) →
     (IsObserved config before event after → IsLoaded decider event)
-    × (AreCalm (before ++ Event event ∷ after) → EndsRun after → IsObserved config before event after ↔ IsLoaded decider event)
+    × (AreUninterrupted (before ++ Event event ∷ after) → EndsRun after → IsObserved config before event after ↔ IsLoaded decider event)

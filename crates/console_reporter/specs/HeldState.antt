@@ -7,8 +7,8 @@ use Rattle.console_reporter.specs.Configuration.{Configuration, settings_of}
 use Rattle.reporter_state.specs.Effects.{may_grow_for}
 use Rattle.reporter_state.specs.Entries.{cancel, final_order, kept, prefix}
 use Rattle.console_reporter.specs.Report.{Known, past_at}
-use Rattle.console_reporter.specs.Slots.{config_of}
-use Rattle.event_text.specs.declared.settings.Settings.{Settings}
+use Rattle.console_reporter.specs.OptionalStore.{config_of}
+use Rattle.text_parts.specs.declared.settings.Settings.{Settings}
 use Rattle.run_model.specs.declared.call.ReportCall.{ReportCall}
 use Rattle.run_model.specs.declared.call.ReportCall.TheVariants.{Event, Header, Prefix}
 use Rattle.console_reporter.specs.declared.imp.reporter.DisplayReporter.{DisplayReporter}

@@ -1,5 +1,5 @@
 pub mod Accepted
-pub mod Calm
+pub mod Uninterrupted
 pub mod ColourLaw
 pub mod Configuration
 pub mod Exactness
@@ -11,7 +11,7 @@ pub mod PlainCalls
 pub mod PlainLaw
 pub mod Report
 pub mod ReportErrors
-pub mod Slots
+pub mod OptionalStore
 pub mod Statistics
 pub mod Stored
 pub mod Telling

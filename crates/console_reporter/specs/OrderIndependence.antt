@@ -1,7 +1,7 @@
 -- Order: where a run goes on calmly, its end does not tell which of two neighbouring calls came first.
 use Rattle.std.specs.Prelude.{◌≡◌, true, List, [], ◌∷◌, ◌++◌, reverse, Option, None, Some}
 use Rattle.run_model.specs.declared.event.TestEvent.{TestEvent}
-use Rattle.console_reporter.specs.Calm.{AreCalm, is_end_of_run}
+use Rattle.console_reporter.specs.Uninterrupted.{AreUninterrupted, is_end_of_run}
 use Rattle.console_reporter.specs.Configuration.{Configuration, settings_of}
 use Rattle.reporter_state.specs.Effects.{entry_of}
 use Rattle.reporter_state.specs.Entries.{cancel, entry_key}
@@ -22,11 +22,11 @@ AreOfOneKey (Some x) (Some y) = entry_key x ≡ entry_key y
 AreOfOneKey (Some x) None = ⊥
 AreOfOneKey None y = ⊥
 
--- In calm calls, of which the last is the end of a run, an exchange of two neighbours, neither the last, that are not both kept
+-- In uninterrupted calls, of which the last is the end of a run, an exchange of two neighbours, neither the last, that are not both kept
 -- entries of one key leaves the text of the last as it is.
 abbrev pub IsOrderIndependent : Configuration → List ReportCall → Type 0
 IsOrderIndependent config calls =
     (before after : List ReportCall) (first second : ReportCall) (end : TestEvent) →
-    calls ≡ before ++ first ∷ second ∷ (after ++ Event end ∷ []) → is_end_of_run end.kind ≡ true → AreCalm calls →
+    calls ≡ before ++ first ∷ second ∷ (after ++ Event end ∷ []) → is_end_of_run end.kind ≡ true → AreUninterrupted calls →
     (AreOfOneKey (entry_after config (reverse before) first) (entry_after config (first ∷ reverse before) second) → ⊥) →
     text config (reverse (before ++ second ∷ first ∷ after)) (Event end) ≡ text config (reverse (before ++ first ∷ second ∷ after)) (Event end)

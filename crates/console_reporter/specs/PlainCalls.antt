@@ -11,7 +11,7 @@ use Rattle.report_words.specs.PlainTexts.{IsPlainInstance}
 use Rattle.report_text.specs.PlainResults.{IsPlainResult}
 use Rattle.plain_text.specs.Texts.{Text}
 use Rattle.unit_report.specs.PlainOutputs.{IsPlainWritten}
-use Rattle.event_text.specs.Script.{IsPlainScript}
+use Rattle.text_parts.specs.Script.{IsPlainScript}
 use Rattle.run_text.specs.PlainRuns.{IsPlainHeader, IsPlainNotSeen, IsPlainPrefix, IsPlainScriptStatus}
 use Rattle.info_text.specs.PlainResponses.{IsPlainResponse}
 use Rattle.console_reporter.specs.Configuration.{Configuration}

@@ -26,8 +26,8 @@ use Rattle.run_text.specs.Stress.{stress_sub_run_finished_text, stress_sub_run_s
 use Rattle.run_text.specs.Summary.{run_finished_text}
 use Rattle.info_text.specs.Response.{info_response_text}
 use Rattle.info_text.specs.Start.{info_finished_text, info_started_text}
-use Rattle.event_text.specs.Script.{Script}
-use Rattle.event_text.specs.declared.settings.Settings.{Settings}
+use Rattle.text_parts.specs.Script.{Script}
+use Rattle.text_parts.specs.declared.settings.Settings.{Settings}
 use Rattle.console_reporter.specs.Configuration.{Configuration, settings_of}
 use Rattle.reporter_state.specs.Effects.{TestEnd}
 use Rattle.reporter_state.specs.Effects.TestEnd.{Finished, Skipped}

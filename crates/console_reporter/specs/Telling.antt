@@ -2,12 +2,12 @@
 use Rattle.std.specs.Prelude.{◌≡◌, ◌≤◌, ◌⊎◌, ◌++◌, ℕ, true, List, [], ◌∷◌, Option, None, Some, Result, Err, OnOk, IfErr, length}
 use Rattle.std.specs.Option.{is_some}
 use Rattle.plain_text.specs.Texts.{Text}
-use Rattle.plain_text.specs.Writer.{Meaning, one_further}
+use Rattle.plain_text.specs.Writer.{Meaning, successor}
 use Rattle.console_reporter.specs.Configuration.{Configuration}
 use Rattle.console_reporter.specs.Accepted.{refusal}
 use Rattle.console_reporter.specs.Outcomes.{IsOfLines, Stops, StopsAfter, StopsRecord, StopsRecordAfter, answered_refusal}
 use Rattle.console_reporter.specs.Report.{past_at, report, text, text_at}
-use Rattle.console_reporter.specs.Slots.{IsSameStore, store_meaning}
+use Rattle.console_reporter.specs.OptionalStore.{IsSameStore, store_meaning}
 use Rattle.console_reporter.specs.HeldState.{HasFailed, MayGrowIn, StandsAfter}
 use Rattle.console_reporter.specs.Stored.{stored, stored_at, stored_text}
 use Rattle.run_model.specs.declared.call.ReportCall.{ReportCall}
@@ -77,8 +77,8 @@ module _ {W S : Type 0} (m : Meaning W) (n : Meaning S) where
     pub stopped : (config : Configuration) (past : List ReportCall) → StandsAfter config past old → Stops m old.writer.now (told_text config past call) e new.writer.now
     pub store_stopped : (config : Configuration) (past : List ReportCall) → StandsAfter config past old → StopsRecord (store_meaning n) old.store (kept_text config call) e new.store
     pub order : (config : Configuration) (past : List ReportCall) → StandsAfter config past old → (new.store ≡ old.store) ⊎ m.accepts old.writer.now (told_text config past call) new.writer.now
-    pub io : e ≡ Io → m.failures new.writer.now ≡ one_further (m.failures old.writer.now)
-    pub store_io : e ≡ StoreIo → (store_meaning n).failures new.store ≡ one_further ((store_meaning n).failures old.store)
+    pub io : e ≡ Io → m.failures new.writer.now ≡ successor (m.failures old.writer.now)
+    pub store_io : e ≡ StoreIo → (store_meaning n).failures new.store ≡ successor ((store_meaning n).failures old.store)
     pub memory : e ≡ Memory → m.may_refuse old.writer.now ⊎ MayGrowFor old call ⊎ (store_meaning n).may_refuse old.store
     -- a fault of the store comes once the text is delivered
     pub delivered : e ≡ StoreIo → m.is_delivered new.writer.now

@@ -3,7 +3,7 @@
 //! One module a concern: `builder` says what a reporter is built from (what it is asked is `run_model::call`), `unload` which outputs a
 //! replay may leave unread, `store` where records go, `reporter` the calls, `run` the run of a list of them, and `topics` what text an
 //! event has. What is known of the calls before, and what is decided of the next one, stands in the crate `reporter_state`; the texts
-//! themselves in the crates `event_text`, `test_text`, `run_text` and `info_text`, and the records in `store_text`.
+//! themselves in the crates `test_text`, `run_text` and `info_text`, and the records in `store_text`.
 
 mod builder;
 mod reporter;
@@ -13,7 +13,6 @@ mod topics;
 mod unload;
 
 pub use builder::{DisplayReporterBuilder, Surroundings};
-pub use event_text::finish::reasons_only_hide;
 pub use reporter::DisplayReporter;
 pub use reporter_state::decider::{OutputLoadDecider, first_refused};
 pub use reporter_state::faults::{RunFault, WriteEventError};
@@ -22,5 +21,6 @@ pub use run::{give_back, run_report, run_report_with_store, texts_make_the_repor
 pub use run_model::call::ReportCall;
 pub use store::Store;
 pub use store_text::config::StoreConfig;
+pub use text_parts::finish::reasons_only_hide;
 pub use unit_report::unit_output::DisplayerKind;
 pub use unload::unload_skipped;

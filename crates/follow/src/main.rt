@@ -4,10 +4,10 @@
 //! producer that died must not look like a success. What goes wrong is one line on standard error and the status.
 #![tactic(auto)]
 
+use scenes::args::{Options, words_or_input};
 use scenes::fault::{Fault, Program};
 use scenes::follow::{RunOutcome, follow_scene};
 use scenes::process::{arguments, tell};
-use scenes::words::{Options, words_or_input};
 use std::fs::File;
 use std::io::{self, Read};
 use std::process::ExitCode;

@@ -8,7 +8,7 @@ use Rattle.plain_text.specs.Escapes.{HasNoEscape}
 use Rattle.report_words.specs.PlainTexts.{HoldsIf, IsPlainInstance}
 use Rattle.report_text.specs.PlainResults.{IsPlainResult}
 use Rattle.unit_report.specs.PlainOutputs.{IsPlainWritten}
-use Rattle.event_text.specs.Script.{IsPlainScript}
+use Rattle.text_parts.specs.Script.{IsPlainScript}
 use Rattle.info_text.specs.Response.{answering_script}
 use Rattle.info_text.specs.State.{signal_of}
 

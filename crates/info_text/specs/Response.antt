@@ -22,10 +22,10 @@ use Rattle.unit_report.specs.UnitOutput.{OutputLayout, execution_output}
 use Rattle.unit_report.specs.declared.unit_output.header.OutputHeader.TheVariants.{Label}
 use Rattle.unit_report.specs.declared.unit_output.header.OutputName.TheVariants as name
 use Rattle.run_model.specs.Attempts.{Written}
-use Rattle.event_text.specs.Instance.{instance_end}
-use Rattle.event_text.specs.Script.{Script, shown_script}
-use Rattle.event_text.specs.declared.instance.CountedInstance.{CountedInstance}
-use Rattle.event_text.specs.declared.settings.Settings.{Settings}
+use Rattle.text_parts.specs.Instance.{instance_end}
+use Rattle.text_parts.specs.Script.{Script, shown_script}
+use Rattle.text_parts.specs.declared.instance.CountedInstance.{CountedInstance}
+use Rattle.text_parts.specs.declared.settings.Settings.{Settings}
 use Rattle.info_text.specs.State.{state_text}
 use Rattle.info_text.specs.declared.state.InfoUnit.{InfoUnit}
 

@@ -5,9 +5,9 @@ use Rattle.run_model.specs.declared.stats.RunStats.{RunStats}
 use Rattle.plain_text.specs.Style.{plain, styled}
 use Rattle.plain_text.specs.Texts.{Text}
 use Rattle.plain_text.specs.declared.style.Styles.{Styles}
-use Rattle.event_text.specs.Bar.{bar_line}
-use Rattle.event_text.specs.StatsText.{failure_style, progress_message}
-use Rattle.event_text.specs.declared.settings.Settings.{Settings}
+use Rattle.text_parts.specs.Bar.{bar_line}
+use Rattle.text_parts.specs.StatsText.{failure_style, progress_message}
+use Rattle.text_parts.specs.declared.settings.Settings.{Settings}
 use Rattle.info_text.specs.Seconds.{seconds_between}
 
 -- so many units are asked; they stand for those that run. The line tells the counts of the run and how long it has taken

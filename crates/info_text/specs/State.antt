@@ -16,8 +16,8 @@ use Rattle.plain_text.specs.Texts.{Text}
 use Rattle.plain_text.specs.declared.style.Style.{Style}
 use Rattle.plain_text.specs.declared.style.Styles.{Styles}
 use Rattle.unit_report.specs.UnitKind.{unit_word}
-use Rattle.event_text.specs.InfoResult.{info_text}
-use Rattle.event_text.specs.declared.settings.Settings.{Settings}
+use Rattle.text_parts.specs.InfoResult.{info_text}
+use Rattle.text_parts.specs.declared.settings.Settings.{Settings}
 use Rattle.info_text.specs.Seconds.{seconds_between}
 use Rattle.info_text.specs.declared.state.InfoUnit.{InfoUnit}
 

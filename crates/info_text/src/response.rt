@@ -4,13 +4,10 @@ ghost use Rattle.std.specs.Prelude.{◌≡◌, ◌+◌, codes, false};
 ghost use Rattle.plain_text.specs.Indent.{indent};
 ghost use Rattle.plain_text.specs.Writer.{Puts};
 ghost use Rattle.unit_report.specs.UnitOutput.{layout_of};
-ghost use Rattle.event_text.specs.Script.{script_of};
+ghost use Rattle.text_parts.specs.Script.{script_of};
 ghost use Rattle.info_text.specs.Response.{HasAnswerOutput, HasValidOutput, answer, answering_script, answering_test, info_layout, info_response_text, is_delay, number_padding, response_number, script_answer, script_unit, separator, test_answer, test_unit, told_attempt, unit_answer, valid_output};
 
 use crate::state::{InfoUnit, write_state};
-use event_text::instance::{CountedInstance, write_instance_end};
-use event_text::script::ScriptInstance;
-use event_text::settings::Settings;
 use plain_text::indenter::indented;
 use plain_text::numbers::spaces_str;
 use plain_text::style::{Styles, write_plain};
@@ -20,6 +17,9 @@ use run_model::info::{InfoResponse, SetupScriptInfoResponse, TestInfoResponse, U
 use run_model::output::{ChildExecutionOutputDescription, LiveSpec};
 use run_model::status::RetryData;
 use run_model::unit::UnitKind;
+use text_parts::instance::{CountedInstance, write_instance_end};
+use text_parts::script::ScriptInstance;
+use text_parts::settings::Settings;
 use unit_report::unit_output::{ChildOutputSpec, OutputHeader, OutputName};
 
 /// Writes the answer of a unit. `index` is its place among all, from 0. Output of the unit must not have been left

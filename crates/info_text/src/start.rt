@@ -4,13 +4,13 @@ ghost use Rattle.plain_text.specs.Writer.{Puts};
 ghost use Rattle.info_text.specs.Start.{info_finished_text, info_started_text, missing_line, missing_note};
 
 use crate::seconds::write_seconds;
-use event_text::bar::write_bar_line;
-use event_text::settings::Settings;
-use event_text::stats_text::{failure_style, write_progress_message};
 use plain_text::style::{Styles, write_plain};
 use plain_text::write_str::{WriteFault, WriteStr};
 use run_model::stats::RunStats;
 use run_model::time::Nanos;
+use text_parts::bar::write_bar_line;
+use text_parts::settings::Settings;
+use text_parts::stats_text::{failure_style, write_progress_message};
 
 /// Writes how many units are asked, which are those that run, with the counts of the run.
 #[tactic(auto, unfolding(crate::specs::Start::info_started_text))]

@@ -7,8 +7,6 @@ ghost use Rattle.info_text.specs.State.{attempt_text, waiting_line, delay_note, 
 ghost use Rattle.unit_report.specs.UnitKind.{unit_word};
 
 use crate::seconds::write_seconds;
-use event_text::info_result::write_info_result;
-use event_text::settings::Settings;
 use itoa::Buffer;
 use plain_text::style::{Style, Styles, write_plain};
 use plain_text::write_str::{WriteFault, WriteStr};
@@ -16,6 +14,8 @@ use run_model::info::{UnitState, UnitTerminateMethod, UnitTerminatingState};
 use run_model::status::{ExecutionResultDescription, RetryData};
 use run_model::time::Nanos;
 use run_model::unit::UnitKind;
+use text_parts::info_result::write_info_result;
+use text_parts::settings::Settings;
 use unit_report::formatters::DisplayUnitKind;
 
 /// The unit that a state is told of.

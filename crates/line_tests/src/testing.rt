@@ -1,11 +1,11 @@
 //! What the tests share: what a reporter goes by.
 
-use event_text::settings::{Settings, overrides_for, styles_for, theme_for};
 use run_model::config::{CompiledDefaultFilter, CompiledDefaultFilterSection, NextestRunMode};
 use run_model::level::{FinalStatusLevel, StatusLevel};
 use run_model::name::ProfileName;
 use std::alloc::Global;
 use std::test::Fail;
+use text_parts::settings::{Settings, overrides_for, styles_for, theme_for};
 use unit_report::config::StatusLevels;
 use unit_report::unit_output::{DisplayerKind, UnitOutputReporter};
 

@@ -1,4 +1,4 @@
-pub mod AlikeIndents
+pub mod IndentedEndSpaces
 pub mod Chunked
 pub mod Closed
 pub mod CounterPuts
@@ -6,7 +6,7 @@ pub mod Cuts
 pub mod Decimals
 pub mod Decoded
 pub mod Deliveries
-pub mod EndLines
+pub mod TrailingNewlines
 pub mod Feeds
 pub mod FirstLines
 pub mod FitMarks

@@ -1,6 +1,6 @@
 -- Pieces of a text that are gathered before they are written.
 use Rattle.std.specs.Prelude.{◌++◌, Result, MatchResult}
-use Rattle.plain_text.specs.EndLine.{without_end_line, held}
+use Rattle.plain_text.specs.TrailingNewline.{without_trailing_newline, held}
 use Rattle.plain_text.specs.Texts.{Text}
 use Rattle.plain_text.specs.Writer.{Meaning, Owes}
 use Rattle.plain_text.specs.declared.stripped.gathered_pieces.GatheredPieces.{GatheredPieces}
@@ -9,7 +9,7 @@ use Rattle.plain_text.specs.declared.write_str.WriteFault.{WriteFault}
 -- what is to be written where a text follows: a line feed that is held back, what is gathered, and the text, without the
 -- line feed that closes it
 abbrev pub unwritten : GatheredPieces → Text → Text
-unwritten g rest = without_end_line (held g.end_line.is_held ++ (g.pending ++ rest))
+unwritten g rest = without_trailing_newline (held g.trailing_newline.is_held ++ (g.pending ++ rest))
 
 -- Whatever follows a piece, on Ok to write what is then left is to write what was left before the piece; a fault stops that.
 abbrev pub Carries : {S : Type 0} → Meaning S → S → (Text → Text) → Text → Result (Unit {0}) WriteFault → S → (Text → Text) → Type 0

@@ -1,8 +1,8 @@
-pub mod Alike
+pub mod EqualButEndSpaces
 pub mod ChunkEnds
 pub mod Chunks
 pub mod ColumnCounter
-pub mod EndLine
+pub mod TrailingNewline
 pub mod Escapes
 pub mod Fitted
 pub mod Fitting

@@ -4,7 +4,7 @@ use Rattle.std.proofs.Common.{sym, ap, ◌∙◌, subst, append_assoc, ◌∷◌
 use Rattle.std.specs.Fmt.{HasWritten, IsPlainFormatter}
 use Rattle.std.specs.List.{FoldsTo, concat}
 use Rattle.std.specs.declared.fmt.Formatter.{Formatter}
-use Rattle.plain_text.specs.Writer.{Meaning, WriterLaws, one_further}
+use Rattle.plain_text.specs.Writer.{Meaning, WriterLaws, successor}
 use Rattle.plain_text.specs.declared.write_str.WriteFault.{WriteFault}
 use Rattle.plain_text.specs.declared.write_str.WriteFault.TheVariants.{Memory, Device}
 use Rattle.plain_text.specs.declared.write_str.on_formatter.OnFormatter.{OnFormatter}
@@ -37,7 +37,7 @@ module _ {W : Type 0} (took : W → List ℕ → W → Type 0) where
 
   pub record FormatterStops (a : OnFormatter W) (t : List ℕ) (e : WriteFault) (b : OnFormatter W) : Type 0 where
     pub same : b.formatter.ghost_name ≡ a.formatter.ghost_name
-    pub count : b.failures ≡ one_further a.failures
+    pub count : b.failures ≡ successor a.failures
     pub device : e ≡ Device
 
   abbrev pub formatter_meaning : Meaning (OnFormatter W)
@@ -63,7 +63,7 @@ formatter_laws took = record {
     same = q.same ∙ p.same;
     kept = q.kept ∙ p.kept;
   };
-  goes_on = λ a b c t u e p q. record { same = q.same ∙ p.same; count = q.count ∙ ap one_further p.kept; device = q.device };
+  goes_on = λ a b c t u e p q. record { same = q.same ∙ p.same; count = q.count ∙ ap successor p.kept; device = q.device };
   stops_within = λ a b t u e p. record { same = p.same; count = p.count; device = p.device };
   grows = λ a b t p. tt;
   grows_within = λ a b t e p. record { front = []; rest = t; whole = refl; grown = tt };

@@ -3,7 +3,7 @@ use Rattle.std.specs.Prelude.{◌≡◌, ℕ, List, [], ◌++◌, Option, refl}
 use Rattle.std.proofs.Common.{sym, ap, ◌∙◌, append_assoc}
 use Rattle.std.specs.Io.KnownBytes.{Appends, append_known}
 use Rattle.std.proofs.KnownBytes.{Appends-nil, Appends-trans}
-use Rattle.plain_text.specs.Writer.{Meaning, WriterLaws, AppendsFront, one_further}
+use Rattle.plain_text.specs.Writer.{Meaning, WriterLaws, AppendsFront, successor}
 use Rattle.plain_text.specs.declared.write_str.WriteFault.{WriteFault}
 use Rattle.plain_text.specs.declared.write_str.WriteFault.TheVariants.{Memory, Device}
 use Rattle.plain_text.specs.declared.write_str.text_buffer.TextBuffer.{TextBuffer}
@@ -52,7 +52,7 @@ module _ {W : Type 0} (contents : W → Option (List ℕ)) where
   pub record BufferStops (a : TextBuffer W) (t : List ℕ) (e : WriteFault) (b : TextBuffer W) : Type 0 where
     pub grown : AppendsFront (buffer_text a) (buffer_text b) t
     pub holds : Holds (contents a.writer) (contents b.writer)
-    pub count : b.failures ≡ one_further a.failures
+    pub count : b.failures ≡ successor a.failures
     pub device : e ≡ Device
 
   abbrev pub buffer_meaning : Meaning (TextBuffer W)
@@ -78,7 +78,7 @@ buffer_laws contents = record {
       grown = Appends-trans _ _ _ t q.grown.front p.grown q.grown.grown;
     };
     holds = Holds-trans _ _ _ p.holds q.holds;
-    count = q.count ∙ ap one_further p.kept;
+    count = q.count ∙ ap successor p.kept;
     device = q.device;
   };
   stops_within = λ a b t u e p. record {

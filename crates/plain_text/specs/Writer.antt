@@ -22,8 +22,8 @@ pub record Meaning (S : Type 0) : Type 1 where
   pub failures : S → ℕ
 
 -- the count after one more failure
-abbrev pub one_further : ℕ → ℕ
-one_further n = (n + 1) % 2 ^ 64
+abbrev pub successor : ℕ → ℕ
+successor n = (n + 1) % 2 ^ 64
 
 -- From old, the text was accepted if r is `Ok`; if r is a fault, it stopped the text; new is left.
 abbrev pub Puts : {S : Type 0} → Meaning S → S → List ℕ → Result (Unit {0}) WriteFault → S → Type 0
@@ -54,5 +54,5 @@ pub record WriterLaws {S : Type 0} (m : Meaning S) : Type 0 where
   pub grows_within : (a b : S) (t : List ℕ) (e : WriteFault) → m.stops a t e b → AppendsFront (m.text a) (m.text b) (m.adds a t)
   -- a device failed where `Device` is answered, and memory can be refused where `Memory` is
   pub kept : (a b : S) (t : List ℕ) → m.accepts a t b → (m.failures b ≡ m.failures a) × (m.may_refuse b → m.may_refuse a)
-  pub device : (a b : S) (t : List ℕ) → m.stops a t Device b → m.failures b ≡ one_further (m.failures a)
+  pub device : (a b : S) (t : List ℕ) → m.stops a t Device b → m.failures b ≡ successor (m.failures a)
   pub memory : (a b : S) (t : List ℕ) → m.stops a t Memory b → m.may_refuse a

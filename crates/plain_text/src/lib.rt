@@ -5,7 +5,6 @@
 #![tactic(auto)]
 
 pub mod decimal;
-pub mod end_line;
 pub mod escapes;
 pub mod fitting;
 pub mod indenter;
@@ -16,4 +15,5 @@ pub mod repeated;
 pub mod reporter_helpers;
 pub mod stripped;
 pub mod style;
+pub mod trailing_newline;
 pub mod write_str;

@@ -1,7 +1,7 @@
 //! A text that comes in pieces, without its escape sequences.
 
 ghost use Rattle.std.specs.Prelude.{◌≡◌, ◌<◌, ◌++◌, false, length, take, drop, chars, MatchOption, OnOk};
-ghost use Rattle.plain_text.specs.EndLine.{without_end_line, ends_in_line_feed, held};
+ghost use Rattle.plain_text.specs.TrailingNewline.{without_trailing_newline, ends_in_line_feed, held};
 ghost use Rattle.plain_text.specs.Escapes.{front_len, is_visible, visible};
 ghost use Rattle.plain_text.specs.Scanner.{modes_after};
 ghost use Rattle.plain_text.specs.Stripped.{visible_from, Takes};
@@ -10,8 +10,8 @@ ghost use Rattle.plain_text.specs.Writer.{Puts};
 mod gathered_pieces;
 mod piece_buffer;
 
-use crate::end_line::EndLine;
 use crate::escapes::{ESCAPE, Mode, advance, sequence_len};
+use crate::trailing_newline::TrailingNewline;
 use crate::write_str::{WriteFault, WriteStr};
 use gathered_pieces::GatheredPieces;
 use memchr::memchr;
@@ -29,18 +29,18 @@ use memchr::memchr;
 #[derive(Clone, Copy)]
 pub struct StrippedPieces {
     mode: Mode,
-    end_line: EndLine,
+    trailing_newline: TrailingNewline,
 }
 
 impl StrippedPieces {
     /// Creates one that stands outside escape sequences.
     pub fn new() -> StrippedPieces
         ensures mode { result.mode ≡ Mode.Text }
-        ensures held { result.end_line.is_held ≡ false }
+        ensures held { result.trailing_newline.is_held ≡ false }
     {
         StrippedPieces {
             mode: Mode::Text,
-            end_line: EndLine::new(),
+            trailing_newline: TrailingNewline::new(),
         }
     }
 
@@ -50,14 +50,14 @@ impl StrippedPieces {
     ///
     /// What the writer answered. A beginning of what was to be written was accepted.
     pub fn write<W: WriteStr>(&mut self, w: &mut W, piece: &str) -> Result<(), WriteFault>
-        ensures text { Puts W.meaning w.old (without_end_line (held self.old.end_line.is_held ++ visible_from self.old.mode (chars piece.now))) result w.new }
-        ensures held { OnOk result (self.new.end_line.is_held ≡ ends_in_line_feed (held self.old.end_line.is_held ++ visible_from self.old.mode (chars piece.now))) }
+        ensures text { Puts W.meaning w.old (without_trailing_newline (held self.old.trailing_newline.is_held ++ visible_from self.old.mode (chars piece.now))) result w.new }
+        ensures held { OnOk result (self.new.trailing_newline.is_held ≡ ends_in_line_feed (held self.old.trailing_newline.is_held ++ visible_from self.old.mode (chars piece.now))) }
         ensures mode { OnOk result (self.new.mode ≡ modes_after self.old.mode (chars piece.now)) }
     {
         let mut rest = piece;
         while let Some((mode, stretch, after)) = next_stretch(self.mode, rest) {
             self.mode = mode;
-            self.end_line.write(w, stretch)?;
+            self.trailing_newline.write(w, stretch)?;
             rest = after;
         }
         Ok(())
@@ -69,19 +69,19 @@ impl StrippedPieces {
 /// That is what [`StrippedPieces`] writes of a text in one piece, and it costs less: a sequence is scanned as a whole, and
 /// stretches between sequences are written together. It allocates nothing.
 pub fn write_stripped_text<W: WriteStr>(w: &mut W, text: &str) -> Result<(), WriteFault>
-    ensures { Puts W.meaning w.old (without_end_line (visible text.now)) result w.new }
+    ensures { Puts W.meaning w.old (without_trailing_newline (visible text.now)) result w.new }
 {
     let (_, from_escape) = split_escape(text);
     if from_escape.is_empty() {
-        let mut end_line = EndLine::new();
-        return end_line.write(w, text);
+        let mut trailing_newline = TrailingNewline::new();
+        return trailing_newline.write(w, text);
     }
     write_gathered(w, text)
 }
 
 // The same, where the text has a sequence.
 fn write_gathered<W: WriteStr>(w: &mut W, text: &str) -> Result<(), WriteFault>
-    ensures { Puts W.meaning w.old (without_end_line (visible text.now)) result w.new }
+    ensures { Puts W.meaning w.old (without_trailing_newline (visible text.now)) result w.new }
 {
     let mut gathered = GatheredPieces::new();
     let mut rest = text;

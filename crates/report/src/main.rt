@@ -4,10 +4,10 @@
 //! status, and nothing stands on standard output unless the whole scene was accepted and PATH was made or emptied.
 #![tactic(auto)]
 
+use scenes::args::words;
 use scenes::fault::{Fault, Program};
 use scenes::process::{arguments, tell};
-use scenes::program::{judge_scene, read_whole, report_judged};
-use scenes::words::words;
+use scenes::report::{accept_scene, read_whole, report_accepted};
 use std::fs::File;
 use std::io;
 use std::mem::ManuallyDrop;
@@ -36,16 +36,16 @@ fn run<'a>(rt: &HostRuntime, args: &'a [String]) -> Result<(), Fault<'a>> {
     let alloc = rt.alloc();
     // The memory of the scene goes with the process.
     let scene = ManuallyDrop::new(read_whole(alloc, &options, file)?);
-    let judged = match judge_scene(alloc, &options, &scene) {
+    let judged = match accept_scene(alloc, &options, &scene) {
         Ok(judged) => judged,
         Err(fault) => return Err(fault),
     };
     let Some(store) = options.store else {
-        return report_judged(alloc, &judged, io::writer(rt), io::sink()).0;
+        return report_accepted(alloc, &judged, io::writer(rt), io::sink()).0;
     };
     let records = match File::create(rt, store.file) {
         Ok(records) => records,
         Err(error) => return Err(Fault::CannotWrite { file: store.file }.by_kind(error.kind())),
     };
-    report_judged(alloc, &judged, io::writer(rt), records).0
+    report_accepted(alloc, &judged, io::writer(rt), records).0
 }

@@ -1,15 +1,16 @@
 //! The report of a scene's text, and the options that it is made by.
 
 ghost use Rattle.std.specs.Prelude.{◌≡◌, ◌↔◌, [], IfSome, IfOk, IfErr, None, Some};
-ghost use Rattle.scenes.specs.SpelledRuns.{PrintsRun};
+ghost use Rattle.scenes.specs.ParsedScenes.{OfText};
+ghost use Rattle.scenes.specs.SpelledRuns.{PrintsParsed};
 ghost use Rattle.report_c.specs.Reported.{AsksFor, IsUnreported, fault_told, level_numbered};
 
 use crate::NorigullyOptions;
 use run_model::level::StatusLevel;
 use scene_fields::fault::ReadFault;
+use scenes::args::Options;
 use scenes::fault::Fault;
-use scenes::program::report_scene;
-use scenes::words::Options;
+use scenes::report::report_scene;
 use std::alloc::Global;
 use std::io;
 
@@ -51,7 +52,7 @@ fn read_level(number: u32) -> Option<StatusLevel>
 
 /// The report of the run that a text spells; or the line that is wrong, or that memory was refused.
 pub fn report_of(alloc: Global, options: &Options<'_>, text: &[u8]) -> Result<Vec<u8>, ReadFault>
-    ensures report { IfOk result (λ report. PrintsRun options.now text.now (Some []) (Some report.items) None None) }
+    ensures report { IfOk result (λ report. OfText text.now (λ run. PrintsParsed options.now run (Some []) (Some report.items) None None)) }
     ensures fault { IfErr result (IsUnreported options.now text.now) }
 {
     let (outcome, report, _unstored) = report_scene(

@@ -6,10 +6,10 @@ use Rattle.run_model.specs.declared.event.TestEventKind.{TestEventKind}
 use Rattle.run_model.specs.declared.event.TestEventKind.TheVariants.{TestFinished, TestSkipped, RunBeginCancel, RunBeginKill}
 use Rattle.run_names.specs.declared.level.FinalStatusLevel.TheVariants as final
 use Rattle.test_text.specs.TestFinished.{HasShownOutput, TestFinish, finish_of, test_finish}
-use Rattle.event_text.specs.Finish.{is_final_wanted, row_at_end, row_listed}
-use Rattle.event_text.specs.Instance.{padded_instance}
-use Rattle.event_text.specs.declared.instance.CountedInstance.{CountedInstance}
-use Rattle.event_text.specs.declared.settings.Settings.{Settings}
+use Rattle.text_parts.specs.Finish.{is_final_wanted, timed_at_end, timed_listed}
+use Rattle.text_parts.specs.Instance.{padded_instance}
+use Rattle.text_parts.specs.declared.instance.CountedInstance.{CountedInstance}
+use Rattle.text_parts.specs.declared.settings.Settings.{Settings}
 use Rattle.reporter_state.specs.KeptTests.{kept_test}
 use Rattle.reporter_state.specs.declared.effect.EndedTest.{EndedTest}
 use Rattle.reporter_state.specs.declared.effect.EndedTest.TheVariants as ended
@@ -38,7 +38,7 @@ HasEndOutputIn (Some end) = HasEndOutput end
 
 -- what the summary shows of a finished test: its line, and the output of its last attempt where that is shown at the end
 unfoldable pub final_output : TestFinish → FinalOutput
-final_output f = if row_at_end f.row f.display then output.ExecutedWithOutput f.summary f.last.output else output.Executed f.summary
+final_output f = if timed_at_end f.row f.display then output.ExecutedWithOutput f.summary f.last.output else output.Executed f.summary
 
 -- the entry of a finished test, and that of a skipped one
 abbrev pub finished_entry : TestFinish → FinalOutputEntry
@@ -49,7 +49,7 @@ skipped_entry test = record { test = kept_test test; output = output.Skipped }
 
 -- the summary lists the finished test
 abbrev pub is_kept : Settings → TestFinish → Bool
-is_kept s f = row_listed f.row (is_final_wanted s f.display f.summary)
+is_kept s f = timed_listed f.row (is_final_wanted s f.display f.summary)
 
 -- the summary lists skipped tests: from their final level upwards
 abbrev pub is_skip_kept : Settings → Bool

@@ -16,7 +16,7 @@ use Rattle.run_names.specs.declared.stress.StressIndex.{StressIndex}
 use Rattle.plain_text.specs.Texts.{Text}
 use Rattle.report_text.specs.declared.helpers.instance.DisplayCounterIndex.{DisplayCounterIndex}
 use Rattle.report_text.specs.declared.helpers.instance.DisplayCounterIndex.TheVariants.{Counter, Padded}
-use Rattle.event_text.specs.AttemptOutput.{attempt_output}
+use Rattle.text_parts.specs.AttemptOutput.{attempt_output}
 use Rattle.reporter_state.specs.Effects.{effect_of, entry_of}
 use Rattle.reporter_state.specs.KeptTests.{borrowed_test}
 use Rattle.reporter_state.specs.Order.{key_cmp, ordered_by}
@@ -27,8 +27,8 @@ use Rattle.run_model.specs.declared.call.ReportCall.TheVariants.{Event, Header, 
 use Rattle.reporter_state.specs.declared.final_output.FinalOutput.{FinalOutput}
 use Rattle.reporter_state.specs.declared.final_output.FinalOutput.TheVariants.{Executed, ExecutedWithOutput, Skipped}
 use Rattle.reporter_state.specs.declared.final_output.FinalOutputEntry.{FinalOutputEntry}
-use Rattle.event_text.specs.declared.instance.CountedInstance.{CountedInstance}
-use Rattle.event_text.specs.declared.settings.Settings.{Settings}
+use Rattle.text_parts.specs.declared.instance.CountedInstance.{CountedInstance}
+use Rattle.text_parts.specs.declared.settings.Settings.{Settings}
 use Rattle.test_text.specs.declared.status_line.StatusLineKind.TheVariants.{Final}
 
 -- the greatest reason that a call of a past carries; the latest call of a past is its first

@@ -1,7 +1,7 @@
 -- Tests that are kept, with names of their own.
 use Rattle.std.specs.Borrow.{Bor}
 use Rattle.std.specs.Prelude.{ℕ, List}
-use Rattle.event_text.specs.declared.instance.CountedInstance.{CountedInstance}
+use Rattle.text_parts.specs.declared.instance.CountedInstance.{CountedInstance}
 use Rattle.reporter_state.specs.declared.kept_test.KeptTest.{KeptTest}
 
 -- the copy of a test

@@ -22,7 +22,7 @@ use Rattle.run_model.specs.declared.status.StatusCase.{StatusCase}
 use Rattle.run_model.specs.declared.status.StatusSummary.{StatusSummary}
 use Rattle.unit_report.specs.Overrides.{display_for}
 use Rattle.run_model.specs.Attempts.{Written}
-use Rattle.event_text.specs.Finish.{is_ever_shown}
+use Rattle.text_parts.specs.Finish.{is_ever_shown}
 use Rattle.store_text.specs.StoredOutput.{is_switched_on}
 use Rattle.store_text.specs.declared.config.StoreConfig.{StoreConfig}
 use Rattle.reporter_state.specs.declared.decider.OutputLoadDecider.{OutputLoadDecider}

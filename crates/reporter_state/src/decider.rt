@@ -11,7 +11,6 @@ ghost use Rattle.reporter_state.specs.Refusals.{refusal_in};
 ghost use Rattle.reporter_state.specs.Unread.{unread_call};
 
 use crate::faults::WriteEventError;
-use event_text::settings::Settings;
 use run_model::call::ReportCall;
 use run_model::config::TestOutputDisplay;
 use run_model::event::{TestEvent, TestEventKind};
@@ -21,6 +20,7 @@ use run_model::output::{ChildExecutionOutputDescription, LiveSpec, OutputSpec, R
 use run_model::output_event::{LoadOutput, OutputEventKind};
 use run_model::status::{ExecutionResultDescription, ExecutionStatuses};
 use store_text::config::StoreConfig;
+use text_parts::settings::Settings;
 use unit_report::unit_output::OutputDisplayOverrides;
 
 /// Decides by an event's metadata what a reporter of one configuration does with it: no call before it matters.

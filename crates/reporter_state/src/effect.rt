@@ -7,11 +7,11 @@ ghost use Rattle.reporter_state.specs.Refusals.{decider_by};
 ghost use Rattle.reporter_state.specs.Effects.{HasEndOutputIn, effect_of, end_of};
 ghost use Rattle.reporter_state.specs.Loads.{lacks_output};
 
-use event_text::instance::CountedInstance;
-use event_text::settings::Settings;
 use run_model::event::{TestEvent, TestEventKind};
 use run_model::level::CancelReason;
 use test_text::test_finished::FinishedTest;
+use text_parts::instance::CountedInstance;
+use text_parts::settings::Settings;
 
 /// What an event does beside its text.
 #[derive(Clone, Copy)]

@@ -5,17 +5,17 @@ ghost use Rattle.run_model.specs.Statuses.{is_aborted};
 ghost use Rattle.test_text.specs.TestFinished.{HasShownOutput, finish_of};
 ghost use Rattle.reporter_state.specs.Effects.{final_output, finished_entry, skipped_entry};
 ghost use Rattle.reporter_state.specs.Entries.{final_level_of_output};
-ghost use Rattle.event_text.specs.Finish.{row_at_end};
+ghost use Rattle.text_parts.specs.Finish.{timed_at_end};
 
 use crate::kept_test::KeptTest;
 use crate::loaded_output::LoadedOutput;
-use event_text::instance::CountedInstance;
 use run_model::level::FinalStatusLevel;
 use run_model::memory::OutOfMemory;
 use run_model::status::StatusSummary;
 use std::alloc::Global;
 use test_text::status_line::StatusLine;
 use test_text::test_finished::FinishedTest;
+use text_parts::instance::CountedInstance;
 
 /// An entry of the summary.
 #[derive(Drop)]
@@ -62,7 +62,7 @@ impl FinalOutput {
     fn of_test(alloc: Global, finished: &FinishedTest<'_, '_>) -> Result<FinalOutput, OutOfMemory>
         requires { HasShownOutput (finish_of finished.now) }
         ensures output { IfOk result (λ o. o ≡ final_output (finish_of finished.now)) }
-        ensures free { is_aborted (finish_of finished.now).last.result ≡ false → row_at_end finished.now.row finished.now.display ≡ false → IsOk result }
+        ensures free { is_aborted (finish_of finished.now).last.result ≡ false → timed_at_end finished.now.row finished.now.display ≡ false → IsOk result }
     {
         let summary = StatusLine::of_description(&finished.describe).to_summary(alloc)?;
         if finished.row.is_shown_at_end(finished.display) {

@@ -12,8 +12,6 @@ ghost use Rattle.reporter_state.specs.declared.final_output.FinalOutputEntry.{Fi
 use crate::final_output::{FinalOutput, FinalOutputEntry};
 use crate::kept_test::KeptTest;
 use crate::placed_entry::PlacedEntry;
-use event_text::attempt_output::write_test_execute_status;
-use event_text::settings::Settings;
 use plain_text::write_str::{WriteFault, WriteStr};
 use run_model::memory::OutOfMemory;
 use run_model::status::StatusSummary;
@@ -21,6 +19,8 @@ use std::alloc::Global;
 use std::marker::Model;
 use test_text::status_line::{StatusLine, StatusLineKind, write_status_line};
 use test_text::test_skipped::write_skip_line;
+use text_parts::attempt_output::write_test_execute_status;
+use text_parts::settings::Settings;
 
 /// The entries that a summary lists. Contracts see them as the list in which it shows them.
 #[derive(Drop)]

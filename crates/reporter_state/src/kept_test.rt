@@ -3,12 +3,12 @@
 ghost use Rattle.std.specs.Prelude.{◌≡◌, IfOk};
 ghost use Rattle.reporter_state.specs.KeptTests.{kept_test};
 
-use event_text::instance::CountedInstance;
 use report_text::helpers::DisplayCounterIndex;
 use run_model::memory::OutOfMemory;
 use run_model::name::{OwnedTestInstanceId, TestInstanceId};
 use run_model::stress::StressIndex;
 use std::alloc::Global;
+use text_parts::instance::CountedInstance;
 
 /// A test as its lines name it, with names of its own.
 #[derive(Drop)]

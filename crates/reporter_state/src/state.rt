@@ -11,13 +11,13 @@ ghost use Rattle.reporter_state.specs.Entries.{final_order};
 use crate::effect::{EndedTest, EventEffect, greater_reason};
 use crate::final_output::FinalOutputEntry;
 use crate::kept::KeptEntries;
-use event_text::instance::CountedInstance;
-use event_text::settings::Settings;
 use run_model::level::{CancelReason, FinalStatusLevel};
 use run_model::memory::OutOfMemory;
 use run_model::run_id::ShortestRunIdPrefix;
 use std::alloc::Global;
 use test_text::test_finished::FinishedTest;
+use text_parts::instance::CountedInstance;
+use text_parts::settings::Settings;
 
 /// What a reporter knows of the calls before.
 #[derive(Drop)]

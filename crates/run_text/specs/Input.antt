@@ -6,7 +6,7 @@ use Rattle.plain_text.specs.Texts.{Text, right_in}
 use Rattle.plain_text.specs.Style.{plain, styled}
 use Rattle.plain_text.specs.declared.style.Styles.{Styles}
 use Rattle.unit_report.specs.Durations.{bracketed_clock}
-use Rattle.event_text.specs.StatsText.{failure_style, progress_message}
+use Rattle.text_parts.specs.StatsText.{failure_style, progress_message}
 
 -- how many of how many tests have finished
 unfoldable pub finished_of_initial : Styles → RunStats → Text

@@ -11,7 +11,7 @@ use Rattle.plain_text.specs.Style.{plain, styled}
 use Rattle.plain_text.specs.Texts.{Text, right_in}
 use Rattle.plain_text.specs.declared.style.ListStyles.{ListStyles}
 use Rattle.plain_text.specs.declared.style.Styles.{Styles}
-use Rattle.event_text.specs.declared.settings.Settings.{Settings}
+use Rattle.text_parts.specs.declared.settings.Settings.{Settings}
 
 -- how many tests there are
 unfoldable pub not_seen_start : Styles → NextestRunMode → ℕ → Text

@@ -2,7 +2,7 @@
 use Rattle.std.specs.Prelude.{ℕ, [], ◌++◌, codes, if◌then◌else◌}
 use Rattle.plain_text.specs.Style.{plain, styled}
 use Rattle.plain_text.specs.Texts.{Text, right_in}
-use Rattle.event_text.specs.declared.settings.Settings.{Settings}
+use Rattle.text_parts.specs.declared.settings.Settings.{Settings}
 use Rattle.run_text.specs.Running.{is_none_running, running_of, running_text}
 use Rattle.run_text.specs.declared.running.Running.{Running}
 

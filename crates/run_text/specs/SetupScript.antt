@@ -16,11 +16,11 @@ use Rattle.plain_text.specs.Style.{plain, styled}
 use Rattle.plain_text.specs.declared.style.Style.{Style}
 use Rattle.plain_text.specs.declared.style.Styles.{Styles}
 use Rattle.unit_report.specs.Durations.{bracketed_duration, slow_duration}
-use Rattle.event_text.specs.AttemptOutput.{script_output}
-use Rattle.event_text.specs.ResultWords.{short_word}
-use Rattle.event_text.specs.Script.{Script, shown_script}
-use Rattle.event_text.specs.Settings.{is_level_shown}
-use Rattle.event_text.specs.declared.settings.Settings.{Settings}
+use Rattle.text_parts.specs.AttemptOutput.{script_output}
+use Rattle.text_parts.specs.ResultWords.{short_word}
+use Rattle.text_parts.specs.Script.{Script, shown_script}
+use Rattle.text_parts.specs.Settings.{is_level_shown}
+use Rattle.text_parts.specs.declared.settings.Settings.{Settings}
 
 -- which of so many scripts it is, from 1
 unfoldable pub script_counter : ℕ → ℕ → Text

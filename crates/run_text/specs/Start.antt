@@ -9,8 +9,8 @@ use Rattle.report_words.specs.Plural.{tests_word, binaries_word}
 use Rattle.plain_text.specs.Style.{plain, styled}
 use Rattle.plain_text.specs.declared.style.Styles.{Styles}
 use Rattle.unit_report.specs.SkipCounts.{skip_counts_text}
-use Rattle.event_text.specs.Bar.{bar_line}
-use Rattle.event_text.specs.declared.settings.Settings.{Settings}
+use Rattle.text_parts.specs.Bar.{bar_line}
+use Rattle.text_parts.specs.declared.settings.Settings.{Settings}
 use Rattle.run_text.specs.RunId.{id_text}
 
 -- the profile, at the end of that line

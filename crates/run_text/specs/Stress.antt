@@ -15,8 +15,8 @@ use Rattle.plain_text.specs.Style.{plain, styled}
 use Rattle.report_words.specs.declared.durations.DurationRounding.TheVariants.{Floor, Ceiling}
 use Rattle.plain_text.specs.declared.style.Styles.{Styles}
 use Rattle.unit_report.specs.Durations.{bracketed_duration}
-use Rattle.event_text.specs.Bar.{bar_line}
-use Rattle.event_text.specs.declared.settings.Settings.{Settings}
+use Rattle.text_parts.specs.Bar.{bar_line}
+use Rattle.text_parts.specs.declared.settings.Settings.{Settings}
 use Rattle.run_text.specs.Summary.{outcome_style, run_counts_text}
 
 -- of how many iterations it is one, where that is known

@@ -22,9 +22,9 @@ use Rattle.plain_text.specs.Style.{plain, styled}
 use Rattle.plain_text.specs.declared.style.Style.{Style}
 use Rattle.plain_text.specs.declared.style.Styles.{Styles}
 use Rattle.unit_report.specs.Durations.{bracketed_duration}
-use Rattle.event_text.specs.Bar.{bar_line}
-use Rattle.event_text.specs.StatsText.{counted_text, summary_text}
-use Rattle.event_text.specs.declared.settings.Settings.{Settings}
+use Rattle.text_parts.specs.Bar.{bar_line}
+use Rattle.text_parts.specs.StatsText.{counted_text, summary_text}
+use Rattle.text_parts.specs.declared.settings.Settings.{Settings}
 
 -- the style of what a run came to
 abbrev pub outcome_style : Styles → FinalRunStats → Style

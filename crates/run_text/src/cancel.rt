@@ -5,10 +5,10 @@ ghost use Rattle.plain_text.specs.Writer.{Puts};
 ghost use Rattle.run_text.specs.Cancel.{begin_cancel_text, begin_kill_text, ends_at_once, reason_text, still_running, terminating_at_once, terminating_words};
 
 use crate::running::Running;
-use event_text::settings::Settings;
 use plain_text::style::{Styles, write_plain};
 use plain_text::write_str::{WriteFault, WriteStr};
 use run_model::level::CancelReason;
+use text_parts::settings::Settings;
 
 /// Writes that the run is about to be cancelled, why, and how many setup scripts or tests still run.
 ///

@@ -3,11 +3,11 @@
 ghost use Rattle.plain_text.specs.Writer.{Puts};
 ghost use Rattle.run_text.specs.Input.{finished_of_initial, input_enter_text};
 
-use event_text::stats_text::{failure_style, write_progress_message};
 use plain_text::style::{Styles, write_plain};
 use plain_text::write_str::{WriteFault, WriteStr};
 use run_model::stats::RunStats;
 use run_model::time::Nanos;
+use text_parts::stats_text::{failure_style, write_progress_message};
 use unit_report::formatters::DisplayBracketedHhMmSs;
 
 /// Writes how long a run has taken, how many of its tests have finished, and its counts.

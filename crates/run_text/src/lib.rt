@@ -3,7 +3,7 @@
 //! `start` says what is to run, `setup_script` what comes before the tests, `stress` which iteration of a stress run it is, and
 //! `input` how the run stands; `cancel` and `pause` that the run is to end or is stopped for a while, with what runs then by
 //! `running`; `summary` says what the run came to, and `not_seen` what it left out. The texts of tests stand in the crate
-//! `event_text`.
+//! `test_text`.
 #![tactic(auto)]
 
 pub mod cancel;

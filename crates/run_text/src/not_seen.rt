@@ -5,7 +5,6 @@ ghost use Rattle.std.specs.List.{flat_map};
 ghost use Rattle.plain_text.specs.Writer.{Puts};
 ghost use Rattle.run_text.specs.NotSeen.{more_line, more_not_seen, not_seen_line, not_seen_note, not_seen_start, not_seen_text};
 
-use event_text::settings::Settings;
 use plain_text::style::{ListStyles, Styles, write_plain};
 use plain_text::write_str::{WriteFault, WriteStr};
 use report_text::helpers::DisplayTestInstance;
@@ -13,6 +12,7 @@ use report_text::helpers::plural::tests_str;
 use run_model::config::NextestRunMode;
 use run_model::name::OwnedTestInstanceId;
 use run_model::not_seen::NotSeen;
+use text_parts::settings::Settings;
 
 /// Writes how many outstanding tests were not seen, where there are such, and those that are listed.
 pub fn write_not_seen<W: WriteStr>(

@@ -4,9 +4,9 @@ ghost use Rattle.plain_text.specs.Writer.{Puts};
 ghost use Rattle.run_text.specs.Pause.{now_running, pause_text, run_continued_text, run_paused_text};
 
 use crate::running::Running;
-use event_text::settings::Settings;
 use plain_text::style::write_plain;
 use plain_text::write_str::{WriteFault, WriteStr};
+use text_parts::settings::Settings;
 
 /// Writes that the run was stopped for a while, and how many setup scripts or tests run.
 ///

@@ -4,13 +4,9 @@ ghost use Rattle.std.specs.Prelude.{◌≡◌, ◌++◌};
 ghost use Rattle.plain_text.specs.Style.{styled};
 ghost use Rattle.plain_text.specs.Texts.{right_in};
 ghost use Rattle.plain_text.specs.Writer.{Puts};
-ghost use Rattle.event_text.specs.Script.{script_of};
+ghost use Rattle.text_parts.specs.Script.{script_of};
 ghost use Rattle.run_text.specs.SetupScript.{HasFailedScriptOutput, failed_script_output, script_counter, script_status_style, script_status_words, setup_script_finished_text, setup_script_line, setup_script_slow_text, setup_script_started_text, shown_slow_script, slow_script_level, slow_script_words};
 
-use event_text::attempt_output::write_setup_script_execute_status;
-use event_text::result_words::spaced_short_status_str;
-use event_text::script::ScriptInstance;
-use event_text::settings::Settings;
 use itoa::Buffer;
 use plain_text::numbers::write_right_joined;
 use plain_text::style::{Style, Styles, write_plain};
@@ -19,6 +15,10 @@ use run_model::level::StatusLevel;
 use run_model::output::LiveSpec;
 use run_model::status::{ExecutionResultDescription, LeakTimeoutResult, SetupScriptExecuteStatus};
 use run_model::time::Nanos;
+use text_parts::attempt_output::write_setup_script_execute_status;
+use text_parts::result_words::spaced_short_status_str;
+use text_parts::script::ScriptInstance;
+use text_parts::settings::Settings;
 use unit_report::formatters::{DisplayBracketedDuration, DisplaySlowDuration};
 
 /// Writes that a setup script has started. `index` is its place among all, from 0.

@@ -4,8 +4,6 @@ ghost use Rattle.plain_text.specs.Writer.{Puts};
 ghost use Rattle.run_text.specs.Start.{profile_text, run_id_line, test_counts_text, starting_line, run_started_text};
 
 use crate::run_id::write_run_id;
-use event_text::bar::write_bar_line;
-use event_text::settings::Settings;
 use plain_text::style::{Styles, write_plain};
 use plain_text::write_str::{WriteFault, WriteStr};
 use report_text::helpers::plural::{binaries_str, tests_str};
@@ -13,6 +11,8 @@ use run_model::config::NextestRunMode;
 use run_model::event::TestCounts;
 use run_model::name::ProfileName;
 use run_model::run_id::ShortestRunIdPrefix;
+use text_parts::bar::write_bar_line;
+use text_parts::settings::Settings;
 use unit_report::formatters::write_skip_counts;
 use uuid::Uuid;
 

@@ -10,8 +10,6 @@ ghost use Rattle.plain_text.specs.Writer.{Puts};
 ghost use Rattle.run_text.specs.Stress.{count_left_text, elapsed_text, iteration_text, of_iterations, of_time, remaining_text, stress_sub_run_finished_text, stress_sub_run_line, stress_sub_run_started_text, time_left_text};
 
 use crate::summary::{outcome_style, write_run_counts};
-use event_text::bar::write_bar_line;
-use event_text::settings::Settings;
 use plain_text::style::{Styles, write_plain};
 use plain_text::write_str::{WriteFault, WriteStr};
 use report_text::helpers::plural::iterations_str;
@@ -20,6 +18,8 @@ use run_model::stats::RunStats;
 use run_model::stress::{StressCount, StressProgress, StressRemaining};
 use run_model::time::Nanos;
 use std::num::NonZeroU32;
+use text_parts::bar::write_bar_line;
+use text_parts::settings::Settings;
 use unit_report::formatters::DisplayBracketedDuration;
 
 /// Writes that an iteration of a stress run has started, and what of the run has passed and remains.

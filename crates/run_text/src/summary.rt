@@ -4,9 +4,6 @@ ghost use Rattle.std.specs.Prelude.{◌≡◌};
 ghost use Rattle.plain_text.specs.Writer.{Puts};
 ghost use Rattle.run_text.specs.Summary.{cancel_reason_text, cancelled_due_to, failed_iterations, initial_count_text, iterations_run_text, last_number, of_total, outcome_style, run_counts_text, run_finished_text, stress_counts_text, stress_outcome_style, summary_counts, summary_line, summary_style};
 
-use event_text::bar::write_bar_line;
-use event_text::settings::Settings;
-use event_text::stats_text::{write_counted, write_summary_text};
 use plain_text::style::{Style, Styles, write_plain};
 use plain_text::write_str::{WriteFault, WriteStr};
 use report_text::helpers::plural::{iterations_str, tests_plural_if};
@@ -18,6 +15,9 @@ use run_model::stats::{
 use run_model::stress::StressIndex;
 use run_model::time::Nanos;
 use std::num::NonZeroU32;
+use text_parts::bar::write_bar_line;
+use text_parts::settings::Settings;
+use text_parts::stats_text::{write_counted, write_summary_text};
 use unit_report::formatters::DisplayBracketedDuration;
 
 /// Writes the end of a run before its entries: how long it took and its counts.

@@ -1,4 +1,4 @@
--- How a run is reported where a scene says nothing of it.
+-- How a run is reported where a scene has no line for it.
 use Rattle.std.specs.Prelude.{false, None}
 use Rattle.run_names.specs.declared.config.NextestRunMode.TheVariants.{Test}
 use Rattle.run_names.specs.declared.level.FinalStatusLevel.TheVariants.{Flaky}

@@ -1,5 +1,6 @@
 pub mod Configs
 pub mod Moments
+pub mod PackedStats
 pub mod SceneAttempts
 pub mod Scenes
 pub mod States

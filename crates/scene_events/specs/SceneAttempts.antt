@@ -15,18 +15,18 @@ use Rattle.scene_events.specs.declared.scene.attempts.SceneOutput.{SceneOutput}
 use Rattle.scene_events.specs.declared.scene.attempts.SceneOutput.TheVariants as scene
 
 -- both streams were captured, and hold nothing
-abbrev pub silence : ExecutionResultDescription → Written
-silence result = Output (Some result) (Split (Some []) (Some [])) None None
+abbrev pub empty_output : ExecutionResultDescription → Written
+empty_output result = Output (Some result) (Split (Some []) (Some [])) None None
 
 -- what an attempt that ended so wrote
 abbrev pub written : ExecutionResultDescription → SceneOutput → Written
-written result scene.Silent = silence result
-written result (scene.Told output) = output
+written result scene.Empty = empty_output result
+written result (scene.Output output) = output
 
 -- whether that is there, and was not left unread
 abbrev pub is_loaded : SceneOutput → Bool
-is_loaded scene.Silent = true
-is_loaded (scene.Told output) = has_loaded_output output
+is_loaded scene.Empty = true
+is_loaded (scene.Output output) = has_loaded_output output
 
 -- the attempts before the last one, which most tests lack
 abbrev pub earlier_in : MoreAttempts → List Attempt
@@ -36,7 +36,7 @@ earlier_in (more.Earlier earlier) = earlier.attempts.items
 
 -- what the last attempt wrote
 abbrev pub written_last : ExecutionResultDescription → MoreAttempts → Written
-written_last result more.Nothing = silence result
+written_last result more.Nothing = empty_output result
 written_last result (more.Output output) = output
 written_last result (more.Earlier earlier) = written result earlier.last_output
 

@@ -95,10 +95,10 @@ SaysSame event other = ⊥
 
 -- how long the run had taken when this happened, which a scene says only where the state of the run or of its units was
 -- asked for
-abbrev pub told_elapsed : SceneEvent → ℕ
-told_elapsed (scene.InfoStarted e) = e.elapsed.0
-told_elapsed (scene.InputEnter e) = e.elapsed.0
-told_elapsed other = 0
+abbrev pub elapsed_of : SceneEvent → ℕ
+elapsed_of (scene.InfoStarted e) = e.elapsed.0
+elapsed_of (scene.InputEnter e) = e.elapsed.0
+elapsed_of other = 0
 
 -- a reporter's header says what a scene's does
 abbrev pub SaysSameRun : SceneHeader → ReplayHeader → Type 0
@@ -108,21 +108,21 @@ SaysSameRun header replay =
 
 -- a call of a reporter that is what a scene asks for
 abbrev pub IsCallOf : SceneEvent → ReportCall → Type 0
-IsCallOf event (call.Event e) = (e.elapsed.0 ≡ told_elapsed event) × SaysSame event e.kind
+IsCallOf event (call.Event e) = (e.elapsed.0 ≡ elapsed_of event) × SaysSame event e.kind
 IsCallOf (scene.Prefix prefix) (call.Prefix p) = p ≡ prefix
 IsCallOf (scene.Header header) (call.Header h) = SaysSameRun header h
 IsCallOf event other = ⊥
 
--- a reporter may refuse a call of the event: what a unit wrote was left unread, or an attempt that succeeded is told as one that is
+-- a reporter may refuse a call of the event: what a unit wrote was left unread, or an attempt that succeeded stands as one that is
 -- tried again. A header counts among them, though none is refused
-abbrev pub needs_judging : SceneEvent → Bool
-needs_judging (scene.TestFinished e) = not (has_loaded_output e.attempts.last.output)
-needs_judging (scene.TestAttemptFailedWillRetry e) = is_success e.attempt.result || not (has_loaded_output e.attempt.output)
-needs_judging (scene.SetupScriptFinished e) = not (has_loaded_output e.attempt.output)
-needs_judging (scene.ScriptAnswered e) = not (has_loaded_output e.answer.output)
-needs_judging (scene.TestAnswered e) = not (has_loaded_output e.answer.output)
-needs_judging (scene.Header header) = true
-needs_judging other = false
+abbrev pub may_be_refused : SceneEvent → Bool
+may_be_refused (scene.TestFinished e) = not (has_loaded_output e.attempts.last.output)
+may_be_refused (scene.TestAttemptFailedWillRetry e) = is_success e.attempt.result || not (has_loaded_output e.attempt.output)
+may_be_refused (scene.SetupScriptFinished e) = not (has_loaded_output e.attempt.output)
+may_be_refused (scene.ScriptAnswered e) = not (has_loaded_output e.answer.output)
+may_be_refused (scene.TestAnswered e) = not (has_loaded_output e.answer.output)
+may_be_refused (scene.Header header) = true
+may_be_refused other = false
 
 -- the list has one call more, which is the event
 pub record AddsCallOf (event : SceneEvent) (old new : List ReportCall) : Type 0 where

@@ -10,7 +10,7 @@ use Rattle.scene_events.specs.declared.scene.states.LiveState.TheVariants as liv
 use Rattle.scene_events.specs.declared.scene.states.SceneState.{SceneState}
 use Rattle.scene_events.specs.declared.scene.states.SceneState.TheVariants as scene
 
--- how the attempt ended, where that is told
+-- how the attempt ended, where that is known
 abbrev pub result_of : SceneState → Option ExecutionResultDescription
 result_of (scene.Live state result) = result
 result_of (scene.Ended state result) = Some result

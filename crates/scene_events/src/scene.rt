@@ -1,10 +1,12 @@
-//! A run as the lines of a scene tell it, with names of its own, and the calls that its events are.
+//! A run as it was read from the lines of a scene, with names of its own, and the calls that its events are.
 
 ghost use Rattle.std.specs.Prelude.{◌≡◌};
 
 pub mod attempts;
+pub mod binary_id;
 pub mod event;
 pub mod info_events;
+pub mod packed_stats;
 pub mod replay_calls;
 pub mod run_events;
 pub mod script_events;
@@ -16,9 +18,9 @@ use event::SceneEvent;
 use run_model::config::{NextestRunMode, TestOutputDisplay};
 use run_model::level::FinalStatusLevel;
 
-/// What the lines of a scene tell: how the run is reported, and its events in order.
+/// The lines of a scene, read: how the run is reported, and its events in order.
 #[derive(Drop)]
-pub struct ToldRun {
+pub struct ParsedRun {
     /// How it is reported.
     pub config: SceneConfig,
     /// Its events.

@@ -8,7 +8,7 @@ use Rattle.std.proofs.lemmas.Slice.Eq.{bytes_eq-Decides}
 use Rattle.run_model.specs.Stats.{planned_stats}
 use Rattle.run_model.specs.declared.event.SkipCounts.{SkipCounts}
 use Rattle.run_model.specs.declared.stats.RunStats.{RunStats}
-use Rattle.scene_fields.specs.Split.{cut, parted}
+use Rattle.scene_fields.specs.Split.{cut, split_on}
 use Rattle.scene_fields.specs.Numbers.{number_in}
 use Rattle.scene_fields.specs.Values.{of_word, reason_in}
 use Rattle.scene_fields.specs.declared.counts.StatsKey.{StatsKey}
@@ -120,7 +120,7 @@ no_stats = record {
 
 -- statistics as pairs that single spaces part, each key once; what has no pair is 0, and `-` is no pair
 unfoldable pub stats_in : List ℕ → Option RunStats
-stats_in t = option_map (λ read. read.stats) (if bytes_eq t (codes "-") then Some no_stats else in_turn stats_pair no_stats (parted 32 t))
+stats_in t = option_map (λ read. read.stats) (if bytes_eq t (codes "-") then Some no_stats else in_turn stats_pair no_stats (split_on 32 t))
 
 abbrev pub skips_key_word : SkipsKey → List ℕ
 skips_key_word skips.Rerun = codes "rerun"
@@ -180,4 +180,4 @@ no_skips = record {
 
 -- the same of what a run skips
 unfoldable pub skips_in : List ℕ → Option SkipCounts
-skips_in t = option_map (λ read. read.counts) (if bytes_eq t (codes "-") then Some no_skips else in_turn skips_pair no_skips (parted 32 t))
+skips_in t = option_map (λ read. read.counts) (if bytes_eq t (codes "-") then Some no_skips else in_turn skips_pair no_skips (split_on 32 t))

@@ -1,4 +1,4 @@
--- What is said of a scene that cannot be read.
+-- The message of a scene that cannot be read.
 use Rattle.std.specs.Prelude.{ℕ, List, ◌++◌, codes, decimal}
 use Rattle.scene_fields.specs.declared.fault.LineFault.{LineFault}
 use Rattle.scene_fields.specs.declared.fault.LineFault.TheVariants as line

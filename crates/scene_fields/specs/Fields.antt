@@ -1,4 +1,4 @@
--- The fields of a line from left to right: what they say, or the first fault that is met.
+-- The fields of a line from left to right: their value, or the first fault that is met.
 use Rattle.std.specs.Prelude.{◌≡◌, ℕ, ◌+◌, ◌%◌, List, [], ◌∷◌, length, Bool, true, false, ◌==◌, ◌&&◌, nat_le, if◌then◌else◌, Option, None, Some, Result, Ok, Err, ⊤, ◌⊎◌}
 use Rattle.std.specs.Borrow.{Bor}
 use Rattle.scene_fields.specs.declared.fault.LineFault.{LineFault}
@@ -11,7 +11,7 @@ pub record Place : Type 0 where
   pub number : ℕ
   pub left : List (List ℕ)
 
--- what the fields from some place on say, and the place after them; or the first fault
+-- the value of the fields from some place on, and the place after them; or the first fault
 abbrev pub Line : Type 0 → Type 0
 Line X = Place → Result (X × Place) LineFault
 
@@ -45,11 +45,11 @@ field value_in = do
   t ← next
   valued (value_in t)
 
--- what so many fields say
+-- the value of exactly so many fields
 abbrev pub exactly : {X : Type 0} → ℕ → Line X → Line X
 exactly n line p = if length p.left == n then line p else Err WrongNumberOfFields
 
--- what eight fields say with one attempt or more, each of which has eight
+-- the value of eight fields and of one attempt or more, each of which has eight
 abbrev pub with_attempts : {X : Type 0} → Line X → Line X
 with_attempts line p = if nat_le 16 (length p.left) && (length p.left % 8 == 0) then line p else Err WrongNumberOfFields
 
@@ -70,13 +70,17 @@ IsKeptWhere takes old (Err f) = (takes ≡ false) × (f ≡ WrongNumberOfFields)
 
 -- a line has the fault, unless memory was refused
 abbrev pub Fails : {Y : Type 0} → LineError → Result Y LineFault → Type 0
-Fails error.OutOfMemory told = ⊤
-Fails (error.Fault f) told = told ≡ Err f
+Fails error.OutOfMemory read = ⊤
+Fails (error.Fault f) read = read ≡ Err f
 
--- what a function returned, and where it left the fields, is what the line says from old on, unless memory was refused
+-- what a function returned is what was to be read, as the view shows it, unless memory was refused
+abbrev pub Reads : {X Y : Type 0} → (X → Y) → Result X LineError → Result Y LineFault → Type 0
+Reads view (Ok x) read = read ≡ Ok (view x)
+Reads view (Err e) read = Fails e read
+
+-- the same of the value of the fields from old on, and of where they were left
 abbrev pub Gives : {X Y : Type 0} → (X → Y) → Place → Result X LineError → Place → Line Y → Type 0
-Gives view old (Ok x) new line = line old ≡ Ok (view x, new)
-Gives view old (Err e) new line = Fails e (line old)
+Gives view old result new line = Reads (λ x. (view x, new)) result (line old)
 
 -- the next field was read by a call that may answer so
 abbrev pub ReadsBy : {X : Type 0} → (Bor (List ℕ) → Option X → Type 0) → Place → Result X LineFault → Place → Type 0

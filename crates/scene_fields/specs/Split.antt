@@ -10,13 +10,13 @@ Lacks b [] = ⊤
 Lacks b (c ∷ t) = ((c == b) ≡ false) × Lacks b t
 
 -- the pieces between these bytes, of which there is at least one
-unfoldable pub parted : ℕ → List ℕ → List (List ℕ)
-parted b t = slice_split (λ c. c == b) t
+unfoldable pub split_on : ℕ → List ℕ → List (List ℕ)
+split_on b t = slice_split (λ c. c == b) t
 
 -- the pieces of a text, where there is one
 abbrev pub pieces_left : ℕ → Option (Bor (List ℕ)) → List (List ℕ)
 pieces_left b None = []
-pieces_left b (Some t) = parted b t.now
+pieces_left b (Some t) = split_on b t.now
 
 -- more than the pieces of a text
 abbrev pub size_left : Option (Bor (List ℕ)) → ℕ

@@ -1,4 +1,4 @@
--- What single fields of a scene say.
+-- The values of single fields of a scene.
 use Rattle.std.specs.Prelude.{ℕ, zero, suc, List, [], ◌∷◌, Bool, true, false, if◌then◌else◌, Option, None, Some, codes, bytes_eq}
 use Rattle.std.specs.Option.{option_map}
 use Rattle.std.specs.declared.num.NonZeroU32.{NonZeroU32}

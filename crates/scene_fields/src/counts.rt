@@ -5,7 +5,7 @@
 
 ghost use Rattle.std.specs.Prelude.{◌≡◌, ℕ, List, true, Option, None};
 ghost use Rattle.std.specs.Option.{option_map};
-ghost use Rattle.scene_fields.specs.Split.{parted};
+ghost use Rattle.scene_fields.specs.Split.{split_on};
 ghost use Rattle.scene_fields.specs.Numbers.{number_in};
 ghost use Rattle.scene_fields.specs.Counts.{has_space, in_turn, no_skips, no_stats, skips_in, skips_key_in, skips_no_space, skips_pair, stats_in, stats_key_in, stats_no_space, stats_pair, with_skip, with_stat};
 
@@ -32,7 +32,7 @@ trait Accumulator {
 // the word before the `=` is no key, since it has a space. Inlined, so that no call is made for a pair.
 #[inline(always)]
 fn read_pairs<R: Accumulator>(pairs: &str, read: &mut R) -> Option<()>
-    ensures { option_map (λ _. read.new) result ≡ in_turn R.pair_in read.old (parted 32 pairs.now) }
+    ensures { option_map (λ _. read.new) result ≡ in_turn R.pair_in read.old (split_on 32 pairs.now) }
 {
     let mut rest = Some(pairs);
     while let Some(left) = rest {

@@ -10,7 +10,7 @@ use std::error::Error;
 use std::fmt;
 use std::fmt::Formatter;
 
-/// What is wrong with a line of a scene. Of several faults the first of these is the one that is told.
+/// What is wrong with a line of a scene. Of several faults the first of these is printed.
 #[derive(Clone, Copy, Debug, PartialEq, Eq)]
 pub enum LineFault {
     /// Its bytes are not UTF-8.

@@ -1,7 +1,7 @@
 //! A line of a scene, taken apart from left to right.
 
 ghost use Rattle.std.specs.Prelude.{◌≡◌, ◌+◌, ◌++◌, ◌≤◌, ◌%◌, ◌^◌, ◌==◌, ◌&&◌, [], ◌∷◌, MatchOption, MatchResult, OnOk, drop, length, nat_le, Ok};
-ghost use Rattle.scene_fields.specs.Split.{parted, field_texts};
+ghost use Rattle.scene_fields.specs.Split.{split_on, field_texts};
 ghost use Rattle.scene_fields.specs.declared.fault.LineFault.{LineFault};
 ghost use Rattle.scene_fields.specs.Fields.{IsKeptWhere, Place, ReadsBy, TriesBy, answered, next, taken_text};
 
@@ -19,7 +19,7 @@ pub const LARGE: usize = 65_536;
 
 /// Splits a line into its fields, which tabs separate. They take the place of what the list held.
 pub fn split_fields<'a>(line: &'a str, fields: &mut Vec<&'a str>) -> Result<(), OutOfMemory>
-    ensures { OnOk result (field_texts fields.new.items ≡ parted 9 line.now) }
+    ensures { OnOk result (field_texts fields.new.items ≡ split_on 9 line.now) }
 {
     fields.clear();
     let bytes = line.as_bytes();

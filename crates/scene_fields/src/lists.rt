@@ -135,6 +135,8 @@ fn read_words(alloc: Global, list: Option<&str>) -> Result<Option<Vec<String>>, 
         words.push(word)?;
         rest = after;
     }
+    // Most lists have two or three words, and a scene may hold a million of them.
+    words.shrink_to_fit();
     Ok(Some(words))
 }
 

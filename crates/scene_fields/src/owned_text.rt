@@ -5,7 +5,7 @@
 
 ghost use Rattle.std.specs.Prelude.{◌≡◌, ◌<◌, ◌+◌, true, false, IfOk, MatchOption, drop, length, slice_index, take};
 ghost use Rattle.std.specs.Str.{is_utf8};
-ghost use Rattle.scene_fields.specs.Split.{parted};
+ghost use Rattle.scene_fields.specs.Split.{split_on};
 
 use bytes::BytesMut;
 use memchr::memchr;
@@ -78,7 +78,7 @@ impl OwnedText {
 
     /// Splits a line into its fields, which tabs separate. It copies nothing.
     pub fn split_fields(self, alloc: Global) -> Result<Vec<OwnedText>, OutOfMemory>
-        ensures { IfOk result (λ fields. fields.items ≡ parted 9 self) }
+        ensures { IfOk result (λ fields. fields.items ≡ split_on 9 self) }
     {
         let mut fields = Vec::new(alloc);
         let mut rest = self;

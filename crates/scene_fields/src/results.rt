@@ -1,6 +1,6 @@
 //! How an attempt ended, as a scene writes it.
 //!
-//! It is a word, as `pass`, or a word and what it tells of after a colon, as `fail:1`. A name or a message is a text, and
+//! It is a word, as `pass`, or a word and its detail after a colon, as `fail:1`. A name or a message is a text, and
 //! goes on to the end of the field.
 
 ghost use Rattle.std.specs.Prelude.{◌≡◌, IfOk};

@@ -5,7 +5,7 @@
 
 ghost use Rattle.std.specs.Prelude.{◌≡◌, ◌<◌, ◌≤◌, ◌+◌, [], ◌∷◌, ◌++◌, length, IfSome, MatchOption};
 ghost use Rattle.memchr.specs.Find.{IsFirstByte, is_byte};
-ghost use Rattle.scene_fields.specs.Split.{Lacks, cut, cut_texts, parted, pieces_left, size_left};
+ghost use Rattle.scene_fields.specs.Split.{Lacks, cut, cut_texts, split_on, pieces_left, size_left};
 
 use super::marks::find_byte;
 use memchr::memchr;
@@ -48,7 +48,7 @@ pub fn split_at_byte(text: &str, byte: u8) -> Option<(&str, &str)>
     requires { byte < 128 }
     ensures parts { MatchOption result (Lacks byte text.now) (λ x. Lacks byte x.0.now × (text.now ≡ x.0.now ++ (byte ∷ x.1.now))) }
     ensures cut { cut_texts result ≡ cut byte text.now }
-    ensures parted { MatchOption result (parted byte text.now ≡ text.now ∷ []) (λ x. parted byte text.now ≡ x.0.now ∷ parted byte x.1.now) }
+    ensures split_on { MatchOption result (split_on byte text.now ≡ text.now ∷ []) (λ x. split_on byte text.now ≡ x.0.now ∷ split_on byte x.1.now) }
     ensures shorter { IfSome result (λ x. length x.1.now + 1 ≤ length text.now) }
 {
     let Some(at) = first_place(byte, text.as_bytes()) else {
@@ -61,7 +61,7 @@ pub fn split_at_byte(text: &str, byte: u8) -> Option<(&str, &str)>
 #[inline(always)]
 pub(crate) fn first_piece(text: &str, byte: u8) -> (&str, Option<&str>)
     requires { byte < 128 }
-    ensures pieces { parted byte text.now ≡ result.0.now ∷ pieces_left byte result.1 }
+    ensures pieces { split_on byte text.now ≡ result.0.now ∷ pieces_left byte result.1 }
     ensures shorter { size_left result.1 ≤ length text.now }
 {
     match split_at_byte(text, byte) {
@@ -72,7 +72,7 @@ pub(crate) fn first_piece(text: &str, byte: u8) -> (&str, Option<&str>)
 
 /// The first line of a text, and the lines that follow it, where some do.
 pub fn first_line(text: &[u8]) -> (&[u8], Option<&[u8]>)
-    ensures lines { parted 10 text.now ≡ result.0.now ∷ pieces_left 10 result.1 }
+    ensures lines { split_on 10 text.now ≡ result.0.now ∷ pieces_left 10 result.1 }
     ensures shorter { size_left result.1 ≤ length text.now }
 {
     match memchr(b'\n', text) {

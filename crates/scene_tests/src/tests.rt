@@ -2,10 +2,10 @@
 
 use self::pieces::push_often;
 use run_model::level::StatusLevel;
+use scenes::args::{Options, StoreOptions, words};
 use scenes::fault::{Fault, FaultLine, LineFault, Program, ReadFault};
 use scenes::follow::{RunOutcome, follow_scene};
-use scenes::program::{judge, report_scene, write_report};
-use scenes::words::{Options, StoreOptions, words};
+use scenes::report::{judge, report_scene, write_report};
 use std::alloc::{AllocError, Global};
 use std::io::{ErrorKind, Read, Write};
 use std::test::Fail;
@@ -122,7 +122,7 @@ fn report_and_store<R: Read + Drop, W: Write, S: Write>(
 
 // What reporting a scene and its records to these devices answers, once it is read and judged: the scene is not dropped, since what
 // drops one is proved in each crate that does.
-fn report_judged_to(
+fn report_accepted_to(
     alloc: Global,
     text: &str,
     device: &mut Device,
@@ -142,11 +142,11 @@ fn writes_the_report_and_stops_where_the_device_fails(rt: HostRuntime) -> Result
         Device::with_room(alloc, 600)?,
         Device::with_room(alloc, 600)?,
     );
-    assert!(rt; report_judged_to(alloc, TWO_TESTS, &mut roomy, &mut store).is_ok());
+    assert!(rt; report_accepted_to(alloc, TWO_TESTS, &mut roomy, &mut store).is_ok());
     assert!(rt; roomy.taken() == OF_TWO_TESTS.as_bytes());
     assert!(rt; store.taken() == STORED_OF_TWO_TESTS.as_bytes());
     let (mut device, mut unstored) = (Device::with_room(alloc, 10)?, Device::with_room(alloc, 10)?);
-    let Err(fault) = report_judged_to(alloc, TWO_TESTS, &mut device, &mut unstored) else {
+    let Err(fault) = report_accepted_to(alloc, TWO_TESTS, &mut device, &mut unstored) else {
         return Err(Fail::from("the device failed"));
     };
     assert_eq!(rt; fault.to_string(alloc)?.as_str(), "write failed");

@@ -1,5 +1,5 @@
 pub mod Attempts
 pub mod Days
 pub mod FirstFaults
-pub mod Silence
+pub mod EmptyOutputs
 pub mod Tellings

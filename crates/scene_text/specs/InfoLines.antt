@@ -1,4 +1,4 @@
--- What the fields of the lines say that tell what the units of a run are doing.
+-- The fields of the lines on what the units of a run are doing.
 use Rattle.scene_fields.specs.Counts.{stats_in}
 use Rattle.scene_fields.specs.Fields.{◌>>=◌, Line, says, field}
 use Rattle.scene_fields.specs.Numbers.{nanos_in, number_in}
@@ -10,15 +10,16 @@ use Rattle.scene_text.specs.TestLines.{retry_fields, test_fields}
 use Rattle.scene_fields.specs.Values.{stress_in}
 use Rattle.scene_events.specs.declared.scene.event.SceneEvent.{SceneEvent}
 use Rattle.scene_events.specs.declared.scene.event.SceneEvent.TheVariants as event
+use Rattle.scene_events.specs.declared.scene.info_events.InfoStart.{InfoStart}
 use Rattle.scene_events.specs.declared.scene.info_events.UnitAnswer.{UnitAnswer}
 
 -- `info`: how long the run has taken, how many units were asked, and statistics
-unfoldable pub info_line_fields : Line SceneEvent
+unfoldable pub info_line_fields : Line InfoStart
 info_line_fields = do
   elapsed ← field nanos_in
   total ← field (number_in 64)
   stats ← field stats_in
-  says (event.InfoStarted (record { elapsed = elapsed; total = total; run_stats = stats }))
+  says (record { elapsed = elapsed; total = total; run_stats = stats })
 
 -- `infoend`: how many units have not answered
 unfoldable pub info_end_line_fields : Line SceneEvent
@@ -29,8 +30,8 @@ info_end_line_fields = do
 -- what a unit is doing, how the attempt ended, and what it has written
 unfoldable pub answer_fields : Line UnitAnswer
 answer_fields = do
-  told ← field state_parts_in
-  state ← field (state_in told)
+  parts ← field state_parts_in
+  state ← field (state_in parts)
   output ← output_fields (result_of state)
   says (record { state = state; output = output })
 

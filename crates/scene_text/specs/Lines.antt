@@ -1,4 +1,4 @@
--- The kinds of line that a scene has: the word that each begins with, how many fields follow it, and what they say.
+-- The kinds of line that a scene has: the word that each begins with, how many fields follow it, and their value.
 use Rattle.std.specs.Prelude.{ℕ, List, [], ◌∷◌, bytes_eq, codes, if◌then◌else◌, Some, Err}
 use Rattle.scene_fields.specs.Fields.{◌>>=◌, Line, exactly, field, says, with_attempts}
 use Rattle.scene_text.specs.InfoLines.{answer_script_line_fields, answer_test_line_fields, info_end_line_fields, info_line_fields}
@@ -16,13 +16,13 @@ use Rattle.scene_events.specs.declared.scene.SceneConfig.{SceneConfig}
 use Rattle.scene_events.specs.declared.scene.event.SceneEvent.{SceneEvent}
 use Rattle.scene_events.specs.declared.scene.event.SceneEvent.TheVariants as event
 
--- the event that is made of what fields say
+-- the event that is made of the value of fields
 abbrev pub made : {X : Type 0} → (X → SceneEvent) → Line X → Line SceneEvent
 made make line = do
   x ← line
   says (make x)
 
--- each kind of line that tells an event of a test: its word, and what follows it
+-- each kind of line that is an event of a test: its word, and what follows it
 abbrev pub test_event_rows : List (List ℕ × Line SceneEvent)
 test_event_rows =
     (codes "done", with_attempts done_line_fields)
@@ -33,41 +33,49 @@ test_event_rows =
     ∷ (codes "skip", exactly 3 skip_line_fields)
     ∷ []
 
--- each kind of line that tells another event
+-- each kind of line that is an event of the run as it goes on
+abbrev pub run_event_rows : List (List ℕ × Line SceneEvent)
+run_event_rows =
+    (codes "substart", exactly 1 (made event.StressSubRunStarted sub_start_line_fields))
+    ∷ (codes "cancel", exactly 3 (made event.RunBeginCancel cancel_line_fields))
+    ∷ (codes "kill", exactly 3 (made event.RunBeginKill cancel_line_fields))
+    ∷ (codes "pause", exactly 2 (made event.RunPaused pause_line_fields))
+    ∷ (codes "continue", exactly 2 (made event.RunContinued pause_line_fields))
+    ∷ (codes "info", exactly 3 (made event.InfoStarted info_line_fields))
+    ∷ (codes "infoend", exactly 1 info_end_line_fields)
+    ∷ (codes "input", exactly 3 (made event.InputEnter input_line_fields))
+    ∷ (codes "subend", exactly 3 (made event.StressSubRunFinished sub_end_line_fields))
+    ∷ []
+
+-- each kind of line that is another event
 abbrev pub other_event_rows : List (List ℕ × Line SceneEvent)
 other_event_rows =
     (codes "prefix", exactly 2 prefix_line_fields)
     ∷ (codes "header", exactly 5 header_line_fields)
     ∷ (codes "run", exactly 5 run_line_fields)
-    ∷ (codes "substart", exactly 1 sub_start_line_fields)
     ∷ (codes "setup", exactly 6 setup_line_fields)
     ∷ (codes "setupslow", exactly 6 setup_slow_line_fields)
     ∷ (codes "setupdone", exactly 12 setup_done_line_fields)
-    ∷ (codes "cancel", exactly 3 (made event.RunBeginCancel cancel_line_fields))
-    ∷ (codes "kill", exactly 3 (made event.RunBeginKill cancel_line_fields))
-    ∷ (codes "pause", exactly 2 (made event.RunPaused pause_line_fields))
-    ∷ (codes "continue", exactly 2 (made event.RunContinued pause_line_fields))
-    ∷ (codes "info", exactly 3 info_line_fields)
     ∷ (codes "answer-script", exactly 13 answer_script_line_fields)
     ∷ (codes "answer-test", exactly 14 answer_test_line_fields)
-    ∷ (codes "infoend", exactly 1 info_end_line_fields)
-    ∷ (codes "input", exactly 3 input_line_fields)
-    ∷ (codes "subend", exactly 3 sub_end_line_fields)
     ∷ (codes "end", exactly 4 end_line_fields)
     ∷ (codes "endstress", exactly 7 end_stress_line_fields)
     ∷ []
 
--- what the fields behind a word say by the first of these rows that has it, or where none has it
-abbrev pub row_said : List (List ℕ × Line SceneEvent) → Line SceneEvent → List ℕ → Line SceneEvent
-row_said [] otherwise word fields = otherwise fields
-row_said (row ∷ rows) otherwise word fields = if bytes_eq word row.0 then row.1 fields else row_said rows otherwise word fields
+-- the value of the fields behind a word, by the first of these rows that has it, or where none has it
+abbrev pub parsed_by_row : List (List ℕ × Line SceneEvent) → Line SceneEvent → List ℕ → Line SceneEvent
+parsed_by_row [] otherwise word fields = otherwise fields
+parsed_by_row (row ∷ rows) otherwise word fields = if bytes_eq word row.0 then row.1 fields else parsed_by_row rows otherwise word fields
+
+unfoldable pub run_event_line_fields : List ℕ → Line SceneEvent
+run_event_line_fields word = parsed_by_row run_event_rows (λ _. Err UnknownEvent) word
 
 unfoldable pub other_event_line_fields : List ℕ → Line SceneEvent
-other_event_line_fields word = row_said other_event_rows (λ _. Err UnknownEvent) word
+other_event_line_fields word = parsed_by_row other_event_rows (run_event_line_fields word) word
 
--- the event that the fields behind a word tell
+-- the event of the fields behind a word
 unfoldable pub event_line_fields : List ℕ → Line SceneEvent
-event_line_fields word = row_said test_event_rows (other_event_line_fields word) word
+event_line_fields word = parsed_by_row test_event_rows (other_event_line_fields word) word
 
 -- `config`: a key and its value
 abbrev pub set_field : SceneConfig → ConfigKey → Line SceneConfig

@@ -12,7 +12,7 @@ use Rattle.scene_fields.specs.Split.{cut}
 use Rattle.scene_fields.specs.Fields.{◌>>=◌, Line, Place, says, field}
 use Rattle.scene_fields.specs.Lists.{chain_in, errors_in}
 use Rattle.scene_fields.specs.Numbers.{number_in}
-use Rattle.scene_events.specs.SceneAttempts.{silence}
+use Rattle.scene_events.specs.SceneAttempts.{empty_output}
 use Rattle.run_model.specs.Attempts.{Written}
 use Rattle.scene_fields.specs.Texts.{bytes_in}
 use Rattle.scene_fields.specs.Values.{of_word, absent_in}
@@ -91,10 +91,10 @@ output_fields result = do
   formed result form
 
 -- both streams were captured and hold nothing, and there is nothing else
-abbrev pub silent_fields : List (List ℕ)
-silent_fields = codes "split" ∷ [] ∷ [] ∷ codes "-" ∷ codes "-" ∷ []
+abbrev pub empty_output_fields : List (List ℕ)
+empty_output_fields = codes "split" ∷ [] ∷ [] ∷ codes "-" ∷ codes "-" ∷ []
 
 -- the fields of such an output were taken, whatever the result; or none was
-abbrev pub TakesSilence : Bool → Place → Place → Type 0
-TakesSilence true old new = (result : ExecutionResultDescription) → output_fields (Some result) old ≡ Ok (silence result, new)
-TakesSilence false old new = new ≡ old
+abbrev pub TakesEmptyOutput : Bool → Place → Place → Type 0
+TakesEmptyOutput true old new = (result : ExecutionResultDescription) → output_fields (Some result) old ≡ Ok (empty_output result, new)
+TakesEmptyOutput false old new = new ≡ old

@@ -1,4 +1,4 @@
--- What the fields of the lines of a replay say, which are calls of a reporter and no events.
+-- The fields of the lines of a replay, which are calls of a reporter and no events.
 use Rattle.std.specs.Prelude.{ℕ, List, if◌then◌else◌, Option, None, Some, codes, bytes_eq}
 use Rattle.std.specs.Option.{option_map}
 use Rattle.uuid.specs.Text.{parsed}

@@ -1,4 +1,4 @@
--- What the fields of the lines of a run say.
+-- The fields of the lines of a run.
 use Rattle.std.specs.Prelude.{ℕ, List, length, ◌==◌, ◌&&◌, if◌then◌else◌, Option, None, Some}
 use Rattle.uuid.specs.Text.{parsed}
 use Rattle.run_names.specs.declared.name.OwnedTestInstanceId.{OwnedTestInstanceId}
@@ -14,6 +14,7 @@ use Rattle.scene_events.specs.declared.scene.event.SceneEvent.{SceneEvent}
 use Rattle.scene_events.specs.declared.scene.event.SceneEvent.TheVariants as event
 use Rattle.scene_events.specs.declared.scene.run_events.RunCancel.{RunCancel}
 use Rattle.scene_events.specs.declared.scene.run_events.RunPause.{RunPause}
+use Rattle.scene_events.specs.declared.scene.run_events.StateRequest.{StateRequest}
 
 -- `run`: run id, profile, how many tests and binaries, and what is skipped
 unfoldable pub run_line_fields : Line SceneEvent
@@ -41,12 +42,12 @@ pause_line_fields = do
   says (record { setup_scripts_running = scripts; running = tests })
 
 -- `input`: how long the run has taken, statistics, and how many units run
-unfoldable pub input_line_fields : Line SceneEvent
+unfoldable pub input_line_fields : Line StateRequest
 input_line_fields = do
   elapsed ← field nanos_in
   stats ← field stats_in
   running ← field (number_in 64)
-  says (event.InputEnter (record { elapsed = elapsed; current_stats = stats; running = running }))
+  says (record { elapsed = elapsed; current_stats = stats; running = running })
 
 -- tests that were not seen, where there are some or some are listed
 abbrev pub outstanding : ℕ → List OwnedTestInstanceId → Option NotSeen

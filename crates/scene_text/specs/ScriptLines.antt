@@ -1,4 +1,4 @@
--- What the fields of the lines of setup scripts say.
+-- The fields of the lines of setup scripts.
 use Rattle.scene_fields.specs.Fields.{◌>>=◌, Line, says, field}
 use Rattle.scene_fields.specs.Lists.{words_of}
 use Rattle.scene_fields.specs.Numbers.{nanos_in, number_in}

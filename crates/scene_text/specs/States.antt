@@ -143,4 +143,4 @@ state_with (parts.Ended state) (Some result) = Some (scene.Ended state result)
 
 -- the state that the parts make with the result of the field after them
 unfoldable pub state_in : StateParts → List ℕ → Option SceneState
-state_in told t = option_and_then (state_with told) (result_or_none_in t)
+state_in parts t = option_and_then (state_with parts) (result_or_none_in t)

@@ -1,4 +1,4 @@
--- What the fields of the lines of stress runs say.
+-- The fields of the lines of stress runs.
 use Rattle.std.specs.Prelude.{ℕ, List, if◌then◌else◌, Option, None, Some, codes, bytes_eq}
 use Rattle.std.specs.Option.{option_map}
 use Rattle.run_model.specs.Stats.{final_stats_of}
@@ -17,6 +17,8 @@ use Rattle.scene_fields.specs.Split.{cut}
 use Rattle.scene_fields.specs.Values.{stress_in, total_in}
 use Rattle.scene_events.specs.declared.scene.event.SceneEvent.{SceneEvent}
 use Rattle.scene_events.specs.declared.scene.event.SceneEvent.TheVariants as event
+use Rattle.scene_events.specs.declared.scene.stress_events.SubRunFinish.{SubRunFinish}
+use Rattle.scene_events.specs.declared.scene.stress_events.SubRunStart.{SubRunStart}
 
 -- `inf`, or how many iterations there are to be, which is not 0
 abbrev pub stress_count_in : List ℕ → Option StressCount
@@ -60,18 +62,18 @@ abbrev pub completed_in : List ℕ → Option StressIndex
 completed_in t = there (stress_in t)
 
 -- `substart`: how far the stress run has come
-unfoldable pub sub_start_line_fields : Line SceneEvent
+unfoldable pub sub_start_line_fields : Line SubRunStart
 sub_start_line_fields = do
   progress ← field progress_in
-  says (event.StressSubRunStarted (record { progress = progress }))
+  says (record { progress = progress })
 
 -- `subend`: how far the stress run has come, how long the iteration took, and its statistics
-unfoldable pub sub_end_line_fields : Line SceneEvent
+unfoldable pub sub_end_line_fields : Line SubRunFinish
 sub_end_line_fields = do
   progress ← field progress_in
   elapsed ← field nanos_in
   stats ← field stats_in
-  says (event.StressSubRunFinished (record { progress = progress; sub_elapsed = elapsed; sub_stats = stats }))
+  says (record { progress = progress; sub_elapsed = elapsed; sub_stats = stats })
 
 -- `endstress`: how long the run took, how many iterations have finished, succeeded and failed, the statistics of the
 -- last one, and the tests that were not seen

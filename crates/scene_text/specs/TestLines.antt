@@ -1,4 +1,4 @@
--- What the fields of the lines of tests say.
+-- The fields of the lines of tests.
 use Rattle.std.specs.Prelude.{ℕ, Bool, zero, suc, ◌/◌, ◌^◌, [], ◌∷◌, length, if◌then◌else◌, nat_lt, Some, Err}
 use Rattle.run_model.specs.Attempts.{Attempt, Attempts}
 use Rattle.run_model.specs.declared.output.ChildOutputDescription.{ChildOutputDescription}
@@ -36,8 +36,8 @@ retry_fields = do
   says (record { attempt = attempt; total_attempts = total })
 
 -- an attempt that ended so, with the output that follows
-abbrev pub told_attempt : RetryData → ExecutionResultDescription → Nanos → Bool → Line Attempt
-told_attempt retry_data result time_taken is_slow = do
+abbrev pub parsed_attempt : RetryData → ExecutionResultDescription → Nanos → Bool → Line Attempt
+parsed_attempt retry_data result time_taken is_slow = do
   output ← output_fields (Some result)
   says (record { retry_data = retry_data; output = output; result = result; time_taken = time_taken; is_slow = is_slow })
 
@@ -47,7 +47,7 @@ attempt_fields retry_data = do
   result ← field result_in
   time_taken ← field nanos_in
   is_slow ← field flag_in
-  told_attempt retry_data result time_taken is_slow
+  parsed_attempt retry_data result time_taken is_slow
 
 -- the attempt of this number, of so many that there can be
 abbrev pub retry_numbered : ℕ → ℕ → RetryData

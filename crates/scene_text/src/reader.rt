@@ -1,15 +1,17 @@
 //! The reader of scenes.
 //!
-//! A scene is lines of fields that are parted by tabs. The first field names an event, and what follows it is read by
+//! A scene is lines of fields separated by tabs. The first field names an event, and what follows it is read by
 //! the kind of the event. Each module knows one thing: `lines` which kinds there are, `test_lines`, `script_lines`,
 //! `stress_lines`, `run_lines`, `info_lines` and `replay_lines` what fields the events of tests, of setup scripts, of stress
 //! runs, of the run and of its units' answers have, and the calls of a replay, `moments` when it was, `states` what a unit is
 //! doing, and `outputs` what it wrote.
 
 ghost use Rattle.std.specs.Prelude.{◌≡◌, ◌++◌, [], false, IfErr, OnErr, OnOk, Ok};
-ghost use Rattle.scene_fields.specs.Split.{parted};
-ghost use Rattle.scene_text.specs.SceneTexts.{IsSameRun, IsTold, LeavesLines, ReadsLines, fault_at, is_begun, is_begun_behind, is_passed_over, line_here, line_told_behind, nothing_told, told, words_told_behind};
+ghost use Rattle.scene_fields.specs.Fields.{Reads};
+ghost use Rattle.scene_fields.specs.Split.{split_on};
+ghost use Rattle.scene_text.specs.SceneTexts.{IsSameRun, LeavesLines, ReadsLines, fault_at, is_begun, is_begun_behind, is_passed_over, line_here, line_read_behind, no_lines, parsed_lines, words_read_behind};
 
+mod binary_ids;
 mod info_lines;
 mod lines;
 mod moments;
@@ -21,10 +23,11 @@ mod states;
 mod stress_lines;
 mod test_lines;
 
+use binary_ids::BinaryIds;
 use lines::{read_config, read_event};
 use memchr::memchr;
 use scene_events::scene::event::SceneEvent;
-use scene_events::scene::{SceneConfig, ToldRun};
+use scene_events::scene::{ParsedRun, SceneConfig};
 use scene_fields::fault::{LineError, LineFault, ReadFault};
 pub use scene_fields::fields::LARGE;
 use scene_fields::fields::{Fields, split_fields};
@@ -33,7 +36,7 @@ pub use scene_fields::split;
 use scene_fields::split::first_line;
 use std::alloc::Global;
 
-/// What the lines of a scene tell that were read so far. A scene that comes in pieces is read with no more than one of them in memory.
+/// The lines of a scene that were read so far. A scene that comes in pieces is read with no more than one of them in memory.
 ///
 /// ```
 /// let mut read = LinesRead::new(alloc);
@@ -43,30 +46,33 @@ use std::alloc::Global;
 /// ```
 #[derive(Drop)]
 pub struct LinesRead {
-    /// What they tell, but for the events that were forgotten.
-    pub run: ToldRun,
+    /// Their values, but for the events that were forgotten.
+    pub run: ParsedRun,
     /// Whether an event was forgotten. Behind an event no line configures the run.
     pub is_begun: bool,
     /// The number of the line that follows.
     pub next: u64,
+    // The binaries of their tests.
+    binaries: BinaryIds,
 }
 
 impl LinesRead {
     /// No line.
     pub fn new(alloc: Global) -> LinesRead
-        ensures told { told result.run ≡ nothing_told }
+        ensures told { parsed_lines result.run ≡ no_lines }
         ensures lines { result.run.lines.items ≡ [] }
         ensures begun { result.is_begun ≡ false }
         ensures next { result.next ≡ 1 }
     {
         LinesRead {
-            run: ToldRun {
+            run: ParsedRun {
                 config: SceneConfig::new(),
                 events: Vec::new(alloc),
                 lines: Vec::new(alloc),
             },
             is_begun: false,
             next: 1,
+            binaries: BinaryIds::new(alloc),
         }
     }
 
@@ -86,8 +92,8 @@ impl LinesRead {
     /// Reads the lines of a text that follow these. A text that ends in a line feed ends in an empty line: what follows it is another
     /// line. The error is that of the first line that is wrong; the lines before it are read then, and `next` is its number.
     pub fn read_more(&mut self, alloc: Global, text: &[u8]) -> Result<(), ReadFault>
-        ensures read { OnOk result (ReadsLines self.old self.new (parted 10 text.now)) }
-        ensures left { IfErr result (LeavesLines self.old self.new (parted 10 text.now)) }
+        ensures read { OnOk result (ReadsLines self.old self.new (split_on 10 text.now)) }
+        ensures left { IfErr result (LeavesLines self.old self.new (split_on 10 text.now)) }
     {
         let mut fields = Vec::new(alloc);
         let mut rest = Some(text);
@@ -103,6 +109,7 @@ impl LinesRead {
                 line,
                 &mut fields,
                 self.is_begun,
+                &mut self.binaries,
                 &mut self.run,
             ) {
                 Ok(()) => rest = after,
@@ -123,14 +130,21 @@ impl LinesRead {
     /// assert_eq!(read.run.config.final_status_level, FinalStatusLevel::All);
     /// ```
     pub fn read_owned(&mut self, alloc: Global, text: Vec<u8>) -> Result<(), ReadFault>
-        ensures read { OnOk result (ReadsLines self.old self.new (parted 10 text.items)) }
-        ensures left { IfErr result (LeavesLines self.old self.new (parted 10 text.items)) }
+        ensures read { OnOk result (ReadsLines self.old self.new (split_on 10 text.items)) }
+        ensures left { IfErr result (LeavesLines self.old self.new (split_on 10 text.items)) }
     {
         if memchr(b'\n', text.as_slice()).is_some() || self.next == u64::MAX {
             return self.read_more(alloc, text.as_slice());
         }
         let number = self.next;
-        match read_owned_line(alloc, number, text, self.is_begun, &mut self.run) {
+        match read_owned_line(
+            alloc,
+            number,
+            text,
+            self.is_begun,
+            &mut self.binaries,
+            &mut self.run,
+        ) {
             Ok(()) => {
                 self.next = number + 1;
                 Ok(())
@@ -140,19 +154,20 @@ impl LinesRead {
     }
 }
 
-// Reads the line of this number into the run, and notes the number where the line tells an event. The list is for its fields.
+// Reads the line of this number into the run, and notes the number where the line is an event. The list is for its fields.
 #[inline(always)]
-#[tactic(auto, unfolding(crate::specs::SceneTexts::line_said, crate::specs::SceneTexts::line_told_behind), using(scene_fields::proofs::lemmas::Utf8::utf8_passes, scene_fields::proofs::lemmas::Utf8::utf8_fails))]
+#[tactic(auto, unfolding(crate::specs::SceneTexts::parsed_line, crate::specs::SceneTexts::line_read_behind), using(scene_fields::proofs::lemmas::Utf8::utf8_passes, scene_fields::proofs::lemmas::Utf8::utf8_fails))]
 fn read_line<'a>(
     alloc: Global,
     number: u64,
     line: &'a [u8],
     fields: &mut Vec<&'a str>,
     is_begun: bool,
-    run: &mut ToldRun,
+    binaries: &mut BinaryIds,
+    run: &mut ParsedRun,
 ) -> Result<(), LineError>
-    ensures told { IsTold result (told run.new) (line_told_behind is_begun (told run.old) line.now) }
-    ensures lines { OnOk result (run.new.lines.items ≡ run.old.lines.items ++ line_here number (told run.old) (told run.new)) }
+    ensures told { Reads (λ _. parsed_lines run.new) result (line_read_behind is_begun (parsed_lines run.old) line.now) }
+    ensures lines { OnOk result (run.new.lines.items ≡ run.old.lines.items ++ line_here number (parsed_lines run.old) (parsed_lines run.new)) }
     ensures unread { OnErr result (IsSameRun run.old run.new) }
 {
     if is_passed_over(line) {
@@ -162,20 +177,28 @@ fn read_line<'a>(
         return Err(LineError::Fault(LineFault::NotUtf8));
     };
     split_fields(line, fields)?;
-    read_fields(alloc, number, Fields::new(fields.as_slice()), is_begun, run)
+    read_fields(
+        alloc,
+        number,
+        Fields::new(fields.as_slice()),
+        is_begun,
+        binaries,
+        run,
+    )
 }
 
 // Reads the line of this number, which has its own memory, as `read_line` does.
-#[tactic(auto, unfolding(crate::specs::SceneTexts::line_said, crate::specs::SceneTexts::line_told_behind))]
+#[tactic(auto, unfolding(crate::specs::SceneTexts::parsed_line, crate::specs::SceneTexts::line_read_behind))]
 fn read_owned_line(
     alloc: Global,
     number: u64,
     line: Vec<u8>,
     is_begun: bool,
-    run: &mut ToldRun,
+    binaries: &mut BinaryIds,
+    run: &mut ParsedRun,
 ) -> Result<(), LineError>
-    ensures told { IsTold result (told run.new) (line_told_behind is_begun (told run.old) line.items) }
-    ensures lines { OnOk result (run.new.lines.items ≡ run.old.lines.items ++ line_here number (told run.old) (told run.new)) }
+    ensures told { Reads (λ _. parsed_lines run.new) result (line_read_behind is_begun (parsed_lines run.old) line.items) }
+    ensures lines { OnOk result (run.new.lines.items ≡ run.old.lines.items ++ line_here number (parsed_lines run.old) (parsed_lines run.new)) }
     ensures unread { OnErr result (IsSameRun run.old run.new) }
 {
     if is_passed_over(line.as_slice()) {
@@ -186,11 +209,10 @@ fn read_owned_line(
     };
     let mut fields = line.split_fields(alloc)?;
     let fields = Fields::of_large_line(fields.as_mut_slice());
-    read_fields(alloc, number, fields, is_begun, run)
+    read_fields(alloc, number, fields, is_begun, binaries, run)
 }
 
-// Reads the fields of a line into the run. An event is large, and goes from its reader straight to the list. What is wrong leaves the run as
-// it was: an event whose line cannot be noted goes again.
+// Reads the fields of a line into the run. What is wrong leaves the run as it was: an event whose line cannot be noted goes again.
 #[inline(always)]
 #[tactic(auto, using(std::proofs::lemmas::Bool::Decides::nat_tests))]
 fn read_fields(
@@ -198,11 +220,12 @@ fn read_fields(
     number: u64,
     fields: Fields<'_>,
     is_begun: bool,
-    run: &mut ToldRun,
+    binaries: &mut BinaryIds,
+    run: &mut ParsedRun,
 ) -> Result<(), LineError>
     requires { fields.number ≡ 0 }
-    ensures told { IsTold result (told run.new) (words_told_behind is_begun (told run.old) fields.entry.left) }
-    ensures lines { OnOk result (run.new.lines.items ≡ run.old.lines.items ++ line_here number (told run.old) (told run.new)) }
+    ensures told { Reads (λ _. parsed_lines run.new) result (words_read_behind is_begun (parsed_lines run.old) fields.entry.left) }
+    ensures lines { OnOk result (run.new.lines.items ≡ run.old.lines.items ++ line_here number (parsed_lines run.old) (parsed_lines run.new)) }
     ensures unread { OnErr result (IsSameRun run.old run.new) }
 {
     let mut fields = fields;
@@ -216,7 +239,7 @@ fn read_fields(
         }
         word => {
             let count = run.events.len();
-            run.events.push(read_event(alloc, word, fields)?)?;
+            run.events.push(read_event(alloc, binaries, word, fields)?)?;
             if run.lines.push(number).is_err() {
                 run.events.truncate(count);
                 return Err(LineError::OutOfMemory);

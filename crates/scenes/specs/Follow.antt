@@ -4,7 +4,7 @@ use Rattle.std.specs.Option.{option_map}
 use Rattle.plain_text.specs.Writer.{Meaning}
 use Rattle.run_model.specs.declared.call.ReportCall.{ReportCall}
 use Rattle.reporter_state.specs.Refusals.{refusal_by}
-use Rattle.scene_text.specs.SceneTexts.{SaysEvent, Told, is_begun, line_said, lines_before, text_told}
+use Rattle.scene_text.specs.SceneTexts.{EventLine, ParsedLines, is_begun, parsed_line, lines_before}
 use Rattle.scene_text.specs.declared.reader.LinesRead.{LinesRead}
 use Rattle.scene_events.specs.Scenes.{IsCallOf}
 use Rattle.scene_events.specs.declared.scene.event.SceneEvent.{SceneEvent}
@@ -13,34 +13,34 @@ use Rattle.scenes.specs.Outcomes.{run_outcome}
 use Rattle.scenes.specs.Read.{AtLine, HasRead}
 use Rattle.scenes.specs.Reports.{fault_at_call}
 use Rattle.scenes.specs.SceneReporter.{Follows}
-use Rattle.scenes.specs.SpelledRuns.{PrintsTold}
+use Rattle.scenes.specs.SpelledRuns.{PrintsParsed}
 use Rattle.scenes.specs.Unloads.{decider_for}
 use Rattle.command_line.specs.declared.fault.Fault.{Fault}
 use Rattle.command_line.specs.declared.fault.Fault.TheVariants as fault
-use Rattle.command_line.specs.declared.words.Options.{Options}
+use Rattle.command_line.specs.declared.args.Options.{Options}
 use Rattle.scenes.specs.declared.outcome.RunOutcome.{RunOutcome}
 use Rattle.scenes.specs.declared.scene_reporter.SceneReporter.{SceneReporter}
 
--- a line behind these says an event whose call is refused, and this is why
-pub record IsRefusedEvent (options : Options) (run : Told) (t : List ℕ) (f : LineFault) : Type 0 where
+-- a line behind these is an event whose call is refused, and this is why
+pub record IsRefusedEvent (options : Options) (run : ParsedLines) (t : List ℕ) (f : LineFault) : Type 0 where
   pub event : SceneEvent
-  pub says : line_said (lines_before run) t ≡ Ok (SaysEvent event)
+  pub says : parsed_line (lines_before run) t ≡ Ok (EventLine event)
   pub call : ReportCall
   pub of_event : IsCallOf event call
   pub refused : (n : ℕ) → option_map (fault_at_call n) (refusal_by (decider_for options run.config) call) ≡ Some (fault.Line n f)
 
 -- the line of this number has this fault behind those before it, of which P holds
-pub record StopsAtLine (options : Options) (text : List ℕ) (P : Told → Type 0) (number : ℕ) (f : LineFault) : Type 0 where
-  pub run : Told
+pub record StopsAtLine (options : Options) (text : List ℕ) (P : ParsedLines → Type 0) (number : ℕ) (f : LineFault) : Type 0 where
+  pub run : ParsedLines
   pub t : List ℕ
   pub more : List (List ℕ)
   pub at : AtLine text run (t ∷ more) number
-  pub wrong : (line_said (lines_before run) t ≡ Err f) ⊎ IsRefusedEvent options run t f
+  pub wrong : (parsed_line (lines_before run) t ≡ Err f) ⊎ IsRefusedEvent options run t f
   pub holds : P run
 
--- P holds of what some first lines of a text tell
-pub record StopsBehind (text : List ℕ) (P : Told → Type 0) : Type 0 where
-  pub run : Told
+-- P holds of some first lines of a text
+pub record StopsBehind (text : List ℕ) (P : ParsedLines → Type 0) : Type 0 where
+  pub run : ParsedLines
   pub lines : List (List ℕ)
   pub number : ℕ
   pub at : AtLine text run lines number
@@ -48,7 +48,7 @@ pub record StopsBehind (text : List ℕ) (P : Told → Type 0) : Type 0 where
 
 -- What a fault leaves of a text that is followed: P holds of the lines before a line that is wrong, and of those before the reader failed;
 -- Q of those that were begun where a device failed or memory was refused.
-abbrev pub StopsBy : Options → List ℕ → (Told → Type 0) → (Told → Fault → Type 0) → Fault → Type 0
+abbrev pub StopsBy : Options → List ℕ → (ParsedLines → Type 0) → (ParsedLines → Fault → Type 0) → Fault → Type 0
 StopsBy options text P Q fault.Usage = ⊥
 StopsBy options text P Q (fault.CannotRead file) = StopsBehind text P
 StopsBy options text P Q (fault.CannotWrite file) = ⊥
@@ -57,21 +57,15 @@ StopsBy options text P Q fault.WriteFailed = StopsBehind text (λ run. Q run fau
 StopsBy options text P Q fault.StoreFailed = StopsBehind text (λ run. Q run fault.StoreFailed)
 StopsBy options text P Q fault.OutOfMemory = StopsBehind text (λ run. Q run fault.OutOfMemory)
 
--- P holds of the run that the text tells
-pub record OfText (text : List ℕ) (P : Told → Type 0) : Type 0 where
-  pub run : Told
-  pub spelled : text_told text ≡ Ok run
-  pub holds : P run
-
 -- What was read is at hand behind what a reporter has reported of a text so far; an event is among both.
 pub record KeepsUp {W S : Type 0} (m : Meaning W) (n : Meaning S) (options : Options) (text : List ℕ) (start now : SceneReporter W S) (read : LinesRead) (more : Result Bool Fault) (remaining : Option (List ℕ)) : Type 0 where
   pub front : List (List ℕ)
-  pub before : Told
+  pub before : ParsedLines
   pub has : HasRead options.file.now text front before read more remaining
   pub follows : Follows m n options start now (record { config = read.run.config; events = before.events })
   pub begun : is_begun (before.events ++ read.run.events.items) ≡ true
 
--- the bytes grew by the report of the run that the text tells, and the outcome is that of its calls
-pub record PrintsFollowed (options : Options) (come_to : RunOutcome) (old new store_old store_new : Option (List ℕ)) (run : Told) : Type 0 where
-  pub printed : PrintsTold options run old new store_old store_new
+-- the bytes grew by the report of the run, and the outcome is that of its calls
+pub record PrintsFollowed (options : Options) (come_to : RunOutcome) (old new store_old store_new : Option (List ℕ)) (run : ParsedLines) : Type 0 where
+  pub printed : PrintsParsed options run old new store_old store_new
   pub outcome : come_to ≡ run_outcome (reverse printed.calls)

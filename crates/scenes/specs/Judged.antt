@@ -5,17 +5,17 @@ use Rattle.reporter_state.specs.Refusals.{first_refused, refusal_at_by, refusal_
 use Rattle.reporter_state.specs.declared.decider.OutputLoadDecider.{OutputLoadDecider}
 use Rattle.run_model.specs.declared.call.ReportCall.{ReportCall}
 use Rattle.scenes.specs.Reports.{AreCallsOf, fault_at_call}
-use Rattle.scene_text.specs.SceneTexts.{event_lines, nothing_told, text_told}
-use Rattle.scene_fields.specs.Split.{parted}
+use Rattle.scene_text.specs.SceneTexts.{event_lines, no_lines, text_read}
+use Rattle.scene_fields.specs.Split.{split_on}
 use Rattle.scene_events.specs.Scenes.{IsCallOf}
 use Rattle.scene_events.specs.declared.scene.event.SceneEvent.{SceneEvent}
 use Rattle.scenes.specs.Unloads.{decider_for}
 use Rattle.command_line.specs.declared.fault.Fault.{Fault}
 use Rattle.command_line.specs.declared.fault.Fault.TheVariants as fault
 use Rattle.scene_fields.specs.declared.fault.LineFault.{LineFault}
-use Rattle.scenes.specs.ToldScenes.{IsReadFault, IsSceneRead, scene_told}
+use Rattle.scenes.specs.ParsedScenes.{IsReadFault, IsSceneRead, scene_lines}
 use Rattle.scenes.specs.declared.scene.Scene.{Scene}
-use Rattle.command_line.specs.declared.words.Options.{Options}
+use Rattle.command_line.specs.declared.args.Options.{Options}
 
 -- no call of the scene is refused
 pub record IsSceneAccepted (options : Options) (scene : Scene) : Type 0 where
@@ -29,12 +29,12 @@ pub record Judged : Type 0 where
   pub scene : Scene
 
 -- the event of the line of this number was judged by its call: this is the fault, if the call is refused
-pub record JudgesEvent (d : OutputLoadDecider) (n : ℕ) (event : SceneEvent) (fault : Option Fault) : Type 0 where
+pub record ChecksEvent (d : OutputLoadDecider) (n : ℕ) (event : SceneEvent) (fault : Option Fault) : Type 0 where
   pub call : ReportCall
   pub of_event : IsCallOf event call
   pub is : fault ≡ option_map (fault_at_call n) (refusal_by d call)
 
--- the line is that of the first call that is refused, and it says why
+-- the line is that of the first call that is refused, and its fault is why
 pub record IsRefusedLine (options : Options) (scene : Scene) (calls : List ReportCall) (n : ℕ) (f : LineFault) : Type 0 where
   pub place : ℕ
   pub refused : first_refused (decider_for options scene.config) calls ≡ Some place
@@ -60,14 +60,14 @@ IsSceneRefused options scene fault.OutOfMemory = ⊤
 -- the text spells a scene that has a refused call, and the fault is that call's
 pub record IsRefusedText (options : Options) (text : List ℕ) (fault : Fault) : Type 0 where
   pub scene : Scene
-  pub spelled : text_told text ≡ Ok (scene_told scene)
-  pub lines : scene.lines.items ≡ event_lines 1 nothing_told (parted 10 text)
+  pub spelled : text_read text ≡ Ok (scene_lines scene)
+  pub lines : scene.lines.items ≡ event_lines 1 no_lines (split_on 10 text)
   pub refused : IsSceneRefused options scene fault
 
--- what was returned is what the text tells; or the file cannot be read, a call is refused, or memory was
+-- what was returned is the scene of the text; or the file cannot be read, a call is refused, or memory was
 abbrev pub IsJudged : Options → Result Scene Fault → List ℕ → Type 0
-IsJudged options (Ok scene) text = IsSceneRead (Ok scene) (text_told text)
-IsJudged options (Err fault) text = IsSceneRead (Err fault) (text_told text) ⊎ IsRefusedText options text fault
+IsJudged options (Ok scene) text = IsSceneRead (Ok scene) (text_read text)
+IsJudged options (Err fault) text = IsSceneRead (Err fault) (text_read text) ⊎ IsRefusedText options text fault
 
 -- the fault is the first one of the text, or that of a refused call; or the file cannot be read, or memory was refused
 abbrev pub IsJudgedFault : Options → List ℕ → Fault → Type 0

@@ -6,5 +6,5 @@ pub mod Read
 pub mod Reports
 pub mod SceneReporter
 pub mod SpelledRuns
-pub mod ToldScenes
+pub mod ParsedScenes
 pub mod Unloads

@@ -28,7 +28,7 @@ use Rattle.scene_events.specs.declared.scene.SceneConfig.{SceneConfig}
 use Rattle.command_line.specs.declared.fault.Fault.{Fault}
 use Rattle.command_line.specs.declared.fault.Fault.TheVariants.{Usage, CannotRead, CannotWrite, Line, WriteFailed, StoreFailed, OutOfMemory}
 use Rattle.scenes.specs.declared.scene.Scene.{Scene}
-use Rattle.command_line.specs.declared.words.Options.{Options}
+use Rattle.command_line.specs.declared.args.Options.{Options}
 
 -- the calls of a scene: for each event one, in order
 abbrev pub AreCallsOf : Scene → List ReportCall → Type 0
@@ -77,7 +77,7 @@ report_of options config calls = report (configuration_for options config) (reve
 abbrev pub stored_of : Options → List ReportCall → Text
 stored_of options calls = stored (store_for options) (reverse calls)
 
--- what the program tells where the call of the line of this number stopped: its number only where the call is refused
+-- the fault of a call that stopped, of the line of this number: with that number only where the call is refused
 abbrev pub fault_at_call : ℕ → WriteEventError → Fault
 fault_at_call n RetriedSuccess = Line n line.RetriedSuccess
 fault_at_call n OutputNotLoaded = Line n line.OutputNotLoaded
@@ -115,7 +115,7 @@ pub record HasFirstCalls {S : Type 0} (m : Meaning S) (texts : List ReportCall �
   pub accepted : m.accepts old (texts earlier) new
   pub delivered : m.is_delivered new
 
--- the same of a device, where it tells its bytes
+-- the same of a device, where its bytes are known
 pub record HoldsFirstCalls (texts : List ReportCall → Text) (past : List ReportCall) (old new : Option (List ℕ)) : Type 0 where
   pub later : List ReportCall
   pub earlier : List ReportCall
@@ -132,6 +132,6 @@ IsStop options WriteFailed = ⊤
 IsStop options StoreFailed = is_some (store_for options) ≡ true
 IsStop options OutOfMemory = ⊤
 
--- what a device holds, where it tells its bytes: what it held, and a beginning of the text
+-- what a device holds, where its bytes are known: what it held, and a prefix of the text
 abbrev pub Begins : Option (List ℕ) → Option (List ℕ) → Text → Type 0
 Begins before after text = (old new : List ℕ) → before ≡ Some old → after ≡ Some new → GrowsWithin old new text

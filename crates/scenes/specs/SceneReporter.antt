@@ -1,5 +1,5 @@
 -- The events of a scene, reported one after the other: what one does, what stops one, and what a reporter of some has done.
-use Rattle.std.specs.Prelude.{◌≡◌, ◌⊎◌, ℕ, List, [], ◌∷◌, ◌++◌, get_or, length, map, reverse, Option, None, Some}
+use Rattle.std.specs.Prelude.{◌≡◌, ◌⊎◌, ℕ, List, [], ◌∷◌, ◌++◌, get_or, length, map, reverse, None, Some}
 use Rattle.std.specs.List.{AllZip}
 use Rattle.std.specs.Option.{option_map}
 use Rattle.plain_text.specs.Writer.{Meaning}
@@ -8,7 +8,7 @@ use Rattle.console_reporter.specs.Accepted.{refusal}
 use Rattle.console_reporter.specs.Configuration.{Configuration}
 use Rattle.console_reporter.specs.HeldState.{StandsAfter}
 use Rattle.console_reporter.specs.Report.{report}
-use Rattle.console_reporter.specs.Slots.{store_meaning}
+use Rattle.console_reporter.specs.OptionalStore.{store_meaning}
 use Rattle.console_reporter.specs.Stored.{stored}
 use Rattle.console_reporter.specs.Telling.{AreDelivered, Breaks, Tells, TellsRun}
 use Rattle.reporter_state.specs.Refusals.{first_refused, refusal_in}
@@ -18,20 +18,20 @@ use Rattle.scene_events.specs.Scenes.{IsCallOf}
 use Rattle.scene_events.specs.declared.scene.SceneConfig.{SceneConfig}
 use Rattle.scene_events.specs.declared.scene.event.SceneEvent.{SceneEvent}
 use Rattle.scene_fields.specs.declared.fault.LineFault.{LineFault}
-use Rattle.scene_text.specs.SceneTexts.{Told}
+use Rattle.scene_text.specs.SceneTexts.{ParsedLines}
 use Rattle.scenes.specs.Outcomes.{outcome_after, run_outcome}
 use Rattle.scenes.specs.Reports.{HasFirstCalls, StopsStore, StopsText, configuration_for, fault_at_call, store_for}
 use Rattle.scenes.specs.Unloads.{IsReadyCall, decider_for, ready}
 use Rattle.command_line.specs.declared.fault.Fault.{Fault}
 use Rattle.command_line.specs.declared.fault.Fault.TheVariants as fault
-use Rattle.command_line.specs.declared.words.Options.{Options}
+use Rattle.command_line.specs.declared.args.Options.{Options}
 use Rattle.scenes.specs.declared.outcome.RunOutcome.{RunOutcome}
 use Rattle.scenes.specs.declared.outcome.RunOutcome.TheVariants as outcome
 use Rattle.scenes.specs.declared.scene_reporter.SceneReporter.{SceneReporter}
 
 module _ {W T : Type 0} (m : Meaning W) (k : Meaning T) (options : Options) where
-  -- The calls of what lines tell are all accepted; the writer accepted their report, and the second one what is stored of them.
-  pub record ReportsTold (old new : W) (store_old store_new : T) (come_to : RunOutcome) (run : Told) : Type 0 where
+  -- The calls of the lines are all accepted; the writer accepted their report, and the second one what is stored of them.
+  pub record ReportsParsed (old new : W) (store_old store_new : T) (come_to : RunOutcome) (run : ParsedLines) : Type 0 where
     pub past : List ReportCall
     pub of_run : AllZip IsCallOf run.events (reverse past)
     pub accepted : first_refused (decider_for options run.config) (reverse past) ≡ None
@@ -42,11 +42,11 @@ module _ {W T : Type 0} (m : Meaning W) (k : Meaning T) (options : Options) wher
     pub outcome : come_to ≡ run_outcome past
 
   -- the same, whatever the run has come to
-  abbrev pub HasToldTo : W → W → T → T → Told → Type 0
-  HasToldTo old new store_old store_new run = (come_to : RunOutcome) × ReportsTold old new store_old store_new come_to run
+  abbrev pub HasReportedTo : W → W → T → T → ParsedLines → Type 0
+  HasReportedTo old new store_old store_new run = (come_to : RunOutcome) × ReportsParsed old new store_old store_new come_to run
 
   -- Those calls are all accepted; this fault stopped their report, of which a beginning was accepted.
-  pub record BreaksTold (old new : W) (store_old store_new : T) (run : Told) (f : Fault) : Type 0 where
+  pub record BreaksParsed (old new : W) (store_old store_new : T) (run : ParsedLines) (f : Fault) : Type 0 where
     pub past : List ReportCall
     pub of_run : AllZip IsCallOf run.events (reverse past)
     pub accepted : first_refused (decider_for options run.config) (reverse past) ≡ None
@@ -59,7 +59,7 @@ module _ {W T : Type 0} (m : Meaning W) (k : Meaning T) (options : Options) wher
 module _ {W S : Type 0} (m : Meaning W) (n : Meaning S) (options : Options) where
   module _ (d : OutputLoadDecider) where
     -- An event was reported: its call is none that is refused, and was made; it decides how the run stands.
-    pub record TellsEvent (event : SceneEvent) (old new : SceneReporter W S) : Type 0 where
+    pub record ReportsEvent (event : SceneEvent) (old new : SceneReporter W S) : Type 0 where
       pub call : ReportCall
       pub of_event : IsReadyCall options d event call
       pub tells : Tells m n old.reporter (Some call) new.reporter
@@ -100,7 +100,7 @@ module _ {W S : Type 0} (m : Meaning W) (n : Meaning S) (options : Options) wher
     pub outcome : start.outcome ≡ outcome.NotEnded
 
   -- since its start, it has reported this
-  pub record Follows (start now : SceneReporter W S) (run : Told) : Type 0 where
+  pub record Follows (start now : SceneReporter W S) (run : ParsedLines) : Type 0 where
     pub past : List ReportCall
     pub of_run : AllZip IsCallOf run.events (reverse past)
     pub stands : StandsAfter (configuration_for options run.config) [] start.reporter
@@ -120,11 +120,11 @@ module _ {W S : Type 0} (m : Meaning W) (n : Meaning S) (options : Options) wher
     pub leaves : LeavesEvent (decider_for options config) (get_or lines (length front) 0) event fault now new
 
   -- what it has reported, by its two writers
-  abbrev pub HasTold : SceneReporter W S → SceneReporter W S → Told → Type 0
-  HasTold start now run =
-      ReportsTold m (store_meaning n) options start.reporter.writer.now now.reporter.writer.now start.reporter.store now.reporter.store now.outcome run
+  abbrev pub HasReported : SceneReporter W S → SceneReporter W S → ParsedLines → Type 0
+  HasReported start now run =
+      ReportsParsed m (store_meaning n) options start.reporter.writer.now now.reporter.writer.now start.reporter.store now.reporter.store now.outcome run
 
   -- a call of the last line broke off
-  abbrev pub BreaksOff : SceneReporter W S → SceneReporter W S → Told → Fault → Type 0
+  abbrev pub BreaksOff : SceneReporter W S → SceneReporter W S → ParsedLines → Fault → Type 0
   BreaksOff start now run fault =
-      BreaksTold m (store_meaning n) options start.reporter.writer.now now.reporter.writer.now start.reporter.store now.reporter.store run fault
+      BreaksParsed m (store_meaning n) options start.reporter.writer.now now.reporter.writer.now start.reporter.store now.reporter.store run fault

@@ -1,5 +1,5 @@
 -- From a scene that was judged, and from its text, to the bytes of its report and to those that are stored.
-use Rattle.std.specs.Prelude.{◌≡◌, ℕ, List, reverse, Option, None, Ok, Err}
+use Rattle.std.specs.Prelude.{◌≡◌, ℕ, List, reverse, Option, None, Err}
 use Rattle.std.specs.Io.KnownBytes.{Appends}
 use Rattle.std.specs.List.{AllZip}
 use Rattle.console_reporter.specs.Report.{report}
@@ -9,18 +9,16 @@ use Rattle.run_model.specs.declared.call.ReportCall.{ReportCall}
 use Rattle.command_line.specs.Faults.{IsJudgeFault}
 use Rattle.scenes.specs.Judged.{IsJudged}
 use Rattle.scenes.specs.Reports.{Begins, HoldsFirstCalls, IsStop, configuration_for, report_of, store_for, stored_of}
-use Rattle.scenes.specs.ToldScenes.{scene_told}
-use Rattle.scene_text.specs.SceneTexts.{Told, text_told}
+use Rattle.scene_text.specs.SceneTexts.{ParsedLines}
 use Rattle.scene_events.specs.Scenes.{IsCallOf}
 use Rattle.scenes.specs.Unloads.{decider_for}
 use Rattle.command_line.specs.declared.fault.Fault.{Fault}
 use Rattle.command_line.specs.declared.fault.Fault.TheVariants.{StoreFailed, WriteFailed}
-use Rattle.scenes.specs.declared.scene.Scene.{Scene}
-use Rattle.command_line.specs.declared.words.Options.{Options}
+use Rattle.command_line.specs.declared.args.Options.{Options}
 
--- The calls of what lines tell are all accepted; the first device's bytes grew by their report, and the second's by what is stored of
+-- The calls of the lines are all accepted; the first device's bytes grew by their report, and the second's by what is stored of
 -- them, which is nothing without a store.
-pub record PrintsTold (options : Options) (run : Told) (old new store_old store_new : Option (List ℕ)) : Type 0 where
+pub record PrintsParsed (options : Options) (run : ParsedLines) (old new store_old store_new : Option (List ℕ)) : Type 0 where
   pub calls : List ReportCall
   pub of_run : AllZip IsCallOf run.events calls
   pub accepted : first_refused (decider_for options run.config) calls ≡ None
@@ -29,7 +27,7 @@ pub record PrintsTold (options : Options) (run : Told) (old new store_old store_
 
 -- Those calls are all accepted; this fault stopped their report, and each device holds a beginning of its text: at a fault of the second
 -- device the first one holds the whole texts of some first calls, and at a fault of the first the second holds their whole records.
-pub record BeginsTold (options : Options) (run : Told) (fault : Fault) (old new store_old store_new : Option (List ℕ)) : Type 0 where
+pub record BeginsParsed (options : Options) (run : ParsedLines) (fault : Fault) (old new store_old store_new : Option (List ℕ)) : Type 0 where
   pub calls : List ReportCall
   pub of_run : AllZip IsCallOf run.events calls
   pub accepted : first_refused (decider_for options run.config) calls ≡ None
@@ -38,25 +36,6 @@ pub record BeginsTold (options : Options) (run : Told) (fault : Fault) (old new 
   pub kept : Begins store_old store_new (stored_of options calls)
   pub whole_text : fault ≡ StoreFailed → HoldsFirstCalls (report (configuration_for options run.config)) (reverse calls) old new
   pub whole_records : fault ≡ WriteFailed → HoldsFirstCalls (stored (store_for options)) (reverse calls) store_old store_new
-
--- the same of a scene
-abbrev pub PrintsReport : Options → Scene → (old new store_old store_new : Option (List ℕ)) → Type 0
-PrintsReport options scene = PrintsTold options (scene_told scene)
-
-abbrev pub BeginsReport : Options → Scene → Fault → (old new store_old store_new : Option (List ℕ)) → Type 0
-BeginsReport options scene = BeginsTold options (scene_told scene)
-
--- the bytes grew by the report of the run that the text spells, and by what is stored of it
-pub record PrintsRun (options : Options) (text : List ℕ) (old new store_old store_new : Option (List ℕ)) : Type 0 where
-  pub run : Told
-  pub spelled : text_told text ≡ Ok run
-  pub printed : PrintsTold options run old new store_old store_new
-
--- the report of the run that the text spells stopped by this fault, and each device holds a beginning
-pub record BeginsRun (options : Options) (text : List ℕ) (fault : Fault) (old new store_old store_new : Option (List ℕ)) : Type 0 where
-  pub run : Told
-  pub spelled : text_told text ≡ Ok run
-  pub begun : BeginsTold options run fault old new store_old store_new
 
 -- the fault is the text's own, or that it was not read whole, and nothing was written
 pub record IsRejected {W S : Type 0} (options : Options) (text : List ℕ) (fault : Fault) (old new : W) (store_old store_new : S) : Type 0 where

@@ -11,7 +11,7 @@ use Rattle.scene_events.specs.declared.scene.SceneConfig.{SceneConfig}
 use Rattle.scene_events.specs.declared.scene.event.SceneEvent.{SceneEvent}
 use Rattle.scenes.specs.Reports.{AreCallsOf, configuration_for}
 use Rattle.scenes.specs.declared.scene.Scene.{Scene}
-use Rattle.command_line.specs.declared.words.Options.{Options}
+use Rattle.command_line.specs.declared.args.Options.{Options}
 
 -- what the scene's reporter decides by
 abbrev pub decider_for : Options → SceneConfig → OutputLoadDecider

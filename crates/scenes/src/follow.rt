@@ -5,21 +5,22 @@
 
 ghost use Rattle.std.specs.Prelude.{◌≡◌, ℕ, List, [], true, Option, None, Some, Ok, IfOk, IfErr, OnOk};
 ghost use Rattle.std.specs.Io.Buffered.{reader_remaining};
-ghost use Rattle.console_reporter.specs.Slots.{IsSameStore, config_of, store_delivered, store_meaning};
+ghost use Rattle.console_reporter.specs.OptionalStore.{IsSameStore, config_of, store_delivered, store_meaning};
 ghost use Rattle.console_reporter.specs.Telling.{IsSameReporter};
-ghost use Rattle.scene_text.specs.SceneTexts.{Told, is_begun, nothing_told};
-ghost use Rattle.scenes.specs.Follow.{OfText, PrintsFollowed, StopsBy};
+ghost use Rattle.scene_text.specs.SceneTexts.{ParsedLines, is_begun, no_lines};
+ghost use Rattle.scenes.specs.Follow.{PrintsFollowed, StopsBy};
+ghost use Rattle.scenes.specs.ParsedScenes.{OfText};
 ghost use Rattle.scenes.specs.Read.{HasRead};
 ghost use Rattle.scenes.specs.Reports.{store_for};
-ghost use Rattle.scenes.specs.SceneReporter.{BreaksOff, BreaksTold, HasTold, HasToldTo, IsStart, ReportsTold};
-ghost use Rattle.scenes.specs.SpelledRuns.{BeginsTold, PrintsTold};
+ghost use Rattle.scenes.specs.SceneReporter.{BreaksOff, BreaksParsed, HasReported, HasReportedTo, IsStart, ReportsParsed};
+ghost use Rattle.scenes.specs.SpelledRuns.{BeginsParsed, PrintsParsed};
 
 pub use crate::outcome::RunOutcome;
 use crate::read::{BYTES_AT_ONCE, read_next};
 use crate::reporter::{builder_of, surroundings_of};
 use crate::scene_reporter::SceneReporter;
+use command_line::args::Options;
 use command_line::fault::Fault;
-use command_line::words::Options;
 use console_reporter::imp::{Store, give_back};
 use console_reporter::write_str::{TextBuffer, WriteStr};
 use scene_text::reader::LinesRead;
@@ -34,7 +35,7 @@ fn read_head<'a, R: Read>(
     piece: &mut Vec<u8>,
     read: &mut LinesRead,
 ) -> Result<bool, Fault<'a>>
-    ensures read { (text : List ℕ) (front : List (List ℕ)) (before : Told) → HasRead file.now text front before read.old (Ok true) (reader_remaining R.remaining reader.old)
+    ensures read { (text : List ℕ) (front : List (List ℕ)) (before : ParsedLines) → HasRead file.now text front before read.old (Ok true) (reader_remaining R.remaining reader.old)
         → HasRead file.now text front before read.new result (reader_remaining R.remaining reader.new) }
     ensures event { IfOk result (λ may_go_on. may_go_on ≡ true → is_begun read.new.run.events.items ≡ true) }
 {
@@ -67,8 +68,8 @@ pub fn follow_scene<'a, R: Read + Drop, W: Write, S: Write>(
     ensures ok { (text : List ℕ) → R.remaining reader ≡ Some text → IfOk result.0 (λ come_to.
         OfText text (PrintsFollowed options.now come_to (W.contents writer) (W.contents result.1) (S.contents store_writer) (S.contents result.2))) }
     ensures err { (text : List ℕ) → R.remaining reader ≡ Some text → IfErr result.0 (StopsBy options.now text
-        (λ run. PrintsTold options.now run (W.contents writer) (W.contents result.1) (S.contents store_writer) (S.contents result.2))
-        (λ run fault. BeginsTold options.now run fault (W.contents writer) (W.contents result.1) (S.contents store_writer) (S.contents result.2))) }
+        (λ run. PrintsParsed options.now run (W.contents writer) (W.contents result.1) (S.contents store_writer) (S.contents result.2))
+        (λ run fault. BeginsParsed options.now run fault (W.contents writer) (W.contents result.1) (S.contents store_writer) (S.contents result.2))) }
     ensures no_store { options.now.store ≡ None → result.2 ≡ store_writer }
 {
     let mut reader = match BufReader::with_capacity(alloc, BYTES_AT_ONCE, reader) {
@@ -125,9 +126,9 @@ fn follow_to<'a, 'w, R: Read, W: WriteStr, S: WriteStr>(
     ensures same_reference { result.1.ghost_name ≡ writer.entry.ghost_name }
     ensures same_store { IsSameStore store.entry result.2 }
     ensures ok { IfOk result.0 (λ come_to. (text : List ℕ) → reader_remaining R.remaining reader.old ≡ Some text → W.meaning.is_delivered writer.old → store_delivered S.meaning store.entry
-        → OfText text (ReportsTold W.meaning (store_meaning S.meaning) options.now writer.old result.1.now store.entry result.2 come_to)) }
+        → OfText text (ReportsParsed W.meaning (store_meaning S.meaning) options.now writer.old result.1.now store.entry result.2 come_to)) }
     ensures err { IfErr result.0 (λ fault. (text : List ℕ) → reader_remaining R.remaining reader.old ≡ Some text → W.meaning.is_delivered writer.old → store_delivered S.meaning store.entry
-        → StopsBy options.now text (HasToldTo W.meaning (store_meaning S.meaning) options.now writer.old result.1.now store.entry result.2) (BreaksTold W.meaning (store_meaning S.meaning) options.now writer.old result.1.now store.entry result.2) fault) }
+        → StopsBy options.now text (HasReportedTo W.meaning (store_meaning S.meaning) options.now writer.old result.1.now store.entry result.2) (BreaksParsed W.meaning (store_meaning S.meaning) options.now writer.old result.1.now store.entry result.2) fault) }
 {
     let mut piece = Vec::new(alloc);
     let mut read = LinesRead::new(alloc);
@@ -172,10 +173,10 @@ fn follow_lines<'a, R: Read, W: WriteStr, S: WriteStr>(
     reporter: &mut SceneReporter<'_, W, S>,
 ) -> Result<(), Fault<'a>>
     ensures same { IsSameReporter reporter.old.reporter reporter.new.reporter }
-    ensures ok { OnOk result ((text : List ℕ) → HasRead options.now.file.now text [] nothing_told read.old more.entry (reader_remaining R.remaining reader.old) → is_begun read.old.run.events.items ≡ true
-        → IsStart W.meaning S.meaning options.now read.old.run.config reporter.old → OfText text (HasTold W.meaning S.meaning options.now reporter.old reporter.new)) }
-    ensures err { IfErr result (λ fault. (text : List ℕ) → HasRead options.now.file.now text [] nothing_told read.old more.entry (reader_remaining R.remaining reader.old) → is_begun read.old.run.events.items ≡ true
-        → IsStart W.meaning S.meaning options.now read.old.run.config reporter.old → StopsBy options.now text (HasTold W.meaning S.meaning options.now reporter.old reporter.new) (BreaksOff W.meaning S.meaning options.now reporter.old reporter.new) fault) }
+    ensures ok { OnOk result ((text : List ℕ) → HasRead options.now.file.now text [] no_lines read.old more.entry (reader_remaining R.remaining reader.old) → is_begun read.old.run.events.items ≡ true
+        → IsStart W.meaning S.meaning options.now read.old.run.config reporter.old → OfText text (HasReported W.meaning S.meaning options.now reporter.old reporter.new)) }
+    ensures err { IfErr result (λ fault. (text : List ℕ) → HasRead options.now.file.now text [] no_lines read.old more.entry (reader_remaining R.remaining reader.old) → is_begun read.old.run.events.items ≡ true
+        → IsStart W.meaning S.meaning options.now read.old.run.config reporter.old → StopsBy options.now text (HasReported W.meaning S.meaning options.now reporter.old reporter.new) (BreaksOff W.meaning S.meaning options.now reporter.old reporter.new) fault) }
 {
     let mut more = more;
     for _turn in 0..u64::MAX {

@@ -1,4 +1,4 @@
-//! How a run stands whose events are reported, and the status that tells it.
+//! How a run stands whose events are reported, and the status for it.
 
 ghost use Rattle.std.specs.Prelude.{◌≡◌};
 ghost use Rattle.scenes.specs.Outcomes.{outcome_after, outcome_of, status_of_outcome};

@@ -3,8 +3,8 @@
 ghost use Rattle.std.specs.Prelude.{ℕ, List, Ok, true, IfErr, OnOk};
 ghost use Rattle.std.specs.Io.Buffered.{reader_remaining};
 ghost use Rattle.command_line.specs.Faults.{IsJudgeFault};
-ghost use Rattle.scene_fields.specs.Split.{parted};
-ghost use Rattle.scene_text.specs.SceneTexts.{LeavesLines, ReadsLines, Told};
+ghost use Rattle.scene_fields.specs.Split.{split_on};
+ghost use Rattle.scene_text.specs.SceneTexts.{LeavesLines, ReadsLines, ParsedLines};
 ghost use Rattle.scenes.specs.Read.{HasRead};
 
 use command_line::fault::Fault;
@@ -27,7 +27,7 @@ pub(crate) fn read_next<'a, R: Read>(
     piece: &mut Vec<u8>,
     read: &mut LinesRead,
 ) -> Result<bool, Fault<'a>>
-    ensures read { (text : List ℕ) (front : List (List ℕ)) (before : Told) → HasRead file.now text front before read.old (Ok true) (reader_remaining R.remaining reader.old)
+    ensures read { (text : List ℕ) (front : List (List ℕ)) (before : ParsedLines) → HasRead file.now text front before read.old (Ok true) (reader_remaining R.remaining reader.old)
         → HasRead file.now text front before read.new result (reader_remaining R.remaining reader.new) }
     ensures fault { IfErr result (IsJudgeFault file.now) }
 {
@@ -44,8 +44,8 @@ pub(crate) fn read_next<'a, R: Read>(
 
 // Reads the lines of a piece. A large one is a line by itself, which gives up its memory to the output that it holds.
 fn read_piece(alloc: Global, piece: &mut Vec<u8>, read: &mut LinesRead) -> Result<(), ReadFault>
-    ensures read { OnOk result (ReadsLines read.old read.new (parted 10 piece.old.items)) }
-    ensures left { IfErr result (LeavesLines read.old read.new (parted 10 piece.old.items)) }
+    ensures read { OnOk result (ReadsLines read.old read.new (split_on 10 piece.old.items)) }
+    ensures left { IfErr result (LeavesLines read.old read.new (split_on 10 piece.old.items)) }
 {
     if piece.len() < LARGE {
         return read.read_more(alloc, piece.as_slice());

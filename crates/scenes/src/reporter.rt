@@ -1,4 +1,4 @@
-//! The reporter of a scene: what it is built from, what it decides by, and what the program tells of its errors.
+//! The reporter of a scene: what it is built from, what it decides by, and the faults of the program that its errors are.
 
 ghost use Rattle.std.specs.Prelude.{◌≡◌, IfOk, IfErr};
 ghost use Rattle.scenes.specs.Reports.{builder_for, fault_at_call, kind_for, progress_for, surroundings_of};
@@ -6,8 +6,8 @@ ghost use Rattle.scenes.specs.Unloads.{decider_for};
 ghost use Rattle.command_line.specs.declared.fault.Fault.{Fault};
 
 use crate::scene::SceneConfig;
+use command_line::args::Options;
 use command_line::fault::{Fault, LineFault};
-use command_line::words::Options;
 use console_reporter::config::{DisplayConfig, ShowProgress};
 use console_reporter::imp::{
     DisplayReporterBuilder, DisplayerKind, OutputLoadDecider, Surroundings, WriteEventError,
@@ -90,7 +90,7 @@ fn kind_for(options: &Options<'_>) -> DisplayerKind
     }
 }
 
-/// What the program tells where the call of the line of this number stopped: its number only where the call is refused.
+/// The fault of a call that stopped, of the line of this number: with that number only where the call is refused.
 pub(crate) fn fault_at_call(number: u64, error: WriteEventError) -> Fault<'static>
     ensures { result ≡ fault_at_call number error }
 {

@@ -6,8 +6,8 @@ ghost use Rattle.scene_events.specs.Scenes.{IsCallOf};
 ghost use Rattle.scenes.specs.Unloads.{AreReadyCallsOf};
 
 use crate::reporter::decider_of;
+use command_line::args::Options;
 use command_line::fault::Fault;
-use command_line::words::Options;
 use console_reporter::imp::{ReportCall, unload_skipped};
 use run_model::memory::OutOfMemory;
 pub use scene_text::scene::{

@@ -4,15 +4,15 @@ ghost use Rattle.std.specs.Prelude.{◌≡◌, ◌++◌, List, [], IfOk, IfErr, 
 ghost use Rattle.console_reporter.specs.HeldState.{HasFailed};
 ghost use Rattle.console_reporter.specs.Telling.{AreDelivered, IsSameReporter};
 ghost use Rattle.scene_events.specs.Scenes.{IsCallOf};
-ghost use Rattle.scenes.specs.SceneReporter.{Follows, LeavesEvent, StopsAtEvent, TellsEvent};
+ghost use Rattle.scenes.specs.SceneReporter.{Follows, LeavesEvent, StopsAtEvent, ReportsEvent};
 ghost use Rattle.scenes.specs.Unloads.{IsReadyCall};
 
 use crate::outcome::RunOutcome;
 use crate::reporter::fault_at_call;
 use crate::scene::event::SceneEvent;
 use crate::scene::{SceneConfig, line_at};
+use command_line::args::Options;
 use command_line::fault::Fault;
-use command_line::words::Options;
 use console_reporter::imp::{DisplayReporter, OutputLoadDecider, ReportCall};
 use console_reporter::write_str::WriteStr;
 use run_model::memory::OutOfMemory;
@@ -85,7 +85,7 @@ impl<'a, W: WriteStr, S: WriteStr> SceneReporter<'a, W, S> {
         buffer: &mut Vec<ReportCall<'e>>,
     ) -> Result<(), Fault<'static>>
         ensures same { IsSameReporter self.old.reporter self.new.reporter }
-        ensures told { OnOk result (TellsEvent W.meaning S.meaning options.now decider.now event.now self.old self.new) }
+        ensures told { OnOk result (ReportsEvent W.meaning S.meaning options.now decider.now event.now self.old self.new) }
         ensures delivered { AreDelivered W.meaning S.meaning self.old.reporter → OnOk result (AreDelivered W.meaning S.meaning self.new.reporter) }
         ensures left { IfErr result (λ fault. LeavesEvent W.meaning S.meaning options.now decider.now number event.now fault self.old self.new) }
         ensures failed { HasFailed self.old.reporter → (self.new ≡ self.old) × OnOk result ⊥ }

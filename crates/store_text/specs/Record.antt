@@ -5,7 +5,7 @@ use Rattle.run_names.specs.declared.name.TestInstanceId.{TestInstanceId}
 use Rattle.run_model.specs.declared.output.ChildOutputDescription.{ChildOutputDescription}
 use Rattle.run_model.specs.declared.output.LiveSpec.{LiveSpec}
 use Rattle.plain_text.specs.Texts.{Text}
-use Rattle.event_text.specs.ResultWords.{short_word}
+use Rattle.text_parts.specs.ResultWords.{short_word}
 use Rattle.store_text.specs.Netstring.{netstring}
 use Rattle.store_text.specs.StoredOutput.{stored_output}
 use Rattle.store_text.specs.declared.config.StoreConfig.{StoreConfig}

@@ -11,7 +11,7 @@
 //!
 //! `config` says what a store is asked to keep, `netstring` how a text is written so that its end is known, `stored_output` what
 //! is kept of captured output, and `record` puts them together. The short words are those of the lines of tests, in the crate
-//! `event_text`.
+//! `text_parts`.
 #![tactic(auto)]
 
 pub mod config;

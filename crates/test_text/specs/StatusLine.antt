@@ -14,9 +14,9 @@ use Rattle.plain_text.specs.Style.{plain, styled}
 use Rattle.plain_text.specs.declared.style.Style.{Style}
 use Rattle.plain_text.specs.declared.style.Styles.{Styles}
 use Rattle.unit_report.specs.Durations.{bracketed_duration}
-use Rattle.event_text.specs.AbortLine.{abort_line}
-use Rattle.event_text.specs.ResultWords.{long_word, short_word, success_word, is_plain_success}
-use Rattle.event_text.specs.declared.instance.CountedInstance.{CountedInstance}
+use Rattle.text_parts.specs.AbortLine.{abort_line}
+use Rattle.text_parts.specs.ResultWords.{long_word, short_word, success_word, is_plain_success}
+use Rattle.text_parts.specs.declared.instance.CountedInstance.{CountedInstance}
 use Rattle.test_text.specs.declared.status_line.StatusLine.{StatusLine}
 use Rattle.test_text.specs.declared.status_line.StatusLineKind.{StatusLineKind}
 use Rattle.test_text.specs.declared.status_line.StatusLineKind.TheVariants.{Intermediate, Final}

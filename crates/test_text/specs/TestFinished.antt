@@ -12,13 +12,13 @@ use Rattle.run_model.specs.declared.status.ExecuteStatus.{ExecuteStatus}
 use Rattle.run_model.specs.declared.status.StatusSummary.{StatusSummary}
 use Rattle.run_names.specs.declared.stress.StressIndex.{StressIndex}
 use Rattle.plain_text.specs.Texts.{Text}
-use Rattle.event_text.specs.AttemptOutput.{attempt_output}
-use Rattle.event_text.specs.Finish.{display_of, finish_row, is_ever_shown, is_line_shown, row_at_once}
-use Rattle.event_text.specs.Settings.{finished_counter}
+use Rattle.text_parts.specs.AttemptOutput.{attempt_output}
+use Rattle.text_parts.specs.Finish.{display_of, output_timing, is_ever_shown, is_line_shown, timed_at_once}
+use Rattle.text_parts.specs.Settings.{finished_counter}
 use Rattle.test_text.specs.StatusLine.{status_line}
-use Rattle.event_text.specs.declared.finish.FinishRow.{FinishRow}
-use Rattle.event_text.specs.declared.instance.CountedInstance.{CountedInstance}
-use Rattle.event_text.specs.declared.settings.Settings.{Settings}
+use Rattle.text_parts.specs.declared.finish.OutputTiming.{OutputTiming}
+use Rattle.text_parts.specs.declared.instance.CountedInstance.{CountedInstance}
+use Rattle.text_parts.specs.declared.settings.Settings.{Settings}
 use Rattle.test_text.specs.declared.status_line.StatusLineKind.TheVariants.{Intermediate}
 use Rattle.test_text.specs.declared.test_finished.FinishedTest.{FinishedTest}
 
@@ -27,7 +27,7 @@ use Rattle.test_text.specs.declared.test_finished.FinishedTest.{FinishedTest}
 pub record TestFinish : Type 0 where
   pub test : CountedInstance
   pub display : TestOutputDisplay
-  pub row : FinishRow
+  pub row : OutputTiming
   pub summary : StatusSummary
   pub last : ExecuteStatus LiveSpec ChildOutputDescription
 
@@ -35,7 +35,7 @@ abbrev pub test_finish : Settings → ℕ → Option StressIndex → TestInstanc
 test_finish s reason stress instance success failure statuses stats = record {
   test = record { stress_index = stress; counter = finished_counter s stats; instance = instance };
   display = display_of s success failure (summary_of statuses);
-  row = finish_row reason statuses.last.result;
+  row = output_timing reason statuses.last.result;
   summary = summary_of statuses;
   last = statuses.last;
 }
@@ -61,7 +61,7 @@ line_at_once s f = if is_line_shown s f.summary then status_line s.styles Interm
 -- the output of its last attempt, where that is shown at once, whatever the status level
 unfoldable pub output_at_once : Settings → TestFinish → Text
 output_at_once s f =
-    if row_at_once f.row f.display then attempt_output s false f.last.result f.last.output else []
+    if timed_at_once f.row f.display then attempt_output s false f.last.result f.last.output else []
 
 -- a finished test: its line and its output
 unfoldable pub test_finished_text : Settings → TestFinish → Text

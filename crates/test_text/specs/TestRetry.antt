@@ -13,13 +13,13 @@ use Rattle.plain_text.specs.Style.{plain, styled}
 use Rattle.plain_text.specs.Texts.{Text, right_in}
 use Rattle.plain_text.specs.declared.style.Styles.{Styles}
 use Rattle.unit_report.specs.Durations.{bracketed_duration, duration_by}
-use Rattle.event_text.specs.AttemptOutput.{attempt_output}
-use Rattle.event_text.specs.Instance.{instance_end, padded_instance}
-use Rattle.event_text.specs.ResultWords.{short_word}
-use Rattle.event_text.specs.Settings.{is_level_shown}
+use Rattle.text_parts.specs.AttemptOutput.{attempt_output}
+use Rattle.text_parts.specs.Instance.{instance_end, padded_instance}
+use Rattle.text_parts.specs.ResultWords.{short_word}
+use Rattle.text_parts.specs.Settings.{is_level_shown}
 use Rattle.test_text.specs.StatusLine.{attempt_words}
-use Rattle.event_text.specs.declared.instance.CountedInstance.{CountedInstance}
-use Rattle.event_text.specs.declared.settings.Settings.{Settings}
+use Rattle.text_parts.specs.declared.instance.CountedInstance.{CountedInstance}
+use Rattle.text_parts.specs.declared.settings.Settings.{Settings}
 
 -- its line
 unfoldable pub attempt_failed_line : Styles → CountedInstance → Attempt → Text

@@ -5,10 +5,10 @@ use Rattle.run_names.specs.declared.name.TestInstanceId.{TestInstanceId}
 use Rattle.run_names.specs.declared.stress.StressIndex.{StressIndex}
 use Rattle.plain_text.specs.Style.{styled}
 use Rattle.plain_text.specs.Texts.{Text, right_in}
-use Rattle.event_text.specs.Instance.{padded_instance, untimed_end}
-use Rattle.event_text.specs.Settings.{is_level_shown}
-use Rattle.event_text.specs.declared.instance.CountedInstance.{CountedInstance}
-use Rattle.event_text.specs.declared.settings.Settings.{Settings}
+use Rattle.text_parts.specs.Instance.{padded_instance, untimed_end}
+use Rattle.text_parts.specs.Settings.{is_level_shown}
+use Rattle.text_parts.specs.declared.instance.CountedInstance.{CountedInstance}
+use Rattle.text_parts.specs.declared.settings.Settings.{Settings}
 
 -- its line
 unfoldable pub skip_line : Settings → CountedInstance → Text

@@ -11,11 +11,11 @@ use Rattle.plain_text.specs.Texts.{Text, right_in}
 use Rattle.plain_text.specs.declared.style.Style.{Style}
 use Rattle.plain_text.specs.declared.style.Styles.{Styles}
 use Rattle.unit_report.specs.Durations.{slow_duration}
-use Rattle.event_text.specs.Instance.{instance_end, padded_instance}
-use Rattle.event_text.specs.Settings.{is_level_shown}
+use Rattle.text_parts.specs.Instance.{instance_end, padded_instance}
+use Rattle.text_parts.specs.Settings.{is_level_shown}
 use Rattle.test_text.specs.StatusLine.{attempt_words}
-use Rattle.event_text.specs.declared.instance.CountedInstance.{CountedInstance}
-use Rattle.event_text.specs.declared.settings.Settings.{Settings}
+use Rattle.text_parts.specs.declared.instance.CountedInstance.{CountedInstance}
+use Rattle.text_parts.specs.declared.settings.Settings.{Settings}
 
 -- the end of a slow test's line: how long the attempt has taken, and the test
 unfoldable pub slow_end : Styles → CountedInstance → ℕ → Text

@@ -7,11 +7,11 @@ use Rattle.run_names.specs.declared.stress.StressIndex.{StressIndex}
 use Rattle.report_text.specs.Quoting.{shell_words}
 use Rattle.plain_text.specs.Style.{plain, styled}
 use Rattle.plain_text.specs.Texts.{Text, right_in}
-use Rattle.event_text.specs.Instance.{padded_instance, untimed_end}
-use Rattle.event_text.specs.Settings.{shows_starts, started_counter}
+use Rattle.text_parts.specs.Instance.{padded_instance, untimed_end}
+use Rattle.text_parts.specs.Settings.{shows_starts, started_counter}
 use Rattle.test_text.specs.StatusLine.{attempt_words}
-use Rattle.event_text.specs.declared.instance.CountedInstance.{CountedInstance}
-use Rattle.event_text.specs.declared.settings.Settings.{Settings}
+use Rattle.text_parts.specs.declared.instance.CountedInstance.{CountedInstance}
+use Rattle.text_parts.specs.declared.settings.Settings.{Settings}
 
 -- a test that starts, with the counter that it will have if it is the next to finish
 abbrev pub started_instance : Settings → Option StressIndex → TestInstanceId → RunStats → CountedInstance

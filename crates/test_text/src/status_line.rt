@@ -6,14 +6,9 @@ ghost use Rattle.run_model.specs.Statuses.{described_summary, is_aborted};
 ghost use Rattle.plain_text.specs.Writer.{Puts};
 ghost use Rattle.plain_text.specs.Style.{plain, styled};
 ghost use Rattle.plain_text.specs.Texts.{right_in};
-ghost use Rattle.event_text.specs.ResultWords.{long_failure_word, long_word};
+ghost use Rattle.text_parts.specs.ResultWords.{long_failure_word, long_word};
 ghost use Rattle.test_text.specs.StatusLine.{is_final_line, shown_summary, flaky_style, flaky_words, failure_words, success_text, is_flaky_failure, status_prefix, flaky_note, flaky_failure_line, status_line};
 
-use event_text::abort_line::write_abort_line;
-use event_text::instance::{CountedInstance, write_instance};
-use event_text::result_words::{
-    is_plain_success, spaced_short_status_str, status_str, success_str,
-};
 use itoa::Buffer;
 use plain_text::style::{Style, Styles, write_plain};
 use plain_text::write_str::{WriteFault, WriteStr};
@@ -25,6 +20,11 @@ use run_model::status::{
 };
 use run_model::time::Nanos;
 use std::alloc::Global;
+use text_parts::abort_line::write_abort_line;
+use text_parts::instance::{CountedInstance, write_instance};
+use text_parts::result_words::{
+    is_plain_success, spaced_short_status_str, status_str, success_str,
+};
 use unit_report::formatters::DisplayBracketedDuration;
 
 /// Where the line of a finished test stands.
@@ -262,7 +262,7 @@ fn is_plain_failure(attempt: u32, failed: &ExecutionResultDescription) -> bool
     attempt == 1 && is_plain_fail(failed)
 }
 
-#[tactic(auto, unfolding(event_text::specs::ResultWords::long_word))]
+#[tactic(auto, unfolding(text_parts::specs::ResultWords::long_word))]
 fn is_plain_fail(failed: &ExecutionResultDescription) -> bool
     ensures { OnTrue result (long_word failed.now ≡ codes "FAIL") }
 {

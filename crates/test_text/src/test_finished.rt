@@ -6,10 +6,6 @@ ghost use Rattle.plain_text.specs.Writer.{Puts};
 ghost use Rattle.test_text.specs.TestFinished.{HasShownOutput, finish_of, line_at_once, output_at_once, test_finish, test_finished_text};
 
 use crate::status_line::{StatusLine, StatusLineKind, write_status_line};
-use event_text::attempt_output::write_test_execute_status;
-use event_text::finish::FinishRow;
-use event_text::instance::CountedInstance;
-use event_text::settings::Settings;
 use plain_text::write_str::{WriteFault, WriteStr};
 use run_model::config::TestOutputDisplay;
 use run_model::level::CancelReason;
@@ -18,6 +14,10 @@ use run_model::output::LiveSpec;
 use run_model::stats::RunStats;
 use run_model::status::{ExecutionDescription, ExecutionStatuses};
 use run_model::stress::StressIndex;
+use text_parts::attempt_output::write_test_execute_status;
+use text_parts::finish::OutputTiming;
+use text_parts::instance::CountedInstance;
+use text_parts::settings::Settings;
 
 /// A finished test, as its line, its output and its entry are made of it.
 #[derive(Clone, Copy)]
@@ -29,7 +29,7 @@ pub struct FinishedTest<'e, 'a> {
     /// When the output of the last one is asked to be shown.
     pub display: TestOutputDisplay,
     /// When its output is shown.
-    pub row: FinishRow,
+    pub row: OutputTiming,
 }
 
 impl<'e, 'a> FinishedTest<'e, 'a> {
@@ -55,7 +55,7 @@ impl<'e, 'a> FinishedTest<'e, 'a> {
             },
             describe,
             display: settings.display_of(success_output, failure_output, &describe),
-            row: FinishRow::of_test(reason, &describe.last_status().result),
+            row: OutputTiming::of_test(reason, &describe.last_status().result),
         }
     }
 }

@@ -5,15 +5,11 @@ ghost use Rattle.plain_text.specs.Style.{styled};
 ghost use Rattle.plain_text.specs.Texts.{right_in};
 ghost use Rattle.plain_text.specs.Writer.{Puts};
 ghost use Rattle.test_text.specs.TestRetry.{HasFailedAttemptOutput, attempt_failed_line, attempt_failed_text, delay_line, delay_words, failed_output, is_failed_output_shown};
-ghost use Rattle.event_text.specs.Settings.{is_level_shown};
+ghost use Rattle.text_parts.specs.Settings.{is_level_shown};
 ghost use Rattle.test_text.specs.StatusLine.{attempt_words};
 ghost use Rattle.run_names.specs.declared.level.StatusLevel.TheVariants.{Retry};
-ghost use Rattle.event_text.specs.ResultWords.{short_word};
+ghost use Rattle.text_parts.specs.ResultWords.{short_word};
 
-use event_text::attempt_output::write_test_execute_status;
-use event_text::instance::{CountedInstance, write_instance_end};
-use event_text::result_words::spaced_short_status_str;
-use event_text::settings::Settings;
 use itoa::Buffer;
 use plain_text::style::{Style, Styles, write_plain};
 use plain_text::write_str::{WriteFault, WriteStr};
@@ -24,6 +20,10 @@ use run_model::output::LiveSpec;
 use run_model::status::{ExecuteStatus, ExecutionResultDescription, RetryData};
 use run_model::stress::StressIndex;
 use run_model::time::Nanos;
+use text_parts::attempt_output::write_test_execute_status;
+use text_parts::instance::{CountedInstance, write_instance_end};
+use text_parts::result_words::spaced_short_status_str;
+use text_parts::settings::Settings;
 use unit_report::formatters::{DisplayBracketedDuration, DisplayDurationBy};
 
 /// Writes that an attempt has failed and another one follows, where such attempts are shown: its line, its output where

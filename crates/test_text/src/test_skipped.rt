@@ -3,12 +3,12 @@
 ghost use Rattle.plain_text.specs.Writer.{Puts};
 ghost use Rattle.test_text.specs.TestSkipped.{skip_line, test_skipped_text};
 
-use event_text::instance::{CountedInstance, write_untimed_end};
-use event_text::settings::Settings;
 use plain_text::write_str::{WriteFault, WriteStr};
 use run_model::level::StatusLevel;
 use run_model::name::TestInstanceId;
 use run_model::stress::StressIndex;
+use text_parts::instance::{CountedInstance, write_untimed_end};
+use text_parts::settings::Settings;
 
 /// Writes that a test is not run, where skipped tests are shown.
 #[tactic(auto, unfolding(crate::specs::TestSkipped::test_skipped_text))]

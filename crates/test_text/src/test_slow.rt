@@ -6,8 +6,6 @@ ghost use Rattle.plain_text.specs.Texts.{right_in};
 ghost use Rattle.plain_text.specs.Writer.{Puts};
 ghost use Rattle.test_text.specs.TestSlow.{has_number, is_last_attempt, is_level_exceeded, slow_end, slow_text, slow_word, terminating_level, terminating_style, terminating_text, terminating_word, test_slow_text};
 
-use event_text::instance::{CountedInstance, write_instance_end};
-use event_text::settings::Settings;
 use itoa::Buffer;
 use plain_text::style::{Style, Styles, write_plain};
 use plain_text::write_str::{WriteFault, WriteStr};
@@ -16,6 +14,8 @@ use run_model::name::TestInstanceId;
 use run_model::status::RetryData;
 use run_model::stress::StressIndex;
 use run_model::time::Nanos;
+use text_parts::instance::{CountedInstance, write_instance_end};
+use text_parts::settings::Settings;
 use unit_report::formatters::DisplaySlowDuration;
 
 /// Writes that an attempt of a test is slow, or that it is ended for that, where its level is shown.

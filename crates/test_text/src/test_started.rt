@@ -2,11 +2,9 @@
 
 ghost use Rattle.std.specs.Prelude.{◌≡◌};
 ghost use Rattle.plain_text.specs.Writer.{Puts};
-ghost use Rattle.event_text.specs.Instance.{padded_instance};
+ghost use Rattle.text_parts.specs.Instance.{padded_instance};
 ghost use Rattle.test_text.specs.TestStarted.{command_text, retry_start_line, start_line, started_instance, test_retry_started_text, test_started_text};
 
-use event_text::instance::{CountedInstance, write_untimed_end};
-use event_text::settings::Settings;
 use itoa::Buffer;
 use plain_text::style::write_plain;
 use plain_text::write_str::{WriteFault, WriteStr};
@@ -16,6 +14,8 @@ use run_model::name::TestInstanceId;
 use run_model::stats::RunStats;
 use run_model::status::RetryData;
 use run_model::stress::StressIndex;
+use text_parts::instance::{CountedInstance, write_untimed_end};
+use text_parts::settings::Settings;
 
 /// Writes that a test has started, and the command that runs it.
 ///

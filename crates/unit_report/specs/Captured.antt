@@ -2,7 +2,7 @@
 use Rattle.std.specs.Prelude.{ℕ, ◌+◌, Bool, true, false, ◌&&◌, ◌==◌, List, [], ◌∷◌, ◌++◌, Option, None, Some, take, drop, if◌then◌else◌}
 use Rattle.run_model.specs.Outputs.{Part}
 use Rattle.run_model.specs.declared.output.ByteSubslice.{ByteSubslice}
-use Rattle.plain_text.specs.EndLine.{without_end_line}
+use Rattle.plain_text.specs.TrailingNewline.{without_trailing_newline}
 use Rattle.plain_text.specs.Escapes.{visible}
 use Rattle.plain_text.specs.Highlights.{highlight_end}
 use Rattle.plain_text.specs.Lossy.{ends_character}
@@ -14,11 +14,11 @@ use Rattle.unit_report.specs.HighlightedLines.{highlighted_lines}
 
 -- without colour: no escape sequences, and one line feed at the end
 unfoldable pub plain_output : Text → Text
-plain_output t = without_end_line (visible t) ++ 10 ∷ []
+plain_output t = without_trailing_newline (visible t) ++ 10 ∷ []
 
 -- with colour: as it is, but that no colour goes on after the end
 unfoldable pub reset_output : Text → Text
-reset_output t = without_end_line t ++ (reset_color ++ 10 ∷ [])
+reset_output t = without_trailing_newline t ++ (reset_color ++ 10 ∷ [])
 
 -- a highlight between what stands before it and what follows it
 unfoldable pub highlighted_output : Style → Text → Text → Text → Text

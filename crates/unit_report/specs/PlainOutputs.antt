@@ -8,7 +8,7 @@ use Rattle.run_model.specs.declared.output.ChildOutputDescription.{ChildOutputDe
 use Rattle.run_model.specs.declared.output.ChildOutputDescription.TheVariants.{Split, Combined, NotLoaded}
 use Rattle.run_model.specs.declared.output.Highlight.{Highlight}
 use Rattle.run_model.specs.declared.output.LiveSpec.{LiveSpec}
-use Rattle.plain_text.specs.EndLine.{ends_in_line_feed}
+use Rattle.plain_text.specs.TrailingNewline.{ends_in_line_feed}
 use Rattle.plain_text.specs.Escapes.{HasNoEscape}
 use Rattle.plain_text.specs.Lossy.{decoded_text}
 use Rattle.report_words.specs.PlainTexts.{HoldsIf, IsPlainChain}

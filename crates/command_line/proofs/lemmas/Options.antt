@@ -5,7 +5,7 @@ use Rattle.std.specs.declared.alloc.Global.{Global}
 use Rattle.std.proofs.lemmas.Bool.{cases_Bool}
 use Rattle.std.proofs.lemmas.List.{take_all}
 use Rattle.std.proofs.lemmas.Slice.Eq.{bytes_eq-Decides}
-use Rattle.command_line.specs.Words.{Asked, Said, Text, asked_of, with_flag, with_level, with_store, options_after, texts}
+use Rattle.command_line.specs.Args.{Asked, Said, Text, asked_of, with_flag, with_level, with_store, options_after, texts}
 
 abbrev pub Words : Type 0
 Words = List (String Global)

@@ -4,7 +4,7 @@ use Rattle.std.specs.Option.{option_and_then, option_map_or}
 use Rattle.std.specs.Result.{IsErrOf}
 use Rattle.std.proofs.lemmas.List.{take_more, take_all, reverse-append}
 use Rattle.std.proofs.lemmas.Option.{slice_get-get_or, slice_get_past}
-use Rattle.plain_text.specs.Writer.{Meaning, WriterLaws, one_further}
+use Rattle.plain_text.specs.Writer.{Meaning, WriterLaws, successor}
 use Rattle.plain_text.specs.declared.write_str.WriteFault.{WriteFault}
 use Rattle.reporter_state.specs.declared.faults.WriteEventError.{WriteEventError}
 use Rattle.reporter_state.specs.declared.faults.WriteEventError.TheVariants.{RetriedSuccess, OutputNotLoaded, Io, Memory, Failed, StoreIo}
@@ -16,7 +16,7 @@ use Rattle.reporter_state.specs.Entries.{cancel}
 use Rattle.run_model.specs.declared.call.ReportCall.{ReportCall}
 use Rattle.plain_text.specs.declared.write_str.WriteFault.TheVariants.{Device, Memory as RefusedMemory}
 use Rattle.console_reporter.specs.Outcomes.{IsOfConsole, Stops, StopsAfter, StopsRecord, error_for}
-use Rattle.console_reporter.specs.Slots.{store_may_refuse}
+use Rattle.console_reporter.specs.OptionalStore.{store_may_refuse}
 use Rattle.console_reporter.specs.HeldState.{StandsAfter, MayGrowAt, MayGrowIn, may_grow_in}
 use Rattle.console_reporter.specs.declared.imp.reporter.DisplayReporter.{DisplayReporter}
 
@@ -96,10 +96,10 @@ module _ {S : Type 0} {m : Meaning S} (laws : WriterLaws m) where
 
   -- what the causes of a stop say
   module _ (a c : S) (t u : List ℕ) (e : WriteEventError) (h : StopsAfter m a t u e c) where
-    pub stopped_io : e ≡ Io → m.failures c ≡ one_further (m.failures a)
+    pub stopped_io : e ≡ Io → m.failures c ≡ successor (m.failures a)
     stopped_io is =
         laws.device h.mid c u (subst (λ x. Stops m h.mid u x c) is h.stopped)
-        ∙ ap one_further (laws.kept a h.mid t h.accepted).0
+        ∙ ap successor (laws.kept a h.mid t h.accepted).0
 
     pub stopped_known : e ≡ Failed → ⊥
     stopped_known is = subst (λ x. Stops m h.mid u x c) is h.stopped

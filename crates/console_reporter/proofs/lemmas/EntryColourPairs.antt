@@ -10,12 +10,12 @@ use Rattle.report_text.specs.PlainResults.{IsPlainResult}
 use Rattle.report_words.proofs.lemmas.ColourPairs.{IsColourPair, colour_pair-none, colour_pair-append}
 use Rattle.unit_report.specs.PlainOutputs.{IsPlainWritten}
 use Rattle.test_text.specs.TestFinished.{TestFinish, test_finish}
-use Rattle.event_text.specs.Finish.{display_of, is_final_wanted, row_at_end}
-use Rattle.event_text.specs.declared.instance.CountedInstance.{CountedInstance}
-use Rattle.event_text.specs.declared.settings.Settings.{Settings}
+use Rattle.text_parts.specs.Finish.{display_of, is_final_wanted, timed_at_end}
+use Rattle.text_parts.specs.declared.instance.CountedInstance.{CountedInstance}
+use Rattle.text_parts.specs.declared.settings.Settings.{Settings}
 use Rattle.test_text.specs.declared.status_line.StatusLineKind.TheVariants.{Final}
-use Rattle.event_text.proofs.lemmas.LineColourPairs.{painted, IsPlainTest, plain-finished_counter, plain-padded}
-use Rattle.event_text.proofs.lemmas.OutputColourPairs.{colour_pair-unit_output}
+use Rattle.text_parts.proofs.lemmas.LineColourPairs.{painted, IsPlainTest, plain-finished_counter, plain-padded}
+use Rattle.text_parts.proofs.lemmas.OutputColourPairs.{colour_pair-unit_output}
 use Rattle.test_text.proofs.lemmas.StatusColourPairs.{IsPlainFinish, colour_pair-status_line}
 use Rattle.test_text.proofs.lemmas.TestColourPairs.{colour_pair-skip_line}
 use Rattle.run_text.specs.PlainRuns.{IsPlainPrefix}
@@ -63,7 +63,7 @@ All-final_order P es h = All-ordered_by is_before is_before-ranks P es h
 -- what is kept of a test that finished
 plain-finished : (k : Bool) (f : TestFinish) → IsPlainFinish k f → IsPlainFinal k (final_output f)
 unfolding final_output
-plain-finished k f h = go (row_at_end f.row f.display)
+plain-finished k f h = go (timed_at_end f.row f.display)
   where
     go : (b : Bool) → IsPlainFinal k (cond b (ExecutedWithOutput f.summary f.last.output) (Executed f.summary))
     go true = (h.summary, h.output)

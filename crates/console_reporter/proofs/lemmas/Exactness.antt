@@ -1,4 +1,4 @@
--- What is observed is loaded, and in a calm run what is loaded is observed (for `DisplayReporter::output_load_decider`).
+-- What is observed is loaded, and in a uninterrupted run what is loaded is observed (for `DisplayReporter::output_load_decider`).
 use Rattle.std.proofs.Common.{◌≢◌, ◌≡◌, ℕ, Bool, true, false, List, [], ◌∷◌, ◌++◌, Option, None, Some, refl, sym, ap, ◌∙◌, reverse, append_assoc, inl, inr, codes, arith, lit<, subst, ◌<◌, ◌||◌, get_or}
 use Rattle.std.specs.List.{flat_map}
 use Rattle.std.specs.Option.{option_to_list}
@@ -33,16 +33,16 @@ use Rattle.store_text.specs.Netstring.{netstring, netstring_head}
 use Rattle.store_text.specs.Record.{record_text}
 use Rattle.store_text.specs.StoredOutput.{is_stored, stored_output}
 use Rattle.store_text.specs.declared.config.StoreConfig.{StoreConfig}
-use Rattle.event_text.specs.ResultWords.{short_word}
+use Rattle.text_parts.specs.ResultWords.{short_word}
 use Rattle.test_text.specs.TestFinished.{line_at_once, output_at_once, test_finished_text}
-use Rattle.event_text.specs.Finish.{display_of, is_final_wanted, row_at_end, row_at_once, row_listed}
-use Rattle.event_text.specs.Instance.{padded_instance}
+use Rattle.text_parts.specs.Finish.{display_of, is_final_wanted, timed_at_end, timed_at_once, timed_listed}
+use Rattle.text_parts.specs.Instance.{padded_instance}
 use Rattle.test_text.specs.TestRetry.{attempt_failed_line, attempt_failed_text, delay_line, failed_output, is_failed_output_shown}
-use Rattle.event_text.specs.Script.{Script}
-use Rattle.event_text.specs.Settings.{finished_counter, is_level_shown}
+use Rattle.text_parts.specs.Script.{Script}
+use Rattle.text_parts.specs.Settings.{finished_counter, is_level_shown}
 use Rattle.test_text.specs.StatusLine.{status_line}
-use Rattle.event_text.proofs.lemmas.Finishes.{row_below}
-use Rattle.event_text.specs.declared.settings.Settings.{Settings}
+use Rattle.text_parts.proofs.lemmas.Finishes.{row_below}
+use Rattle.text_parts.specs.declared.settings.Settings.{Settings}
 use Rattle.test_text.specs.declared.status_line.StatusLineKind.TheVariants.{Final}
 use Rattle.run_model.specs.Stats.{final_stats_of_run}
 use Rattle.unit_report.specs.Warnings.{final_warnings}
@@ -51,7 +51,7 @@ use Rattle.run_text.specs.Summary.{run_finished_text}
 use Rattle.run_text.specs.SetupScript.{failed_script_output, setup_script_finished_text, setup_script_line}
 use Rattle.reporter_state.specs.Refusals.{decider_by}
 use Rattle.console_reporter.specs.Accepted.{decider_of}
-use Rattle.console_reporter.specs.Calm.{AreCalm, is_end_of_run}
+use Rattle.console_reporter.specs.Uninterrupted.{AreUninterrupted, is_end_of_run}
 use Rattle.console_reporter.specs.Configuration.{Configuration, settings_of}
 use Rattle.reporter_state.specs.Effects.{entry_of, final_output}
 use Rattle.reporter_state.specs.Entries.{cancel, final_order, final_text}
@@ -66,7 +66,7 @@ use Rattle.run_model.specs.declared.call.ReportCall.TheVariants.{Event}
 use Rattle.reporter_state.specs.declared.decider.OutputLoadDecider.{OutputLoadDecider}
 use Rattle.reporter_state.specs.declared.final_output.FinalOutputEntry.{FinalOutputEntry}
 use Rattle.reporter_state.specs.declared.kept_test.KeptTest.{KeptTest}
-use Rattle.console_reporter.proofs.lemmas.CalmRuns.{calm_back, calm_both, calm_end, calm_entries, calm_front, calm_past, listing}
+use Rattle.console_reporter.proofs.lemmas.UninterruptedRuns.{uninterrupted_back, uninterrupted_both, uninterrupted_end, uninterrupted_entries, uninterrupted_front, uninterrupted_past, listing}
 use Rattle.console_reporter.proofs.lemmas.Isolation.{same-record, same-unloaded}
 use Rattle.console_reporter.proofs.lemmas.OtherOutputs.{ascii, outputs_differ}
 use Rattle.reporter_state.proofs.lemmas.Places.{entry_with, text-place}
@@ -199,7 +199,7 @@ listed_differ s test x front back elapsed other is e = absurd (false≢true is)
 
 -- a finished test whose output is shown
 module _ (config : Configuration) (before after : List ReportCall) (elapsed : Nanos) (stress : Option StressIndex) (test : TestInstanceId) (success failure : TestOutputDisplay)
-    (statuses : Attempts LiveSpec ChildOutputDescription) (stats : RunStats) (calm : AreCalm before) where
+    (statuses : Attempts LiveSpec ChildOutputDescription) (stats : RunStats) (uninterrupted : AreUninterrupted before) where
   abbrev s : Settings
   s = settings_of config
 
@@ -210,23 +210,23 @@ module _ (config : Configuration) (before after : List ReportCall) (elapsed : Na
   display = display_of s success failure (summary_of statuses)
 
   finish_at_once : (rest : List ReportCall) → is_immediate display ≡ true → IsSeen config before finished rest
-  unfolding event_text test_finished_text line_at_once output_at_once row_at_once
+  unfolding event_text test_finished_text line_at_once output_at_once timed_at_once
   finish_at_once rest now = observed_at_once config before rest finished (λ e.
-      let row = row_below (cancel (reverse before)) statuses.last.result (calm_past before calm) in
+      let row = row_below (cancel (reverse before)) statuses.last.result (uninterrupted_past before uninterrupted) in
       outputs_differ s unit.Test false statuses.last.result (append_cancel_left _ _ _ (rw (row, now) at e)))
 
   kept_with : (output : Written) → is_final display ≡ true →
       entry_of s 0 (with_output output finished.kind) ≡ Some (entry_with (kept_test (record { stress_index = stress; counter = finished_counter s stats; instance = test })) (summary_of statuses) output)
-  unfolding final_output row_at_end row_listed is_final_wanted
+  unfolding final_output timed_at_end timed_listed is_final_wanted
   kept_with output final = rw (row_below 0 statuses.last.result (omega arith), final) refl
 
-  finish_at_end : (end : TestEvent) → is_end_of_run end.kind ≡ true → AreCalm after → is_final display ≡ true → IsSeen config before finished (after ++ Event end ∷ [])
-  finish_at_end end ends calm_after final =
-      let f = calm_entries s in
+  finish_at_end : (end : TestEvent) → is_end_of_run end.kind ≡ true → AreUninterrupted after → is_final display ≡ true → IsSeen config before finished (after ++ Event end ∷ [])
+  finish_at_end end ends uninterrupted_after final =
+      let f = uninterrupted_entries s in
       let shown = λ (t : Text). entry_with (kept_test (record { stress_index = stress; counter = finished_counter s stats; instance = test })) (summary_of statuses) (combined t) in
       let said : (t : Text) → text config (reverse (before ++ writing t finished ∷ after)) (Event end)
       ≡ event_text s (listing (final_order (flat_map f before ++ shown t ∷ flat_map f after))) end.elapsed.0 end.kind =
-      λ t. calm_end config (before ++ writing t finished ∷ after) end (calm_both before (writing t finished ∷ after) calm (lit< tt, calm_after)) ends
+      λ t. uninterrupted_end config (before ++ writing t finished ∷ after) end (uninterrupted_both before (writing t finished ∷ after) uninterrupted (lit< tt, uninterrupted_after)) ends
       ∙ ap (λ entries. event_text s (listing (final_order entries)) end.elapsed.0 end.kind)
       (flat_map-append f before (writing t finished ∷ after) ∙ ap (λ o. flat_map f before ++ (option_to_list o ++ flat_map f after)) (kept_with (combined t) final)) in
       observed_at_end config before after finished end (λ e.
@@ -262,7 +262,7 @@ is_loaded true h = refl
 is_loaded false h = cc
 
 loaded_is_observed : (config : Configuration) (before after : List ReportCall) (elapsed : Nanos) (kind : TestEventKind) (end : TestEvent) → is_end_of_run end.kind ≡ true →
-    AreCalm before → AreCalm after → decision (decider_of config) kind ≡ Some Load → IsObserved config before (record { elapsed = elapsed; kind = kind }) (after ++ Event end ∷ [])
+    AreUninterrupted before → AreUninterrupted after → decision (decider_of config) kind ≡ Some Load → IsObserved config before (record { elapsed = elapsed; kind = kind }) (after ++ Event end ∷ [])
 unfolding event_text display_of
 loaded_is_observed config before after elapsed (SetupScriptFinished stress id program args status) end ends front back loads =
     inl (observed_at_once config before (after ++ Event end ∷ []) (record { elapsed = elapsed; kind = SetupScriptFinished stress id program args status })
@@ -284,12 +284,12 @@ loaded_is_observed config before after elapsed other end ends front back loads =
 pub exact : (config : Configuration) → IsExact config (decider_of config)
 exact config before after event = (
   λ observed. observed_is_loaded config before after event (decision (decider_of config) event.kind) refl observed,
-  λ calm ends. (
+  λ uninterrupted ends. (
     λ observed. observed_is_loaded config before after event (decision (decider_of config) event.kind) refl observed,
     λ loaded.
-        let front = calm_front before (Event event ∷ after) calm in
-        let rest = calm_back before (Event event ∷ after) calm in
-        let back = calm_front ends.0 (Event ends.1 ∷ []) (subst AreCalm ends.2 rest.1) in
+        let front = uninterrupted_front before (Event event ∷ after) uninterrupted in
+        let rest = uninterrupted_back before (Event event ∷ after) uninterrupted in
+        let back = uninterrupted_front ends.0 (Event ends.1 ∷ []) (subst AreUninterrupted ends.2 rest.1) in
         subst (IsObserved config before event) (sym ends.2) (loaded_is_observed config before ends.0 event.elapsed event.kind ends.1 ends.3 front back loaded),
   ),
 )

@@ -10,8 +10,8 @@ use Rattle.run_model.specs.declared.event.TestEventKind.{TestEventKind}
 use Rattle.run_model.specs.declared.event.TestEventKind.TheVariants.{TestFinished}
 use Rattle.run_model.specs.declared.stats.RunStats.{RunStats}
 use Rattle.run_names.specs.declared.time.Nanos.{Nanos}
-use Rattle.event_text.specs.declared.settings.Settings.{Settings}
-use Rattle.console_reporter.specs.Calm.{AreCalm}
+use Rattle.text_parts.specs.declared.settings.Settings.{Settings}
+use Rattle.console_reporter.specs.Uninterrupted.{AreUninterrupted}
 use Rattle.console_reporter.specs.Configuration.{Configuration, settings_of}
 use Rattle.reporter_state.specs.Entries.{cancel, entry_cmp, entry_key, final_order, is_before}
 use Rattle.console_reporter.specs.OrderIndependence.{AreOfOneKey, IsOrderIndependent, entry_after}
@@ -20,7 +20,7 @@ use Rattle.console_reporter.specs.Statistics.{IsStatsIndependent, with_stats}
 use Rattle.run_model.specs.declared.call.ReportCall.{ReportCall}
 use Rattle.run_model.specs.declared.call.ReportCall.TheVariants.{Event, Header, Prefix}
 use Rattle.reporter_state.specs.declared.final_output.FinalOutputEntry.{FinalOutputEntry}
-use Rattle.console_reporter.proofs.lemmas.CalmRuns.{calm_back, calm_both, calm_end, calm_entries, calm_entry, calm_front, calm_more, calm_past, listing}
+use Rattle.console_reporter.proofs.lemmas.UninterruptedRuns.{uninterrupted_back, uninterrupted_both, uninterrupted_end, uninterrupted_entries, uninterrupted_entry, uninterrupted_front, uninterrupted_more, uninterrupted_past, listing}
 use Rattle.reporter_state.proofs.lemmas.Keys.{is_before-ranks}
 use Rattle.reporter_state.proofs.lemmas.Orders.{order-swap}
 use Rattle.console_reporter.proofs.lemmas.Same.{IsSameEvent, same-but-one}
@@ -40,37 +40,37 @@ apart front back None y h = refl
 apart front back (Some x) None h = refl
 apart front back (Some x) (Some y) h = swapped front back x y (entry_cmp x y) refl h
 
--- what is kept of a call is the same under each calm reason
-calm_after : (config : Configuration) (past : List ReportCall) (call : ReportCall) → cancel past < 5 → calm_entries (settings_of config) call ≡ option_to_list (entry_after config past call)
-calm_after config past (Event e) h = ap option_to_list (sym (calm_entry (settings_of config) (cancel past) e.kind h))
-calm_after config past (Header k) h = refl
-calm_after config past (Prefix p) h = refl
+-- what is kept of a call is the same under each uninterrupted reason
+uninterrupted_after : (config : Configuration) (past : List ReportCall) (call : ReportCall) → cancel past < 5 → uninterrupted_entries (settings_of config) call ≡ option_to_list (entry_after config past call)
+uninterrupted_after config past (Event e) h = ap option_to_list (sym (uninterrupted_entry (settings_of config) (cancel past) e.kind h))
+uninterrupted_after config past (Header k) h = refl
+uninterrupted_after config past (Prefix p) h = refl
 
 -- the order of all that is kept
 exchanged : (s : Settings) (before after : List ReportCall) (first second : ReportCall) (x y : Option FinalOutputEntry) →
-    calm_entries s first ≡ option_to_list x → calm_entries s second ≡ option_to_list y → (AreOfOneKey x y → ⊥) →
-    final_order (flat_map (calm_entries s) (before ++ second ∷ first ∷ after)) ≡ final_order (flat_map (calm_entries s) (before ++ first ∷ second ∷ after))
+    uninterrupted_entries s first ≡ option_to_list x → uninterrupted_entries s second ≡ option_to_list y → (AreOfOneKey x y → ⊥) →
+    final_order (flat_map (uninterrupted_entries s) (before ++ second ∷ first ∷ after)) ≡ final_order (flat_map (uninterrupted_entries s) (before ++ first ∷ second ∷ after))
 exchanged s before after first second x y is_first is_second h =
-    let f = calm_entries s in
+    let f = uninterrupted_entries s in
     ap final_order (flat_map-append f before (second ∷ first ∷ after))
     ∙ rw (is_first, is_second) (apart (flat_map f before) (flat_map f after) x y h)
     ∙ ap final_order (sym (flat_map-append f before (first ∷ second ∷ after)))
 
 pub order_independent : (config : Configuration) (calls : List ReportCall) → IsOrderIndependent config calls
-order_independent config calls before after first second end is ends calm differ =
+order_independent config calls before after first second end is ends uninterrupted differ =
     let s = settings_of config in
-    let whole : AreCalm (before ++ first ∷ second ∷ (after ++ Event end ∷ [])) = subst AreCalm is calm in
-    let front = calm_front before (first ∷ second ∷ (after ++ Event end ∷ [])) whole in
-    let rest = calm_back before (first ∷ second ∷ (after ++ Event end ∷ [])) whole in
-    let back = calm_front after (Event end ∷ []) rest.1.1 in
-    let one = calm_both before (first ∷ second ∷ after) front (rest.0, (rest.1.0, back)) in
-    let other = calm_both before (second ∷ first ∷ after) front (rest.1.0, (rest.0, back)) in
-    let past = calm_past before front in
-    let kept_first = calm_after config (reverse before) first past in
-    let kept_second = calm_after config (first ∷ reverse before) second (calm_more first (reverse before) rest.0 past) in
-    calm_end config (before ++ second ∷ first ∷ after) end other ends
+    let whole : AreUninterrupted (before ++ first ∷ second ∷ (after ++ Event end ∷ [])) = subst AreUninterrupted is uninterrupted in
+    let front = uninterrupted_front before (first ∷ second ∷ (after ++ Event end ∷ [])) whole in
+    let rest = uninterrupted_back before (first ∷ second ∷ (after ++ Event end ∷ [])) whole in
+    let back = uninterrupted_front after (Event end ∷ []) rest.1.1 in
+    let one = uninterrupted_both before (first ∷ second ∷ after) front (rest.0, (rest.1.0, back)) in
+    let other = uninterrupted_both before (second ∷ first ∷ after) front (rest.1.0, (rest.0, back)) in
+    let past = uninterrupted_past before front in
+    let kept_first = uninterrupted_after config (reverse before) first past in
+    let kept_second = uninterrupted_after config (first ∷ reverse before) second (uninterrupted_more first (reverse before) rest.0 past) in
+    uninterrupted_end config (before ++ second ∷ first ∷ after) end other ends
     ∙ ap (λ entries. event_text s (listing entries) end.elapsed.0 end.kind) (exchanged s before after first second _ _ kept_first kept_second differ)
-    ∙ sym (calm_end config (before ++ first ∷ second ∷ after) end one ends)
+    ∙ sym (uninterrupted_end config (before ++ first ∷ second ∷ after) end one ends)
 
 -- a finished test without a counter is the same event, whatever the statistics
 same-finished : (s : Settings) (elapsed : Nanos) (e : TestEventKind) (stats : RunStats) → s.counter_width ≡ None →

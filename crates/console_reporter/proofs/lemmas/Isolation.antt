@@ -22,20 +22,20 @@ use Rattle.run_model.specs.declared.status.SetupScriptExecuteStatus.{SetupScript
 use Rattle.run_names.specs.declared.stress.StressIndex.{StressIndex}
 use Rattle.run_names.specs.declared.time.Nanos.{Nanos}
 use Rattle.unit_report.specs.Overrides.{display_for}
-use Rattle.event_text.specs.ResultWords.{short_word}
+use Rattle.text_parts.specs.ResultWords.{short_word}
 use Rattle.store_text.specs.Netstring.{netstring}
 use Rattle.store_text.specs.Record.{record_text}
 use Rattle.store_text.specs.StoredOutput.{is_stored, stored_output}
 use Rattle.store_text.specs.declared.config.StoreConfig.{StoreConfig}
 use Rattle.test_text.specs.TestFinished.{TestFinish, line_at_once, output_at_once, test_finish, test_finished_text}
-use Rattle.event_text.specs.Finish.{display_of, is_ever_shown, row_at_end, row_at_once}
+use Rattle.text_parts.specs.Finish.{display_of, is_ever_shown, timed_at_end, timed_at_once}
 use Rattle.test_text.specs.TestRetry.{attempt_failed_text, attempt_failed_line, failed_output, is_failed_output_shown}
-use Rattle.event_text.specs.Settings.{is_level_shown}
-use Rattle.event_text.specs.declared.finish.FinishRow.{FinishRow}
-use Rattle.event_text.specs.declared.finish.FinishRow.TheVariants.{Hidden, Shown, ShownOnce}
-use Rattle.event_text.specs.declared.settings.Settings.{Settings}
+use Rattle.text_parts.specs.Settings.{is_level_shown}
+use Rattle.text_parts.specs.declared.finish.OutputTiming.{OutputTiming}
+use Rattle.text_parts.specs.declared.finish.OutputTiming.TheVariants.{Hidden, Shown, ShownOnce}
+use Rattle.text_parts.specs.declared.settings.Settings.{Settings}
 use Rattle.run_text.specs.SetupScript.{failed_script_output, setup_script_finished_text}
-use Rattle.event_text.specs.Script.{Script}
+use Rattle.text_parts.specs.Script.{Script}
 use Rattle.reporter_state.specs.Refusals.{AreAcceptedBy, decider_by, event_refusal, first_refused, refusal_at_by, refusal_by}
 use Rattle.console_reporter.specs.Accepted.{decider_of}
 use Rattle.console_reporter.specs.Configuration.{Configuration, settings_of}
@@ -61,8 +61,8 @@ not_loaded true h = absurd (false≢true h)
 not_loaded false h = refl
 
 -- a display that shows nothing, in each row
-never-at_once : (row : FinishRow) (display : TestOutputDisplay) → is_ever_shown display ≡ false → row_at_once row display ≡ false
-unfolding row_at_once
+never-at_once : (row : OutputTiming) (display : TestOutputDisplay) → is_ever_shown display ≡ false → timed_at_once row display ≡ false
+unfolding timed_at_once
 never-at_once Hidden display h = refl
 never-at_once Shown display h = elim (cases_Bool (is_immediate display)) [ inl y ↦ absurd (false≢true (sym (rw y at h))) | inr n ↦ n ]
 never-at_once ShownOnce display h = elim (cases_Bool (is_immediate display)) [ inl y ↦ absurd (false≢true (sym (rw y at h))) | inr n ↦ n ]
@@ -70,8 +70,8 @@ never-at_once ShownOnce display h = elim (cases_Bool (is_immediate display)) [ i
 never-final : (display : TestOutputDisplay) → is_ever_shown display ≡ false → is_final display ≡ false
 never-final display h = elim (cases_Bool (is_immediate display)) [ inl y ↦ absurd (false≢true (sym (rw y at h))) | inr n ↦ rw n at h ]
 
-never-at_end : (row : FinishRow) (display : TestOutputDisplay) → is_ever_shown display ≡ false → row_at_end row display ≡ false
-unfolding row_at_end
+never-at_end : (row : OutputTiming) (display : TestOutputDisplay) → is_ever_shown display ≡ false → timed_at_end row display ≡ false
+unfolding timed_at_end
 never-at_end Hidden display h = refl
 never-at_end Shown display h = never-final display h
 never-at_end ShownOnce display h = rw (never-final display h) refl

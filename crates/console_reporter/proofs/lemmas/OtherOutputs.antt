@@ -6,7 +6,7 @@ use Rattle.std.proofs.lemmas.List.{append_cancel_left, append_cancel_right}
 use Rattle.std.proofs.lemmas.Str.{IsUtf8-from_ascii}
 use Rattle.run_model.specs.declared.status.ExecutionResultDescription.{ExecutionResultDescription}
 use Rattle.run_names.specs.declared.unit.UnitKind.{UnitKind}
-use Rattle.plain_text.specs.EndLine.{without_end_line}
+use Rattle.plain_text.specs.TrailingNewline.{without_trailing_newline}
 use Rattle.plain_text.specs.Escapes.{visible_after}
 use Rattle.plain_text.specs.Indent.{indent}
 use Rattle.plain_text.specs.Style.{plain}
@@ -16,15 +16,15 @@ use Rattle.plain_text.proofs.lemmas.Decoded.{decoded-same}
 use Rattle.unit_report.specs.Captured.{captured, coloured_output, plain_output, reset_output}
 use Rattle.unit_report.specs.Header.{header_text}
 use Rattle.unit_report.specs.UnitOutput.{child_output, errors_text, execution_output, present_stream, shown_stream}
-use Rattle.event_text.specs.AttemptOutput.{finished_layout, info_line, output_margin, unit_output}
-use Rattle.event_text.specs.declared.settings.Settings.{Settings}
+use Rattle.text_parts.specs.AttemptOutput.{finished_layout, info_line, output_margin, unit_output}
+use Rattle.text_parts.specs.declared.settings.Settings.{Settings}
 use Rattle.console_reporter.specs.Exactness.{combined}
 
 abbrev shown : Bool → Styles → Text → Text
 shown no_indent s t = indent (output_margin no_indent) true (captured s t None)
 
 shown_differ : (no_indent : Bool) (s : Styles) (c : Bool) → s.is_colorized ≡ c → shown no_indent s (codes "a") ≢ shown no_indent s (codes "b")
-unfolding indent captured coloured_output plain_output reset_output without_end_line visible_after
+unfolding indent captured coloured_output plain_output reset_output without_trailing_newline visible_after
 shown_differ true s true is e = let f = rw is at e in let h : ◌≡◌ {A = ℕ} 97 98 = ap (λ l. get_or l 0 0) f in absurd (omega arith)
 shown_differ true s false is e = let f = rw is at e in let h : ◌≡◌ {A = ℕ} 97 98 = ap (λ l. get_or l 0 0) f in absurd (omega arith)
 shown_differ false s true is e = let f = rw is at e in let h : ◌≡◌ {A = ℕ} 97 98 = ap (λ l. get_or l 4 0) f in absurd (omega arith)

@@ -2,7 +2,7 @@
 use Rattle.std.proofs.Common.{◌≡◌, ℕ, ◌+◌, ◌<◌, ◌≤◌, List, [], length, reverse, get_or, sym, ap, ◌∙◌, subst, append-nil, arith, Option}
 use Rattle.std.specs.Option.{option_map_or}
 use Rattle.std.proofs.lemmas.Option.{slice_get-get_or, slice_get_past}
-use Rattle.plain_text.specs.Writer.{Meaning, WriterLaws, one_further}
+use Rattle.plain_text.specs.Writer.{Meaning, WriterLaws, successor}
 use Rattle.console_reporter.specs.Outcomes.{StopsRecord, StopsRecordAfter}
 use Rattle.console_reporter.specs.Report.{past_at}
 use Rattle.console_reporter.specs.Stored.{stored, stored_at, stored_text}
@@ -50,7 +50,7 @@ module _ {S : Type 0} {m : Meaning S} (laws : WriterLaws m) (store : Option Stor
   }
 
 -- what the cause of a stop of the store says
-pub stopped_store_io : {S : Type 0} {m : Meaning S} (laws : WriterLaws m) (a c : S) (t u : List ℕ) (e : WriteEventError) → StopsRecordAfter m a t u e c → e ≡ StoreIo → m.failures c ≡ one_further (m.failures a)
+pub stopped_store_io : {S : Type 0} {m : Meaning S} (laws : WriterLaws m) (a c : S) (t u : List ℕ) (e : WriteEventError) → StopsRecordAfter m a t u e c → e ≡ StoreIo → m.failures c ≡ successor (m.failures a)
 stopped_store_io {S} {m} laws a c t u e h is =
     laws.device h.mid c u (subst (λ x. StopsRecord m h.mid u x c) is h.stopped)
-    ∙ ap one_further (laws.kept a h.mid t h.accepted).0
+    ∙ ap successor (laws.kept a h.mid t h.accepted).0

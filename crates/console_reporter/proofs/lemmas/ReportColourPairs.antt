@@ -10,9 +10,9 @@ use Rattle.plain_text.specs.Escapes.{HasNoEscape}
 use Rattle.report_words.specs.PlainTexts.{HoldsIf}
 use Rattle.report_words.proofs.lemmas.ColourPairs.{IsColourPair, colour_pair-none, colour_pair-append, colour_pair-if, colour_pair-whole}
 use Rattle.unit_report.proofs.lemmas.SkipColourPairs.{colour_pair-final_warnings}
-use Rattle.event_text.specs.Finish.{display_of}
-use Rattle.event_text.specs.declared.settings.Settings.{Settings}
-use Rattle.event_text.proofs.lemmas.LineColourPairs.{painted}
+use Rattle.text_parts.specs.Finish.{display_of}
+use Rattle.text_parts.specs.declared.settings.Settings.{Settings}
+use Rattle.text_parts.proofs.lemmas.LineColourPairs.{painted}
 use Rattle.test_text.proofs.lemmas.StatusColourPairs.{colour_pair-test_finished_text}
 use Rattle.test_text.proofs.lemmas.TestColourPairs.{colour_pair-test_started_text, colour_pair-test_slow_text, colour_pair-attempt_failed_text, colour_pair-test_retry_started_text, colour_pair-test_skipped_text}
 use Rattle.run_text.specs.PlainRuns.{IsPlainPrefix}

@@ -35,25 +35,25 @@ use Rattle.report_words.specs.Plural.{tests_word_if, binaries_word}
 use Rattle.plain_text.specs.Style.{plain, styled, styles_of}
 use Rattle.plain_text.specs.Texts.{Text, right_in}
 use Rattle.report_words.specs.Theme.{hbar_text}
-use Rattle.event_text.specs.AbortLine.{abort_line}
-use Rattle.event_text.specs.Settings.{theme_of}
-use Rattle.event_text.specs.ResultWords.{long_word}
+use Rattle.text_parts.specs.AbortLine.{abort_line}
+use Rattle.text_parts.specs.Settings.{theme_of}
+use Rattle.text_parts.specs.ResultWords.{long_word}
 use Rattle.reporter_state.specs.Order.{ordered_by, put_in}
 use Rattle.reporter_state.specs.Entries.{cancel, kept, final_order}
 use Rattle.test_text.specs.TestFinished.{test_finish}
 use Rattle.reporter_state.specs.Effects.{finished_entry}
-use Rattle.event_text.specs.Finish.{display_of, finish_row, row_listed, is_final_wanted}
-use Rattle.event_text.specs.Bar.{bar_line}
+use Rattle.text_parts.specs.Finish.{display_of, output_timing, timed_listed, is_final_wanted}
+use Rattle.text_parts.specs.Bar.{bar_line}
 use Rattle.run_text.specs.RunId.{id_text, run_id_text}
 use Rattle.run_text.specs.Start.{profile_text, run_id_line, test_counts_text, starting_line, run_started_text}
 use Rattle.run_text.specs.Summary.{initial_count_text, run_counts_text, summary_line, run_finished_text}
 use Rattle.test_text.specs.StatusLine.{status_prefix, flaky_failure_line, status_line}
 use Rattle.run_model.specs.declared.call.ReportCall.TheVariants.{Event}
-use Rattle.event_text.specs.declared.finish.FinishRow.TheVariants as row
-use Rattle.event_text.specs.declared.settings.Settings.{Settings}
+use Rattle.text_parts.specs.declared.finish.OutputTiming.TheVariants as row
+use Rattle.text_parts.specs.declared.settings.Settings.{Settings}
 use Rattle.test_text.specs.declared.status_line.StatusLineKind.{StatusLineKind}
 use Rattle.test_text.specs.declared.status_line.StatusLineKind.TheVariants.{Intermediate, Final}
-use Rattle.event_text.specs.StatsText.{summary_text, counted_text, passed_notes, passed_note, notes_end, failed_counts, failed_count, leaky_failed_note, exec_failed_count, timed_out_count, other_failed_count}
+use Rattle.text_parts.specs.StatsText.{summary_text, counted_text, passed_notes, passed_note, notes_end, failed_counts, failed_count, leaky_failed_note, exec_failed_count, timed_out_count, other_failed_count}
 use Rattle.plain_text.specs.Numbers.{seconds, with_point}
 use Rattle.report_text.specs.Instance.{test_text, stress_prefix, counter_prefix, test_name_text}
 use Rattle.unit_report.specs.Durations.{bracketed_duration}
@@ -155,23 +155,23 @@ failed_line Intermediate test output code time binary name after = rw (binary, n
 twice : (event finish : TestEvent) (stress : Option StressIndex) (test : TestInstanceId) (success : TestOutputDisplay) (output : Written) (code : ℤ) (time elapsed : Nanos) →
     event.kind ≡ TestFinished stress test success Never (failed output code time) stats → finish.kind ≡ RunFinished elapsed (Single stats) None →
     final_order (kept settings (Event finish ∷ Event event ∷ [])) ≡ finished_entry (test_finish settings 0 stress test success Never (failed output code time) stats) ∷ []
-unfolding kept cancel ordered_by put_in display_of finish_row row_listed is_final_wanted
+unfolding kept cancel ordered_by put_in display_of output_timing timed_listed is_final_wanted
 twice event finish stress test success output code time elapsed is end = rw (is, end) refl
 
 -- rows of the table on finished tests: under an immediate end a test that ended by signal 15 and one with a code, then any
 -- test under a signal and under an interrupt
-terminated : (name : Option Text) (leaked : Bool) → finish_row (reason_rank (Some cause.TestFailureImmediate)) (outcome.Fail (Abort (UnixSignal (pos 15) name)) leaked) ≡ row.Hidden
-unfolding finish_row
+terminated : (name : Option Text) (leaked : Bool) → output_timing (reason_rank (Some cause.TestFailureImmediate)) (outcome.Fail (Abort (UnixSignal (pos 15) name)) leaked) ≡ row.Hidden
+unfolding output_timing
 terminated name leaked = refl
 
-ended_by_itself : (code : ℤ) (leaked : Bool) → finish_row (reason_rank (Some cause.TestFailureImmediate)) (outcome.Fail (ExitCode code) leaked) ≡ row.Shown
-unfolding finish_row
+ended_by_itself : (code : ℤ) (leaked : Bool) → output_timing (reason_rank (Some cause.TestFailureImmediate)) (outcome.Fail (ExitCode code) leaked) ≡ row.Shown
+unfolding output_timing
 ended_by_itself code leaked = refl
 
-under_a_signal : (result : ExecutionResultDescription) → finish_row (reason_rank (Some cause.Signal)) result ≡ row.ShownOnce
-unfolding finish_row
+under_a_signal : (result : ExecutionResultDescription) → output_timing (reason_rank (Some cause.Signal)) result ≡ row.ShownOnce
+unfolding output_timing
 under_a_signal result = refl
 
-under_an_interrupt : (result : ExecutionResultDescription) → finish_row (reason_rank (Some cause.Interrupt)) result ≡ row.Hidden
-unfolding finish_row
+under_an_interrupt : (result : ExecutionResultDescription) → output_timing (reason_rank (Some cause.Interrupt)) result ≡ row.Hidden
+unfolding output_timing
 under_an_interrupt result = refl

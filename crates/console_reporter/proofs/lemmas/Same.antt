@@ -4,7 +4,7 @@ use Rattle.std.specs.List.{flat_map}
 use Rattle.std.proofs.lemmas.List.{reverse-append}
 use Rattle.plain_text.specs.Texts.{Text}
 use Rattle.run_model.specs.declared.event.TestEvent.{TestEvent}
-use Rattle.event_text.specs.declared.settings.Settings.{Settings}
+use Rattle.text_parts.specs.declared.settings.Settings.{Settings}
 use Rattle.console_reporter.specs.Configuration.{Configuration, settings_of}
 use Rattle.reporter_state.specs.Effects.{effect_of, entry_of}
 use Rattle.reporter_state.specs.Entries.{cancel, kept, prefix}

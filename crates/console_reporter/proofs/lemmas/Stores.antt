@@ -1,7 +1,7 @@
 -- A store that may be absent obeys the laws of writers (for `DisplayReporter::make_calls`, `run_report_with_store`).
 use Rattle.std.proofs.Common.{◌≡◌, ℕ, List, [], ◌++◌, Option, None, Some, refl, ap, subst, ◌∙◌, Result, Ok, Err, OnOk, IfErr, ◌⊎◌, inl, inr}
 use Rattle.std.specs.Io.KnownBytes.{Appends}
-use Rattle.plain_text.specs.Writer.{AppendsFront, Meaning, WriterLaws, one_further}
+use Rattle.plain_text.specs.Writer.{AppendsFront, Meaning, WriterLaws, successor}
 use Rattle.plain_text.specs.declared.write_str.WriteFault.TheVariants.{Device, Memory as RefusedMemory}
 use Rattle.console_reporter.specs.Outcomes.{StopsRecord, StopsRecordAfter}
 use Rattle.console_reporter.specs.HeldState.{MayGrowAt, StandsAfter}
@@ -17,7 +17,7 @@ use Rattle.plain_text.specs.declared.write_str.WriteFault.{WriteFault}
 use Rattle.console_reporter.specs.Report.{past_at, report, text_at}
 use Rattle.console_reporter.specs.Stored.{stored, stored_at}
 use Rattle.console_reporter.specs.Telling.{BreaksRun, TellsRun}
-use Rattle.console_reporter.specs.Slots.{IsSameStore, config_of, store_accepts, store_adds, store_failures, store_known, store_may_refuse, store_meaning, store_stops}
+use Rattle.console_reporter.specs.OptionalStore.{IsSameStore, config_of, store_accepts, store_adds, store_failures, store_known, store_may_refuse, store_meaning, store_stops}
 use Rattle.console_reporter.specs.declared.imp.store.Store.{Store}
 
 pub same-store : {S : Type 0} (a : Option (Store S)) → IsSameStore a a
@@ -90,7 +90,7 @@ module _ {S : Type 0} {m : Meaning S} (laws : WriterLaws m) where
   kept (Some a) None t p = absurd p
   kept (Some a) (Some b) t p = laws.kept _ _ t p
 
-  device : (a b : Option (Store S)) (t : List ℕ) → store_stops m a t Device b → store_failures m b ≡ one_further (store_failures m a)
+  device : (a b : Option (Store S)) (t : List ℕ) → store_stops m a t Device b → store_failures m b ≡ successor (store_failures m a)
   device None b t p = absurd p
   device (Some a) None t p = absurd p
   device (Some a) (Some b) t p = laws.device _ _ t p

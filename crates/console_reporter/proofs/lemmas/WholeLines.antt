@@ -38,10 +38,10 @@ use Rattle.run_model.specs.declared.replay.ReplayHeader.{ReplayHeader}
 use Rattle.run_text.specs.Header.{replay_header_text, started_line}
 use Rattle.plain_text.specs.Style.{plain}
 use Rattle.plain_text.specs.declared.style.Styles.{Styles}
-use Rattle.event_text.specs.AbortLine.{nt_line, job_object_line, line_of_abort, abort_line}
-use Rattle.event_text.specs.AttemptOutput.{attempt_output, has_info_line, info_line, shown_info_line, unit_output}
+use Rattle.text_parts.specs.AbortLine.{nt_line, job_object_line, line_of_abort, abort_line}
+use Rattle.text_parts.specs.AttemptOutput.{attempt_output, has_info_line, info_line, shown_info_line, unit_output}
 use Rattle.run_model.specs.Attempts.{Attempt, Written}
-use Rattle.event_text.specs.Script.{Script}
+use Rattle.text_parts.specs.Script.{Script}
 use Rattle.run_model.specs.Statuses.{is_success}
 use Rattle.run_names.specs.declared.name.OwnedTestInstanceId.{OwnedTestInstanceId}
 use Rattle.run_names.specs.declared.not_seen.NotSeen.{NotSeen}
@@ -55,7 +55,7 @@ use Rattle.run_names.specs.declared.unit.UnitKind.TheVariants as unit
 use Rattle.plain_text.specs.declared.style.ListStyles.{ListStyles}
 use Rattle.report_words.specs.declared.theme.ThemeCharacters.{ThemeCharacters}
 use Rattle.run_model.specs.declared.info.InfoResponse.{InfoResponse as Response}
-use Rattle.event_text.specs.Bar.{bar_line}
+use Rattle.text_parts.specs.Bar.{bar_line}
 use Rattle.info_text.specs.Response.{info_response_text}
 use Rattle.info_text.specs.Seconds.{seconds_between}
 use Rattle.info_text.specs.Start.{info_finished_text, info_started_text}
@@ -63,13 +63,13 @@ use Rattle.console_reporter.specs.Telling.{told_text}
 use Rattle.console_reporter.specs.Configuration.{Configuration}
 use Rattle.test_text.specs.TestFinished.{TestFinish, test_finish, line_at_once, output_at_once, test_finished_text}
 use Rattle.reporter_state.specs.Entries.{hiding_rank, entry_text, final_text}
-use Rattle.event_text.specs.Finish.{is_line_shown, row_at_once}
+use Rattle.text_parts.specs.Finish.{is_line_shown, timed_at_once}
 use Rattle.reporter_state.specs.KeptTests.{borrowed_test}
 use Rattle.console_reporter.specs.Outcomes.{IsOfLines}
 use Rattle.console_reporter.specs.Report.{Known, end_of_run_text, event_text, listed_text, script_by, text}
-use Rattle.event_text.specs.Instance.{instance_end, padded_instance, untimed_end}
+use Rattle.text_parts.specs.Instance.{instance_end, padded_instance, untimed_end}
 use Rattle.test_text.specs.TestRetry.{attempt_failed_line, attempt_failed_text, delay_line, failed_output, is_failed_output_shown}
-use Rattle.event_text.specs.Settings.{is_level_shown, shows_starts}
+use Rattle.text_parts.specs.Settings.{is_level_shown, shows_starts}
 use Rattle.test_text.specs.TestSkipped.{skip_line, test_skipped_text}
 use Rattle.test_text.specs.TestSlow.{slow_end, slow_text, terminating_level, terminating_text, test_slow_text}
 use Rattle.test_text.specs.TestStarted.{command_text, retry_start_line, start_line, test_retry_started_text, test_started_text}
@@ -88,10 +88,10 @@ use Rattle.run_model.specs.declared.call.ReportCall.TheVariants.{Event, Header, 
 use Rattle.reporter_state.specs.declared.final_output.FinalOutput.{FinalOutput}
 use Rattle.reporter_state.specs.declared.final_output.FinalOutput.TheVariants.{Executed, ExecutedWithOutput, Skipped}
 use Rattle.reporter_state.specs.declared.final_output.FinalOutputEntry.{FinalOutputEntry}
-use Rattle.event_text.specs.declared.instance.CountedInstance.{CountedInstance}
+use Rattle.text_parts.specs.declared.instance.CountedInstance.{CountedInstance}
 use Rattle.test_text.specs.declared.status_line.StatusLineKind.{StatusLineKind}
 use Rattle.test_text.specs.declared.status_line.StatusLineKind.TheVariants.{Intermediate, Final}
-use Rattle.event_text.specs.declared.settings.Settings.{Settings}
+use Rattle.text_parts.specs.declared.settings.Settings.{Settings}
 
 -- the text ends in a line feed
 record EndsLine (t : Text) : Type 0 where
@@ -336,7 +336,7 @@ of_lines-line_at_once s f =
 of_lines-output_at_once : (s : Settings) (f : TestFinish) → IsOfLines (output_at_once s f)
 unfolding output_at_once
 of_lines-output_at_once s f =
-    elim (cases_Bool (row_at_once f.row f.display)) [ inl y ↦ rw y (of_line _ (ends-attempt_output s false f.last.result f.last.output)) | inr n ↦ rw n (inl refl) ]
+    elim (cases_Bool (timed_at_once f.row f.display)) [ inl y ↦ rw y (of_line _ (ends-attempt_output s false f.last.result f.last.output)) | inr n ↦ rw n (inl refl) ]
 
 of_lines-test_finished_text : (s : Settings) (f : TestFinish) → IsOfLines (test_finished_text s f)
 unfolding test_finished_text

@@ -4,12 +4,11 @@ ghost use Rattle.std.specs.Prelude.{◌≡◌, IfOk, [], None, Some};
 ghost use Rattle.console_reporter.specs.Accepted.{decider_of};
 ghost use Rattle.console_reporter.specs.Configuration.{configured, configured_in, configured_with_store, default_builder, settings_of};
 ghost use Rattle.console_reporter.specs.HeldState.{StandsAfter};
-ghost use Rattle.console_reporter.specs.Slots.{config_of};
-ghost use Rattle.event_text.specs.Settings.{overrides_by};
+ghost use Rattle.console_reporter.specs.OptionalStore.{config_of};
+ghost use Rattle.text_parts.specs.Settings.{overrides_by};
 
 use super::reporter::DisplayReporter;
 use super::store::Store;
-use event_text::settings::{Settings, counter_width_for, overrides_for, styles_for, theme_for};
 use plain_text::write_str::WriteStr;
 use reporter_state::decider::OutputLoadDecider;
 use run_model::config::{
@@ -20,6 +19,7 @@ use run_model::memory::OutOfMemory;
 use run_model::name::ProfileName;
 use std::alloc::Global;
 use store_text::config::StoreConfig;
+use text_parts::settings::{Settings, counter_width_for, overrides_for, styles_for, theme_for};
 use unit_report::config::{DisplayConfig, ShowProgress};
 use unit_report::unit_output::{DisplayerKind, OutputDisplayOverrides, UnitOutputReporter};
 

@@ -3,7 +3,7 @@
 ghost use Rattle.std.specs.Prelude.{◌≡◌, ◌⊎◌, List, [], ◌∷◌, OnOk, IfErr, IsErrOf, None, Some, nat_lt, reverse, take, true, false};
 ghost use Rattle.std.specs.Option.{option_map};
 ghost use Rattle.run_names.specs.Levels.{reason_rank};
-ghost use Rattle.plain_text.specs.Writer.{Puts, one_further};
+ghost use Rattle.plain_text.specs.Writer.{Puts, successor};
 ghost use Rattle.run_text.specs.Header.{replay_header_text};
 ghost use Rattle.run_model.specs.declared.call.ReportCall.{ReportCall};
 ghost use Rattle.reporter_state.specs.declared.faults.WriteEventError.{WriteEventError};
@@ -17,7 +17,7 @@ ghost use Rattle.console_reporter.specs.Exactness.{IsExact};
 ghost use Rattle.reporter_state.specs.Refusals.{refusal_in};
 ghost use Rattle.console_reporter.specs.Outcomes.{IsOfConsole, Stops, error_for, store_error_for};
 ghost use Rattle.console_reporter.specs.Report.{end_of_run_text, event_text, finished_text, listed_text, text, report};
-ghost use Rattle.console_reporter.specs.Slots.{config_of, store_accepts, store_delivered, store_may_refuse, store_meaning};
+ghost use Rattle.console_reporter.specs.OptionalStore.{config_of, store_accepts, store_delivered, store_may_refuse, store_meaning};
 ghost use Rattle.console_reporter.specs.Stored.{record_of, stored};
 ghost use Rattle.console_reporter.specs.Telling.{AreDelivered, IsSameReporter, Breaks, BreaksRun, Promises, Tells, TellsRun};
 ghost use Rattle.console_reporter.specs.Topics.{is_of_run};
@@ -25,7 +25,6 @@ ghost use Rattle.console_reporter.specs.HeldState.{StandsAfter, HasFailed, IsSam
 
 use super::store::Store;
 use super::topics::{write_attempt, write_info, write_setup_script, write_start, write_stop};
-use event_text::settings::Settings;
 use plain_text::write_str::{WriteFault, WriteStr};
 use reporter_state::decider::OutputLoadDecider;
 use reporter_state::effect::{EndedTest, EventEffect};
@@ -50,6 +49,7 @@ use std::alloc::Global;
 use store_text::config::StoreConfig;
 use test_text::test_finished::write_test_finished;
 use test_text::test_skipped::write_test_skipped;
+use text_parts::settings::Settings;
 use unit_report::formatters::write_final_warnings;
 
 /// Reports events to a writer, and writes a record of each finished test to a store, if it has one.
@@ -174,7 +174,7 @@ impl<'a, W: WriteStr, S: WriteStr> DisplayReporter<'a, W, S> {
         ensures delivered { OnOk result (W.meaning.is_delivered self.new.writer.now) }
         ensures err { IfErr result (λ e. (config : Configuration) (past : List ReportCall) → StandsAfter config past self.old →
             Stops W.meaning self.old.writer.now (text config past (ReportCall.Event event.now)) e self.new.writer.now) }
-        ensures io { IsErrOf result WriteEventError.Io → W.meaning.failures self.new.writer.now ≡ one_further (W.meaning.failures self.old.writer.now) }
+        ensures io { IsErrOf result WriteEventError.Io → W.meaning.failures self.new.writer.now ≡ successor (W.meaning.failures self.old.writer.now) }
         ensures memory { IsErrOf result WriteEventError.Memory → W.meaning.may_refuse self.old.writer.now ⊎ MayGrow self.old event.now }
         ensures of_console { IfErr result IsOfConsole }
         ensures unrefused { IfErr result (λ e. refusal_in e ≡ None) }

@@ -2,7 +2,7 @@
 
 ghost use Rattle.std.specs.Prelude.{◌≡◌, ◌≤◌, ◌⊎◌, ◌++◌, ◌∷◌, List, OnOk, IfErr, Some, length, reverse, slice_get, take};
 ghost use Rattle.std.specs.List.{flat_map};
-ghost use Rattle.plain_text.specs.Writer.{one_further};
+ghost use Rattle.plain_text.specs.Writer.{successor};
 ghost use Rattle.run_model.specs.declared.call.ReportCall.{ReportCall};
 ghost use Rattle.reporter_state.specs.declared.faults.WriteEventError.{WriteEventError};
 ghost use Rattle.console_reporter.specs.Accepted.{AreAccepted, refusal_at};
@@ -66,7 +66,7 @@ pub fn run_report<W: WriteStr>(
     ensures err { let config = configured builder use_unicode is_terminal is_ci display_empty_outputs in
         IfErr result (λ stop. StopsAfter W.meaning writer.old (report config (past_at calls.now stop.position)) (text_at config calls.now stop.position) stop.fault writer.new) }
     ensures no_failure { OnOk result (W.meaning.failures writer.new ≡ W.meaning.failures writer.old) }
-    ensures io { IfErr result (λ stop. stop.fault ≡ WriteEventError.Io → W.meaning.failures writer.new ≡ one_further (W.meaning.failures writer.old)) }
+    ensures io { IfErr result (λ stop. stop.fault ≡ WriteEventError.Io → W.meaning.failures writer.new ≡ successor (W.meaning.failures writer.old)) }
     ensures memory { let config = configured builder use_unicode is_terminal is_ci display_empty_outputs in
         IfErr result (λ stop. stop.fault ≡ WriteEventError.Memory → W.meaning.may_refuse writer.old ⊎ MayGrowAt config calls.now stop.position) }
     ensures known { IfErr result (λ stop. stop.fault ≡ WriteEventError.Failed → ⊥) }
@@ -144,8 +144,8 @@ pub fn run_report_with_store<W: WriteStr, S: WriteStr>(
         IfErr result (λ stop. S.meaning.accepts store_writer.old (stored (Some store) (past_at calls.now stop.position)) store_writer.new
         ⊎ W.meaning.accepts writer.old (report config (past_at calls.now stop.position) ++ text_at config calls.now stop.position) writer.new) }
     ensures no_failure { OnOk result (W.meaning.failures writer.new ≡ W.meaning.failures writer.old) }
-    ensures io { IfErr result (λ stop. stop.fault ≡ WriteEventError.Io → W.meaning.failures writer.new ≡ one_further (W.meaning.failures writer.old)) }
-    ensures store_io { IfErr result (λ stop. stop.fault ≡ WriteEventError.StoreIo → S.meaning.failures store_writer.new ≡ one_further (S.meaning.failures store_writer.old)) }
+    ensures io { IfErr result (λ stop. stop.fault ≡ WriteEventError.Io → W.meaning.failures writer.new ≡ successor (W.meaning.failures writer.old)) }
+    ensures store_io { IfErr result (λ stop. stop.fault ≡ WriteEventError.StoreIo → S.meaning.failures store_writer.new ≡ successor (S.meaning.failures store_writer.old)) }
     ensures memory { let config = configured_with_store store builder use_unicode is_terminal is_ci display_empty_outputs in
         IfErr result (λ stop. stop.fault ≡ WriteEventError.Memory → W.meaning.may_refuse writer.old ⊎ MayGrowAt config calls.now stop.position ⊎ S.meaning.may_refuse store_writer.old) }
     ensures known { IfErr result (λ stop. stop.fault ≡ WriteEventError.Failed → ⊥) }

@@ -1,15 +1,13 @@
-//! The texts of events by their topics. An event's own text stands in the crates `event_text`, `run_text` and `info_text`.
+//! The texts of events by their topics. An event's own text stands in the crates `test_text`, `run_text` or `info_text`.
 
 ghost use Rattle.std.specs.Prelude.{◌≡◌, ℕ, None, false, true};
 ghost use Rattle.plain_text.specs.Writer.{Puts};
-ghost use Rattle.event_text.specs.Script.{script_of};
+ghost use Rattle.text_parts.specs.Script.{script_of};
 ghost use Rattle.reporter_state.specs.Refusals.{decider_by};
 ghost use Rattle.reporter_state.specs.Loads.{lacks_output};
 ghost use Rattle.console_reporter.specs.Report.{Known, event_text, script_by};
 ghost use Rattle.console_reporter.specs.Topics.{is_of_attempt, is_of_info, is_of_setup_script, is_of_start, is_of_stop};
 
-use event_text::script::ScriptInstance;
-use event_text::settings::Settings;
 use info_text::response::write_info_response;
 use info_text::start::{write_info_finished, write_info_started};
 use plain_text::write_str::{WriteFault, WriteStr};
@@ -26,6 +24,8 @@ use run_text::setup_script::{
 use test_text::test_retry::write_attempt_failed;
 use test_text::test_slow::write_test_slow;
 use test_text::test_started::{write_test_retry_started, write_test_started};
+use text_parts::script::ScriptInstance;
+use text_parts::settings::Settings;
 
 /// Writes that an attempt of a test has started.
 #[tactic(auto, unfolding(crate::specs::Report::event_text))]

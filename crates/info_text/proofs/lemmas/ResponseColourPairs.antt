@@ -5,7 +5,7 @@ use Rattle.run_model.specs.declared.info.InfoResponse.TheVariants.{SetupScript, 
 use Rattle.run_model.specs.declared.info.UnitState.{UnitState}
 use Rattle.run_model.specs.declared.stats.RunStats.{RunStats}
 use Rattle.run_names.specs.declared.unit.UnitKind.{UnitKind}
-use Rattle.plain_text.specs.Alike.{without_end_spaces}
+use Rattle.plain_text.specs.EqualButEndSpaces.{without_end_spaces}
 use Rattle.plain_text.specs.Style.{plain, styles_of}
 use Rattle.plain_text.specs.Escapes.{HasNoEscape}
 use Rattle.plain_text.specs.Texts.{spaces}
@@ -15,10 +15,10 @@ use Rattle.report_words.proofs.lemmas.ColourPairs.{IsColourPair, colour_pair-app
 use Rattle.unit_report.specs.PlainOutputs.{IsPlainWritten}
 use Rattle.unit_report.proofs.lemmas.UnitColourPairs.{IsColourPairOfLayout, colour_pair-label, colour_pair-execution_output}
 use Rattle.run_model.specs.Attempts.{Written}
-use Rattle.event_text.specs.Instance.{instance_end}
-use Rattle.event_text.specs.declared.settings.Settings.{Settings}
-use Rattle.event_text.proofs.lemmas.LineColourPairs.{painted, colour_pair-bar_line, colour_pair-shown_script}
-use Rattle.event_text.proofs.lemmas.StatsColourPairs.{colour_pair-progress_message}
+use Rattle.text_parts.specs.Instance.{instance_end}
+use Rattle.text_parts.specs.declared.settings.Settings.{Settings}
+use Rattle.text_parts.proofs.lemmas.LineColourPairs.{painted, colour_pair-bar_line, colour_pair-shown_script}
+use Rattle.text_parts.proofs.lemmas.StatsColourPairs.{colour_pair-progress_message}
 use Rattle.info_text.specs.PlainResponses.{IsPlainResponse, IsPlainState}
 use Rattle.info_text.specs.Response.{separator, response_number, info_layout, valid_output, unit_answer, answering_script, script_unit, script_answer, test_unit, test_answer, answer, info_response_text}
 use Rattle.info_text.specs.Start.{info_started_text, missing_line, missing_note, info_finished_text}

@@ -19,9 +19,9 @@ use Rattle.report_words.proofs.lemmas.FreeWords.{frees}
 use Rattle.report_words.proofs.lemmas.ColourPairs.{IsColourPair, colour_pair-append, colour_pair-free, colour_pair-none, colour_pair-styled, colour_pairs}
 use Rattle.unit_report.proofs.lemmas.DurationColourPairs.{free-unit_word}
 use Rattle.unit_report.specs.UnitKind.{unit_word}
-use Rattle.event_text.specs.declared.settings.Settings.{Settings}
-use Rattle.event_text.proofs.lemmas.LineColourPairs.{painted}
-use Rattle.event_text.proofs.lemmas.ResultColourPairs.{colour_pair-info_text}
+use Rattle.text_parts.specs.declared.settings.Settings.{Settings}
+use Rattle.text_parts.proofs.lemmas.LineColourPairs.{painted}
+use Rattle.text_parts.proofs.lemmas.ResultColourPairs.{colour_pair-info_text}
 use Rattle.info_text.specs.PlainResponses.{IsPlainState}
 use Rattle.info_text.specs.Seconds.{seconds_between}
 use Rattle.info_text.specs.State.{attempt_text, status_start, unit_start, marked_slow_end, running_style, running_line, unknown_info, tentative_info, taken_end, exited_text, note_start, process_of, leak_note, exiting_note, exiting_line, signal_of, terminating_line, terminating_note, waiting_line, delay_note, state_text}

@@ -1,11 +1,11 @@
 //! The line after the line of a test that was ended from outside. A status of a scene always has a message.
 
-use event_text::abort_line::write_abort_line;
 use plain_text::style::Styles;
 use run_model::abort::AbortDescription;
 use run_model::boxed::Boxed;
 use run_model::status::{ExecutionResultDescription, FailureDescription};
 use std::test::Fail;
+use text_parts::abort_line::write_abort_line;
 
 #[test]
 fn a_status_may_have_no_message(rt: HostRuntime) -> Result<(), Fail> {

@@ -5,7 +5,6 @@ ghost use Rattle.run_model.specs.Outputs.{has_loaded_output};
 
 use crate::testing::settings;
 use bytes::Bytes;
-use event_text::attempt_output::write_test_execute_status;
 use run_model::abort::{AbortDescription, DescriptionText};
 use run_model::boxed::Boxed;
 use run_model::output::{
@@ -14,6 +13,7 @@ use run_model::output::{
 use run_model::status::{ExecutionResultDescription, FailureDescription};
 use std::alloc::Global;
 use std::test::Fail;
+use text_parts::attempt_output::write_test_execute_status;
 
 // A process that wrote a line on both streams together.
 fn written(alloc: Global) -> Result<ChildExecutionOutputDescription<LiveSpec>, Fail>

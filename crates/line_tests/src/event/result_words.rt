@@ -1,7 +1,6 @@
 //! The words of results that no scene reaches: the long ones of successes, since their lines take the words of `success_str`, and those of
 //! a process that left handles open where a scene cannot say so.
 
-use event_text::result_words::{spaced_short_status_str, status_str};
 use itoa::Buffer;
 use run_model::abort::{AbortDescription, DescriptionText};
 use run_model::boxed::Boxed;
@@ -10,6 +9,7 @@ use run_model::status::{
 };
 use std::alloc::Global;
 use std::test::Fail;
+use text_parts::result_words::{spaced_short_status_str, status_str};
 
 // A result, and its two words.
 type Row = (ExecutionResultDescription, &'static str, &'static str);

@@ -1,16 +1,16 @@
 -- What is kept of a text that is cut (for `ColumnCounterWriteStr::write_str`, `FittedWriteStr::write_str`).
-use Rattle.std.proofs.Common.{◌≡◌, ℕ, zero, suc, ◌+◌, ◌*◌, ◌<◌, ◌≤◌, false, inl, inr, List, [], ◌∷◌, ◌++◌, refl, ap, ◌∙◌, arith, length, chars, encode_utf8_all, drop, encode_utf8, length-append, add-one, lit<}
+use Rattle.std.proofs.Common.{◌≡◌, ℕ, zero, suc, ◌+◌, ◌*◌, ◌<◌, ◌≤◌, false, inl, inr, List, [], ◌∷◌, ◌++◌, refl, ap, ◌∙◌, arith, length, chars, encode_utf8_all, drop, encode_utf8, add-one, lit<}
 use Rattle.std.proofs.lemmas.Bool.Decides.{nat_tests, eqb_tells}
 use Rattle.std.proofs.lemmas.List.Sums.{sum_by-cons, sum_by-append}
-use Rattle.std.proofs.lemmas.Str.{chars-append, IsUtf8-take, IsUtf8-drop, IsUtf8-append, IsUtf8-nil, chars-nil, IsUtf8-past_char, chars_past_char, length-encode, len_utf8_bounds, length-le-encodes, encodes-chars}
+use Rattle.std.proofs.lemmas.Str.{chars-append, IsUtf8-take, IsUtf8-drop, IsUtf8-append, IsUtf8-nil, chars-nil, IsUtf8-past_char}
 use Rattle.std.specs.Str.{IsUtf8}
 use Rattle.unicode_width.proofs.Rules.{width_or_zero-le}
 use Rattle.plain_text.proofs.lemmas.Cuts.{sequence_len-cut}
-use Rattle.plain_text.proofs.lemmas.Pieces.{boundary, stretch_len-cut, stretches-pieces, joined-pieces}
+use Rattle.plain_text.proofs.lemmas.Pieces.{boundary, stretch_len-cut, stretches-pieces}
 use Rattle.plain_text.specs.Texts.{Text}
-use Rattle.plain_text.specs.Escapes.{PieceText, pieces, pieces_after, stretches, joined, sequence_len, front_len, is_visible}
+use Rattle.plain_text.specs.Escapes.{PieceText, pieces, pieces_after, stretches, sequence_len, front_len, is_visible}
 use Rattle.plain_text.specs.Escapes.PieceText.{SequenceText, StretchText}
-use Rattle.plain_text.specs.Fitting.{char_columns, columns_of, columns, kept_chars, kept_stretch, fit_pieces, stretch_columns}
+use Rattle.plain_text.specs.Fitting.{char_columns, columns_of, columns, kept_chars, kept_stretch, stretch_columns}
 
 pub char_columns-le : (c : ℕ) → char_columns c ≤ 3
 unfolding char_columns

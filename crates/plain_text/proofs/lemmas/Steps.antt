@@ -1,4 +1,4 @@
--- Writes in turn (for `ColumnCounterWriteStr::write_str`, `EndLine::write`, `FittedWriteStr::write_str`, `Indented::write_line` and others).
+-- Writes in turn (for `ColumnCounterWriteStr::write_str`, `TrailingNewline::write`, `FittedWriteStr::write_str`, `Indented::write_line` and others).
 use Rattle.std.proofs.Common.{◌≡◌, ℕ, List, [], ◌∷◌, ◌++◌, true, length, arith, ◌≤◌, take, drop, take-append-drop, ◌==◌, Result, Ok, Err, subst, sym}
 use Rattle.std.proofs.lemmas.Bool.{eqb-true}
 use Rattle.std.proofs.lemmas.List.{drop_all}

@@ -6,10 +6,10 @@ use Rattle.std.proofs.lemmas.Str.{chars-append, chars-nil, chars_past_char, enco
 use Rattle.std.specs.Str.{IsUtf8, IsCharBoundary}
 use Rattle.std.specs.Result.{IsErrAnd}
 use Rattle.plain_text.specs.Texts.{Text}
-use Rattle.plain_text.specs.EndLine.{without_end_line, ends_in_line_feed, held}
+use Rattle.plain_text.specs.TrailingNewline.{without_trailing_newline, ends_in_line_feed, held}
 use Rattle.plain_text.specs.Writer.{Meaning, WriterLaws, Puts, Owes}
 use Rattle.plain_text.specs.declared.write_str.WriteFault.{WriteFault}
-use Rattle.plain_text.proofs.lemmas.EndLines.{piece_next, end_line_done}
+use Rattle.plain_text.proofs.lemmas.TrailingNewlines.{piece_next, trailing_newline_done}
 use Rattle.plain_text.proofs.lemmas.Steps.{owes_all, owes_accepted, owes_stopped}
 use Rattle.plain_text.specs.Escapes.{front_len, is_visible, PieceText, pieces, stretches, visible, HasNoEscape}
 use Rattle.plain_text.specs.Escapes.PieceText.{SequenceText, StretchText}
@@ -195,7 +195,7 @@ nothing_moved m (c ∷ t) h = absurd (omega arith)
 
 -- what is owed before the next piece, and after it
 pub stripped_next : (m next : Mode) (h k : Bool) (rest piece after : Text) → rest ≡ piece ++ after → IsUtf8 piece → next ≡ modes_after m (chars piece) → k ≡ ends_in_line_feed (held h ++ visible_from m (chars piece))
-    → without_end_line (held h ++ visible_from m (chars rest)) ≡ without_end_line (held h ++ visible_from m (chars piece)) ++ without_end_line (held k ++ visible_from next (chars after))
+    → without_trailing_newline (held h ++ visible_from m (chars rest)) ≡ without_trailing_newline (held h ++ visible_from m (chars piece)) ++ without_trailing_newline (held k ++ visible_from next (chars after))
 stripped_next m next h k rest piece after e u n q =
     piece_next h k (visible_from m (chars rest)) (visible_from m (chars piece)) (visible_from next (chars after))
     (rw (e, n) (visible_from-texts m piece after u)) q
@@ -203,21 +203,21 @@ stripped_next m next h k rest piece after e u n q =
 -- A loop over pieces that join to a text: what it has written and what it owes.
 module _ {S : Type 0} {w : Meaning S} (laws : WriterLaws w) where
   -- before the first piece
-  pub stripped_begun : (a : S) (text : Text) (m : Mode) (h : Bool) → IsUtf8 text → m ≡ mode.Text → h ≡ false → Owes w a (without_end_line (visible text)) a (without_end_line (held h ++ visible_from m (chars text)))
-  stripped_begun a text m h u n e = rw (n, e, visible-from text u) (owes_all laws a (without_end_line (visible_from mode.Text (chars text))))
+  pub stripped_begun : (a : S) (text : Text) (m : Mode) (h : Bool) → IsUtf8 text → m ≡ mode.Text → h ≡ false → Owes w a (without_trailing_newline (visible text)) a (without_trailing_newline (held h ++ visible_from m (chars text)))
+  stripped_begun a text m h u n e = rw (n, e, visible-from text u) (owes_all laws a (without_trailing_newline (visible_from mode.Text (chars text))))
 
   -- after a piece
-  pub stripped_written : (a b c : S) (text rest piece after : Text) (m next : Mode) (h k : Bool) → Owes w a text b (without_end_line (held h ++ visible_from m (chars rest))) → rest ≡ piece ++ after → IsUtf8 piece
-      → w.accepts b (without_end_line (held h ++ visible_from m (chars piece))) c → next ≡ modes_after m (chars piece) → k ≡ ends_in_line_feed (held h ++ visible_from m (chars piece))
-      → Owes w a text c (without_end_line (held k ++ visible_from next (chars after)))
+  pub stripped_written : (a b c : S) (text rest piece after : Text) (m next : Mode) (h k : Bool) → Owes w a text b (without_trailing_newline (held h ++ visible_from m (chars rest))) → rest ≡ piece ++ after → IsUtf8 piece
+      → w.accepts b (without_trailing_newline (held h ++ visible_from m (chars piece))) c → next ≡ modes_after m (chars piece) → k ≡ ends_in_line_feed (held h ++ visible_from m (chars piece))
+      → Owes w a text c (without_trailing_newline (held k ++ visible_from next (chars after)))
   stripped_written a b c text rest piece after m next h k o e u p n q = owes_accepted laws a b c text _ _ _ o (stripped_next m next h k rest piece after e u n q) p
 
   -- at a fault in a piece
-  pub stripped_stopped : (a b c : S) (text rest piece after : Text) (m : Mode) (h : Bool) (f : WriteFault) (r : Result (Unit {0}) WriteFault) → Owes w a text b (without_end_line (held h ++ visible_from m (chars rest)))
-      → rest ≡ piece ++ after → IsUtf8 piece → IsErrAnd r (λ x. x ≡ f) → w.stops b (without_end_line (held h ++ visible_from m (chars piece))) f c → Puts w a text r c
+  pub stripped_stopped : (a b c : S) (text rest piece after : Text) (m : Mode) (h : Bool) (f : WriteFault) (r : Result (Unit {0}) WriteFault) → Owes w a text b (without_trailing_newline (held h ++ visible_from m (chars rest)))
+      → rest ≡ piece ++ after → IsUtf8 piece → IsErrAnd r (λ x. x ≡ f) → w.stops b (without_trailing_newline (held h ++ visible_from m (chars piece))) f c → Puts w a text r c
   stripped_stopped a b c text rest piece after m h f r o e u i s =
       owes_stopped laws a b c text _ _ _ f r o (stripped_next m (modes_after m (chars piece)) h (ends_in_line_feed (held h ++ visible_from m (chars piece))) rest piece after e u refl refl) i s
 
   -- after the last piece
-  pub stripped_done : (a b : S) (text rest : Text) (m : Mode) (h : Bool) → Owes w a text b (without_end_line (held h ++ visible_from m (chars rest))) → rest ≡ [] → w.accepts a text b
-  stripped_done a b text rest m h o e = end_line_done laws a b text _ h o (nothing_shown m rest (ap length e))
+  pub stripped_done : (a b : S) (text rest : Text) (m : Mode) (h : Bool) → Owes w a text b (without_trailing_newline (held h ++ visible_from m (chars rest))) → rest ≡ [] → w.accepts a text b
+  stripped_done a b text rest m h o e = trailing_newline_done laws a b text _ h o (nothing_shown m rest (ap length e))

@@ -4,24 +4,24 @@ ghost use Rattle.std.specs.Prelude.{◌≡◌, [], false, OnOk};
 ghost use Rattle.plain_text.specs.GatheredPieces.{unwritten, Carries};
 
 use super::piece_buffer::PieceBuffer;
-use crate::end_line::EndLine;
+use crate::trailing_newline::TrailingNewline;
 use crate::write_str::{WriteFault, WriteStr};
 
 /// Gathers pieces of a text, so that a writer gets few and long ones.
 #[derive(Drop)]
 pub(super) struct GatheredPieces {
-    end_line: EndLine,
+    trailing_newline: TrailingNewline,
     pending: PieceBuffer,
 }
 
 impl GatheredPieces {
     /// Creates one that has gathered nothing.
     pub(super) fn new() -> GatheredPieces
-        ensures held { result.end_line.is_held ≡ false }
+        ensures held { result.trailing_newline.is_held ≡ false }
         ensures pending { result.pending ≡ [] }
     {
         GatheredPieces {
-            end_line: EndLine::new(),
+            trailing_newline: TrailingNewline::new(),
             pending: PieceBuffer::new(),
         }
     }
@@ -44,7 +44,7 @@ impl GatheredPieces {
         ensures text { Carries W.meaning w.old (unwritten self.old) [] result w.new (unwritten self.new) }
         ensures empty { OnOk result (self.new.pending ≡ []) }
     {
-        self.end_line.write(w, self.pending.as_str())?;
+        self.trailing_newline.write(w, self.pending.as_str())?;
         self.pending.clear();
         Ok(())
     }
@@ -58,6 +58,6 @@ impl GatheredPieces {
             self.pending.push(piece);
             return Ok(());
         }
-        self.end_line.write(w, piece)
+        self.trailing_newline.write(w, piece)
     }
 }

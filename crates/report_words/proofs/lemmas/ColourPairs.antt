@@ -1,14 +1,13 @@
 -- A text in colour against a plain one (for the lemmas `colour_pair-..` of the texts above).
-use Rattle.std.proofs.Common.{◌≡◌, Bool, true, false, cond, List, [], ◌∷◌, ◌++◌, refl, sym, ◌∙◌, ap, append_assoc, append-nil}
-use Rattle.std.specs.List.{flat_map}
+use Rattle.std.proofs.Common.{◌≡◌, Bool, true, false, cond, [], ◌∷◌, ◌++◌, refl, sym, ◌∙◌, ap, append_assoc, append-nil}
 use Rattle.plain_text.specs.Texts.{Text}
-use Rattle.plain_text.specs.Alike.{IsAlike}
+use Rattle.plain_text.specs.EqualButEndSpaces.{IsEqualButEndSpaces}
 use Rattle.plain_text.specs.Escapes.{visible_after, sequence_len, visible, HasNoEscape}
 use Rattle.plain_text.specs.Indent.{indent}
 use Rattle.plain_text.specs.Style.{plain, styled, reset_color, style_prefix, style_suffix}
 use Rattle.plain_text.specs.declared.style.Style.{Style}
 use Rattle.plain_text.specs.declared.style.Style.TheVariants as style
-use Rattle.plain_text.proofs.lemmas.AlikeIndents.{IsBlank, alike-front, alike-line, indent-visible, indent-alike, indent-feed}
+use Rattle.plain_text.proofs.lemmas.IndentedEndSpaces.{IsBlank, alike-front, alike-line, indent-visible, indent-alike, indent-feed}
 use Rattle.report_words.proofs.lemmas.FreeWords.{frees, free-plain, free-indent}
 use Rattle.plain_text.proofs.lemmas.LineSequences.{visible-line}
 use Rattle.plain_text.proofs.lemmas.Widths.{free_both, visible-free_append}
@@ -16,7 +15,7 @@ use Rattle.plain_text.proofs.lemmas.Widths.{free_both, visible-free_append}
 -- the first text in colour is the second, whatever comes after the two
 pub record IsInColour (c u : Text) : Type 0 where
   pub joins : (rest : Text) → visible (c ++ rest) ≡ visible c ++ visible rest
-  pub alike : (rest more : Text) → IsAlike rest more → IsAlike (visible c ++ rest) (u ++ more)
+  pub alike : (rest more : Text) → IsEqualButEndSpaces rest more → IsEqualButEndSpaces (visible c ++ rest) (u ++ more)
 
 -- where the flag says that texts are in colour, the first text in colour is the second; else the second holds no escape character
 pub record IsColourPair (k : Bool) (c u : Text) : Type 0 where
@@ -25,7 +24,7 @@ pub record IsColourPair (k : Bool) (c u : Text) : Type 0 where
 
 -- the same of the text of whole lines, to which nothing need be added
 pub record IsColourPairOfLine (k : Bool) (c u : Text) : Type 0 where
-  pub coloured : k ≡ true → IsAlike (visible c) u
+  pub coloured : k ≡ true → IsEqualButEndSpaces (visible c) u
   pub plain : k ≡ false → HasNoEscape u
 
 in_colour-none : IsInColour [] []
@@ -48,7 +47,7 @@ in_colour-exact c u h =
       alike = λ rest more same. rw whole (alike-front u rest more same);
     }
 
-in_colour-line : (c u : Text) → IsAlike (visible c) u → IsInColour (c ++ 10 ∷ []) (u ++ 10 ∷ [])
+in_colour-line : (c u : Text) → IsEqualButEndSpaces (visible c) u → IsInColour (c ++ 10 ∷ []) (u ++ 10 ∷ [])
 unfolding visible_after
 in_colour-line c u h = record {
   joins = λ rest. simp append_assoc (rw (visible-line c rest, visible-line c []) (sym (append_assoc (visible c) (10 ∷ []) (visible rest))));

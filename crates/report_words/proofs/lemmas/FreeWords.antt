@@ -1,5 +1,5 @@
 -- Words without escape characters (for `colour_pairs`).
-use Rattle.std.proofs.Common.{◌≡◌, ℕ, ℤ, pos, negsuc, zero, suc, ◌+◌, ◌-◌, Bool, true, false, cond, ◌==◌, nat_lt, inl, inr, List, [], ◌∷◌, ◌++◌, codes, refl, arith, take, drop, encode_utf8, ◌/◌, ◌%◌}
+use Rattle.std.proofs.Common.{◌≡◌, ℕ, ℤ, pos, negsuc, zero, suc, ◌+◌, ◌-◌, Bool, true, false, cond, ◌==◌, nat_lt, inl, inr, List, [], ◌∷◌, ◌++◌, refl, arith, take, drop, ◌/◌, ◌%◌}
 use Rattle.std.proofs.lemmas.Bool.{cases_Bool}
 use Rattle.std.proofs.lemmas.Bool.Decides.{nat_tests}
 use Rattle.std.specs.Fmt.{signed_decimal}
@@ -15,7 +15,7 @@ use Rattle.report_words.specs.Durations.{clock_text}
 use Rattle.report_words.specs.Plural.{were_word, tests_word_if, setup_scripts_word, binaries_word, iterations_word}
 use Rattle.plain_text.specs.Style.{plain}
 use Rattle.report_words.specs.Theme.{hbar_text}
-use Rattle.plain_text.proofs.lemmas.Closed.{decimal_free, right_free, repeat_free, char_free}
+use Rattle.plain_text.proofs.lemmas.Closed.{decimal_free, right_free, repeat_free}
 use Rattle.plain_text.proofs.lemmas.Pieces.{free_parts, visible_after-free}
 use Rattle.plain_text.proofs.lemmas.Widths.{free_both}
 

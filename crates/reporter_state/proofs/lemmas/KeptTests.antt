@@ -2,11 +2,11 @@
 use Rattle.std.proofs.Common.{◌≡◌, refl, subst}
 use Rattle.run_model.specs.declared.status.StatusSummary.{StatusSummary}
 use Rattle.plain_text.specs.declared.style.Styles.{Styles}
-use Rattle.event_text.specs.Instance.{instance_end, untimed_end}
+use Rattle.text_parts.specs.Instance.{instance_end, untimed_end}
 use Rattle.test_text.specs.TestSkipped.{skip_line}
 use Rattle.test_text.specs.StatusLine.{status_line}
-use Rattle.event_text.specs.declared.instance.CountedInstance.{CountedInstance}
-use Rattle.event_text.specs.declared.settings.Settings.{Settings}
+use Rattle.text_parts.specs.declared.instance.CountedInstance.{CountedInstance}
+use Rattle.text_parts.specs.declared.settings.Settings.{Settings}
 use Rattle.test_text.specs.declared.status_line.StatusLineKind.{StatusLineKind}
 use Rattle.reporter_state.specs.KeptTests.{borrowed_test, kept_test}
 use Rattle.reporter_state.specs.declared.kept_test.KeptTest.{KeptTest}

@@ -18,10 +18,10 @@ use Rattle.run_names.specs.declared.time.Nanos.{Nanos}
 use Rattle.unit_report.specs.Overrides.{display_for}
 use Rattle.store_text.specs.declared.config.StoreConfig.{StoreConfig}
 use Rattle.test_text.specs.TestFinished.{HasShownOutput, test_finish}
-use Rattle.event_text.specs.Finish.{display_of, is_ever_shown}
+use Rattle.text_parts.specs.Finish.{display_of, is_ever_shown}
 use Rattle.test_text.specs.TestRetry.{HasFailedAttemptOutput, is_failed_output_shown}
-use Rattle.event_text.specs.Settings.{is_level_shown}
-use Rattle.event_text.specs.declared.settings.Settings.{Settings}
+use Rattle.text_parts.specs.Settings.{is_level_shown}
+use Rattle.text_parts.specs.declared.settings.Settings.{Settings}
 use Rattle.reporter_state.specs.Refusals.{decider_by}
 use Rattle.reporter_state.specs.Loads.{lacks_output, loads_attempt, loads_finish}
 

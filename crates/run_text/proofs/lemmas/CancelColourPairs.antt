@@ -9,9 +9,9 @@ use Rattle.plain_text.specs.Texts.{Text}
 use Rattle.report_words.proofs.lemmas.ColourPairs.{IsColourPair, colour_pair-none, colour_pairs}
 use Rattle.unit_report.proofs.lemmas.SkipColourPairs.{free-reason_words}
 use Rattle.unit_report.proofs.lemmas.DurationColourPairs.{colour_pair-bracketed_clock}
-use Rattle.event_text.specs.declared.settings.Settings.{Settings}
-use Rattle.event_text.proofs.lemmas.LineColourPairs.{painted}
-use Rattle.event_text.proofs.lemmas.StatsColourPairs.{colour_pair-progress_message}
+use Rattle.text_parts.specs.declared.settings.Settings.{Settings}
+use Rattle.text_parts.proofs.lemmas.LineColourPairs.{painted}
+use Rattle.text_parts.proofs.lemmas.StatsColourPairs.{colour_pair-progress_message}
 use Rattle.run_text.specs.Cancel.{reason_text, terminating_words, terminating_at_once, still_running, begin_cancel_text, begin_kill_text}
 use Rattle.run_text.specs.Input.{finished_of_initial, input_enter_text}
 use Rattle.run_text.specs.Pause.{now_running, pause_text, run_paused_text, run_continued_text}

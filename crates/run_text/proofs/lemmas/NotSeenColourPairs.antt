@@ -7,8 +7,8 @@ use Rattle.run_names.specs.declared.not_seen.NotSeen.{NotSeen}
 use Rattle.plain_text.specs.Style.{list_styles_of, styles_of}
 use Rattle.report_text.proofs.lemmas.InstanceColourPairs.{colour_pair-test_text}
 use Rattle.report_words.proofs.lemmas.ColourPairs.{IsColourPair, colour_pair-append, colour_pair-none, colour_pairs}
-use Rattle.event_text.specs.declared.settings.Settings.{Settings}
-use Rattle.event_text.proofs.lemmas.LineColourPairs.{painted}
+use Rattle.text_parts.specs.declared.settings.Settings.{Settings}
+use Rattle.text_parts.proofs.lemmas.LineColourPairs.{painted}
 use Rattle.run_text.specs.NotSeen.{not_seen_start, not_seen_line, more_line, more_not_seen, not_seen_note, not_seen_text}
 use Rattle.run_text.specs.PlainRuns.{IsPlainNotSeen, IsPlainOwned}
 

@@ -14,12 +14,12 @@ use Rattle.plain_text.specs.Texts.{Text}
 use Rattle.report_words.proofs.lemmas.FreeWords.{frees}
 use Rattle.report_words.proofs.lemmas.ColourPairs.{IsColourPair, colour_pair-append, colour_pair-free, colour_pairs}
 use Rattle.unit_report.proofs.lemmas.DurationColourPairs.{colour_pair-bracketed_duration, colour_pair-slow_duration}
-use Rattle.event_text.specs.Script.{IsPlainScript, Script, shown_script}
-use Rattle.event_text.specs.Settings.{is_level_shown}
-use Rattle.event_text.specs.declared.settings.Settings.{Settings}
-use Rattle.event_text.proofs.lemmas.LineColourPairs.{painted, colour_pair-shown_script}
-use Rattle.event_text.proofs.lemmas.OutputColourPairs.{colour_pair-unit_output}
-use Rattle.event_text.proofs.lemmas.ResultColourPairs.{free-short_word}
+use Rattle.text_parts.specs.Script.{IsPlainScript, Script}
+use Rattle.text_parts.specs.Settings.{is_level_shown}
+use Rattle.text_parts.specs.declared.settings.Settings.{Settings}
+use Rattle.text_parts.proofs.lemmas.LineColourPairs.{painted, colour_pair-shown_script}
+use Rattle.text_parts.proofs.lemmas.OutputColourPairs.{colour_pair-unit_output}
+use Rattle.text_parts.proofs.lemmas.ResultColourPairs.{free-short_word}
 use Rattle.run_text.specs.PlainRuns.{IsPlainScriptStatus}
 use Rattle.run_text.specs.SetupScript.{script_counter, setup_script_started_text, slow_script_words, shown_slow_script, setup_script_slow_text, script_status_style, setup_script_line, failed_script_output, setup_script_finished_text}
 

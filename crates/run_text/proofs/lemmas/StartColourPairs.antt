@@ -12,8 +12,8 @@ use Rattle.plain_text.specs.Texts.{Text}
 use Rattle.report_words.proofs.lemmas.FreeWords.{frees, free-last_digits}
 use Rattle.report_words.proofs.lemmas.ColourPairs.{IsColourPair, colour_pair-free, colour_pairs}
 use Rattle.unit_report.proofs.lemmas.SkipColourPairs.{colour_pair-skip_note}
-use Rattle.event_text.specs.declared.settings.Settings.{Settings}
-use Rattle.event_text.proofs.lemmas.LineColourPairs.{painted, colour_pair-bar_line}
+use Rattle.text_parts.specs.declared.settings.Settings.{Settings}
+use Rattle.text_parts.proofs.lemmas.LineColourPairs.{painted, colour_pair-bar_line}
 use Rattle.run_text.specs.Header.{date_text, time_text, started_text, replaying_line, started_line, replay_header_text}
 use Rattle.run_text.specs.PlainRuns.{IsPlainHeader, IsPlainPrefix}
 use Rattle.run_text.specs.RunId.{run_id_text, id_text}

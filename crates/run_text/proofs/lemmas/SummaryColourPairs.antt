@@ -23,9 +23,9 @@ use Rattle.report_words.proofs.lemmas.FreeWords.{frees}
 use Rattle.report_words.proofs.lemmas.ColourPairs.{IsColourPair, colour_pair-append, colour_pair-none, colour_pairs}
 use Rattle.unit_report.proofs.lemmas.SkipColourPairs.{free-reason_words}
 use Rattle.unit_report.proofs.lemmas.DurationColourPairs.{colour_pair-bracketed_duration}
-use Rattle.event_text.specs.declared.settings.Settings.{Settings}
-use Rattle.event_text.proofs.lemmas.LineColourPairs.{painted, colour_pair-bar_line}
-use Rattle.event_text.proofs.lemmas.StatsColourPairs.{colour_pair-counted_text, colour_pair-summary_text}
+use Rattle.text_parts.specs.declared.settings.Settings.{Settings}
+use Rattle.text_parts.proofs.lemmas.LineColourPairs.{painted, colour_pair-bar_line}
+use Rattle.text_parts.proofs.lemmas.StatsColourPairs.{colour_pair-counted_text, colour_pair-summary_text}
 use Rattle.run_text.specs.Stress.{of_iterations, iteration_text, of_time, elapsed_text, count_left_text, time_left_text, remaining_text, stress_sub_run_line, stress_sub_run_started_text, stress_sub_run_finished_text}
 use Rattle.run_text.specs.Summary.{outcome_style, initial_count_text, run_counts_text, of_total, iterations_run_text, failed_iterations, cancel_reason_text, cancelled_due_to, stress_counts_text, stress_outcome_style, summary_line, run_finished_text}
 

@@ -1,7 +1,7 @@
 //! The attempts of a test in a short form: most are one attempt that wrote nothing, and a scene may hold a million.
 
 ghost use Rattle.std.specs.Prelude.{◌≡◌, IfOk};
-ghost use Rattle.scene_events.specs.SceneAttempts.{silence};
+ghost use Rattle.scene_events.specs.SceneAttempts.{empty_output};
 
 use run_model::boxed::Boxed;
 use run_model::memory::OutOfMemory;
@@ -31,7 +31,7 @@ pub struct SceneAttempts {
 // What there is beside how the last attempt ended.
 #[derive(Drop)]
 enum MoreAttempts {
-    // Nothing: it is the only attempt, and was silent. Most are.
+    // Nothing: it is the only attempt, and wrote nothing, as most.
     Nothing,
     // It is the only attempt, and wrote this.
     Output(Boxed<ChildExecutionOutputDescription<LiveSpec>>),
@@ -92,8 +92,8 @@ impl SceneAttempts {
         } = last;
         let more = if earlier.is_empty() {
             match output {
-                SceneOutput::Silent => MoreAttempts::Nothing,
-                SceneOutput::Told(output) => MoreAttempts::Output(output),
+                SceneOutput::Empty => MoreAttempts::Nothing,
+                SceneOutput::Output(output) => MoreAttempts::Output(output),
             }
         } else {
             let earlier = EarlierAttempts {
@@ -144,24 +144,24 @@ impl SceneAttempts {
         ensures { IfOk result (λ status. status ≡ self.now.last) }
     {
         let MoreAttempts::Nothing = &self.more else {
-            return self.told_status(alloc);
+            return self.status_with_output(alloc);
         };
         Ok(ExecuteStatus {
             time_taken: self.time_taken,
             retry_data: self.retry_data,
             result: self.result.copy(alloc)?,
-            output: silence(self.result.copy(alloc)?),
+            output: empty_output(self.result.copy(alloc)?),
             is_slow: self.is_slow,
         })
     }
 
     // The same of one that wrote something.
     #[inline(never)]
-    fn told_status(&self, alloc: Global) -> Result<ExecuteStatus<LiveSpec>, OutOfMemory>
+    fn status_with_output(&self, alloc: Global) -> Result<ExecuteStatus<LiveSpec>, OutOfMemory>
         ensures { IfOk result (λ status. status ≡ self.now.last) }
     {
         let output = match &self.more {
-            MoreAttempts::Nothing => silence(self.result.copy(alloc)?),
+            MoreAttempts::Nothing => empty_output(self.result.copy(alloc)?),
             MoreAttempts::Output(output) => output.get().copy(alloc)?,
             MoreAttempts::Earlier(earlier) => {
                 earlier.get().last_output.copy_of(alloc, &self.result)?
@@ -206,9 +206,9 @@ pub struct SceneAttempt {
 #[derive(Drop)]
 enum SceneOutput {
     // Both streams were captured, and hold nothing.
-    Silent,
+    Empty,
     // All else.
-    Told(Boxed<ChildExecutionOutputDescription<LiveSpec>>),
+    Output(Boxed<ChildExecutionOutputDescription<LiveSpec>>),
 }
 
 impl SceneOutput {
@@ -220,8 +220,8 @@ impl SceneOutput {
         ensures { result ≡ is_loaded self.now }
     {
         match self {
-            SceneOutput::Told(output) => output.get().has_loaded_output(),
-            SceneOutput::Silent => true,
+            SceneOutput::Output(output) => output.get().has_loaded_output(),
+            SceneOutput::Empty => true,
         }
     }
 
@@ -234,8 +234,8 @@ impl SceneOutput {
         ensures { IfOk result (λ output. output ≡ written outcome.now self.now) }
     {
         match self {
-            SceneOutput::Told(output) => output.get().copy(alloc),
-            SceneOutput::Silent => Ok(silence(outcome.copy(alloc)?)),
+            SceneOutput::Output(output) => output.get().copy(alloc),
+            SceneOutput::Empty => Ok(empty_output(outcome.copy(alloc)?)),
         }
     }
 }
@@ -274,14 +274,14 @@ impl SceneAttempt {
           time_taken = time_taken;
           retry_data = retry_data;
           result = outcome;
-          output = silence outcome;
+          output = empty_output outcome;
           is_slow = is_slow;
         } }
     {
         SceneAttempt {
             time_taken,
             result: outcome,
-            output: SceneOutput::Silent,
+            output: SceneOutput::Empty,
             retry_data,
             is_slow,
         }
@@ -307,7 +307,7 @@ impl SceneAttempt {
         Ok(SceneAttempt {
             time_taken,
             result: outcome,
-            output: SceneOutput::Told(Boxed::new(alloc, output)?),
+            output: SceneOutput::Output(Boxed::new(alloc, output)?),
             retry_data,
             is_slow,
         })
@@ -358,8 +358,8 @@ impl SceneAttempt {
 
 // The output of an attempt with this result that wrote nothing.
 #[inline(always)]
-fn silence(outcome: ExecutionResultDescription) -> ChildExecutionOutputDescription<LiveSpec>
-    ensures { result ≡ silence outcome }
+fn empty_output(outcome: ExecutionResultDescription) -> ChildExecutionOutputDescription<LiveSpec>
+    ensures { result ≡ empty_output outcome }
 {
     ChildExecutionOutputDescription::Output {
         result: Some(outcome),

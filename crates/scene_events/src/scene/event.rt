@@ -11,6 +11,7 @@ use super::stress_events::{SubRunFinish, SubRunStart};
 use super::test_events::{
     FailedAttempt, SceneTest, SlowTest, TestFinish, TestRetryStart, TestStart,
 };
+use run_model::boxed::Boxed;
 use run_model::call::ReportCall;
 use run_model::event::{TestEvent, TestEventKind};
 use run_model::memory::OutOfMemory;
@@ -18,84 +19,89 @@ use run_model::run_id::ShortestRunIdPrefix;
 use run_model::time::Nanos;
 use std::alloc::Global;
 
-/// An event of a run, or another call of a reporter.
+/// An event of a run, or another call of a reporter. What it says has memory of its own, so none takes the room of the largest kind.
 #[derive(Drop)]
 pub enum SceneEvent {
     /// The run's id has this unique prefix.
-    Prefix(ShortestRunIdPrefix),
+    Prefix(Boxed<ShortestRunIdPrefix>),
     /// A recorded run is shown.
-    Header(SceneHeader),
+    Header(Boxed<SceneHeader>),
     /// The run has started.
-    RunStarted(RunStart),
+    RunStarted(Boxed<RunStart>),
     /// An iteration of a stress run has started.
-    StressSubRunStarted(SubRunStart),
+    StressSubRunStarted(Boxed<SubRunStart>),
     /// A setup script has started.
-    SetupScriptStarted(SetupStart),
+    SetupScriptStarted(Boxed<SetupStart>),
     /// A setup script runs longer than it should.
-    SetupScriptSlow(SlowSetup),
+    SetupScriptSlow(Boxed<SlowSetup>),
     /// A setup script has finished.
-    SetupScriptFinished(SetupFinish),
+    SetupScriptFinished(Boxed<SetupFinish>),
     /// A test has started.
-    TestStarted(TestStart),
+    TestStarted(Boxed<TestStart>),
     /// A test runs longer than it should.
-    TestSlow(SlowTest),
+    TestSlow(Boxed<SlowTest>),
     /// An attempt of a test has failed, and another one follows.
-    TestAttemptFailedWillRetry(FailedAttempt),
+    TestAttemptFailedWillRetry(Boxed<FailedAttempt>),
     /// Another attempt of a test has started.
-    TestRetryStarted(TestRetryStart),
+    TestRetryStarted(Boxed<TestRetryStart>),
     /// A test has finished.
-    TestFinished(TestFinish),
+    TestFinished(Boxed<TestFinish>),
     /// A test is not to run.
-    TestSkipped(SceneTest),
+    TestSkipped(Boxed<SceneTest>),
     /// The run is about to be cancelled: what runs is waited for, or ended.
-    RunBeginCancel(RunCancel),
+    RunBeginCancel(Boxed<RunCancel>),
     /// The run is about to be killed: what runs is ended at once.
-    RunBeginKill(RunCancel),
+    RunBeginKill(Boxed<RunCancel>),
     /// The run was stopped for a while, by a signal.
-    RunPaused(RunPause),
+    RunPaused(Boxed<RunPause>),
     /// The run goes on after it was stopped.
-    RunContinued(RunPause),
+    RunContinued(Boxed<RunPause>),
     /// All units are asked what they are doing.
-    InfoStarted(InfoStart),
+    InfoStarted(Boxed<InfoStart>),
     /// A setup script says what it is doing.
-    ScriptAnswered(ScriptAnswer),
+    ScriptAnswered(Boxed<ScriptAnswer>),
     /// A test says what it is doing.
-    TestAnswered(TestAnswer),
+    TestAnswered(Boxed<TestAnswer>),
     /// No further answers are waited for.
     InfoFinished(InfoFinish),
     /// The state of the run was asked for, by a key.
-    InputEnter(StateRequest),
+    InputEnter(Boxed<StateRequest>),
     /// An iteration of a stress run has finished.
-    StressSubRunFinished(SubRunFinish),
+    StressSubRunFinished(Boxed<SubRunFinish>),
     /// The run has finished.
-    RunFinished(RunFinish),
+    RunFinished(Boxed<RunFinish>),
 }
 
 // A scene may hold a million events.
-const _: () = prove!(size_of::<SceneEvent>() == 288);
+const _: () = prove!(size_of::<SceneEvent>() == 16);
 
 impl SceneEvent {
-    ghost use Rattle.scene_events.specs.Scenes.{needs_judging};
+    ghost use Rattle.scene_events.specs.Scenes.{may_be_refused};
 
     /// Whether its call has to be looked at to know whether a reporter refuses it: output of it was left unread, or an attempt that
-    /// succeeded is told as one that is tried again. No reporter refuses any other event; a header, of which a run has one, counts
+    /// succeeded stands as one that is tried again. No reporter refuses any other event; a header, of which a run has one, counts
     /// among those that are looked at.
     ///
     /// ```
-    /// use scene_events::scene::run_events::RunPause;
-    /// assert!(!SceneEvent::RunContinued(RunPause { setup_scripts_running: 0, running: 2 }).needs_judging());
+    /// use scene_events::scene::info_events::InfoFinish;
+    /// assert!(!SceneEvent::InfoFinished(InfoFinish { missing: 0 }).may_be_refused());
     /// ```
-    pub fn needs_judging(&self) -> bool
-        ensures { result ≡ needs_judging self.now }
+    pub fn may_be_refused(&self) -> bool
+        ensures { result ≡ may_be_refused self.now }
     {
         match self {
-            SceneEvent::TestFinished(finish) => !finish.attempts.has_loaded_output(),
+            SceneEvent::TestFinished(finish) => !finish.get().attempts.has_loaded_output(),
             SceneEvent::TestAttemptFailedWillRetry(failed) => {
-                failed.attempt.is_success() || !failed.attempt.has_loaded_output()
+                let attempt = &failed.get().attempt;
+                attempt.is_success() || !attempt.has_loaded_output()
             }
-            SceneEvent::SetupScriptFinished(finish) => !finish.attempt.has_loaded_output(),
-            SceneEvent::ScriptAnswered(answer) => !answer.answer.output.get().has_loaded_output(),
-            SceneEvent::TestAnswered(answer) => !answer.answer.output.get().has_loaded_output(),
+            SceneEvent::SetupScriptFinished(finish) => !finish.get().attempt.has_loaded_output(),
+            SceneEvent::ScriptAnswered(answer) => {
+                !answer.get().answer.output.get().has_loaded_output()
+            }
+            SceneEvent::TestAnswered(answer) => {
+                !answer.get().answer.output.get().has_loaded_output()
+            }
             SceneEvent::Header(_) => true,
             _ => false,
         }
@@ -104,8 +110,10 @@ impl SceneEvent {
     /// Pushes the call that this event is. It borrows the event's names.
     ///
     /// ```
+    /// use run_model::boxed::Boxed;
     /// use scene_events::scene::run_events::RunPause;
-    /// let paused = SceneEvent::RunPaused(RunPause { setup_scripts_running: 0, running: 2 });
+    /// let pause = RunPause { setup_scripts_running: 0, running: 2 };
+    /// let paused = SceneEvent::RunPaused(Boxed::new(alloc, pause)?);
     /// let mut calls = Vec::new(alloc);
     /// paused.push_call(alloc, &mut calls)?;
     /// assert!(matches!(calls.as_slice(), [ReportCall::Event(_)]));
@@ -118,30 +126,30 @@ impl SceneEvent {
         ensures { PushesCallOf self.now calls.old.items result calls.new.items }
     {
         match self {
-            SceneEvent::Prefix(prefix) => push_prefix_call(alloc, prefix, calls),
-            SceneEvent::Header(header) => header.push_call(alloc, calls),
-            SceneEvent::RunStarted(start) => start.push_call(alloc, calls),
-            SceneEvent::StressSubRunStarted(start) => start.push_call(calls),
-            SceneEvent::SetupScriptStarted(start) => start.push_call(alloc, calls),
-            SceneEvent::SetupScriptSlow(slow) => slow.push_call(alloc, calls),
-            SceneEvent::SetupScriptFinished(finish) => finish.push_call(alloc, calls),
-            SceneEvent::TestStarted(start) => start.push_call(calls),
-            SceneEvent::TestSlow(slow) => slow.push_call(calls),
-            SceneEvent::TestAttemptFailedWillRetry(failed) => failed.push_call(alloc, calls),
-            SceneEvent::TestRetryStarted(start) => start.push_call(calls),
-            SceneEvent::TestFinished(finish) => finish.push_call(alloc, calls),
-            SceneEvent::TestSkipped(test) => test.push_skipped_call(calls),
-            SceneEvent::RunBeginCancel(cancel) => cancel.push_cancel_call(calls),
-            SceneEvent::RunBeginKill(cancel) => cancel.push_kill_call(calls),
-            SceneEvent::RunPaused(pause) => pause.push_paused_call(calls),
-            SceneEvent::RunContinued(pause) => pause.push_continued_call(calls),
-            SceneEvent::InfoStarted(start) => start.push_call(calls),
-            SceneEvent::ScriptAnswered(answer) => answer.push_call(alloc, calls),
-            SceneEvent::TestAnswered(answer) => answer.push_call(alloc, calls),
+            SceneEvent::Prefix(prefix) => push_prefix_call(alloc, prefix.get(), calls),
+            SceneEvent::Header(header) => header.get().push_call(alloc, calls),
+            SceneEvent::RunStarted(start) => start.get().push_call(alloc, calls),
+            SceneEvent::StressSubRunStarted(start) => start.get().push_call(calls),
+            SceneEvent::SetupScriptStarted(start) => start.get().push_call(alloc, calls),
+            SceneEvent::SetupScriptSlow(slow) => slow.get().push_call(alloc, calls),
+            SceneEvent::SetupScriptFinished(finish) => finish.get().push_call(alloc, calls),
+            SceneEvent::TestStarted(start) => start.get().push_call(calls),
+            SceneEvent::TestSlow(slow) => slow.get().push_call(calls),
+            SceneEvent::TestAttemptFailedWillRetry(failed) => failed.get().push_call(alloc, calls),
+            SceneEvent::TestRetryStarted(start) => start.get().push_call(calls),
+            SceneEvent::TestFinished(finish) => finish.get().push_call(alloc, calls),
+            SceneEvent::TestSkipped(test) => test.get().push_skipped_call(calls),
+            SceneEvent::RunBeginCancel(cancel) => cancel.get().push_cancel_call(calls),
+            SceneEvent::RunBeginKill(cancel) => cancel.get().push_kill_call(calls),
+            SceneEvent::RunPaused(pause) => pause.get().push_paused_call(calls),
+            SceneEvent::RunContinued(pause) => pause.get().push_continued_call(calls),
+            SceneEvent::InfoStarted(start) => start.get().push_call(calls),
+            SceneEvent::ScriptAnswered(answer) => answer.get().push_call(alloc, calls),
+            SceneEvent::TestAnswered(answer) => answer.get().push_call(alloc, calls),
             SceneEvent::InfoFinished(finish) => finish.push_call(calls),
-            SceneEvent::InputEnter(request) => request.push_call(calls),
-            SceneEvent::StressSubRunFinished(finish) => finish.push_call(calls),
-            SceneEvent::RunFinished(finish) => finish.push_call(alloc, calls),
+            SceneEvent::InputEnter(request) => request.get().push_call(calls),
+            SceneEvent::StressSubRunFinished(finish) => finish.get().push_call(calls),
+            SceneEvent::RunFinished(finish) => finish.get().push_call(alloc, calls),
         }
     }
 }

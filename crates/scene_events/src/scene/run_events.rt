@@ -34,7 +34,7 @@ pub struct RunCancel {
     pub setup_scripts_running: usize,
     /// How many tests run.
     pub running: usize,
-    /// Why, where that is told.
+    /// Why, where that is known.
     pub reason: Option<CancelReason>,
 }
 
@@ -90,7 +90,7 @@ impl RunStart {
 }
 
 impl RunCancel {
-    /// Pushes the begin of a cancel as a `ReportCall`. A scene tells no counts there.
+    /// Pushes the begin of a cancel as a `ReportCall`. A scene has no counts there.
     pub fn push_cancel_call<'a>(&self, calls: &mut Vec<ReportCall<'a>>) -> Result<(), OutOfMemory>
         ensures { PushesCallOf (SceneEvent.RunBeginCancel self.now) calls.old.items result calls.new.items }
     {

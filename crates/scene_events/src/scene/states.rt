@@ -17,7 +17,7 @@ pub enum SceneState {
     Live {
         /// What it is doing.
         state: LiveState,
-        /// How the attempt ended, where that is told.
+        /// How the attempt ended, where that is known.
         outcome: Option<ExecutionResultDescription>,
     },
     /// The process has ended.
@@ -85,7 +85,7 @@ pub struct Wait {
 }
 
 impl SceneState {
-    /// How the attempt ended, where that is told.
+    /// How the attempt ended, where that is known.
     pub fn outcome(&self) -> Option<&ExecutionResultDescription>
         ensures { option_copied result ≡ result_of self.now }
     {

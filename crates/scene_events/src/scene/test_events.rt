@@ -4,26 +4,27 @@ ghost use Rattle.scene_events.specs.Scenes.{PushesCallOf};
 ghost use Rattle.scene_events.specs.declared.scene.event.SceneEvent.{SceneEvent};
 
 use super::attempts::{SceneAttempt, SceneAttempts};
+use super::binary_id::SharedBinaryId;
 use super::event::push_event;
+use super::packed_stats::PackedStats;
 use run_model::call::ReportCall;
 use run_model::command::CommandLine;
 use run_model::config::TestOutputDisplay;
 use run_model::event::TestEventKind;
 use run_model::memory::OutOfMemory;
-use run_model::name::{RustBinaryId, TestCaseName, TestInstanceId};
-use run_model::stats::RunStats;
+use run_model::name::{TestCaseName, TestInstanceId};
 use run_model::status::RetryData;
 use run_model::stress::StressIndex;
 use run_model::time::Nanos;
 use std::alloc::Global;
 
-/// A test, with names of its own.
+/// A test. Its name is its own, and the id of its binary is shared.
 #[derive(Drop)]
 pub struct SceneTest {
     /// Which iteration of a stress run it belongs to.
     pub stress_index: Option<StressIndex>,
     /// The binary's id.
-    pub binary_id: RustBinaryId,
+    pub binary_id: SharedBinaryId,
     /// The test's name.
     pub test_name: TestCaseName,
 }
@@ -34,7 +35,7 @@ pub struct TestStart {
     /// The test.
     pub test: SceneTest,
     /// The counts of the run.
-    pub current_stats: RunStats,
+    pub current_stats: PackedStats,
     /// The command that runs it.
     pub command_line: CommandLine,
 }
@@ -82,7 +83,7 @@ pub struct TestFinish {
     /// Its attempts.
     pub attempts: SceneAttempts,
     /// The counts of the run, this test among them.
-    pub current_stats: RunStats,
+    pub current_stats: PackedStats,
     /// The test.
     pub test: SceneTest,
     /// When its output is to be shown if it succeeded.
@@ -116,7 +117,7 @@ impl SceneTest {
         ensures { HasNames self.now result }
     {
         TestInstanceId {
-            binary_id: &self.binary_id,
+            binary_id: self.binary_id.get(),
             test_name: &self.test_name,
         }
     }
@@ -133,7 +134,7 @@ impl TestStart {
             TestEventKind::TestStarted {
                 stress_index: self.test.stress_index,
                 test_instance: self.test.instance(),
-                current_stats: self.current_stats,
+                current_stats: self.current_stats.get(),
                 command_line,
             },
         )
@@ -217,7 +218,7 @@ impl TestFinish {
                 success_output: self.success_output,
                 failure_output: self.failure_output,
                 run_statuses,
-                current_stats: self.current_stats,
+                current_stats: self.current_stats.get(),
             },
         )
     }

@@ -6,7 +6,7 @@ use Rattle.std.proofs.lemmas.Bool.{cases_Bool}
 use Rattle.std.proofs.lemmas.Bool.Decides.{nat_tests}
 use Rattle.memchr.specs.Find.{IsFirstByte, is_byte, Nowhere, NoneBefore, Passes}
 use Rattle.std.specs.Option.{is_some}
-use Rattle.scene_fields.specs.Split.{Lacks, parted, cut}
+use Rattle.scene_fields.specs.Split.{Lacks, split_on, cut}
 
 is_false : (x : Bool) → ¬ (x ≡ true) → x ≡ false
 is_false x h = elim (cases_Bool x) [ inl p ↦ absurd (h p) | inr p ↦ p ]
@@ -31,24 +31,24 @@ cut_at b t k first here =
     (Lacks-take b t k (omega arith) first.before, sym (take-append-drop k t) ∙ ap (λ u. take k t ++ u) back)
 
 -- a text without the byte is one piece
-pub parted-lacks : (b : ℕ) (t : List ℕ) → Lacks b t → parted b t ≡ t ∷ []
-unfolding parted
-parted-lacks b [] h = refl
-parted-lacks b (c ∷ t) h = let e = parted-lacks b t h.1 in rw (h.0, e) refl
+pub split_on-lacks : (b : ℕ) (t : List ℕ) → Lacks b t → split_on b t ≡ t ∷ []
+unfolding split_on
+split_on-lacks b [] h = refl
+split_on-lacks b (c ∷ t) h = let e = split_on-lacks b t h.1 in rw (h.0, e) refl
 
 -- and so is one in which no such byte was found
-pub parted-missed : (b : ℕ) (hay t : List ℕ) (found : Option ℕ) → hay ≡ t → is_some found ≡ false → IsFirstByte (is_byte b) hay found → parted b t ≡ t ∷ []
-parted-missed b hay t None same none missed = subst (λ u. parted b u ≡ u ∷ []) same (parted-lacks b hay (Lacks-from_each b hay missed))
-parted-missed b hay t (Some k) same none found = cc
+pub split_on-missed : (b : ℕ) (hay t : List ℕ) (found : Option ℕ) → hay ≡ t → is_some found ≡ false → IsFirstByte (is_byte b) hay found → split_on b t ≡ t ∷ []
+split_on-missed b hay t None same none missed = subst (λ u. split_on b u ≡ u ∷ []) same (split_on-lacks b hay (Lacks-from_each b hay missed))
+split_on-missed b hay t (Some k) same none found = cc
 
 is_itself : (b : ℕ) → (b == b) ≡ true
 is_itself b = grind (arith, nat_tests)
 
 -- and one that has it begins with what stands before the first one
-pub parted-parts : (b : ℕ) (x y : List ℕ) → Lacks b x → parted b (x ++ (b ∷ y)) ≡ x ∷ parted b y
-unfolding parted
-parted-parts b [] y h = rw (is_itself b) refl
-parted-parts b (c ∷ x) y h = let e = parted-parts b x y h.1 in rw (h.0, e) refl
+pub split_on-parts : (b : ℕ) (x y : List ℕ) → Lacks b x → split_on b (x ++ (b ∷ y)) ≡ x ∷ split_on b y
+unfolding split_on
+split_on-parts b [] y h = rw (is_itself b) refl
+split_on-parts b (c ∷ x) y h = let e = split_on-parts b x y h.1 in rw (h.0, e) refl
 
 -- a text without the byte is not cut
 pub cut-lacks : (b : ℕ) (t : List ℕ) → Lacks b t → None ≡ cut b t

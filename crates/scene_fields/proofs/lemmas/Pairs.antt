@@ -3,32 +3,32 @@ use Rattle.std.proofs.Common.{◌≡◌, List, [], ◌∷◌, ◌++◌, ℕ, tru
 use Rattle.std.proofs.lemmas.Bool.{cases_Bool, or_parts}
 use Rattle.std.proofs.lemmas.List.{append-nil}
 use Rattle.scene_fields.specs.Counts.{has_space, in_turn}
-use Rattle.scene_fields.specs.Split.{Lacks, parted}
+use Rattle.scene_fields.specs.Split.{Lacks, split_on}
 use Rattle.scene_fields.proofs.lemmas.Cuts.{cut-lacks, cut-parts}
 
 -- the first piece of a text has no `=`
 record IsBad (t : List ℕ) : Type 0 where
   piece : List ℕ
   others : List (List ℕ)
-  parts : parted 32 t ≡ piece ∷ others
+  parts : split_on 32 t ≡ piece ∷ others
   lacks : Lacks 61 piece
 
 -- nor has that of a text whose front has none, if the front has a space or is the whole
 bad_front : (w t : List ℕ) → Lacks 61 w → (has_space w ≡ false → t ≡ []) → IsBad (w ++ t)
-unfolding parted
+unfolding split_on
 bad_front [] t h end = record { piece = []; others = []; parts = rw (end refl) refl; lacks = tt }
 bad_front (c ∷ w) t h end = elim (cases_Bool (c == 32)) [
-  | inl e ↦ record { piece = []; others = parted 32 (w ++ t); parts = rw e refl; lacks = tt }
+  | inl e ↦ record { piece = []; others = split_on 32 (w ++ t); parts = rw e refl; lacks = tt }
   | inr e ↦ (let r = bad_front w t h.1 (rw e at end) in record { piece = c ∷ r.piece; others = r.others; parts = rw (e, r.parts) refl; lacks = (h.0, r.lacks) })
 ]
 
 -- what has no space belongs to the first piece
-glued : (x t piece : List ℕ) (others : List (List ℕ)) → has_space x ≡ false → parted 32 t ≡ piece ∷ others → parted 32 (x ++ t) ≡ (x ++ piece) ∷ others
-unfolding parted
+glued : (x t piece : List ℕ) (others : List (List ℕ)) → has_space x ≡ false → split_on 32 t ≡ piece ∷ others → split_on 32 (x ++ t) ≡ (x ++ piece) ∷ others
+unfolding split_on
 glued [] t piece others h first = first
 glued (c ∷ x) t piece others h first = let n = or_parts (c == 32) (has_space x) h in let e = glued x t piece others n.1 first in rw (n.0, e) refl
 
-module _ {S : Type 0} (pair_in : S → List ℕ → List ℕ → Option S) (before : S) (left : List ℕ) (all : Option S) (so_far : in_turn pair_in before (parted 32 left) ≡ all) where
+module _ {S : Type 0} (pair_in : S → List ℕ → List ℕ → Option S) (before : S) (left : List ℕ) (all : Option S) (so_far : in_turn pair_in before (split_on 32 left) ≡ all) where
   stops : IsBad left → None ≡ all
   unfolding in_turn
   stops bad = let none = cut-lacks 61 bad.piece bad.lacks in rw (bad.parts, sym none) at so_far
@@ -36,9 +36,9 @@ module _ {S : Type 0} (pair_in : S → List ℕ → List ℕ → Option S) (befo
   pub no_value : Lacks 61 left → None ≡ all
   no_value h = stops (subst IsBad (append-nil left) (bad_front left [] h (λ none. refl)))
 
-  module _ (word after value : List ℕ) (others : List (List ℕ)) (lacks : Lacks 61 word) (is : left ≡ word ++ (61 ∷ after)) (first : parted 32 after ≡ value ∷ others) where
-    first_pair : has_space word ≡ false → parted 32 left ≡ (word ++ (61 ∷ value)) ∷ others
-    first_pair none = ap (parted 32) is ∙ glued word (61 ∷ after) (61 ∷ value) others none (glued (61 ∷ []) after value others refl first)
+  module _ (word after value : List ℕ) (others : List (List ℕ)) (lacks : Lacks 61 word) (is : left ≡ word ++ (61 ∷ after)) (first : split_on 32 after ≡ value ∷ others) where
+    first_pair : has_space word ≡ false → split_on 32 left ≡ (word ++ (61 ∷ value)) ∷ others
+    first_pair none = ap (split_on 32) is ∙ glued word (61 ∷ after) (61 ∷ value) others none (glued (61 ∷ []) after value others refl first)
 
     pub next_pair : (has_space word ≡ true → pair_in before word value ≡ None) → (new : S) → Some new ≡ pair_in before word value → in_turn pair_in new others ≡ all
     unfolding in_turn

@@ -3,8 +3,8 @@ use Rattle.std.proofs.Common.{◌≡◌, ℕ, ◌+◌, ◌-◌, ◌<◌, ◌≤�
 use Rattle.std.proofs.lemmas.List.{get_or-drop, drop-drop, map-append}
 use Rattle.memchr.specs.Find.{is_byte, Nowhere, NoneBefore, Passes}
 use Rattle.std.specs.Borrow.{Bor}
-use Rattle.scene_fields.specs.Split.{Lacks, parted, field_texts}
-use Rattle.scene_fields.proofs.lemmas.Cuts.{Lacks-from_each, cut_at, parted-lacks, parted-parts}
+use Rattle.scene_fields.specs.Split.{Lacks, split_on, field_texts}
+use Rattle.scene_fields.proofs.lemmas.Cuts.{Lacks-from_each, cut_at, split_on-lacks, split_on-parts}
 
 -- from place i on, the first of n places that passes the test is k
 pub record IsNextPlace (test : ℕ → Bool) (hay : List ℕ) (i n k : ℕ) : Type 0 where
@@ -34,8 +34,8 @@ module _ (b : ℕ) (t : List ℕ) (start : ℕ) (within : start ≤ length t) wh
       let e : start + (place - start + 1) ≡ place + 1 = omega (arith, r.low) in
       (cut.0, cut.1 ∙ ap (λ u. take (place - start) rest ++ (b ∷ u)) (drop-drop _ _ t ∙ ap (λ n. drop n t) e))
 
-  pub piece_here : (place : ℕ) → IsNextPlace (is_byte b) t start (length t - start) place → parted b rest ≡ take (place - start) rest ∷ parted b (drop (place + 1) t)
-  piece_here place r = let cut = cut_here place r in ap (parted b) cut.1 ∙ parted-parts b _ _ cut.0
+  pub piece_here : (place : ℕ) → IsNextPlace (is_byte b) t start (length t - start) place → split_on b rest ≡ take (place - start) rest ∷ split_on b (drop (place + 1) t)
+  piece_here place r = let cut = cut_here place r in ap (split_on b) cut.1 ∙ split_on-parts b _ _ cut.0
 
   -- no such byte is left
   pub lacks_here : Nowhere (Passes (is_byte b) t) start (length t) → Lacks b rest
@@ -44,8 +44,8 @@ module _ (b : ℕ) (t : List ℕ) (start : ℕ) (within : start ≤ length t) wh
       bound : (j : ℕ) → j < length rest → start + j < length t
       bound j u = let d = length-drop start t in omega (arith, d, u)
 
-  pub last_piece : Nowhere (Passes (is_byte b) t) start (length t) → parted b rest ≡ rest ∷ []
-  last_piece none = parted-lacks b rest (lacks_here none)
+  pub last_piece : Nowhere (Passes (is_byte b) t) start (length t) → split_on b rest ≡ rest ∷ []
+  last_piece none = split_on-lacks b rest (lacks_here none)
 
 -- one more piece was found
 module _ (front : List (Bor (List ℕ))) (piece : Bor (List ℕ)) (rest : List (List ℕ)) (whole : List (List ℕ)) where

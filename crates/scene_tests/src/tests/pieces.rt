@@ -3,8 +3,8 @@
 use super::{OPTIONS, report_and_store};
 use run_model::level::StatusLevel;
 use scene_text::reader::LARGE;
+use scenes::args::Options;
 use scenes::fault::{Fault, LineFault};
-use scenes::words::Options;
 use std::alloc::{AllocError, Global};
 use std::test::Fail;
 

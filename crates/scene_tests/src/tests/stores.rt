@@ -5,8 +5,8 @@ use super::{
     ASKED, CANCELLED, DONE, OF_ASKED, OF_CANCELLED, OF_TWO_TESTS, OPTIONS, STORED_OF_TWO_TESTS,
     STORING, TWO_TESTS, report_and_store,
 };
+use scenes::args::Options;
 use scenes::fault::Fault;
-use scenes::words::Options;
 use std::alloc::Global;
 use std::test::Fail;
 use test_devices::{Device, Failure};

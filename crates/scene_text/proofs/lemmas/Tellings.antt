@@ -10,16 +10,16 @@ use Rattle.scene_fields.specs.declared.fault.LineError.TheVariants as error
 use Rattle.scene_fields.specs.declared.fault.LineFault.{LineFault}
 use Rattle.scene_fields.specs.declared.fault.ReadFault.{ReadFault}
 use Rattle.scene_fields.specs.declared.fault.ReadFault.TheVariants as fault
-use Rattle.scene_text.specs.SceneTexts.{AllTell, IsFaultHere, IsNextFault, IsSameRun, LeavesLines, LineSaid, ReadsLines, SaysConfig, SaysEvent, SaysNothing, Told, event_lines, fault_at, is_begun, is_begun_behind, line_here, line_said, line_told, line_told_behind, lines_behind, lines_before, lines_told, told, told_after, told_with, with_said}
+use Rattle.scene_text.specs.SceneTexts.{AllRead, IsFaultHere, IsNextFault, IsSameRun, LeavesLines, ParsedLine, ReadsLines, ConfigLine, EventLine, NoEvent, ParsedLines, event_lines, fault_at, is_begun, is_begun_behind, line_here, parsed_line, line_read, line_read_behind, lines_behind, lines_before, lines_read, parsed_lines, lines_after, lines_with, with_line}
 use Rattle.scene_text.specs.declared.reader.LinesRead.{LinesRead}
 
 -- lines tell, and others behind them
-pub all_append : (before : Told) (ts : List (List ℕ)) (mid : Told) (us : List (List ℕ)) (after : Told) → AllTell before ts mid → AllTell mid us after → AllTell before (ts ++ us) after
-all_append before [] mid us after h more = subst (λ b. AllTell b us after) (sym h) more
+pub all_append : (before : ParsedLines) (ts : List (List ℕ)) (mid : ParsedLines) (us : List (List ℕ)) (after : ParsedLines) → AllRead before ts mid → AllRead mid us after → AllRead before (ts ++ us) after
+all_append before [] mid us after h more = subst (λ b. AllRead b us after) (sym h) more
 all_append before (t ∷ ts) mid us after h more = (h.0, h.1, all_append h.0 ts mid us after h.2 more)
 
 -- and the numbers of their events follow
-pub noted_append : (n k : ℕ) (before : Told) (ts : List (List ℕ)) (mid : Told) (us : List (List ℕ)) → k ≡ n + length ts → AllTell before ts mid →
+pub noted_append : (n k : ℕ) (before : ParsedLines) (ts : List (List ℕ)) (mid : ParsedLines) (us : List (List ℕ)) → k ≡ n + length ts → AllRead before ts mid →
     event_lines n before (ts ++ us) ≡ event_lines n before ts ++ event_lines k mid us
 unfolding event_lines
 noted_append n k before [] mid us place h =
@@ -30,26 +30,26 @@ noted_append n k before (t ∷ ts) mid us place h =
     rw (h.1, more) (sym (append_assoc (line_here n before h.0) (event_lines (n + 1) h.0 ts) (event_lines k mid us)))
 
 -- lines that tell one after the other
-pub all_told : (n : ℕ) (before : Told) (ts : List (List ℕ)) (after : Told) → AllTell before ts after → lines_told n before ts ≡ Ok after
-unfolding lines_told
+pub all_told : (n : ℕ) (before : ParsedLines) (ts : List (List ℕ)) (after : ParsedLines) → AllRead before ts after → lines_read n before ts ≡ Ok after
+unfolding lines_read
 all_told n before [] after h = ap Ok h
 all_told n before (t ∷ ts) after h = rw h.1 (all_told (n + 1) h.0 ts after h.2)
 
 -- and then one that has a fault
-pub wrong_told : (n : ℕ) (before : Told) (ts : List (List ℕ)) (mid : Told) (t : List ℕ) (more : List (List ℕ)) (f : LineFault) (m : ℕ) → m ≡ n + length ts → AllTell before ts mid → line_told mid t ≡ Err f →
-    lines_told n before (ts ++ t ∷ more) ≡ Err (m, f)
-unfolding lines_told
+pub wrong_told : (n : ℕ) (before : ParsedLines) (ts : List (List ℕ)) (mid : ParsedLines) (t : List ℕ) (more : List (List ℕ)) (f : LineFault) (m : ℕ) → m ≡ n + length ts → AllRead before ts mid → line_read mid t ≡ Err f →
+    lines_read n before (ts ++ t ∷ more) ≡ Err (m, f)
+unfolding lines_read
 wrong_told n before [] mid t more f m place h wrong =
     let here : m ≡ n = omega (arith, place) in
-    let first : line_told before t ≡ Err f = subst (λ b. line_told b t ≡ Err f) (sym h) wrong in
+    let first : line_read before t ≡ Err f = subst (λ b. line_read b t ≡ Err f) (sym h) wrong in
     rw (here, first) refl
 wrong_told n before (u ∷ us) mid t more f m place h wrong = rw h.1 (wrong_told (n + 1) h.0 us mid t more f m (omega (arith, place)) h.2 wrong)
 
 -- of one line
-one_tells : (before : Told) (t : List ℕ) (after : Told) → line_told before t ≡ Ok after → AllTell before (t ∷ []) after
+one_tells : (before : ParsedLines) (t : List ℕ) (after : ParsedLines) → line_read before t ≡ Ok after → AllRead before (t ∷ []) after
 one_tells before t after h = (after, h, refl)
 
-one_noted : (n : ℕ) (before : Told) (t : List ℕ) (after : Told) → line_told before t ≡ Ok after → event_lines n before (t ∷ []) ≡ line_here n before after
+one_noted : (n : ℕ) (before : ParsedLines) (t : List ℕ) (after : ParsedLines) → line_read before t ≡ Ok after → event_lines n before (t ∷ []) ≡ line_here n before after
 unfolding event_lines
 one_noted n before t after h = rw h (append-nil (line_here n before after))
 
@@ -58,42 +58,42 @@ pub begun_behind : (base es : List SceneEvent) → is_begun (base ++ es) ≡ is_
 begun_behind [] es = refl
 begun_behind (b ∷ bs) es = refl
 
-abbrev is_told : Told → Result Told LineFault
+abbrev is_told : ParsedLines → Result ParsedLines LineFault
 is_told x = Ok x
 
-with_after : (base : List SceneEvent) (before after : Told) (r : Result LineSaid LineFault) → told_with before r ≡ Ok after → told_with (told_after base before) r ≡ Ok (told_after base after)
-with_after base before after (Ok SaysNothing) h = cc
-with_after base before after (Ok (SaysConfig c)) h = cc
-with_after base before after (Ok (SaysEvent e)) h =
-    let same : with_said before (SaysEvent e) ≡ after = cc in
-    ap (λ es. is_told (record { config = before.config; events = es })) (append_assoc base before.events (e ∷ [])) ∙ ap (λ x. is_told (told_after base x)) same
+with_after : (base : List SceneEvent) (before after : ParsedLines) (r : Result ParsedLine LineFault) → lines_with before r ≡ Ok after → lines_with (lines_after base before) r ≡ Ok (lines_after base after)
+with_after base before after (Ok NoEvent) h = cc
+with_after base before after (Ok (ConfigLine c)) h = cc
+with_after base before after (Ok (EventLine e)) h =
+    let same : with_line before (EventLine e) ≡ after = cc in
+    ap (λ es. is_told (record { config = before.config; events = es })) (append_assoc base before.events (e ∷ [])) ∙ ap (λ x. is_told (lines_after base x)) same
 with_after base before after (Err f) h = absurd (cc)
 
-wrong_after : (base : List SceneEvent) (before : Told) (f : LineFault) (r : Result LineSaid LineFault) → told_with before r ≡ Err f → told_with (told_after base before) r ≡ Err f
+wrong_after : (base : List SceneEvent) (before : ParsedLines) (f : LineFault) (r : Result ParsedLine LineFault) → lines_with before r ≡ Err f → lines_with (lines_after base before) r ≡ Err f
 wrong_after base before f (Ok s) h = absurd (cc)
 wrong_after base before f (Err g) h = h
 
-module _ (base : List SceneEvent) (begun : Bool) (is : is_begun base ≡ begun) (before : Told) (t : List ℕ) where
-  same_before : lines_before (told_after base before) ≡ lines_behind begun before
+module _ (base : List SceneEvent) (begun : Bool) (is : is_begun base ≡ begun) (before : ParsedLines) (t : List ℕ) where
+  same_before : lines_before (lines_after base before) ≡ lines_behind begun before
   same_before = rw (begun_behind base before.events, is) refl
 
-  pub told_behind : (after : Told) → line_told_behind begun before t ≡ Ok after → line_told (told_after base before) t ≡ Ok (told_after base after)
-  unfolding line_told line_told_behind
-  told_behind after h = rw same_before (with_after base before after (line_said (lines_behind begun before) t) h)
+  pub told_behind : (after : ParsedLines) → line_read_behind begun before t ≡ Ok after → line_read (lines_after base before) t ≡ Ok (lines_after base after)
+  unfolding line_read line_read_behind
+  told_behind after h = rw same_before (with_after base before after (parsed_line (lines_behind begun before) t) h)
 
-  pub wrong_behind : (f : LineFault) → line_told_behind begun before t ≡ Err f → line_told (told_after base before) t ≡ Err f
-  unfolding line_told line_told_behind
-  wrong_behind f h = rw same_before (wrong_after base before f (line_said (lines_behind begun before) t) h)
+  pub wrong_behind : (f : LineFault) → line_read_behind begun before t ≡ Err f → line_read (lines_after base before) t ≡ Err f
+  unfolding line_read line_read_behind
+  wrong_behind f h = rw same_before (wrong_after base before f (parsed_line (lines_behind begun before) t) h)
 
 -- more events are as many more behind these
 less_after : (n a b : ℕ) → nat_lt (n + a) (n + b) ≡ nat_lt a b
 less_after n a b = grind (arith, nat_tests)
 
-here_after : (base : List SceneEvent) (n : ℕ) (before after : Told) → line_here n (told_after base before) (told_after base after) ≡ line_here n before after
+here_after : (base : List SceneEvent) (n : ℕ) (before after : ParsedLines) → line_here n (lines_after base before) (lines_after base after) ≡ line_here n before after
 here_after base n before after = rw (length-append base before.events, length-append base after.events, less_after (length base) (length before.events) (length after.events)) refl
 
 -- what is told of a line that is wrong
-pub fault_here : (n : ℕ) (error : LineError) (read : Result Told LineFault) → Fails error read → IsFaultHere n read (fault_at n error)
+pub fault_here : (n : ℕ) (error : LineError) (read : Result ParsedLines LineFault) → Fails error read → IsFaultHere n read (fault_at n error)
 fault_here n (error.Fault f) read h = (refl, h)
 fault_here n error.OutOfMemory read h = tt
 
@@ -104,20 +104,20 @@ reads_none old = record { tells = λ base is. refl; noted = λ base is. sym (app
 
 -- one line more was read
 module _ (old mid new : LinesRead) (front : List (List ℕ)) (so_far : ReadsLines old mid front) (t : List ℕ) where
-  pub reads_more : line_told_behind mid.is_begun (told mid.run) t ≡ Ok (told new.run) → new.run.lines.items ≡ mid.run.lines.items ++ line_here mid.next (told mid.run) (told new.run) →
+  pub reads_more : line_read_behind mid.is_begun (parsed_lines mid.run) t ≡ Ok (parsed_lines new.run) → new.run.lines.items ≡ mid.run.lines.items ++ line_here mid.next (parsed_lines mid.run) (parsed_lines new.run) →
       new.is_begun ≡ mid.is_begun → new.next ≡ mid.next + 1 → ReadsLines old new (front ++ t ∷ [])
   reads_more one noted begun place =
-      let behind : (base : List SceneEvent) → is_begun base ≡ old.is_begun → line_told (told_after base (told mid.run)) t ≡ Ok (told_after base (told new.run)) =
-      λ base is. told_behind base mid.is_begun (is ∙ sym so_far.begun) (told mid.run) t (told new.run) one in
+      let behind : (base : List SceneEvent) → is_begun base ≡ old.is_begun → line_read (lines_after base (parsed_lines mid.run)) t ≡ Ok (lines_after base (parsed_lines new.run)) =
+      λ base is. told_behind base mid.is_begun (is ∙ sym so_far.begun) (parsed_lines mid.run) t (parsed_lines new.run) one in
       record {
-        tells = λ base is. all_append (told_after base (told old.run)) front (told_after base (told mid.run)) (t ∷ []) (told_after base (told new.run)) (so_far.tells base is) (one_tells _ t _ (behind base is));
+        tells = λ base is. all_append (lines_after base (parsed_lines old.run)) front (lines_after base (parsed_lines mid.run)) (t ∷ []) (lines_after base (parsed_lines new.run)) (so_far.tells base is) (one_tells _ t _ (behind base is));
         noted = λ base is.
-            let first = event_lines old.next (told_after base (told old.run)) front in
-            noted ∙ ap (λ ls. ls ++ line_here mid.next (told mid.run) (told new.run)) (so_far.noted base is)
-            ∙ append_assoc old.run.lines.items first (line_here mid.next (told mid.run) (told new.run))
+            let first = event_lines old.next (lines_after base (parsed_lines old.run)) front in
+            noted ∙ ap (λ ls. ls ++ line_here mid.next (parsed_lines mid.run) (parsed_lines new.run)) (so_far.noted base is)
+            ∙ append_assoc old.run.lines.items first (line_here mid.next (parsed_lines mid.run) (parsed_lines new.run))
             ∙ ap (λ ls. old.run.lines.items ++ ls) (
-            ap (λ ls. first ++ ls) (sym (one_noted mid.next _ t _ (behind base is) ∙ here_after base mid.next (told mid.run) (told new.run)))
-            ∙ sym (noted_append old.next mid.next (told_after base (told old.run)) front (told_after base (told mid.run)) (t ∷ []) so_far.place (so_far.tells base is))
+            ap (λ ls. first ++ ls) (sym (one_noted mid.next _ t _ (behind base is) ∙ here_after base mid.next (parsed_lines mid.run) (parsed_lines new.run)))
+            ∙ sym (noted_append old.next mid.next (lines_after base (parsed_lines old.run)) front (lines_after base (parsed_lines mid.run)) (t ∷ []) so_far.place (so_far.tells base is))
             );
         begun = begun ∙ so_far.begun;
         place = (let size = length-append front (t ∷ []) in omega (arith, place, so_far.place, size));
@@ -127,21 +127,21 @@ module _ (old mid new : LinesRead) (front : List (List ℕ)) (so_far : ReadsLine
   module _ (same : IsSameRun mid.run new.run) (begun : new.is_begun ≡ mid.is_begun) (place : new.next ≡ mid.next) where
     reads_same : ReadsLines old new front
     reads_same = record {
-      tells = λ base is. subst (λ x. AllTell (told_after base (told old.run)) front (told_after base x)) (sym same.0) (so_far.tells base is);
+      tells = λ base is. subst (λ x. AllRead (lines_after base (parsed_lines old.run)) front (lines_after base x)) (sym same.0) (so_far.tells base is);
       noted = λ base is. same.1 ∙ so_far.noted base is;
       begun = begun ∙ so_far.begun;
       place = place ∙ so_far.place;
     }
 
-    next_fault : (rest : List (List ℕ)) (f : ReadFault) → IsFaultHere mid.next (line_told_behind mid.is_begun (told mid.run) t) f → (base : List SceneEvent) → is_begun base ≡ old.is_begun →
-        IsNextFault new.next (told_after base (told new.run)) (t ∷ rest) f
+    next_fault : (rest : List (List ℕ)) (f : ReadFault) → IsFaultHere mid.next (line_read_behind mid.is_begun (parsed_lines mid.run) t) f → (base : List SceneEvent) → is_begun base ≡ old.is_begun →
+        IsNextFault new.next (lines_after base (parsed_lines new.run)) (t ∷ rest) f
     next_fault rest (fault.Line m f) h base is = (
       h.0 ∙ sym place,
-      (t, rest, refl, subst (λ x. line_told (told_after base x) t ≡ Err f) (sym same.0) (wrong_behind base mid.is_begun (is ∙ sym so_far.begun) (told mid.run) t f h.1)),
+      (t, rest, refl, subst (λ x. line_read (lines_after base x) t ≡ Err f) (sym same.0) (wrong_behind base mid.is_begun (is ∙ sym so_far.begun) (parsed_lines mid.run) t f h.1)),
     )
     next_fault rest fault.OutOfMemory h base is = tt
 
-    pub leaves_here : (rest lines : List (List ℕ)) → lines ≡ front ++ t ∷ rest → (f : ReadFault) → IsFaultHere mid.next (line_told_behind mid.is_begun (told mid.run) t) f → LeavesLines old new lines f
+    pub leaves_here : (rest lines : List (List ℕ)) → lines ≡ front ++ t ∷ rest → (f : ReadFault) → IsFaultHere mid.next (line_read_behind mid.is_begun (parsed_lines mid.run) t) f → LeavesLines old new lines f
     leaves_here rest lines whole f h = record { front = front; rest = t ∷ rest; whole = whole; reads = reads_same; wrong = next_fault rest f h }
 
 -- the first of these lines were read, and these are left

@@ -1,10 +1,11 @@
 //! The kinds of line that a scene has, and the fields of a `config` line.
 
 ghost use Rattle.std.specs.Prelude.{◌≡◌};
-ghost use Rattle.scene_fields.specs.Fields.{answered};
-ghost use Rattle.scene_text.specs.Lines.{config_line_fields, event_line_fields, other_event_line_fields};
-ghost use Rattle.scene_text.specs.SceneTexts.{IsSaid, event_told};
+ghost use Rattle.scene_fields.specs.Fields.{Reads, answered};
+ghost use Rattle.scene_text.specs.Lines.{config_line_fields, event_line_fields, other_event_line_fields, run_event_line_fields};
+ghost use Rattle.scene_text.specs.SceneTexts.{event_of};
 
+use super::binary_ids::BinaryIds;
 use super::info_lines::{read_answer_script, read_answer_test, read_info, read_info_end};
 use super::replay_lines::{read_header, read_prefix};
 use super::run_lines::{read_cancel, read_end, read_input, read_pause, read_run};
@@ -13,6 +14,7 @@ use super::stress_lines::{read_end_stress, read_sub_end, read_sub_start};
 use super::test_lines::{
     read_done, read_retry, read_retry_start, read_skip, read_slow, read_start,
 };
+use run_model::boxed::Boxed;
 use scene_events::scene::SceneConfig;
 use scene_events::scene::event::SceneEvent;
 use scene_fields::fault::{LineError, LineFault};
@@ -23,21 +25,26 @@ use scene_fields::values::{
 };
 use std::alloc::Global;
 
-/// Reads the fields behind a word, which names the kind of event that the line tells. The words of tests come first, since most lines
+/// Reads the fields behind a word, which names the kind of event. The words of tests come first, since most lines
 /// are theirs.
 #[inline(always)]
 #[tactic(auto, unfolding(crate::specs::Lines::event_line_fields))]
-pub fn read_event(alloc: Global, word: &str, fields: Fields<'_>) -> Result<SceneEvent, LineError>
-    ensures { IsSaid result (event_told (event_line_fields word.now fields.entry)) }
+pub fn read_event(
+    alloc: Global,
+    binaries: &mut BinaryIds,
+    word: &str,
+    fields: Fields<'_>,
+) -> Result<SceneEvent, LineError>
+    ensures { Reads (λ e. e) result (event_of (event_line_fields word.now fields.entry)) }
 {
     match word {
-        "done" => read_done(alloc, &mut fields.with_attempts()?),
-        "start" => read_start(alloc, &mut fields.exactly(5)?),
-        "retrystart" => read_retry_start(alloc, &mut fields.exactly(6)?),
-        "slow" => read_slow(alloc, &mut fields.exactly(7)?),
-        "retry" => read_retry(alloc, &mut fields.exactly(15)?),
-        "skip" => read_skip(alloc, &mut fields.exactly(3)?),
-        word => read_other_event(alloc, word, fields),
+        "done" => read_done(alloc, binaries, &mut fields.with_attempts()?),
+        "start" => read_start(alloc, binaries, &mut fields.exactly(5)?),
+        "retrystart" => read_retry_start(alloc, binaries, &mut fields.exactly(6)?),
+        "slow" => read_slow(alloc, binaries, &mut fields.exactly(7)?),
+        "retry" => read_retry(alloc, binaries, &mut fields.exactly(15)?),
+        "skip" => read_skip(alloc, binaries, &mut fields.exactly(3)?),
+        word => read_other_event(alloc, binaries, word, fields),
     }
 }
 
@@ -45,29 +52,69 @@ pub fn read_event(alloc: Global, word: &str, fields: Fields<'_>) -> Result<Scene
 // used or not.
 #[inline(never)]
 #[tactic(auto, unfolding(crate::specs::Lines::other_event_line_fields))]
-fn read_other_event(alloc: Global, word: &str, fields: Fields<'_>) -> Result<SceneEvent, LineError>
-    ensures { IsSaid result (event_told (other_event_line_fields word.now fields.entry)) }
+fn read_other_event(
+    alloc: Global,
+    binaries: &mut BinaryIds,
+    word: &str,
+    fields: Fields<'_>,
+) -> Result<SceneEvent, LineError>
+    ensures { Reads (λ e. e) result (event_of (other_event_line_fields word.now fields.entry)) }
 {
     match word {
         "prefix" => read_prefix(alloc, &mut fields.exactly(2)?),
         "header" => read_header(alloc, &mut fields.exactly(5)?),
         "run" => read_run(alloc, &mut fields.exactly(5)?),
-        "substart" => Ok(read_sub_start(&mut fields.exactly(1)?)?),
         "setup" => read_setup(alloc, &mut fields.exactly(6)?),
         "setupslow" => read_setup_slow(alloc, &mut fields.exactly(6)?),
         "setupdone" => read_setup_done(alloc, &mut fields.exactly(12)?),
-        "cancel" => Ok(SceneEvent::RunBeginCancel(read_cancel(&mut fields.exactly(3)?)?)),
-        "kill" => Ok(SceneEvent::RunBeginKill(read_cancel(&mut fields.exactly(3)?)?)),
-        "pause" => Ok(SceneEvent::RunPaused(read_pause(&mut fields.exactly(2)?)?)),
-        "continue" => Ok(SceneEvent::RunContinued(read_pause(&mut fields.exactly(2)?)?)),
-        "info" => Ok(read_info(&mut fields.exactly(3)?)?),
         "answer-script" => read_answer_script(alloc, &mut fields.exactly(13)?),
-        "answer-test" => read_answer_test(alloc, &mut fields.exactly(14)?),
-        "infoend" => Ok(read_info_end(&mut fields.exactly(1)?)?),
-        "input" => Ok(read_input(&mut fields.exactly(3)?)?),
-        "subend" => Ok(read_sub_end(&mut fields.exactly(3)?)?),
+        "answer-test" => read_answer_test(alloc, binaries, &mut fields.exactly(14)?),
         "end" => read_end(alloc, &mut fields.exactly(4)?),
         "endstress" => read_end_stress(alloc, &mut fields.exactly(7)?),
+        word => read_run_event(alloc, word, fields),
+    }
+}
+
+// Reads the fields behind a word that names an event of the run as it goes on. They hold no text, so only the event allocates.
+#[inline(never)]
+#[tactic(auto, unfolding(crate::specs::Lines::run_event_line_fields))]
+fn read_run_event(alloc: Global, word: &str, fields: Fields<'_>) -> Result<SceneEvent, LineError>
+    ensures { Reads (λ e. e) result (event_of (run_event_line_fields word.now fields.entry)) }
+{
+    match word {
+        "substart" => {
+            let start = read_sub_start(&mut fields.exactly(1)?)?;
+            Ok(SceneEvent::StressSubRunStarted(Boxed::new(alloc, start)?))
+        }
+        "cancel" => {
+            let cancel = read_cancel(&mut fields.exactly(3)?)?;
+            Ok(SceneEvent::RunBeginCancel(Boxed::new(alloc, cancel)?))
+        }
+        "kill" => {
+            let kill = read_cancel(&mut fields.exactly(3)?)?;
+            Ok(SceneEvent::RunBeginKill(Boxed::new(alloc, kill)?))
+        }
+        "pause" => {
+            let pause = read_pause(&mut fields.exactly(2)?)?;
+            Ok(SceneEvent::RunPaused(Boxed::new(alloc, pause)?))
+        }
+        "continue" => {
+            let pause = read_pause(&mut fields.exactly(2)?)?;
+            Ok(SceneEvent::RunContinued(Boxed::new(alloc, pause)?))
+        }
+        "info" => {
+            let start = read_info(&mut fields.exactly(3)?)?;
+            Ok(SceneEvent::InfoStarted(Boxed::new(alloc, start)?))
+        }
+        "infoend" => Ok(read_info_end(&mut fields.exactly(1)?)?),
+        "input" => {
+            let request = read_input(&mut fields.exactly(3)?)?;
+            Ok(SceneEvent::InputEnter(Boxed::new(alloc, request)?))
+        }
+        "subend" => {
+            let finish = read_sub_end(&mut fields.exactly(3)?)?;
+            Ok(SceneEvent::StressSubRunFinished(Boxed::new(alloc, finish)?))
+        }
         _ => Err(LineError::Fault(LineFault::UnknownEvent)),
     }
 }

@@ -8,7 +8,7 @@ ghost use Rattle.std.specs.Option.{option_copied};
 ghost use Rattle.scene_fields.specs.Split.{field_texts};
 ghost use Rattle.scene_fields.specs.Fields.{Gives, field};
 ghost use Rattle.scene_fields.specs.Lists.{errors_in};
-ghost use Rattle.scene_text.specs.Outputs.{after_streams, highlight_in, highlight_stream_in, output_fields, output_form_in, silent_fields, stream_in, TakesSilence};
+ghost use Rattle.scene_text.specs.Outputs.{after_streams, highlight_in, highlight_stream_in, output_fields, output_form_in, empty_output_fields, stream_in, TakesEmptyOutput};
 ghost use Rattle.scene_fields.specs.Texts.{bytes_in};
 
 use bytes::{Bytes, BytesMut};
@@ -93,10 +93,10 @@ pub fn read_output(
 }
 
 /// Takes the five fields of an empty output, if they come next.
-pub fn take_silence(fields: &mut Fields<'_>) -> bool
-    ensures { TakesSilence result fields.old fields.new }
+pub fn take_empty_output(fields: &mut Fields<'_>) -> bool
+    ensures { TakesEmptyOutput result fields.old fields.new }
 {
-    if !is_silence(fields.borrowed()) {
+    if !is_empty_output(fields.borrowed()) {
         return false;
     }
     fields.pass(5);
@@ -104,8 +104,8 @@ pub fn take_silence(fields: &mut Fields<'_>) -> bool
 }
 
 // Whether an output that holds nothing comes first.
-fn is_silence(fields: &[&str]) -> bool
-    ensures { IsTrue result → field_texts fields.now ≡ silent_fields ++ drop 5 (field_texts fields.now) }
+fn is_empty_output(fields: &[&str]) -> bool
+    ensures { IsTrue result → field_texts fields.now ≡ empty_output_fields ++ drop 5 (field_texts fields.now) }
 {
     match fields {
         [form, stdout, stderr, errors, highlight, ..] => {

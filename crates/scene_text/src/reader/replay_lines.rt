@@ -7,6 +7,7 @@ ghost use Rattle.scene_fields.specs.Texts.{text_in};
 
 use super::moments::read_moment;
 use run_model::abort::DescriptionText;
+use run_model::boxed::Boxed;
 use run_model::memory::OutOfMemory;
 use run_model::run_id::ShortestRunIdPrefix;
 use scene_events::scene::event::SceneEvent;
@@ -24,7 +25,8 @@ pub fn read_prefix(alloc: Global, fields: &mut Fields<'_>) -> Result<SceneEvent,
 {
     let prefix = fields.try_read(|field| read_description(alloc, field))?;
     let rest = fields.try_read(|field| read_description(alloc, field))?;
-    Ok(SceneEvent::Prefix(ShortestRunIdPrefix::new(alloc, prefix.as_str(), rest.as_str())?))
+    let prefix = ShortestRunIdPrefix::new(alloc, prefix.as_str(), rest.as_str())?;
+    Ok(SceneEvent::Prefix(Boxed::new(alloc, prefix)?))
 }
 
 /// Reads a `header` line: the run's id, its prefix and the rest, when it started, and how it ended.
@@ -36,12 +38,13 @@ pub fn read_header(alloc: Global, fields: &mut Fields<'_>) -> Result<SceneEvent,
     let unique_prefix = read_unique_prefix(alloc, fields)?;
     let started_at = fields.read(read_moment)?;
     let status = fields.try_read(|field| read_description(alloc, field))?;
-    Ok(SceneEvent::Header(SceneHeader {
+    let header = SceneHeader {
         run_id,
         unique_prefix,
         started_at,
         status,
-    }))
+    };
+    Ok(SceneEvent::Header(Boxed::new(alloc, header)?))
 }
 
 // Reads a prefix and the rest of the id, or twice `-`.

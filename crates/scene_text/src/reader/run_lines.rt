@@ -4,6 +4,7 @@ ghost use Rattle.std.specs.Prelude.{◌≡◌};
 ghost use Rattle.scene_fields.specs.Fields.{Gives, answered};
 ghost use Rattle.scene_text.specs.RunLines.{cancel_line_fields, end_line_fields, input_line_fields, not_seen_fields, pause_line_fields, run_line_fields};
 
+use run_model::boxed::Boxed;
 use run_model::event::TestCounts;
 use run_model::not_seen::NotSeen;
 use run_model::stats::RunFinishedStats;
@@ -28,7 +29,7 @@ pub fn read_run(alloc: Global, fields: &mut Fields<'_>) -> Result<SceneEvent, Li
     let run_count = fields.read(read_count)?;
     let listed_binary_count = fields.read(read_count)?;
     let skip_counts = fields.read(read_skips)?;
-    Ok(SceneEvent::RunStarted(RunStart {
+    let start = RunStart {
         run_id,
         profile_name,
         test_list: TestCounts {
@@ -36,7 +37,8 @@ pub fn read_run(alloc: Global, fields: &mut Fields<'_>) -> Result<SceneEvent, Li
             listed_binary_count,
             skip_counts,
         },
-    }))
+    };
+    Ok(SceneEvent::RunStarted(Boxed::new(alloc, start)?))
 }
 
 /// Reads a `cancel` or `kill` line: how many setup scripts and tests run, and the reason.
@@ -69,17 +71,17 @@ pub fn read_pause(fields: &mut Fields<'_>) -> Result<RunPause, LineFault>
 
 /// Reads an `input` line: how long the run has taken, its statistics, and how many units run.
 #[tactic(auto, unfolding(crate::specs::RunLines::input_line_fields))]
-pub fn read_input(fields: &mut Fields<'_>) -> Result<SceneEvent, LineFault>
+pub fn read_input(fields: &mut Fields<'_>) -> Result<StateRequest, LineFault>
     ensures { input_line_fields fields.old ≡ answered result fields.new }
 {
     let elapsed = fields.read(read_nanos)?;
     let current_stats = fields.read(read_stats)?;
     let running = fields.read(read_count)?;
-    Ok(SceneEvent::InputEnter(StateRequest {
+    Ok(StateRequest {
         elapsed,
         current_stats,
         running,
-    }))
+    })
 }
 
 /// Reads an `end` line: how long the run took, its statistics, and the tests that were not seen.
@@ -90,11 +92,12 @@ pub fn read_end(alloc: Global, fields: &mut Fields<'_>) -> Result<SceneEvent, Li
     let elapsed = fields.read(read_nanos)?;
     let run_stats = fields.read(read_stats)?;
     let outstanding_not_seen = read_not_seen(alloc, fields)?;
-    Ok(SceneEvent::RunFinished(RunFinish {
+    let finish = RunFinish {
         elapsed,
         run_stats: RunFinishedStats::Single(run_stats),
         outstanding_not_seen,
-    }))
+    };
+    Ok(SceneEvent::RunFinished(Boxed::new(alloc, finish)?))
 }
 
 /// Reads how many tests were not seen, and those of them that are listed.

@@ -4,6 +4,7 @@ ghost use Rattle.scene_fields.specs.Fields.{Gives};
 ghost use Rattle.scene_text.specs.ScriptLines.{script_fields, setup_done_line_fields, setup_line_fields, setup_slow_line_fields};
 
 use super::test_lines::read_attempt;
+use run_model::boxed::Boxed;
 use run_model::status::RetryData;
 use scene_events::scene::event::SceneEvent;
 use scene_events::scene::script_events::{SceneScript, SetupFinish, SetupStart, SlowSetup};
@@ -30,12 +31,13 @@ pub fn read_setup(alloc: Global, fields: &mut Fields<'_>) -> Result<SceneEvent, 
     let index = fields.read(read_count)?;
     let total = fields.read(read_count)?;
     let script = read_script(alloc, fields)?;
-    Ok(SceneEvent::SetupScriptStarted(SetupStart {
+    let start = SetupStart {
         stress_index,
         index,
         total,
         script,
-    }))
+    };
+    Ok(SceneEvent::SetupScriptStarted(Boxed::new(alloc, start)?))
 }
 
 /// Reads a `setupslow` line: the iteration, the script, how long it has taken, and whether it is ended.
@@ -47,12 +49,13 @@ pub fn read_setup_slow(alloc: Global, fields: &mut Fields<'_>) -> Result<SceneEv
     let script = read_script(alloc, fields)?;
     let elapsed = fields.read(read_nanos)?;
     let will_terminate = fields.read(read_flag)?;
-    Ok(SceneEvent::SetupScriptSlow(SlowSetup {
+    let slow = SlowSetup {
         elapsed,
         stress_index,
         script,
         will_terminate,
-    }))
+    };
+    Ok(SceneEvent::SetupScriptSlow(Boxed::new(alloc, slow)?))
 }
 
 /// Reads a `setupdone` line: the iteration, the script, and its only attempt.
@@ -63,11 +66,12 @@ pub fn read_setup_done(alloc: Global, fields: &mut Fields<'_>) -> Result<SceneEv
     let stress_index = fields.read(read_stress_index)?;
     let script = read_script(alloc, fields)?;
     let attempt = read_attempt(alloc, fields, ONLY_ATTEMPT)?;
-    Ok(SceneEvent::SetupScriptFinished(SetupFinish {
+    let finish = SetupFinish {
         attempt,
         stress_index,
         script,
-    }))
+    };
+    Ok(SceneEvent::SetupScriptFinished(Boxed::new(alloc, finish)?))
 }
 
 /// Reads which script it is: its id, the program, and the program's arguments.

@@ -45,12 +45,12 @@ pub enum StateWord {
 /// Reads what a unit is doing, without how the attempt ended. `None` means a bad field.
 ///
 /// ```
-/// let told = read_state_parts(alloc, "running:42:1500000000:-")?; // for 1.5 s, as the process 42
-/// assert!(matches!(told, Some(StateParts::Live(_))));
+/// let parts = read_state_parts(alloc, "running:42:1500000000:-")?; // for 1.5 s, as the process 42
+/// assert!(matches!(parts, Some(StateParts::Live(_))));
 /// ```
 #[tactic(auto, unfolding(crate::specs::States::state_parts_in))]
 pub fn read_state_parts(alloc: Global, field: &str) -> Result<Option<StateParts>, OutOfMemory>
-    ensures { IfOk result (λ told. told ≡ state_parts_in field.now) }
+    ensures { IfOk result (λ parts. parts ≡ state_parts_in field.now) }
 {
     let Some((word, rest)) = split_at_byte(field, b':') else {
         return Ok(None);
@@ -72,13 +72,13 @@ pub fn read_state_parts(alloc: Global, field: &str) -> Result<Option<StateParts>
 #[tactic(auto, unfolding(crate::specs::States::state_in))]
 pub fn read_state(
     alloc: Global,
-    told: StateParts,
+    parts: StateParts,
     field: &str,
 ) -> Result<Option<SceneState>, OutOfMemory>
-    ensures { IfOk result (λ state. state ≡ state_in told field.now) }
+    ensures { IfOk result (λ state. state ≡ state_in parts field.now) }
 {
     match read_result_or_none(alloc, field)? {
-        Some(outcome) => Ok(state_with(told, outcome)),
+        Some(outcome) => Ok(state_with(parts, outcome)),
         None => Ok(None),
     }
 }
@@ -245,10 +245,10 @@ fn read_result_or_none(
 }
 
 // The state that these parts make with a result, which what has ended has.
-fn state_with(told: StateParts, outcome: Option<ExecutionResultDescription>) -> Option<SceneState>
-    ensures { result ≡ state_with told outcome }
+fn state_with(parts: StateParts, outcome: Option<ExecutionResultDescription>) -> Option<SceneState>
+    ensures { result ≡ state_with parts outcome }
 {
-    match (told, outcome) {
+    match (parts, outcome) {
         (StateParts::Live(state), outcome) => Some(SceneState::Live { state, outcome }),
         (StateParts::Ended(state), Some(outcome)) => Some(SceneState::Ended { state, outcome }),
         (StateParts::Ended(_), None) => None,

@@ -5,6 +5,7 @@ ghost use Rattle.scene_fields.specs.Fields.{Gives, answered};
 ghost use Rattle.scene_text.specs.StressLines.{completed_in, end_stress_line_fields, progress_in, stress_count_in, sub_end_line_fields, sub_start_line_fields};
 
 use super::run_lines::read_not_seen;
+use run_model::boxed::Boxed;
 use run_model::stats::{RunFinishedStats, StressRunStats};
 use run_model::stress::{StressCount, StressIndex, StressProgress};
 use scene_events::scene::event::SceneEvent;
@@ -20,26 +21,26 @@ use std::alloc::Global;
 
 /// Reads a `substart` line: how far the stress run has come.
 #[tactic(auto, unfolding(crate::specs::StressLines::sub_start_line_fields))]
-pub fn read_sub_start(fields: &mut Fields<'_>) -> Result<SceneEvent, LineFault>
+pub fn read_sub_start(fields: &mut Fields<'_>) -> Result<SubRunStart, LineFault>
     ensures { sub_start_line_fields fields.old ≡ answered result fields.new }
 {
     let progress = fields.read(read_progress)?;
-    Ok(SceneEvent::StressSubRunStarted(SubRunStart { progress }))
+    Ok(SubRunStart { progress })
 }
 
 /// Reads a `subend` line: how far the stress run has come, how long the iteration took, and its statistics.
 #[tactic(auto, unfolding(crate::specs::StressLines::sub_end_line_fields))]
-pub fn read_sub_end(fields: &mut Fields<'_>) -> Result<SceneEvent, LineFault>
+pub fn read_sub_end(fields: &mut Fields<'_>) -> Result<SubRunFinish, LineFault>
     ensures { sub_end_line_fields fields.old ≡ answered result fields.new }
 {
     let progress = fields.read(read_progress)?;
     let sub_elapsed = fields.read(read_nanos)?;
     let sub_stats = fields.read(read_stats)?;
-    Ok(SceneEvent::StressSubRunFinished(SubRunFinish {
+    Ok(SubRunFinish {
         progress,
         sub_elapsed,
         sub_stats,
-    }))
+    })
 }
 
 /// Reads an `endstress` line: how long the run took, how many iterations have finished, succeeded and failed, the
@@ -54,7 +55,7 @@ pub fn read_end_stress(alloc: Global, fields: &mut Fields<'_>) -> Result<SceneEv
     let failed_count = fields.read(read_small_count)?;
     let last_stats = fields.read(read_stats)?;
     let outstanding_not_seen = read_not_seen(alloc, fields)?;
-    Ok(SceneEvent::RunFinished(RunFinish {
+    let finish = RunFinish {
         elapsed,
         run_stats: RunFinishedStats::Stress(StressRunStats {
             completed,
@@ -63,7 +64,8 @@ pub fn read_end_stress(alloc: Global, fields: &mut Fields<'_>) -> Result<SceneEv
             last_final_stats: last_stats.summarize_final(),
         }),
         outstanding_not_seen,
-    }))
+    };
+    Ok(SceneEvent::RunFinished(Boxed::new(alloc, finish)?))
 }
 
 // Reads how far a stress run has come, by iterations or by time: the total, the time that was taken, and the iterations that

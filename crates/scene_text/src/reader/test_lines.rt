@@ -2,13 +2,16 @@
 
 ghost use Rattle.std.specs.Prelude.{◌≡◌};
 ghost use Rattle.scene_fields.specs.Fields.{Gives, answered};
-ghost use Rattle.scene_text.specs.TestLines.{all_attempts, attempt_fields, told_attempt, attempts_behind, done_line_fields, retry_fields, retry_line_fields, retry_start_line_fields, skip_line_fields, slow_line_fields, start_line_fields, test_fields};
+ghost use Rattle.scene_text.specs.TestLines.{all_attempts, attempt_fields, parsed_attempt, attempts_behind, done_line_fields, retry_fields, retry_line_fields, retry_start_line_fields, skip_line_fields, slow_line_fields, start_line_fields, test_fields};
 
-use super::outputs::{read_output, take_silence};
+use super::binary_ids::BinaryIds;
+use super::outputs::{read_output, take_empty_output};
+use run_model::boxed::Boxed;
 use run_model::status::{ExecutionResultDescription, FlakyResult, RetryData};
 use run_model::time::Nanos;
 use scene_events::scene::attempts::{SceneAttempt, SceneAttempts};
 use scene_events::scene::event::SceneEvent;
+use scene_events::scene::packed_stats::PackedStats;
 use scene_events::scene::test_events::{
     FailedAttempt, SceneTest, SlowTest, TestFinish, TestRetryStart, TestStart,
 };
@@ -16,7 +19,7 @@ use scene_fields::counts::read_stats;
 use scene_fields::fault::{LineError, LineFault};
 use scene_fields::fields::Fields;
 use scene_fields::lists::read_command_line;
-use scene_fields::names::{read_binary_id, read_test_name};
+use scene_fields::names::read_test_name;
 use scene_fields::numbers::{read_nanos, read_small_count};
 use scene_fields::results::read_result;
 use scene_fields::values::{read_display, read_flag, read_flaky_result, read_stress_index};
@@ -25,109 +28,145 @@ use std::mem;
 
 /// Reads a `start` line: the test, the statistics, and the command.
 #[tactic(auto, unfolding(crate::specs::TestLines::start_line_fields))]
-pub fn read_start(alloc: Global, fields: &mut Fields<'_>) -> Result<SceneEvent, LineError>
+pub fn read_start(
+    alloc: Global,
+    binaries: &mut BinaryIds,
+    fields: &mut Fields<'_>,
+) -> Result<SceneEvent, LineError>
     ensures { Gives (λ e. e) fields.old result fields.new start_line_fields }
 {
-    let test = read_test(alloc, fields)?;
+    let test = read_test(alloc, binaries, fields)?;
     let current_stats = fields.read(read_stats)?;
     let command_line = fields.try_read(|field| read_command_line(alloc, field))?;
-    Ok(SceneEvent::TestStarted(TestStart {
+    let start = TestStart {
         test,
-        current_stats,
+        current_stats: PackedStats::new(alloc, current_stats)?,
         command_line,
-    }))
+    };
+    Ok(SceneEvent::TestStarted(Boxed::new(alloc, start)?))
 }
 
 /// Reads a `retrystart` line: the test, the attempt, and the command.
 #[tactic(auto, unfolding(crate::specs::TestLines::retry_start_line_fields))]
-pub fn read_retry_start(alloc: Global, fields: &mut Fields<'_>) -> Result<SceneEvent, LineError>
+pub fn read_retry_start(
+    alloc: Global,
+    binaries: &mut BinaryIds,
+    fields: &mut Fields<'_>,
+) -> Result<SceneEvent, LineError>
     ensures { Gives (λ e. e) fields.old result fields.new retry_start_line_fields }
 {
-    let test = read_test(alloc, fields)?;
+    let test = read_test(alloc, binaries, fields)?;
     let retry_data = read_retry_data(fields)?;
     let command_line = fields.try_read(|field| read_command_line(alloc, field))?;
-    Ok(SceneEvent::TestRetryStarted(TestRetryStart {
+    let start = TestRetryStart {
         test,
         retry_data,
         command_line,
-    }))
+    };
+    Ok(SceneEvent::TestRetryStarted(Boxed::new(alloc, start)?))
 }
 
 /// Reads a `slow` line: the test, the attempt, how long it has taken, and whether it is ended.
 #[tactic(auto, unfolding(crate::specs::TestLines::slow_line_fields))]
-pub fn read_slow(alloc: Global, fields: &mut Fields<'_>) -> Result<SceneEvent, LineError>
+pub fn read_slow(
+    alloc: Global,
+    binaries: &mut BinaryIds,
+    fields: &mut Fields<'_>,
+) -> Result<SceneEvent, LineError>
     ensures { Gives (λ e. e) fields.old result fields.new slow_line_fields }
 {
-    let test = read_test(alloc, fields)?;
+    let test = read_test(alloc, binaries, fields)?;
     let retry_data = read_retry_data(fields)?;
     let elapsed = fields.read(read_nanos)?;
     let will_terminate = fields.read(read_flag)?;
-    Ok(SceneEvent::TestSlow(SlowTest {
+    let slow = SlowTest {
         test,
         retry_data,
         elapsed,
         will_terminate,
-    }))
+    };
+    Ok(SceneEvent::TestSlow(Boxed::new(alloc, slow)?))
 }
 
 /// Reads a `retry` line: the test, which attempt failed, how long the next one waits, when the output is shown, and the
 /// attempt.
 #[tactic(auto, unfolding(crate::specs::TestLines::retry_line_fields))]
-pub fn read_retry(alloc: Global, fields: &mut Fields<'_>) -> Result<SceneEvent, LineError>
+pub fn read_retry(
+    alloc: Global,
+    binaries: &mut BinaryIds,
+    fields: &mut Fields<'_>,
+) -> Result<SceneEvent, LineError>
     ensures { Gives (λ e. e) fields.old result fields.new retry_line_fields }
 {
-    let test = read_test(alloc, fields)?;
+    let test = read_test(alloc, binaries, fields)?;
     let retry_data = read_retry_data(fields)?;
     let delay_before_next_attempt = fields.read(read_nanos)?;
     let failure_output = fields.read(read_display)?;
     let attempt = read_attempt(alloc, fields, retry_data)?;
-    Ok(SceneEvent::TestAttemptFailedWillRetry(FailedAttempt {
+    let failed = FailedAttempt {
         test,
         attempt,
         delay_before_next_attempt,
         failure_output,
-    }))
+    };
+    Ok(SceneEvent::TestAttemptFailedWillRetry(Boxed::new(alloc, failed)?))
 }
 
 /// Reads a `done` line: the test, when the output of a success and of a failure is shown, what a
 /// flaky test counts as, the statistics, how many attempts there can be, and the attempts.
 #[tactic(auto, unfolding(crate::specs::TestLines::done_line_fields))]
-pub fn read_done(alloc: Global, fields: &mut Fields<'_>) -> Result<SceneEvent, LineError>
+pub fn read_done(
+    alloc: Global,
+    binaries: &mut BinaryIds,
+    fields: &mut Fields<'_>,
+) -> Result<SceneEvent, LineError>
     ensures { Gives (λ e. e) fields.old result fields.new done_line_fields }
 {
-    let test = read_test(alloc, fields)?;
+    let test = read_test(alloc, binaries, fields)?;
     let success_output = fields.read(read_display)?;
     let failure_output = fields.read(read_display)?;
     let flaky_result = fields.read(read_flaky_result)?;
     let current_stats = fields.read(read_stats)?;
     let total_attempts = fields.read(read_small_count)?;
     let attempts = read_attempts(alloc, fields, flaky_result, total_attempts)?;
-    Ok(SceneEvent::TestFinished(TestFinish {
+    let finish = TestFinish {
         test,
         success_output,
         failure_output,
         attempts,
-        current_stats,
-    }))
+        current_stats: PackedStats::new(alloc, current_stats)?,
+    };
+    Ok(SceneEvent::TestFinished(Boxed::new(alloc, finish)?))
 }
 
 /// Reads a `skip` line: the test.
 #[tactic(auto, unfolding(crate::specs::TestLines::skip_line_fields))]
-pub fn read_skip(alloc: Global, fields: &mut Fields<'_>) -> Result<SceneEvent, LineError>
+pub fn read_skip(
+    alloc: Global,
+    binaries: &mut BinaryIds,
+    fields: &mut Fields<'_>,
+) -> Result<SceneEvent, LineError>
     ensures { Gives (λ e. e) fields.old result fields.new skip_line_fields }
 {
-    let test = read_test(alloc, fields)?;
-    Ok(SceneEvent::TestSkipped(test))
+    let test = read_test(alloc, binaries, fields)?;
+    Ok(SceneEvent::TestSkipped(Boxed::new(alloc, test)?))
 }
 
 /// Reads which test it is: stress index, binary id and name.
 #[inline(always)]
 #[tactic(auto, unfolding(crate::specs::TestLines::test_fields))]
-pub fn read_test(alloc: Global, fields: &mut Fields<'_>) -> Result<SceneTest, LineError>
+pub fn read_test(
+    alloc: Global,
+    binaries: &mut BinaryIds,
+    fields: &mut Fields<'_>,
+) -> Result<SceneTest, LineError>
     ensures { Gives (λ t. t) fields.old result fields.new test_fields }
 {
     let stress_index = fields.read(read_stress_index)?;
-    let binary_id = fields.try_read(|field| read_binary_id(alloc, field))?;
+    let binary_id = match binaries.read(alloc, fields.take()?)? {
+        Some(binary_id) => binary_id,
+        None => return Err(LineError::Fault(fields.bad_field())),
+    };
     let test_name = fields.try_read(|field| read_test_name(alloc, field))?;
     Ok(SceneTest {
         stress_index,
@@ -210,15 +249,15 @@ pub fn read_attempt(
     let outcome = fields.try_read(|field| read_result(alloc, field))?;
     let time_taken = fields.read(read_nanos)?;
     let is_slow = fields.read(read_flag)?;
-    if take_silence(fields) {
+    if take_empty_output(fields) {
         return Ok(SceneAttempt::silent(outcome, time_taken, retry_data, is_slow));
     }
-    read_told_attempt(alloc, fields, retry_data, outcome, time_taken, is_slow)
+    read_attempt_with_output(alloc, fields, retry_data, outcome, time_taken, is_slow)
 }
 
 // Reads the output of an attempt that ended so, and puts them together. It stands by itself, as `read_more_attempts` does.
 #[inline(never)]
-fn read_told_attempt(
+fn read_attempt_with_output(
     alloc: Global,
     fields: &mut Fields<'_>,
     retry_data: RetryData,
@@ -226,7 +265,7 @@ fn read_told_attempt(
     time_taken: Nanos,
     is_slow: bool,
 ) -> Result<SceneAttempt, LineError>
-    ensures { Gives (λ s. s) fields.old result fields.new (told_attempt retry_data outcome time_taken is_slow) }
+    ensures { Gives (λ s. s) fields.old result fields.new (parsed_attempt retry_data outcome time_taken is_slow) }
 {
     let output = read_output(alloc, fields, Some(&outcome))?;
     Ok(SceneAttempt::with_output(alloc, outcome, time_taken, retry_data, is_slow, output)?)

@@ -1,29 +1,28 @@
--- A report whose delivery was put off, and its rest delivered (for `deliver_rest`, `report_judged`).
+-- A report whose delivery was put off, and its rest delivered (for `deliver_rest`, `report_accepted`).
 use Rattle.std.proofs.Common.{◌≡◌, ℕ, List, [], ◌++◌, Option, None, Some, Result, Ok, Err, IfErr, OnOk, reverse, refl, sym, ap, ◌∙◌, subst, append-nil, inl, inr}
 use Rattle.std.specs.List.{AllZip}
 use Rattle.plain_text.specs.Texts.{Text}
 use Rattle.plain_text.specs.TextBuffer.{BufferAccepts, BufferStops, buffer_laws, buffer_meaning}
-use Rattle.plain_text.specs.Writer.{Meaning, WriterLaws}
-use Rattle.plain_text.specs.declared.write_str.WriteFault.{WriteFault}
+use Rattle.plain_text.specs.Writer.{Meaning}
 use Rattle.plain_text.specs.declared.write_str.WriteFault.TheVariants.{Device, Memory}
 use Rattle.plain_text.specs.declared.write_str.text_buffer.TextBuffer.{TextBuffer}
 use Rattle.console_reporter.specs.Outcomes.{HasFront}
 use Rattle.console_reporter.specs.Report.{report}
-use Rattle.console_reporter.specs.Slots.{IsSameStore, store_meaning}
+use Rattle.console_reporter.specs.OptionalStore.{IsSameStore, store_meaning}
 use Rattle.console_reporter.specs.Stored.{stored}
 use Rattle.console_reporter.specs.declared.imp.store.Store.{Store}
 use Rattle.reporter_state.specs.Refusals.{first_refused}
 use Rattle.run_model.specs.declared.call.ReportCall.{ReportCall}
 use Rattle.scene_events.specs.Scenes.{IsCallOf}
-use Rattle.scene_text.specs.SceneTexts.{Told}
+use Rattle.scene_text.specs.SceneTexts.{ParsedLines}
 use Rattle.scenes.specs.Deferred.{DeliversRest, deferred_meaning}
 use Rattle.scenes.specs.Reports.{StopsStore, StopsText, configuration_for, store_for}
-use Rattle.scenes.specs.SceneReporter.{BreaksTold, HasToldTo}
+use Rattle.scenes.specs.SceneReporter.{BreaksParsed, HasReportedTo}
 use Rattle.scenes.specs.Unloads.{decider_for}
 use Rattle.scenes.specs.declared.deferred.Deferred.{Deferred}
 use Rattle.command_line.specs.declared.fault.Fault.{Fault}
 use Rattle.command_line.specs.declared.fault.Fault.TheVariants as fault
-use Rattle.command_line.specs.declared.words.Options.{Options}
+use Rattle.command_line.specs.declared.args.Options.{Options}
 use Rattle.scenes.proofs.lemmas.Devices.{write_no_store}
 
 abbrev is_fault : Fault → Result (Unit {0}) Fault
@@ -87,17 +86,17 @@ module _ {W : Type 0} (m : Meaning W) (old now : Deferred W) (t : Text) where
   stopped_below fault.OutOfMemory (inr h) = inr (front_below h)
 
 -- of a report without a store
-module _ {W S : Type 0} (contents : W → Option (List ℕ)) (n : Meaning S) (options : Options) (old now : Deferred (TextBuffer W)) (c : TextBuffer W) (run : Told) where
+module _ {W S : Type 0} (contents : W → Option (List ℕ)) (n : Meaning S) (options : Options) (old now : Deferred (TextBuffer W)) (c : TextBuffer W) (run : ParsedLines) where
   abbrev below : Meaning (TextBuffer W)
   below = buffer_meaning contents
 
   abbrev AreTold : Option (Store S) → Type 0
-  AreTold y = HasToldTo (deferred_meaning below) (store_meaning n) options old now None y run
+  AreTold y = HasReportedTo (deferred_meaning below) (store_meaning n) options old now None y run
 
   abbrev AreBroken : Option (Store S) → Fault → Type 0
-  AreBroken y f = BreaksTold (deferred_meaning below) (store_meaning n) options old now None y run f
+  AreBroken y f = BreaksParsed (deferred_meaning below) (store_meaning n) options old now None y run f
 
-  told_whole : (y : Option (Store S)) → AreTold y → BufferAccepts contents now.writer [] c → c.pending ≡ [] → HasToldTo below (store_meaning n) options old.writer c None y run
+  told_whole : (y : Option (Store S)) → AreTold y → BufferAccepts contents now.writer [] c → c.pending ≡ [] → HasReportedTo below (store_meaning n) options old.writer c None y run
   told_whole y h rest delivered = (
     h.0,
     record {
@@ -116,7 +115,7 @@ module _ {W S : Type 0} (contents : W → Option (List ℕ)) (n : Meaning S) (op
   no_store : (y : Option (Store S)) (t : Text) (f : Fault) → StopsStore (store_meaning n) None t f y → f ≡ fault.StoreFailed → ⊥
   no_store y t f h is = subst (λ g. StopsStore (store_meaning n) None t g y) is h
 
-  broken_before : (y : Option (Store S)) (f : Fault) → AreBroken y f → (f ≡ fault.WriteFailed → c ≡ now.writer) → BufferAccepts contents now.writer [] c → BreaksTold below (store_meaning n) options old.writer c None y run f
+  broken_before : (y : Option (Store S)) (f : Fault) → AreBroken y f → (f ≡ fault.WriteFailed → c ≡ now.writer) → BufferAccepts contents now.writer [] c → BreaksParsed below (store_meaning n) options old.writer c None y run f
   broken_before y f h same rest =
       let t = report (configuration_for options run.config) h.past in
       record {
@@ -131,7 +130,7 @@ module _ {W S : Type 0} (contents : W → Option (List ℕ)) (n : Meaning S) (op
 
   -- the device failed at the end
   lost_at_end : (past : List ReportCall) → AllZip IsCallOf run.events (reverse past) → first_refused (decider_for options run.config) (reverse past) ≡ None →
-      BufferStops contents old.writer (report (configuration_for options run.config) past) Device c → BreaksTold below (store_meaning n) options old.writer c None None run fault.WriteFailed
+      BufferStops contents old.writer (report (configuration_for options run.config) past) Device c → BreaksParsed below (store_meaning n) options old.writer c None None run fault.WriteFailed
   lost_at_end past of_run accepted lost = record {
     past = past;
     of_run = of_run;
@@ -144,24 +143,24 @@ module _ {W S : Type 0} (contents : W → Option (List ℕ)) (n : Meaning S) (op
 
   -- how the report ended, and the delivery of its rest
   pub delivered : (y : Option (Store S)) (reported outcome : Result (Unit {0}) Fault) → OnOk reported (AreTold y) →
-      OnOk outcome ((reported ≡ Ok tt) × BufferAccepts contents now.writer [] c × (c.pending ≡ [])) → OnOk outcome (HasToldTo below (store_meaning n) options old.writer c None y run)
-  delivered y (Ok done) (Ok tt) told h = told_whole y told h.1 h.2
-  delivered y (Err f) (Ok tt) told h = absurd (let wrong = h.0 in cc)
-  delivered y reported (Err f) told h = tt
+      OnOk outcome ((reported ≡ Ok tt) × BufferAccepts contents now.writer [] c × (c.pending ≡ [])) → OnOk outcome (HasReportedTo below (store_meaning n) options old.writer c None y run)
+  delivered y (Ok done) (Ok tt) parsed_lines h = told_whole y parsed_lines h.1 h.2
+  delivered y (Err f) (Ok tt) parsed_lines h = absurd (let wrong = h.0 in cc)
+  delivered y reported (Err f) parsed_lines h = tt
 
   pub undelivered : (y : Option (Store S)) → IsSameStore None y → (reported outcome : Result (Unit {0}) Fault) → OnOk reported (AreTold y) → IfErr reported (AreBroken y) →
-      IfErr outcome (DeliversRest contents reported now.writer c) → IfErr outcome (BreaksTold below (store_meaning n) options old.writer c None y run)
-  undelivered y same reported (Ok tt) told broken h = tt
-  undelivered (Some s) same reported (Err f) told broken h = absurd same
-  undelivered None same (Ok done) (Err f) told broken (inl h) = absurd (let wrong = h.0 in cc)
-  undelivered None same (Ok done) (Err f) told broken (inr h) =
-      let t = report (configuration_for options run.config) told.1.past in
-      subst (BreaksTold below (store_meaning n) options old.writer c None None run) (sym h.1)
-      (lost_at_end told.1.past told.1.of_run told.1.accepted (rest_lost contents old.writer now.writer c t told.1.reported h.2))
-  undelivered None same (Err g) (Err f) told broken (inl h) =
+      IfErr outcome (DeliversRest contents reported now.writer c) → IfErr outcome (BreaksParsed below (store_meaning n) options old.writer c None y run)
+  undelivered y same reported (Ok tt) parsed_lines broken h = tt
+  undelivered (Some s) same reported (Err f) parsed_lines broken h = absurd same
+  undelivered None same (Ok done) (Err f) parsed_lines broken (inl h) = absurd (let wrong = h.0 in cc)
+  undelivered None same (Ok done) (Err f) parsed_lines broken (inr h) =
+      let t = report (configuration_for options run.config) parsed_lines.1.past in
+      subst (BreaksParsed below (store_meaning n) options old.writer c None None run) (sym h.1)
+      (lost_at_end parsed_lines.1.past parsed_lines.1.of_run parsed_lines.1.accepted (rest_lost contents old.writer now.writer c t parsed_lines.1.reported h.2))
+  undelivered None same (Err g) (Err f) parsed_lines broken (inl h) =
       let is : g ≡ f = same_fault g f h.0 in
-      subst (BreaksTold below (store_meaning n) options old.writer c None None run) is (broken_before None g broken (λ failed. h.1 (sym is ∙ failed)) h.2)
-  undelivered None same (Err g) (Err f) told broken (inr h) =
+      subst (BreaksParsed below (store_meaning n) options old.writer c None None run) is (broken_before None g broken (λ failed. h.1 (sym is ∙ failed)) h.2)
+  undelivered None same (Err g) (Err f) parsed_lines broken (inr h) =
       let t = report (configuration_for options run.config) broken.past in
-      subst (BreaksTold below (store_meaning n) options old.writer c None None run) (sym h.1)
+      subst (BreaksParsed below (store_meaning n) options old.writer c None None run) (sym h.1)
       (lost_at_end broken.past broken.of_run broken.accepted (stopped_lost contents old.writer now.writer c t g (stopped_below below old now t g broken.stopped) (λ failed. h.0 (ap is_fault failed)) h.2))

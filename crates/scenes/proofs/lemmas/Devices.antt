@@ -1,4 +1,4 @@
--- What a device holds of a report that stopped (for `report_judged`, `follow_scene`).
+-- What a device holds of a report that stopped (for `report_accepted`, `follow_scene`).
 use Rattle.std.proofs.Common.{◌≡◌, ℕ, List, [], ◌∷◌, Option, None, Some, refl, sym, ap, ◌∙◌, append-nil, inl, inr, true}
 use Rattle.std.specs.Option.{is_some, option_map_or}
 use Rattle.plain_text.specs.TextBuffer.{buffer_meaning}
@@ -14,7 +14,7 @@ use Rattle.scene_fields.specs.declared.fault.LineFault.{LineFault}
 use Rattle.scenes.specs.Reports.{Begins, IsStop, StopsStore, StopsText, store_for}
 use Rattle.command_line.specs.declared.fault.Fault.{Fault}
 use Rattle.command_line.specs.declared.fault.Fault.TheVariants.{Usage, CannotRead, CannotWrite, Line, WriteFailed, StoreFailed, OutOfMemory}
-use Rattle.command_line.specs.declared.words.Options.{Options}
+use Rattle.command_line.specs.declared.args.Options.{Options}
 
 module _ {W : Type 0} (contents : W → Option (List ℕ)) (a b : TextBuffer W) (none : a.pending ≡ []) (text : List ℕ) where
   -- a beginning of the text was accepted, and of that the device took a beginning

@@ -1,4 +1,4 @@
--- All calls of one event are refused alike (for `judge_event`, `judge_events`, `report_events`).
+-- All calls of one event are refused alike (for `check_refusal`, `check_refusals`, `report_events`).
 use Rattle.std.proofs.Common.{◌≡◌, ℕ, Bool, false, not, List, [], ◌∷◌, ◌++◌, Option, None, Some, length, take, get_or, suc, ◌+◌, ◌<◌, arith, if◌then◌else◌, refl, sym, ap, ap₂, subst, ◌∙◌}
 use Rattle.std.specs.Prelude.{cond, nat_lt}
 use Rattle.std.specs.List.{AllZip, position_or_len, slice_get}

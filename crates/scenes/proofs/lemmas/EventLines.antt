@@ -6,31 +6,31 @@ use Rattle.std.proofs.lemmas.Bool.Decides.{nat_tests}
 use Rattle.std.proofs.lemmas.List.{append_cancel_left, length-append}
 use Rattle.scene_events.specs.declared.scene.event.SceneEvent.{SceneEvent}
 use Rattle.scene_fields.specs.declared.fault.LineFault.{LineFault}
-use Rattle.scene_text.specs.SceneTexts.{AllTell, LineSaid, SaysConfig, SaysEvent, SaysNothing, Told, event_lines, is_begun, line_here, line_said, line_told, lines_before, told_with, with_said}
+use Rattle.scene_text.specs.SceneTexts.{AllRead, ParsedLine, ConfigLine, EventLine, NoEvent, ParsedLines, event_lines, is_begun, line_here, parsed_line, line_read, lines_before, lines_with, with_line}
 use Rattle.scenes.proofs.lemmas.NoConfig.{config_kept}
 
 -- a line says an event
-record TellsOne (before after : Told) (t : List ℕ) : Type 0 where
+record ReadsOne (before after : ParsedLines) (t : List ℕ) : Type 0 where
   pub event : SceneEvent
-  pub says : line_said (lines_before before) t ≡ Ok (SaysEvent event)
+  pub says : parsed_line (lines_before before) t ≡ Ok (EventLine event)
   pub events : after.events ≡ before.events ++ event ∷ []
   pub config : after.config ≡ before.config
 
-with_cases : (before after : Told) (t : List ℕ) (r : Result LineSaid LineFault) → line_said (lines_before before) t ≡ r → told_with before r ≡ Ok after → (after.events ≡ before.events) ⊎ TellsOne before after t
-with_cases before after t (Ok SaysNothing) says h = (let same : before ≡ after = cc in inl (ap (λ x. x.events) (sym same)))
-with_cases before after t (Ok (SaysConfig c)) says h = (let same : with_said before (SaysConfig c) ≡ after = cc in inl (ap (λ x. x.events) (sym same)))
-with_cases before after t (Ok (SaysEvent e)) says h =
-    let same : with_said before (SaysEvent e) ≡ after = cc in
+with_cases : (before after : ParsedLines) (t : List ℕ) (r : Result ParsedLine LineFault) → parsed_line (lines_before before) t ≡ r → lines_with before r ≡ Ok after → (after.events ≡ before.events) ⊎ ReadsOne before after t
+with_cases before after t (Ok NoEvent) says h = (let same : before ≡ after = cc in inl (ap (λ x. x.events) (sym same)))
+with_cases before after t (Ok (ConfigLine c)) says h = (let same : with_line before (ConfigLine c) ≡ after = cc in inl (ap (λ x. x.events) (sym same)))
+with_cases before after t (Ok (EventLine e)) says h =
+    let same : with_line before (EventLine e) ≡ after = cc in
     inr (record { event = e; says = says; events = ap (λ x. x.events) (sym same); config = ap (λ x. x.config) (sym same) })
 with_cases before after t (Err f) says h = absurd (cc)
 
 -- what a line does that tells: it says an event, or leaves the events as they are
-cases : (before after : Told) (t : List ℕ) → line_told before t ≡ Ok after → (after.events ≡ before.events) ⊎ TellsOne before after t
-unfolding line_told
-cases before after t h = with_cases before after t (line_said (lines_before before) t) refl h
+cases : (before after : ParsedLines) (t : List ℕ) → line_read before t ≡ Ok after → (after.events ≡ before.events) ⊎ ReadsOne before after t
+unfolding line_read
+cases before after t h = with_cases before after t (parsed_line (lines_before before) t) refl h
 
 -- lines tell further events
-grown : (before : Told) (ts : List (List ℕ)) (after : Told) → AllTell before ts after → (more : List SceneEvent) × (after.events ≡ before.events ++ more)
+grown : (before : ParsedLines) (ts : List (List ℕ)) (after : ParsedLines) → AllRead before ts after → (more : List SceneEvent) × (after.events ≡ before.events ++ more)
 grown before [] after h = ([], ap (λ x. x.events) (sym h) ∙ sym (append-nil before.events))
 grown before (t ∷ ts) after h =
     let next = grown h.0 ts after h.2 in
@@ -45,15 +45,15 @@ not_less n = grind (arith, nat_tests)
 less : (n m : ℕ) → m ≡ n + 1 → nat_lt n m ≡ true
 less n m h = grind (arith, nat_tests, h)
 
-none_here : (n : ℕ) (before after : Told) → after.events ≡ before.events → line_here n before after ≡ []
+none_here : (n : ℕ) (before after : ParsedLines) → after.events ≡ before.events → line_here n before after ≡ []
 none_here n before after same = rw (same, not_less (length before.events)) refl
 
-one_here : (n : ℕ) (before after : Told) (e : SceneEvent) → after.events ≡ before.events ++ e ∷ [] → line_here n before after ≡ n ∷ []
+one_here : (n : ℕ) (before after : ParsedLines) (e : SceneEvent) → after.events ≡ before.events ++ e ∷ [] → line_here n before after ≡ n ∷ []
 one_here n before after e events =
     let size : length after.events ≡ length before.events + 1 = ap length events ∙ length-append before.events (e ∷ []) in
     rw (less (length before.events) (length after.events) size) refl
 
-lines_step : (n : ℕ) (before mid : Told) (t : List ℕ) (ts : List (List ℕ)) → line_told before t ≡ Ok mid → event_lines n before (t ∷ ts) ≡ line_here n before mid ++ event_lines (n + 1) mid ts
+lines_step : (n : ℕ) (before mid : ParsedLines) (t : List ℕ) (ts : List (List ℕ)) → line_read before t ≡ Ok mid → event_lines n before (t ∷ ts) ≡ line_here n before mid ++ event_lines (n + 1) mid ts
 unfolding event_lines
 lines_step n before mid t ts h = rw h refl
 
@@ -61,28 +61,28 @@ first_of : (x y : SceneEvent) (xs ys : List SceneEvent) → x ∷ xs ≡ y ∷ y
 first_of x y xs ys h = cc
 
 -- the line that says the event behind these, and its number among those of events
-pub record HasEventAt (n : ℕ) (before : Told) (lines : List (List ℕ)) (after : Told) (front : List SceneEvent) (e : SceneEvent) : Type 0 where
+pub record HasEventAt (n : ℕ) (before : ParsedLines) (lines : List (List ℕ)) (after : ParsedLines) (front : List SceneEvent) (e : SceneEvent) : Type 0 where
   pub skipped : List (List ℕ)
   pub t : List ℕ
   pub more : List (List ℕ)
   pub whole : lines ≡ skipped ++ t ∷ more
-  pub mid : Told
-  pub tells : AllTell before skipped mid
+  pub mid : ParsedLines
+  pub tells : AllRead before skipped mid
   pub events : mid.events ≡ before.events ++ front
   pub config : mid.config ≡ after.config
-  pub says : line_said (lines_before mid) t ≡ Ok (SaysEvent e)
+  pub says : parsed_line (lines_before mid) t ≡ Ok (EventLine e)
   pub number : get_or (event_lines n before lines) (length front) 0 ≡ n + length skipped
 
 -- it stands in the lines behind the first
-later : (n : ℕ) (before mid : Told) (t : List ℕ) (ts : List (List ℕ)) (after : Told) (told : line_told before t ≡ Ok mid) (front inner : List SceneEvent) (e : SceneEvent) (k : HasEventAt (n + 1) mid ts after inner e) →
+later : (n : ℕ) (before mid : ParsedLines) (t : List ℕ) (ts : List (List ℕ)) (after : ParsedLines) (parsed_lines : line_read before t ≡ Ok mid) (front inner : List SceneEvent) (e : SceneEvent) (k : HasEventAt (n + 1) mid ts after inner e) →
     mid.events ++ inner ≡ before.events ++ front → get_or (event_lines n before (t ∷ ts)) (length front) 0 ≡ get_or (event_lines (n + 1) mid ts) (length inner) 0 → HasEventAt n before (t ∷ ts) after front e
-later n before mid t ts after told front inner e k events number = record {
+later n before mid t ts after parsed_lines front inner e k events number = record {
   skipped = t ∷ k.skipped;
   t = k.t;
   more = k.more;
   whole = ap (λ ls. t ∷ ls) k.whole;
   mid = k.mid;
-  tells = (mid, told, k.tells);
+  tells = (mid, parsed_lines, k.tells);
   events = k.events ∙ events;
   config = k.config;
   says = k.says;
@@ -93,9 +93,9 @@ begun_by : (before : List SceneEvent) (e : SceneEvent) → is_begun (before ++ e
 begun_by [] e = refl
 begun_by (x ∷ xs) e = refl
 
-said_here : (n : ℕ) (before mid : Told) (t : List ℕ) (ts : List (List ℕ)) (after : Told) → line_told before t ≡ Ok mid → AllTell mid ts after → TellsOne before mid t → ((front : List SceneEvent) (e : SceneEvent) (rest : List SceneEvent) → after.events ≡ mid.events ++ (front ++ e ∷ rest) → HasEventAt (n + 1) mid ts after front e) → (front : List SceneEvent) (e : SceneEvent) (rest : List SceneEvent) →
+said_here : (n : ℕ) (before mid : ParsedLines) (t : List ℕ) (ts : List (List ℕ)) (after : ParsedLines) → line_read before t ≡ Ok mid → AllRead mid ts after → ReadsOne before mid t → ((front : List SceneEvent) (e : SceneEvent) (rest : List SceneEvent) → after.events ≡ mid.events ++ (front ++ e ∷ rest) → HasEventAt (n + 1) mid ts after front e) → (front : List SceneEvent) (e : SceneEvent) (rest : List SceneEvent) →
     after.events ≡ before.events ++ (front ++ e ∷ rest) → HasEventAt n before (t ∷ ts) after front e
-said_here n before mid t ts after told tells one behind [] e rest is =
+said_here n before mid t ts after parsed_lines tells one behind [] e rest is =
     let next = grown mid ts after tells in
     let both : one.event ∷ next.0 ≡ e ∷ rest =
     append_cancel_left before.events (one.event ∷ next.0) (e ∷ rest) (sym (append_assoc before.events (one.event ∷ []) next.0) ∙ ap (λ es. es ++ next.0) (sym one.events) ∙ sym next.1 ∙ is) in
@@ -109,10 +109,10 @@ said_here n before mid t ts after told tells one behind [] e rest is =
       tells = refl;
       events = sym (append-nil before.events);
       config = sym (config_kept mid ts after (ap is_begun one.events ∙ begun_by before.events one.event) tells ∙ one.config);
-      says = one.says ∙ ap (λ x. Ok (SaysEvent x)) same;
-      number = ap (λ ls. get_or ls 0 0) (lines_step n before mid t ts told ∙ ap (λ ls. ls ++ event_lines (n + 1) mid ts) (one_here n before mid one.event one.events)) ∙ omega (arith);
+      says = one.says ∙ ap (λ x. Ok (EventLine x)) same;
+      number = ap (λ ls. get_or ls 0 0) (lines_step n before mid t ts parsed_lines ∙ ap (λ ls. ls ++ event_lines (n + 1) mid ts) (one_here n before mid one.event one.events)) ∙ omega (arith);
     }
-said_here n before mid t ts after told tells one behind (f ∷ fs) e rest is =
+said_here n before mid t ts after parsed_lines tells one behind (f ∷ fs) e rest is =
     let next = grown mid ts after tells in
     let both : one.event ∷ next.0 ≡ f ∷ (fs ++ e ∷ rest) =
     append_cancel_left before.events (one.event ∷ next.0) (f ∷ (fs ++ e ∷ rest)) (sym (append_assoc before.events (one.event ∷ []) next.0) ∙ ap (λ es. es ++ next.0) (sym one.events) ∙ sym next.1 ∙ is) in
@@ -120,10 +120,10 @@ said_here n before mid t ts after told tells one behind (f ∷ fs) e rest is =
     let grows : (more : List SceneEvent) → mid.events ++ more ≡ before.events ++ f ∷ more =
     λ more. ap (λ es. es ++ more) one.events ∙ append_assoc before.events (one.event ∷ []) more ∙ ap (λ x. before.events ++ x ∷ more) same in
     let number : get_or (event_lines n before (t ∷ ts)) (length (f ∷ fs)) 0 ≡ get_or (event_lines (n + 1) mid ts) (length fs) 0 =
-    ap (λ ls. get_or ls (length (f ∷ fs)) 0) (lines_step n before mid t ts told ∙ ap (λ ls. ls ++ event_lines (n + 1) mid ts) (one_here n before mid one.event one.events)) ∙ simp unary_clauses refl in
-    later n before mid t ts after told (f ∷ fs) fs e (behind fs e rest (is ∙ sym (grows (fs ++ e ∷ rest)))) (grows fs) number
+    ap (λ ls. get_or ls (length (f ∷ fs)) 0) (lines_step n before mid t ts parsed_lines ∙ ap (λ ls. ls ++ event_lines (n + 1) mid ts) (one_here n before mid one.event one.events)) ∙ simp unary_clauses refl in
+    later n before mid t ts after parsed_lines (f ∷ fs) fs e (behind fs e rest (is ∙ sym (grows (fs ++ e ∷ rest)))) (grows fs) number
 
-pub event_at : (n : ℕ) (before : Told) (lines : List (List ℕ)) (after : Told) → AllTell before lines after → (front : List SceneEvent) (e : SceneEvent) (rest : List SceneEvent) → after.events ≡ before.events ++ (front ++ e ∷ rest) →
+pub event_at : (n : ℕ) (before : ParsedLines) (lines : List (List ℕ)) (after : ParsedLines) → AllRead before lines after → (front : List SceneEvent) (e : SceneEvent) (rest : List SceneEvent) → after.events ≡ before.events ++ (front ++ e ∷ rest) →
     HasEventAt n before lines after front e
 event_at n before [] after h front e rest is =
     let size = ap length (ap (λ x. x.events) h ∙ is) ∙ length-append before.events (front ++ e ∷ rest) ∙ ap (λ k. length before.events + k) (length-append front (e ∷ rest)) in

@@ -1,4 +1,4 @@
--- What devices hold of a report (for `report_judged`, `report_to`, `follow_scene`, `follow_to`).
+-- What devices hold of a report (for `report_accepted`, `report_to`, `follow_scene`, `follow_to`).
 use Rattle.std.proofs.Common.{◌≡◌, ℕ, List, [], ◌++◌, Option, None, Some, reverse, refl, sym, ap, ◌∙◌, subst, append-nil, Result, Ok, Err, IfErr, IfOk, OnOk, true, inl, inr}
 use Rattle.std.specs.Io.KnownBytes.{Appends, append_known}
 use Rattle.std.proofs.KnownBytes.{Appends-nil}
@@ -12,7 +12,7 @@ use Rattle.plain_text.specs.declared.write_str.text_buffer.TextBuffer.{TextBuffe
 use Rattle.run_model.specs.declared.call.ReportCall.{ReportCall}
 use Rattle.store_text.specs.declared.config.StoreConfig.{StoreConfig}
 use Rattle.console_reporter.specs.Report.{report}
-use Rattle.console_reporter.specs.Slots.{IsSameStore, store_meaning}
+use Rattle.console_reporter.specs.OptionalStore.{IsSameStore, store_meaning}
 use Rattle.console_reporter.specs.Stored.{stored}
 use Rattle.console_reporter.specs.Configuration.{configured_in}
 use Rattle.console_reporter.specs.HeldState.{StandsAfter}
@@ -21,26 +21,27 @@ use Rattle.console_reporter.specs.declared.imp.builder.DisplayReporterBuilder.{D
 use Rattle.console_reporter.specs.declared.imp.builder.Surroundings.{Surroundings}
 use Rattle.console_reporter.specs.declared.imp.reporter.DisplayReporter.{DisplayReporter}
 use Rattle.console_reporter.specs.declared.imp.store.Store.{Store}
-use Rattle.scene_text.specs.SceneTexts.{Told, nothing_told}
+use Rattle.scene_text.specs.SceneTexts.{ParsedLines, no_lines}
 use Rattle.scene_events.specs.Scenes.{IsCallOf}
-use Rattle.scene_fields.specs.Split.{parted}
+use Rattle.scene_fields.specs.Split.{split_on}
 use Rattle.scene_events.specs.declared.scene.SceneConfig.{SceneConfig}
-use Rattle.scenes.specs.Follow.{OfText, PrintsFollowed, StopsBy}
+use Rattle.scenes.specs.Follow.{PrintsFollowed, StopsBy}
+use Rattle.scenes.specs.ParsedScenes.{OfText}
 use Rattle.scenes.specs.Outcomes.{run_outcome}
-use Rattle.scenes.specs.SceneReporter.{BreaksTold, HasToldTo, IsStart, ReportsTold}
+use Rattle.scenes.specs.SceneReporter.{BreaksParsed, HasReportedTo, IsStart, ReportsParsed}
 use Rattle.scenes.specs.Reports.{Begins, HasFirstCalls, HoldsFirstCalls, StopsStore, builder_for, configuration_for, store_for, surroundings_of}
-use Rattle.scenes.specs.SpelledRuns.{BeginsTold, PrintsTold}
+use Rattle.scenes.specs.SpelledRuns.{BeginsParsed, PrintsParsed}
 use Rattle.command_line.specs.declared.fault.Fault.{Fault}
 use Rattle.command_line.specs.declared.fault.Fault.TheVariants as fault
 use Rattle.scenes.specs.declared.scene_reporter.SceneReporter.{SceneReporter}
 use Rattle.scenes.specs.declared.outcome.RunOutcome.{RunOutcome}
 use Rattle.scenes.specs.declared.outcome.RunOutcome.TheVariants as outcome
-use Rattle.command_line.specs.declared.words.Options.{Options}
+use Rattle.command_line.specs.declared.args.Options.{Options}
 use Rattle.scenes.proofs.lemmas.Heads.{HasNoEvent, IsRefusedMemory}
 use Rattle.scenes.proofs.lemmas.Devices.{memory_no_device, memory_no_store, nothing_stored, stop_by, store_begins, text_begins, untouched_begins}
 
 -- what holds of the lines before, holds also of what follows from it
-pub stops_so : (options : Options) (text : List ℕ) (P R : Told → Type 0) (Q T : Told → Fault → Type 0) → ((run : Told) → P run → R run) → ((run : Told) (f : Fault) → Q run f → T run f) →
+pub stops_so : (options : Options) (text : List ℕ) (P R : ParsedLines → Type 0) (Q T : ParsedLines → Fault → Type 0) → ((run : ParsedLines) → P run → R run) → ((run : ParsedLines) (f : Fault) → Q run f → T run f) →
     (f : Fault) → StopsBy options text P Q f → StopsBy options text R T f
 stops_so options text P R Q T pr qt fault.Usage h = absurd h
 stops_so options text P R Q T pr qt (fault.CannotRead file) h = record { run = h.run; lines = h.lines; number = h.number; at = h.at; holds = pr h.run h.holds }
@@ -133,7 +134,7 @@ module _ {W S : Type 0} (contents : W → Option (List ℕ)) (n : Meaning S) (op
   there_by : (past : List ReportCall) (f : Fault) → StopsStore (store_meaning n) x (stored (store_for options) past) f y → f ≡ fault.StoreFailed → is_some (store_for options) ≡ true
   there_by past f h is = keeps.there past (subst (λ g. StopsStore (store_meaning n) x (stored (store_for options) past) g y) is h)
 
-  prints : (come_to : RunOutcome) (run : Told) → ReportsTold (buffer_meaning contents) (store_meaning n) options a b x y come_to run → PrintsFollowed options come_to (contents old) (contents new) before after run
+  prints : (come_to : RunOutcome) (run : ParsedLines) → ReportsParsed (buffer_meaning contents) (store_meaning n) options a b x y come_to run → PrintsFollowed options come_to (contents old) (contents new) before after run
   prints come_to run h =
       let t = report (configuration_for options run.config) h.past in
       let grown : Appends (contents a.writer) (contents b.writer) t = delivered_appends (contents a.writer) (contents b.writer) a.pending b.pending t none h.delivered h.reported.grown in
@@ -149,7 +150,7 @@ module _ {W S : Type 0} (contents : W → Option (List ℕ)) (n : Meaning S) (op
         outcome = by_past (λ p. come_to ≡ run_outcome p) h.past h.outcome;
       }
 
-  begins : (run : Told) (f : Fault) → BreaksTold (buffer_meaning contents) (store_meaning n) options a b x y run f → BeginsTold options run f (contents old) (contents new) before after
+  begins : (run : ParsedLines) (f : Fault) → BreaksParsed (buffer_meaning contents) (store_meaning n) options a b x y run f → BeginsParsed options run f (contents old) (contents new) before after
   begins run f h =
       let texts = report (configuration_for options run.config) in
       record {
@@ -170,32 +171,32 @@ module _ {W S : Type 0} (contents : W → Option (List ℕ)) (n : Meaning S) (op
       }
 
   -- of what was returned for a scene
-  pub printed : (run : Told) (r : Result (Unit {0}) Fault) → OnOk r (HasToldTo (buffer_meaning contents) (store_meaning n) options a b x y run) → OnOk r (PrintsTold options run (contents old) (contents new) before after)
+  pub printed : (run : ParsedLines) (r : Result (Unit {0}) Fault) → OnOk r (HasReportedTo (buffer_meaning contents) (store_meaning n) options a b x y run) → OnOk r (PrintsParsed options run (contents old) (contents new) before after)
   printed run r h = from_ok r (λ k. (prints k.0 run k.1).printed) h
 
-  pub begun : (run : Told) (r : Result (Unit {0}) Fault) → IfErr r (BreaksTold (buffer_meaning contents) (store_meaning n) options a b x y run) → IfErr r (λ f. BeginsTold options run f (contents old) (contents new) before after)
+  pub begun : (run : ParsedLines) (r : Result (Unit {0}) Fault) → IfErr r (BreaksParsed (buffer_meaning contents) (store_meaning n) options a b x y run) → IfErr r (λ f. BeginsParsed options run f (contents old) (contents new) before after)
   begun run r h = from_err r (begins run) h
 
   -- and for lines that were followed
   pub followed : (text : List ℕ) (K : List ℕ → Type 0) (L M : Type 0) → K text → L → M → (r : Result RunOutcome Fault) →
-      IfOk r (λ come_to. (t : List ℕ) → K t → L → M → OfText t (ReportsTold (buffer_meaning contents) (store_meaning n) options a b x y come_to)) →
+      IfOk r (λ come_to. (t : List ℕ) → K t → L → M → OfText t (ReportsParsed (buffer_meaning contents) (store_meaning n) options a b x y come_to)) →
       IfOk r (λ come_to. OfText text (PrintsFollowed options come_to (contents old) (contents new) before after))
   followed text K L M known ready also (Ok come_to) h = let o = h text known ready also in record { run = o.run; spelled = o.spelled; holds = prints come_to o.run o.holds }
   followed text K L M known ready also (Err f) h = tt
 
   pub left : (text : List ℕ) (K : List ℕ → Type 0) (L M : Type 0) → K text → L → M → (r : Result RunOutcome Fault) →
-      IfErr r (λ f. (t : List ℕ) → K t → L → M → StopsBy options t (HasToldTo (buffer_meaning contents) (store_meaning n) options a b x y) (BreaksTold (buffer_meaning contents) (store_meaning n) options a b x y) f) →
-      IfErr r (StopsBy options text (λ run. PrintsTold options run (contents old) (contents new) before after) (λ run f. BeginsTold options run f (contents old) (contents new) before after))
+      IfErr r (λ f. (t : List ℕ) → K t → L → M → StopsBy options t (HasReportedTo (buffer_meaning contents) (store_meaning n) options a b x y) (BreaksParsed (buffer_meaning contents) (store_meaning n) options a b x y) f) →
+      IfErr r (StopsBy options text (λ run. PrintsParsed options run (contents old) (contents new) before after) (λ run f. BeginsParsed options run f (contents old) (contents new) before after))
   left text K L M known ready also (Ok come_to) h = tt
   left text K L M known ready also (Err f) h = stops_so options text _ _ _ _ (λ run p. (prints p.0 run p.1).printed) begins f (h text known ready also)
 
 -- what is not begun
 module _ {W T : Type 0} (m : Meaning W) (k : Meaning T) (laws : WriterLaws m) (others : WriterLaws k) (options : Options) (text : List ℕ) (old : W) (store_old : T) where
-  no_calls : (run : Told) → HasNoEvent run → AllZip IsCallOf run.events []
+  no_calls : (run : ParsedLines) → HasNoEvent run → AllZip IsCallOf run.events []
   no_calls run none = subst (λ es. AllZip IsCallOf es []) (sym none) tt
 
-  broke_nothing : (run : Told) (f : Fault) → IsRefusedMemory run f → BreaksTold m k options old old store_old store_old run f
-  broke_nothing run f h = subst (λ g. BreaksTold m k options old old store_old store_old run g) (sym h.1) (record {
+  broke_nothing : (run : ParsedLines) (f : Fault) → IsRefusedMemory run f → BreaksParsed m k options old old store_old store_old run f
+  broke_nothing run f h = subst (λ g. BreaksParsed m k options old old store_old store_old run g) (sym h.1) (record {
     past = [];
     of_run = no_calls run h.0;
     accepted = refl;
@@ -206,17 +207,17 @@ module _ {W T : Type 0} (m : Meaning W) (k : Meaning T) (laws : WriterLaws m) (o
   })
 
   -- memory was refused before the first line
-  pub nothing_stops : (P : Told → Type 0) (f : Fault) → f ≡ fault.OutOfMemory → StopsBy options text P (BreaksTold m k options old old store_old store_old) f
-  nothing_stops P f is = subst (λ g. StopsBy options text P (BreaksTold m k options old old store_old store_old) g) (sym is) (record {
-    run = nothing_told;
-    lines = parted 10 text;
+  pub nothing_stops : (P : ParsedLines → Type 0) (f : Fault) → f ≡ fault.OutOfMemory → StopsBy options text P (BreaksParsed m k options old old store_old store_old) f
+  nothing_stops P f is = subst (λ g. StopsBy options text P (BreaksParsed m k options old old store_old store_old) g) (sym is) (record {
+    run = no_lines;
+    lines = split_on 10 text;
     number = 1;
     at = record { front = []; whole = refl; place = refl; tells = refl };
-    holds = broke_nothing nothing_told fault.OutOfMemory (refl, refl);
+    holds = broke_nothing no_lines fault.OutOfMemory (refl, refl);
   })
 
   module _ (delivered : m.is_delivered old) (also : k.is_delivered store_old) where
-    reports_nothing : (run : Told) → HasNoEvent run → ReportsTold m k options old old store_old store_old outcome.NotEnded run
+    reports_nothing : (run : ParsedLines) → HasNoEvent run → ReportsParsed m k options old old store_old store_old outcome.NotEnded run
     unfolding run_outcome
     reports_nothing run none = record {
       past = [];
@@ -229,15 +230,15 @@ module _ {W T : Type 0} (m : Meaning W) (k : Meaning T) (laws : WriterLaws m) (o
       outcome = refl;
     }
 
-    told_nothing : (run : Told) → HasNoEvent run → HasToldTo m k options old old store_old store_old run
+    told_nothing : (run : ParsedLines) → HasNoEvent run → HasReportedTo m k options old old store_old store_old run
     told_nothing run none = (outcome.NotEnded, reports_nothing run none)
 
     -- the text has no event
-    pub head_told : OfText text HasNoEvent → OfText text (ReportsTold m k options old old store_old store_old outcome.NotEnded)
+    pub head_told : OfText text HasNoEvent → OfText text (ReportsParsed m k options old old store_old store_old outcome.NotEnded)
     head_told h = record { run = h.run; spelled = h.spelled; holds = reports_nothing h.run h.holds }
 
     -- a line before the first event stopped it
-    pub head_stops : (f : Fault) → StopsBy options text HasNoEvent IsRefusedMemory f → StopsBy options text (HasToldTo m k options old old store_old store_old) (BreaksTold m k options old old store_old store_old) f
+    pub head_stops : (f : Fault) → StopsBy options text HasNoEvent IsRefusedMemory f → StopsBy options text (HasReportedTo m k options old old store_old store_old) (BreaksParsed m k options old old store_old store_old) f
     head_stops f h = stops_so options text _ _ _ _ told_nothing broke_nothing f h
 
 -- a reporter that was built goes by the options and the scene's configuration
@@ -261,11 +262,11 @@ starts m n options config r stands delivered start not_ended reports = record {
 }
 
 -- memory was refused before anything was written
-pub nothing_held : (options : Options) (text : List ℕ) (P : Told → Type 0) (before after store_before store_after : Option (List ℕ)) → after ≡ before → store_after ≡ store_before →
-    StopsBy options text P (λ run f. BeginsTold options run f before after store_before store_after) fault.OutOfMemory
+pub nothing_held : (options : Options) (text : List ℕ) (P : ParsedLines → Type 0) (before after store_before store_after : Option (List ℕ)) → after ≡ before → store_after ≡ store_before →
+    StopsBy options text P (λ run f. BeginsParsed options run f before after store_before store_after) fault.OutOfMemory
 nothing_held options text P before after store_before store_after same also = record {
-  run = nothing_told;
-  lines = parted 10 text;
+  run = no_lines;
+  lines = split_on 10 text;
   number = 1;
   at = record { front = []; whole = refl; place = refl; tells = refl };
   holds = record {

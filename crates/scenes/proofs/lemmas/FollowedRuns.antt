@@ -7,47 +7,48 @@ use Rattle.std.proofs.lemmas.List.{length-append, reverse-reverse}
 use Rattle.plain_text.specs.Writer.{Meaning, WriterLaws}
 use Rattle.run_model.specs.declared.call.ReportCall.{ReportCall}
 use Rattle.console_reporter.specs.Report.{report}
-use Rattle.console_reporter.specs.Slots.{store_meaning}
+use Rattle.console_reporter.specs.OptionalStore.{store_meaning}
 use Rattle.console_reporter.specs.Stored.{stored}
 use Rattle.command_line.specs.Faults.{fault_of_read}
 use Rattle.command_line.specs.Pieces.{IsUnread}
 use Rattle.command_line.specs.declared.fault.Fault.{Fault}
 use Rattle.command_line.specs.declared.fault.Fault.TheVariants as fault
-use Rattle.command_line.specs.declared.words.Options.{Options}
+use Rattle.command_line.specs.declared.args.Options.{Options}
 use Rattle.scene_events.specs.Scenes.{IsCallOf}
 use Rattle.scene_events.specs.declared.scene.SceneConfig.{SceneConfig}
 use Rattle.scene_events.specs.declared.scene.event.SceneEvent.{SceneEvent}
 use Rattle.scene_fields.specs.declared.fault.LineFault.{LineFault}
 use Rattle.scene_fields.specs.declared.fault.ReadFault.{ReadFault}
 use Rattle.scene_fields.specs.declared.fault.ReadFault.TheVariants as read
-use Rattle.scene_text.specs.SceneTexts.{IsNextFault, LineSaid, SaysEvent, Told, is_begun, is_begun_behind, line_said, line_told, lines_before, nothing_told, told, told_after, told_with, with_said}
+use Rattle.scene_text.specs.SceneTexts.{IsNextFault, ParsedLine, EventLine, ParsedLines, is_begun, is_begun_behind, parsed_line, line_read, lines_before, no_lines, parsed_lines, lines_after, lines_with, with_line}
 use Rattle.scene_text.specs.declared.reader.LinesRead.{LinesRead}
 use Rattle.scene_text.proofs.lemmas.Tellings.{all_append, begun_behind}
-use Rattle.scenes.specs.Follow.{KeepsUp, OfText, StopsBehind, StopsBy}
+use Rattle.scenes.specs.Follow.{KeepsUp, StopsBehind, StopsBy}
+use Rattle.scenes.specs.ParsedScenes.{OfText}
 use Rattle.scenes.specs.Outcomes.{run_outcome}
 use Rattle.scenes.specs.Read.{AtLine, HasRead, IsMore}
 use Rattle.scenes.specs.Reports.{configuration_for}
-use Rattle.scenes.specs.SceneReporter.{BreaksEvent, BreaksOff, Follows, HasTold, IsStart, LeavesEvent, StopsAtEvent}
+use Rattle.scenes.specs.SceneReporter.{BreaksEvent, BreaksOff, Follows, HasReported, IsStart, LeavesEvent, StopsAtEvent}
 use Rattle.scenes.specs.Unloads.{decider_for, ready}
 use Rattle.scenes.specs.declared.scene_reporter.SceneReporter.{SceneReporter}
 use Rattle.scenes.proofs.lemmas.EventLines.{event_at}
 use Rattle.scenes.proofs.lemmas.NoConfig.{config_kept}
-use Rattle.scenes.proofs.lemmas.ReadLines.{at_more, forgets, line_tells, spells}
-use Rattle.scenes.proofs.lemmas.SceneReporters.{broke_before, broke_event, made_refused, now_told, starts}
+use Rattle.scenes.proofs.lemmas.ReadLines.{at_more, forgets, line_reads, spells}
+use Rattle.scenes.proofs.lemmas.SceneReporters.{broke_before, broke_event, made_refused, now_reported, starts}
 
-abbrev is_wrong : LineFault → Result LineSaid LineFault
+abbrev is_wrong : LineFault → Result ParsedLine LineFault
 is_wrong f = Err f
 
-wrong_with : (before : Told) (f : LineFault) (r : Result LineSaid LineFault) → told_with before r ≡ Err f → r ≡ Err f
+wrong_with : (before : ParsedLines) (f : LineFault) (r : Result ParsedLine LineFault) → lines_with before r ≡ Err f → r ≡ Err f
 wrong_with before f (Ok s) h = absurd (cc)
 wrong_with before f (Err g) h = (let same : g ≡ f = cc in ap is_wrong same)
 
-wrong_said : (run : Told) (t : List ℕ) (f : LineFault) → line_told run t ≡ Err f → line_said (lines_before run) t ≡ Err f
-unfolding line_told
-wrong_said run t f h = wrong_with run f (line_said (lines_before run) t) h
+wrong_said : (run : ParsedLines) (t : List ℕ) (f : LineFault) → line_read run t ≡ Err f → parsed_line (lines_before run) t ≡ Err f
+unfolding line_read
+wrong_said run t f h = wrong_with run f (parsed_line (lines_before run) t) h
 
 -- what is told so far holds, and nothing more could be read behind it
-module _ (options : Options) (text : List ℕ) (P : Told → Type 0) (Q : Told → Fault → Type 0) (run : Told) (holds : P run) (refused : Q run fault.OutOfMemory) (left : List (List ℕ)) (number : ℕ) (at : AtLine text run left number) where
+module _ (options : Options) (text : List ℕ) (P : ParsedLines → Type 0) (Q : ParsedLines → Fault → Type 0) (run : ParsedLines) (holds : P run) (refused : Q run fault.OutOfMemory) (left : List (List ℕ)) (number : ℕ) (at : AtLine text run left number) where
   left_unread : (file : List ℕ) (f : Fault) → IsUnread file f → StopsBy options text P Q f
   left_unread file fault.Usage h = absurd h
   left_unread file (fault.CannotRead f) h = record { run = run; lines = left; number = number; at = at; holds = holds }
@@ -73,7 +74,7 @@ module _ (options : Options) (text : List ℕ) (P : Told → Type 0) (Q : Told �
   nothing_more file f remaining (inr x) = subst (StopsBy options text P Q) (sym x.1) (left_wrong x.0 x.2)
 
 -- what is told, by its parts
-told_same : (a : Told) (config : SceneConfig) (events : List SceneEvent) → a.config ≡ config → a.events ≡ events → a ≡ record { config = config; events = events }
+told_same : (a : ParsedLines) (config : SceneConfig) (events : List SceneEvent) → a.config ≡ config → a.events ≡ events → a ≡ record { config = config; events = events }
 told_same a config events p q = rw (sym p, sym q) refl
 
 not_begun : (es : List SceneEvent) → is_begun es ≡ false → es ≡ []
@@ -86,17 +87,17 @@ no_call (c ∷ calls) h = absurd h
 
 module _ {W S : Type 0} {m : Meaning W} {n : Meaning S} (laws : WriterLaws m) (others : WriterLaws n) (options : Options) (text : List ℕ) (start : SceneReporter W S) where
   -- the event of the next line was left
-  module _ (now next : SceneReporter W S) (run : Told) (follows : Follows m n options start now run) (t : List ℕ) (more : List (List ℕ)) (number : ℕ) (at : AtLine text run (t ∷ more) number) (e : SceneEvent) (says : line_said (lines_before run) t ≡ Ok (SaysEvent e)) where
+  module _ (now next : SceneReporter W S) (run : ParsedLines) (follows : Follows m n options start now run) (t : List ℕ) (more : List (List ℕ)) (number : ℕ) (at : AtLine text run (t ∷ more) number) (e : SceneEvent) (says : parsed_line (lines_before run) t ≡ Ok (EventLine e)) where
     left_event : (f : Fault) → BreaksEvent m n options (decider_for options run.config) e f now next → StopsBehind text (λ r. BreaksOff m n options start next r f)
     left_event f broke = record {
-      run = with_said run (SaysEvent e);
+      run = with_line run (EventLine e);
       lines = more;
       number = number + 1;
-      at = at_more text run t more number (with_said run (SaysEvent e)) at (line_tells run t (SaysEvent e) says);
+      at = at_more text run t more number (with_line run (EventLine e)) at (line_reads run t (EventLine e) says);
       holds = broke_event laws others options start now next run follows e f broke;
     }
 
-    one_left : (f : Fault) → LeavesEvent m n options (decider_for options run.config) number e f now next → StopsBy options text (HasTold m n options start next) (BreaksOff m n options start next) f
+    one_left : (f : Fault) → LeavesEvent m n options (decider_for options run.config) number e f now next → StopsBy options text (HasReported m n options start next) (BreaksOff m n options start next) f
     one_left fault.Usage h = absurd h
     one_left (fault.CannotRead file) h = absurd h
     one_left (fault.CannotWrite file) h = absurd h
@@ -106,7 +107,7 @@ module _ {W S : Type 0} {m : Meaning W} {n : Meaning S} (laws : WriterLaws m) (o
       more = more;
       at = record { front = at.front; whole = at.whole; place = h.0 ∙ at.place; tells = at.tells };
       wrong = inr (record { event = e; says = says; call = h.2.of_event.made; of_event = h.2.of_event.of_event; refused = made_refused laws others options start now now run follows e f h.2 });
-      holds = now_told laws others options start now next run follows h.1;
+      holds = now_reported laws others options start now next run follows h.1;
     }
     one_left fault.WriteFailed h = left_event fault.WriteFailed h
     one_left fault.StoreFailed h = left_event fault.StoreFailed h
@@ -114,13 +115,13 @@ module _ {W S : Type 0} {m : Meaning W} {n : Meaning S} (laws : WriterLaws m) (o
     one_left fault.OutOfMemory (inr broke) = left_event fault.OutOfMemory broke
 
   -- nothing was reported yet
-  pub keeps_up : (read : LinesRead) (more : Result Bool Fault) (remaining : Option (List ℕ)) → HasRead options.file.now text [] nothing_told read more remaining → is_begun read.run.events.items ≡ true →
+  pub keeps_up : (read : LinesRead) (more : Result Bool Fault) (remaining : Option (List ℕ)) → HasRead options.file.now text [] no_lines read more remaining → is_begun read.run.events.items ≡ true →
       IsStart m n options read.run.config start → KeepsUp m n options text start start read more remaining
-  keeps_up read more remaining has begun is_start = record { front = []; before = nothing_told; has = has; follows = starts laws others options start read.run.config is_start; begun = begun }
+  keeps_up read more remaining has begun is_start = record { front = []; before = no_lines; has = has; follows = starts laws others options start read.run.config is_start; begun = begun }
 
   module _ (now : SceneReporter W S) (read : LinesRead) (more : Result Bool Fault) (remaining : Option (List ℕ)) (k : KeepsUp m n options text start now read more remaining) where
-    abbrev run : Told
-    run = told_after k.before.events (told read.run)
+    abbrev run : ParsedLines
+    run = lines_after k.before.events (parsed_lines read.run)
 
     here : AtLine text run k.has.left read.next
     here =
@@ -129,12 +130,12 @@ module _ {W S : Type 0} {m : Meaning W} {n : Meaning S} (laws : WriterLaws m) (o
           front = k.front ++ k.has.lines;
           whole = k.has.whole ∙ sym (append_assoc k.front k.has.lines k.has.left);
           place = (let place = k.has.place in omega (arith, place, size));
-          tells = all_append nothing_told k.front k.before k.has.lines run k.has.forgotten k.has.tells;
+          tells = all_append no_lines k.front k.before k.has.lines run k.has.forgotten k.has.tells;
         }
 
     -- an event of what was read was left
     pub stops_run : (next : SceneReporter W S) (f : Fault) → StopsAtEvent m n options read.run.config read.run.events.items read.run.lines.items k.before.events f start next →
-        StopsBy options text (HasTold m n options start next) (BreaksOff m n options start next) f
+        StopsBy options text (HasReported m n options start next) (BreaksOff m n options start next) f
     stops_run next f stop =
         let at = event_at (length k.front + 1) k.before k.has.lines run k.has.tells stop.front stop.event stop.rest (ap (λ es. k.before.events ++ es) stop.whole) in
         let mid_is = told_same at.mid read.run.config (k.before.events ++ stop.front) at.config at.events in
@@ -148,13 +149,13 @@ module _ {W S : Type 0} {m : Meaning W} {n : Meaning S} (laws : WriterLaws m) (o
               k.has.whole ∙ ap (λ ls. k.front ++ (ls ++ k.has.left)) at.whole ∙ ap (λ ls. k.front ++ ls) (append_assoc at.skipped (at.t ∷ at.more) k.has.left)
               ∙ sym (append_assoc k.front at.skipped (at.t ∷ (at.more ++ k.has.left)));
           place = omega (arith, numbered, size);
-          tells = all_append nothing_told k.front k.before at.skipped at.mid k.has.forgotten at.tells;
+          tells = all_append no_lines k.front k.before at.skipped at.mid k.has.forgotten at.tells;
         }) stop.event at.says f (subst (λ c. LeavesEvent m n options (decider_for options c) number stop.event f stop.now next) (sym at.config) stop.leaves)
 
     -- what was reported before
-    none_told : k.before.events ≡ [] → HasTold m n options start now k.before
+    none_reported : k.before.events ≡ [] → HasReported m n options start now k.before
     unfolding run_outcome
-    none_told none =
+    none_reported none =
         let no_calls = no_call (reverse k.follows.past) (subst (λ es. AllZip IsCallOf es (reverse k.follows.past)) none k.follows.of_run) in
         let no_past : k.follows.past ≡ [] = sym (reverse-reverse k.follows.past) ∙ ap reverse no_calls in
         let config = configuration_for options read.run.config in
@@ -169,38 +170,38 @@ module _ {W S : Type 0} {m : Meaning W} {n : Meaning S} (laws : WriterLaws m) (o
           outcome = k.follows.outcome ∙ ap run_outcome no_past;
         }
 
-    told_before : HasTold m n options start now k.before
-    told_before = elim (cases_Bool (is_begun k.before.events)) [
+    reported_before : HasReported m n options start now k.before
+    reported_before = elim (cases_Bool (is_begun k.before.events)) [
       | inl begun ↦
-          now_told laws others options start now now k.before
+          now_reported laws others options start now now k.before
           (subst (λ c. Follows m n options start now (record { config = c; events = k.before.events })) (config_kept k.before k.has.lines run begun k.has.tells) k.follows) refl
-      | inr not ↦ none_told (not_begun k.before.events not)
+      | inr not ↦ none_reported (not_begun k.before.events not)
     ]
 
     -- there are lines that no number counts
-    pub told_uncounted : (file : Bor (List ℕ)) → StopsBy options text (HasTold m n options start now) (BreaksOff m n options start now) (fault.CannotRead file)
-    told_uncounted file = record {
+    pub reported_uncounted : (file : Bor (List ℕ)) → StopsBy options text (HasReported m n options start now) (BreaksOff m n options start now) (fault.CannotRead file)
+    reported_uncounted file = record {
       run = k.before;
       lines = k.has.lines ++ k.has.left;
       number = length k.front + 1;
       at = record { front = k.front; whole = k.has.whole; place = refl; tells = k.has.forgotten };
-      holds = told_before;
+      holds = reported_before;
     }
 
     -- all that was read was reported
     module _ (next : SceneReporter W S) (reported : Follows m n options start next (record { config = read.run.config; events = k.before.events ++ read.run.events.items })) where
       -- and the text ends there
-      pub told_all : more ≡ Ok false → OfText text (HasTold m n options start next)
-      told_all last = record {
+      pub reported_all : more ≡ Ok false → OfText text (HasReported m n options start next)
+      reported_all last = record {
         run = run;
         spelled = spells options.file.now text read k.front k.before remaining (subst (λ r. HasRead options.file.now text k.front k.before read r remaining) last k.has);
-        holds = now_told laws others options start next next run reported refl;
+        holds = now_reported laws others options start next next run reported refl;
       }
 
       -- or nothing more could be read
-      pub told_first : (f : Fault) → more ≡ Err f → StopsBy options text (HasTold m n options start next) (BreaksOff m n options start next) f
-      told_first f is =
-          nothing_more options text (HasTold m n options start next) (BreaksOff m n options start next) run (now_told laws others options start next next run reported refl) (broke_before laws others options start next next run reported refl)
+      pub reported_first : (f : Fault) → more ≡ Err f → StopsBy options text (HasReported m n options start next) (BreaksOff m n options start next) f
+      reported_first f is =
+          nothing_more options text (HasReported m n options start next) (BreaksOff m n options start next) run (now_reported laws others options start next next run reported refl) (broke_before laws others options start next next run reported refl)
           k.has.left read.next here options.file.now f remaining (subst (λ r. IsMore options.file.now r run k.has.left read.next remaining) is k.has.more_is)
 
       -- or further lines were read behind it
@@ -209,7 +210,7 @@ module _ {W S : Type 0} {m : Meaning W} {n : Meaning S} (laws : WriterLaws m) (o
         front = k.front ++ k.has.lines;
         before = run;
         has = has;
-        follows = subst (λ c. Follows m n options start next (record { config = c; events = run.events })) (sym (config_kept run has.lines (told_after run.events (told new.run)) k.begun has.tells)) reported;
+        follows = subst (λ c. Follows m n options start next (record { config = c; events = run.events })) (sym (config_kept run has.lines (lines_after run.events (parsed_lines new.run)) k.begun has.tells)) reported;
         begun = begun_behind run.events new.run.events.items ∙ ap (λ b. is_begun_behind b new.run.events.items) k.begun;
       }
 

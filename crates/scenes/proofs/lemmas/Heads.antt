@@ -5,29 +5,30 @@ use Rattle.std.proofs.lemmas.Bool.Decides.{nat_tests}
 use Rattle.scene_events.specs.declared.scene.event.SceneEvent.{SceneEvent}
 use Rattle.command_line.specs.declared.fault.Fault.{Fault}
 use Rattle.command_line.specs.declared.fault.Fault.TheVariants as fault
-use Rattle.command_line.specs.declared.words.Options.{Options}
-use Rattle.scene_text.specs.SceneTexts.{Told, is_begun, nothing_told, told}
+use Rattle.command_line.specs.declared.args.Options.{Options}
+use Rattle.scene_text.specs.SceneTexts.{ParsedLines, is_begun, no_lines, parsed_lines}
 use Rattle.scene_text.specs.declared.reader.LinesRead.{LinesRead}
-use Rattle.scenes.specs.Follow.{OfText, StopsBy}
+use Rattle.scenes.specs.Follow.{StopsBy}
+use Rattle.scenes.specs.ParsedScenes.{OfText}
 use Rattle.scenes.specs.Read.{HasRead}
 use Rattle.scenes.proofs.lemmas.FollowedRuns.{nothing_more}
 use Rattle.scenes.proofs.lemmas.ReadLines.{spells}
 
 -- lines tell no event
-abbrev pub HasNoEvent : Told → Type 0
+abbrev pub HasNoEvent : ParsedLines → Type 0
 HasNoEvent run = run.events ≡ []
 
 -- and memory was refused behind them
-abbrev pub IsRefusedMemory : Told → Fault → Type 0
+abbrev pub IsRefusedMemory : ParsedLines → Fault → Type 0
 IsRefusedMemory run f = HasNoEvent run × (f ≡ fault.OutOfMemory)
 
 module _ (options : Options) (text : List ℕ) (read : LinesRead) (remaining : Option (List ℕ)) (none : read.run.events.items ≡ []) where
-  pub head_ends : HasRead options.file.now text [] nothing_told read (Ok false) remaining → OfText text HasNoEvent
-  head_ends has = record { run = told read.run; spelled = spells options.file.now text read [] nothing_told remaining has; holds = none }
+  pub head_ends : HasRead options.file.now text [] no_lines read (Ok false) remaining → OfText text HasNoEvent
+  head_ends has = record { run = parsed_lines read.run; spelled = spells options.file.now text read [] no_lines remaining has; holds = none }
 
-  pub head_left : (f : Fault) → HasRead options.file.now text [] nothing_told read (Err f) remaining → StopsBy options text HasNoEvent IsRefusedMemory f
+  pub head_left : (f : Fault) → HasRead options.file.now text [] no_lines read (Err f) remaining → StopsBy options text HasNoEvent IsRefusedMemory f
   head_left f has =
-      nothing_more options text HasNoEvent IsRefusedMemory (told read.run) none (none, refl) has.left read.next (record { front = has.lines; whole = has.whole; place = has.place ∙ omega (arith); tells = has.tells }) options.file.now f remaining has.more_is
+      nothing_more options text HasNoEvent IsRefusedMemory (parsed_lines read.run) none (none, refl) has.left read.next (record { front = has.lines; whole = has.whole; place = has.place ∙ omega (arith); tells = has.tells }) options.file.now f remaining has.more_is
 
 -- whether there is an event
 pub is_none : (es : List SceneEvent) → (length es == 0) ≡ true → es ≡ []

@@ -4,8 +4,8 @@ use Rattle.std.specs.Str.{is_utf8}
 use Rattle.std.proofs.lemmas.Bool.{cases_Bool}
 use Rattle.scene_fields.specs.Fields.{Place}
 use Rattle.scene_text.specs.Lines.{event_line_fields}
-use Rattle.scene_text.specs.SceneTexts.{AllTell, LineSaid, LinesBefore, SaysConfig, SaysEvent, SaysNothing, Told, event_told, is_begun, is_passed_over, line_said, line_told, lines_before, says_event, told_with, with_said, word_said, words_said}
-use Rattle.scene_fields.specs.Split.{parted}
+use Rattle.scene_text.specs.SceneTexts.{AllRead, ParsedLine, LinesBefore, ConfigLine, EventLine, NoEvent, ParsedLines, event_of, is_begun, is_passed_over, parsed_line, line_read, lines_before, event_line, lines_with, with_line, parsed_word, parsed_words}
+use Rattle.scene_fields.specs.Split.{split_on}
 use Rattle.scene_fields.specs.declared.fault.LineFault.{LineFault}
 use Rattle.scene_events.specs.declared.scene.SceneConfig.{SceneConfig}
 use Rattle.scene_events.specs.declared.scene.event.SceneEvent.{SceneEvent}
@@ -15,35 +15,35 @@ abbrev behind : SceneConfig → LinesBefore
 behind config = record { config = config; is_begun = true }
 
 abbrev Said : Type 0
-Said = Result LineSaid LineFault
+Said = Result ParsedLine LineFault
 
 -- it says no configuration
 abbrev SaysNone : Said → Type 0
-SaysNone (Ok SaysNothing) = Unit {0}
-SaysNone (Ok (SaysConfig c)) = ⊥
-SaysNone (Ok (SaysEvent e)) = Unit {0}
+SaysNone (Ok NoEvent) = Unit {0}
+SaysNone (Ok (ConfigLine c)) = ⊥
+SaysNone (Ok (EventLine e)) = Unit {0}
 SaysNone (Err f) = Unit {0}
 
-by_event : (r : Result SceneEvent LineFault) → SaysNone (says_event r)
+by_event : (r : Result SceneEvent LineFault) → SaysNone (event_line r)
 by_event (Ok x) = tt
 by_event (Err f) = tt
 
-by_word : (config : SceneConfig) (word : List ℕ) (fields : Place) → SaysNone (word_said (behind config) word fields)
+by_word : (config : SceneConfig) (word : List ℕ) (fields : Place) → SaysNone (parsed_word (behind config) word fields)
 by_word config word fields = elim (cases_Bool (bytes_eq word (codes "config"))) [
   | inl configures ↦ rw configures tt
-  | inr tells ↦ rw tells (by_event (event_told (event_line_fields word fields)))
+  | inr tells ↦ rw tells (by_event (event_of (event_line_fields word fields)))
 ]
 
-by_line : (config : SceneConfig) (words : List (List ℕ)) → SaysNone (words_said (behind config) words)
+by_line : (config : SceneConfig) (words : List (List ℕ)) → SaysNone (parsed_words (behind config) words)
 by_line config [] = tt
 by_line config (word ∷ fields) = by_word config word (record { number = 1; left = fields })
 
-says_none : (config : SceneConfig) (t : List ℕ) → SaysNone (line_said (behind config) t)
-unfolding line_said
+says_none : (config : SceneConfig) (t : List ℕ) → SaysNone (parsed_line (behind config) t)
+unfolding parsed_line
 says_none config t = elim (cases_Bool (is_passed_over t)) [
   | inl passed ↦ rw passed tt
   | inr not ↦ elim (cases_Bool (is_utf8 t)) [
-    | inl good ↦ rw (not, good) (by_line config (parted 9 t))
+    | inl good ↦ rw (not, good) (by_line config (split_on 9 t))
     | inr bad ↦ rw (not, bad) tt
   ]
 ]
@@ -52,20 +52,20 @@ begun_more : (es : List SceneEvent) (e : SceneEvent) → is_begun es ≡ true �
 begun_more [] e begun = refl
 begun_more (x ∷ es) e begun = refl
 
-with_none : (before after : Told) (r : Said) → SaysNone r → told_with before r ≡ Ok after → is_begun before.events ≡ true → (after.config ≡ before.config) × (is_begun after.events ≡ true)
-with_none before after (Ok SaysNothing) none h begun = (let same : before ≡ after = cc in (ap (λ x. x.config) (sym same), subst (λ x. is_begun x.events ≡ true) same begun))
-with_none before after (Ok (SaysConfig c)) none h begun = absurd none
-with_none before after (Ok (SaysEvent e)) none h begun =
-    let same : with_said before (SaysEvent e) ≡ after = cc in (ap (λ x. x.config) (sym same), subst (λ x. is_begun x.events ≡ true) same (begun_more before.events e begun))
+with_none : (before after : ParsedLines) (r : Said) → SaysNone r → lines_with before r ≡ Ok after → is_begun before.events ≡ true → (after.config ≡ before.config) × (is_begun after.events ≡ true)
+with_none before after (Ok NoEvent) none h begun = (let same : before ≡ after = cc in (ap (λ x. x.config) (sym same), subst (λ x. is_begun x.events ≡ true) same begun))
+with_none before after (Ok (ConfigLine c)) none h begun = absurd none
+with_none before after (Ok (EventLine e)) none h begun =
+    let same : with_line before (EventLine e) ≡ after = cc in (ap (λ x. x.config) (sym same), subst (λ x. is_begun x.events ≡ true) same (begun_more before.events e begun))
 with_none before after (Err f) none h begun = absurd (cc)
 
-one_kept : (before after : Told) (t : List ℕ) → is_begun before.events ≡ true → line_told before t ≡ Ok after → (after.config ≡ before.config) × (is_begun after.events ≡ true)
-unfolding line_told
+one_kept : (before after : ParsedLines) (t : List ℕ) → is_begun before.events ≡ true → line_read before t ≡ Ok after → (after.config ≡ before.config) × (is_begun after.events ≡ true)
+unfolding line_read
 one_kept before after t begun h =
     let same : lines_before before ≡ behind before.config = rw begun refl in
-    with_none before after (line_said (lines_before before) t) (subst (λ b. SaysNone (line_said b t)) (sym same) (says_none before.config t)) h begun
+    with_none before after (parsed_line (lines_before before) t) (subst (λ b. SaysNone (parsed_line b t)) (sym same) (says_none before.config t)) h begun
 
 -- lines behind an event keep the configuration
-pub config_kept : (before : Told) (ts : List (List ℕ)) (after : Told) → is_begun before.events ≡ true → AllTell before ts after → after.config ≡ before.config
+pub config_kept : (before : ParsedLines) (ts : List (List ℕ)) (after : ParsedLines) → is_begun before.events ≡ true → AllRead before ts after → after.config ≡ before.config
 config_kept before [] after begun h = ap (λ x. x.config) (sym h)
 config_kept before (t ∷ ts) after begun h = (let one = one_kept before h.0 t begun h.1 in config_kept h.0 ts after one.1 h.2 ∙ one.0)

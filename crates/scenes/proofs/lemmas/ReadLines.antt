@@ -12,55 +12,55 @@ use Rattle.command_line.specs.Faults.{fault_of_read}
 use Rattle.command_line.specs.Pieces.{IsNextPiece, IsUnread}
 use Rattle.command_line.specs.declared.fault.Fault.{Fault}
 use Rattle.command_line.specs.declared.fault.Fault.TheVariants as program
-use Rattle.scene_fields.specs.Split.{parted}
+use Rattle.scene_fields.specs.Split.{split_on}
 use Rattle.scene_fields.specs.declared.fault.ReadFault.{ReadFault}
 use Rattle.scene_fields.specs.declared.fault.ReadFault.TheVariants as fault
-use Rattle.scene_text.specs.SceneTexts.{AllTell, IsNextFault, LeavesLines, LineSaid, ReadsLines, Told, event_lines, is_begun, is_begun_behind, line_said, line_told, lines_before, lines_told, nothing_told, text_told, told, told_after, with_said}
+use Rattle.scene_text.specs.SceneTexts.{AllRead, IsNextFault, LeavesLines, ParsedLine, ReadsLines, ParsedLines, event_lines, is_begun, is_begun_behind, parsed_line, line_read, lines_before, lines_read, no_lines, text_read, parsed_lines, lines_after, with_line}
 use Rattle.scene_text.specs.declared.reader.LinesRead.{LinesRead}
 use Rattle.scene_text.proofs.lemmas.FirstFaults.{text_fault}
 use Rattle.scene_text.proofs.lemmas.Tellings.{all_append, all_told, begun_behind, noted_append, wrong_told}
 use Rattle.scenes.specs.Read.{AreLeft, AtLine, HasRead, IsMore}
-use Rattle.scenes.specs.ToldScenes.{IsReadFault, IsSceneRead}
+use Rattle.scenes.specs.ParsedScenes.{IsReadFault, IsSceneRead}
 
 -- a text has a first line
 record HasLine (text : List ℕ) : Type 0 where
   pub first : List ℕ
   pub more : List (List ℕ)
-  pub is : parted 10 text ≡ first ∷ more
+  pub is : split_on 10 text ≡ first ∷ more
 
 has_line : (text : List ℕ) → HasLine text
-unfolding parted
+unfolding split_on
 has_line [] = record { first = []; more = []; is = refl }
 has_line (c ∷ t) = elim (cases_Bool (c == 10)) [
-  | inl y ↦ record { first = []; more = parted 10 t; is = rw y refl }
+  | inl y ↦ record { first = []; more = split_on 10 t; is = rw y refl }
   | inr n ↦ (let h = has_line t in record { first = c ∷ h.first; more = h.more; is = rw n (ap (onto_first c) h.is) })
 ]
 
 -- the lines of two texts that a line feed parts
-parted_joined : (front back : List ℕ) → parted 10 (front ++ 10 ∷ back) ≡ parted 10 front ++ parted 10 back
-unfolding parted
-parted_joined [] back = refl
-parted_joined (c ∷ t) back = elim (cases_Bool (c == 10)) [
-  | inl y ↦ rw y (ap (λ (ts : List (List ℕ)). [] ∷ ts) (parted_joined t back))
+split_on_joined : (front back : List ℕ) → split_on 10 (front ++ 10 ∷ back) ≡ split_on 10 front ++ split_on 10 back
+unfolding split_on
+split_on_joined [] back = refl
+split_on_joined (c ∷ t) back = elim (cases_Bool (c == 10)) [
+  | inl y ↦ rw y (ap (λ (ts : List (List ℕ)). [] ∷ ts) (split_on_joined t back))
   | inr n ↦
       let h = has_line t in
-      let joined : parted 10 (t ++ 10 ∷ back) ≡ (h.first ∷ h.more) ++ parted 10 back = parted_joined t back ∙ ap (λ ts. ts ++ parted 10 back) h.is in
-      rw n (ap (onto_first c) joined ∙ ap (λ ts. onto_first c ts ++ parted 10 back) (sym h.is))
+      let joined : split_on 10 (t ++ 10 ∷ back) ≡ (h.first ∷ h.more) ++ split_on 10 back = split_on_joined t back ∙ ap (λ ts. ts ++ split_on 10 back) h.is in
+      rw n (ap (onto_first c) joined ∙ ap (λ ts. onto_first c ts ++ split_on 10 back) (sym h.is))
 ]
 
 -- what is left begins with the lines of the next piece
 record IsCut (left : List (List ℕ)) (piece : List ℕ) (remaining : Option (List ℕ)) : Type 0 where
   pub others : List (List ℕ)
-  pub is : left ≡ parted 10 piece ++ others
+  pub is : left ≡ split_on 10 piece ++ others
   pub rest : List ℕ
   pub remains : remaining ≡ Some rest
   pub are : AreLeft others rest
 
 cut : (left : List (List ℕ)) (rest piece : List ℕ) (remaining : Option (List ℕ)) → AreLeft left rest → IsNextPiece rest true piece remaining → IsCut left piece remaining
 cut left rest piece remaining (inl lines) (more, remains, inl feed) =
-    record { others = parted 10 more; is = lines ∙ ap (parted 10) feed ∙ parted_joined piece more; rest = more; remains = remains; are = inl refl }
+    record { others = split_on 10 more; is = lines ∙ ap (split_on 10) feed ∙ split_on_joined piece more; rest = more; remains = remains; are = inl refl }
 cut left rest piece remaining (inl lines) (more, remains, inr end) =
-    record { others = []; is = lines ∙ ap (parted 10) end.0 ∙ sym (append-nil (parted 10 piece)); rest = more; remains = remains; are = inr (refl, end.1) }
+    record { others = []; is = lines ∙ ap (split_on 10) end.0 ∙ sym (append-nil (split_on 10 piece)); rest = more; remains = remains; are = inr (refl, end.1) }
 cut left rest piece remaining (inr none) (more, remains, inl feed) =
     let size = ap length (sym none.1 ∙ feed) ∙ length-append piece (10 ∷ more) in absurd (omega (arith, size))
 cut left rest piece remaining (inr none) (more, remains, inr end) =
@@ -76,26 +76,26 @@ pub new_reader : {T A : Type 0} (remaining : T → Option (List ℕ)) (r : BufRe
 new_reader remaining r inner size is empty sized some = rw (sized, some, empty, is) (known_behind (remaining inner))
 
 -- no line was read of a text that a reader has
-pub none_read : (file text : List ℕ) (read : LinesRead) (remaining : Option (List ℕ)) → told read.run ≡ nothing_told → read.run.lines.items ≡ [] → read.is_begun ≡ false → read.next ≡ 1 → remaining ≡ Some text →
-    HasRead file text [] nothing_told read (Ok true) remaining
+pub none_read : (file text : List ℕ) (read : LinesRead) (remaining : Option (List ℕ)) → parsed_lines read.run ≡ no_lines → read.run.lines.items ≡ [] → read.is_begun ≡ false → read.next ≡ 1 → remaining ≡ Some text →
+    HasRead file text [] no_lines read (Ok true) remaining
 unfolding event_lines
 none_read file text read remaining tells noted begun place known = record {
   lines = [];
-  left = parted 10 text;
+  left = split_on 10 text;
   whole = refl;
   forgotten = refl;
-  tells = ap (told_after []) (sym tells);
+  tells = ap (lines_after []) (sym tells);
   noted = noted;
   place = place ∙ omega (arith);
   begun = sym begun;
   more_is = (text, known, inl refl);
 }
 
-module _ (file text : List ℕ) (front : List (List ℕ)) (before : Told) (old new : LinesRead) where
+module _ (file text : List ℕ) (front : List (List ℕ)) (before : ParsedLines) (old new : LinesRead) where
   module _ (remaining : Option (List ℕ)) (has : HasRead file text front before old (Ok true) remaining) where
     -- further lines were read
     module _ (lines left : List (List ℕ)) (is : has.left ≡ lines ++ left) (reads : ReadsLines old new lines) (more : Result Bool Fault) (after : Option (List ℕ)) where
-      further : IsMore file more (told_after before.events (told new.run)) left new.next after → HasRead file text front before new more after
+      further : IsMore file more (lines_after before.events (parsed_lines new.run)) left new.next after → HasRead file text front before new more after
       further more_is =
           let size = length-append has.lines lines in
           record {
@@ -103,36 +103,36 @@ module _ (file text : List ℕ) (front : List (List ℕ)) (before : Told) (old n
             left = left;
             whole = has.whole ∙ ap (λ ls. front ++ ls) (ap (λ ls. has.lines ++ ls) is ∙ sym (append_assoc has.lines lines left));
             forgotten = has.forgotten;
-            tells = all_append before has.lines (told_after before.events (told old.run)) lines (told_after before.events (told new.run)) has.tells (reads.tells before.events has.begun);
+            tells = all_append before has.lines (lines_after before.events (parsed_lines old.run)) lines (lines_after before.events (parsed_lines new.run)) has.tells (reads.tells before.events has.begun);
             noted =
-                reads.noted before.events has.begun ∙ ap (λ ls. ls ++ event_lines old.next (told_after before.events (told old.run)) lines) has.noted
-                ∙ sym (noted_append (length front + 1) old.next before has.lines (told_after before.events (told old.run)) lines has.place has.tells);
+                reads.noted before.events has.begun ∙ ap (λ ls. ls ++ event_lines old.next (lines_after before.events (parsed_lines old.run)) lines) has.noted
+                ∙ sym (noted_append (length front + 1) old.next before has.lines (lines_after before.events (parsed_lines old.run)) lines has.place has.tells);
             place = omega (arith, size, reads.place, has.place);
             begun = has.begun ∙ sym reads.begun;
             more_is = more_is;
           }
 
     -- a piece was read
-    pub piece_read : (piece : List ℕ) (after : Option (List ℕ)) → ((rest : List ℕ) → remaining ≡ Some rest → IsNextPiece rest true piece after) → ReadsLines old new (parted 10 piece) → HasRead file text front before new (Ok true) after
+    pub piece_read : (piece : List ℕ) (after : Option (List ℕ)) → ((rest : List ℕ) → remaining ≡ Some rest → IsNextPiece rest true piece after) → ReadsLines old new (split_on 10 piece) → HasRead file text front before new (Ok true) after
     piece_read piece after next reads =
         let c = cut has.left has.more_is.0 piece after has.more_is.2 (next has.more_is.0 has.more_is.1) in
-        further (parted 10 piece) c.others c.is reads (Ok true) after (c.rest, c.remains, c.are)
+        further (split_on 10 piece) c.others c.is reads (Ok true) after (c.rest, c.remains, c.are)
 
-    next_fault : (n : ℕ) (run : Told) (lines others : List (List ℕ)) (f : ReadFault) → IsNextFault n run lines f → IsNextFault n run (lines ++ others) f
+    next_fault : (n : ℕ) (run : ParsedLines) (lines others : List (List ℕ)) (f : ReadFault) → IsNextFault n run lines f → IsNextFault n run (lines ++ others) f
     next_fault n run lines others (fault.Line m f) h = (h.0, (h.1.0, h.1.1 ++ others, ap (λ ls. ls ++ others) h.1.2, h.1.3))
     next_fault n run lines others fault.OutOfMemory h = tt
 
     -- a line of it has a fault
     pub piece_left : (piece : List ℕ) (after : Option (List ℕ)) → ((rest : List ℕ) → remaining ≡ Some rest → IsNextPiece rest true piece after) → (f : ReadFault) (fault : Fault) → fault ≡ fault_of_read f →
-        LeavesLines old new (parted 10 piece) f → HasRead file text front before new (Err fault) after
+        LeavesLines old new (split_on 10 piece) f → HasRead file text front before new (Err fault) after
     piece_left piece after next f fault is leaves =
         let c = cut has.left has.more_is.0 piece after has.more_is.2 (next has.more_is.0 has.more_is.1) in
         further leaves.front (leaves.rest ++ c.others) (c.is ∙ ap (λ ls. ls ++ c.others) leaves.whole ∙ append_assoc leaves.front leaves.rest c.others) leaves.reads (Err fault) after
-        (inr (f, is, next_fault new.next (told_after before.events (told new.run)) leaves.rest c.others f (leaves.wrong before.events has.begun)))
+        (inr (f, is, next_fault new.next (lines_after before.events (parsed_lines new.run)) leaves.rest c.others f (leaves.wrong before.events has.begun)))
 
   -- no line more was read
   module _ (remaining after : Option (List ℕ)) (has : HasRead file text front before old (Ok true) remaining) (same : new ≡ old) where
-    still : (more : Result Bool Fault) → IsMore file more (told_after before.events (told old.run)) has.left old.next after → HasRead file text front before new more after
+    still : (more : Result Bool Fault) → IsMore file more (lines_after before.events (parsed_lines old.run)) has.left old.next after → HasRead file text front before new more after
     still more more_is = subst (λ r. HasRead file text front before r more after) (sym same) (record {
       lines = has.lines;
       left = has.left;
@@ -154,29 +154,29 @@ module _ (file text : List ℕ) (front : List (List ℕ)) (before : Told) (old n
     unread fault is = still (Err fault) (inl is)
 
 -- a line tells what it says
-pub line_tells : (run : Told) (t : List ℕ) (s : LineSaid) → line_said (lines_before run) t ≡ Ok s → line_told run t ≡ Ok (with_said run s)
-unfolding line_told
-line_tells run t s h = rw h refl
+pub line_reads : (run : ParsedLines) (t : List ℕ) (s : ParsedLine) → parsed_line (lines_before run) t ≡ Ok s → line_read run t ≡ Ok (with_line run s)
+unfolding line_read
+line_reads run t s h = rw h refl
 
 -- the place behind a line that tells
-pub at_more : (text : List ℕ) (run : Told) (t : List ℕ) (lines : List (List ℕ)) (number : ℕ) (after : Told) → AtLine text run (t ∷ lines) number → line_told run t ≡ Ok after → AtLine text after lines (number + 1)
-at_more text run t lines number after at told = record {
+pub at_more : (text : List ℕ) (run : ParsedLines) (t : List ℕ) (lines : List (List ℕ)) (number : ℕ) (after : ParsedLines) → AtLine text run (t ∷ lines) number → line_read run t ≡ Ok after → AtLine text after lines (number + 1)
+at_more text run t lines number after at parsed_lines = record {
   front = at.front ++ t ∷ [];
   whole = at.whole ∙ sym (append_assoc at.front (t ∷ []) lines);
   place = (let size = length-append at.front (t ∷ []) in omega (arith, at.place, size));
-  tells = all_append nothing_told at.front run (t ∷ []) after at.tells (after, told, refl);
+  tells = all_append no_lines at.front run (t ∷ []) after at.tells (after, parsed_lines, refl);
 }
 
 not_less : (n : ℕ) → nat_lt n n ≡ false
 not_less n = grind (arith, nat_tests)
 
 -- the events that were read are forgotten
-module _ (file text : List ℕ) (front : List (List ℕ)) (before : Told) (old new : LinesRead) (more : Result Bool Fault) (remaining : Option (List ℕ)) (has : HasRead file text front before old more remaining) where
-  abbrev pub read_told : Told
-  read_told = told_after before.events (told old.run)
+module _ (file text : List ℕ) (front : List (List ℕ)) (before : ParsedLines) (old new : LinesRead) (more : Result Bool Fault) (remaining : Option (List ℕ)) (has : HasRead file text front before old more remaining) where
+  abbrev pub read_told : ParsedLines
+  read_told = lines_after before.events (parsed_lines old.run)
 
   module _ (config : new.run.config ≡ old.run.config) (events : new.run.events.items ≡ []) (lines : new.run.lines.items ≡ []) (begun : new.is_begun ≡ is_begun_behind old.is_begun old.run.events.items) (next : new.next ≡ old.next) where
-    pub all_forgotten : read_told ≡ told_after read_told.events (told new.run)
+    pub all_forgotten : read_told ≡ lines_after read_told.events (parsed_lines new.run)
     all_forgotten = rw (config, events, append-nil read_told.events) refl
 
     pub forgets : HasRead file text (front ++ has.lines) read_told new more remaining
@@ -185,68 +185,68 @@ module _ (file text : List ℕ) (front : List (List ℕ)) (before : Told) (old n
       lines = [];
       left = has.left;
       whole = has.whole ∙ sym (append_assoc front has.lines has.left);
-      forgotten = all_append nothing_told front before has.lines read_told has.forgotten has.tells;
+      forgotten = all_append no_lines front before has.lines read_told has.forgotten has.tells;
       tells = all_forgotten;
       noted = lines;
       place = (let size = length-append front has.lines in omega (arith, size, next, has.place));
       begun = begun_behind before.events old.run.events.items ∙ ap (λ b. is_begun_behind b old.run.events.items) has.begun ∙ sym begun;
-      more_is = subst (λ n. IsMore file more (told_after read_told.events (told new.run)) has.left n remaining) (sym next) (subst (λ r. IsMore file more r has.left old.next remaining) all_forgotten has.more_is);
+      more_is = subst (λ n. IsMore file more (lines_after read_told.events (parsed_lines new.run)) has.left n remaining) (sym next) (subst (λ r. IsMore file more r has.left old.next remaining) all_forgotten has.more_is);
     }
 
 -- a text that was read from its beginning
 module _ (file text : List ℕ) (read : LinesRead) where
   -- an empty line tells nothing
-  empty_tells : (run : Told) → line_told run [] ≡ Ok run
-  unfolding line_told line_said
+  empty_tells : (run : ParsedLines) → line_read run [] ≡ Ok run
+  unfolding line_read parsed_line
   empty_tells run = refl
 
-  empty_noted : (n : ℕ) (run : Told) → event_lines n run ([] ∷ []) ≡ []
-  unfolding event_lines line_told line_said
+  empty_noted : (n : ℕ) (run : ParsedLines) → event_lines n run ([] ∷ []) ≡ []
+  unfolding event_lines line_read parsed_line
   empty_noted n run = rw (not_less (length run.events)) refl
 
   -- to its end
-  module _ (front : List (List ℕ)) (before : Told) (remaining : Option (List ℕ)) (has : HasRead file text front before read (Ok false) remaining) where
-    abbrev pub after : Told
-    after = told_after before.events (told read.run)
+  module _ (front : List (List ℕ)) (before : ParsedLines) (remaining : Option (List ℕ)) (has : HasRead file text front before read (Ok false) remaining) where
+    abbrev pub after : ParsedLines
+    after = lines_after before.events (parsed_lines read.run)
 
     abbrev first_lines : List (List ℕ)
     first_lines = front ++ has.lines
 
-    first_told : AllTell nothing_told first_lines after
-    first_told = all_append nothing_told front before has.lines after has.forgotten has.tells
+    first_told : AllRead no_lines first_lines after
+    first_told = all_append no_lines front before has.lines after has.forgotten has.tells
 
-    pub spells : text_told text ≡ Ok after
-    unfolding parted
+    pub spells : text_read text ≡ Ok after
+    unfolding split_on
     spells = elim has.more_is [
       | inl last ↦
-          let all : parted 10 text ≡ first_lines ++ [] ∷ [] = has.whole ∙ ap (λ ls. front ++ (has.lines ++ ls)) last ∙ sym (append_assoc front has.lines ([] ∷ [])) in
-          ap (lines_told 1 nothing_told) all ∙ all_told 1 nothing_told (first_lines ++ [] ∷ []) after (all_append nothing_told first_lines after ([] ∷ []) after first_told (after, empty_tells after, refl))
+          let all : split_on 10 text ≡ first_lines ++ [] ∷ [] = has.whole ∙ ap (λ ls. front ++ (has.lines ++ ls)) last ∙ sym (append_assoc front has.lines ([] ∷ [])) in
+          ap (lines_read 1 no_lines) all ∙ all_told 1 no_lines (first_lines ++ [] ∷ []) after (all_append no_lines first_lines after ([] ∷ []) after first_told (after, empty_tells after, refl))
       | inr none ↦
-          let all : parted 10 text ≡ first_lines = has.whole ∙ ap (λ ls. front ++ (has.lines ++ ls)) none.0 ∙ ap (λ ls. front ++ ls) (append-nil has.lines) in
-          ap (lines_told 1 nothing_told) all ∙ all_told 1 nothing_told first_lines after first_told
+          let all : split_on 10 text ≡ first_lines = has.whole ∙ ap (λ ls. front ++ (has.lines ++ ls)) none.0 ∙ ap (λ ls. front ++ ls) (append-nil has.lines) in
+          ap (lines_read 1 no_lines) all ∙ all_told 1 no_lines first_lines after first_told
     ]
 
-  pub notes : (remaining : Option (List ℕ)) → HasRead file text [] nothing_told read (Ok false) remaining → read.run.lines.items ≡ event_lines 1 nothing_told (parted 10 text)
-  unfolding parted
+  pub notes : (remaining : Option (List ℕ)) → HasRead file text [] no_lines read (Ok false) remaining → read.run.lines.items ≡ event_lines 1 no_lines (split_on 10 text)
+  unfolding split_on
   notes remaining has = elim has.more_is [
     | inl last ↦
-        let all : parted 10 text ≡ has.lines ++ [] ∷ [] = has.whole ∙ ap (λ ls. has.lines ++ ls) last in
-        has.noted ∙ sym (append-nil _) ∙ ap (λ ls. event_lines 1 nothing_told has.lines ++ ls) (sym (empty_noted read.next (told read.run)))
-        ∙ sym (noted_append 1 read.next nothing_told has.lines (told read.run) ([] ∷ []) has.place has.tells) ∙ ap (event_lines 1 nothing_told) (sym all)
-    | inr none ↦ has.noted ∙ ap (event_lines 1 nothing_told) (sym (has.whole ∙ ap (λ ls. has.lines ++ ls) none.0 ∙ append-nil has.lines))
+        let all : split_on 10 text ≡ has.lines ++ [] ∷ [] = has.whole ∙ ap (λ ls. has.lines ++ ls) last in
+        has.noted ∙ sym (append-nil _) ∙ ap (λ ls. event_lines 1 no_lines has.lines ++ ls) (sym (empty_noted read.next (parsed_lines read.run)))
+        ∙ sym (noted_append 1 read.next no_lines has.lines (parsed_lines read.run) ([] ∷ []) has.place has.tells) ∙ ap (event_lines 1 no_lines) (sym all)
+    | inr none ↦ has.noted ∙ ap (event_lines 1 no_lines) (sym (has.whole ∙ ap (λ ls. has.lines ++ ls) none.0 ∙ append-nil has.lines))
   ]
 
   -- or to a fault
-  fault_told : (n : ℕ) (lines : List (List ℕ)) → AllTell nothing_told lines (told read.run) → n ≡ 1 + length lines → (left : List (List ℕ)) → parted 10 text ≡ lines ++ left → (f : ReadFault) → IsNextFault n (told read.run) left f →
-      IsSceneRead (Err (fault_of_read f)) (text_told text) × IsReadFault text (fault_of_read f)
+  fault_told : (n : ℕ) (lines : List (List ℕ)) → AllRead no_lines lines (parsed_lines read.run) → n ≡ 1 + length lines → (left : List (List ℕ)) → split_on 10 text ≡ lines ++ left → (f : ReadFault) → IsNextFault n (parsed_lines read.run) left f →
+      IsSceneRead (Err (fault_of_read f)) (text_read text) × IsReadFault text (fault_of_read f)
   fault_told n lines tells place left whole (fault.Line m g) h =
       let here = h.1 in
-      let wrong : text_told text ≡ Err (m, g) =
-      ap (lines_told 1 nothing_told) (whole ∙ ap (λ ls. lines ++ ls) here.2) ∙ wrong_told 1 nothing_told lines (told read.run) here.0 here.1 g m (h.0 ∙ place) tells here.3 in
+      let wrong : text_read text ≡ Err (m, g) =
+      ap (lines_read 1 no_lines) (whole ∙ ap (λ ls. lines ++ ls) here.2) ∙ wrong_told 1 no_lines lines (parsed_lines read.run) here.0 here.1 g m (h.0 ∙ place) tells here.3 in
       (wrong, text_fault text m g wrong)
   fault_told n lines tells place left whole fault.OutOfMemory h = (tt, tt)
 
-  unread_told : (fault : Fault) → IsUnread file fault → IsSceneRead (Err fault) (text_told text) × IsReadFault text fault
+  unread_told : (fault : Fault) → IsUnread file fault → IsSceneRead (Err fault) (text_read text) × IsReadFault text fault
   unread_told program.Usage is = absurd is
   unread_told (program.CannotRead f) is = (tt, tt)
   unread_told (program.CannotWrite f) is = absurd is
@@ -255,8 +255,8 @@ module _ (file text : List ℕ) (read : LinesRead) where
   unread_told program.StoreFailed is = absurd is
   unread_told program.OutOfMemory is = (tt, tt)
 
-  pub stopped_read : (remaining : Option (List ℕ)) (fault : Fault) → HasRead file text [] nothing_told read (Err fault) remaining → IsSceneRead (Err fault) (text_told text) × IsReadFault text fault
+  pub stopped_read : (remaining : Option (List ℕ)) (fault : Fault) → HasRead file text [] no_lines read (Err fault) remaining → IsSceneRead (Err fault) (text_read text) × IsReadFault text fault
   stopped_read remaining fault has = elim has.more_is [
     | inl is ↦ unread_told fault is
-    | inr x ↦ subst (λ f. IsSceneRead (Err f) (text_told text) × IsReadFault text f) (sym x.1) (fault_told read.next has.lines has.tells has.place has.left has.whole x.0 x.2)
+    | inr x ↦ subst (λ f. IsSceneRead (Err f) (text_read text) × IsReadFault text f) (sym x.1) (fault_told read.next has.lines has.tells has.place has.left has.whole x.0 x.2)
   ]

@@ -17,7 +17,7 @@ use Rattle.scene_events.specs.declared.scene.SceneConfig.{SceneConfig}
 use Rattle.scenes.specs.Outcomes.{outcome_after, outcome_after_event}
 use Rattle.scenes.specs.Reports.{configuration_for}
 use Rattle.scenes.specs.Unloads.{decider_for, ready, ready_if}
-use Rattle.command_line.specs.declared.words.Options.{Options}
+use Rattle.command_line.specs.declared.args.Options.{Options}
 use Rattle.scenes.specs.declared.outcome.RunOutcome.{RunOutcome}
 
 map-reverse : {X Y : Type 0} (f : X → Y) (xs : List X) → map f (reverse xs) ≡ reverse (map f xs)

@@ -1,4 +1,4 @@
--- What the line of the first refused call says (for `judge_events`).
+-- What the line of the first refused call says (for `check_refusals`).
 use Rattle.std.proofs.Common.{◌≡◌, ℕ, ◌+◌, ◌<◌, ◌≤◌, List, [], ◌∷◌, ◌++◌, Bool, Option, true, false, length, take, arith, get_or, refl, sym, ap, subst, ◌∙◌, ◌⊎◌, None, Some, inl, inr, unwrap_or}
 use Rattle.std.specs.Option.{is_some, option_and_then, option_map, option_or}
 use Rattle.std.specs.List.{AllZip, position, position_or_len, slice_get}
@@ -16,7 +16,7 @@ use Rattle.run_model.specs.declared.call.ReportCall.TheVariants.{Event, Header, 
 use Rattle.reporter_state.specs.declared.decider.OutputLoadDecider.{OutputLoadDecider}
 use Rattle.scene_events.specs.Scenes.{IsCallOf}
 use Rattle.scene_events.specs.declared.scene.event.SceneEvent.{SceneEvent}
-use Rattle.scenes.specs.Judged.{IsSceneRefused, JudgesEvent}
+use Rattle.scenes.specs.Judged.{IsSceneRefused, ChecksEvent}
 use Rattle.scenes.specs.Reports.{fault_at_call}
 use Rattle.scenes.specs.Unloads.{decider_for}
 use Rattle.scenes.proofs.lemmas.EventCalls.{last_there, same_there, zip_long, zip_place}
@@ -25,7 +25,7 @@ use Rattle.command_line.specs.declared.fault.Fault.TheVariants as fault
 use Rattle.scene_fields.specs.declared.fault.LineFault.{LineFault}
 use Rattle.scene_fields.specs.declared.fault.LineFault.TheVariants as line
 use Rattle.scenes.specs.declared.scene.Scene.{Scene}
-use Rattle.command_line.specs.declared.words.Options.{Options}
+use Rattle.command_line.specs.declared.args.Options.{Options}
 
 -- where no item passes, each fails
 pub position-None : {X : Type 0} (p : X → Bool) (xs : List X) (i : ℕ) (d : X) → position p xs ≡ None → i < length xs → p (get_or xs i d) ≡ false
@@ -43,12 +43,12 @@ is_line d (Header k) n = inl refl
 is_line d (Prefix p) n = inl refl
 
 same_told : (o : Option Fault) (n : ℕ) (x : Fault) → (o ≡ None) ⊎ ((f : LineFault) × (o ≡ Some (fault.Line n f))) → o ≡ Some x → (f : LineFault) × (x ≡ fault.Line n f)
-same_told o n x (inl none) told = absurd (cc)
-same_told o n x (inr line) told = (line.0, ap (λ (y : Option Fault). unwrap_or y x) (sym told ∙ line.1))
+same_told o n x (inl none) parsed_lines = absurd (cc)
+same_told o n x (inr line) parsed_lines = (line.0, ap (λ (y : Option Fault). unwrap_or y x) (sym parsed_lines ∙ line.1))
 
 pub told_by_line : (d : OutputLoadDecider) (o : Option ReportCall) (n : ℕ) (x : Fault) → option_map (fault_at_call n) (option_and_then (refusal_by d) o) ≡ Some x → (f : LineFault) × (x ≡ fault.Line n f)
-told_by_line d None n x told = absurd (cc)
-told_by_line d (Some call) n x told = same_told _ n x (is_line d call n) told
+told_by_line d None n x parsed_lines = absurd (cc)
+told_by_line d (Some call) n x parsed_lines = same_told _ n x (is_line d call n) parsed_lines
 
 -- of what is made of an error, or of none
 mapped_none : (n : ℕ) (o : Option WriteEventError) → None ≡ option_map (fault_at_call n) o → is_some o ≡ false
@@ -105,13 +105,13 @@ module _ (options : Options) (scene : Scene) where
   FirstIs calls None = first_refused judge calls ≡ None
   FirstIs calls (Some x) = IsToldOf calls x
 
-  pub record HasJudged (i : ℕ) (refused : Option Fault) : Type 0 where
+  pub record HasChecked (i : ℕ) (refused : Option Fault) : Type 0 where
     pub calls : List ReportCall
     pub of_first : AllZip IsCallOf (take i scene.events.items) calls
     pub first : FirstIs calls refused
 
   -- all events were judged
-  pub all_judged : (i : ℕ) → length scene.events.items ≤ i → (x : Fault) → HasJudged i (Some x) → IsSceneRefused options scene x
+  pub all_judged : (i : ℕ) → length scene.events.items ≤ i → (x : Fault) → HasChecked i (Some x) → IsSceneRefused options scene x
   all_judged i past x h =
       let l = told_by_line judge (slice_get h.calls h.first.place) (get_or scene.lines.items h.first.place 0) x h.first.says in
       subst (IsSceneRefused options scene) (sym l.1) (record {
@@ -126,7 +126,7 @@ module _ (options : Options) (scene : Scene) where
     calls_more calls call h of_event = zip_place scene.events.items calls i e call within is h of_event
 
     -- one is refused already
-    judged_after : (x : Fault) (n : ℕ) (fault : Option Fault) → HasJudged i (Some x) → JudgesEvent judge n e fault → HasJudged (i + 1) (Some x)
+    judged_after : (x : Fault) (n : ℕ) (fault : Option Fault) → HasChecked i (Some x) → ChecksEvent judge n e fault → HasChecked (i + 1) (Some x)
     judged_after x n fault now j =
         let at : ℕ = now.first.place in
         let here = position-Some (λ c. is_some (refusal_by judge c)) now.calls at j.call now.first.refused in
@@ -141,7 +141,7 @@ module _ (options : Options) (scene : Scene) where
         }
 
     -- its call is accepted
-    judged_accepted : (n : ℕ) → HasJudged i None → JudgesEvent judge n e None → HasJudged (i + 1) None
+    judged_accepted : (n : ℕ) → HasChecked i None → ChecksEvent judge n e None → HasChecked (i + 1) None
     judged_accepted n now j = record {
       calls = now.calls ++ j.call ∷ [];
       of_first = calls_more now.calls j.call now.of_first j.of_event;
@@ -149,7 +149,7 @@ module _ (options : Options) (scene : Scene) where
     }
 
     -- its call is the first that is refused
-    judged_refused : (x : Fault) → HasJudged i None → JudgesEvent judge (get_or scene.lines.items i 0) e (Some x) → HasJudged (i + 1) (Some x)
+    judged_refused : (x : Fault) → HasChecked i None → ChecksEvent judge (get_or scene.lines.items i 0) e (Some x) → HasChecked (i + 1) (Some x)
     judged_refused x now j =
         let n : ℕ = get_or scene.lines.items i 0 in
         let long : length now.calls ≡ i = zip_long scene.events.items now.calls i within now.of_first in
@@ -164,10 +164,10 @@ module _ (options : Options) (scene : Scene) where
         }
 
     -- the fault of the first that is refused stays
-    pub judged_more : (refused fault : Option Fault) (n : ℕ) → n ≡ get_or scene.lines.items i 0 → HasJudged i refused → JudgesEvent judge n e fault → HasJudged (i + 1) (option_or refused fault)
+    pub judged_more : (refused fault : Option Fault) (n : ℕ) → n ≡ get_or scene.lines.items i 0 → HasChecked i refused → ChecksEvent judge n e fault → HasChecked (i + 1) (option_or refused fault)
     judged_more (Some x) fault n line now j = judged_after x n fault now j
     judged_more None None n line now j = judged_accepted n now j
-    judged_more None (Some x) n line now j = judged_refused x now (subst (λ k. JudgesEvent judge k e (Some x)) line j)
+    judged_more None (Some x) n line now j = judged_refused x now (subst (λ k. ChecksEvent judge k e (Some x)) line j)
 
 -- of an error or of none
 is_none_where : (o : Option WriteEventError) → is_some o ≡ false → o ≡ None

@@ -20,11 +20,11 @@ use Rattle.scene_events.specs.declared.scene.SceneConfig.{SceneConfig}
 use Rattle.scene_events.specs.declared.scene.event.SceneEvent.{SceneEvent}
 use Rattle.scene_fields.specs.declared.fault.LineFault.TheVariants as line
 use Rattle.scenes.specs.Reports.{HasFirstCalls, StopsStore, StopsText, configuration_for, fault_at_call, store_for}
-use Rattle.scenes.specs.SceneReporter.{BreaksTold}
+use Rattle.scenes.specs.SceneReporter.{BreaksParsed}
 use Rattle.scenes.specs.Unloads.{decider_for}
 use Rattle.command_line.specs.declared.fault.Fault.{Fault}
 use Rattle.command_line.specs.declared.fault.Fault.TheVariants.{Usage, CannotRead, CannotWrite, Line, OutOfMemory, StoreFailed, WriteFailed}
-use Rattle.command_line.specs.declared.words.Options.{Options}
+use Rattle.command_line.specs.declared.args.Options.{Options}
 use Rattle.scenes.proofs.lemmas.Devices.{line_no_store, memory_no_device, memory_no_store, write_no_store}
 use Rattle.scenes.proofs.lemmas.EventCalls.{zip_both}
 
@@ -136,8 +136,8 @@ first_of_more m texts later past a b h = record {
 
 -- what stopped the report of a run stopped that of a longer one whose calls are all accepted
 module _ {W T : Type 0} {m : Meaning W} {k : Meaning T} (laws : WriterLaws m) (others : WriterLaws k) (options : Options) (config : SceneConfig) (es fs : List SceneEvent) (old new : W) (store_old store_new : T) (f : Fault) where
-  pub broke_longer : BreaksTold m k options old new store_old store_new (record { config = config; events = es }) f → (more : List ReportCall) → AllZip IsCallOf fs more →
-      ((calls : List ReportCall) → AllZip IsCallOf (es ++ fs) calls → first_refused (decider_for options config) calls ≡ None) → BreaksTold m k options old new store_old store_new (record { config = config; events = es ++ fs }) f
+  pub broke_longer : BreaksParsed m k options old new store_old store_new (record { config = config; events = es }) f → (more : List ReportCall) → AllZip IsCallOf fs more →
+      ((calls : List ReportCall) → AllZip IsCallOf (es ++ fs) calls → first_refused (decider_for options config) calls ≡ None) → BreaksParsed m k options old new store_old store_new (record { config = config; events = es ++ fs }) f
   broke_longer h more of_more accepted =
       let later : List ReportCall = reverse more in
       let all : reverse (later ++ h.past) ≡ reverse h.past ++ more = reverse-append later h.past ∙ ap (λ x. reverse h.past ++ x) (reverse-reverse more) in

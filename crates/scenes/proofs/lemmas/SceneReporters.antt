@@ -1,5 +1,5 @@
 -- Events reported one after the other, and one that is left (for `SceneReporter::report_event`, `SceneReporter::report_events`, `report_to`, `follow_lines`).
-use Rattle.std.proofs.Common.{◌≡◌, ℕ, suc, ◌+◌, ◌<◌, true, List, [], ◌∷◌, ◌++◌, Option, None, Some, length, take, drop, map, get_or, reverse, refl, sym, ap, ◌∙◌, subst, arith, append-nil, append_assoc, inl, inr}
+use Rattle.std.proofs.Common.{◌≡◌, ℕ, suc, ◌+◌, ◌<◌, true, List, [], ◌∷◌, ◌++◌, None, Some, length, take, drop, map, get_or, reverse, refl, sym, ap, ◌∙◌, subst, arith, append-nil, append_assoc, inl, inr}
 use Rattle.std.proofs.Math.Seq.{drop-cons}
 use Rattle.std.specs.List.{AllZip, slice_get}
 use Rattle.std.specs.Option.{is_some, option_and_then, option_map}
@@ -9,7 +9,7 @@ use Rattle.run_model.specs.declared.call.ReportCall.{ReportCall}
 use Rattle.console_reporter.specs.Accepted.{refusal}
 use Rattle.console_reporter.specs.Configuration.{Configuration}
 use Rattle.console_reporter.specs.Report.{report, text}
-use Rattle.console_reporter.specs.Slots.{store_meaning}
+use Rattle.console_reporter.specs.OptionalStore.{store_meaning}
 use Rattle.console_reporter.specs.HeldState.{StandsAfter}
 use Rattle.console_reporter.specs.Stored.{stored, stored_text}
 use Rattle.console_reporter.specs.Telling.{AreDelivered, Breaks, TellsRun}
@@ -20,7 +20,7 @@ use Rattle.reporter_state.specs.Refusals.{first_refused, refusal_by, refusal_in}
 use Rattle.reporter_state.specs.declared.decider.OutputLoadDecider.{OutputLoadDecider}
 use Rattle.reporter_state.specs.declared.faults.WriteEventError.{WriteEventError}
 use Rattle.reporter_state.specs.declared.faults.WriteEventError.TheVariants.{RetriedSuccess, OutputNotLoaded, Io, Memory, Failed, StoreIo}
-use Rattle.scene_text.specs.SceneTexts.{SaysEvent, Told, with_said}
+use Rattle.scene_text.specs.SceneTexts.{EventLine, ParsedLines, with_line}
 use Rattle.scene_events.specs.Scenes.{IsCallOf}
 use Rattle.scene_events.specs.declared.scene.SceneConfig.{SceneConfig}
 use Rattle.scene_events.specs.declared.scene.event.SceneEvent.{SceneEvent}
@@ -29,16 +29,16 @@ use Rattle.scene_fields.specs.declared.fault.LineFault.TheVariants as line
 use Rattle.scenes.specs.Judged.{IsSceneAccepted}
 use Rattle.scenes.specs.Outcomes.{outcome_after, run_outcome}
 use Rattle.scenes.specs.Reports.{StopsStore, StopsText, configuration_for, fault_at_call}
-use Rattle.scenes.specs.SceneReporter.{BreaksEvent, BreaksOff, Follows, HasTold, HasToldTo, IsStart, LeavesEvent, RefusesEvent, StopsAtEvent, TellsEvent}
-use Rattle.scenes.specs.ToldScenes.{scene_told}
+use Rattle.scenes.specs.SceneReporter.{BreaksEvent, BreaksOff, Follows, HasReported, IsStart, LeavesEvent, RefusesEvent, StopsAtEvent, ReportsEvent}
+use Rattle.scenes.specs.ParsedScenes.{scene_lines}
 use Rattle.scenes.specs.Unloads.{IsReadyCall, decider_for, ready}
 use Rattle.command_line.specs.declared.fault.Fault.{Fault}
 use Rattle.command_line.specs.declared.fault.Fault.TheVariants as fault
-use Rattle.command_line.specs.declared.words.Options.{Options}
+use Rattle.command_line.specs.declared.args.Options.{Options}
 use Rattle.scenes.specs.declared.scene.Scene.{Scene}
 use Rattle.scenes.specs.declared.scene_reporter.SceneReporter.{SceneReporter}
 use Rattle.scenes.proofs.lemmas.Devices.{memory_no_device, memory_no_store}
-use Rattle.scenes.proofs.lemmas.EventCalls.{refusal_of_call, same_first, told_refusal, zip_more}
+use Rattle.scenes.proofs.lemmas.EventCalls.{refusal_of_call, same_first, zip_more}
 use Rattle.scenes.proofs.lemmas.ReadyCalls.{outcome_ready, refusal_ready, report_ready, stored_ready}
 use Rattle.scenes.proofs.lemmas.Refusals.{none_more, none_refused_at}
 use Rattle.scenes.proofs.lemmas.Reports.{broke_longer, device_error, store_behind, store_error, store_joined, text_behind, text_joined, told_more}
@@ -87,7 +87,7 @@ module _ {W S : Type 0} {m : Meaning W} {n : Meaning S} (laws : WriterLaws m) (o
   }
 
   -- of a reporter that has reported this
-  module _ (now next : SceneReporter W S) (run : Told) (follows : Follows m n options start now run) where
+  module _ (now next : SceneReporter W S) (run : ParsedLines) (follows : Follows m n options start now run) where
     here_stands : StandsAfter (configuration_for options run.config) (map (ready options run.config) follows.past) now.reporter
     here_stands = follows.tells.stands (configuration_for options run.config) follows.stands
 
@@ -118,23 +118,23 @@ module _ {W S : Type 0} {m : Meaning W} {n : Meaning S} (laws : WriterLaws m) (o
           ∙ stored_ready options run.config (r.made ∷ follows.past)
 
     -- an event more was reported
-    pub one_told : (e : SceneEvent) → TellsEvent m n options (decider_for options run.config) e now next → AreDelivered m n next.reporter → Follows m n options start next (with_said run (SaysEvent e))
+    pub one_told : (e : SceneEvent) → ReportsEvent m n options (decider_for options run.config) e now next → AreDelivered m n next.reporter → Follows m n options start next (with_line run (EventLine e))
     unfolding run_outcome
-    one_told e told delivered =
-        let r = told.of_event in
+    one_told e parsed_lines delivered =
+        let r = parsed_lines.of_event in
         record {
           past = r.made ∷ follows.past;
-          of_run = calls_more e told.call r;
+          of_run = calls_more e parsed_lines.call r;
           stands = follows.stands;
           tells = subst (λ c. TellsRun m n start.reporter (c ∷ map (ready options run.config) follows.past) next.reporter) r.ready
-              (told_more laws others start.reporter now.reporter next.reporter (map (ready options run.config) follows.past) told.call follows.tells told.tells);
-          accepted = accepted_more e told.call r told.accepted;
+              (told_more laws others start.reporter now.reporter next.reporter (map (ready options run.config) follows.past) parsed_lines.call follows.tells parsed_lines.tells);
+          accepted = accepted_more e parsed_lines.call r parsed_lines.accepted;
           delivered = delivered;
-          outcome = told.outcome ∙ ap (outcome_after now.outcome) r.ready ∙ outcome_ready options run.config now.outcome r.made ∙ ap (λ o. outcome_after o r.made) follows.outcome;
+          outcome = parsed_lines.outcome ∙ ap (outcome_after now.outcome) r.ready ∙ outcome_ready options run.config now.outcome r.made ∙ ap (λ o. outcome_after o r.made) follows.outcome;
         }
 
     -- an event's call broke off
-    pub broke_event : (e : SceneEvent) (f : Fault) → BreaksEvent m n options (decider_for options run.config) e f now next → BreaksOff m n options start next (with_said run (SaysEvent e)) f
+    pub broke_event : (e : SceneEvent) (f : Fault) → BreaksEvent m n options (decider_for options run.config) e f now next → BreaksOff m n options start next (with_line run (EventLine e)) f
     broke_event e f broke =
         let r = broke.of_event in
         let config = configuration_for options run.config in
@@ -204,10 +204,10 @@ module _ {W S : Type 0} {m : Meaning W} {n : Meaning S} (laws : WriterLaws m) (o
         })
 
     -- what was reported stands
-    pub now_told : next ≡ now → HasTold m n options start next run
-    now_told same =
+    pub now_reported : next ≡ now → HasReported m n options start next run
+    now_reported same =
         let config = configuration_for options run.config in
-        subst (λ x. HasTold m n options start x run) (sym same) (record {
+        subst (λ x. HasReported m n options start x run) (sym same) (record {
           past = follows.past;
           of_run = follows.of_run;
           accepted = follows.accepted;
@@ -226,8 +226,8 @@ module _ {W S : Type 0} {m : Meaning W} {n : Meaning S} (laws : WriterLaws m) (o
   module _ (config : SceneConfig) (events : List SceneEvent) (base : List SceneEvent) (place : ℕ) (now next : SceneReporter W S) (e : SceneEvent) (within : place < length events) (is : e ≡ get_or events place e)
       (follows : Follows m n options start now (record { config = config; events = base ++ take place events })) where
     -- was reported
-    pub told_to : TellsEvent m n options (decider_for options config) e now next → AreDelivered m n next.reporter → Follows m n options start next (record { config = config; events = base ++ take (place + 1) events })
-    told_to tells delivered =
+    pub reported_to : ReportsEvent m n options (decider_for options config) e now next → AreDelivered m n next.reporter → Follows m n options start next (record { config = config; events = base ++ take (place + 1) events })
+    reported_to tells delivered =
         let more : take (place + 1) events ≡ take place events ++ e ∷ [] = take_more events place e within ∙ ap (λ x. take place events ++ x ∷ []) (sym is) in
         let all : (base ++ take place events) ++ e ∷ [] ≡ base ++ take (place + 1) events = append_assoc base (take place events) (e ∷ []) ∙ ap (λ xs. base ++ xs) (sym more) in
         subst (λ xs. Follows m n options start next (record { config = config; events = xs })) all (one_told now next (record { config = config; events = base ++ take place events }) follows e tells delivered)
@@ -273,20 +273,20 @@ module _ (options : Options) (scene : Scene) (accepted : IsSceneAccepted options
 
   module _ {W S : Type 0} {m : Meaning W} {n : Meaning S} (laws : WriterLaws m) (others : WriterLaws n) (start new : SceneReporter W S) where
     -- what stopped the report of its first events stopped that of all
-    broke_scene : (es fs : List SceneEvent) → scene.events.items ≡ es ++ fs → (f : Fault) → BreaksOff m n options start new (record { config = scene.config; events = es }) f → BreaksOff m n options start new (scene_told scene) f
+    broke_scene : (es fs : List SceneEvent) → scene.events.items ≡ es ++ fs → (f : Fault) → BreaksOff m n options start new (record { config = scene.config; events = es }) f → BreaksOff m n options start new (scene_lines scene) f
     broke_scene es fs whole f broke =
         let more = zip_after es fs accepted.calls (subst (λ x. AllZip IsCallOf x accepted.calls) whole accepted.of_scene) in
         subst (λ x. BreaksOff m n options start new (record { config = scene.config; events = x }) f) (sym whole)
         (broke_longer laws (store-laws others) options scene.config es fs start.reporter.writer.now new.reporter.writer.now start.reporter.store new.reporter.store f broke more.0 more.1
         (λ calls of_all. all_accepted calls (subst (λ x. AllZip IsCallOf x calls) (sym whole) of_all)))
 
-    stops_broken : (f : Fault) (s : StopsAtEvent m n options scene.config scene.events.items scene.lines.items [] f start new) → BreaksEvent m n options (decider_for options scene.config) s.event f s.now new → BreaksOff m n options start new (scene_told scene) f
+    stops_broken : (f : Fault) (s : StopsAtEvent m n options scene.config scene.events.items scene.lines.items [] f start new) → BreaksEvent m n options (decider_for options scene.config) s.event f s.now new → BreaksOff m n options start new (scene_lines scene) f
     stops_broken f s broke =
         broke_scene (s.front ++ s.event ∷ []) s.rest (s.whole ∙ sym (append_assoc s.front (s.event ∷ []) s.rest)) f
         (broke_event laws others options start s.now new (record { config = scene.config; events = s.front }) s.follows s.event f broke)
 
     -- so what leaves an event of it is no refusal
-    pub stops_scene : (f : Fault) → StopsAtEvent m n options scene.config scene.events.items scene.lines.items [] f start new → BreaksOff m n options start new (scene_told scene) f
+    pub stops_scene : (f : Fault) → StopsAtEvent m n options scene.config scene.events.items scene.lines.items [] f start new → BreaksOff m n options start new (scene_lines scene) f
     stops_scene fault.Usage s = absurd s.leaves
     stops_scene (fault.CannotRead file) s = absurd s.leaves
     stops_scene (fault.CannotWrite file) s = absurd s.leaves

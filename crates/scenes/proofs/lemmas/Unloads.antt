@@ -6,7 +6,7 @@ use Rattle.run_model.specs.declared.call.ReportCall.{ReportCall}
 use Rattle.scenes.specs.Reports.{AreCallsOf}
 use Rattle.scenes.specs.Unloads.{AreReadyCallsOf, decider_for}
 use Rattle.scenes.specs.declared.scene.Scene.{Scene}
-use Rattle.command_line.specs.declared.words.Options.{Options}
+use Rattle.command_line.specs.declared.args.Options.{Options}
 
 module _ (options : Options) (scene : Scene) where
   -- nothing is left unread

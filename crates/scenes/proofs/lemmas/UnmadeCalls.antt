@@ -1,4 +1,4 @@
--- Events whose call need not be made to judge them (for `judge_event`).
+-- Events whose call need not be made to judge them (for `check_refusal`).
 use Rattle.std.proofs.Common.{◌≡◌, ℕ, Bool, true, false, not, ◌||◌, None, refl, sym, ap, ◌∙◌, inl, inr}
 use Rattle.std.specs.Option.{option_map}
 use Rattle.std.proofs.lemmas.Bool.{cases_Bool, false≢true}
@@ -16,12 +16,12 @@ use Rattle.run_model.specs.declared.event.TestEventKind.TheVariants as kind
 use Rattle.run_model.specs.declared.info.InfoResponse.TheVariants as response
 use Rattle.run_names.specs.declared.name.TestInstanceId.{TestInstanceId}
 use Rattle.scene_events.specs.SceneAttempts.{script_status}
-use Rattle.scene_events.specs.Scenes.{IsCallOf, SaysSame, needs_judging, nothing_counted, told_elapsed}
+use Rattle.scene_events.specs.Scenes.{IsCallOf, SaysSame, may_be_refused, nothing_counted, elapsed_of}
 use Rattle.scene_events.specs.States.{unit_state}
 use Rattle.scene_events.specs.declared.scene.event.SceneEvent.{SceneEvent}
 use Rattle.scene_events.specs.declared.scene.event.SceneEvent.TheVariants as scene
 use Rattle.scene_events.specs.declared.scene.test_events.SceneTest.{SceneTest}
-use Rattle.scenes.specs.Judged.{JudgesEvent}
+use Rattle.scenes.specs.Judged.{ChecksEvent}
 use Rattle.scenes.specs.Reports.{fault_at_call}
 use Rattle.scenes.proofs.lemmas.EventCalls.{lacking, lacking_attempt, refusal_of_call, told_refusal}
 
@@ -46,15 +46,15 @@ named t = record { binary_id = lent t.binary_id; test_name = lent t.test_name }
 
 -- the call that says the same
 abbrev told_call : SceneEvent → TestEventKind → ReportCall
-told_call event k = call.Event (record { elapsed = record { 0 = told_elapsed event }; kind = k })
+told_call event k = call.Event (record { elapsed = record { 0 = elapsed_of event }; kind = k })
 
-judged_by : (d : OutputLoadDecider) (event : SceneEvent) (k : TestEventKind) → SaysSame event k → told_refusal d event ≡ None → (n : ℕ) → JudgesEvent d n event None
+judged_by : (d : OutputLoadDecider) (event : SceneEvent) (k : TestEventKind) → SaysSame event k → told_refusal d event ≡ None → (n : ℕ) → ChecksEvent d n event None
 judged_by d event k same none n =
     let of_event : IsCallOf event (told_call event k) = (refl, same) in
     record { call = told_call event k; of_event = of_event; is = sym (ap (option_map (fault_at_call n)) (refusal_of_call d event (told_call event k) of_event ∙ none)) }
 
 -- an event that needs no judging is refused by no reporter
-pub judged_unmade : (d : OutputLoadDecider) (event : SceneEvent) → needs_judging event ≡ false → (n : ℕ) → JudgesEvent d n event None
+pub judged_unmade : (d : OutputLoadDecider) (event : SceneEvent) → may_be_refused event ≡ false → (n : ℕ) → ChecksEvent d n event None
 judged_unmade d (scene.Prefix p) off = λ n. record { call = call.Prefix p; of_event = refl; is = refl }
 judged_unmade d (scene.Header h) off = absurd (false≢true (sym off))
 judged_unmade d (scene.RunStarted e) off = judged_by d (scene.RunStarted e) (kind.RunStarted e.test_list e.run_id e.profile_name) (refl, refl, refl) refl

@@ -16,7 +16,7 @@ use Rattle.run_model.specs.declared.status.FlakyResult.TheVariants as flaky
 use Rattle.plain_text.specs.Lossy.{decoded_text}
 use Rattle.plain_text.specs.Texts.{Text}
 use Rattle.plain_text.proofs.lemmas.Decoded.{decoded-same}
-use Rattle.event_text.specs.ResultWords.{short_word}
+use Rattle.text_parts.specs.ResultWords.{short_word}
 use Rattle.store_text.specs.Netstring.{netstring, netstring_head}
 use Rattle.store_text.specs.Record.{record_text}
 use Rattle.store_text.specs.StoredOutput.{stored_output}

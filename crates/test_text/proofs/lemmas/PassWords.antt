@@ -5,7 +5,7 @@ use Rattle.std.proofs.lemmas.Str.{chars-IsAscii}
 use Rattle.run_model.specs.declared.status.ExecutionResultDescription.TheVariants as outcome
 use Rattle.plain_text.specs.Texts.{right_in}
 use Rattle.plain_text.proofs.lemmas.Decimals.{IsAscii-cons, IsAscii-none}
-use Rattle.event_text.specs.ResultWords.{success_word}
+use Rattle.text_parts.specs.ResultWords.{success_word}
 
 -- four characters of ASCII in twelve columns
 four_columns : (a b c d : ℕ) → a < 128 → b < 128 → c < 128 → d < 128

@@ -15,16 +15,16 @@ use Rattle.report_words.proofs.lemmas.ColourPairs.{IsColourPair, colour_pair-non
 use Rattle.unit_report.proofs.lemmas.DurationColourPairs.{colour_pair-bracketed_duration}
 use Rattle.unit_report.specs.PlainOutputs.{IsPlainWritten}
 use Rattle.test_text.specs.TestFinished.{TestFinish, line_at_once, output_at_once, test_finished_text}
-use Rattle.event_text.specs.Finish.{is_line_shown}
+use Rattle.text_parts.specs.Finish.{is_line_shown}
 use Rattle.test_text.specs.StatusLine.{flaky_words, status_words, status_prefix, flaky_note, flaky_failure_line, status_line}
-use Rattle.event_text.specs.declared.instance.CountedInstance.{CountedInstance}
-use Rattle.event_text.specs.declared.settings.Settings.{Settings}
+use Rattle.text_parts.specs.declared.instance.CountedInstance.{CountedInstance}
+use Rattle.text_parts.specs.declared.settings.Settings.{Settings}
 use Rattle.test_text.specs.declared.status_line.StatusLineKind.{StatusLineKind}
 use Rattle.test_text.specs.declared.status_line.StatusLineKind.TheVariants.{Intermediate, Final}
 use Rattle.run_names.specs.declared.unit.UnitKind.TheVariants as unit
-use Rattle.event_text.proofs.lemmas.LineColourPairs.{painted, IsPlainTest}
-use Rattle.event_text.proofs.lemmas.OutputColourPairs.{colour_pair-unit_output}
-use Rattle.event_text.proofs.lemmas.ResultColourPairs.{free-long_word, free-short_word, free-success_word, colour_pair-abort_line}
+use Rattle.text_parts.proofs.lemmas.LineColourPairs.{painted, IsPlainTest}
+use Rattle.text_parts.proofs.lemmas.OutputColourPairs.{colour_pair-unit_output}
+use Rattle.text_parts.proofs.lemmas.ResultColourPairs.{free-long_word, free-short_word, free-success_word, colour_pair-abort_line}
 
 free-flaky_words : (kind : StatusLineKind) (x : FlakyResult) (retry : RetryData) → HasNoEscape (flaky_words kind x retry)
 free-flaky_words Intermediate x retry = search frees depth 12

@@ -16,18 +16,18 @@ use Rattle.report_text.proofs.lemmas.FreeDetails.{free-shell_words}
 use Rattle.report_words.proofs.lemmas.ColourPairs.{IsColourPair, colour_pair-none, colour_pair-if, colour_pair-append, colour_pair-free, colour_pairs}
 use Rattle.unit_report.proofs.lemmas.DurationColourPairs.{duration_colour_pairs}
 use Rattle.unit_report.specs.PlainOutputs.{IsPlainWritten}
-use Rattle.event_text.specs.Instance.{padded_instance}
+use Rattle.text_parts.specs.Instance.{padded_instance}
 use Rattle.test_text.specs.TestRetry.{attempt_failed_line, is_failed_output_shown, failed_output, delay_line, attempt_failed_text}
 use Rattle.run_model.specs.Attempts.{Attempt}
-use Rattle.event_text.specs.Settings.{is_level_shown, shows_starts}
+use Rattle.text_parts.specs.Settings.{is_level_shown, shows_starts}
 use Rattle.test_text.specs.TestSkipped.{skip_line, test_skipped_text}
 use Rattle.test_text.specs.TestSlow.{slow_end, slow_word, slow_text, terminating_word, terminating_text, is_level_exceeded, has_number, test_slow_text}
 use Rattle.test_text.specs.TestStarted.{started_instance, start_line, retry_start_line, command_text, test_started_text, test_retry_started_text}
-use Rattle.event_text.specs.declared.instance.CountedInstance.{CountedInstance}
-use Rattle.event_text.specs.declared.settings.Settings.{Settings}
-use Rattle.event_text.proofs.lemmas.LineColourPairs.{painted, IsPlainTest, plain-started_counter, plain-padded, colour_pair-instance_end, colour_pair-untimed_end}
-use Rattle.event_text.proofs.lemmas.OutputColourPairs.{colour_pair-unit_output}
-use Rattle.event_text.proofs.lemmas.ResultColourPairs.{free-short_word}
+use Rattle.text_parts.specs.declared.instance.CountedInstance.{CountedInstance}
+use Rattle.text_parts.specs.declared.settings.Settings.{Settings}
+use Rattle.text_parts.proofs.lemmas.LineColourPairs.{painted, IsPlainTest, plain-started_counter, plain-padded, colour_pair-instance_end, colour_pair-untimed_end}
+use Rattle.text_parts.proofs.lemmas.OutputColourPairs.{colour_pair-unit_output}
+use Rattle.text_parts.proofs.lemmas.ResultColourPairs.{free-short_word}
 
 -- a test that is not run
 pub colour_pair-skip_line : (k : Bool) (s : Settings) (test : CountedInstance) → IsPlainTest test → IsColourPair k (skip_line (painted true s) test) (skip_line (painted false s) test)

@@ -1,7 +1,7 @@
 //! Pieces that cut a sequence, and line feeds at the end of a piece.
 
-use plain_text::end_line::EndLine;
 use plain_text::stripped::{StrippedPieces, write_stripped_text};
+use plain_text::trailing_newline::TrailingNewline;
 use plain_text::write_str::{WriteFault, WriteStr};
 use std::test::Fail;
 
@@ -15,10 +15,13 @@ fn write_stripped_pieces<W: WriteStr>(w: &mut W, pieces: &[&str]) -> Result<(), 
 }
 
 // Writes the pieces without the line feed that closes them.
-fn write_without_end_line<W: WriteStr>(w: &mut W, pieces: &[&str]) -> Result<(), WriteFault> {
-    let mut end_line = EndLine::new();
+fn write_without_trailing_newline<W: WriteStr>(
+    w: &mut W,
+    pieces: &[&str],
+) -> Result<(), WriteFault> {
+    let mut trailing_newline = TrailingNewline::new();
     for piece in pieces {
-        end_line.write(w, piece)?;
+        trailing_newline.write(w, piece)?;
     }
     Ok(())
 }
@@ -45,7 +48,7 @@ fn pieces_are_written_as_one_text(rt: HostRuntime) -> Result<(), Fail> {
         write_stripped_pieces(&mut written, &[first, second])?;
         assert_eq!(rt; written.as_str(), stripped);
         let mut written = String::new(rt.alloc());
-        write_without_end_line(&mut written, &[first, second])?;
+        write_without_trailing_newline(&mut written, &[first, second])?;
         assert_eq!(rt; written.as_str(), held_back);
     }
     let mut written = String::new(rt.alloc());

@@ -3,7 +3,7 @@ use Rattle.std.proofs.Common.{◌≡◌, ℕ, ◌<◌, Bool, true, false, List, 
 use Rattle.std.specs.List.{AllByRecursion, flat_map}
 use Rattle.std.proofs.lemmas.Bool.{cases_Bool, eqb-true}
 use Rattle.run_model.specs.Outputs.{Part}
-use Rattle.plain_text.specs.EndLine.{without_end_line, ends_in_line_feed}
+use Rattle.plain_text.specs.TrailingNewline.{without_trailing_newline, ends_in_line_feed}
 use Rattle.plain_text.specs.Escapes.{visible_after, visible, HasNoEscape}
 use Rattle.plain_text.specs.Highlights.{highlight_end}
 use Rattle.plain_text.specs.Indent.{indent}
@@ -14,11 +14,11 @@ use Rattle.plain_text.specs.declared.style.Style.{Style}
 use Rattle.unit_report.specs.Captured.{plain_output, reset_output, highlighted_output, is_valid, highlight_stop, highlighted_by, coloured_output, captured}
 use Rattle.plain_text.specs.Lines.{onto_first_line, whole_lines}
 use Rattle.unit_report.specs.HighlightedLines.{body_len, highlighted_line, highlighted_lines}
-use Rattle.plain_text.specs.Alike.{without_end_spaces}
+use Rattle.plain_text.specs.EqualButEndSpaces.{without_end_spaces}
 use Rattle.plain_text.proofs.lemmas.Pieces.{free_parts, visible-free}
 use Rattle.plain_text.proofs.lemmas.Widths.{free_both, visible-free_append}
 use Rattle.report_words.proofs.lemmas.FreeWords.{free-take, free-drop, free-indent, free-visible}
-use Rattle.plain_text.proofs.lemmas.AlikeIndents.{IsBlank}
+use Rattle.plain_text.proofs.lemmas.IndentedEndSpaces.{IsBlank}
 use Rattle.report_words.proofs.lemmas.ColourPairs.{IsColourPair, prefix-append, suffix-append, reset-append, colour_pair-indent}
 use Rattle.report_words.specs.PlainTexts.{HoldsIf}
 use Rattle.unit_report.specs.PlainOutputs.{IsInside, IsPlainStream}
@@ -46,44 +46,44 @@ colour_pair-indent_ended k p c u h blank e = record {
   plain = λ q. free-indent p true u h (e.plain q);
 }
 
-free-without_end_line : (t : Text) → HasNoEscape t → HasNoEscape (without_end_line t)
-unfolding without_end_line
-free-without_end_line [] h = refl
-free-without_end_line (c ∷ []) h = elim (cases_Bool (c == 10)) [ inl e ↦ rw e refl | inr n ↦ rw n h ]
-free-without_end_line (c ∷ d ∷ t) h = let both = free_parts c (d ∷ t) h in rw (both.0, free-without_end_line (d ∷ t) both.1) refl
+free-without_trailing_newline : (t : Text) → HasNoEscape t → HasNoEscape (without_trailing_newline t)
+unfolding without_trailing_newline
+free-without_trailing_newline [] h = refl
+free-without_trailing_newline (c ∷ []) h = elim (cases_Bool (c == 10)) [ inl e ↦ rw e refl | inr n ↦ rw n h ]
+free-without_trailing_newline (c ∷ d ∷ t) h = let both = free_parts c (d ∷ t) h in rw (both.0, free-without_trailing_newline (d ∷ t) both.1) refl
 
 -- the text without a highlight, before its line feed
-visible-reset : (t : Text) → HasNoEscape t → visible (without_end_line t ++ reset_color) ≡ without_end_line t
+visible-reset : (t : Text) → HasNoEscape t → visible (without_trailing_newline t ++ reset_color) ≡ without_trailing_newline t
 unfolding visible_after
-visible-reset t h = visible-free_append (without_end_line t) reset_color (free-without_end_line t h)
-    ∙ ap (λ x. without_end_line t ++ x) (ap visible (sym (append-nil reset_color)) ∙ reset-append []) ∙ append-nil (without_end_line t)
+visible-reset t h = visible-free_append (without_trailing_newline t) reset_color (free-without_trailing_newline t h)
+    ∙ ap (λ x. without_trailing_newline t ++ x) (ap visible (sym (append-nil reset_color)) ∙ reset-append []) ∙ append-nil (without_trailing_newline t)
 
 ended-reset : (t : Text) → HasNoEscape t → IsEndedColour (reset_output t) (plain_output t)
 unfolding reset_output plain_output
 ended-reset t h = record {
-  coloured = without_end_line t ++ reset_color;
-  uncoloured = without_end_line t;
-  coloured_is = sym (append_assoc (without_end_line t) reset_color (10 ∷ []));
-  uncoloured_is = ap (λ x. without_end_line x ++ 10 ∷ []) (visible-free t h);
+  coloured = without_trailing_newline t ++ reset_color;
+  uncoloured = without_trailing_newline t;
+  coloured_is = sym (append_assoc (without_trailing_newline t) reset_color (10 ∷ []));
+  uncoloured_is = ap (λ x. without_trailing_newline x ++ 10 ∷ []) (visible-free t h);
   same = visible-reset t h;
 }
 
-no_end_line : (t : Text) → ends_in_line_feed t ≡ false → without_end_line t ≡ t
-unfolding without_end_line ends_in_line_feed
-no_end_line [] h = refl
-no_end_line (c ∷ []) h = rw h refl
-no_end_line (c ∷ d ∷ t) h = ap (λ l. c ∷ l) (no_end_line (d ∷ t) h)
+no_trailing_newline : (t : Text) → ends_in_line_feed t ≡ false → without_trailing_newline t ≡ t
+unfolding without_trailing_newline ends_in_line_feed
+no_trailing_newline [] h = refl
+no_trailing_newline (c ∷ []) h = rw h refl
+no_trailing_newline (c ∷ d ∷ t) h = ap (λ l. c ∷ l) (no_trailing_newline (d ∷ t) h)
 
-without_end_line-more : (t : Text) (d : ℕ) (u : Text) → without_end_line (t ++ d ∷ u) ≡ t ++ without_end_line (d ∷ u)
-unfolding without_end_line
-without_end_line-more [] d u = refl
-without_end_line-more (c ∷ []) d u = refl
-without_end_line-more (c ∷ e ∷ t) d u = ap (λ l. c ∷ l) (without_end_line-more (e ∷ t) d u)
+without_trailing_newline-more : (t : Text) (d : ℕ) (u : Text) → without_trailing_newline (t ++ d ∷ u) ≡ t ++ without_trailing_newline (d ∷ u)
+unfolding without_trailing_newline
+without_trailing_newline-more [] d u = refl
+without_trailing_newline-more (c ∷ []) d u = refl
+without_trailing_newline-more (c ∷ e ∷ t) d u = ap (λ l. c ∷ l) (without_trailing_newline-more (e ∷ t) d u)
 
-without_end_line-inside : (t u : Text) → (ends_in_line_feed (t ++ u) ≡ true → 0 < length u) → without_end_line (t ++ u) ≡ t ++ without_end_line u
-unfolding without_end_line
-without_end_line-inside t [] h = elim (cases_Bool (ends_in_line_feed (t ++ []))) [ inl y ↦ absurd (let l = h y in omega arith) | inr n ↦ no_end_line (t ++ []) n ]
-without_end_line-inside t (d ∷ u) h = without_end_line-more t d u
+without_trailing_newline-inside : (t u : Text) → (ends_in_line_feed (t ++ u) ≡ true → 0 < length u) → without_trailing_newline (t ++ u) ≡ t ++ without_trailing_newline u
+unfolding without_trailing_newline
+without_trailing_newline-inside t [] h = elim (cases_Bool (ends_in_line_feed (t ++ []))) [ inl y ↦ absurd (let l = h y in omega arith) | inr n ↦ no_trailing_newline (t ++ []) n ]
+without_trailing_newline-inside t (d ∷ u) h = without_trailing_newline-more t d u
 
 line_parts : (l : Text) (n : ℕ) → take n l ++ drop n l ≡ l
 line_parts l n = take-append-drop n l
@@ -132,15 +132,15 @@ ended-parts : (s : Style) (front lit back : Text) → HasNoEscape front → HasN
     → IsEndedColour (highlighted_output s front lit back) (plain_output ((front ++ lit) ++ back))
 unfolding highlighted_output plain reset_output plain_output
 ended-parts s front lit back a b d inside = record {
-  coloured = front ++ (reset_color ++ (highlighted_lines s lit ++ (without_end_line back ++ reset_color)));
-  uncoloured = (front ++ lit) ++ without_end_line back;
-  coloured_is = assoc_five front reset_color (highlighted_lines s lit) (without_end_line back) reset_color (10 ∷ []);
-  uncoloured_is = ap (λ x. without_end_line x ++ 10 ∷ []) (visible-free ((front ++ lit) ++ back) (free_both (front ++ lit) back (free_both front lit a b) d))
-      ∙ ap (λ x. x ++ 10 ∷ []) (without_end_line-inside (front ++ lit) back inside);
-  same = visible-free_append front (reset_color ++ (highlighted_lines s lit ++ (without_end_line back ++ reset_color))) a
-      ∙ ap (λ x. front ++ x) (reset-append (highlighted_lines s lit ++ (without_end_line back ++ reset_color))
-      ∙ highlighted-append s lit (without_end_line back ++ reset_color) b ∙ ap (λ x. lit ++ x) (visible-reset back d))
-      ∙ sym (append_assoc front lit (without_end_line back));
+  coloured = front ++ (reset_color ++ (highlighted_lines s lit ++ (without_trailing_newline back ++ reset_color)));
+  uncoloured = (front ++ lit) ++ without_trailing_newline back;
+  coloured_is = assoc_five front reset_color (highlighted_lines s lit) (without_trailing_newline back) reset_color (10 ∷ []);
+  uncoloured_is = ap (λ x. without_trailing_newline x ++ 10 ∷ []) (visible-free ((front ++ lit) ++ back) (free_both (front ++ lit) back (free_both front lit a b) d))
+      ∙ ap (λ x. x ++ 10 ∷ []) (without_trailing_newline-inside (front ++ lit) back inside);
+  same = visible-free_append front (reset_color ++ (highlighted_lines s lit ++ (without_trailing_newline back ++ reset_color))) a
+      ∙ ap (λ x. front ++ x) (reset-append (highlighted_lines s lit ++ (without_trailing_newline back ++ reset_color))
+      ∙ highlighted-append s lit (without_trailing_newline back ++ reset_color) b ∙ ap (λ x. lit ++ x) (visible-reset back d))
+      ∙ sym (append_assoc front lit (without_trailing_newline back));
 }
   where
     assoc_five : (p q r x y z : Text) → p ++ (q ++ (r ++ (x ++ (y ++ z)))) ≡ (p ++ (q ++ (r ++ (x ++ y)))) ++ z
@@ -167,7 +167,7 @@ coloured-captured t (Some h) free inside = elim (cases_Bool (is_valid t h)) [
 -- the plain one holds no escape character, whatever the output and its highlight are
 plain-captured : (t : Text) (o : Option Part) → HasNoEscape (captured (styles_of false) t o)
 unfolding captured plain_output
-plain-captured t o = free_both (without_end_line (visible t)) (10 ∷ []) (free-without_end_line (visible t) (free-visible t)) refl
+plain-captured t o = free_both (without_trailing_newline (visible t)) (10 ∷ []) (free-without_trailing_newline (visible t) (free-visible t)) refl
 
 pub ended-captured : (k : Bool) (bytes : Text) (o : Option Part) → IsPlainStream k o bytes → IsEndedColourPair k (captured (styles_of true) (decoded_text bytes) o) (captured (styles_of false) (decoded_text bytes) o)
 ended-captured true bytes o h = record { coloured = λ q. coloured-captured (decoded_text bytes) o h.0 h.1; plain = λ q. cc }

@@ -25,7 +25,7 @@ use Rattle.unit_report.specs.declared.unit_output.header.OutputName.{OutputName}
 use Rattle.unit_report.specs.declared.unit_output.header.OutputName.TheVariants as name
 use Rattle.unit_report.specs.declared.unit_output.reporter.UnitOutputReporter.{UnitOutputReporter}
 use Rattle.report_words.proofs.lemmas.FreeWords.{frees}
-use Rattle.plain_text.proofs.lemmas.AlikeIndents.{IsBlank}
+use Rattle.plain_text.proofs.lemmas.IndentedEndSpaces.{IsBlank}
 use Rattle.report_words.proofs.lemmas.ColourPairs.{IsColourPair, colour_pair-none, colour_pair-append, colour_pair-free, colour_pair-if, colour_pairs}
 use Rattle.report_words.specs.PlainTexts.{HoldsIf, IsPlainChain}
 use Rattle.unit_report.specs.PlainOutputs.{IsPlainStream, IsPlainOutput, IsPlainWritten}

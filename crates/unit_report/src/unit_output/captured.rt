@@ -5,7 +5,7 @@
 
 ghost use Rattle.std.specs.Prelude.{◌≡◌, true, false, take, drop, MatchOption};
 ghost use Rattle.run_model.specs.Outputs.{subslice_value};
-ghost use Rattle.plain_text.specs.EndLine.{without_end_line};
+ghost use Rattle.plain_text.specs.TrailingNewline.{without_trailing_newline};
 ghost use Rattle.plain_text.specs.Escapes.{visible};
 ghost use Rattle.plain_text.specs.Highlights.{highlight_end};
 ghost use Rattle.plain_text.specs.Lossy.{decoded_text, front_text};
@@ -13,11 +13,11 @@ ghost use Rattle.plain_text.specs.Writer.{Puts};
 ghost use Rattle.unit_report.specs.Captured.{captured, coloured_output, highlighted_output, highlight_stop, is_valid, part_value, plain_output, reset_output};
 
 use super::highlighted_lines::write_highlighted_lines;
-use plain_text::end_line::EndLine;
 use plain_text::lossy::LossyText;
 use plain_text::reporter_helpers::highlight_end;
 use plain_text::stripped::{StrippedPieces, write_stripped_text};
 use plain_text::style::{RESET_COLOR, Style, Styles, write_plain};
+use plain_text::trailing_newline::TrailingNewline;
 use plain_text::write_str::{WriteFault, WriteStr};
 use run_model::output::ByteSubslice;
 use std::str;
@@ -51,7 +51,7 @@ fn write_plain_output<W: WriteStr>(w: &mut W, text: LossyText<'_>) -> Result<(),
 
 // Writes the text without escape sequences, and without one line feed that closes what is left.
 fn write_stripped<W: WriteStr>(w: &mut W, text: LossyText<'_>) -> Result<(), WriteFault>
-    ensures { Puts W.meaning w.old (without_end_line (visible text.entry)) result w.new }
+    ensures { Puts W.meaning w.old (without_trailing_newline (visible text.entry)) result w.new }
 {
     match text.split_first() {
         // Most output is UTF-8, and one piece.
@@ -62,7 +62,7 @@ fn write_stripped<W: WriteStr>(w: &mut W, text: LossyText<'_>) -> Result<(), Wri
 
 // The same, piece by piece.
 fn write_stripped_pieces<W: WriteStr>(w: &mut W, text: LossyText<'_>) -> Result<(), WriteFault>
-    ensures { Puts W.meaning w.old (without_end_line (visible text.entry)) result w.new }
+    ensures { Puts W.meaning w.old (without_trailing_newline (visible text.entry)) result w.new }
 {
     let mut stripped = StrippedPieces::new();
     let mut rest = text;
@@ -137,18 +137,21 @@ fn write_highlighted<W: WriteStr>(
 fn write_reset_output<W: WriteStr>(w: &mut W, text: LossyText<'_>) -> Result<(), WriteFault>
     ensures { Puts W.meaning w.old (reset_output text.entry) result w.new }
 {
-    write_without_end_line(w, text)?;
+    write_without_trailing_newline(w, text)?;
     w.write_str("\x1b[0m\n")
 }
 
 // Writes the text without one line feed that closes it.
-fn write_without_end_line<W: WriteStr>(w: &mut W, text: LossyText<'_>) -> Result<(), WriteFault>
-    ensures { Puts W.meaning w.old (without_end_line text.entry) result w.new }
+fn write_without_trailing_newline<W: WriteStr>(
+    w: &mut W,
+    text: LossyText<'_>,
+) -> Result<(), WriteFault>
+    ensures { Puts W.meaning w.old (without_trailing_newline text.entry) result w.new }
 {
-    let mut end_line = EndLine::new();
+    let mut trailing_newline = TrailingNewline::new();
     let mut rest = text;
     while let Some((piece, after)) = rest.split_first() {
-        end_line.write(w, piece)?;
+        trailing_newline.write(w, piece)?;
         rest = after;
     }
     Ok(())

@@ -1,7 +1,7 @@
 use Rattle.std.proofs.Common.{length}
 use denote.Text.{Utf8}
 use denote.Shadow.{shadow}
-use Rattle.plain_text.specs.EndLine.{without_end_line}
+use Rattle.plain_text.specs.TrailingNewline.{without_trailing_newline}
 use Rattle.plain_text.specs.Escapes.{visible}
 use Rattle.plain_text.specs.GatheredPieces.{unwritten}
 use Rattle.plain_text.specs.Writer.{Owes}
@@ -11,7 +11,7 @@ use Rattle.plain_text.proofs.stripped.write_gathered.Given as goal
 abbrev pub invariant-loop-rest : goal.invariant-loop-rest
 invariant-loop-rest g l = record {
   text : shadow (Utf8 l.rest);
-  owed : Owes g.W.WriteStr.meaning l.fn.w (without_end_line (visible l.fn.text)) l.w (unwritten l.gathered (visible l.rest));
+  owed : Owes g.W.WriteStr.meaning l.fn.w (without_trailing_newline (visible l.fn.text)) l.w (unwritten l.gathered (visible l.rest));
 }
 
 abbrev pub decreases-loop-rest : goal.decreases-loop-rest

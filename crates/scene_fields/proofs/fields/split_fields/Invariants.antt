@@ -1,7 +1,7 @@
 use Rattle.std.proofs.Common.{◌≡◌, ◌++◌, ◌+◌, ◌-◌, ◌≤◌, drop, length}
 use Rattle.std.specs.Str.{IsCharBoundary}
 use Rattle.memchr.specs.Find.{is_byte, Nowhere, Passes}
-use Rattle.scene_fields.specs.Split.{parted, field_texts}
+use Rattle.scene_fields.specs.Split.{split_on, field_texts}
 use Rattle.scene_fields.proofs.lemmas.Marks.{AreLeft}
 use Rattle.scene_fields.proofs.fields.split_fields.Given as goal
 
@@ -11,7 +11,7 @@ invariant-loop-from l = record {
   near : l.start ≤ l.from;
   boundary : IsCharBoundary l.line l.start;
   seen : Nowhere (Passes (is_byte 9) l.line) l.start l.from;
-  fields : field_texts l.fields.items ++ parted 9 (drop l.start l.line) ≡ parted 9 l.line;
+  fields : field_texts l.fields.items ++ split_on 9 (drop l.start l.line) ≡ split_on 9 l.line;
 }
 
 abbrev pub decreases-loop-from : goal.decreases-loop-from
@@ -22,7 +22,7 @@ invariant-loop-tabs l = record {
   near : l.start ≤ l.from + 32;
   boundary : IsCharBoundary l.line l.start;
   left : AreLeft 9 l.line l.start l.from l.tabs;
-  fields : field_texts l.fields.items ++ parted 9 (drop l.start l.line) ≡ parted 9 l.line;
+  fields : field_texts l.fields.items ++ split_on 9 (drop l.start l.line) ≡ split_on 9 l.line;
 }
 
 abbrev pub decreases-loop-tabs : goal.decreases-loop-tabs

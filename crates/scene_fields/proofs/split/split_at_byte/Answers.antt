@@ -1,8 +1,8 @@
 use Rattle.std.proofs.Common.{◌≡◌, ◌<◌, length, get_or, take, arith, sym, ap, ◌∙◌}
 use Rattle.std.proofs.lemmas.Bool.Decides.{nat_tests}
 use Rattle.std.proofs.lemmas.Str.{IsCharBoundary-after_ascii}
-use Rattle.scene_fields.specs.Split.{parted, cut}
-use Rattle.scene_fields.proofs.lemmas.Cuts.{Lacks-from_each, cut_at, parted-lacks, parted-parts, cut-lacks, cut-parts}
+use Rattle.scene_fields.specs.Split.{split_on, cut}
+use Rattle.scene_fields.proofs.lemmas.Cuts.{Lacks-from_each, cut_at, split_on-lacks, split_on-parts, cut-lacks, cut-parts}
 use Rattle.scene_fields.proofs.split.split_at_byte.Goals as goal
 
 pub range_from-requires : goal.range_from-requires
@@ -15,7 +15,7 @@ range_from-requires c above =
 pub returns-in_default : goal.returns-in_default
 returns-in_default c =
     let lacks = Lacks-from_each c.args.byte c.args.text.now (rw c.as_bytes.ensures.value at c.in_default.ensures) in
-    record { parts = lacks; shorter = tt; parted = parted-lacks c.args.byte c.args.text.now lacks; cut = cut-lacks c.args.byte c.args.text.now lacks }
+    record { parts = lacks; shorter = tt; split_on = split_on-lacks c.args.byte c.args.text.now lacks; cut = cut-lacks c.args.byte c.args.text.now lacks }
 
 pub returns : goal.returns
 returns c =
@@ -25,6 +25,6 @@ returns c =
     record {
       parts = rw (front, c.range_from.ensures.value) parts;
       shorter = rw c.range_from.ensures.value (grind (arith, found.0));
-      parted = rw (front, c.range_from.ensures.value) (ap (λ t. parted c.args.byte t) parts.1 ∙ parted-parts c.args.byte _ _ parts.0);
+      split_on = rw (front, c.range_from.ensures.value) (ap (λ t. split_on c.args.byte t) parts.1 ∙ split_on-parts c.args.byte _ _ parts.0);
       cut = rw (front, c.range_from.ensures.value) (sym (ap (λ t. cut c.args.byte t) parts.1 ∙ cut-parts c.args.byte _ _ parts.0));
     }

@@ -1,7 +1,7 @@
 use Rattle.std.proofs.Common.{refl, rules}
 use Rattle.command_line.specs.declared.fault.Fault.TheVariants as fault
 use Rattle.console_reporter.proofs.lemmas.Runs.{same-after}
-use Rattle.scenes.proofs.lemmas.FollowedRuns.{forgotten, keeps_up, reads_on, stops_run, told_all, told_first, told_uncounted}
+use Rattle.scenes.proofs.lemmas.FollowedRuns.{forgotten, keeps_up, reads_on, stops_run, reported_all, reported_first, reported_uncounted}
 use Rattle.scenes.proofs.follow.follow_lines.Goals as goal
 
 pub loop-turn-init : goal.loop-turn-init
@@ -19,13 +19,13 @@ returns-in-Err-clause-err g c = λ text has begun start.
 pub returns-in-Ok-false-clause-ok : goal.returns-in-Ok-false-clause-ok
 returns-in-Ok-false-clause-ok g c = λ text has begun start.
     let k = c.loop-turn.invariant.keeps_up text has begun start in
-    told_all g.met.W.WriteStr.laws g.met.S.WriteStr.laws c.args.options.now text c.args.reporter.now c.loop-turn.reporter c.loop-turn.read c.loop-turn.more _ k c.report_events.new.self
+    reported_all g.met.W.WriteStr.laws g.met.S.WriteStr.laws c.args.options.now text c.args.reporter.now c.loop-turn.reporter c.loop-turn.read c.loop-turn.more _ k c.report_events.new.self
     (rw c.as_slice-events.ensures.value at c.in-Ok.ensures.told c.loop-turn.read.run.config c.args.reporter.now k.before.events k.follows) (rw (c.in-Ok-false.is, c.in-Ok-false.field-0-test) refl)
 
 pub returns-in-Err-more-clause-err : goal.returns-in-Err-more-clause-err
 returns-in-Err-more-clause-err g c = λ text has begun start.
     let k = c.loop-turn.invariant.keeps_up text has begun start in
-    told_first g.met.W.WriteStr.laws g.met.S.WriteStr.laws c.args.options.now text c.args.reporter.now c.loop-turn.reporter c.loop-turn.read c.loop-turn.more _ k c.report_events.new.self
+    reported_first g.met.W.WriteStr.laws g.met.S.WriteStr.laws c.args.options.now text c.args.reporter.now c.loop-turn.reporter c.loop-turn.read c.loop-turn.more _ k c.report_events.new.self
     (rw c.as_slice-events.ensures.value at c.in-Ok.ensures.told c.loop-turn.read.run.config c.args.reporter.now k.before.events k.follows) c.in-Err-more.fault c.in-Err-more.is
 
 pub loop-turn-preserved : goal.loop-turn-preserved
@@ -41,4 +41,4 @@ loop-turn-preserved g c = record {
 
 pub returns-clause-err : goal.returns-clause-err
 returns-clause-err g c = λ text has begun start.
-    told_uncounted g.met.W.WriteStr.laws g.met.S.WriteStr.laws c.args.options.now text c.args.reporter.now c.loop-turn.reporter c.loop-turn.read c.loop-turn.more _ (c.loop-turn.invariant.keeps_up text has begun start) c.args.options.now.file
+    reported_uncounted g.met.W.WriteStr.laws g.met.S.WriteStr.laws c.args.options.now text c.args.reporter.now c.loop-turn.reporter c.loop-turn.read c.loop-turn.more _ (c.loop-turn.invariant.keeps_up text has begun start) c.args.options.now.file

@@ -1,10 +1,10 @@
 use Rattle.std.proofs.Common.{◌≡◌, ◌++◌, length}
-use Rattle.scene_fields.specs.Split.{parted}
+use Rattle.scene_fields.specs.Split.{split_on}
 use Rattle.scene_fields.proofs.owned_text.OwnedText.split_fields.Given as goal
 
 -- the fields so far, and those of the rest, are all
 abbrev pub invariant-loop-tab : goal.invariant-loop-tab
-invariant-loop-tab l = l.fields.items ++ parted 9 l.rest ≡ parted 9 l.fn.self
+invariant-loop-tab l = l.fields.items ++ split_on 9 l.rest ≡ split_on 9 l.fn.self
 
 abbrev pub decreases-loop-tab : goal.decreases-loop-tab
 decreases-loop-tab l = length l.rest

@@ -1,5 +1,5 @@
 use Rattle.std.proofs.Common.{◌≡◌, [], ◌∷◌, ◌++◌, ◌∙◌, ap, append_assoc, refl, sym}
-use Rattle.scene_fields.specs.Split.{parted, pieces_left}
+use Rattle.scene_fields.specs.Split.{split_on, pieces_left}
 use Rattle.scene_text.proofs.lemmas.Tellings.{fault_here, leaves_here, leaves_refused, reads_all, reads_more, reads_none}
 use Rattle.scene_text.proofs.reader.LinesRead.read_more.Goals as goal
 
@@ -11,13 +11,13 @@ returns-in-None-clause-read c = reads_all _ _ _ (rw c.in-None.is at c.loop-numbe
 
 pub returns-in-Err-clause-left : goal.returns-in-Err-clause-left
 returns-in-Err-clause-left c =
-    let cut : parted 10 c.in-Some.left.now ≡ c.first_line.result.0.now ∷ pieces_left 10 c.first_line.result.1 = c.first_line.ensures.lines in
+    let cut : split_on 10 c.in-Some.left.now ≡ c.first_line.result.0.now ∷ pieces_left 10 c.first_line.result.1 = c.first_line.ensures.lines in
     let first = rw c.in-Some.is at c.loop-number.invariant.reads in
     leaves_here _ _ _ first.front first.reads c.first_line.result.0.now c.in-Err.ensures.unread refl refl _ _ (first.whole ∙ ap (λ ls. first.front ++ ls) cut) _ (rw c.fault_at.ensures (rw c.loop-number.invariant.number (fault_here c.loop-number.number c.in-Err.error _ c.in-Err.ensures.told)))
 
 pub loop-number-preserved : goal.loop-number-preserved
 loop-number-preserved c =
-    let cut : parted 10 c.in-Some.left.now ≡ c.first_line.result.0.now ∷ pieces_left 10 c.first_line.result.1 = c.first_line.ensures.lines in
+    let cut : split_on 10 c.in-Some.left.now ≡ c.first_line.result.0.now ∷ pieces_left 10 c.first_line.result.1 = c.first_line.ensures.lines in
     let first = rw c.in-Some.is at c.loop-number.invariant.reads in
     record {
       number = refl;

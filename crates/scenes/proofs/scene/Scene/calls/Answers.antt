@@ -16,9 +16,9 @@ returns-clause-calls c =
     let on : c.args.options.now.unload_skipped ≡ true = search rules in
     let of_scene : AreCallsOf c.args.self.now made = search rules in
     let unread_left : left ≡ unread decider made = search rules in
-    let told : IsIsolated c.in_ok-decider.decider c.as_mut_slice.result.now left = c.unload_skipped.ensures.isolation in
+    let parsed_lines : IsIsolated c.in_ok-decider.decider c.as_mut_slice.result.now left = c.unload_skipped.ensures.isolation in
     let isolated : IsIsolated decider made left =
-    subst (λ d. IsIsolated d made left) c.in_ok-decider.ensures.ok (subst (λ calls. IsIsolated c.in_ok-decider.decider calls left) c.as_mut_slice.ensures.value told) in
+    subst (λ d. IsIsolated d made left) c.in_ok-decider.ensures.ok (subst (λ calls. IsIsolated c.in_ok-decider.decider calls left) c.as_mut_slice.ensures.value parsed_lines) in
     let size : c.in_ok-calls.calls.len ≡ length made = search rules in
     let same : length left ≡ length made = ap length unread_left ∙ length-map made (unread_call decider) in
     let whole : take c.in_ok-calls.calls.len (left ++ drop (length left) made) ≡ left =

@@ -2,9 +2,9 @@ use Rattle.std.proofs.Common.{◌≡◌, ◌++◌, append-nil, map, refl, rules,
 use Rattle.std.proofs.lemmas.List.{take_all}
 use Rattle.console_reporter.proofs.lemmas.Runs.{same-after}
 use Rattle.scenes.specs.Reports.{configuration_for}
-use Rattle.scenes.specs.SceneReporter.{Follows, LeavesEvent, TellsEvent}
-use Rattle.scenes.specs.Unloads.{decider_for, ready}
-use Rattle.scenes.proofs.lemmas.SceneReporters.{stops_to, told_to}
+use Rattle.scenes.specs.SceneReporter.{Follows, LeavesEvent, ReportsEvent}
+use Rattle.scenes.specs.Unloads.{ready}
+use Rattle.scenes.proofs.lemmas.SceneReporters.{stops_to, reported_to}
 use Rattle.scenes.proofs.scene_reporter.SceneReporter.report_events.Goals as goal
 
 pub loop-place-init : goal.loop-place-init
@@ -22,8 +22,8 @@ loop-place-preserved g c =
       follows = λ config start base follows.
           let now = i.follows config start base follows in
           let decides = c.output_load_decider-decider.ensures.stands (configuration_for c.args.options.now config) (map (ready c.args.options.now config) follows.past) (follows.tells.stands (configuration_for c.args.options.now config) follows.stands) in
-          told_to g.met.W.WriteStr.laws g.met.S.WriteStr.laws c.args.options.now start config c.args.events.now base c.loop-place.place c.loop-place.self c.report_event.new.self c.index-events-place.result (search rules) (search rules) now
-          (subst (λ d. TellsEvent g.W.WriteStr.meaning g.S.WriteStr.meaning c.args.options.now d c.index-events-place.result c.loop-place.self c.report_event.new.self) decides c.in-Ok.ensures.told) (c.in-Ok.ensures.delivered now.delivered);
+          reported_to g.met.W.WriteStr.laws g.met.S.WriteStr.laws c.args.options.now start config c.args.events.now base c.loop-place.place c.loop-place.self c.report_event.new.self c.index-events-place.result (search rules) (search rules) now
+          (subst (λ d. ReportsEvent g.W.WriteStr.meaning g.S.WriteStr.meaning c.args.options.now d c.index-events-place.result c.loop-place.self c.report_event.new.self) decides c.in-Ok.ensures.told) (c.in-Ok.ensures.delivered now.delivered);
       failed = λ failed. absurd ((c.in-Ok.ensures.failed (search rules)).1);
     }
 

@@ -1,6 +1,6 @@
 use Rattle.std.proofs.Common.{◌++◌, chars, length}
 use Rattle.std.specs.Str.{IsUtf8}
-use Rattle.plain_text.specs.EndLine.{without_end_line, held}
+use Rattle.plain_text.specs.TrailingNewline.{without_trailing_newline, held}
 use Rattle.plain_text.specs.Escapes.{visible}
 use Rattle.plain_text.specs.Stripped.{visible_from}
 use Rattle.plain_text.specs.Writer.{Owes}
@@ -10,8 +10,8 @@ use Rattle.unit_report.proofs.unit_output.captured.write_stripped_pieces.Given a
 abbrev pub invariant-loop-piece : goal.invariant-loop-piece
 invariant-loop-piece g l = record {
   utf8 : IsUtf8 l.rest → IsUtf8 l.fn.text;
-  owed : IsUtf8 l.fn.text → Owes g.W.WriteStr.meaning l.fn.w (without_end_line (visible l.fn.text))
-      l.w (without_end_line (held l.stripped.end_line.is_held ++ visible_from l.stripped.mode (chars l.rest)));
+  owed : IsUtf8 l.fn.text → Owes g.W.WriteStr.meaning l.fn.w (without_trailing_newline (visible l.fn.text))
+      l.w (without_trailing_newline (held l.stripped.trailing_newline.is_held ++ visible_from l.stripped.mode (chars l.rest)));
 }
 
 abbrev pub decreases-loop-piece : goal.decreases-loop-piece

@@ -1,5 +1,0 @@
-use Rattle.std.proofs.Common.{length}
-use Rattle.command_line.proofs.words.Given.+followed_by.Given as goal
-
-abbrev pub decreases-followed_by : goal.decreases-followed_by
-decreases-followed_by l = length l.words.now

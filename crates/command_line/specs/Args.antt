@@ -1,0 +1,166 @@
+-- What the words of a command line ask for.
+use Rattle.std.specs.Prelude.{ℕ, List, [], ◌∷◌, ◌++◌, map, Bool, true, false, not, ◌&&◌, ◌||◌, if◌then◌else◌, Option, None, Some, is_some, unwrap_or, String, string_bytes, codes, bytes_eq}
+use Rattle.std.specs.Option.{option_map, option_and_then}
+use Rattle.std.specs.declared.alloc.Global.{Global}
+use Rattle.run_names.specs.declared.level.StatusLevel.{StatusLevel}
+use Rattle.run_names.specs.declared.level.StatusLevel.TheVariants as status
+use Rattle.command_line.specs.declared.args.ArgsSoFar.{ArgsSoFar}
+use Rattle.command_line.specs.declared.args.Options.{Options}
+use Rattle.command_line.specs.declared.args.StoreOptions.{StoreOptions}
+use Rattle.store_text.specs.declared.config.StoreConfig.{StoreConfig}
+
+abbrev pub Text : Type 0
+Text = List ℕ
+
+-- the bytes of the words
+abbrev pub texts : List (String Global) → List Text
+texts ws = map string_bytes ws
+
+-- where records go, and what they hold
+pub record AskedStore : Type 0 where
+  -- the file, which is made or emptied
+  pub file : Text
+  -- which outputs are kept
+  pub config : StoreConfig
+
+-- what is asked for
+pub record Asked : Type 0 where
+  -- the report has colours
+  pub should_colorize : Bool
+  -- each line of a test has a counter
+  pub show_counter : Bool
+  -- the run was recorded, and is shown again
+  pub is_replay : Bool
+  -- the output that the report does not show is left unread
+  pub unload_skipped : Bool
+  -- from which status level on the lines of tests are shown
+  pub status_level : StatusLevel
+  -- where records of finished tests go, if they are asked for
+  pub store : Option AskedStore
+  -- the file that holds the scene
+  pub file : Text
+
+-- options as a value
+pub record Said : Type 0 where
+  pub color : Bool
+  pub counter : Bool
+  pub replay : Bool
+  pub unload : Bool
+  pub level : Option StatusLevel
+  pub store : Option Text
+  pub store_success : Bool
+  pub store_failure : Bool
+
+-- the options that were read so far, as a value
+abbrev pub said : ArgsSoFar → Said
+said given = record {
+  color = given.color;
+  counter = given.counter;
+  replay = given.replay;
+  unload = given.unload;
+  level = given.level;
+  store = option_map (λ path. path.now) given.store;
+  store_success = given.store_success;
+  store_failure = given.store_failure;
+}
+
+-- the records that options ask for
+abbrev pub asked_store : Said → Text → AskedStore
+asked_store options path = record { file = path; config = record { store_success_output = options.store_success; store_failure_output = options.store_failure } }
+
+-- some output is to be kept, and there are no records
+abbrev pub lacks_store : Said → Bool
+lacks_store options = not (is_some options.store) && (options.store_success || options.store_failure)
+
+-- what these options ask for of a file, if they are used rightly
+abbrev pub asked_of : Said → Text → Option Asked
+asked_of options file =
+    if lacks_store options then None
+    else Some (record {
+      should_colorize = options.color;
+      show_counter = options.counter;
+      is_replay = options.replay;
+      unload_skipped = options.unload;
+      status_level = unwrap_or options.level status.Pass;
+      store = option_map (asked_store options) options.store;
+      file = file;
+    })
+
+-- no option
+abbrev pub nothing_said : Said
+nothing_said = record { color = false; counter = false; replay = false; unload = false; level = None; store = None; store_success = false; store_failure = false }
+
+-- these options and a flag, if it is one and was not there before
+abbrev pub with_flag : Said → Text → Option Said
+with_flag options flag =
+    if bytes_eq flag (codes "--color") && not options.color then Some (record options { color = true })
+    else (if bytes_eq flag (codes "--counter") && not options.counter then Some (record options { counter = true })
+    else (if bytes_eq flag (codes "--replay") && not options.replay then Some (record options { replay = true })
+    else (if bytes_eq flag (codes "--unload") && not options.unload then Some (record options { unload = true })
+    else (if bytes_eq flag (codes "--store-success") && not options.store_success then Some (record options { store_success = true })
+    else (if bytes_eq flag (codes "--store-failure") && not options.store_failure then Some (record options { store_failure = true })
+    else None)))))
+
+-- the status level of a word
+abbrev pub level_of : Text → Option StatusLevel
+level_of word =
+    if bytes_eq word (codes "none") then Some status.None
+    else (if bytes_eq word (codes "fail") then Some status.Fail
+    else (if bytes_eq word (codes "retry") then Some status.Retry
+    else (if bytes_eq word (codes "slow") then Some status.Slow
+    else (if bytes_eq word (codes "leak") then Some status.Leak
+    else (if bytes_eq word (codes "pass") then Some status.Pass
+    else (if bytes_eq word (codes "skip") then Some status.Skip
+    else (if bytes_eq word (codes "all") then Some status.All
+    else None)))))))
+
+-- these options and the word of a status level, if it is one and no level was there before
+abbrev pub with_level : Said → Text → Option Said
+with_level options word =
+    if is_some options.level then None
+    else option_map (λ level. record options { level = Some level }) (level_of word)
+
+-- these options and where records go, if that was not given before
+abbrev pub with_store : Said → Text → Option Said
+with_store options path = if is_some options.store then None else Some (record options { store = Some path })
+
+-- what words ask for after these options, if they are used rightly: the last one is the file, a level follows `--level`, and the file
+-- of the records follows `--store`
+unfoldable pub options_after : Said → List Text → Option Asked
+options_after options [] = None
+options_after options (file ∷ []) = asked_of options file
+options_after options (option ∷ word ∷ rest) =
+    if bytes_eq option (codes "--level") then option_and_then (λ more. options_after more rest) (with_level options word)
+    else (if bytes_eq option (codes "--store") then option_and_then (λ more. options_after more rest) (with_store options word)
+    else option_and_then (λ more. options_after more (word ∷ rest)) (with_flag options option))
+
+-- what these words ask for, if they are used rightly
+abbrev pub options_of : List Text → Option Asked
+options_of words = options_after nothing_said words
+
+-- the same where standard input is the file `-`, and is read if no file is named
+abbrev pub or_else : Option Asked → Option Asked → Option Asked
+or_else None other = other
+or_else (Some asked) other = Some asked
+
+abbrev pub options_or_input : List Text → Option Asked
+options_or_input words = or_else (options_of (words ++ codes "-" ∷ [])) (options_of words)
+
+-- the records that the program took them to ask for
+abbrev pub store_asked_for : StoreOptions → AskedStore
+store_asked_for s = record { file = s.file.now; config = s.config }
+
+-- what the program took them to ask for
+abbrev pub asked_for : Options → Asked
+asked_for o = record {
+  should_colorize = o.should_colorize;
+  show_counter = o.show_counter;
+  is_replay = o.is_replay;
+  unload_skipped = o.unload_skipped;
+  status_level = o.status_level;
+  store = option_map store_asked_for o.store;
+  file = o.file.now;
+}
+
+abbrev pub asked : Option Options → Option Asked
+asked o = option_map asked_for o

@@ -1,0 +1,213 @@
+//! The words of a command line.
+//!
+//! Options stand before the file, which is the last word whatever it looks like.
+
+ghost use Rattle.std.specs.Prelude.{◌≡◌, IfOk};
+ghost use Rattle.std.specs.Option.{option_map};
+ghost use Rattle.command_line.specs.Args.{options_after, options_of, options_or_input, asked, asked_of, said, texts, with_flag, with_level, with_store, level_of};
+
+use run_model::level::StatusLevel;
+use run_model::memory::OutOfMemory;
+use std::alloc::Global;
+use store_text::config::StoreConfig;
+
+/// What the words of a command line ask for. It borrows the words.
+#[derive(Clone, Copy, Debug, PartialEq, Eq)]
+pub struct Options<'a> {
+    /// Whether the report has colours.
+    pub should_colorize: bool,
+    /// Whether each line of a test has a counter.
+    pub show_counter: bool,
+    /// Whether the run was recorded, and is shown again.
+    pub is_replay: bool,
+    /// Whether the output that the report does not show is left unread.
+    pub unload_skipped: bool,
+    /// From which status level on the lines of tests are shown.
+    pub status_level: StatusLevel,
+    /// Where records of finished tests go, if they are asked for.
+    pub store: Option<StoreOptions<'a>>,
+    /// The file that holds the scene.
+    pub file: &'a str,
+}
+
+/// Where records go, and what they hold.
+#[derive(Clone, Copy, Debug, PartialEq, Eq)]
+pub struct StoreOptions<'a> {
+    /// The file, which is made or emptied.
+    pub file: &'a str,
+    /// Which outputs are kept.
+    pub config: StoreConfig,
+}
+
+/// Reads the words that follow the program's name, and answers None where they are used wrongly: without a file, with an
+/// option that the program does not know or that is there twice, with no status level after `--level`, which is
+/// `pass` where that option is left out, or with an output to keep and no `--store`.
+///
+/// ```
+/// let given = CommandLine::from_words(alloc, &["--level", "fail", "first.scene"])?;
+/// assert_eq!(words(given.words()).map(|options| options.status_level), Some(StatusLevel::Fail));
+/// let given = CommandLine::from_words(alloc, &["--store", "out", "--store-failure", "first.scene"])?;
+/// assert_eq!(words(given.words()).map(|options| options.store.is_some()), Some(true));
+/// let given = CommandLine::from_words(alloc, &["--store-failure", "first.scene"])?;
+/// assert_eq!(words(given.words()), None); // there are no records
+/// ```
+pub fn words(words: &[String]) -> Option<Options<'_>>
+    ensures { asked result ≡ options_of (texts words.now) }
+{
+    ArgsSoFar::default().followed_by(words)
+}
+
+/// The same for a program that reads standard input, which is the file `-`, where no file is named: that word is pushed, and counts
+/// where the words before it are options alone.
+///
+/// ```
+/// let mut given = Vec::new(alloc);
+/// given.push(String::from_str(alloc, "--color")?)?;
+/// assert_eq!(words_or_input(alloc, &mut given)?.map(|options| options.file), Some("-"));
+/// ```
+pub fn words_or_input<'a>(
+    alloc: Global,
+    given: &'a mut Vec<String>,
+) -> Result<Option<Options<'a>>, OutOfMemory>
+    ensures { IfOk result (λ options. asked options ≡ options_or_input (texts given.old.items)) }
+{
+    let input = String::from_str(alloc, "-")?;
+    given.push(input)?;
+    match words(given.as_slice()) {
+        Some(options) => Ok(Some(options)),
+        None => Ok(words(&given[..given.len() - 1])),
+    }
+}
+
+// The options that were read so far.
+#[derive(Clone, Copy, Default)]
+struct ArgsSoFar<'a> {
+    color: bool,
+    counter: bool,
+    replay: bool,
+    unload: bool,
+    level: Option<StatusLevel>,
+    store: Option<&'a str>,
+    store_success: bool,
+    store_failure: bool,
+}
+
+impl<'a> ArgsSoFar<'a> {
+    // What they ask for with these words after them. No option stands twice, so few calls nest.
+    fn followed_by(self, words: &'a [String]) -> Option<Options<'a>>
+        ensures { asked result ≡ options_after (said self.entry) (texts words.now) }
+    {
+        match words {
+            [] => None,
+            [file] => self.options(file.as_str()),
+            [option, word, after @ ..] => match option.as_str() {
+                "--level" => self.with_level(word.as_str())?.followed_by(after),
+                "--store" => self.with_store(word.as_str())?.followed_by(after),
+                flag => self.with_flag(flag)?.followed_by(&words[1..]),
+            },
+        }
+    }
+
+    // These options and a flag, which is an option of one word. It is None where the flag is unknown or was there before.
+    fn with_flag(self, flag: &str) -> Option<ArgsSoFar<'a>>
+        ensures { option_map said result ≡ with_flag (said self.entry) flag.now }
+    {
+        match flag {
+            "--color" if !self.color => Some(ArgsSoFar {
+                color: true,
+                ..self
+            }),
+            "--counter" if !self.counter => Some(ArgsSoFar {
+                counter: true,
+                ..self
+            }),
+            "--replay" if !self.replay => Some(ArgsSoFar {
+                replay: true,
+                ..self
+            }),
+            "--unload" if !self.unload => Some(ArgsSoFar {
+                unload: true,
+                ..self
+            }),
+            "--store-success" if !self.store_success => Some(ArgsSoFar {
+                store_success: true,
+                ..self
+            }),
+            "--store-failure" if !self.store_failure => Some(ArgsSoFar {
+                store_failure: true,
+                ..self
+            }),
+            _ => None,
+        }
+    }
+
+    // These options and the word of a status level. It is None where that is none, or a level was there before.
+    fn with_level(self, word: &str) -> Option<ArgsSoFar<'a>>
+        ensures { option_map said result ≡ with_level (said self.entry) word.now }
+    {
+        if self.level.is_some() {
+            return None;
+        }
+        let level = read_level(word)?;
+        Some(ArgsSoFar {
+            level: Some(level),
+            ..self
+        })
+    }
+
+    // These options and where records go. It is None where that was said before.
+    fn with_store(self, path: &'a str) -> Option<ArgsSoFar<'a>>
+        ensures { option_map said result ≡ with_store (said self.entry) path.now }
+    {
+        match self.store {
+            Some(_) => None,
+            None => Some(ArgsSoFar {
+                store: Some(path),
+                ..self
+            }),
+        }
+    }
+
+    // What they ask for of a file. It is None where outputs are to be kept, and no records.
+    fn options(self, file: &'a str) -> Option<Options<'a>>
+        ensures { asked result ≡ asked_of (said self.entry) file.now }
+    {
+        let store = match self.store {
+            Some(path) => Some(StoreOptions {
+                file: path,
+                config: StoreConfig {
+                    store_success_output: self.store_success,
+                    store_failure_output: self.store_failure,
+                },
+            }),
+            None if self.store_success || self.store_failure => return None,
+            None => None,
+        };
+        Some(Options {
+            should_colorize: self.color,
+            show_counter: self.counter,
+            is_replay: self.replay,
+            unload_skipped: self.unload,
+            status_level: self.level.unwrap_or(StatusLevel::Pass),
+            store,
+            file,
+        })
+    }
+}
+
+// The status level of a word.
+fn read_level(word: &str) -> Option<StatusLevel>
+    ensures { result ≡ level_of word.now }
+{
+    match word {
+        "none" => Some(StatusLevel::None),
+        "fail" => Some(StatusLevel::Fail),
+        "retry" => Some(StatusLevel::Retry),
+        "slow" => Some(StatusLevel::Slow),
+        "leak" => Some(StatusLevel::Leak),
+        "pass" => Some(StatusLevel::Pass),
+        "skip" => Some(StatusLevel::Skip),
+        "all" => Some(StatusLevel::All),
+        _ => None,
+    }
+}

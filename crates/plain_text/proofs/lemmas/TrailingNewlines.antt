@@ -1,0 +1,114 @@
+-- A text in pieces, without one line feed that closes it (for `TrailingNewline::write`, `StrippedPieces::write`, `split_trailing_newline`, `write_stripped_pieces` and others).
+use Rattle.std.proofs.Common.{◌≡◌, ◌≢◌, ℕ, ◌<◌, Bool, true, false, inl, inr, [], ◌∷◌, ◌++◌, refl, sym, ap, ◌∙◌, arith, length, append-nil, append_assoc, Result, Ok, Err, OnOk, ◌+◌}
+use Rattle.std.proofs.lemmas.Bool.Decides.{eqb_tells}
+use Rattle.std.specs.Result.{IsErrAnd}
+use Rattle.plain_text.specs.Texts.{Text}
+use Rattle.plain_text.specs.TrailingNewline.{without_trailing_newline, ends_in_line_feed, held}
+use Rattle.plain_text.specs.Writer.{Meaning, WriterLaws, Puts, Owes}
+use Rattle.plain_text.specs.declared.write_str.WriteFault.{WriteFault}
+use Rattle.plain_text.proofs.lemmas.Steps.{owes_accepted, owes_stopped, owes_nothing}
+
+-- the end of a text is that of what follows its front
+pub without_trailing_newline-after : (t : Text) (d : ℕ) (u : Text) → without_trailing_newline (t ++ (d ∷ u)) ≡ t ++ without_trailing_newline (d ∷ u)
+unfolding without_trailing_newline
+without_trailing_newline-after [] d u = refl
+without_trailing_newline-after (c ∷ []) d u = refl
+without_trailing_newline-after (c ∷ e ∷ t) d u = ap (λ x. c ∷ x) (without_trailing_newline-after (e ∷ t) d u)
+
+pub ends_in_line_feed-after : (t : Text) (d : ℕ) (u : Text) → ends_in_line_feed (t ++ (d ∷ u)) ≡ ends_in_line_feed (d ∷ u)
+unfolding ends_in_line_feed
+ends_in_line_feed-after [] d u = refl
+ends_in_line_feed-after (c ∷ []) d u = refl
+ends_in_line_feed-after (c ∷ e ∷ t) d u = ends_in_line_feed-after (e ∷ t) d u
+
+-- the last character is held back if it is a line feed
+pub without_trailing_newline-held : (t : Text) → without_trailing_newline t ++ held (ends_in_line_feed t) ≡ t
+unfolding without_trailing_newline ends_in_line_feed
+without_trailing_newline-held [] = refl
+without_trailing_newline-held (c ∷ []) = elim (eqb_tells c 10) [ inl y ↦ rw y.0 (ap (λ x. x ∷ []) (sym y.1)) | inr n ↦ rw n.0 refl ]
+without_trailing_newline-held (c ∷ d ∷ t) = ap (λ x. c ∷ x) (without_trailing_newline-held (d ∷ t))
+
+-- a line feed that is held back closes nothing that follows
+pub held-nothing : (b : Bool) → without_trailing_newline (held b ++ []) ≡ []
+unfolding without_trailing_newline
+held-nothing true = refl
+held-nothing false = refl
+
+pub held-still : (b : Bool) → ends_in_line_feed (held b ++ []) ≡ b
+unfolding ends_in_line_feed
+held-still true = refl
+held-still false = refl
+
+-- two pieces
+pub without_trailing_newline-append : (t u : Text) → without_trailing_newline (t ++ u) ≡ without_trailing_newline t ++ without_trailing_newline (held (ends_in_line_feed t) ++ u)
+without_trailing_newline-append t [] = ap without_trailing_newline (append-nil t) ∙ sym (ap (λ x. without_trailing_newline t ++ x) (held-nothing (ends_in_line_feed t)) ∙ append-nil (without_trailing_newline t))
+without_trailing_newline-append t (d ∷ u) =
+    without_trailing_newline-after t d u
+    ∙ ap (λ x. x ++ without_trailing_newline (d ∷ u)) (sym (without_trailing_newline-held t))
+    ∙ append_assoc (without_trailing_newline t) (held (ends_in_line_feed t)) (without_trailing_newline (d ∷ u))
+    ∙ ap (λ x. without_trailing_newline t ++ x) (sym (without_trailing_newline-after (held (ends_in_line_feed t)) d u))
+
+pub ends_in_line_feed-append : (t u : Text) → ends_in_line_feed (t ++ u) ≡ ends_in_line_feed (held (ends_in_line_feed t) ++ u)
+ends_in_line_feed-append t [] = ap ends_in_line_feed (append-nil t) ∙ sym (held-still (ends_in_line_feed t))
+ends_in_line_feed-append t (d ∷ u) = ends_in_line_feed-after t d u ∙ sym (ends_in_line_feed-after (held (ends_in_line_feed t)) d u)
+
+-- a piece that is not empty, after what is held back
+pub held-before : (b : Bool) (t : Text) → 0 < length t → without_trailing_newline (held b ++ t) ≡ held b ++ without_trailing_newline t
+held-before b [] h = absurd (omega arith)
+held-before b (c ∷ t) h = without_trailing_newline-after (held b) c t
+
+pub held-beyond : (b : Bool) (t : Text) → 0 < length t → ends_in_line_feed (held b ++ t) ≡ ends_in_line_feed t
+held-beyond b [] h = absurd (omega arith)
+held-beyond b (c ∷ t) h = ends_in_line_feed-after (held b) c t
+
+-- what `strip_suffix` says
+pub feed_cut : (t front : Text) → t ≡ front ++ (10 ∷ []) → (without_trailing_newline t ≡ front) × (ends_in_line_feed t ≡ true)
+unfolding without_trailing_newline ends_in_line_feed
+feed_cut t front e = (ap without_trailing_newline e ∙ without_trailing_newline-after front 10 [] ∙ append-nil front, ap ends_in_line_feed e ∙ ends_in_line_feed-after front 10 [])
+
+pub feed_absent : (t : Text) → ((front : Text) → t ≢ front ++ (10 ∷ [])) → (without_trailing_newline t ≡ t) × (ends_in_line_feed t ≡ false)
+unfolding without_trailing_newline ends_in_line_feed
+feed_absent [] h = (refl, refl)
+feed_absent (c ∷ []) h = elim (eqb_tells c 10) [ inl y ↦ absurd (h [] (ap (λ x. x ∷ []) y.1)) | inr n ↦ (rw n.0 refl, n.0) ]
+feed_absent (c ∷ d ∷ t) h = let more = feed_absent (d ∷ t) (λ front e. h (c ∷ front) (ap (λ x. c ∷ x) e)) in (ap (λ x. c ∷ x) more.0, more.1)
+
+-- an empty piece
+pub piece_nothing : (b : Bool) (t : Text) → length t ≡ 0 → without_trailing_newline (held b ++ t) ≡ []
+piece_nothing b [] h = held-nothing b
+piece_nothing b (c ∷ t) h = absurd (omega arith)
+
+pub piece_still : (b : Bool) (t : Text) → length t ≡ 0 → ends_in_line_feed (held b ++ t) ≡ b
+piece_still b [] h = held-still b
+piece_still b (c ∷ t) h = absurd (omega arith)
+
+-- a fact that holds of any result
+pub on_any : {E : Type 0} {P : Type 0} (r : Result (Unit {0}) E) → P → OnOk r P
+on_any (Ok x) p = p
+on_any (Err e) p = tt
+
+-- what is held back after the next piece
+pub piece_still-next : (h k : Bool) (rest piece after : Text) → rest ≡ piece ++ after → k ≡ ends_in_line_feed (held h ++ piece) → ends_in_line_feed (held k ++ after) ≡ ends_in_line_feed (held h ++ rest)
+piece_still-next h k rest piece after e q =
+    rw (q, e) (sym (ends_in_line_feed-append (held h ++ piece) after) ∙ ap ends_in_line_feed (append_assoc (held h) piece after))
+
+-- what is owed before the next piece, and after it
+pub piece_next : (h k : Bool) (rest piece after : Text) → rest ≡ piece ++ after → k ≡ ends_in_line_feed (held h ++ piece)
+    → without_trailing_newline (held h ++ rest) ≡ without_trailing_newline (held h ++ piece) ++ without_trailing_newline (held k ++ after)
+piece_next h k rest piece after e q =
+    rw (q, e) (ap without_trailing_newline (sym (append_assoc (held h) piece after)) ∙ without_trailing_newline-append (held h ++ piece) after)
+
+-- A loop over pieces that join to a text: what it has written and what it owes.
+module _ {S : Type 0} {m : Meaning S} (laws : WriterLaws m) where
+  -- after a piece
+  pub trailing_newline_written : (a b c : S) (text rest piece after : Text) (h k : Bool) → Owes m a text b (without_trailing_newline (held h ++ rest)) → rest ≡ piece ++ after
+      → m.accepts b (without_trailing_newline (held h ++ piece)) c → k ≡ ends_in_line_feed (held h ++ piece) → Owes m a text c (without_trailing_newline (held k ++ after))
+  trailing_newline_written a b c text rest piece after h k o e p q = owes_accepted laws a b c text _ _ _ o (piece_next h k rest piece after e q) p
+
+  -- at a fault in a piece
+  pub trailing_newline_stopped : (a b c : S) (text rest piece after : Text) (h : Bool) (f : WriteFault) (r : Result (Unit {0}) WriteFault) → Owes m a text b (without_trailing_newline (held h ++ rest)) → rest ≡ piece ++ after
+      → IsErrAnd r (λ x. x ≡ f) → m.stops b (without_trailing_newline (held h ++ piece)) f c → Puts m a text r c
+  trailing_newline_stopped a b c text rest piece after h f r o e i s = owes_stopped laws a b c text _ _ _ f r o (piece_next h (ends_in_line_feed (held h ++ piece)) rest piece after e refl) i s
+
+  -- after the last piece
+  pub trailing_newline_done : (a b : S) (text rest : Text) (h : Bool) → Owes m a text b (without_trailing_newline (held h ++ rest)) → rest ≡ [] → m.accepts a text b
+  trailing_newline_done a b text rest h o e = owes_nothing laws a b text _ o (rw e (held-nothing h))

@@ -1,0 +1,81 @@
+//! The binaries that the lines so far have named, so that the lines of their tests share one id.
+
+ghost use Rattle.std.specs.Prelude.{◌≡◌, Some, IfOk};
+ghost use Rattle.scene_fields.specs.Texts.{text_in};
+
+use run_model::memory::OutOfMemory;
+use scene_events::scene::binary_id::SharedBinaryId;
+use scene_fields::names::read_binary_id;
+use std::alloc::Global;
+
+/// How many ids are kept. The tests that run at a time are of few binaries.
+const KEPT: usize = 8;
+
+/// The ids of the binaries that were named last.
+#[derive(Drop)]
+pub struct BinaryIds {
+    known: Vec<KnownBinary>,
+}
+
+// An id that its own text spells in a field, as all do that have no escapes.
+#[derive(Drop)]
+struct KnownBinary {
+    id: SharedBinaryId,
+    ghost spelled: { text_in id ≡ Some id },
+}
+
+impl BinaryIds {
+    /// No ids.
+    pub fn new(alloc: Global) -> BinaryIds {
+        BinaryIds {
+            known: Vec::new(alloc),
+        }
+    }
+
+    /// Reads the id of a test's binary. It is copied where it is none of the ids that are kept, and is shared with those lines else.
+    pub fn read(
+        &mut self,
+        alloc: Global,
+        field: &str,
+    ) -> Result<Option<SharedBinaryId>, OutOfMemory>
+        ensures { IfOk result (λ id. id ≡ text_in field.now) }
+    {
+        for known in self.known.iter() {
+            if known.id.get().as_str() == field {
+                return Ok(Some(known.id.share()?));
+            }
+        }
+        self.read_new(alloc, field)
+    }
+
+    // Reads an id that is not kept, and keeps it.
+    #[inline(never)]
+    fn read_new(
+        &mut self,
+        alloc: Global,
+        field: &str,
+    ) -> Result<Option<SharedBinaryId>, OutOfMemory>
+        ensures { IfOk result (λ id. id ≡ text_in field.now) }
+    {
+        let Some(id) = read_binary_id(alloc, field)? else {
+            return Ok(None);
+        };
+        let is_spelled = id.as_str() == field;
+        let id = SharedBinaryId::new(alloc, id)?;
+        if is_spelled {
+            self.keep(id.share()?)?;
+        }
+        Ok(Some(id))
+    }
+
+    // Keeps an id, in place of all others where there is no room.
+    fn keep(&mut self, id: SharedBinaryId) -> Result<(), OutOfMemory>
+        requires { text_in id ≡ Some id }
+    {
+        if self.known.len() == KEPT {
+            self.known.clear();
+        }
+        self.known.push(KnownBinary { id })?;
+        Ok(())
+    }
+}

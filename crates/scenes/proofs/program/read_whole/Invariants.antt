@@ -1,9 +1,0 @@
-use Rattle.std.proofs.Common.{◌≡◌, [], List, ℕ, Ok, Some, true}
-use Rattle.std.specs.Io.Buffered.{reader_remaining}
-use Rattle.scene_text.specs.SceneTexts.{nothing_told}
-use Rattle.scenes.specs.Read.{HasRead}
-use Rattle.scenes.proofs.program.read_whole.Given as goal
-
--- the first lines were read
-abbrev pub invariant-loop-turn : goal.invariant-loop-turn
-invariant-loop-turn g l = (text : List ℕ) → g.R.Read.remaining l.fn.reader ≡ Some text → HasRead l.options.file.now text [] nothing_told l.read (Ok true) (reader_remaining g.R.Read.remaining l.buffered)

@@ -1,0 +1,14 @@
+use Rattle.scenes.proofs.lemmas.SpelledRuns.{refused_is_judged, refused_text}
+use Rattle.std.proofs.Common.{inr}
+use Rattle.scenes.proofs.report.judge.Goals as goal
+
+pub returns-in-Err-clause-fault : goal.returns-in-Err-clause-fault
+returns-in-Err-clause-fault g c = refused_is_judged _ _ _ c.in-Err.fault c.in-Err.ensures.err
+
+pub returns-in-Err-clause-first_fault : goal.returns-in-Err-clause-first_fault
+returns-in-Err-clause-first_fault g c = λ bytes known.
+    inr (refused_text _ c.in_ok-scene.scene bytes (c.in_ok-scene.ensures.answer bytes known) (c.in_ok-scene.ensures.lines bytes known) c.in-Err.fault c.in-Err.ensures.err)
+
+pub returns-in-Err-clause-answer : goal.returns-in-Err-clause-answer
+returns-in-Err-clause-answer g c = λ bytes known.
+    inr (refused_text _ c.in_ok-scene.scene bytes (c.in_ok-scene.ensures.answer bytes known) (c.in_ok-scene.ensures.lines bytes known) c.in-Err.fault c.in-Err.ensures.err)

@@ -1,0 +1,44 @@
+-- Scenes as lines that were read.
+use Rattle.std.specs.Prelude.{◌≡◌, ℕ, List, Result, Ok, Err, ⊤}
+use Rattle.scene_text.specs.SceneTexts.{IsFirstFault, ParsedLines, parsed_lines, text_read}
+use Rattle.scene_fields.specs.Split.{split_on}
+use Rattle.scene_fields.specs.declared.fault.LineFault.{LineFault}
+use Rattle.scene_events.specs.declared.scene.ParsedRun.{ParsedRun}
+use Rattle.command_line.specs.declared.fault.Fault.{Fault}
+use Rattle.command_line.specs.declared.fault.Fault.TheVariants as fault
+use Rattle.scenes.specs.declared.scene.Scene.{Scene}
+
+-- the run of a scene, as the reader holds it
+abbrev pub run_of : Scene → ParsedRun
+run_of scene = record { config = scene.config; events = scene.events; lines = scene.lines }
+
+-- the lines of a scene
+abbrev pub scene_lines : Scene → ParsedLines
+scene_lines scene = parsed_lines (run_of scene)
+
+-- the scene is that of the lines that were read, or the fault is theirs; or the file cannot be read, or memory was refused
+abbrev pub IsSceneRead : Result Scene Fault → Result ParsedLines (ℕ × LineFault) → Type 0
+IsSceneRead (Ok scene) read = read ≡ Ok (scene_lines scene)
+IsSceneRead (Err fault.Usage) read = ⊥
+IsSceneRead (Err (fault.CannotRead file)) read = ⊤
+IsSceneRead (Err (fault.CannotWrite file)) read = ⊥
+IsSceneRead (Err (fault.Line n f)) read = read ≡ Err (n, f)
+IsSceneRead (Err fault.WriteFailed) read = ⊥
+IsSceneRead (Err fault.StoreFailed) read = ⊥
+IsSceneRead (Err fault.OutOfMemory) read = ⊤
+
+-- the fault is the first one of the text; or the file cannot be read, or memory was refused
+abbrev pub IsReadFault : List ℕ → Fault → Type 0
+IsReadFault text fault.Usage = ⊥
+IsReadFault text (fault.CannotRead file) = ⊤
+IsReadFault text (fault.CannotWrite file) = ⊥
+IsReadFault text (fault.Line n f) = IsFirstFault (split_on 10 text) n f
+IsReadFault text fault.WriteFailed = ⊥
+IsReadFault text fault.StoreFailed = ⊥
+IsReadFault text fault.OutOfMemory = ⊤
+
+-- P holds of the run that a text spells
+pub record OfText (text : List ℕ) (P : ParsedLines → Type 0) : Type 0 where
+  pub run : ParsedLines
+  pub spelled : text_read text ≡ Ok run
+  pub holds : P run

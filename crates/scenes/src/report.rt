@@ -1,0 +1,310 @@
+//! What the program does with a scene, over any reader and any two writers.
+//!
+//! A scene is read, then judged, and then reported. Judging has no device in its hands, and a report takes what judging gives, so no byte
+//! comes out before a scene is judged, and none of a scene that is refused.
+
+ghost use Rattle.std.specs.Prelude.{◌≡◌, ◌⊎◌, ℕ, List, [], Option, None, Some, IfOk, IfErr, OnOk};
+ghost use Rattle.command_line.specs.declared.fault.Fault.{Fault};
+ghost use Rattle.scene_fields.specs.Split.{split_on};
+ghost use Rattle.command_line.specs.Faults.{IsJudgeFault};
+ghost use Rattle.console_reporter.specs.OptionalStore.{IsSameStore, config_of, store_delivered, store_meaning};
+ghost use Rattle.scenes.specs.SceneReporter.{BreaksParsed, HasReportedTo};
+ghost use Rattle.scenes.specs.Judged.{IsJudged, IsJudgedFault, IsSceneAccepted, IsSceneRefused, ChecksEvent};
+ghost use Rattle.scenes.specs.Reports.{store_for};
+ghost use Rattle.scene_text.specs.SceneTexts.{AllRead, event_lines, no_lines, text_read};
+ghost use Rattle.scenes.specs.SpelledRuns.{BeginsParsed, IsRejected, PrintsParsed};
+ghost use Rattle.scenes.specs.ParsedScenes.{IsReadFault, IsSceneRead, OfText, scene_lines};
+
+use crate::deferred::{Deferred, deliver_rest};
+use crate::read::{BYTES_AT_ONCE, read_next};
+use crate::reporter::{builder_of, decider_of, fault_at_call, surroundings_of};
+use crate::scene::Scene;
+use crate::scene::event::SceneEvent;
+use crate::scene_reporter::{SceneReporter, call_in};
+use command_line::args::Options;
+use command_line::fault::Fault;
+use console_reporter::imp::{OutputLoadDecider, ReportCall, Store, give_back};
+use console_reporter::write_str::{TextBuffer, WriteStr};
+use run_model::memory::OutOfMemory;
+use scene_text::reader::LinesRead;
+use std::alloc::{AllocError, Global};
+use std::io::{BufReader, Read, Write};
+use std::marker::Model;
+
+/// A scene that was judged: its reporter refuses no call of it.
+#[derive(Drop)]
+pub struct AcceptedScene<'a> {
+    options: &'a Options<'a>,
+    scene: &'a Scene,
+}
+
+impl<'a> Model for AcceptedScene<'a> {
+    ghost use Rattle.scenes.specs.Judged.{IsSceneAccepted, Judged};
+
+    ghost Value = { Judged };
+
+    ghost view = { λ j. record { options = j.options.now; scene = j.scene.now } };
+
+    ghost invariant = { λ j. IsSceneAccepted j.options.now j.scene.now };
+}
+
+/// Reads a scene to its end, and judges it whole: each line by itself, and then whether its reporter would refuse an event.
+/// It answers the fault of the first line that has one, the line of the first event that is refused, that the file cannot be
+/// read, or that memory is refused.
+pub fn judge<'a, R: Read + Drop>(
+    alloc: Global,
+    options: &Options<'a>,
+    reader: R,
+) -> Result<Scene, Fault<'a>>
+    ensures fault { IfErr result (IsJudgeFault options.now.file.now) }
+    // Where the reader's bytes are known: what `read_whole` says of them.
+    ensures scene { (bytes : List ℕ) → R.remaining reader ≡ Some bytes → IfOk result (λ scene. AllRead no_lines (split_on 10 bytes) (scene_lines scene)) }
+    ensures first_fault { (bytes : List ℕ) → R.remaining reader ≡ Some bytes → IfErr result (IsJudgedFault options.now bytes) }
+    ensures answer { (bytes : List ℕ) → R.remaining reader ≡ Some bytes → IsJudged options.now result bytes }
+    // No event of the scene is refused.
+    ensures accepted { IfOk result (IsSceneAccepted options.now) }
+{
+    let scene = read_whole(alloc, options, reader)?;
+    match accept_scene(alloc, options, &scene) {
+        Ok(judged) => drop(judged),
+        Err(fault) => return Err(fault),
+    }
+    Ok(scene)
+}
+
+/// Reads a scene to its end, and judges each line by itself.
+pub fn read_whole<'a, R: Read + Drop>(
+    alloc: Global,
+    options: &Options<'a>,
+    reader: R,
+) -> Result<Scene, Fault<'a>>
+    ensures fault { IfErr result (IsJudgeFault options.now.file.now) }
+    ensures scene { (bytes : List ℕ) → R.remaining reader ≡ Some bytes → IfOk result (λ scene. AllRead no_lines (split_on 10 bytes) (scene_lines scene)) }
+    ensures lines { (bytes : List ℕ) → R.remaining reader ≡ Some bytes → IfOk result (λ scene. scene.lines.items ≡ event_lines 1 no_lines (split_on 10 bytes)) }
+    ensures first_fault { (bytes : List ℕ) → R.remaining reader ≡ Some bytes → IfErr result (IsReadFault bytes) }
+    ensures answer { (bytes : List ℕ) → R.remaining reader ≡ Some bytes → IsSceneRead result (text_read bytes) }
+{
+    let mut buffered = match BufReader::with_capacity(alloc, BYTES_AT_ONCE, reader) {
+        Ok(buffered) => buffered,
+        Err(_) => return Err(Fault::OutOfMemory),
+    };
+    let mut piece = Vec::new(alloc);
+    let mut read = LinesRead::new(alloc);
+    for _turn in 0..u64::MAX {
+        match read_next(alloc, options.file, &mut buffered, &mut piece, &mut read) {
+            Ok(true) => {}
+            Ok(false) => {
+                return Ok(Scene {
+                    config: read.run.config,
+                    events: read.run.events,
+                    lines: read.run.lines,
+                });
+            }
+            Err(fault) => return Err(fault),
+        }
+    }
+    Err(Fault::CannotRead { file: options.file })
+}
+
+/// Checks that the reporter refuses no event of a scene. Only what was checked can be reported.
+pub fn accept_scene<'a>(
+    alloc: Global,
+    options: &'a Options<'_>,
+    scene: &'a Scene,
+) -> Result<AcceptedScene<'a>, Fault<'static>>
+    ensures options { IfOk result (λ judged. judged.options ≡ options.now) }
+    ensures scene { IfOk result (λ judged. judged.scene ≡ scene.now) }
+    ensures accepted { IfOk result (λ _. IsSceneAccepted options.now scene.now) }
+    ensures err { IfErr result (IsSceneRefused options.now scene.now) }
+{
+    match check_refusals(alloc, options, scene) {
+        Ok(()) => Ok(AcceptedScene { options, scene }),
+        Err(fault) => Err(fault),
+    }
+}
+
+// Judges the events of a scene: the first whose call its reporter would refuse is the fault of its line. Those behind it are judged too,
+// so that a fault is that of a scene that has all its calls.
+fn check_refusals(alloc: Global, options: &Options<'_>, scene: &Scene) -> Result<(), Fault<'static>>
+    ensures ok { OnOk result (IsSceneAccepted options.now scene.now) }
+    ensures err { IfErr result (IsSceneRefused options.now scene.now) }
+{
+    let decider = decider_of(alloc, options, &scene.config)?;
+    let mut buffer = Vec::new(alloc);
+    let mut refused = None;
+    for place in 0..scene.events.len() {
+        let line = scene.line_of(place);
+        let fault = check_refusal(alloc, &decider, line, &scene.events[place], &mut buffer)?;
+        refused = refused.or(fault);
+    }
+    match refused {
+        None => Ok(()),
+        Some(fault) => Err(fault),
+    }
+}
+
+// The fault of the line of this number, if the call of its event is refused. Where a reporter may refuse it, the call is made for this
+// alone, in this buffer.
+#[tactic(auto, using(crate::proofs::lemmas::UnmadeCalls::judged_unmade))]
+fn check_refusal<'a>(
+    alloc: Global,
+    decider: &OutputLoadDecider,
+    line: u64,
+    event: &'a SceneEvent,
+    buffer: &mut Vec<ReportCall<'a>>,
+) -> Result<Option<Fault<'static>>, OutOfMemory>
+    ensures { IfOk result (ChecksEvent decider.now line event.now) }
+{
+    if !event.may_be_refused() {
+        return Ok(None);
+    }
+    let call = call_in(alloc, event, buffer)?;
+    match decider.refusal(call) {
+        Some(error) => Ok(Some(fault_at_call(line, error))),
+        None => Ok(None),
+    }
+}
+
+/// Reads a scene to its end, judges it, and writes its report to a device and its records to a second one, if the options ask for
+/// them. It gives both devices back: the whole way from a file's bytes to those of both texts. A scene that has a fault leaves the
+/// devices as they were. The text is delivered as by [`report_accepted`].
+pub fn report_scene<'a, R: Read + Drop, W: Write, S: Write>(
+    alloc: Global,
+    options: &Options<'a>,
+    reader: R,
+    writer: W,
+    store_writer: S,
+) -> (Result<(), Fault<'a>>, W, S)
+    ensures ok { (text : List ℕ) → R.remaining reader ≡ Some text →
+        OnOk result.0 (OfText text (λ run. PrintsParsed options.now run (W.contents writer) (W.contents result.1) (S.contents store_writer) (S.contents result.2))) }
+    ensures err { (text : List ℕ) → R.remaining reader ≡ Some text →
+        IfErr result.0 (λ fault. IsRejected options.now text fault writer result.1 store_writer result.2
+        ⊎ OfText text (λ run. BeginsParsed options.now run fault (W.contents writer) (W.contents result.1) (S.contents store_writer) (S.contents result.2))) }
+    ensures no_store { options.now.store ≡ None → result.2 ≡ store_writer }
+{
+    match read_whole(alloc, options, reader) {
+        Ok(scene) => report_read(alloc, options, &scene, writer, store_writer),
+        Err(fault) => (Err(fault), writer, store_writer),
+    }
+}
+
+// Judges a scene that was read, and reports it.
+fn report_read<W: Write, S: Write>(
+    alloc: Global,
+    options: &Options<'_>,
+    scene: &Scene,
+    writer: W,
+    store_writer: S,
+) -> (Result<(), Fault<'static>>, W, S)
+    ensures ok { OnOk result.0 (PrintsParsed options.now (scene_lines scene.now) (W.contents writer) (W.contents result.1) (S.contents store_writer) (S.contents result.2)) }
+    ensures err { IfErr result.0 (λ fault. (IsSceneRefused options.now scene.now fault × (result.1 ≡ writer) × (result.2 ≡ store_writer))
+        ⊎ BeginsParsed options.now (scene_lines scene.now) fault (W.contents writer) (W.contents result.1) (S.contents store_writer) (S.contents result.2)) }
+    ensures no_store { options.now.store ≡ None → result.2 ≡ store_writer }
+{
+    match accept_scene(alloc, options, scene) {
+        Ok(judged) => report_accepted(alloc, &judged, writer, store_writer),
+        Err(fault) => (Err(fault), writer, store_writer),
+    }
+}
+
+/// Writes the report of a scene to a device, and its records to a second one, if the options ask for them. It judges the scene first, and
+/// a scene that is refused leaves the devices as they were. The text is delivered as by [`report_accepted`].
+pub fn write_report<W: Write + Drop, S: Write + Drop>(
+    alloc: Global,
+    options: &Options<'_>,
+    scene: &Scene,
+    writer: W,
+    store_writer: S,
+) -> Result<(), Fault<'static>>
+    ensures ok { OnOk result ((last : W) × (store_last : S) × PrintsParsed options.now (scene_lines scene.now) (W.contents writer) (W.contents last) (S.contents store_writer) (S.contents store_last)) }
+    ensures err { IfErr result (λ fault. IsSceneRefused options.now scene.now fault
+        ⊎ ((last : W) × (store_last : S) × BeginsParsed options.now (scene_lines scene.now) fault (W.contents writer) (W.contents last) (S.contents store_writer) (S.contents store_last))) }
+{
+    let judged = match accept_scene(alloc, options, scene) {
+        Ok(judged) => judged,
+        Err(fault) => return Err(fault),
+    };
+    let (outcome, _writer, _store_writer) = report_accepted(alloc, &judged, writer, store_writer);
+    outcome
+}
+
+/// Writes the report of a scene that was judged to a device, and its records to a second one where the options ask for them, and gives
+/// both devices back. Without records the text goes to its device when 8,192 bytes are gathered and at the end; with records it goes
+/// there at each call, before the records of that call.
+pub fn report_accepted<W: Write, S: Write>(
+    alloc: Global,
+    judged: &AcceptedScene<'_>,
+    writer: W,
+    store_writer: S,
+) -> (Result<(), Fault<'static>>, W, S)
+    ensures ok { OnOk result.0 (PrintsParsed judged.now.options (scene_lines judged.now.scene) (W.contents writer) (W.contents result.1) (S.contents store_writer) (S.contents result.2)) }
+    ensures err { IfErr result.0 (λ fault. BeginsParsed judged.now.options (scene_lines judged.now.scene) fault (W.contents writer) (W.contents result.1) (S.contents store_writer) (S.contents result.2)) }
+    ensures no_store { judged.now.options.store ≡ None → result.2 ≡ store_writer }
+{
+    let (options, scene) = (judged.options, judged.scene);
+    let mut out = match TextBuffer::new(alloc, writer) {
+        Ok(out) => out,
+        Err((AllocError, writer)) => return (Err(Fault::OutOfMemory), writer, store_writer),
+    };
+    let Some(store) = options.store else {
+        let no_store = None::<Store<'_, String>>;
+        let mut deferred = Deferred { writer: out };
+        let (reported, _lent, _) = report_to(alloc, options, scene, &mut deferred, no_store);
+        let mut out = deferred.writer;
+        let outcome = deliver_rest(&mut out, reported);
+        let (writer, _pending) = out.into_inner();
+        return (outcome, writer, store_writer);
+    };
+    let mut records = match TextBuffer::new(alloc, store_writer) {
+        Ok(records) => records,
+        Err((AllocError, store_writer)) => {
+            let (writer, _pending) = out.into_inner();
+            return (Err(Fault::OutOfMemory), writer, store_writer);
+        }
+    };
+    let store = Store::new(&mut records, store.config);
+    let (outcome, lent, store) = report_to(alloc, options, scene, &mut out, Some(store));
+    match store {
+        Some(store) => {
+            let Store {
+                writer: store_writer,
+                config: _,
+            } = store;
+            give_back(lent, store_writer);
+        }
+        None => unreachable!(),
+    }
+    let (writer, _pending) = out.into_inner();
+    let (store_writer, _unstored) = records.into_inner();
+    (outcome, writer, store_writer)
+}
+
+// Writes the report of a scene that is accepted, and its records where there is a store, and delivers both. On a fault the writers have
+// accepted a beginning. It gives both back.
+fn report_to<'w, W: WriteStr, S: WriteStr>(
+    alloc: Global,
+    options: &Options<'_>,
+    scene: &Scene,
+    writer: &'w mut W,
+    store: Option<Store<'w, S>>,
+) -> (Result<(), Fault<'static>>, &'w mut W, Option<Store<'w, S>>)
+    requires store_asked { config_of store ≡ store_for options.now }
+    requires delivered { W.meaning.is_delivered writer.old }
+    requires store_delivered { store_delivered S.meaning store }
+    requires accepted { IsSceneAccepted options.now scene.now }
+    ensures same_reference { result.1.ghost_name ≡ writer.entry.ghost_name }
+    ensures same_store { IsSameStore store.entry result.2 }
+    ensures ok { OnOk result.0 (HasReportedTo W.meaning (store_meaning S.meaning) options.now writer.old result.1.now store.entry result.2 (scene_lines scene.now)) }
+    ensures err { IfErr result.0 (BreaksParsed W.meaning (store_meaning S.meaning) options.now writer.old result.1.now store.entry result.2 (scene_lines scene.now)) }
+{
+    let builder = match builder_of(alloc, options, &scene.config) {
+        Ok(builder) => builder,
+        Err(fault) => return (Err(fault), writer, store),
+    };
+    let reporter = builder.build_in(alloc, writer, store, surroundings_of(&scene.config));
+    let mut reporter = SceneReporter::new(reporter);
+    let (events, lines) = (scene.events.as_slice(), scene.lines.as_slice());
+    let reported = reporter.report_events(alloc, options, events, lines);
+    let (writer, store) = reporter.reporter.into_parts();
+    (reported, writer, store)
+}

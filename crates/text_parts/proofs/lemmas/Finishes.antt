@@ -1,0 +1,49 @@
+-- What a reason for cancelling does to the outputs of tests (for `reasons_only_hide`, and in console_reporter for the lemmas of UninterruptedRuns, Exactness).
+use Rattle.std.specs.Prelude.{◌==◌, nat_lt}
+use Rattle.std.proofs.Common.{◌≡◌, ℕ, ◌<◌, ◌∙◌, true, false, refl, sym, ap, arith}
+use Rattle.std.proofs.lemmas.Bool.{false≢true}
+use Rattle.std.proofs.lemmas.Bool.Decides.{nat_tests}
+use Rattle.run_names.specs.Displays.{is_immediate, is_final}
+use Rattle.run_names.specs.declared.config.TestOutputDisplay.{TestOutputDisplay}
+use Rattle.run_names.specs.declared.config.TestOutputDisplay.TheVariants.{Immediate, ImmediateFinal, Final, Never}
+use Rattle.run_model.specs.declared.status.ExecutionResultDescription.{ExecutionResultDescription}
+use Rattle.text_parts.specs.Finish.{IsOnlyHidden, IsSameBelowImmediate, output_timing, is_shown_at_end, is_shown_at_once, timed_at_end, timed_at_once}
+use Rattle.text_parts.specs.declared.finish.OutputTiming.{OutputTiming}
+use Rattle.text_parts.specs.declared.finish.OutputTiming.TheVariants.{Hidden, Shown, ShownOnce}
+
+-- below the immediate end, and without a reason, the row is one
+pub row_below : (reason : ℕ) (result : ExecutionResultDescription) → reason < 5 → output_timing reason result ≡ Shown
+unfolding output_timing
+row_below reason result h =
+    let other : (reason == 5) ≡ false = grind (arith, nat_tests) in
+    let less : nat_lt reason 6 ≡ true = grind (arith, nat_tests) in
+    rw (other, less) refl
+
+at_once-immediate : (row : OutputTiming) (display : TestOutputDisplay) → timed_at_once row display ≡ true → is_immediate display ≡ true
+unfolding timed_at_once
+at_once-immediate Hidden display h = absurd (false≢true h)
+at_once-immediate Shown display h = h
+at_once-immediate ShownOnce display h = h
+
+at_end-final : (row : OutputTiming) (display : TestOutputDisplay) → timed_at_end row display ≡ true → is_final display ≡ true
+unfolding timed_at_end
+at_end-final Hidden display h = absurd (false≢true h)
+at_end-final Shown display h = h
+at_end-final ShownOnce Immediate h = h
+at_end-final ShownOnce ImmediateFinal h = refl
+at_end-final ShownOnce Final h = refl
+at_end-final ShownOnce Never h = h
+
+pub only_hidden-at_once : IsOnlyHidden is_shown_at_once
+unfolding output_timing timed_at_once
+only_hidden-at_once reason display result h = at_once-immediate (output_timing reason result) display h
+
+pub only_hidden-at_end : IsOnlyHidden is_shown_at_end
+unfolding output_timing timed_at_end
+only_hidden-at_end reason display result h = at_end-final (output_timing reason result) display h
+
+pub same-at_once : IsSameBelowImmediate is_shown_at_once
+same-at_once reason display result h = ap (λ row. timed_at_once row display) (row_below reason result h ∙ sym (row_below 0 result (omega arith)))
+
+pub same-at_end : IsSameBelowImmediate is_shown_at_end
+same-at_end reason display result h = ap (λ row. timed_at_end row display) (row_below reason result h ∙ sym (row_below 0 result (omega arith)))

@@ -1,0 +1,101 @@
+-- The output of a finished attempt or of a setup script, and how that ended.
+use Rattle.std.specs.Ordering.{int_eq}
+use Rattle.std.specs.Prelude.{pos, Bool, true, false, not, ◌&&◌, None, Some, [], ◌++◌, codes, if◌then◌else◌}
+use Rattle.run_model.specs.Attempts.{Written}
+use Rattle.run_model.specs.declared.status.ExecutionResultDescription.{ExecutionResultDescription}
+use Rattle.run_model.specs.declared.status.ExecutionResultDescription.TheVariants as outcome
+use Rattle.run_model.specs.declared.status.FailureDescription.{FailureDescription}
+use Rattle.run_model.specs.declared.status.FailureDescription.TheVariants.{ExitCode, Abort}
+use Rattle.run_model.specs.declared.status.LeakTimeoutResult.TheVariants as leak
+use Rattle.run_model.specs.declared.status.SlowTimeoutResult.TheVariants as slow
+use Rattle.run_names.specs.declared.unit.UnitKind.{UnitKind}
+use Rattle.run_names.specs.declared.unit.UnitKind.TheVariants as unit
+use Rattle.plain_text.specs.Texts.{Text}
+use Rattle.plain_text.specs.Style.{plain}
+use Rattle.report_words.specs.declared.theme.ThemeCharacters.{ThemeCharacters}
+use Rattle.plain_text.specs.declared.style.Style.{Style}
+use Rattle.plain_text.specs.declared.style.Styles.{Styles}
+use Rattle.unit_report.specs.UnitOutput.{OutputLayout, execution_output}
+use Rattle.unit_report.specs.declared.unit_output.header.OutputHeader.{OutputHeader}
+use Rattle.unit_report.specs.declared.unit_output.header.OutputHeader.TheVariants.{Bars}
+use Rattle.unit_report.specs.declared.unit_output.header.OutputName.{OutputName}
+use Rattle.unit_report.specs.declared.unit_output.header.OutputName.TheVariants as name
+use Rattle.text_parts.specs.InfoResult.{info_text}
+use Rattle.text_parts.specs.declared.settings.Settings.{Settings}
+
+-- the style of the headers: that of retries, else by how the attempt ended
+abbrev pub result_style : Styles → ExecutionResultDescription → Style
+result_style s outcome.Pass = s.pass
+result_style s (outcome.Leak leak.Pass) = s.skip
+result_style s (outcome.Leak leak.Fail) = s.fail
+result_style s (outcome.Fail failure leaked) = s.fail
+result_style s outcome.ExecFail = s.fail
+result_style s (outcome.Timeout slow.Pass) = s.skip
+result_style s (outcome.Timeout slow.Fail) = s.fail
+
+abbrev pub header_style : Styles → ExecutionResultDescription → Bool → Style
+header_style s result is_retry = if is_retry then s.retry else result_style s result
+
+-- the bars of a header; the flag says that output stands at the beginning of its lines
+abbrev pub stream_header : Bool → ThemeCharacters → Style → OutputName → OutputHeader
+stream_header true theme style name = Bars style theme (Some 2) name 2
+stream_header false theme style name = Bars style theme None name 3
+
+abbrev pub exec_fail_header : Bool → ThemeCharacters → Style → OutputHeader
+exec_fail_header true theme style = Bars style theme (Some 1) name.ExecFail 1
+exec_fail_header false theme style = Bars style theme None name.ExecFail 1
+
+abbrev pub output_margin : Bool → Text
+output_margin true = []
+output_margin false = codes "    "
+
+abbrev pub layout_in : UnitKind → Bool → ThemeCharacters → Style → OutputLayout
+layout_in kind no_indent theme style = record {
+  kind = kind;
+  stdout_header = stream_header no_indent theme style name.Stdout;
+  stderr_header = stream_header no_indent theme style name.Stderr;
+  combined_header = stream_header no_indent theme style name.Output;
+  exec_fail_header = exec_fail_header no_indent theme style;
+  output_indent = output_margin no_indent;
+}
+
+-- how the output of a unit is laid out that ended so
+abbrev pub finished_layout : Settings → UnitKind → ExecutionResultDescription → Bool → OutputLayout
+finished_layout s kind result is_retry = layout_in kind s.no_output_indent s.theme_characters (header_style s.styles result is_retry)
+
+-- how the unit ended is said again after its output, unless that is plain: not of a panic, which ends with code 101,
+-- nor of a code where handles were left open
+abbrev pub has_info_after_failure : FailureDescription → Bool → Bool
+has_info_after_failure (ExitCode code) leaked = not (int_eq code (pos 101)) && not leaked
+has_info_after_failure (Abort abort) leaked = true
+
+abbrev pub has_info_line : ExecutionResultDescription → Bool
+has_info_line outcome.Pass = false
+has_info_line (outcome.Leak result) = true
+has_info_line (outcome.Fail failure leaked) = has_info_after_failure failure leaked
+has_info_line outcome.ExecFail = false
+has_info_line (outcome.Timeout result) = true
+
+-- how the line begins that says so; a benchmark is called a test there
+unfoldable pub info_line_start : UnitKind → Text
+info_line_start unit.Test = codes "    (test "
+info_line_start unit.Script = codes "    (script "
+
+-- that line, aligned with the output, and an empty line
+unfoldable pub shown_info_line : Styles → UnitKind → ExecutionResultDescription → Text
+shown_info_line s kind result = plain (info_line_start kind) ++ (info_text s false result ++ plain (codes ")\n\n"))
+
+unfoldable pub info_line : Styles → UnitKind → ExecutionResultDescription → Text
+info_line s kind result = if has_info_line result then shown_info_line s kind result else []
+
+-- what a unit wrote, which ended so, and how it ended; the flag says that another attempt follows
+unfoldable pub unit_output : Settings → UnitKind → Bool → ExecutionResultDescription → Written → Text
+unit_output s kind is_retry result output =
+    execution_output s.unit_output s.styles (finished_layout s kind result is_retry) output ++ info_line s.styles kind result
+
+-- the same of an attempt of a test, and of a setup script, which is never tried again
+abbrev pub attempt_output : Settings → Bool → ExecutionResultDescription → Written → Text
+attempt_output s is_retry result output = unit_output s unit.Test is_retry result output
+
+abbrev pub script_output : Settings → ExecutionResultDescription → Written → Text
+script_output s result output = unit_output s unit.Script false result output

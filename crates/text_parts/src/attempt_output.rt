@@ -1,0 +1,252 @@
+//! The output of a finished attempt or of a setup script, and how that ended.
+
+ghost use Rattle.std.specs.Prelude.{◌≡◌, true};
+ghost use Rattle.run_model.specs.Outputs.{has_loaded_output};
+ghost use Rattle.plain_text.specs.Writer.{Puts};
+ghost use Rattle.unit_report.specs.UnitOutput.{layout_of};
+ghost use Rattle.text_parts.specs.AttemptOutput.{attempt_output, exec_fail_header, finished_layout, has_info_after_failure, has_info_line, header_style, info_line, info_line_start, layout_in, output_margin, result_style, script_output, shown_info_line, stream_header, unit_output};
+
+use crate::info_result::write_info_result;
+use crate::settings::Settings;
+use plain_text::style::{Style, Styles, write_plain};
+use plain_text::write_str::{WriteFault, WriteStr};
+use report_text::helpers::ThemeCharacters;
+use run_model::output::{ChildExecutionOutputDescription, LiveSpec};
+use run_model::status::{
+    ExecutionResultDescription, FailureDescription, LeakTimeoutResult, SlowTimeoutResult,
+};
+use run_model::unit::UnitKind;
+use unit_report::unit_output::{ChildOutputSpec, OutputHeader, OutputName};
+
+/// Writes the output of an attempt that ended with this result, and how it ended where nextest has a line for that.
+///
+/// `is_retry` says that another attempt follows. The output must not have been left unread.
+pub fn write_test_execute_status<W: WriteStr>(
+    w: &mut W,
+    settings: &Settings,
+    is_retry: bool,
+    outcome: &ExecutionResultDescription,
+    output: &ChildExecutionOutputDescription<LiveSpec>,
+) -> Result<(), WriteFault>
+    requires { has_loaded_output output.now ≡ true }
+    ensures { Puts W.meaning w.old (attempt_output settings.now is_retry outcome.now output.now) result w.new }
+{
+    let kind = UnitKind::Test;
+    write_unit_execute_status(w, settings, kind, is_retry, outcome, output)
+}
+
+/// Writes the output of a setup script that ended with this result, and how it ended where nextest has a line for that. It
+/// must not have been left unread.
+pub fn write_setup_script_execute_status<W: WriteStr>(
+    w: &mut W,
+    settings: &Settings,
+    outcome: &ExecutionResultDescription,
+    output: &ChildExecutionOutputDescription<LiveSpec>,
+) -> Result<(), WriteFault>
+    requires { has_loaded_output output.now ≡ true }
+    ensures { Puts W.meaning w.old (script_output settings.now outcome.now output.now) result w.new }
+{
+    let kind = UnitKind::Script;
+    write_unit_execute_status(w, settings, kind, false, outcome, output)
+}
+
+// Writes the same of either.
+#[tactic(auto, unfolding(crate::specs::AttemptOutput::unit_output))]
+fn write_unit_execute_status<W: WriteStr>(
+    w: &mut W,
+    settings: &Settings,
+    kind: UnitKind,
+    is_retry: bool,
+    outcome: &ExecutionResultDescription,
+    output: &ChildExecutionOutputDescription<LiveSpec>,
+) -> Result<(), WriteFault>
+    requires { has_loaded_output output.now ≡ true }
+    ensures { Puts W.meaning w.old (unit_output settings.now kind is_retry outcome.now output.now) result w.new }
+{
+    let spec = output_spec_for_finished(settings, kind, outcome, is_retry);
+    settings
+        .unit_output
+        .write_child_execution_output(&settings.styles, &spec, output, w)?;
+    write_info_line(w, &settings.styles, kind, outcome)
+}
+
+// Writes how the unit ended, unless that is plain.
+#[tactic(auto, unfolding(crate::specs::AttemptOutput::info_line))]
+fn write_info_line<W: WriteStr>(
+    w: &mut W,
+    styles: &Styles,
+    kind: UnitKind,
+    outcome: &ExecutionResultDescription,
+) -> Result<(), WriteFault>
+    ensures { Puts W.meaning w.old (info_line styles.now kind outcome.now) result w.new }
+{
+    if show_finished_status_info_line(outcome) {
+        write_shown_info_line(w, styles, kind, outcome)
+    } else {
+        Ok(())
+    }
+}
+
+// Writes how the unit ended, aligned with the output, and an empty line.
+#[tactic(auto, unfolding(crate::specs::AttemptOutput::shown_info_line))]
+fn write_shown_info_line<W: WriteStr>(
+    w: &mut W,
+    styles: &Styles,
+    kind: UnitKind,
+    outcome: &ExecutionResultDescription,
+) -> Result<(), WriteFault>
+    ensures { Puts W.meaning w.old (shown_info_line styles.now kind outcome.now) result w.new }
+{
+    write_plain(w, info_line_start(kind))?;
+    // A pass has no such line, so none was slow.
+    write_info_result(w, styles, false, outcome)?;
+    write_plain(w, ")\n\n")
+}
+
+// How that line begins. A benchmark is called a test there.
+#[tactic(auto, unfolding(crate::specs::AttemptOutput::info_line_start))]
+fn info_line_start(kind: UnitKind) -> &'static str
+    ensures { result.now ≡ info_line_start kind }
+{
+    match kind {
+        UnitKind::Test => "    (test ",
+        UnitKind::Script => "    (script ",
+    }
+}
+
+// Whether how the attempt ended is said again after its output.
+fn show_finished_status_info_line(outcome: &ExecutionResultDescription) -> bool
+    ensures { result ≡ has_info_line outcome.now }
+{
+    match outcome {
+        ExecutionResultDescription::Leak { .. } | ExecutionResultDescription::Timeout { .. } =>
+            true,
+        ExecutionResultDescription::Fail { failure, leaked } => shows_failure(failure, *leaked),
+        ExecutionResultDescription::Pass | ExecutionResultDescription::ExecFail => false,
+    }
+}
+
+// Whether a failure is said again: not that of a panic, which ends with code 101, nor a code where handles were left open.
+fn shows_failure(failure: &FailureDescription, leaked: bool) -> bool
+    ensures { result ≡ has_info_after_failure failure.now leaked }
+{
+    match failure {
+        FailureDescription::ExitCode { code } => *code != 101 && !leaked,
+        FailureDescription::Abort { .. } => true,
+    }
+}
+
+// How the output of a unit is laid out that ended so.
+fn output_spec_for_finished(
+    settings: &Settings,
+    kind: UnitKind,
+    outcome: &ExecutionResultDescription,
+    is_retry: bool,
+) -> ChildOutputSpec
+    ensures { layout_of result ≡ finished_layout settings.now kind outcome.now is_retry }
+{
+    let style = if is_retry {
+        settings.styles.retry
+    } else {
+        result_style(&settings.styles, outcome)
+    };
+    spec_in(
+        kind,
+        settings.no_output_indent,
+        settings.theme_characters,
+        style,
+    )
+}
+
+// The layout with headers in this style. `no_output_indent` says that output stands at the beginning of its lines.
+fn spec_in(
+    kind: UnitKind,
+    no_output_indent: bool,
+    theme_characters: ThemeCharacters,
+    style: Style,
+) -> ChildOutputSpec
+    ensures { layout_of result ≡ layout_in kind no_output_indent theme_characters style }
+{
+    let stdout = OutputName::Stdout;
+    let stderr = OutputName::Stderr;
+    let combined = OutputName::Output;
+    ChildOutputSpec {
+        kind,
+        stdout_header: stream_header(no_output_indent, theme_characters, style, stdout),
+        stderr_header: stream_header(no_output_indent, theme_characters, style, stderr),
+        combined_header: stream_header(no_output_indent, theme_characters, style, combined),
+        exec_fail_header: exec_fail_header(no_output_indent, theme_characters, style),
+        output_indent: output_margin(no_output_indent),
+    }
+}
+
+// What stands before each line of an output that is not empty.
+fn output_margin(no_output_indent: bool) -> &'static str
+    ensures { result.now ≡ output_margin no_output_indent }
+{
+    if no_output_indent { "" } else { "    " }
+}
+
+// The header of a stream: between bars, or a space and a longer bar.
+fn stream_header(
+    no_output_indent: bool,
+    theme_characters: ThemeCharacters,
+    style: Style,
+    name: OutputName,
+) -> OutputHeader
+    ensures { result ≡ stream_header no_output_indent theme_characters style name }
+{
+    let (left, right) = if no_output_indent {
+        (Some(2), 2)
+    } else {
+        (None, 3)
+    };
+    OutputHeader::Bars {
+        style,
+        theme_characters,
+        left,
+        name,
+        right,
+    }
+}
+
+// The header of errors, whose name is longer.
+fn exec_fail_header(
+    no_output_indent: bool,
+    theme_characters: ThemeCharacters,
+    style: Style,
+) -> OutputHeader
+    ensures { result ≡ exec_fail_header no_output_indent theme_characters style }
+{
+    let left = if no_output_indent { Some(1) } else { None };
+    OutputHeader::Bars {
+        style,
+        theme_characters,
+        left,
+        name: OutputName::ExecFail,
+        right: 1,
+    }
+}
+
+// The style of the headers by how the attempt ended.
+fn result_style(styles: &Styles, outcome: &ExecutionResultDescription) -> Style
+    ensures { result ≡ result_style styles.now outcome.now }
+{
+    match outcome {
+        ExecutionResultDescription::Pass => styles.pass,
+        ExecutionResultDescription::Leak {
+            result: LeakTimeoutResult::Pass,
+        }
+        | ExecutionResultDescription::Timeout {
+            result: SlowTimeoutResult::Pass,
+        } => styles.skip,
+        ExecutionResultDescription::Leak {
+            result: LeakTimeoutResult::Fail,
+        }
+        | ExecutionResultDescription::Fail { .. }
+        | ExecutionResultDescription::ExecFail
+        | ExecutionResultDescription::Timeout {
+            result: SlowTimeoutResult::Fail,
+        } => styles.fail,
+    }
+}
