@@ -10,6 +10,7 @@ use Rattle.scene_text.specs.TestLines.{retry_fields, test_fields}
 use Rattle.scene_fields.specs.Values.{stress_in}
 use Rattle.scene_events.specs.declared.scene.event.SceneEvent.{SceneEvent}
 use Rattle.scene_events.specs.declared.scene.event.SceneEvent.TheVariants as event
+use Rattle.scene_events.specs.declared.scene.info_events.InfoFinish.{InfoFinish}
 use Rattle.scene_events.specs.declared.scene.info_events.InfoStart.{InfoStart}
 use Rattle.scene_events.specs.declared.scene.info_events.UnitAnswer.{UnitAnswer}
 
@@ -22,10 +23,10 @@ info_line_fields = do
   says (record { elapsed = elapsed; total = total; run_stats = stats })
 
 -- `infoend`: how many units have not answered
-unfoldable pub info_end_line_fields : Line SceneEvent
+unfoldable pub info_end_line_fields : Line InfoFinish
 info_end_line_fields = do
   missing ← field (number_in 64)
-  says (event.InfoFinished (record { missing = missing }))
+  says (record { missing = missing })
 
 -- what a unit is doing, how the attempt ended, and what it has written
 unfoldable pub answer_fields : Line UnitAnswer

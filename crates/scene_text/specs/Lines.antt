@@ -42,7 +42,7 @@ run_event_rows =
     ∷ (codes "pause", exactly 2 (made event.RunPaused pause_line_fields))
     ∷ (codes "continue", exactly 2 (made event.RunContinued pause_line_fields))
     ∷ (codes "info", exactly 3 (made event.InfoStarted info_line_fields))
-    ∷ (codes "infoend", exactly 1 info_end_line_fields)
+    ∷ (codes "infoend", exactly 1 (made event.InfoFinished info_end_line_fields))
     ∷ (codes "input", exactly 3 (made event.InputEnter input_line_fields))
     ∷ (codes "subend", exactly 3 (made event.StressSubRunFinished sub_end_line_fields))
     ∷ []

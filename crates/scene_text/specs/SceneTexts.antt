@@ -186,5 +186,5 @@ pub record IsFirstFault (lines : List (List ℕ)) (number : ℕ) (f : LineFault)
   pub whole : lines ≡ front ++ line ∷ rest
   pub place : number ≡ length front + 1
   pub before : ParsedLines
-  pub told_so_far : AllRead no_lines front before
+  pub read_so_far : AllRead no_lines front before
   pub wrong : line_read before line ≡ Err f

@@ -59,7 +59,7 @@ pub struct LinesRead {
 impl LinesRead {
     /// No line.
     pub fn new(alloc: Global) -> LinesRead
-        ensures told { parsed_lines result.run ≡ no_lines }
+        ensures read { parsed_lines result.run ≡ no_lines }
         ensures lines { result.run.lines.items ≡ [] }
         ensures begun { result.is_begun ≡ false }
         ensures next { result.next ≡ 1 }
@@ -166,7 +166,7 @@ fn read_line<'a>(
     binaries: &mut BinaryIds,
     run: &mut ParsedRun,
 ) -> Result<(), LineError>
-    ensures told { Reads (λ _. parsed_lines run.new) result (line_read_behind is_begun (parsed_lines run.old) line.now) }
+    ensures read { Reads (λ _. parsed_lines run.new) result (line_read_behind is_begun (parsed_lines run.old) line.now) }
     ensures lines { OnOk result (run.new.lines.items ≡ run.old.lines.items ++ line_here number (parsed_lines run.old) (parsed_lines run.new)) }
     ensures unread { OnErr result (IsSameRun run.old run.new) }
 {
@@ -197,7 +197,7 @@ fn read_owned_line(
     binaries: &mut BinaryIds,
     run: &mut ParsedRun,
 ) -> Result<(), LineError>
-    ensures told { Reads (λ _. parsed_lines run.new) result (line_read_behind is_begun (parsed_lines run.old) line.items) }
+    ensures read { Reads (λ _. parsed_lines run.new) result (line_read_behind is_begun (parsed_lines run.old) line.items) }
     ensures lines { OnOk result (run.new.lines.items ≡ run.old.lines.items ++ line_here number (parsed_lines run.old) (parsed_lines run.new)) }
     ensures unread { OnErr result (IsSameRun run.old run.new) }
 {
@@ -224,7 +224,7 @@ fn read_fields(
     run: &mut ParsedRun,
 ) -> Result<(), LineError>
     requires { fields.number ≡ 0 }
-    ensures told { Reads (λ _. parsed_lines run.new) result (words_read_behind is_begun (parsed_lines run.old) fields.entry.left) }
+    ensures read { Reads (λ _. parsed_lines run.new) result (words_read_behind is_begun (parsed_lines run.old) fields.entry.left) }
     ensures lines { OnOk result (run.new.lines.items ≡ run.old.lines.items ++ line_here number (parsed_lines run.old) (parsed_lines run.new)) }
     ensures unread { OnErr result (IsSameRun run.old run.new) }
 {

@@ -48,7 +48,7 @@ impl<'a, W: WriteStr, S: WriteStr> SceneReporter<'a, W, S> {
         lines: &[u64],
     ) -> Result<(), Fault<'static>>
         ensures same { IsSameReporter self.old.reporter self.new.reporter }
-        ensures told { OnOk result ((config : SceneConfig) (start : SceneReporter W S) (base : List SceneEvent) → Follows W.meaning S.meaning options.now start self.old (record { config = config; events = base })
+        ensures reported { OnOk result ((config : SceneConfig) (start : SceneReporter W S) (base : List SceneEvent) → Follows W.meaning S.meaning options.now start self.old (record { config = config; events = base })
             → Follows W.meaning S.meaning options.now start self.new (record { config = config; events = base ++ events.now })) }
         ensures left { IfErr result (λ fault. (config : SceneConfig) (start : SceneReporter W S) (base : List SceneEvent) → Follows W.meaning S.meaning options.now start self.old (record { config = config; events = base })
             → StopsAtEvent W.meaning S.meaning options.now config events.now lines.now base fault start self.new) }
@@ -85,7 +85,7 @@ impl<'a, W: WriteStr, S: WriteStr> SceneReporter<'a, W, S> {
         buffer: &mut Vec<ReportCall<'e>>,
     ) -> Result<(), Fault<'static>>
         ensures same { IsSameReporter self.old.reporter self.new.reporter }
-        ensures told { OnOk result (ReportsEvent W.meaning S.meaning options.now decider.now event.now self.old self.new) }
+        ensures reported { OnOk result (ReportsEvent W.meaning S.meaning options.now decider.now event.now self.old self.new) }
         ensures delivered { AreDelivered W.meaning S.meaning self.old.reporter → OnOk result (AreDelivered W.meaning S.meaning self.new.reporter) }
         ensures left { IfErr result (λ fault. LeavesEvent W.meaning S.meaning options.now decider.now number event.now fault self.old self.new) }
         ensures failed { HasFailed self.old.reporter → (self.new ≡ self.old) × OnOk result ⊥ }

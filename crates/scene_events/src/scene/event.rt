@@ -110,12 +110,10 @@ impl SceneEvent {
     /// Pushes the call that this event is. It borrows the event's names.
     ///
     /// ```
-    /// use run_model::boxed::Boxed;
-    /// use scene_events::scene::run_events::RunPause;
-    /// let pause = RunPause { setup_scripts_running: 0, running: 2 };
-    /// let paused = SceneEvent::RunPaused(Boxed::new(alloc, pause)?);
+    /// use scene_events::scene::info_events::InfoFinish;
+    /// let finished = SceneEvent::InfoFinished(InfoFinish { missing: 1 });
     /// let mut calls = Vec::new(alloc);
-    /// paused.push_call(alloc, &mut calls)?;
+    /// finished.push_call(alloc, &mut calls)?;
     /// assert!(matches!(calls.as_slice(), [ReportCall::Event(_)]));
     /// ```
     pub fn push_call<'a>(

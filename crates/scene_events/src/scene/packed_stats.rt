@@ -1,7 +1,7 @@
 //! The statistics of a run in a short form: an event has them for each test that starts or finishes, and a scene may hold a million.
 
-ghost use Rattle.std.specs.Prelude.{◌≡◌, IfOk, IfSome};
-ghost use Rattle.scene_events.specs.PackedStats.{short_stats};
+ghost use Rattle.std.specs.Prelude.{◌≡◌, IfOk, IfSome, IsOk, IsSome};
+ghost use Rattle.scene_events.specs.PackedStats.{IsShort, short_stats};
 
 use run_model::boxed::Boxed;
 use run_model::level::CancelReason;
@@ -63,7 +63,8 @@ impl Model for PackedStats {
 impl PackedStats {
     /// The short form of these statistics. It allocates only where a count is too large for it.
     pub fn new(alloc: Global, stats: RunStats) -> Result<Self, OutOfMemory>
-        ensures { IfOk result (λ packed. packed ≡ stats) }
+        ensures value { IfOk result (λ packed. packed ≡ stats) }
+        ensures free { IsShort stats → IsOk result }
     {
         let counts = match ShortCounts::of(&stats) {
             Some(counts) => PackedCounts::Short(counts),
@@ -86,23 +87,43 @@ impl PackedStats {
 impl ShortCounts {
     // The counts of these statistics, where each fits.
     fn of(stats: &RunStats) -> Option<ShortCounts>
-        ensures { IfSome result (λ counts. short_stats counts ≡ stats.now) }
+        ensures value { IfSome result (λ counts. short_stats counts ≡ stats.now) }
+        ensures fits { IsShort stats.now → IsSome result }
     {
+        let largest = stats
+            .initial_run_count
+            .max(stats.finished_count)
+            .max(stats.passed);
+        let largest_of_others = stats
+            .passed_slow
+            .max(stats.flaky)
+            .max(stats.leaky)
+            .max(stats.failed)
+            .max(stats.leaky_failed)
+            .max(stats.exec_failed)
+            .max(stats.timed_out)
+            .max(stats.skipped)
+            .max(stats.setup_scripts_failed)
+            .max(stats.setup_scripts_exec_failed)
+            .max(stats.setup_scripts_timed_out);
+        if largest > u32::MAX as usize || largest_of_others > u16::MAX as usize {
+            return None;
+        }
         Some(ShortCounts {
-            initial_run_count: in_32_bits(stats.initial_run_count)?,
-            finished_count: in_32_bits(stats.finished_count)?,
-            passed: in_32_bits(stats.passed)?,
-            passed_slow: in_16_bits(stats.passed_slow)?,
-            flaky: in_16_bits(stats.flaky)?,
-            leaky: in_16_bits(stats.leaky)?,
-            failed: in_16_bits(stats.failed)?,
-            leaky_failed: in_16_bits(stats.leaky_failed)?,
-            exec_failed: in_16_bits(stats.exec_failed)?,
-            timed_out: in_16_bits(stats.timed_out)?,
-            skipped: in_16_bits(stats.skipped)?,
-            setup_scripts_failed: in_16_bits(stats.setup_scripts_failed)?,
-            setup_scripts_exec_failed: in_16_bits(stats.setup_scripts_exec_failed)?,
-            setup_scripts_timed_out: in_16_bits(stats.setup_scripts_timed_out)?,
+            initial_run_count: stats.initial_run_count as u32,
+            finished_count: stats.finished_count as u32,
+            passed: stats.passed as u32,
+            passed_slow: stats.passed_slow as u16,
+            flaky: stats.flaky as u16,
+            leaky: stats.leaky as u16,
+            failed: stats.failed as u16,
+            leaky_failed: stats.leaky_failed as u16,
+            exec_failed: stats.exec_failed as u16,
+            timed_out: stats.timed_out as u16,
+            skipped: stats.skipped as u16,
+            setup_scripts_failed: stats.setup_scripts_failed as u16,
+            setup_scripts_exec_failed: stats.setup_scripts_exec_failed as u16,
+            setup_scripts_timed_out: stats.setup_scripts_timed_out as u16,
             cancel_reason: stats.cancel_reason,
         })
     }
@@ -129,18 +150,4 @@ impl ShortCounts {
             cancel_reason: self.cancel_reason,
         }
     }
-}
-
-// A count in 32 bits, where it fits.
-fn in_32_bits(count: usize) -> Option<u32>
-    ensures { IfSome result (λ short. short ≡ count) }
-{
-    u32::try_from(count).ok()
-}
-
-// A count in 16 bits, where it fits.
-fn in_16_bits(count: usize) -> Option<u16>
-    ensures { IfSome result (λ short. short ≡ count) }
-{
-    u16::try_from(count).ok()
 }

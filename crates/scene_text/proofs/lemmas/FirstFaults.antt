@@ -50,7 +50,7 @@ record IsFaultFrom (before : ParsedLines) (lines : List (List ℕ)) (first numbe
   pub whole : lines ≡ front ++ line ∷ rest
   pub place : number ≡ length front + first
   pub last : ParsedLines
-  pub told_so_far : AllRead before front last
+  pub read_so_far : AllRead before front last
   pub wrong : line_read last line ≡ Err f
 
 first_fault : (first : ℕ) (before : ParsedLines) (ts : List (List ℕ)) (n : ℕ) (f : LineFault) → lines_read first before ts ≡ Err (n, f) → IsFaultFrom before ts first n f
@@ -59,14 +59,14 @@ first_fault first before [] n f h = absurd (differs before n f h)
 first_fault first before (t ∷ ts) n f h = elim (line_cases (line_read before t)) [
   | inl x ↦
       let r = first_fault (first + 1) x.0 ts n f (rw x.1 at h) in
-      record { front = t ∷ r.front; line = r.line; rest = r.rest; whole = ap (λ us. t ∷ us) r.whole; place = omega (arith, r.place); last = r.last; told_so_far = (x.0, x.1, r.told_so_far); wrong = r.wrong }
+      record { front = t ∷ r.front; line = r.line; rest = r.rest; whole = ap (λ us. t ∷ us) r.whole; place = omega (arith, r.place); last = r.last; read_so_far = (x.0, x.1, r.read_so_far); wrong = r.wrong }
   | inr x ↦
       let s = same_fault first n x.0 f (rw x.1 at h) in
-      record { front = []; line = t; rest = ts; whole = refl; place = omega (arith, s.0); last = before; told_so_far = refl; wrong = x.1 ∙ ap (λ g. Err g) s.1 }
+      record { front = []; line = t; rest = ts; whole = refl; place = omega (arith, s.0); last = before; read_so_far = refl; wrong = x.1 ∙ ap (λ g. Err g) s.1 }
 ]
 
 -- the first fault of a text
 pub text_fault : (text : List ℕ) (n : ℕ) (f : LineFault) → text_read text ≡ Err (n, f) → IsFirstFault (split_on 10 text) n f
 text_fault text n f h =
     let r = first_fault 1 no_lines (split_on 10 text) n f h in
-    record { front = r.front; line = r.line; rest = r.rest; whole = r.whole; place = r.place; before = r.last; told_so_far = r.told_so_far; wrong = r.wrong }
+    record { front = r.front; line = r.line; rest = r.rest; whole = r.whole; place = r.place; before = r.last; read_so_far = r.read_so_far; wrong = r.wrong }

@@ -92,7 +92,7 @@ less_after n a b = grind (arith, nat_tests)
 here_after : (base : List SceneEvent) (n : ℕ) (before after : ParsedLines) → line_here n (lines_after base before) (lines_after base after) ≡ line_here n before after
 here_after base n before after = rw (length-append base before.events, length-append base after.events, less_after (length base) (length before.events) (length after.events)) refl
 
--- what is told of a line that is wrong
+-- the fault of a line that is wrong, by its number
 pub fault_here : (n : ℕ) (error : LineError) (read : Result ParsedLines LineFault) → Fails error read → IsFaultHere n read (fault_at n error)
 fault_here n (error.Fault f) read h = (refl, h)
 fault_here n error.OutOfMemory read h = tt

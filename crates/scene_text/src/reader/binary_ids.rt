@@ -1,6 +1,6 @@
 //! The binaries that the lines so far have named, so that the lines of their tests share one id.
 
-ghost use Rattle.std.specs.Prelude.{◌≡◌, Some, IfOk};
+ghost use Rattle.std.specs.Prelude.{◌≡◌, [], Some, IfOk};
 ghost use Rattle.scene_fields.specs.Texts.{text_in};
 
 use run_model::memory::OutOfMemory;
@@ -26,7 +26,9 @@ struct KnownBinary {
 
 impl BinaryIds {
     /// No ids.
-    pub fn new(alloc: Global) -> BinaryIds {
+    pub fn new(alloc: Global) -> BinaryIds
+        ensures { result.known.items ≡ [] }
+    {
         BinaryIds {
             known: Vec::new(alloc),
         }

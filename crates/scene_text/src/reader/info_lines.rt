@@ -38,11 +38,11 @@ pub fn read_info(fields: &mut Fields<'_>) -> Result<InfoStart, LineFault>
 
 /// Reads an `infoend` line: how many units have not answered.
 #[tactic(auto, unfolding(crate::specs::InfoLines::info_end_line_fields))]
-pub fn read_info_end(fields: &mut Fields<'_>) -> Result<SceneEvent, LineFault>
+pub fn read_info_end(fields: &mut Fields<'_>) -> Result<InfoFinish, LineFault>
     ensures { info_end_line_fields fields.old ≡ answered result fields.new }
 {
     let missing = fields.read(read_count)?;
-    Ok(SceneEvent::InfoFinished(InfoFinish { missing }))
+    Ok(InfoFinish { missing })
 }
 
 /// Reads an `answer-script` line: which answer it is of how many, the iteration, the script, and its answer.

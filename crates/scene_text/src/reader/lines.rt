@@ -106,7 +106,7 @@ fn read_run_event(alloc: Global, word: &str, fields: Fields<'_>) -> Result<Scene
             let start = read_info(&mut fields.exactly(3)?)?;
             Ok(SceneEvent::InfoStarted(Boxed::new(alloc, start)?))
         }
-        "infoend" => Ok(read_info_end(&mut fields.exactly(1)?)?),
+        "infoend" => Ok(SceneEvent::InfoFinished(read_info_end(&mut fields.exactly(1)?)?)),
         "input" => {
             let request = read_input(&mut fields.exactly(3)?)?;
             Ok(SceneEvent::InputEnter(Boxed::new(alloc, request)?))

@@ -47,7 +47,7 @@ wrong_said : (run : ParsedLines) (t : List ℕ) (f : LineFault) → line_read ru
 unfolding line_read
 wrong_said run t f h = wrong_with run f (parsed_line (lines_before run) t) h
 
--- what is told so far holds, and nothing more could be read behind it
+-- what was read so far holds, and nothing more could be read behind it
 module _ (options : Options) (text : List ℕ) (P : ParsedLines → Type 0) (Q : ParsedLines → Fault → Type 0) (run : ParsedLines) (holds : P run) (refused : Q run fault.OutOfMemory) (left : List (List ℕ)) (number : ℕ) (at : AtLine text run left number) where
   left_unread : (file : List ℕ) (f : Fault) → IsUnread file f → StopsBy options text P Q f
   left_unread file fault.Usage h = absurd h
@@ -73,7 +73,7 @@ module _ (options : Options) (text : List ℕ) (P : ParsedLines → Type 0) (Q :
   nothing_more file f remaining (inl h) = left_unread file f h
   nothing_more file f remaining (inr x) = subst (StopsBy options text P Q) (sym x.1) (left_wrong x.0 x.2)
 
--- what is told, by its parts
+-- the lines that were read, by their parts
 told_same : (a : ParsedLines) (config : SceneConfig) (events : List SceneEvent) → a.config ≡ config → a.events ≡ events → a ≡ record { config = config; events = events }
 told_same a config events p q = rw (sym p, sym q) refl
 

@@ -33,7 +33,7 @@ position-None p xs i d e within =
     let all : length xs ≤ position_or_len p xs = grind (arith, common_steps) in
     fails_before_first p xs i d (omega (arith, within, all))
 
--- a call that is refused is told by its line
+-- the fault of a call that is refused is its line's
 is_line : (d : OutputLoadDecider) (call : ReportCall) (n : ℕ) → (option_map (fault_at_call n) (refusal_by d call) ≡ None) ⊎ ((f : LineFault) × (option_map (fault_at_call n) (refusal_by d call) ≡ Some (fault.Line n f)))
 is_line d (Event e) n = elim (cases_Bool (is_retried_success e.kind)) [
   | inl y ↦ inr (line.RetriedSuccess, rw y refl)
@@ -95,7 +95,7 @@ module _ (options : Options) (scene : Scene) where
   abbrev pub judge : OutputLoadDecider
   judge = decider_for options scene.config
 
-  -- this is what is told of the first call that is refused
+  -- this is the fault of the first call that is refused
   pub record IsToldOf (calls : List ReportCall) (x : Fault) : Type 0 where
     pub place : ℕ
     pub refused : first_refused judge calls ≡ Some place

@@ -20,13 +20,13 @@ pub returns-in-Ok-false-clause-ok : goal.returns-in-Ok-false-clause-ok
 returns-in-Ok-false-clause-ok g c = λ text has begun start.
     let k = c.loop-turn.invariant.keeps_up text has begun start in
     reported_all g.met.W.WriteStr.laws g.met.S.WriteStr.laws c.args.options.now text c.args.reporter.now c.loop-turn.reporter c.loop-turn.read c.loop-turn.more _ k c.report_events.new.self
-    (rw c.as_slice-events.ensures.value at c.in-Ok.ensures.told c.loop-turn.read.run.config c.args.reporter.now k.before.events k.follows) (rw (c.in-Ok-false.is, c.in-Ok-false.field-0-test) refl)
+    (rw c.as_slice-events.ensures.value at c.in-Ok.ensures.reported c.loop-turn.read.run.config c.args.reporter.now k.before.events k.follows) (rw (c.in-Ok-false.is, c.in-Ok-false.field-0-test) refl)
 
 pub returns-in-Err-more-clause-err : goal.returns-in-Err-more-clause-err
 returns-in-Err-more-clause-err g c = λ text has begun start.
     let k = c.loop-turn.invariant.keeps_up text has begun start in
     reported_first g.met.W.WriteStr.laws g.met.S.WriteStr.laws c.args.options.now text c.args.reporter.now c.loop-turn.reporter c.loop-turn.read c.loop-turn.more _ k c.report_events.new.self
-    (rw c.as_slice-events.ensures.value at c.in-Ok.ensures.told c.loop-turn.read.run.config c.args.reporter.now k.before.events k.follows) c.in-Err-more.fault c.in-Err-more.is
+    (rw c.as_slice-events.ensures.value at c.in-Ok.ensures.reported c.loop-turn.read.run.config c.args.reporter.now k.before.events k.follows) c.in-Err-more.fault c.in-Err-more.is
 
 pub loop-turn-preserved : goal.loop-turn-preserved
 loop-turn-preserved g c = record {
@@ -36,7 +36,7 @@ loop-turn-preserved g c = record {
       let read = forgotten g.met.W.WriteStr.laws g.met.S.WriteStr.laws c.args.options.now text c.args.reporter.now c.loop-turn.reporter c.loop-turn.read c.loop-turn.more _ k
       c.forget_events.new.self c.forget_events.ensures.config c.forget_events.ensures.events c.forget_events.ensures.lines c.forget_events.ensures.begun c.forget_events.ensures.next (rw (c.in-Ok-true.is, c.in-Ok-true.field-0-test) refl) in
       reads_on g.met.W.WriteStr.laws g.met.S.WriteStr.laws c.args.options.now text c.args.reporter.now c.loop-turn.reporter c.loop-turn.read c.loop-turn.more _ k c.report_events.new.self
-      (rw c.as_slice-events.ensures.value at c.in-Ok.ensures.told c.loop-turn.read.run.config c.args.reporter.now k.before.events k.follows) c.read_next-more.new.read c.read_next-more.result _ (c.read_next-more.ensures.read text _ _ read);
+      (rw c.as_slice-events.ensures.value at c.in-Ok.ensures.reported c.loop-turn.read.run.config c.args.reporter.now k.before.events k.follows) c.read_next-more.new.read c.read_next-more.result _ (c.read_next-more.ensures.read text _ _ read);
 }
 
 pub returns-clause-err : goal.returns-clause-err

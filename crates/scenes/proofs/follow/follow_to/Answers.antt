@@ -14,7 +14,7 @@ use Rattle.scenes.proofs.follow.follow_to.Goals as goal
 
 pub returns-in-Ok-clause-ok : goal.returns-in-Ok-clause-ok
 returns-in-Ok-clause-ok g c = λ text known delivered also.
-    let first = none_read c.args.options.now.file.now text c.new-read.result _ c.new-read.ensures.told c.new-read.ensures.lines c.new-read.ensures.begun c.new-read.ensures.next known in
+    let first = none_read c.args.options.now.file.now text c.new-read.result _ c.new-read.ensures.read c.new-read.ensures.lines c.new-read.ensures.begun c.new-read.ensures.next known in
     let read = c.read_head-more.new.read in
     let none = is_none read.run.events.items (sym (ap (λ n. n == 0) read.run.events.ok.0) ∙ sym c.is_empty.ensures ∙ c.if-is_empty.true) in
     let has = c.read_head-more.ensures.read text [] no_lines first in
@@ -23,7 +23,7 @@ returns-in-Ok-clause-ok g c = λ text known delivered also.
 
 pub returns-in-Err-clause-err : goal.returns-in-Err-clause-err
 returns-in-Err-clause-err g c = λ text known delivered also.
-    let first = none_read c.args.options.now.file.now text c.new-read.result _ c.new-read.ensures.told c.new-read.ensures.lines c.new-read.ensures.begun c.new-read.ensures.next known in
+    let first = none_read c.args.options.now.file.now text c.new-read.result _ c.new-read.ensures.read c.new-read.ensures.lines c.new-read.ensures.begun c.new-read.ensures.next known in
     let read = c.read_head-more.new.read in
     let none = is_none read.run.events.items (sym (ap (λ n. n == 0) read.run.events.ok.0) ∙ sym c.is_empty.ensures ∙ c.if-is_empty.true) in
     head_stops g.W.WriteStr.meaning (store_meaning g.S.WriteStr.meaning) g.met.W.WriteStr.laws (store-laws g.met.S.WriteStr.laws) c.args.options.now text c.args.writer.now c.args.store delivered also c.in-Err.fault
@@ -36,7 +36,7 @@ returns-in-Err-builder_of-clause-err g c = λ text known delivered also.
 
 pub returns-in-Ok-followed-clause-ok : goal.returns-in-Ok-followed-clause-ok
 returns-in-Ok-followed-clause-ok g c = λ text known delivered also.
-    let first = none_read c.args.options.now.file.now text c.new-read.result _ c.new-read.ensures.told c.new-read.ensures.lines c.new-read.ensures.begun c.new-read.ensures.next known in
+    let first = none_read c.args.options.now.file.now text c.new-read.result _ c.new-read.ensures.read c.new-read.ensures.lines c.new-read.ensures.begun c.new-read.ensures.next known in
     let read = c.read_head-more.new.read in
     let made = c.new-reporter in
     let made_of = c.build_in-reporter in
@@ -51,7 +51,7 @@ returns-in-Ok-followed-clause-ok g c = λ text known delivered also.
 
 pub returns-clause-err : goal.returns-clause-err
 returns-clause-err g c = λ text known delivered also.
-    let first = none_read c.args.options.now.file.now text c.new-read.result _ c.new-read.ensures.told c.new-read.ensures.lines c.new-read.ensures.begun c.new-read.ensures.next known in
+    let first = none_read c.args.options.now.file.now text c.new-read.result _ c.new-read.ensures.read c.new-read.ensures.lines c.new-read.ensures.begun c.new-read.ensures.next known in
     let read = c.read_head-more.new.read in
     let made = c.new-reporter in
     let made_of = c.build_in-reporter in

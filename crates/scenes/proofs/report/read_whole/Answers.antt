@@ -8,7 +8,7 @@ use Rattle.scenes.proofs.report.read_whole.Goals as goal
 pub loop-turn-init : goal.loop-turn-init
 loop-turn-init g c = λ text known.
     let has : reader_remaining g.R.Read.remaining c.in-Ok.buffered ≡ g.R.Read.remaining c.args.reader = new_reader g.R.Read.remaining c.in-Ok.buffered c.args.reader 16384 c.in-Ok.ensures.inner c.in-Ok.ensures.empty c.in-Ok.ensures.capacity refl in
-    none_read c.args.options.now.file.now text c.new-read.result _ c.new-read.ensures.told c.new-read.ensures.lines c.new-read.ensures.begun c.new-read.ensures.next (has ∙ known)
+    none_read c.args.options.now.file.now text c.new-read.result _ c.new-read.ensures.read c.new-read.ensures.lines c.new-read.ensures.begun c.new-read.ensures.next (has ∙ known)
 
 pub returns-in-Ok-false-clause-scene : goal.returns-in-Ok-false-clause-scene
 returns-in-Ok-false-clause-scene g c = λ text known.

@@ -40,7 +40,7 @@ returns-clause-ok g c =
       reported.new.self.outcome,
       reporters.now_reported g.met.W.WriteStr.laws g.met.S.WriteStr.laws c.args.options.now made.result reported.new.self reported.new.self (scene_lines c.args.scene.now)
           (subst (λ es. Follows g.W.WriteStr.meaning g.S.WriteStr.meaning c.args.options.now made.result reported.new.self (record { config = config; events = es })) c.as_slice-events.ensures.value (parsed_lines config made.result [] nothing)) refl,
-    )) reported.ensures.told)
+    )) reported.ensures.reported)
 
 pub returns-clause-err : goal.returns-clause-err
 returns-clause-err g c =

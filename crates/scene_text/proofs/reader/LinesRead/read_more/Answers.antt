@@ -13,7 +13,7 @@ pub returns-in-Err-clause-left : goal.returns-in-Err-clause-left
 returns-in-Err-clause-left c =
     let cut : split_on 10 c.in-Some.left.now ≡ c.first_line.result.0.now ∷ pieces_left 10 c.first_line.result.1 = c.first_line.ensures.lines in
     let first = rw c.in-Some.is at c.loop-number.invariant.reads in
-    leaves_here _ _ _ first.front first.reads c.first_line.result.0.now c.in-Err.ensures.unread refl refl _ _ (first.whole ∙ ap (λ ls. first.front ++ ls) cut) _ (rw c.fault_at.ensures (rw c.loop-number.invariant.number (fault_here c.loop-number.number c.in-Err.error _ c.in-Err.ensures.told)))
+    leaves_here _ _ _ first.front first.reads c.first_line.result.0.now c.in-Err.ensures.unread refl refl _ _ (first.whole ∙ ap (λ ls. first.front ++ ls) cut) _ (rw c.fault_at.ensures (rw c.loop-number.invariant.number (fault_here c.loop-number.number c.in-Err.error _ c.in-Err.ensures.read)))
 
 pub loop-number-preserved : goal.loop-number-preserved
 loop-number-preserved c =
@@ -24,7 +24,7 @@ loop-number-preserved c =
       reads = record {
         front = first.front ++ c.first_line.result.0.now ∷ [];
         whole = first.whole ∙ ap (λ ls. first.front ++ ls) cut ∙ sym (append_assoc first.front (c.first_line.result.0.now ∷ []) (pieces_left 10 c.first_line.result.1));
-        reads = reads_more _ _ _ first.front first.reads c.first_line.result.0.now c.in-Ok.ensures.told (rw c.loop-number.invariant.number c.in-Ok.ensures.lines) refl (rw c.loop-number.invariant.number refl);
+        reads = reads_more _ _ _ first.front first.reads c.first_line.result.0.now c.in-Ok.ensures.read (rw c.loop-number.invariant.number c.in-Ok.ensures.lines) refl (rw c.loop-number.invariant.number refl);
       };
     }
 

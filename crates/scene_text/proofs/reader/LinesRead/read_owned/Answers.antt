@@ -6,9 +6,9 @@ use Rattle.scene_text.proofs.reader.LinesRead.read_owned.Goals as goal
 pub returns-in-Ok-clause-read : goal.returns-in-Ok-clause-read
 returns-in-Ok-clause-read c =
     let one = split_on-missed 10 _ c.args.text.items _ c.as_slice.ensures.value (sym c.is_some.ensures ∙ c.if-is_some.false) c.memchr.ensures in
-    reads_all _ _ _ (record { front = c.args.text.items ∷ []; whole = one; reads = reads_more _ _ _ [] (reads_none c.args.self.now) c.args.text.items c.in-Ok.ensures.told c.in-Ok.ensures.lines refl refl })
+    reads_all _ _ _ (record { front = c.args.text.items ∷ []; whole = one; reads = reads_more _ _ _ [] (reads_none c.args.self.now) c.args.text.items c.in-Ok.ensures.read c.in-Ok.ensures.lines refl refl })
 
 pub returns-in-Err-clause-left : goal.returns-in-Err-clause-left
 returns-in-Err-clause-left c =
     let one = split_on-missed 10 _ c.args.text.items _ c.as_slice.ensures.value (sym c.is_some.ensures ∙ c.if-is_some.false) c.memchr.ensures in
-    leaves_here _ _ _ [] (reads_none c.args.self.now) c.args.text.items c.in-Err.ensures.unread refl refl [] _ one _ (rw c.fault_at.ensures (fault_here _ c.in-Err.error _ c.in-Err.ensures.told))
+    leaves_here _ _ _ [] (reads_none c.args.self.now) c.args.text.items c.in-Err.ensures.unread refl refl [] _ one _ (rw c.fault_at.ensures (fault_here _ c.in-Err.error _ c.in-Err.ensures.read))

@@ -23,7 +23,7 @@ loop-place-preserved g c =
           let now = i.follows config start base follows in
           let decides = c.output_load_decider-decider.ensures.stands (configuration_for c.args.options.now config) (map (ready c.args.options.now config) follows.past) (follows.tells.stands (configuration_for c.args.options.now config) follows.stands) in
           reported_to g.met.W.WriteStr.laws g.met.S.WriteStr.laws c.args.options.now start config c.args.events.now base c.loop-place.place c.loop-place.self c.report_event.new.self c.index-events-place.result (search rules) (search rules) now
-          (subst (λ d. ReportsEvent g.W.WriteStr.meaning g.S.WriteStr.meaning c.args.options.now d c.index-events-place.result c.loop-place.self c.report_event.new.self) decides c.in-Ok.ensures.told) (c.in-Ok.ensures.delivered now.delivered);
+          (subst (λ d. ReportsEvent g.W.WriteStr.meaning g.S.WriteStr.meaning c.args.options.now d c.index-events-place.result c.loop-place.self c.report_event.new.self) decides c.in-Ok.ensures.reported) (c.in-Ok.ensures.delivered now.delivered);
       failed = λ failed. absurd ((c.in-Ok.ensures.failed (search rules)).1);
     }
 
@@ -35,7 +35,7 @@ returns-in-Err-clause-left g c = λ config start base follows.
     c.args.lines.now c.line_at-number.result c.line_at-number.ensures c.in-Err.fault
     (subst (λ d. LeavesEvent g.W.WriteStr.meaning g.S.WriteStr.meaning c.args.options.now d c.line_at-number.result c.index-events-place.result c.in-Err.fault c.loop-place.self c.report_event.new.self) decides c.in-Err.ensures.left)
 
-pub returns-clause-told : goal.returns-clause-told
-returns-clause-told g c = λ config start base follows.
+pub returns-clause-reported : goal.returns-clause-reported
+returns-clause-reported g c = λ config start base follows.
     let all = take_all c.loop-place.place c.args.events.now (search rules) in
     subst (λ es. Follows g.W.WriteStr.meaning g.S.WriteStr.meaning c.args.options.now start c.loop-place.self (record { config = config; events = base ++ es })) all (c.loop-place.invariant.follows config start base follows)
