@@ -2,5 +2,6 @@ pub mod Configs
 pub mod Moments
 pub mod PackedStats
 pub mod SceneAttempts
+pub mod SceneOutputs
 pub mod Scenes
 pub mod States

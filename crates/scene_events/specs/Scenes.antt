@@ -17,7 +17,8 @@ use Rattle.run_model.specs.declared.call.ReportCall.TheVariants as call
 use Rattle.scene_events.specs.Moments.{moment_of}
 use Rattle.scene_events.specs.SceneAttempts.{script_status}
 use Rattle.run_model.specs.Attempts.{Written}
-use Rattle.scene_events.specs.States.{unit_state}
+use Rattle.scene_events.specs.SceneOutputs.{is_loaded, written}
+use Rattle.scene_events.specs.States.{result_of, unit_state}
 use Rattle.scene_events.specs.declared.scene.event.SceneEvent.{SceneEvent}
 use Rattle.scene_events.specs.declared.scene.event.SceneEvent.TheVariants as scene
 use Rattle.scene_events.specs.declared.scene.info_events.ScriptAnswer.{ScriptAnswer}
@@ -37,7 +38,7 @@ IsOfScript script id program args = (id ≡ script.script_id) × (program ≡ sc
 
 -- a reporter's answer has the state and the output of a scene's
 abbrev pub HasAnswer : UnitAnswer → UnitState → Written → Type 0
-HasAnswer answer state output = (state ≡ unit_state answer.state) × (output ≡ answer.output)
+HasAnswer answer state output = (state ≡ unit_state answer.state) × (output ≡ written (result_of answer.state) answer.output)
 
 -- a reporter's answer is that of a scene's setup script, or of a scene's test
 abbrev pub IsScriptAnswer : ScriptAnswer → InfoResponse → Type 0
@@ -119,8 +120,8 @@ abbrev pub may_be_refused : SceneEvent → Bool
 may_be_refused (scene.TestFinished e) = not (has_loaded_output e.attempts.last.output)
 may_be_refused (scene.TestAttemptFailedWillRetry e) = is_success e.attempt.result || not (has_loaded_output e.attempt.output)
 may_be_refused (scene.SetupScriptFinished e) = not (has_loaded_output e.attempt.output)
-may_be_refused (scene.ScriptAnswered e) = not (has_loaded_output e.answer.output)
-may_be_refused (scene.TestAnswered e) = not (has_loaded_output e.answer.output)
+may_be_refused (scene.ScriptAnswered e) = not (is_loaded e.answer.output)
+may_be_refused (scene.TestAnswered e) = not (is_loaded e.answer.output)
 may_be_refused (scene.Header header) = true
 may_be_refused other = false
 

@@ -4,7 +4,6 @@ use Rattle.scene_fields.specs.Fields.{◌>>=◌, Line, says, field}
 use Rattle.scene_fields.specs.Numbers.{nanos_in, number_in}
 use Rattle.scene_text.specs.Outputs.{output_fields}
 use Rattle.scene_text.specs.ScriptLines.{script_fields}
-use Rattle.scene_events.specs.States.{result_of}
 use Rattle.scene_text.specs.States.{state_in, state_parts_in}
 use Rattle.scene_text.specs.TestLines.{retry_fields, test_fields}
 use Rattle.scene_fields.specs.Values.{stress_in}
@@ -33,7 +32,7 @@ unfoldable pub answer_fields : Line UnitAnswer
 answer_fields = do
   parts ← field state_parts_in
   state ← field (state_in parts)
-  output ← output_fields (result_of state)
+  output ← output_fields
   says (record { state = state; output = output })
 
 -- `answer-script`: which answer of how many, the iteration, the script, and its answer

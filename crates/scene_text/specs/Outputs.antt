@@ -1,19 +1,18 @@
 -- What an attempt wrote, as a scene writes it.
 use Rattle.std.specs.Prelude.{◌≡◌, ℕ, List, [], ◌∷◌, if◌then◌else◌, codes, bytes_eq, Bool, true, false, Ok, Option, None, Some}
 use Rattle.std.specs.Option.{option_map}
-use Rattle.run_model.specs.declared.output.ChildExecutionOutputDescription.TheVariants as written
 use Rattle.run_model.specs.declared.output.ChildOutputDescription.{ChildOutputDescription}
 use Rattle.run_model.specs.declared.output.ChildOutputDescription.TheVariants as streams
 use Rattle.run_model.specs.declared.output.Highlight.{Highlight}
 use Rattle.run_model.specs.declared.output.HighlightStream.{HighlightStream}
 use Rattle.run_model.specs.declared.output.HighlightStream.TheVariants as stream
-use Rattle.run_model.specs.declared.status.ExecutionResultDescription.{ExecutionResultDescription}
 use Rattle.scene_fields.specs.Split.{cut}
 use Rattle.scene_fields.specs.Fields.{◌>>=◌, Line, Place, says, field}
 use Rattle.scene_fields.specs.Lists.{chain_in, errors_in}
 use Rattle.scene_fields.specs.Numbers.{number_in}
-use Rattle.scene_events.specs.SceneAttempts.{empty_output}
-use Rattle.run_model.specs.Attempts.{Written}
+use Rattle.scene_events.specs.SceneOutputs.{no_output}
+use Rattle.scene_events.specs.declared.scene.outputs.SceneOutput.{SceneOutput}
+use Rattle.scene_events.specs.declared.scene.outputs.SceneOutput.TheVariants.{Output, StartError}
 use Rattle.scene_fields.specs.Texts.{bytes_in}
 use Rattle.scene_fields.specs.Values.{of_word, absent_in}
 use Rattle.scene_text.specs.declared.reader.outputs.OutputForm.{OutputForm}
@@ -56,45 +55,45 @@ highlight_cut t (Some x) = part_cut x.0 (cut 58 x.1)
 abbrev pub highlight_in : List ℕ → Option (Option Highlight)
 highlight_in t = highlight_cut t (cut 58 t)
 
--- errors and a highlight, after the streams of an attempt that ended so, where it has
-unfoldable pub after_streams : Option ExecutionResultDescription → ChildOutputDescription → Line Written
-after_streams result output = do
+-- errors and a highlight, after the streams
+unfoldable pub after_streams : ChildOutputDescription → Line SceneOutput
+after_streams output = do
   errors ← field errors_in
   highlight ← field highlight_in
-  says (written.Output result output errors highlight)
+  says (Output output errors highlight)
 
 -- the fields after the form
-abbrev pub formed : Option ExecutionResultDescription → OutputForm → Line Written
-formed result form.Split = do
+abbrev pub formed : OutputForm → Line SceneOutput
+formed form.Split = do
   stdout ← field stream_in
   stderr ← field stream_in
-  after_streams result (streams.Split stdout stderr)
-formed result form.Combined = do
+  after_streams (streams.Split stdout stderr)
+formed form.Combined = do
   output ← field bytes_in
   none ← field absent_in
-  after_streams result (streams.Combined output)
-formed result form.Unloaded = do
+  after_streams (streams.Combined output)
+formed form.Unloaded = do
   first ← field absent_in
   second ← field absent_in
-  after_streams result streams.NotLoaded
-formed result form.StartError = do
+  after_streams streams.NotLoaded
+formed form.StartError = do
   error ← field chain_in
   second ← field absent_in
   errors ← field absent_in
   highlight ← field absent_in
-  says (written.StartError error)
+  says (StartError error)
 
 -- an output: its form, what that takes first and second, errors, and a highlight
-unfoldable pub output_fields : Option ExecutionResultDescription → Line Written
-output_fields result = do
+unfoldable pub output_fields : Line SceneOutput
+output_fields = do
   form ← field output_form_in
-  formed result form
+  formed form
 
 -- both streams were captured and hold nothing, and there is nothing else
 abbrev pub empty_output_fields : List (List ℕ)
 empty_output_fields = codes "split" ∷ [] ∷ [] ∷ codes "-" ∷ codes "-" ∷ []
 
--- the fields of such an output were taken, whatever the result; or none was
+-- the fields of such an output were taken, or none was
 abbrev pub TakesEmptyOutput : Bool → Place → Place → Type 0
-TakesEmptyOutput true old new = (result : ExecutionResultDescription) → output_fields (Some result) old ≡ Ok (empty_output result, new)
+TakesEmptyOutput true old new = output_fields old ≡ Ok (no_output, new)
 TakesEmptyOutput false old new = new ≡ old

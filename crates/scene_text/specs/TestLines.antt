@@ -16,6 +16,7 @@ use Rattle.scene_fields.specs.Results.{result_in}
 use Rattle.scene_fields.specs.Texts.{text_in}
 use Rattle.scene_fields.specs.Values.{display_in, flag_in, flaky_in, stress_in}
 use Rattle.scene_fields.specs.declared.fault.LineFault.TheVariants.{WrongNumberOfFields}
+use Rattle.scene_events.specs.SceneOutputs.{written}
 use Rattle.scene_events.specs.declared.scene.event.SceneEvent.{SceneEvent}
 use Rattle.scene_events.specs.declared.scene.event.SceneEvent.TheVariants as event
 use Rattle.scene_events.specs.declared.scene.test_events.SceneTest.{SceneTest}
@@ -38,8 +39,8 @@ retry_fields = do
 -- an attempt that ended so, with the output that follows
 abbrev pub parsed_attempt : RetryData → ExecutionResultDescription → Nanos → Bool → Line Attempt
 parsed_attempt retry_data result time_taken is_slow = do
-  output ← output_fields (Some result)
-  says (record { retry_data = retry_data; output = output; result = result; time_taken = time_taken; is_slow = is_slow })
+  output ← output_fields
+  says (record { retry_data = retry_data; output = written (Some result) output; result = result; time_taken = time_taken; is_slow = is_slow })
 
 -- an attempt: result, duration, whether it was slow, and its output
 unfoldable pub attempt_fields : RetryData → Line Attempt

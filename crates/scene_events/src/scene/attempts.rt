@@ -3,6 +3,7 @@
 ghost use Rattle.std.specs.Prelude.{◌≡◌, IfOk};
 ghost use Rattle.scene_events.specs.SceneAttempts.{empty_output};
 
+use super::outputs::SceneOutput;
 use run_model::boxed::Boxed;
 use run_model::memory::OutOfMemory;
 use run_model::output::{
@@ -34,7 +35,7 @@ enum MoreAttempts {
     // Nothing: it is the only attempt, and wrote nothing, as most.
     Nothing,
     // It is the only attempt, and wrote this.
-    Output(Boxed<ChildExecutionOutputDescription<LiveSpec>>),
+    Output(Boxed<SceneOutput>),
     // There are others before it.
     Earlier(Boxed<EarlierAttempts>),
 }
@@ -43,7 +44,7 @@ enum MoreAttempts {
 #[derive(Drop)]
 struct EarlierAttempts {
     attempts: Vec<SceneAttempt>,
-    last_output: SceneOutput,
+    last_output: AttemptOutput,
 }
 
 impl Model for SceneAttempts {
@@ -92,8 +93,8 @@ impl SceneAttempts {
         } = last;
         let more = if earlier.is_empty() {
             match output {
-                SceneOutput::Empty => MoreAttempts::Nothing,
-                SceneOutput::Output(output) => MoreAttempts::Output(output),
+                AttemptOutput::Empty => MoreAttempts::Nothing,
+                AttemptOutput::Output(output) => MoreAttempts::Output(output),
             }
         } else {
             let earlier = EarlierAttempts {
@@ -162,7 +163,7 @@ impl SceneAttempts {
     {
         let output = match &self.more {
             MoreAttempts::Nothing => empty_output(self.result.copy(alloc)?),
-            MoreAttempts::Output(output) => output.get().copy(alloc)?,
+            MoreAttempts::Output(output) => output.get().description(alloc, Some(&self.result))?,
             MoreAttempts::Earlier(earlier) => {
                 earlier.get().last_output.copy_of(alloc, &self.result)?
             }
@@ -197,31 +198,30 @@ fn statuses_of(
 pub struct SceneAttempt {
     time_taken: Nanos,
     result: ExecutionResultDescription,
-    output: SceneOutput,
+    output: AttemptOutput,
     retry_data: RetryData,
     is_slow: bool,
 }
 
 // What an attempt wrote.
 #[derive(Drop)]
-enum SceneOutput {
+enum AttemptOutput {
     // Both streams were captured, and hold nothing.
     Empty,
     // All else.
-    Output(Boxed<ChildExecutionOutputDescription<LiveSpec>>),
+    Output(Boxed<SceneOutput>),
 }
 
-impl SceneOutput {
-    ghost use Rattle.run_model.specs.Outputs.{has_loaded_output};
-    ghost use Rattle.scene_events.specs.SceneAttempts.{is_loaded, written};
+impl AttemptOutput {
+    ghost use Rattle.scene_events.specs.SceneAttempts.{is_loaded_by, written_by};
 
     // Whether it is there, and not left unread.
     fn is_loaded(&self) -> bool
-        ensures { result ≡ is_loaded self.now }
+        ensures { result ≡ is_loaded_by self.now }
     {
         match self {
-            SceneOutput::Output(output) => output.get().has_loaded_output(),
-            SceneOutput::Empty => true,
+            AttemptOutput::Output(output) => output.get().has_loaded_output(),
+            AttemptOutput::Empty => true,
         }
     }
 
@@ -231,11 +231,11 @@ impl SceneOutput {
         alloc: Global,
         outcome: &ExecutionResultDescription,
     ) -> Result<ChildExecutionOutputDescription<LiveSpec>, OutOfMemory>
-        ensures { IfOk result (λ output. output ≡ written outcome.now self.now) }
+        ensures { IfOk result (λ output. output ≡ written_by outcome.now self.now) }
     {
         match self {
-            SceneOutput::Output(output) => output.get().copy(alloc),
-            SceneOutput::Empty => Ok(empty_output(outcome.copy(alloc)?)),
+            AttemptOutput::Output(output) => output.get().description(alloc, Some(outcome)),
+            AttemptOutput::Empty => Ok(empty_output(outcome.copy(alloc)?)),
         }
     }
 }
@@ -247,13 +247,13 @@ impl Model for SceneAttempt {
 
     ghost Value = { ExecuteStatus LiveSpec ChildOutputDescription };
 
-    ghost use Rattle.scene_events.specs.SceneAttempts.{written};
+    ghost use Rattle.scene_events.specs.SceneAttempts.{written_by};
 
     ghost view = { λ a. record {
       time_taken = a.time_taken;
       retry_data = a.retry_data;
       result = a.result;
-      output = written a.result a.output;
+      output = written_by a.result a.output;
       is_slow = a.is_slow;
     } };
 }
@@ -262,6 +262,8 @@ impl SceneAttempt {
     ghost use Rattle.run_model.specs.Outputs.{has_loaded_output};
     ghost use Rattle.run_model.specs.Statuses.{is_success};
     ghost use Rattle.scene_events.specs.SceneAttempts.{script_status};
+    ghost use Rattle.scene_events.specs.SceneOutputs.{written};
+    ghost use Rattle.std.specs.Prelude.{Some};
 
     /// An attempt whose streams were both captured, and hold nothing. It allocates nothing.
     pub fn silent(
@@ -281,7 +283,7 @@ impl SceneAttempt {
         SceneAttempt {
             time_taken,
             result: outcome,
-            output: SceneOutput::Empty,
+            output: AttemptOutput::Empty,
             retry_data,
             is_slow,
         }
@@ -294,20 +296,20 @@ impl SceneAttempt {
         time_taken: Nanos,
         retry_data: RetryData,
         is_slow: bool,
-        output: ChildExecutionOutputDescription<LiveSpec>,
+        output: SceneOutput,
     ) -> Result<Self, OutOfMemory>
         ensures { IfOk result (λ attempt. attempt ≡ record {
           time_taken = time_taken;
           retry_data = retry_data;
           result = outcome;
-          output = output;
+          output = written (Some outcome) output;
           is_slow = is_slow;
         }) }
     {
         Ok(SceneAttempt {
             time_taken,
             result: outcome,
-            output: SceneOutput::Output(Boxed::new(alloc, output)?),
+            output: AttemptOutput::Output(Boxed::new(alloc, output)?),
             retry_data,
             is_slow,
         })

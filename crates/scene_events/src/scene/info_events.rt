@@ -1,9 +1,13 @@
 //! The events that tell what the units of a run are doing.
 
+ghost use Rattle.std.specs.Prelude.{◌≡◌, IfOk};
+ghost use Rattle.scene_events.specs.SceneOutputs.{written};
 ghost use Rattle.scene_events.specs.Scenes.{PushesCallOf};
+ghost use Rattle.scene_events.specs.States.{result_of};
 ghost use Rattle.scene_events.specs.declared.scene.event.SceneEvent.{SceneEvent};
 
 use super::event::{push_event, push_event_after};
+use super::outputs::SceneOutput;
 use super::script_events::SceneScript;
 use super::states::SceneState;
 use super::test_events::SceneTest;
@@ -66,7 +70,7 @@ pub struct UnitAnswer {
     /// What it is doing.
     pub state: Boxed<SceneState>,
     /// What it has written so far.
-    pub output: Boxed<ChildExecutionOutputDescription<LiveSpec>>,
+    pub output: Boxed<SceneOutput>,
 }
 
 /// No further answers are waited for.
@@ -100,7 +104,7 @@ impl ScriptAnswer {
     {
         let script = self.script.copy(alloc)?;
         let state = self.answer.state.get().state(alloc)?;
-        let output = self.answer.output.get().copy(alloc)?;
+        let output = self.answer.description(alloc)?;
         push_event(
             calls,
             TestEventKind::InfoResponse {
@@ -129,7 +133,7 @@ impl TestAnswer {
         ensures { PushesCallOf (SceneEvent.TestAnswered self.now) calls.old.items result calls.new.items }
     {
         let state = self.answer.state.get().state(alloc)?;
-        let output = self.answer.output.get().copy(alloc)?;
+        let output = self.answer.description(alloc)?;
         push_event(
             calls,
             TestEventKind::InfoResponse {
@@ -144,6 +148,20 @@ impl TestAnswer {
                 }),
             },
         )
+    }
+}
+
+impl UnitAnswer {
+    // What it has written so far, as an event has it.
+    fn description(
+        &self,
+        alloc: Global,
+    ) -> Result<ChildExecutionOutputDescription<LiveSpec>, OutOfMemory>
+        ensures { IfOk result (λ output. output ≡ written (result_of self.now.state) self.now.output) }
+    {
+        self.output
+            .get()
+            .description(alloc, self.state.get().outcome())
     }
 }
 

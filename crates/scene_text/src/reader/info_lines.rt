@@ -96,7 +96,7 @@ fn read_answer(alloc: Global, fields: &mut Fields<'_>) -> Result<UnitAnswer, Lin
 {
     let parts = fields.try_read(|field| read_state_parts(alloc, field))?;
     let state = fields.try_read(|field| read_state(alloc, parts, field))?;
-    let output = read_output(alloc, fields, state.outcome())?;
+    let output = read_output(alloc, fields)?;
     Ok(UnitAnswer {
         state: Boxed::new(alloc, state)?,
         output: Boxed::new(alloc, output)?,

@@ -4,7 +4,6 @@
 //! but `-` is a bad field.
 
 ghost use Rattle.std.specs.Prelude.{◌≡◌, ◌++◌, drop, IsTrue, IfOk};
-ghost use Rattle.std.specs.Option.{option_copied};
 ghost use Rattle.scene_fields.specs.Split.{field_texts};
 ghost use Rattle.scene_fields.specs.Fields.{Gives, field};
 ghost use Rattle.scene_fields.specs.Lists.{errors_in};
@@ -15,10 +14,9 @@ use bytes::{Bytes, BytesMut};
 use run_model::boxed::Boxed;
 use run_model::memory::OutOfMemory;
 use run_model::output::{
-    ChildExecutionOutputDescription, ChildOutputDescription, ChildSingleOutput, ErrorChain,
-    Highlight, HighlightStream, LiveSpec,
+    ChildOutputDescription, ChildSingleOutput, ErrorChain, Highlight, HighlightStream,
 };
-use run_model::status::ExecutionResultDescription;
+use scene_events::scene::outputs::SceneOutput;
 use scene_fields::fault::LineError;
 use scene_fields::fields::Fields;
 use scene_fields::lists::read_chain;
@@ -55,39 +53,35 @@ pub fn read_output_form(field: &str) -> Option<OutputForm>
     }
 }
 
-/// Reads what an attempt wrote that ended so, where it has.
+/// Reads what a unit wrote.
 #[tactic(auto, unfolding(crate::specs::Outputs::output_fields))]
-pub fn read_output(
-    alloc: Global,
-    fields: &mut Fields<'_>,
-    outcome: Option<&ExecutionResultDescription>,
-) -> Result<ChildExecutionOutputDescription<LiveSpec>, LineError>
-    ensures { Gives (λ o. o) fields.old result fields.new (output_fields (option_copied outcome.entry)) }
+pub fn read_output(alloc: Global, fields: &mut Fields<'_>) -> Result<SceneOutput, LineError>
+    ensures { Gives (λ o. o) fields.old result fields.new output_fields }
 {
     match fields.read(read_output_form)? {
         OutputForm::Split => {
             let stdout = take_stream(alloc, fields)?;
             let stderr = take_stream(alloc, fields)?;
             let output = ChildOutputDescription::Split { stdout, stderr };
-            read_after_streams(alloc, fields, outcome, output)
+            read_after_streams(alloc, fields, output)
         }
         OutputForm::Combined => {
             let output = take_single(alloc, fields)?;
             fields.read(read_absent)?;
             let output = ChildOutputDescription::Combined { output };
-            read_after_streams(alloc, fields, outcome, output)
+            read_after_streams(alloc, fields, output)
         }
         OutputForm::Unloaded => {
             fields.read(read_absent)?;
             fields.read(read_absent)?;
-            read_after_streams(alloc, fields, outcome, ChildOutputDescription::NotLoaded)
+            read_after_streams(alloc, fields, ChildOutputDescription::NotLoaded)
         }
         OutputForm::StartError => {
             let error = fields.try_read(|field| read_chain(alloc, field))?;
             fields.read(read_absent)?;
             fields.read(read_absent)?;
             fields.read(read_absent)?;
-            Ok(ChildExecutionOutputDescription::StartError(error))
+            Ok(SceneOutput::StartError(error))
         }
     }
 }
@@ -117,24 +111,18 @@ fn is_empty_output(fields: &[&str]) -> bool
     }
 }
 
-// Reads the errors and the highlight that follow the streams of an attempt that ended so, where it has.
+// Reads the errors and the highlight that follow the streams.
 #[tactic(auto, unfolding(crate::specs::Outputs::after_streams))]
 fn read_after_streams(
     alloc: Global,
     fields: &mut Fields<'_>,
-    outcome: Option<&ExecutionResultDescription>,
     output: ChildOutputDescription,
-) -> Result<ChildExecutionOutputDescription<LiveSpec>, LineError>
-    ensures { Gives (λ o. o) fields.old result fields.new (after_streams (option_copied outcome.entry) output) }
+) -> Result<SceneOutput, LineError>
+    ensures { Gives (λ o. o) fields.old result fields.new (after_streams output) }
 {
     let errors = fields.try_read(|field| read_errors(alloc, field))?;
     let highlight = fields.try_read(|field| read_highlight(alloc, field))?;
-    let result = match outcome {
-        Some(outcome) => Some(outcome.copy(alloc)?),
-        None => None,
-    };
-    Ok(ChildExecutionOutputDescription::Output {
-        result,
+    Ok(SceneOutput::Output {
         output,
         errors,
         highlight,

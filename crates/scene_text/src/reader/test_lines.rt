@@ -267,6 +267,6 @@ fn read_attempt_with_output(
 ) -> Result<SceneAttempt, LineError>
     ensures { Gives (λ s. s) fields.old result fields.new (parsed_attempt retry_data outcome time_taken is_slow) }
 {
-    let output = read_output(alloc, fields, Some(&outcome))?;
+    let output = read_output(alloc, fields)?;
     Ok(SceneAttempt::with_output(alloc, outcome, time_taken, retry_data, is_slow, output)?)
 }

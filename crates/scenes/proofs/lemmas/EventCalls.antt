@@ -25,7 +25,8 @@ use Rattle.reporter_state.specs.declared.faults.WriteEventError.{WriteEventError
 use Rattle.reporter_state.specs.declared.faults.WriteEventError.TheVariants.{OutputNotLoaded, RetriedSuccess}
 use Rattle.scene_events.specs.SceneAttempts.{script_status}
 use Rattle.scene_events.specs.Scenes.{IsCallOf, SaysSame}
-use Rattle.scene_events.specs.States.{unit_state}
+use Rattle.scene_events.specs.SceneOutputs.{written}
+use Rattle.scene_events.specs.States.{result_of, unit_state}
 use Rattle.scene_events.specs.declared.scene.event.SceneEvent.{SceneEvent}
 use Rattle.scene_events.specs.declared.scene.event.SceneEvent.TheVariants as scene
 
@@ -45,8 +46,8 @@ abbrev pub told_refusal : OutputLoadDecider → SceneEvent → Option WriteEvent
 told_refusal d (scene.SetupScriptFinished e) = lacking_script (script_status e.attempt)
 told_refusal d (scene.TestAttemptFailedWillRetry e) = lacking_attempt (loads_attempt d e.failure_output) e.attempt
 told_refusal d (scene.TestFinished e) = lacking (loads_finish d e.success_output e.failure_output (summary_of e.attempts)) e.attempts.last.output
-told_refusal d (scene.ScriptAnswered e) = lacking (has_valid_output (unit_state e.answer.state)) e.answer.output
-told_refusal d (scene.TestAnswered e) = lacking (has_valid_output (unit_state e.answer.state)) e.answer.output
+told_refusal d (scene.ScriptAnswered e) = lacking (has_valid_output (unit_state e.answer.state)) (written (result_of e.answer.state) e.answer.output)
+told_refusal d (scene.TestAnswered e) = lacking (has_valid_output (unit_state e.answer.state)) (written (result_of e.answer.state) e.answer.output)
 told_refusal d other = None
 
 refusal_told : (d : OutputLoadDecider) (event : SceneEvent) (k : TestEventKind) → SaysSame event k → event_refusal d k ≡ told_refusal d event

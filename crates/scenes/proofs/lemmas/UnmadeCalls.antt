@@ -1,5 +1,5 @@
 -- Events whose call need not be made to judge them (for `check_refusal`).
-use Rattle.std.proofs.Common.{◌≡◌, ℕ, Bool, true, false, not, ◌||◌, None, refl, sym, ap, ◌∙◌, inl, inr}
+use Rattle.std.proofs.Common.{◌≡◌, ℕ, Bool, true, false, not, ◌||◌, Option, None, refl, sym, ap, ◌∙◌, inl, inr}
 use Rattle.std.specs.Option.{option_map}
 use Rattle.std.proofs.lemmas.Bool.{cases_Bool, false≢true}
 use Rattle.reporter_state.specs.KeptTests.{lent}
@@ -14,12 +14,16 @@ use Rattle.run_model.specs.declared.call.ReportCall.TheVariants as call
 use Rattle.run_model.specs.declared.event.TestEventKind.{TestEventKind}
 use Rattle.run_model.specs.declared.event.TestEventKind.TheVariants as kind
 use Rattle.run_model.specs.declared.info.InfoResponse.TheVariants as response
+use Rattle.run_model.specs.declared.status.ExecutionResultDescription.{ExecutionResultDescription}
 use Rattle.run_names.specs.declared.name.TestInstanceId.{TestInstanceId}
 use Rattle.scene_events.specs.SceneAttempts.{script_status}
 use Rattle.scene_events.specs.Scenes.{IsCallOf, SaysSame, may_be_refused, nothing_counted, elapsed_of}
-use Rattle.scene_events.specs.States.{unit_state}
+use Rattle.scene_events.specs.SceneOutputs.{is_loaded, written}
+use Rattle.scene_events.specs.States.{result_of, unit_state}
 use Rattle.scene_events.specs.declared.scene.event.SceneEvent.{SceneEvent}
 use Rattle.scene_events.specs.declared.scene.event.SceneEvent.TheVariants as scene
+use Rattle.scene_events.specs.declared.scene.outputs.SceneOutput.{SceneOutput}
+use Rattle.scene_events.specs.declared.scene.outputs.SceneOutput.TheVariants.{Output, StartError}
 use Rattle.scene_events.specs.declared.scene.test_events.SceneTest.{SceneTest}
 use Rattle.scenes.specs.Judged.{ChecksEvent}
 use Rattle.scenes.specs.Reports.{fault_at_call}
@@ -39,6 +43,11 @@ attempt_lacks_none is_needed attempt h = elim (cases_Bool (is_success attempt.re
   | inl y ↦ (let k = rw y at h in absurd (false≢true (sym k)))
   | inr n ↦ (let k = rw n at h in rw n (none_lacking is_needed attempt.output (not_false _ k)))
 ]
+
+-- whether output is there does not depend on how its unit ended
+loaded : (result : Option ExecutionResultDescription) (output : SceneOutput) → is_loaded output ≡ true → has_loaded_output (written result output) ≡ true
+loaded result (Output output errors highlight) h = h
+loaded result (StartError error) h = refl
 
 -- a test as a call names it
 abbrev named : SceneTest → TestInstanceId
@@ -86,12 +95,12 @@ judged_unmade d (scene.RunContinued e) off = judged_by d (scene.RunContinued e) 
 judged_unmade d (scene.InfoStarted e) off = judged_by d (scene.InfoStarted e) (kind.InfoStarted e.total e.run_stats) (refl, refl) refl
 judged_unmade d (scene.ScriptAnswered e) off =
     judged_by d (scene.ScriptAnswered e)
-    (kind.InfoResponse e.index e.total (response.SetupScript (record { stress_index = e.stress_index; script_id = e.script.script_id; program = e.script.program; args = e.script.args; state = unit_state e.answer.state; output = e.answer.output })))
-    (refl, refl, (refl, (refl, refl, refl), (refl, refl))) (none_lacking (has_valid_output (unit_state e.answer.state)) e.answer.output (not_false _ off))
+    (kind.InfoResponse e.index e.total (response.SetupScript (record { stress_index = e.stress_index; script_id = e.script.script_id; program = e.script.program; args = e.script.args; state = unit_state e.answer.state; output = written (result_of e.answer.state) e.answer.output })))
+    (refl, refl, (refl, (refl, refl, refl), (refl, refl))) (none_lacking (has_valid_output (unit_state e.answer.state)) (written (result_of e.answer.state) e.answer.output) (loaded (result_of e.answer.state) e.answer.output (not_false _ off)))
 judged_unmade d (scene.TestAnswered e) off =
     judged_by d (scene.TestAnswered e)
-    (kind.InfoResponse e.index e.total (response.Test (record { stress_index = e.test.stress_index; test_instance = named e.test; retry_data = e.retry_data; state = unit_state e.answer.state; output = e.answer.output })))
-    (refl, refl, (refl, (refl, refl), refl, (refl, refl))) (none_lacking (has_valid_output (unit_state e.answer.state)) e.answer.output (not_false _ off))
+    (kind.InfoResponse e.index e.total (response.Test (record { stress_index = e.test.stress_index; test_instance = named e.test; retry_data = e.retry_data; state = unit_state e.answer.state; output = written (result_of e.answer.state) e.answer.output })))
+    (refl, refl, (refl, (refl, refl), refl, (refl, refl))) (none_lacking (has_valid_output (unit_state e.answer.state)) (written (result_of e.answer.state) e.answer.output) (loaded (result_of e.answer.state) e.answer.output (not_false _ off)))
 judged_unmade d (scene.InfoFinished e) off = judged_by d (scene.InfoFinished e) (kind.InfoFinished e.missing) refl refl
 judged_unmade d (scene.InputEnter e) off = judged_by d (scene.InputEnter e) (kind.InputEnter e.current_stats e.running) (refl, refl) refl
 judged_unmade d (scene.StressSubRunFinished e) off = judged_by d (scene.StressSubRunFinished e) (kind.StressSubRunFinished e.progress e.sub_elapsed e.sub_stats) (refl, refl, refl) refl
