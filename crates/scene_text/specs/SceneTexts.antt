@@ -1,5 +1,5 @@
 -- The scene that a text spells, or its first fault.
-use Rattle.std.specs.Prelude.{◌≡◌, ℕ, ◌+◌, List, [], ◌∷◌, ◌++◌, Bool, true, false, ◌==◌, nat_lt, bytes_eq, codes, if◌then◌else◌, Result, Ok, Err, length, ⊤}
+use Rattle.std.specs.Prelude.{◌≡◌, ℕ, ◌+◌, List, [], ◌∷◌, ◌++◌, Bool, true, false, ◌==◌, map, nat_lt, bytes_eq, codes, if◌then◌else◌, Result, Ok, Err, length, ⊤}
 use Rattle.std.specs.Str.{is_utf8}
 use Rattle.scene_events.specs.Configs.{unconfigured}
 use Rattle.scene_fields.specs.Split.{split_on}
@@ -92,9 +92,32 @@ abbrev pub lines_with : ParsedLines → Result ParsedLine LineFault → Result P
 lines_with before (Ok s) = Ok (with_line before s)
 lines_with before (Err f) = Err f
 
+-- a line of a run: its text, and what is made of the event that it spells, or its fault
+pub record RunLine : Type 0 where
+  pub text : List ℕ
+  pub made : LinesBefore → SceneEvent → Result SceneEvent LineFault
+
+-- the line of a scene is what its text spells
+abbrev pub plain_line : List ℕ → RunLine
+plain_line t = record { text = t; made = λ before e. Ok e }
+
+abbrev pub text_lines : List ℕ → List RunLine
+text_lines t = map plain_line (split_on 10 t)
+
+-- a line's value with this made of its event
+abbrev pub with_event : (SceneEvent → Result SceneEvent LineFault) → Result ParsedLine LineFault → Result ParsedLine LineFault
+with_event make (Ok NoEvent) = Ok NoEvent
+with_event make (Ok (ConfigLine config)) = Ok (ConfigLine config)
+with_event make (Ok (EventLine e)) = event_line (make e)
+with_event make (Err f) = Err f
+
+-- the value of a run's line behind others, or its fault
+abbrev pub line_value : LinesBefore → RunLine → Result ParsedLine LineFault
+line_value before line = with_event (line.made before) (parsed_line before line.text)
+
 -- the lines with one more, or its fault
-unfoldable pub line_read : ParsedLines → List ℕ → Result ParsedLines LineFault
-line_read before t = lines_with before (parsed_line (lines_before before) t)
+unfoldable pub line_read : ParsedLines → RunLine → Result ParsedLines LineFault
+line_read before line = lines_with before (line_value (lines_before before) line)
 
 -- the same where an event may stand before all these lines
 abbrev pub is_begun_behind : Bool → List SceneEvent → Bool
@@ -119,13 +142,13 @@ lines_read_after next n (Ok after) = next after
 lines_read_after next n (Err f) = Err (n, f)
 
 -- the lines with these behind them, of which the first has this number; or the number and the fault of the first that has one
-unfoldable pub lines_read : ℕ → ParsedLines → List (List ℕ) → Result ParsedLines (ℕ × LineFault)
+unfoldable pub lines_read : ℕ → ParsedLines → List RunLine → Result ParsedLines (ℕ × LineFault)
 lines_read n before [] = Ok before
 lines_read n before (t ∷ ts) = lines_read_after (λ after. lines_read (n + 1) after ts) n (line_read before t)
 
 -- the lines of a text, read
 abbrev pub text_read : List ℕ → Result ParsedLines (ℕ × LineFault)
-text_read t = lines_read 1 no_lines (split_on 10 t)
+text_read t = lines_read 1 no_lines (text_lines t)
 
 -- the number of the line, where it is an event
 abbrev pub line_here : ℕ → ParsedLines → ParsedLines → List ℕ
@@ -136,7 +159,7 @@ lines_from n before next (Ok after) = line_here n before after ++ next after
 lines_from n before next (Err f) = []
 
 -- the numbers of the lines that are events; the first line has this number
-unfoldable pub event_lines : ℕ → ParsedLines → List (List ℕ) → List ℕ
+unfoldable pub event_lines : ℕ → ParsedLines → List RunLine → List ℕ
 event_lines n before [] = []
 event_lines n before (t ∷ ts) = lines_from n before (λ after. event_lines (n + 1) after ts) (line_read before t)
 
@@ -150,7 +173,7 @@ IsFaultHere n read (fault.Line m f) = (m ≡ n) × (read ≡ Err f)
 IsFaultHere n read fault.OutOfMemory = ⊤
 
 -- each line can be read, one after the other
-abbrev pub AllRead : ParsedLines → List (List ℕ) → ParsedLines → Type 0
+abbrev pub AllRead : ParsedLines → List RunLine → ParsedLines → Type 0
 AllRead before [] after = before ≡ after
 AllRead before (t ∷ ts) after = (mid : ParsedLines) × (line_read before t ≡ Ok mid) × AllRead mid ts after
 
@@ -159,30 +182,30 @@ abbrev pub IsSameRun : ParsedRun → ParsedRun → Type 0
 IsSameRun a b = (parsed_lines b ≡ parsed_lines a) × (b.lines.items ≡ a.lines.items)
 
 -- These lines were read, behind whatever events were forgotten: one after the other, and the numbers of their events are noted.
-pub record ReadsLines (old new : LinesRead) (lines : List (List ℕ)) : Type 0 where
+pub record ReadsLines (old new : LinesRead) (lines : List RunLine) : Type 0 where
   pub tells : (base : List SceneEvent) → is_begun base ≡ old.is_begun → AllRead (lines_after base (parsed_lines old.run)) lines (lines_after base (parsed_lines new.run))
   pub noted : (base : List SceneEvent) → is_begun base ≡ old.is_begun → new.run.lines.items ≡ old.run.lines.items ++ event_lines old.next (lines_after base (parsed_lines old.run)) lines
   pub begun : new.is_begun ≡ old.is_begun
   pub place : new.next ≡ old.next + length lines
 
 -- the first of these lines has the fault, and this number, unless memory was refused
-abbrev pub IsNextFault : ℕ → ParsedLines → List (List ℕ) → ReadFault → Type 0
-IsNextFault n before lines (fault.Line m f) = (m ≡ n) × ((t : List ℕ) × (more : List (List ℕ)) × (lines ≡ t ∷ more) × (line_read before t ≡ Err f))
+abbrev pub IsNextFault : ℕ → ParsedLines → List RunLine → ReadFault → Type 0
+IsNextFault n before lines (fault.Line m f) = (m ≡ n) × ((t : RunLine) × (more : List RunLine) × (lines ≡ t ∷ more) × (line_read before t ≡ Err f))
 IsNextFault n before lines fault.OutOfMemory = ⊤
 
 -- the first of these lines were read, and the next has the fault, unless memory was refused
-pub record LeavesLines (old new : LinesRead) (lines : List (List ℕ)) (f : ReadFault) : Type 0 where
-  pub front : List (List ℕ)
-  pub rest : List (List ℕ)
+pub record LeavesLines (old new : LinesRead) (lines : List RunLine) (f : ReadFault) : Type 0 where
+  pub front : List RunLine
+  pub rest : List RunLine
   pub whole : lines ≡ front ++ rest
   pub reads : ReadsLines old new front
   pub wrong : (base : List SceneEvent) → is_begun base ≡ old.is_begun → IsNextFault new.next (lines_after base (parsed_lines new.run)) rest f
 
 -- the lines before the one of this number can be read, and that one has the fault
-pub record IsFirstFault (lines : List (List ℕ)) (number : ℕ) (f : LineFault) : Type 0 where
-  pub front : List (List ℕ)
-  pub line : List ℕ
-  pub rest : List (List ℕ)
+pub record IsFirstFault (lines : List RunLine) (number : ℕ) (f : LineFault) : Type 0 where
+  pub front : List RunLine
+  pub line : RunLine
+  pub rest : List RunLine
   pub whole : lines ≡ front ++ line ∷ rest
   pub place : number ≡ length front + 1
   pub before : ParsedLines

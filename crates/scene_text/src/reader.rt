@@ -8,8 +8,7 @@
 
 ghost use Rattle.std.specs.Prelude.{◌≡◌, ◌++◌, [], false, IfErr, OnErr, OnOk, Ok};
 ghost use Rattle.scene_fields.specs.Fields.{Reads};
-ghost use Rattle.scene_fields.specs.Split.{split_on};
-ghost use Rattle.scene_text.specs.SceneTexts.{IsSameRun, LeavesLines, ReadsLines, fault_at, is_begun, is_begun_behind, is_passed_over, line_here, line_read_behind, no_lines, parsed_lines, words_read_behind};
+ghost use Rattle.scene_text.specs.SceneTexts.{IsSameRun, LeavesLines, ReadsLines, fault_at, is_begun, is_begun_behind, is_passed_over, line_here, line_read_behind, no_lines, parsed_lines, text_lines, words_read_behind};
 
 mod binary_ids;
 mod info_lines;
@@ -92,8 +91,8 @@ impl LinesRead {
     /// Reads the lines of a text that follow these. A text that ends in a line feed ends in an empty line: what follows it is another
     /// line. The error is that of the first line that is wrong; the lines before it are read then, and `next` is its number.
     pub fn read_more(&mut self, alloc: Global, text: &[u8]) -> Result<(), ReadFault>
-        ensures read { OnOk result (ReadsLines self.old self.new (split_on 10 text.now)) }
-        ensures left { IfErr result (LeavesLines self.old self.new (split_on 10 text.now)) }
+        ensures read { OnOk result (ReadsLines self.old self.new (text_lines text.now)) }
+        ensures left { IfErr result (LeavesLines self.old self.new (text_lines text.now)) }
     {
         let mut fields = Vec::new(alloc);
         let mut rest = Some(text);
@@ -130,8 +129,8 @@ impl LinesRead {
     /// assert_eq!(read.run.config.final_status_level, FinalStatusLevel::All);
     /// ```
     pub fn read_owned(&mut self, alloc: Global, text: Vec<u8>) -> Result<(), ReadFault>
-        ensures read { OnOk result (ReadsLines self.old self.new (split_on 10 text.items)) }
-        ensures left { IfErr result (LeavesLines self.old self.new (split_on 10 text.items)) }
+        ensures read { OnOk result (ReadsLines self.old self.new (text_lines text.items)) }
+        ensures left { IfErr result (LeavesLines self.old self.new (text_lines text.items)) }
     {
         if memchr(b'\n', text.as_slice()).is_some() || self.next == u64::MAX {
             return self.read_more(alloc, text.as_slice());

@@ -4,7 +4,7 @@ use Rattle.std.specs.Option.{option_map}
 use Rattle.plain_text.specs.Writer.{Meaning}
 use Rattle.run_model.specs.declared.call.ReportCall.{ReportCall}
 use Rattle.reporter_state.specs.Refusals.{refusal_by}
-use Rattle.scene_text.specs.SceneTexts.{EventLine, ParsedLines, is_begun, parsed_line, lines_before}
+use Rattle.scene_text.specs.SceneTexts.{EventLine, ParsedLines, RunLine, is_begun, line_value, lines_before}
 use Rattle.scene_text.specs.declared.reader.LinesRead.{LinesRead}
 use Rattle.scene_events.specs.Scenes.{IsCallOf}
 use Rattle.scene_events.specs.declared.scene.event.SceneEvent.{SceneEvent}
@@ -22,46 +22,46 @@ use Rattle.scenes.specs.declared.outcome.RunOutcome.{RunOutcome}
 use Rattle.scenes.specs.declared.scene_reporter.SceneReporter.{SceneReporter}
 
 -- a line behind these is an event whose call is refused, and this is why
-pub record IsRefusedEvent (options : Options) (run : ParsedLines) (t : List ℕ) (f : LineFault) : Type 0 where
+pub record IsRefusedEvent (options : Options) (run : ParsedLines) (t : RunLine) (f : LineFault) : Type 0 where
   pub event : SceneEvent
-  pub says : parsed_line (lines_before run) t ≡ Ok (EventLine event)
+  pub says : line_value (lines_before run) t ≡ Ok (EventLine event)
   pub call : ReportCall
   pub of_event : IsCallOf event call
   pub refused : (n : ℕ) → option_map (fault_at_call n) (refusal_by (decider_for options run.config) call) ≡ Some (fault.Line n f)
 
 -- the line of this number has this fault behind those before it, of which P holds
-pub record StopsAtLine (options : Options) (text : List ℕ) (P : ParsedLines → Type 0) (number : ℕ) (f : LineFault) : Type 0 where
+pub record StopsAtLine (options : Options) (all : List RunLine) (P : ParsedLines → Type 0) (number : ℕ) (f : LineFault) : Type 0 where
   pub run : ParsedLines
-  pub t : List ℕ
-  pub more : List (List ℕ)
-  pub at : AtLine text run (t ∷ more) number
-  pub wrong : (parsed_line (lines_before run) t ≡ Err f) ⊎ IsRefusedEvent options run t f
+  pub t : RunLine
+  pub more : List RunLine
+  pub at : AtLine all run (t ∷ more) number
+  pub wrong : (line_value (lines_before run) t ≡ Err f) ⊎ IsRefusedEvent options run t f
   pub holds : P run
 
--- P holds of some first lines of a text
-pub record StopsBehind (text : List ℕ) (P : ParsedLines → Type 0) : Type 0 where
+-- P holds of some first lines of all
+pub record StopsBehind (all : List RunLine) (P : ParsedLines → Type 0) : Type 0 where
   pub run : ParsedLines
-  pub lines : List (List ℕ)
+  pub lines : List RunLine
   pub number : ℕ
-  pub at : AtLine text run lines number
+  pub at : AtLine all run lines number
   pub holds : P run
 
--- What a fault leaves of a text that is followed: P holds of the lines before a line that is wrong, and of those before the reader failed;
+-- What a fault leaves of lines that are followed: P holds of the lines before a line that is wrong, and of those before the reader failed;
 -- Q of those that were begun where a device failed or memory was refused.
-abbrev pub StopsBy : Options → List ℕ → (ParsedLines → Type 0) → (ParsedLines → Fault → Type 0) → Fault → Type 0
-StopsBy options text P Q fault.Usage = ⊥
-StopsBy options text P Q (fault.CannotRead file) = StopsBehind text P
-StopsBy options text P Q (fault.CannotWrite file) = ⊥
-StopsBy options text P Q (fault.Line n f) = StopsAtLine options text P n f
-StopsBy options text P Q fault.WriteFailed = StopsBehind text (λ run. Q run fault.WriteFailed)
-StopsBy options text P Q fault.StoreFailed = StopsBehind text (λ run. Q run fault.StoreFailed)
-StopsBy options text P Q fault.OutOfMemory = StopsBehind text (λ run. Q run fault.OutOfMemory)
+abbrev pub StopsBy : Options → List RunLine → (ParsedLines → Type 0) → (ParsedLines → Fault → Type 0) → Fault → Type 0
+StopsBy options all P Q fault.Usage = ⊥
+StopsBy options all P Q (fault.CannotRead file) = StopsBehind all P
+StopsBy options all P Q (fault.CannotWrite file) = ⊥
+StopsBy options all P Q (fault.Line n f) = StopsAtLine options all P n f
+StopsBy options all P Q fault.WriteFailed = StopsBehind all (λ run. Q run fault.WriteFailed)
+StopsBy options all P Q fault.StoreFailed = StopsBehind all (λ run. Q run fault.StoreFailed)
+StopsBy options all P Q fault.OutOfMemory = StopsBehind all (λ run. Q run fault.OutOfMemory)
 
--- What was read is at hand behind what a reporter has reported of a text so far; an event is among both.
-pub record KeepsUp {W S : Type 0} (m : Meaning W) (n : Meaning S) (options : Options) (text : List ℕ) (start now : SceneReporter W S) (read : LinesRead) (more : Result Bool Fault) (remaining : Option (List ℕ)) : Type 0 where
-  pub front : List (List ℕ)
+-- What was read is at hand behind what a reporter has reported of all lines so far; an event is among both.
+pub record KeepsUp {W S : Type 0} (m : Meaning W) (n : Meaning S) (options : Options) (all : List RunLine) (start now : SceneReporter W S) (read : LinesRead) (more : Result Bool Fault) (Has : List RunLine → Type 0) : Type 0 where
+  pub front : List RunLine
   pub before : ParsedLines
-  pub has : HasRead options.file.now text front before read more remaining
+  pub has : HasRead options.file.now all front before read more Has
   pub follows : Follows m n options start now (record { config = read.run.config; events = before.events })
   pub begun : is_begun (before.events ++ read.run.events.items) ≡ true
 

@@ -5,8 +5,7 @@ use Rattle.reporter_state.specs.Refusals.{first_refused, refusal_at_by, refusal_
 use Rattle.reporter_state.specs.declared.decider.OutputLoadDecider.{OutputLoadDecider}
 use Rattle.run_model.specs.declared.call.ReportCall.{ReportCall}
 use Rattle.scenes.specs.Reports.{AreCallsOf, fault_at_call}
-use Rattle.scene_text.specs.SceneTexts.{event_lines, no_lines, text_read}
-use Rattle.scene_fields.specs.Split.{split_on}
+use Rattle.scene_text.specs.SceneTexts.{event_lines, no_lines, text_lines, text_read}
 use Rattle.scene_events.specs.Scenes.{IsCallOf}
 use Rattle.scene_events.specs.declared.scene.event.SceneEvent.{SceneEvent}
 use Rattle.scenes.specs.Unloads.{decider_for}
@@ -61,7 +60,7 @@ IsSceneRefused options scene fault.OutOfMemory = ⊤
 pub record IsRefusedText (options : Options) (text : List ℕ) (fault : Fault) : Type 0 where
   pub scene : Scene
   pub spelled : text_read text ≡ Ok (scene_lines scene)
-  pub lines : scene.lines.items ≡ event_lines 1 no_lines (split_on 10 text)
+  pub lines : scene.lines.items ≡ event_lines 1 no_lines (text_lines text)
   pub refused : IsSceneRefused options scene fault
 
 -- what was returned is the scene of the text; or the file cannot be read, a call is refused, or memory was

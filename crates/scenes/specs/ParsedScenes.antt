@@ -1,7 +1,6 @@
 -- Scenes as lines that were read.
 use Rattle.std.specs.Prelude.{◌≡◌, ℕ, List, Result, Ok, Err, ⊤}
-use Rattle.scene_text.specs.SceneTexts.{IsFirstFault, ParsedLines, parsed_lines, text_read}
-use Rattle.scene_fields.specs.Split.{split_on}
+use Rattle.scene_text.specs.SceneTexts.{IsFirstFault, ParsedLines, RunLine, lines_read, no_lines, parsed_lines, text_lines, text_read}
 use Rattle.scene_fields.specs.declared.fault.LineFault.{LineFault}
 use Rattle.scene_events.specs.declared.scene.ParsedRun.{ParsedRun}
 use Rattle.command_line.specs.declared.fault.Fault.{Fault}
@@ -32,13 +31,17 @@ abbrev pub IsReadFault : List ℕ → Fault → Type 0
 IsReadFault text fault.Usage = ⊥
 IsReadFault text (fault.CannotRead file) = ⊤
 IsReadFault text (fault.CannotWrite file) = ⊥
-IsReadFault text (fault.Line n f) = IsFirstFault (split_on 10 text) n f
+IsReadFault text (fault.Line n f) = IsFirstFault (text_lines text) n f
 IsReadFault text fault.WriteFailed = ⊥
 IsReadFault text fault.StoreFailed = ⊥
 IsReadFault text fault.OutOfMemory = ⊤
 
--- P holds of the run that a text spells
-pub record OfText (text : List ℕ) (P : ParsedLines → Type 0) : Type 0 where
+-- P holds of the run that these lines are
+pub record OfLines (lines : List RunLine) (P : ParsedLines → Type 0) : Type 0 where
   pub run : ParsedLines
-  pub spelled : text_read text ≡ Ok run
+  pub spelled : lines_read 1 no_lines lines ≡ Ok run
   pub holds : P run
+
+-- P holds of the run that a text spells
+abbrev pub OfText : List ℕ → (ParsedLines → Type 0) → Type 0
+OfText text P = OfLines (text_lines text) P

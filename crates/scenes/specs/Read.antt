@@ -3,38 +3,41 @@ use Rattle.std.specs.Prelude.{◌≡◌, ◌⊎◌, ℕ, ◌+◌, Bool, true, fa
 use Rattle.command_line.specs.Faults.{fault_of_read}
 use Rattle.command_line.specs.Pieces.{IsUnread}
 use Rattle.command_line.specs.declared.fault.Fault.{Fault}
-use Rattle.scene_fields.specs.Split.{split_on}
 use Rattle.scene_fields.specs.declared.fault.ReadFault.{ReadFault}
-use Rattle.scene_text.specs.SceneTexts.{AllRead, IsNextFault, ParsedLines, event_lines, is_begun, no_lines, parsed_lines, lines_after}
+use Rattle.scene_text.specs.SceneTexts.{AllRead, IsNextFault, ParsedLines, RunLine, event_lines, is_begun, no_lines, parsed_lines, lines_after, text_lines}
 use Rattle.scene_text.specs.declared.reader.LinesRead.{LinesRead}
 
 -- lines that are left of a text: its pieces, or none where it ended with the line before
-abbrev pub AreLeft : List (List ℕ) → List ℕ → Type 0
-AreLeft lines text = (lines ≡ split_on 10 text) ⊎ ((lines ≡ []) × (text ≡ []))
+abbrev pub AreLeft : List RunLine → List ℕ → Type 0
+AreLeft lines text = (lines ≡ text_lines text) ⊎ ((lines ≡ []) × (text ≡ []))
 
--- a text's first lines are this run, and these lines follow, of which the first has this number
-pub record AtLine (text : List ℕ) (run : ParsedLines) (lines : List (List ℕ)) (number : ℕ) : Type 0 where
-  pub front : List (List ℕ)
-  pub whole : split_on 10 text ≡ front ++ lines
+-- the same where what remains of the text may be unknown
+abbrev pub AreLeftOf : Option (List ℕ) → List RunLine → Type 0
+AreLeftOf remaining lines = (rest : List ℕ) × (remaining ≡ Some rest) × AreLeft lines rest
+
+-- the first of all lines are this run, and these lines follow, of which the first has this number
+pub record AtLine (all : List RunLine) (run : ParsedLines) (lines : List RunLine) (number : ℕ) : Type 0 where
+  pub front : List RunLine
+  pub whole : all ≡ front ++ lines
   pub place : number ≡ length front + 1
   pub tells : AllRead no_lines front run
 
 -- Why no further line was read: the file ended, it could not be read, or memory was refused, or the next line has a fault. Or there may be
--- one, and the reader has it.
-abbrev pub IsMore : List ℕ → Result Bool Fault → ParsedLines → List (List ℕ) → ℕ → Option (List ℕ) → Type 0
-IsMore file (Ok true) run left number remaining = (rest : List ℕ) × (remaining ≡ Some rest) × AreLeft left rest
-IsMore file (Ok false) run left number remaining = AreLeft left []
-IsMore file (Err fault) run left number remaining = IsUnread file fault ⊎ ((f : ReadFault) × (fault ≡ fault_of_read f) × IsNextFault number run left f)
+-- one, and the source has it.
+abbrev pub IsMore : List ℕ → Result Bool Fault → ParsedLines → List RunLine → ℕ → (List RunLine → Type 0) → Type 0
+IsMore file (Ok true) run left number Has = Has left
+IsMore file (Ok false) run left number Has = AreLeft left []
+IsMore file (Err fault) run left number Has = IsUnread file fault ⊎ ((f : ReadFault) × (fault ≡ fault_of_read f) × IsNextFault number run left f)
 
--- Behind the first lines of a text, whose events are forgotten, further lines were read: their values and the numbers of their events are at
--- hand. Then comes what is left.
-pub record HasRead (file text : List ℕ) (front : List (List ℕ)) (before : ParsedLines) (read : LinesRead) (more : Result Bool Fault) (remaining : Option (List ℕ)) : Type 0 where
-  pub lines : List (List ℕ)
-  pub left : List (List ℕ)
-  pub whole : split_on 10 text ≡ front ++ (lines ++ left)
+-- Behind the first of all lines, whose events are forgotten, further lines were read: their values and the numbers of their events are at
+-- hand. Then comes what is left, which the source may have.
+pub record HasRead (file : List ℕ) (all front : List RunLine) (before : ParsedLines) (read : LinesRead) (more : Result Bool Fault) (Has : List RunLine → Type 0) : Type 0 where
+  pub lines : List RunLine
+  pub left : List RunLine
+  pub whole : all ≡ front ++ (lines ++ left)
   pub forgotten : AllRead no_lines front before
   pub tells : AllRead before lines (lines_after before.events (parsed_lines read.run))
   pub noted : read.run.lines.items ≡ event_lines (length front + 1) before lines
   pub place : read.next ≡ length front + 1 + length lines
   pub begun : is_begun before.events ≡ read.is_begun
-  pub more_is : IsMore file more (lines_after before.events (parsed_lines read.run)) left read.next remaining
+  pub more_is : IsMore file more (lines_after before.events (parsed_lines read.run)) left read.next Has

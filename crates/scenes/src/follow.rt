@@ -4,19 +4,18 @@
 //! each event is written and delivered, and then the next are read. What is held is what the summary will list, and those lines.
 
 ghost use Rattle.std.specs.Prelude.{◌≡◌, ℕ, List, [], true, Option, None, Some, Ok, IfOk, IfErr, OnOk};
-ghost use Rattle.std.specs.Io.Buffered.{reader_remaining};
 ghost use Rattle.console_reporter.specs.OptionalStore.{IsSameStore, config_of, store_delivered, store_meaning};
 ghost use Rattle.console_reporter.specs.Telling.{IsSameReporter};
-ghost use Rattle.scene_text.specs.SceneTexts.{ParsedLines, is_begun, no_lines};
+ghost use Rattle.scene_text.specs.SceneTexts.{ParsedLines, RunLine, is_begun, no_lines, text_lines};
 ghost use Rattle.scenes.specs.Follow.{PrintsFollowed, StopsBy};
-ghost use Rattle.scenes.specs.ParsedScenes.{OfText};
+ghost use Rattle.scenes.specs.ParsedScenes.{OfLines, OfText};
 ghost use Rattle.scenes.specs.Read.{HasRead};
 ghost use Rattle.scenes.specs.Reports.{store_for};
 ghost use Rattle.scenes.specs.SceneReporter.{BreaksOff, BreaksParsed, HasReported, HasReportedTo, IsStart, ReportsParsed};
 ghost use Rattle.scenes.specs.SpelledRuns.{BeginsParsed, PrintsParsed};
 
 pub use crate::outcome::RunOutcome;
-use crate::read::{BYTES_AT_ONCE, read_next};
+use crate::read::{RunSource, SceneSource};
 use crate::reporter::{builder_of, surroundings_of};
 use crate::scene_reporter::SceneReporter;
 use command_line::args::Options;
@@ -25,22 +24,21 @@ use console_reporter::imp::{Store, give_back};
 use console_reporter::write_str::{TextBuffer, WriteStr};
 use scene_text::reader::LinesRead;
 use std::alloc::{AllocError, Global};
-use std::io::{BufReader, Read, Write};
+use std::io::{Read, Write};
 
-// Reads until there is an event, or the file ends. It answers whether the file may go on.
-fn read_head<'a, R: Read>(
+// Reads until there is an event, or the lines end. It answers whether there may be more.
+fn read_head<'a, L: RunSource>(
     alloc: Global,
     file: &'a str,
-    reader: &mut BufReader<R>,
-    piece: &mut Vec<u8>,
+    source: &mut L,
     read: &mut LinesRead,
 ) -> Result<bool, Fault<'a>>
-    ensures read { (text : List ℕ) (front : List (List ℕ)) (before : ParsedLines) → HasRead file.now text front before read.old (Ok true) (reader_remaining R.remaining reader.old)
-        → HasRead file.now text front before read.new result (reader_remaining R.remaining reader.new) }
+    ensures read { (all front : List RunLine) (before : ParsedLines) → HasRead file.now all front before read.old (Ok true) (L.left source.old)
+        → HasRead file.now all front before read.new result (L.left source.new) }
     ensures event { IfOk result (λ may_go_on. may_go_on ≡ true → is_begun read.new.run.events.items ≡ true) }
 {
     for _turn in 0..u64::MAX {
-        match read_next(alloc, file, reader, piece, read) {
+        match source.read_next(alloc, file, read) {
             Ok(true) => {}
             Ok(false) => return Ok(false),
             Err(fault) => return Err(fault),
@@ -67,22 +65,39 @@ pub fn follow_scene<'a, R: Read + Drop, W: Write, S: Write>(
 ) -> (Result<RunOutcome, Fault<'a>>, W, S)
     ensures ok { (text : List ℕ) → R.remaining reader ≡ Some text → IfOk result.0 (λ come_to.
         OfText text (PrintsFollowed options.now come_to (W.contents writer) (W.contents result.1) (S.contents store_writer) (S.contents result.2))) }
-    ensures err { (text : List ℕ) → R.remaining reader ≡ Some text → IfErr result.0 (StopsBy options.now text
+    ensures err { (text : List ℕ) → R.remaining reader ≡ Some text → IfErr result.0 (StopsBy options.now (text_lines text)
         (λ run. PrintsParsed options.now run (W.contents writer) (W.contents result.1) (S.contents store_writer) (S.contents result.2))
         (λ run fault. BeginsParsed options.now run fault (W.contents writer) (W.contents result.1) (S.contents store_writer) (S.contents result.2))) }
     ensures no_store { options.now.store ≡ None → result.2 ≡ store_writer }
 {
-    let mut reader = match BufReader::with_capacity(alloc, BYTES_AT_ONCE, reader) {
-        Ok(reader) => reader,
-        Err(_) => return (Err(Fault::OutOfMemory), writer, store_writer),
-    };
+    match SceneSource::new(alloc, reader) {
+        Ok(mut source) => follow_source(alloc, options, &mut source, writer, store_writer),
+        Err(AllocError) => (Err(Fault::OutOfMemory), writer, store_writer),
+    }
+}
+
+/// Follows the lines of a source as [`follow_scene`] does those of a reader.
+pub fn follow_source<'a, L: RunSource, W: Write, S: Write>(
+    alloc: Global,
+    options: &Options<'a>,
+    source: &mut L,
+    writer: W,
+    store_writer: S,
+) -> (Result<RunOutcome, Fault<'a>>, W, S)
+    ensures ok { (all : List RunLine) → L.left source.old all → IfOk result.0 (λ come_to.
+        OfLines all (PrintsFollowed options.now come_to (W.contents writer) (W.contents result.1) (S.contents store_writer) (S.contents result.2))) }
+    ensures err { (all : List RunLine) → L.left source.old all → IfErr result.0 (StopsBy options.now all
+        (λ run. PrintsParsed options.now run (W.contents writer) (W.contents result.1) (S.contents store_writer) (S.contents result.2))
+        (λ run fault. BeginsParsed options.now run fault (W.contents writer) (W.contents result.1) (S.contents store_writer) (S.contents result.2))) }
+    ensures no_store { options.now.store ≡ None → result.2 ≡ store_writer }
+{
     let mut out = match TextBuffer::new(alloc, writer) {
         Ok(out) => out,
         Err((AllocError, writer)) => return (Err(Fault::OutOfMemory), writer, store_writer),
     };
     let Some(store) = options.store else {
         let no_store = None::<Store<'_, String>>;
-        let (outcome, _lent, _) = follow_to(alloc, options, &mut reader, &mut out, no_store);
+        let (outcome, _lent, _) = follow_to(alloc, options, source, &mut out, no_store);
         let (writer, _pending) = out.into_inner();
         return (outcome, writer, store_writer);
     };
@@ -94,7 +109,7 @@ pub fn follow_scene<'a, R: Read + Drop, W: Write, S: Write>(
         }
     };
     let store = Store::new(&mut records, store.config);
-    let (outcome, lent, store) = follow_to(alloc, options, &mut reader, &mut out, Some(store));
+    let (outcome, lent, store) = follow_to(alloc, options, source, &mut out, Some(store));
     match store {
         Some(store) => {
             let Store {
@@ -111,10 +126,10 @@ pub fn follow_scene<'a, R: Read + Drop, W: Write, S: Write>(
 }
 
 // Follows the lines to a writer, and to a store where there is one. It gives both back.
-fn follow_to<'a, 'w, R: Read, W: WriteStr, S: WriteStr>(
+fn follow_to<'a, 'w, L: RunSource, W: WriteStr, S: WriteStr>(
     alloc: Global,
     options: &Options<'a>,
-    reader: &mut BufReader<R>,
+    source: &mut L,
     writer: &'w mut W,
     store: Option<Store<'w, S>>,
 ) -> (
@@ -125,14 +140,13 @@ fn follow_to<'a, 'w, R: Read, W: WriteStr, S: WriteStr>(
     requires { config_of store ≡ store_for options.now }
     ensures same_reference { result.1.ghost_name ≡ writer.entry.ghost_name }
     ensures same_store { IsSameStore store.entry result.2 }
-    ensures ok { IfOk result.0 (λ come_to. (text : List ℕ) → reader_remaining R.remaining reader.old ≡ Some text → W.meaning.is_delivered writer.old → store_delivered S.meaning store.entry
-        → OfText text (ReportsParsed W.meaning (store_meaning S.meaning) options.now writer.old result.1.now store.entry result.2 come_to)) }
-    ensures err { IfErr result.0 (λ fault. (text : List ℕ) → reader_remaining R.remaining reader.old ≡ Some text → W.meaning.is_delivered writer.old → store_delivered S.meaning store.entry
-        → StopsBy options.now text (HasReportedTo W.meaning (store_meaning S.meaning) options.now writer.old result.1.now store.entry result.2) (BreaksParsed W.meaning (store_meaning S.meaning) options.now writer.old result.1.now store.entry result.2) fault) }
+    ensures ok { IfOk result.0 (λ come_to. (all : List RunLine) → L.left source.old all → W.meaning.is_delivered writer.old → store_delivered S.meaning store.entry
+        → OfLines all (ReportsParsed W.meaning (store_meaning S.meaning) options.now writer.old result.1.now store.entry result.2 come_to)) }
+    ensures err { IfErr result.0 (λ fault. (all : List RunLine) → L.left source.old all → W.meaning.is_delivered writer.old → store_delivered S.meaning store.entry
+        → StopsBy options.now all (HasReportedTo W.meaning (store_meaning S.meaning) options.now writer.old result.1.now store.entry result.2) (BreaksParsed W.meaning (store_meaning S.meaning) options.now writer.old result.1.now store.entry result.2) fault) }
 {
-    let mut piece = Vec::new(alloc);
     let mut read = LinesRead::new(alloc);
-    let more = read_head(alloc, options.file, reader, &mut piece, &mut read);
+    let more = read_head(alloc, options.file, source, &mut read);
     if read.run.events.is_empty() {
         match more {
             Ok(_) => return (Ok(RunOutcome::NotEnded), writer, store),
@@ -145,15 +159,7 @@ fn follow_to<'a, 'w, R: Read, W: WriteStr, S: WriteStr>(
     };
     let reporter = builder.build_in(alloc, writer, store, surroundings_of(&read.run.config));
     let mut reporter = SceneReporter::new(reporter);
-    let followed = follow_lines(
-        alloc,
-        options,
-        reader,
-        &mut piece,
-        &mut read,
-        more,
-        &mut reporter,
-    );
+    let followed = follow_lines(alloc, options, source, &mut read, more, &mut reporter);
     let SceneReporter { outcome, reporter } = reporter;
     let (writer, store) = reporter.into_parts();
     match followed {
@@ -163,20 +169,19 @@ fn follow_to<'a, 'w, R: Read, W: WriteStr, S: WriteStr>(
 }
 
 // Reports the events that were read, and follows the lines that are left, if there may be more.
-fn follow_lines<'a, R: Read, W: WriteStr, S: WriteStr>(
+fn follow_lines<'a, L: RunSource, W: WriteStr, S: WriteStr>(
     alloc: Global,
     options: &Options<'a>,
-    reader: &mut BufReader<R>,
-    piece: &mut Vec<u8>,
+    source: &mut L,
     read: &mut LinesRead,
     more: Result<bool, Fault<'a>>,
     reporter: &mut SceneReporter<'_, W, S>,
 ) -> Result<(), Fault<'a>>
     ensures same { IsSameReporter reporter.old.reporter reporter.new.reporter }
-    ensures ok { OnOk result ((text : List ℕ) → HasRead options.now.file.now text [] no_lines read.old more.entry (reader_remaining R.remaining reader.old) → is_begun read.old.run.events.items ≡ true
-        → IsStart W.meaning S.meaning options.now read.old.run.config reporter.old → OfText text (HasReported W.meaning S.meaning options.now reporter.old reporter.new)) }
-    ensures err { IfErr result (λ fault. (text : List ℕ) → HasRead options.now.file.now text [] no_lines read.old more.entry (reader_remaining R.remaining reader.old) → is_begun read.old.run.events.items ≡ true
-        → IsStart W.meaning S.meaning options.now read.old.run.config reporter.old → StopsBy options.now text (HasReported W.meaning S.meaning options.now reporter.old reporter.new) (BreaksOff W.meaning S.meaning options.now reporter.old reporter.new) fault) }
+    ensures ok { OnOk result ((all : List RunLine) → HasRead options.now.file.now all [] no_lines read.old more.entry (L.left source.old) → is_begun read.old.run.events.items ≡ true
+        → IsStart W.meaning S.meaning options.now read.old.run.config reporter.old → OfLines all (HasReported W.meaning S.meaning options.now reporter.old reporter.new)) }
+    ensures err { IfErr result (λ fault. (all : List RunLine) → HasRead options.now.file.now all [] no_lines read.old more.entry (L.left source.old) → is_begun read.old.run.events.items ≡ true
+        → IsStart W.meaning S.meaning options.now read.old.run.config reporter.old → StopsBy options.now all (HasReported W.meaning S.meaning options.now reporter.old reporter.new) (BreaksOff W.meaning S.meaning options.now reporter.old reporter.new) fault) }
 {
     let mut more = more;
     for _turn in 0..u64::MAX {
@@ -186,7 +191,7 @@ fn follow_lines<'a, R: Read, W: WriteStr, S: WriteStr>(
             Err(fault) => return Err(fault),
         }
         match more {
-            Ok(true) => more = read_next(alloc, options.file, reader, piece, read),
+            Ok(true) => more = source.read_next(alloc, options.file, read),
             Ok(false) => return Ok(()),
             Err(fault) => return Err(fault),
         }

@@ -10,7 +10,7 @@ mod deferred;
 pub mod follow;
 mod outcome;
 pub mod process;
-mod read;
+pub mod read;
 pub mod report;
 pub mod reporter;
 pub mod scene;

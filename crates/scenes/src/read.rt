@@ -1,51 +1,83 @@
-//! The lines of a file, read piece by piece: the way into both programs.
+//! Where the lines of a run come from: a file that is read piece by piece, the way into both programs.
 
-ghost use Rattle.std.specs.Prelude.{ℕ, List, Ok, true, IfErr, OnOk};
+ghost use Rattle.std.specs.Prelude.{◌≡◌, ℕ, List, [], Ok, true, IfErr, IfOk, OnOk};
 ghost use Rattle.std.specs.Io.Buffered.{reader_remaining};
 ghost use Rattle.command_line.specs.Faults.{IsJudgeFault};
-ghost use Rattle.scene_fields.specs.Split.{split_on};
-ghost use Rattle.scene_text.specs.SceneTexts.{LeavesLines, ReadsLines, ParsedLines};
-ghost use Rattle.scenes.specs.Read.{HasRead};
+ghost use Rattle.scene_text.specs.SceneTexts.{LeavesLines, ParsedLines, ReadsLines, RunLine, text_lines};
+ghost use Rattle.scenes.specs.Read.{AreLeftOf, HasRead};
 
 use command_line::fault::Fault;
 use command_line::pieces::next_piece;
 use scene_text::fault::ReadFault;
 use scene_text::reader::{LARGE, LinesRead};
-use std::alloc::Global;
+use std::alloc::{AllocError, Global};
 use std::io::{BufReader, Read};
 use std::mem;
 
 /// How many bytes are read of a file at once.
-pub(crate) const BYTES_AT_ONCE: usize = 16_384;
+const BYTES_AT_ONCE: usize = 16_384;
 
-/// Reads the next piece of a file, and the lines in it. It answers whether there was one. Where a line has a fault, the lines before it are
-/// read.
-pub(crate) fn read_next<'a, R: Read>(
-    alloc: Global,
-    file: &'a str,
-    reader: &mut BufReader<R>,
-    piece: &mut Vec<u8>,
-    read: &mut LinesRead,
-) -> Result<bool, Fault<'a>>
-    ensures read { (text : List ℕ) (front : List (List ℕ)) (before : ParsedLines) → HasRead file.now text front before read.old (Ok true) (reader_remaining R.remaining reader.old)
-        → HasRead file.now text front before read.new result (reader_remaining R.remaining reader.new) }
-    ensures fault { IfErr result (IsJudgeFault file.now) }
-{
-    match next_piece(file, reader, piece) {
-        Ok(true) => {}
-        Ok(false) => return Ok(false),
-        Err(fault) => return Err(fault),
+/// Where the lines of a run come from.
+pub trait RunSource {
+    // Whether these lines are left.
+    ghost left: { Self → List RunLine → Type 0 };
+
+    /// Reads further lines of this file. It answers whether there may be more. Where a line has a fault, the lines before it are read.
+    fn read_next<'a>(
+        &mut self,
+        alloc: Global,
+        file: &'a str,
+        read: &mut LinesRead,
+    ) -> Result<bool, Fault<'a>>
+        ensures read { (all front : List RunLine) (before : ParsedLines) → HasRead file.now all front before read.old (Ok true) (left self.old)
+            → HasRead file.now all front before read.new result (left self.new) }
+        ensures fault { IfErr result (IsJudgeFault file.now) };
+}
+
+/// The text of a scene. It is read piece by piece, and the lines of a piece at once.
+#[derive(Drop)]
+pub struct SceneSource<R> {
+    reader: BufReader<R>,
+    piece: Vec<u8>,
+}
+
+impl<R: Read + Drop> SceneSource<R> {
+    /// The scene that this reader has. It allocates what is read at once.
+    pub fn new(alloc: Global, reader: R) -> Result<SceneSource<R>, AllocError>
+        ensures left { IfOk result (λ source. reader_remaining R.remaining source.reader ≡ R.remaining reader) }
+    {
+        Ok(SceneSource {
+            reader: BufReader::with_capacity(alloc, BYTES_AT_ONCE, reader)?,
+            piece: Vec::new(alloc),
+        })
     }
-    match read_piece(alloc, piece, read) {
-        Ok(()) => Ok(true),
-        Err(fault) => Err(Fault::from(fault)),
+}
+
+impl<R: Read> RunSource for SceneSource<R> {
+    ghost left = { λ s. AreLeftOf (reader_remaining R.remaining s.reader) };
+
+    fn read_next<'a>(
+        &mut self,
+        alloc: Global,
+        file: &'a str,
+        read: &mut LinesRead,
+    ) -> Result<bool, Fault<'a>> {
+        match next_piece(file, &mut self.reader, &mut self.piece) {
+            Ok(true) => {}
+            Ok(false) => return Ok(false),
+            Err(fault) => return Err(fault),
+        }
+        match read_piece(alloc, &mut self.piece, read) {
+            Ok(()) => Ok(true),
+            Err(fault) => Err(Fault::from(fault)),
+        }
     }
 }
 
 // Reads the lines of a piece. A large one is a line by itself, which gives up its memory to the output that it holds.
 fn read_piece(alloc: Global, piece: &mut Vec<u8>, read: &mut LinesRead) -> Result<(), ReadFault>
-    ensures read { OnOk result (ReadsLines read.old read.new (split_on 10 piece.old.items)) }
-    ensures left { IfErr result (LeavesLines read.old read.new (split_on 10 piece.old.items)) }
+    ensures read { OnOk result (ReadsLines read.old read.new (text_lines piece.old.items)) }
+    ensures left { IfErr result (LeavesLines read.old read.new (text_lines piece.old.items)) }
 {
     if piece.len() < LARGE {
         return read.read_more(alloc, piece.as_slice());

@@ -5,18 +5,17 @@
 
 ghost use Rattle.std.specs.Prelude.{◌≡◌, ◌⊎◌, ℕ, List, [], Option, None, Some, IfOk, IfErr, OnOk};
 ghost use Rattle.command_line.specs.declared.fault.Fault.{Fault};
-ghost use Rattle.scene_fields.specs.Split.{split_on};
 ghost use Rattle.command_line.specs.Faults.{IsJudgeFault};
 ghost use Rattle.console_reporter.specs.OptionalStore.{IsSameStore, config_of, store_delivered, store_meaning};
 ghost use Rattle.scenes.specs.SceneReporter.{BreaksParsed, HasReportedTo};
 ghost use Rattle.scenes.specs.Judged.{IsJudged, IsJudgedFault, IsSceneAccepted, IsSceneRefused, ChecksEvent};
 ghost use Rattle.scenes.specs.Reports.{store_for};
-ghost use Rattle.scene_text.specs.SceneTexts.{AllRead, event_lines, no_lines, text_read};
+ghost use Rattle.scene_text.specs.SceneTexts.{AllRead, event_lines, no_lines, text_lines, text_read};
 ghost use Rattle.scenes.specs.SpelledRuns.{BeginsParsed, IsRejected, PrintsParsed};
 ghost use Rattle.scenes.specs.ParsedScenes.{IsReadFault, IsSceneRead, OfText, scene_lines};
 
 use crate::deferred::{Deferred, deliver_rest};
-use crate::read::{BYTES_AT_ONCE, read_next};
+use crate::read::{RunSource, SceneSource};
 use crate::reporter::{builder_of, decider_of, fault_at_call, surroundings_of};
 use crate::scene::Scene;
 use crate::scene::event::SceneEvent;
@@ -28,7 +27,7 @@ use console_reporter::write_str::{TextBuffer, WriteStr};
 use run_model::memory::OutOfMemory;
 use scene_text::reader::LinesRead;
 use std::alloc::{AllocError, Global};
-use std::io::{BufReader, Read, Write};
+use std::io::{Read, Write};
 use std::marker::Model;
 
 /// A scene that was judged: its reporter refuses no call of it.
@@ -58,7 +57,7 @@ pub fn judge<'a, R: Read + Drop>(
 ) -> Result<Scene, Fault<'a>>
     ensures fault { IfErr result (IsJudgeFault options.now.file.now) }
     // Where the reader's bytes are known: what `read_whole` says of them.
-    ensures scene { (bytes : List ℕ) → R.remaining reader ≡ Some bytes → IfOk result (λ scene. AllRead no_lines (split_on 10 bytes) (scene_lines scene)) }
+    ensures scene { (bytes : List ℕ) → R.remaining reader ≡ Some bytes → IfOk result (λ scene. AllRead no_lines (text_lines bytes) (scene_lines scene)) }
     ensures first_fault { (bytes : List ℕ) → R.remaining reader ≡ Some bytes → IfErr result (IsJudgedFault options.now bytes) }
     ensures answer { (bytes : List ℕ) → R.remaining reader ≡ Some bytes → IsJudged options.now result bytes }
     // No event of the scene is refused.
@@ -79,19 +78,18 @@ pub fn read_whole<'a, R: Read + Drop>(
     reader: R,
 ) -> Result<Scene, Fault<'a>>
     ensures fault { IfErr result (IsJudgeFault options.now.file.now) }
-    ensures scene { (bytes : List ℕ) → R.remaining reader ≡ Some bytes → IfOk result (λ scene. AllRead no_lines (split_on 10 bytes) (scene_lines scene)) }
-    ensures lines { (bytes : List ℕ) → R.remaining reader ≡ Some bytes → IfOk result (λ scene. scene.lines.items ≡ event_lines 1 no_lines (split_on 10 bytes)) }
+    ensures scene { (bytes : List ℕ) → R.remaining reader ≡ Some bytes → IfOk result (λ scene. AllRead no_lines (text_lines bytes) (scene_lines scene)) }
+    ensures lines { (bytes : List ℕ) → R.remaining reader ≡ Some bytes → IfOk result (λ scene. scene.lines.items ≡ event_lines 1 no_lines (text_lines bytes)) }
     ensures first_fault { (bytes : List ℕ) → R.remaining reader ≡ Some bytes → IfErr result (IsReadFault bytes) }
     ensures answer { (bytes : List ℕ) → R.remaining reader ≡ Some bytes → IsSceneRead result (text_read bytes) }
 {
-    let mut buffered = match BufReader::with_capacity(alloc, BYTES_AT_ONCE, reader) {
-        Ok(buffered) => buffered,
-        Err(_) => return Err(Fault::OutOfMemory),
+    let mut source = match SceneSource::new(alloc, reader) {
+        Ok(source) => source,
+        Err(AllocError) => return Err(Fault::OutOfMemory),
     };
-    let mut piece = Vec::new(alloc);
     let mut read = LinesRead::new(alloc);
     for _turn in 0..u64::MAX {
-        match read_next(alloc, options.file, &mut buffered, &mut piece, &mut read) {
+        match source.read_next(alloc, options.file, &mut read) {
             Ok(true) => {}
             Ok(false) => {
                 return Ok(Scene {

@@ -1,7 +1,6 @@
 -- The first fault of lines is the one that they tell (for the program, which reads them).
 use Rattle.std.proofs.Common.{◌≡◌, ℕ, ◌+◌, List, [], ◌∷◌, ◌++◌, Result, Ok, Err, length, refl, sym, ap, ◌∙◌, arith, inl, inr, ◌⊎◌}
-use Rattle.scene_fields.specs.Split.{split_on}
-use Rattle.scene_text.specs.SceneTexts.{AllRead, IsFirstFault, ParsedLines, line_read, lines_read, no_lines, text_read}
+use Rattle.scene_text.specs.SceneTexts.{AllRead, IsFirstFault, ParsedLines, RunLine, line_read, lines_read, no_lines, text_lines, text_read}
 use Rattle.scene_fields.specs.declared.fault.LineFault.{LineFault}
 
 -- either a line tells, or it is wrong
@@ -34,7 +33,7 @@ same_fault : (m n : ℕ) (g f : LineFault) → is_wrong m g ≡ is_wrong n f →
 same_fault m n g f p = let e : (m, g) ≡ (n, f) = same_wrong (m, g) (n, f) p in (ap (λ x. x.0) e, ap (λ x. x.1) e)
 
 -- lines that tell, tell one after the other
-pub all_tell : (n : ℕ) (before : ParsedLines) (ts : List (List ℕ)) (after : ParsedLines) → lines_read n before ts ≡ Ok after → AllRead before ts after
+pub all_tell : (n : ℕ) (before : ParsedLines) (ts : List RunLine) (after : ParsedLines) → lines_read n before ts ≡ Ok after → AllRead before ts after
 unfolding lines_read
 all_tell n before [] after h = same_told before after h
 all_tell n before (t ∷ ts) after h = elim (line_cases (line_read before t)) [
@@ -43,17 +42,17 @@ all_tell n before (t ∷ ts) after h = elim (line_cases (line_read before t)) [
 ]
 
 -- the first fault of lines of which the first has some number
-record IsFaultFrom (before : ParsedLines) (lines : List (List ℕ)) (first number : ℕ) (f : LineFault) : Type 0 where
-  pub front : List (List ℕ)
-  pub line : List ℕ
-  pub rest : List (List ℕ)
+record IsFaultFrom (before : ParsedLines) (lines : List RunLine) (first number : ℕ) (f : LineFault) : Type 0 where
+  pub front : List RunLine
+  pub line : RunLine
+  pub rest : List RunLine
   pub whole : lines ≡ front ++ line ∷ rest
   pub place : number ≡ length front + first
   pub last : ParsedLines
   pub read_so_far : AllRead before front last
   pub wrong : line_read last line ≡ Err f
 
-first_fault : (first : ℕ) (before : ParsedLines) (ts : List (List ℕ)) (n : ℕ) (f : LineFault) → lines_read first before ts ≡ Err (n, f) → IsFaultFrom before ts first n f
+first_fault : (first : ℕ) (before : ParsedLines) (ts : List RunLine) (n : ℕ) (f : LineFault) → lines_read first before ts ≡ Err (n, f) → IsFaultFrom before ts first n f
 unfolding lines_read
 first_fault first before [] n f h = absurd (differs before n f h)
 first_fault first before (t ∷ ts) n f h = elim (line_cases (line_read before t)) [
@@ -66,7 +65,7 @@ first_fault first before (t ∷ ts) n f h = elim (line_cases (line_read before t
 ]
 
 -- the first fault of a text
-pub text_fault : (text : List ℕ) (n : ℕ) (f : LineFault) → text_read text ≡ Err (n, f) → IsFirstFault (split_on 10 text) n f
+pub text_fault : (text : List ℕ) (n : ℕ) (f : LineFault) → text_read text ≡ Err (n, f) → IsFirstFault (text_lines text) n f
 text_fault text n f h =
-    let r = first_fault 1 no_lines (split_on 10 text) n f h in
+    let r = first_fault 1 no_lines (text_lines text) n f h in
     record { front = r.front; line = r.line; rest = r.rest; whole = r.whole; place = r.place; before = r.last; read_so_far = r.read_so_far; wrong = r.wrong }

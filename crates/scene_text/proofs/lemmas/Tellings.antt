@@ -10,16 +10,16 @@ use Rattle.scene_fields.specs.declared.fault.LineError.TheVariants as error
 use Rattle.scene_fields.specs.declared.fault.LineFault.{LineFault}
 use Rattle.scene_fields.specs.declared.fault.ReadFault.{ReadFault}
 use Rattle.scene_fields.specs.declared.fault.ReadFault.TheVariants as fault
-use Rattle.scene_text.specs.SceneTexts.{AllRead, IsFaultHere, IsNextFault, IsSameRun, LeavesLines, ParsedLine, ReadsLines, ConfigLine, EventLine, NoEvent, ParsedLines, event_lines, fault_at, is_begun, is_begun_behind, line_here, parsed_line, line_read, line_read_behind, lines_behind, lines_before, lines_read, parsed_lines, lines_after, lines_with, with_line}
+use Rattle.scene_text.specs.SceneTexts.{AllRead, IsFaultHere, IsNextFault, IsSameRun, LeavesLines, ParsedLine, ReadsLines, RunLine, ConfigLine, EventLine, NoEvent, ParsedLines, event_lines, fault_at, is_begun, is_begun_behind, line_here, parsed_line, line_read, line_read_behind, lines_behind, lines_before, lines_read, parsed_lines, plain_line, lines_after, lines_with, with_event, with_line}
 use Rattle.scene_text.specs.declared.reader.LinesRead.{LinesRead}
 
 -- lines tell, and others behind them
-pub all_append : (before : ParsedLines) (ts : List (List ℕ)) (mid : ParsedLines) (us : List (List ℕ)) (after : ParsedLines) → AllRead before ts mid → AllRead mid us after → AllRead before (ts ++ us) after
+pub all_append : (before : ParsedLines) (ts : List RunLine) (mid : ParsedLines) (us : List RunLine) (after : ParsedLines) → AllRead before ts mid → AllRead mid us after → AllRead before (ts ++ us) after
 all_append before [] mid us after h more = subst (λ b. AllRead b us after) (sym h) more
 all_append before (t ∷ ts) mid us after h more = (h.0, h.1, all_append h.0 ts mid us after h.2 more)
 
 -- and the numbers of their events follow
-pub noted_append : (n k : ℕ) (before : ParsedLines) (ts : List (List ℕ)) (mid : ParsedLines) (us : List (List ℕ)) → k ≡ n + length ts → AllRead before ts mid →
+pub noted_append : (n k : ℕ) (before : ParsedLines) (ts : List RunLine) (mid : ParsedLines) (us : List RunLine) → k ≡ n + length ts → AllRead before ts mid →
     event_lines n before (ts ++ us) ≡ event_lines n before ts ++ event_lines k mid us
 unfolding event_lines
 noted_append n k before [] mid us place h =
@@ -30,13 +30,13 @@ noted_append n k before (t ∷ ts) mid us place h =
     rw (h.1, more) (sym (append_assoc (line_here n before h.0) (event_lines (n + 1) h.0 ts) (event_lines k mid us)))
 
 -- lines that tell one after the other
-pub all_told : (n : ℕ) (before : ParsedLines) (ts : List (List ℕ)) (after : ParsedLines) → AllRead before ts after → lines_read n before ts ≡ Ok after
+pub all_told : (n : ℕ) (before : ParsedLines) (ts : List RunLine) (after : ParsedLines) → AllRead before ts after → lines_read n before ts ≡ Ok after
 unfolding lines_read
 all_told n before [] after h = ap Ok h
 all_told n before (t ∷ ts) after h = rw h.1 (all_told (n + 1) h.0 ts after h.2)
 
 -- and then one that has a fault
-pub wrong_told : (n : ℕ) (before : ParsedLines) (ts : List (List ℕ)) (mid : ParsedLines) (t : List ℕ) (more : List (List ℕ)) (f : LineFault) (m : ℕ) → m ≡ n + length ts → AllRead before ts mid → line_read mid t ≡ Err f →
+pub wrong_told : (n : ℕ) (before : ParsedLines) (ts : List RunLine) (mid : ParsedLines) (t : RunLine) (more : List RunLine) (f : LineFault) (m : ℕ) → m ≡ n + length ts → AllRead before ts mid → line_read mid t ≡ Err f →
     lines_read n before (ts ++ t ∷ more) ≡ Err (m, f)
 unfolding lines_read
 wrong_told n before [] mid t more f m place h wrong =
@@ -46,10 +46,10 @@ wrong_told n before [] mid t more f m place h wrong =
 wrong_told n before (u ∷ us) mid t more f m place h wrong = rw h.1 (wrong_told (n + 1) h.0 us mid t more f m (omega (arith, place)) h.2 wrong)
 
 -- of one line
-one_tells : (before : ParsedLines) (t : List ℕ) (after : ParsedLines) → line_read before t ≡ Ok after → AllRead before (t ∷ []) after
+one_tells : (before : ParsedLines) (t : RunLine) (after : ParsedLines) → line_read before t ≡ Ok after → AllRead before (t ∷ []) after
 one_tells before t after h = (after, h, refl)
 
-one_noted : (n : ℕ) (before : ParsedLines) (t : List ℕ) (after : ParsedLines) → line_read before t ≡ Ok after → event_lines n before (t ∷ []) ≡ line_here n before after
+one_noted : (n : ℕ) (before : ParsedLines) (t : RunLine) (after : ParsedLines) → line_read before t ≡ Ok after → event_lines n before (t ∷ []) ≡ line_here n before after
 unfolding event_lines
 one_noted n before t after h = rw h (append-nil (line_here n before after))
 
@@ -57,6 +57,13 @@ one_noted n before t after h = rw h (append-nil (line_here n before after))
 pub begun_behind : (base es : List SceneEvent) → is_begun (base ++ es) ≡ is_begun_behind (is_begun base) es
 begun_behind [] es = refl
 begun_behind (b ∷ bs) es = refl
+
+-- of a scene's line nothing else is made
+pub as_spelled : (r : Result ParsedLine LineFault) → with_event (λ e. Ok e) r ≡ r
+as_spelled (Ok NoEvent) = refl
+as_spelled (Ok (ConfigLine config)) = refl
+as_spelled (Ok (EventLine e)) = refl
+as_spelled (Err f) = refl
 
 abbrev is_told : ParsedLines → Result ParsedLines LineFault
 is_told x = Ok x
@@ -77,13 +84,13 @@ module _ (base : List SceneEvent) (begun : Bool) (is : is_begun base ≡ begun) 
   same_before : lines_before (lines_after base before) ≡ lines_behind begun before
   same_before = rw (begun_behind base before.events, is) refl
 
-  pub told_behind : (after : ParsedLines) → line_read_behind begun before t ≡ Ok after → line_read (lines_after base before) t ≡ Ok (lines_after base after)
+  pub told_behind : (after : ParsedLines) → line_read_behind begun before t ≡ Ok after → line_read (lines_after base before) (plain_line t) ≡ Ok (lines_after base after)
   unfolding line_read line_read_behind
-  told_behind after h = rw same_before (with_after base before after (parsed_line (lines_behind begun before) t) h)
+  told_behind after h = rw (same_before, as_spelled (parsed_line (lines_behind begun before) t)) (with_after base before after (parsed_line (lines_behind begun before) t) h)
 
-  pub wrong_behind : (f : LineFault) → line_read_behind begun before t ≡ Err f → line_read (lines_after base before) t ≡ Err f
+  pub wrong_behind : (f : LineFault) → line_read_behind begun before t ≡ Err f → line_read (lines_after base before) (plain_line t) ≡ Err f
   unfolding line_read line_read_behind
-  wrong_behind f h = rw same_before (wrong_after base before f (parsed_line (lines_behind begun before) t) h)
+  wrong_behind f h = rw (same_before, as_spelled (parsed_line (lines_behind begun before) t)) (wrong_after base before f (parsed_line (lines_behind begun before) t) h)
 
 -- more events are as many more behind these
 less_after : (n a b : ℕ) → nat_lt (n + a) (n + b) ≡ nat_lt a b
@@ -103,24 +110,24 @@ unfolding event_lines
 reads_none old = record { tells = λ base is. refl; noted = λ base is. sym (append-nil old.run.lines.items); begun = refl; place = omega (arith) }
 
 -- one line more was read
-module _ (old mid new : LinesRead) (front : List (List ℕ)) (so_far : ReadsLines old mid front) (t : List ℕ) where
+module _ (old mid new : LinesRead) (front : List RunLine) (so_far : ReadsLines old mid front) (t : List ℕ) where
   pub reads_more : line_read_behind mid.is_begun (parsed_lines mid.run) t ≡ Ok (parsed_lines new.run) → new.run.lines.items ≡ mid.run.lines.items ++ line_here mid.next (parsed_lines mid.run) (parsed_lines new.run) →
-      new.is_begun ≡ mid.is_begun → new.next ≡ mid.next + 1 → ReadsLines old new (front ++ t ∷ [])
+      new.is_begun ≡ mid.is_begun → new.next ≡ mid.next + 1 → ReadsLines old new (front ++ plain_line t ∷ [])
   reads_more one noted begun place =
-      let behind : (base : List SceneEvent) → is_begun base ≡ old.is_begun → line_read (lines_after base (parsed_lines mid.run)) t ≡ Ok (lines_after base (parsed_lines new.run)) =
+      let behind : (base : List SceneEvent) → is_begun base ≡ old.is_begun → line_read (lines_after base (parsed_lines mid.run)) (plain_line t) ≡ Ok (lines_after base (parsed_lines new.run)) =
       λ base is. told_behind base mid.is_begun (is ∙ sym so_far.begun) (parsed_lines mid.run) t (parsed_lines new.run) one in
       record {
-        tells = λ base is. all_append (lines_after base (parsed_lines old.run)) front (lines_after base (parsed_lines mid.run)) (t ∷ []) (lines_after base (parsed_lines new.run)) (so_far.tells base is) (one_tells _ t _ (behind base is));
+        tells = λ base is. all_append (lines_after base (parsed_lines old.run)) front (lines_after base (parsed_lines mid.run)) (plain_line t ∷ []) (lines_after base (parsed_lines new.run)) (so_far.tells base is) (one_tells _ (plain_line t) _ (behind base is));
         noted = λ base is.
             let first = event_lines old.next (lines_after base (parsed_lines old.run)) front in
             noted ∙ ap (λ ls. ls ++ line_here mid.next (parsed_lines mid.run) (parsed_lines new.run)) (so_far.noted base is)
             ∙ append_assoc old.run.lines.items first (line_here mid.next (parsed_lines mid.run) (parsed_lines new.run))
             ∙ ap (λ ls. old.run.lines.items ++ ls) (
-            ap (λ ls. first ++ ls) (sym (one_noted mid.next _ t _ (behind base is) ∙ here_after base mid.next (parsed_lines mid.run) (parsed_lines new.run)))
-            ∙ sym (noted_append old.next mid.next (lines_after base (parsed_lines old.run)) front (lines_after base (parsed_lines mid.run)) (t ∷ []) so_far.place (so_far.tells base is))
+            ap (λ ls. first ++ ls) (sym (one_noted mid.next _ (plain_line t) _ (behind base is) ∙ here_after base mid.next (parsed_lines mid.run) (parsed_lines new.run)))
+            ∙ sym (noted_append old.next mid.next (lines_after base (parsed_lines old.run)) front (lines_after base (parsed_lines mid.run)) (plain_line t ∷ []) so_far.place (so_far.tells base is))
             );
         begun = begun ∙ so_far.begun;
-        place = (let size = length-append front (t ∷ []) in omega (arith, place, so_far.place, size));
+        place = (let size = length-append front (plain_line t ∷ []) in omega (arith, place, so_far.place, size));
       }
 
   -- or it is wrong
@@ -133,27 +140,27 @@ module _ (old mid new : LinesRead) (front : List (List ℕ)) (so_far : ReadsLine
       place = place ∙ so_far.place;
     }
 
-    next_fault : (rest : List (List ℕ)) (f : ReadFault) → IsFaultHere mid.next (line_read_behind mid.is_begun (parsed_lines mid.run) t) f → (base : List SceneEvent) → is_begun base ≡ old.is_begun →
-        IsNextFault new.next (lines_after base (parsed_lines new.run)) (t ∷ rest) f
+    next_fault : (rest : List RunLine) (f : ReadFault) → IsFaultHere mid.next (line_read_behind mid.is_begun (parsed_lines mid.run) t) f → (base : List SceneEvent) → is_begun base ≡ old.is_begun →
+        IsNextFault new.next (lines_after base (parsed_lines new.run)) (plain_line t ∷ rest) f
     next_fault rest (fault.Line m f) h base is = (
       h.0 ∙ sym place,
-      (t, rest, refl, subst (λ x. line_read (lines_after base x) t ≡ Err f) (sym same.0) (wrong_behind base mid.is_begun (is ∙ sym so_far.begun) (parsed_lines mid.run) t f h.1)),
+      (plain_line t, rest, refl, subst (λ x. line_read (lines_after base x) (plain_line t) ≡ Err f) (sym same.0) (wrong_behind base mid.is_begun (is ∙ sym so_far.begun) (parsed_lines mid.run) t f h.1)),
     )
     next_fault rest fault.OutOfMemory h base is = tt
 
-    pub leaves_here : (rest lines : List (List ℕ)) → lines ≡ front ++ t ∷ rest → (f : ReadFault) → IsFaultHere mid.next (line_read_behind mid.is_begun (parsed_lines mid.run) t) f → LeavesLines old new lines f
-    leaves_here rest lines whole f h = record { front = front; rest = t ∷ rest; whole = whole; reads = reads_same; wrong = next_fault rest f h }
+    pub leaves_here : (rest lines : List RunLine) → lines ≡ front ++ plain_line t ∷ rest → (f : ReadFault) → IsFaultHere mid.next (line_read_behind mid.is_begun (parsed_lines mid.run) t) f → LeavesLines old new lines f
+    leaves_here rest lines whole f h = record { front = front; rest = plain_line t ∷ rest; whole = whole; reads = reads_same; wrong = next_fault rest f h }
 
 -- the first of these lines were read, and these are left
-pub record ReadsFirst (old now : LinesRead) (lines left : List (List ℕ)) : Type 0 where
-  pub front : List (List ℕ)
+pub record ReadsFirst (old now : LinesRead) (lines left : List RunLine) : Type 0 where
+  pub front : List RunLine
   pub whole : lines ≡ front ++ left
   pub reads : ReadsLines old now front
 
 -- no line is left
-pub reads_all : (old now : LinesRead) (lines : List (List ℕ)) → ReadsFirst old now lines [] → ReadsLines old now lines
+pub reads_all : (old now : LinesRead) (lines : List RunLine) → ReadsFirst old now lines [] → ReadsLines old now lines
 reads_all old now lines r = subst (ReadsLines old now) (sym (r.whole ∙ append-nil r.front)) r.reads
 
 -- memory is refused before the next
-pub leaves_refused : (old now : LinesRead) (lines left : List (List ℕ)) → ReadsFirst old now lines left → LeavesLines old now lines fault.OutOfMemory
+pub leaves_refused : (old now : LinesRead) (lines left : List RunLine) → ReadsFirst old now lines left → LeavesLines old now lines fault.OutOfMemory
 leaves_refused old now lines left r = record { front = r.front; rest = left; whole = r.whole; reads = r.reads; wrong = λ base is. tt }

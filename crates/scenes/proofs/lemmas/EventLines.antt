@@ -6,17 +6,17 @@ use Rattle.std.proofs.lemmas.Bool.Decides.{nat_tests}
 use Rattle.std.proofs.lemmas.List.{append_cancel_left, length-append}
 use Rattle.scene_events.specs.declared.scene.event.SceneEvent.{SceneEvent}
 use Rattle.scene_fields.specs.declared.fault.LineFault.{LineFault}
-use Rattle.scene_text.specs.SceneTexts.{AllRead, ParsedLine, ConfigLine, EventLine, NoEvent, ParsedLines, event_lines, is_begun, line_here, parsed_line, line_read, lines_before, lines_with, with_line}
+use Rattle.scene_text.specs.SceneTexts.{AllRead, ParsedLine, ConfigLine, EventLine, NoEvent, ParsedLines, RunLine, event_lines, is_begun, line_here, line_read, line_value, lines_before, lines_with, with_line}
 use Rattle.scenes.proofs.lemmas.NoConfig.{config_kept}
 
 -- a line says an event
-record ReadsOne (before after : ParsedLines) (t : List ℕ) : Type 0 where
+record ReadsOne (before after : ParsedLines) (t : RunLine) : Type 0 where
   pub event : SceneEvent
-  pub says : parsed_line (lines_before before) t ≡ Ok (EventLine event)
+  pub says : line_value (lines_before before) t ≡ Ok (EventLine event)
   pub events : after.events ≡ before.events ++ event ∷ []
   pub config : after.config ≡ before.config
 
-with_cases : (before after : ParsedLines) (t : List ℕ) (r : Result ParsedLine LineFault) → parsed_line (lines_before before) t ≡ r → lines_with before r ≡ Ok after → (after.events ≡ before.events) ⊎ ReadsOne before after t
+with_cases : (before after : ParsedLines) (t : RunLine) (r : Result ParsedLine LineFault) → line_value (lines_before before) t ≡ r → lines_with before r ≡ Ok after → (after.events ≡ before.events) ⊎ ReadsOne before after t
 with_cases before after t (Ok NoEvent) says h = (let same : before ≡ after = cc in inl (ap (λ x. x.events) (sym same)))
 with_cases before after t (Ok (ConfigLine c)) says h = (let same : with_line before (ConfigLine c) ≡ after = cc in inl (ap (λ x. x.events) (sym same)))
 with_cases before after t (Ok (EventLine e)) says h =
@@ -25,12 +25,12 @@ with_cases before after t (Ok (EventLine e)) says h =
 with_cases before after t (Err f) says h = absurd (cc)
 
 -- what a line does that tells: it says an event, or leaves the events as they are
-cases : (before after : ParsedLines) (t : List ℕ) → line_read before t ≡ Ok after → (after.events ≡ before.events) ⊎ ReadsOne before after t
+cases : (before after : ParsedLines) (t : RunLine) → line_read before t ≡ Ok after → (after.events ≡ before.events) ⊎ ReadsOne before after t
 unfolding line_read
-cases before after t h = with_cases before after t (parsed_line (lines_before before) t) refl h
+cases before after t h = with_cases before after t (line_value (lines_before before) t) refl h
 
 -- lines tell further events
-grown : (before : ParsedLines) (ts : List (List ℕ)) (after : ParsedLines) → AllRead before ts after → (more : List SceneEvent) × (after.events ≡ before.events ++ more)
+grown : (before : ParsedLines) (ts : List RunLine) (after : ParsedLines) → AllRead before ts after → (more : List SceneEvent) × (after.events ≡ before.events ++ more)
 grown before [] after h = ([], ap (λ x. x.events) (sym h) ∙ sym (append-nil before.events))
 grown before (t ∷ ts) after h =
     let next = grown h.0 ts after h.2 in
@@ -53,7 +53,7 @@ one_here n before after e events =
     let size : length after.events ≡ length before.events + 1 = ap length events ∙ length-append before.events (e ∷ []) in
     rw (less (length before.events) (length after.events) size) refl
 
-lines_step : (n : ℕ) (before mid : ParsedLines) (t : List ℕ) (ts : List (List ℕ)) → line_read before t ≡ Ok mid → event_lines n before (t ∷ ts) ≡ line_here n before mid ++ event_lines (n + 1) mid ts
+lines_step : (n : ℕ) (before mid : ParsedLines) (t : RunLine) (ts : List RunLine) → line_read before t ≡ Ok mid → event_lines n before (t ∷ ts) ≡ line_here n before mid ++ event_lines (n + 1) mid ts
 unfolding event_lines
 lines_step n before mid t ts h = rw h refl
 
@@ -61,20 +61,20 @@ first_of : (x y : SceneEvent) (xs ys : List SceneEvent) → x ∷ xs ≡ y ∷ y
 first_of x y xs ys h = cc
 
 -- the line that says the event behind these, and its number among those of events
-pub record HasEventAt (n : ℕ) (before : ParsedLines) (lines : List (List ℕ)) (after : ParsedLines) (front : List SceneEvent) (e : SceneEvent) : Type 0 where
-  pub skipped : List (List ℕ)
-  pub t : List ℕ
-  pub more : List (List ℕ)
+pub record HasEventAt (n : ℕ) (before : ParsedLines) (lines : List RunLine) (after : ParsedLines) (front : List SceneEvent) (e : SceneEvent) : Type 0 where
+  pub skipped : List RunLine
+  pub t : RunLine
+  pub more : List RunLine
   pub whole : lines ≡ skipped ++ t ∷ more
   pub mid : ParsedLines
   pub tells : AllRead before skipped mid
   pub events : mid.events ≡ before.events ++ front
   pub config : mid.config ≡ after.config
-  pub says : parsed_line (lines_before mid) t ≡ Ok (EventLine e)
+  pub says : line_value (lines_before mid) t ≡ Ok (EventLine e)
   pub number : get_or (event_lines n before lines) (length front) 0 ≡ n + length skipped
 
 -- it stands in the lines behind the first
-later : (n : ℕ) (before mid : ParsedLines) (t : List ℕ) (ts : List (List ℕ)) (after : ParsedLines) (parsed_lines : line_read before t ≡ Ok mid) (front inner : List SceneEvent) (e : SceneEvent) (k : HasEventAt (n + 1) mid ts after inner e) →
+later : (n : ℕ) (before mid : ParsedLines) (t : RunLine) (ts : List RunLine) (after : ParsedLines) (parsed_lines : line_read before t ≡ Ok mid) (front inner : List SceneEvent) (e : SceneEvent) (k : HasEventAt (n + 1) mid ts after inner e) →
     mid.events ++ inner ≡ before.events ++ front → get_or (event_lines n before (t ∷ ts)) (length front) 0 ≡ get_or (event_lines (n + 1) mid ts) (length inner) 0 → HasEventAt n before (t ∷ ts) after front e
 later n before mid t ts after parsed_lines front inner e k events number = record {
   skipped = t ∷ k.skipped;
@@ -93,7 +93,7 @@ begun_by : (before : List SceneEvent) (e : SceneEvent) → is_begun (before ++ e
 begun_by [] e = refl
 begun_by (x ∷ xs) e = refl
 
-said_here : (n : ℕ) (before mid : ParsedLines) (t : List ℕ) (ts : List (List ℕ)) (after : ParsedLines) → line_read before t ≡ Ok mid → AllRead mid ts after → ReadsOne before mid t → ((front : List SceneEvent) (e : SceneEvent) (rest : List SceneEvent) → after.events ≡ mid.events ++ (front ++ e ∷ rest) → HasEventAt (n + 1) mid ts after front e) → (front : List SceneEvent) (e : SceneEvent) (rest : List SceneEvent) →
+said_here : (n : ℕ) (before mid : ParsedLines) (t : RunLine) (ts : List RunLine) (after : ParsedLines) → line_read before t ≡ Ok mid → AllRead mid ts after → ReadsOne before mid t → ((front : List SceneEvent) (e : SceneEvent) (rest : List SceneEvent) → after.events ≡ mid.events ++ (front ++ e ∷ rest) → HasEventAt (n + 1) mid ts after front e) → (front : List SceneEvent) (e : SceneEvent) (rest : List SceneEvent) →
     after.events ≡ before.events ++ (front ++ e ∷ rest) → HasEventAt n before (t ∷ ts) after front e
 said_here n before mid t ts after parsed_lines tells one behind [] e rest is =
     let next = grown mid ts after tells in
@@ -123,7 +123,7 @@ said_here n before mid t ts after parsed_lines tells one behind (f ∷ fs) e res
     ap (λ ls. get_or ls (length (f ∷ fs)) 0) (lines_step n before mid t ts parsed_lines ∙ ap (λ ls. ls ++ event_lines (n + 1) mid ts) (one_here n before mid one.event one.events)) ∙ simp unary_clauses refl in
     later n before mid t ts after parsed_lines (f ∷ fs) fs e (behind fs e rest (is ∙ sym (grows (fs ++ e ∷ rest)))) (grows fs) number
 
-pub event_at : (n : ℕ) (before : ParsedLines) (lines : List (List ℕ)) (after : ParsedLines) → AllRead before lines after → (front : List SceneEvent) (e : SceneEvent) (rest : List SceneEvent) → after.events ≡ before.events ++ (front ++ e ∷ rest) →
+pub event_at : (n : ℕ) (before : ParsedLines) (lines : List RunLine) (after : ParsedLines) → AllRead before lines after → (front : List SceneEvent) (e : SceneEvent) (rest : List SceneEvent) → after.events ≡ before.events ++ (front ++ e ∷ rest) →
     HasEventAt n before lines after front e
 event_at n before [] after h front e rest is =
     let size = ap length (ap (λ x. x.events) h ∙ is) ∙ length-append before.events (front ++ e ∷ rest) ∙ ap (λ k. length before.events + k) (length-append front (e ∷ rest)) in

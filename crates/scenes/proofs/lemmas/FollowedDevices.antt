@@ -21,12 +21,11 @@ use Rattle.console_reporter.specs.declared.imp.builder.DisplayReporterBuilder.{D
 use Rattle.console_reporter.specs.declared.imp.builder.Surroundings.{Surroundings}
 use Rattle.console_reporter.specs.declared.imp.reporter.DisplayReporter.{DisplayReporter}
 use Rattle.console_reporter.specs.declared.imp.store.Store.{Store}
-use Rattle.scene_text.specs.SceneTexts.{ParsedLines, no_lines}
+use Rattle.scene_text.specs.SceneTexts.{ParsedLines, RunLine, no_lines}
 use Rattle.scene_events.specs.Scenes.{IsCallOf}
-use Rattle.scene_fields.specs.Split.{split_on}
 use Rattle.scene_events.specs.declared.scene.SceneConfig.{SceneConfig}
 use Rattle.scenes.specs.Follow.{PrintsFollowed, StopsBy}
-use Rattle.scenes.specs.ParsedScenes.{OfText}
+use Rattle.scenes.specs.ParsedScenes.{OfLines}
 use Rattle.scenes.specs.Outcomes.{run_outcome}
 use Rattle.scenes.specs.SceneReporter.{BreaksParsed, HasReportedTo, IsStart, ReportsParsed}
 use Rattle.scenes.specs.Reports.{Begins, HasFirstCalls, HoldsFirstCalls, StopsStore, builder_for, configuration_for, store_for, surroundings_of}
@@ -41,15 +40,15 @@ use Rattle.scenes.proofs.lemmas.Heads.{HasNoEvent, IsRefusedMemory}
 use Rattle.scenes.proofs.lemmas.Devices.{memory_no_device, memory_no_store, nothing_stored, stop_by, store_begins, text_begins, untouched_begins}
 
 -- what holds of the lines before, holds also of what follows from it
-pub stops_so : (options : Options) (text : List ℕ) (P R : ParsedLines → Type 0) (Q T : ParsedLines → Fault → Type 0) → ((run : ParsedLines) → P run → R run) → ((run : ParsedLines) (f : Fault) → Q run f → T run f) →
-    (f : Fault) → StopsBy options text P Q f → StopsBy options text R T f
-stops_so options text P R Q T pr qt fault.Usage h = absurd h
-stops_so options text P R Q T pr qt (fault.CannotRead file) h = record { run = h.run; lines = h.lines; number = h.number; at = h.at; holds = pr h.run h.holds }
-stops_so options text P R Q T pr qt (fault.CannotWrite file) h = absurd h
-stops_so options text P R Q T pr qt (fault.Line n f) h = record { run = h.run; t = h.t; more = h.more; at = h.at; wrong = h.wrong; holds = pr h.run h.holds }
-stops_so options text P R Q T pr qt fault.WriteFailed h = record { run = h.run; lines = h.lines; number = h.number; at = h.at; holds = qt h.run fault.WriteFailed h.holds }
-stops_so options text P R Q T pr qt fault.StoreFailed h = record { run = h.run; lines = h.lines; number = h.number; at = h.at; holds = qt h.run fault.StoreFailed h.holds }
-stops_so options text P R Q T pr qt fault.OutOfMemory h = record { run = h.run; lines = h.lines; number = h.number; at = h.at; holds = qt h.run fault.OutOfMemory h.holds }
+pub stops_so : (options : Options) (all : List RunLine) (P R : ParsedLines → Type 0) (Q T : ParsedLines → Fault → Type 0) → ((run : ParsedLines) → P run → R run) → ((run : ParsedLines) (f : Fault) → Q run f → T run f) →
+    (f : Fault) → StopsBy options all P Q f → StopsBy options all R T f
+stops_so options all P R Q T pr qt fault.Usage h = absurd h
+stops_so options all P R Q T pr qt (fault.CannotRead file) h = record { run = h.run; lines = h.lines; number = h.number; at = h.at; holds = pr h.run h.holds }
+stops_so options all P R Q T pr qt (fault.CannotWrite file) h = absurd h
+stops_so options all P R Q T pr qt (fault.Line n f) h = record { run = h.run; t = h.t; more = h.more; at = h.at; wrong = h.wrong; holds = pr h.run h.holds }
+stops_so options all P R Q T pr qt fault.WriteFailed h = record { run = h.run; lines = h.lines; number = h.number; at = h.at; holds = qt h.run fault.WriteFailed h.holds }
+stops_so options all P R Q T pr qt fault.StoreFailed h = record { run = h.run; lines = h.lines; number = h.number; at = h.at; holds = qt h.run fault.StoreFailed h.holds }
+stops_so options all P R Q T pr qt fault.OutOfMemory h = record { run = h.run; lines = h.lines; number = h.number; at = h.at; holds = qt h.run fault.OutOfMemory h.holds }
 
 -- of what was returned
 pub from_ok : {P Q : Type 0} (r : Result (Unit {0}) Fault) → (P → Q) → OnOk r P → OnOk r Q
@@ -178,20 +177,20 @@ module _ {W S : Type 0} (contents : W → Option (List ℕ)) (n : Meaning S) (op
   begun run r h = from_err r (begins run) h
 
   -- and for lines that were followed
-  pub followed : (text : List ℕ) (K : List ℕ → Type 0) (L M : Type 0) → K text → L → M → (r : Result RunOutcome Fault) →
-      IfOk r (λ come_to. (t : List ℕ) → K t → L → M → OfText t (ReportsParsed (buffer_meaning contents) (store_meaning n) options a b x y come_to)) →
-      IfOk r (λ come_to. OfText text (PrintsFollowed options come_to (contents old) (contents new) before after))
-  followed text K L M known ready also (Ok come_to) h = let o = h text known ready also in record { run = o.run; spelled = o.spelled; holds = prints come_to o.run o.holds }
-  followed text K L M known ready also (Err f) h = tt
+  pub followed : (all : List RunLine) (K : List RunLine → Type 0) (L M : Type 0) → K all → L → M → (r : Result RunOutcome Fault) →
+      IfOk r (λ come_to. (all : List RunLine) → K all → L → M → OfLines all (ReportsParsed (buffer_meaning contents) (store_meaning n) options a b x y come_to)) →
+      IfOk r (λ come_to. OfLines all (PrintsFollowed options come_to (contents old) (contents new) before after))
+  followed all K L M known ready also (Ok come_to) h = let o = h all known ready also in record { run = o.run; spelled = o.spelled; holds = prints come_to o.run o.holds }
+  followed all K L M known ready also (Err f) h = tt
 
-  pub left : (text : List ℕ) (K : List ℕ → Type 0) (L M : Type 0) → K text → L → M → (r : Result RunOutcome Fault) →
-      IfErr r (λ f. (t : List ℕ) → K t → L → M → StopsBy options t (HasReportedTo (buffer_meaning contents) (store_meaning n) options a b x y) (BreaksParsed (buffer_meaning contents) (store_meaning n) options a b x y) f) →
-      IfErr r (StopsBy options text (λ run. PrintsParsed options run (contents old) (contents new) before after) (λ run f. BeginsParsed options run f (contents old) (contents new) before after))
-  left text K L M known ready also (Ok come_to) h = tt
-  left text K L M known ready also (Err f) h = stops_so options text _ _ _ _ (λ run p. (prints p.0 run p.1).printed) begins f (h text known ready also)
+  pub left : (all : List RunLine) (K : List RunLine → Type 0) (L M : Type 0) → K all → L → M → (r : Result RunOutcome Fault) →
+      IfErr r (λ f. (all : List RunLine) → K all → L → M → StopsBy options all (HasReportedTo (buffer_meaning contents) (store_meaning n) options a b x y) (BreaksParsed (buffer_meaning contents) (store_meaning n) options a b x y) f) →
+      IfErr r (StopsBy options all (λ run. PrintsParsed options run (contents old) (contents new) before after) (λ run f. BeginsParsed options run f (contents old) (contents new) before after))
+  left all K L M known ready also (Ok come_to) h = tt
+  left all K L M known ready also (Err f) h = stops_so options all _ _ _ _ (λ run p. (prints p.0 run p.1).printed) begins f (h all known ready also)
 
 -- what is not begun
-module _ {W T : Type 0} (m : Meaning W) (k : Meaning T) (laws : WriterLaws m) (others : WriterLaws k) (options : Options) (text : List ℕ) (old : W) (store_old : T) where
+module _ {W T : Type 0} (m : Meaning W) (k : Meaning T) (laws : WriterLaws m) (others : WriterLaws k) (options : Options) (all : List RunLine) (old : W) (store_old : T) where
   no_calls : (run : ParsedLines) → HasNoEvent run → AllZip IsCallOf run.events []
   no_calls run none = subst (λ es. AllZip IsCallOf es []) (sym none) tt
 
@@ -207,10 +206,10 @@ module _ {W T : Type 0} (m : Meaning W) (k : Meaning T) (laws : WriterLaws m) (o
   })
 
   -- memory was refused before the first line
-  pub nothing_stops : (P : ParsedLines → Type 0) (f : Fault) → f ≡ fault.OutOfMemory → StopsBy options text P (BreaksParsed m k options old old store_old store_old) f
-  nothing_stops P f is = subst (λ g. StopsBy options text P (BreaksParsed m k options old old store_old store_old) g) (sym is) (record {
+  pub nothing_stops : (P : ParsedLines → Type 0) (f : Fault) → f ≡ fault.OutOfMemory → StopsBy options all P (BreaksParsed m k options old old store_old store_old) f
+  nothing_stops P f is = subst (λ g. StopsBy options all P (BreaksParsed m k options old old store_old store_old) g) (sym is) (record {
     run = no_lines;
-    lines = split_on 10 text;
+    lines = all;
     number = 1;
     at = record { front = []; whole = refl; place = refl; tells = refl };
     holds = broke_nothing no_lines fault.OutOfMemory (refl, refl);
@@ -233,13 +232,13 @@ module _ {W T : Type 0} (m : Meaning W) (k : Meaning T) (laws : WriterLaws m) (o
     told_nothing : (run : ParsedLines) → HasNoEvent run → HasReportedTo m k options old old store_old store_old run
     told_nothing run none = (outcome.NotEnded, reports_nothing run none)
 
-    -- the text has no event
-    pub head_told : OfText text HasNoEvent → OfText text (ReportsParsed m k options old old store_old store_old outcome.NotEnded)
+    -- no line is an event
+    pub head_told : OfLines all HasNoEvent → OfLines all (ReportsParsed m k options old old store_old store_old outcome.NotEnded)
     head_told h = record { run = h.run; spelled = h.spelled; holds = reports_nothing h.run h.holds }
 
     -- a line before the first event stopped it
-    pub head_stops : (f : Fault) → StopsBy options text HasNoEvent IsRefusedMemory f → StopsBy options text (HasReportedTo m k options old old store_old store_old) (BreaksParsed m k options old old store_old store_old) f
-    head_stops f h = stops_so options text _ _ _ _ told_nothing broke_nothing f h
+    pub head_stops : (f : Fault) → StopsBy options all HasNoEvent IsRefusedMemory f → StopsBy options all (HasReportedTo m k options old old store_old store_old) (BreaksParsed m k options old old store_old store_old) f
+    head_stops f h = stops_so options all _ _ _ _ told_nothing broke_nothing f h
 
 -- a reporter that was built goes by the options and the scene's configuration
 pub built : {W S : Type 0} (options : Options) (config : SceneConfig) (b : DisplayReporterBuilder) → b ≡ builder_for options config → (s : Surroundings) → s ≡ surroundings_of config →
@@ -262,11 +261,11 @@ starts m n options config r stands delivered start not_ended reports = record {
 }
 
 -- memory was refused before anything was written
-pub nothing_held : (options : Options) (text : List ℕ) (P : ParsedLines → Type 0) (before after store_before store_after : Option (List ℕ)) → after ≡ before → store_after ≡ store_before →
-    StopsBy options text P (λ run f. BeginsParsed options run f before after store_before store_after) fault.OutOfMemory
-nothing_held options text P before after store_before store_after same also = record {
+pub nothing_held : (options : Options) (all : List RunLine) (P : ParsedLines → Type 0) (before after store_before store_after : Option (List ℕ)) → after ≡ before → store_after ≡ store_before →
+    StopsBy options all P (λ run f. BeginsParsed options run f before after store_before store_after) fault.OutOfMemory
+nothing_held options all P before after store_before store_after same also = record {
   run = no_lines;
-  lines = split_on 10 text;
+  lines = all;
   number = 1;
   at = record { front = []; whole = refl; place = refl; tells = refl };
   holds = record {

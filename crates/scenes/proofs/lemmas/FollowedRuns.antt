@@ -1,4 +1,4 @@
--- What is read of a text that is followed is reported, or left (for `follow_lines`).
+-- What is read of lines that is followed is reported, or left (for `follow_lines`).
 use Rattle.std.proofs.Common.{◌≡◌, ℕ, ◌+◌, Bool, true, false, List, [], ◌∷◌, ◌++◌, Option, Result, Ok, Err, length, map, get_or, reverse, refl, sym, ap, ◌∙◌, subst, arith, append_assoc, inl, inr}
 use Rattle.std.specs.Borrow.{Bor}
 use Rattle.std.specs.List.{AllZip}
@@ -20,11 +20,11 @@ use Rattle.scene_events.specs.declared.scene.event.SceneEvent.{SceneEvent}
 use Rattle.scene_fields.specs.declared.fault.LineFault.{LineFault}
 use Rattle.scene_fields.specs.declared.fault.ReadFault.{ReadFault}
 use Rattle.scene_fields.specs.declared.fault.ReadFault.TheVariants as read
-use Rattle.scene_text.specs.SceneTexts.{IsNextFault, ParsedLine, EventLine, ParsedLines, is_begun, is_begun_behind, parsed_line, line_read, lines_before, no_lines, parsed_lines, lines_after, lines_with, with_line}
+use Rattle.scene_text.specs.SceneTexts.{IsNextFault, ParsedLine, EventLine, ParsedLines, RunLine, is_begun, is_begun_behind, line_read, line_value, lines_before, no_lines, parsed_lines, lines_after, lines_with, with_line}
 use Rattle.scene_text.specs.declared.reader.LinesRead.{LinesRead}
 use Rattle.scene_text.proofs.lemmas.Tellings.{all_append, begun_behind}
 use Rattle.scenes.specs.Follow.{KeepsUp, StopsBehind, StopsBy}
-use Rattle.scenes.specs.ParsedScenes.{OfText}
+use Rattle.scenes.specs.ParsedScenes.{OfLines}
 use Rattle.scenes.specs.Outcomes.{run_outcome}
 use Rattle.scenes.specs.Read.{AtLine, HasRead, IsMore}
 use Rattle.scenes.specs.Reports.{configuration_for}
@@ -43,13 +43,13 @@ wrong_with : (before : ParsedLines) (f : LineFault) (r : Result ParsedLine LineF
 wrong_with before f (Ok s) h = absurd (cc)
 wrong_with before f (Err g) h = (let same : g ≡ f = cc in ap is_wrong same)
 
-wrong_said : (run : ParsedLines) (t : List ℕ) (f : LineFault) → line_read run t ≡ Err f → parsed_line (lines_before run) t ≡ Err f
+wrong_said : (run : ParsedLines) (t : RunLine) (f : LineFault) → line_read run t ≡ Err f → line_value (lines_before run) t ≡ Err f
 unfolding line_read
-wrong_said run t f h = wrong_with run f (parsed_line (lines_before run) t) h
+wrong_said run t f h = wrong_with run f (line_value (lines_before run) t) h
 
 -- what was read so far holds, and nothing more could be read behind it
-module _ (options : Options) (text : List ℕ) (P : ParsedLines → Type 0) (Q : ParsedLines → Fault → Type 0) (run : ParsedLines) (holds : P run) (refused : Q run fault.OutOfMemory) (left : List (List ℕ)) (number : ℕ) (at : AtLine text run left number) where
-  left_unread : (file : List ℕ) (f : Fault) → IsUnread file f → StopsBy options text P Q f
+module _ (options : Options) (all : List RunLine) (P : ParsedLines → Type 0) (Q : ParsedLines → Fault → Type 0) (run : ParsedLines) (holds : P run) (refused : Q run fault.OutOfMemory) (left : List RunLine) (number : ℕ) (at : AtLine all run left number) where
+  left_unread : (file : List ℕ) (f : Fault) → IsUnread file f → StopsBy options all P Q f
   left_unread file fault.Usage h = absurd h
   left_unread file (fault.CannotRead f) h = record { run = run; lines = left; number = number; at = at; holds = holds }
   left_unread file (fault.CannotWrite f) h = absurd h
@@ -58,7 +58,7 @@ module _ (options : Options) (text : List ℕ) (P : ParsedLines → Type 0) (Q :
   left_unread file fault.StoreFailed h = absurd h
   left_unread file fault.OutOfMemory h = record { run = run; lines = left; number = number; at = at; holds = refused }
 
-  left_wrong : (f : ReadFault) → IsNextFault number run left f → StopsBy options text P Q (fault_of_read f)
+  left_wrong : (f : ReadFault) → IsNextFault number run left f → StopsBy options all P Q (fault_of_read f)
   left_wrong (read.Line j f) h = record {
     run = run;
     t = h.1.0;
@@ -69,9 +69,9 @@ module _ (options : Options) (text : List ℕ) (P : ParsedLines → Type 0) (Q :
   }
   left_wrong read.OutOfMemory h = record { run = run; lines = left; number = number; at = at; holds = refused }
 
-  pub nothing_more : (file : List ℕ) (f : Fault) (remaining : Option (List ℕ)) → IsMore file (Err f) run left number remaining → StopsBy options text P Q f
-  nothing_more file f remaining (inl h) = left_unread file f h
-  nothing_more file f remaining (inr x) = subst (StopsBy options text P Q) (sym x.1) (left_wrong x.0 x.2)
+  pub nothing_more : (file : List ℕ) (f : Fault) (Has : List RunLine → Type 0) → IsMore file (Err f) run left number Has → StopsBy options all P Q f
+  nothing_more file f Has (inl h) = left_unread file f h
+  nothing_more file f Has (inr x) = subst (StopsBy options all P Q) (sym x.1) (left_wrong x.0 x.2)
 
 -- the lines that were read, by their parts
 told_same : (a : ParsedLines) (config : SceneConfig) (events : List SceneEvent) → a.config ≡ config → a.events ≡ events → a ≡ record { config = config; events = events }
@@ -85,19 +85,19 @@ no_call : (calls : List ReportCall) → AllZip IsCallOf [] calls → calls ≡ [
 no_call [] h = refl
 no_call (c ∷ calls) h = absurd h
 
-module _ {W S : Type 0} {m : Meaning W} {n : Meaning S} (laws : WriterLaws m) (others : WriterLaws n) (options : Options) (text : List ℕ) (start : SceneReporter W S) where
+module _ {W S : Type 0} {m : Meaning W} {n : Meaning S} (laws : WriterLaws m) (others : WriterLaws n) (options : Options) (all : List RunLine) (start : SceneReporter W S) where
   -- the event of the next line was left
-  module _ (now next : SceneReporter W S) (run : ParsedLines) (follows : Follows m n options start now run) (t : List ℕ) (more : List (List ℕ)) (number : ℕ) (at : AtLine text run (t ∷ more) number) (e : SceneEvent) (says : parsed_line (lines_before run) t ≡ Ok (EventLine e)) where
-    left_event : (f : Fault) → BreaksEvent m n options (decider_for options run.config) e f now next → StopsBehind text (λ r. BreaksOff m n options start next r f)
+  module _ (now next : SceneReporter W S) (run : ParsedLines) (follows : Follows m n options start now run) (t : RunLine) (more : List RunLine) (number : ℕ) (at : AtLine all run (t ∷ more) number) (e : SceneEvent) (says : line_value (lines_before run) t ≡ Ok (EventLine e)) where
+    left_event : (f : Fault) → BreaksEvent m n options (decider_for options run.config) e f now next → StopsBehind all (λ r. BreaksOff m n options start next r f)
     left_event f broke = record {
       run = with_line run (EventLine e);
       lines = more;
       number = number + 1;
-      at = at_more text run t more number (with_line run (EventLine e)) at (line_reads run t (EventLine e) says);
+      at = at_more all run t more number (with_line run (EventLine e)) at (line_reads run t (EventLine e) says);
       holds = broke_event laws others options start now next run follows e f broke;
     }
 
-    one_left : (f : Fault) → LeavesEvent m n options (decider_for options run.config) number e f now next → StopsBy options text (HasReported m n options start next) (BreaksOff m n options start next) f
+    one_left : (f : Fault) → LeavesEvent m n options (decider_for options run.config) number e f now next → StopsBy options all (HasReported m n options start next) (BreaksOff m n options start next) f
     one_left fault.Usage h = absurd h
     one_left (fault.CannotRead file) h = absurd h
     one_left (fault.CannotWrite file) h = absurd h
@@ -115,15 +115,15 @@ module _ {W S : Type 0} {m : Meaning W} {n : Meaning S} (laws : WriterLaws m) (o
     one_left fault.OutOfMemory (inr broke) = left_event fault.OutOfMemory broke
 
   -- nothing was reported yet
-  pub keeps_up : (read : LinesRead) (more : Result Bool Fault) (remaining : Option (List ℕ)) → HasRead options.file.now text [] no_lines read more remaining → is_begun read.run.events.items ≡ true →
-      IsStart m n options read.run.config start → KeepsUp m n options text start start read more remaining
-  keeps_up read more remaining has begun is_start = record { front = []; before = no_lines; has = has; follows = starts laws others options start read.run.config is_start; begun = begun }
+  pub keeps_up : (read : LinesRead) (more : Result Bool Fault) (Has : List RunLine → Type 0) → HasRead options.file.now all [] no_lines read more Has → is_begun read.run.events.items ≡ true →
+      IsStart m n options read.run.config start → KeepsUp m n options all start start read more Has
+  keeps_up read more Has has begun is_start = record { front = []; before = no_lines; has = has; follows = starts laws others options start read.run.config is_start; begun = begun }
 
-  module _ (now : SceneReporter W S) (read : LinesRead) (more : Result Bool Fault) (remaining : Option (List ℕ)) (k : KeepsUp m n options text start now read more remaining) where
+  module _ (now : SceneReporter W S) (read : LinesRead) (more : Result Bool Fault) (Has : List RunLine → Type 0) (k : KeepsUp m n options all start now read more Has) where
     abbrev run : ParsedLines
     run = lines_after k.before.events (parsed_lines read.run)
 
-    here : AtLine text run k.has.left read.next
+    here : AtLine all run k.has.left read.next
     here =
         let size = length-append k.front k.has.lines in
         record {
@@ -135,7 +135,7 @@ module _ {W S : Type 0} {m : Meaning W} {n : Meaning S} (laws : WriterLaws m) (o
 
     -- an event of what was read was left
     pub stops_run : (next : SceneReporter W S) (f : Fault) → StopsAtEvent m n options read.run.config read.run.events.items read.run.lines.items k.before.events f start next →
-        StopsBy options text (HasReported m n options start next) (BreaksOff m n options start next) f
+        StopsBy options all (HasReported m n options start next) (BreaksOff m n options start next) f
     stops_run next f stop =
         let at = event_at (length k.front + 1) k.before k.has.lines run k.has.tells stop.front stop.event stop.rest (ap (λ es. k.before.events ++ es) stop.whole) in
         let mid_is = told_same at.mid read.run.config (k.before.events ++ stop.front) at.config at.events in
@@ -179,7 +179,7 @@ module _ {W S : Type 0} {m : Meaning W} {n : Meaning S} (laws : WriterLaws m) (o
     ]
 
     -- there are lines that no number counts
-    pub reported_uncounted : (file : Bor (List ℕ)) → StopsBy options text (HasReported m n options start now) (BreaksOff m n options start now) (fault.CannotRead file)
+    pub reported_uncounted : (file : Bor (List ℕ)) → StopsBy options all (HasReported m n options start now) (BreaksOff m n options start now) (fault.CannotRead file)
     reported_uncounted file = record {
       run = k.before;
       lines = k.has.lines ++ k.has.left;
@@ -190,23 +190,23 @@ module _ {W S : Type 0} {m : Meaning W} {n : Meaning S} (laws : WriterLaws m) (o
 
     -- all that was read was reported
     module _ (next : SceneReporter W S) (reported : Follows m n options start next (record { config = read.run.config; events = k.before.events ++ read.run.events.items })) where
-      -- and the text ends there
-      pub reported_all : more ≡ Ok false → OfText text (HasReported m n options start next)
+      -- and the lines end there
+      pub reported_all : more ≡ Ok false → OfLines all (HasReported m n options start next)
       reported_all last = record {
         run = run;
-        spelled = spells options.file.now text read k.front k.before remaining (subst (λ r. HasRead options.file.now text k.front k.before read r remaining) last k.has);
+        spelled = spells options.file.now all read k.front k.before Has (subst (λ r. HasRead options.file.now all k.front k.before read r Has) last k.has);
         holds = now_reported laws others options start next next run reported refl;
       }
 
       -- or nothing more could be read
-      pub reported_first : (f : Fault) → more ≡ Err f → StopsBy options text (HasReported m n options start next) (BreaksOff m n options start next) f
+      pub reported_first : (f : Fault) → more ≡ Err f → StopsBy options all (HasReported m n options start next) (BreaksOff m n options start next) f
       reported_first f is =
-          nothing_more options text (HasReported m n options start next) (BreaksOff m n options start next) run (now_reported laws others options start next next run reported refl) (broke_before laws others options start next next run reported refl)
-          k.has.left read.next here options.file.now f remaining (subst (λ r. IsMore options.file.now r run k.has.left read.next remaining) is k.has.more_is)
+          nothing_more options all (HasReported m n options start next) (BreaksOff m n options start next) run (now_reported laws others options start next next run reported refl) (broke_before laws others options start next next run reported refl)
+          k.has.left read.next here options.file.now f Has (subst (λ r. IsMore options.file.now r run k.has.left read.next Has) is k.has.more_is)
 
       -- or further lines were read behind it
-      pub reads_on : (new : LinesRead) (goes_on : Result Bool Fault) (after : Option (List ℕ)) → HasRead options.file.now text (k.front ++ k.has.lines) run new goes_on after → KeepsUp m n options text start next new goes_on after
-      reads_on new goes_on after has = record {
+      pub reads_on : (new : LinesRead) (goes_on : Result Bool Fault) (Next : List RunLine → Type 0) → HasRead options.file.now all (k.front ++ k.has.lines) run new goes_on Next → KeepsUp m n options all start next new goes_on Next
+      reads_on new goes_on Next has = record {
         front = k.front ++ k.has.lines;
         before = run;
         has = has;
@@ -216,5 +216,5 @@ module _ {W S : Type 0} {m : Meaning W} {n : Meaning S} (laws : WriterLaws m) (o
 
     -- what was read is forgotten
     module _ (new : LinesRead) (config : new.run.config ≡ read.run.config) (events : new.run.events.items ≡ []) (lines : new.run.lines.items ≡ []) (begun : new.is_begun ≡ is_begun_behind read.is_begun read.run.events.items) (next : new.next ≡ read.next) where
-      pub forgotten : more ≡ Ok true → HasRead options.file.now text (k.front ++ k.has.lines) run new (Ok true) remaining
-      forgotten goes_on = subst (λ r. HasRead options.file.now text (k.front ++ k.has.lines) run new r remaining) goes_on (forgets options.file.now text k.front k.before read new more remaining k.has config events lines begun next)
+      pub forgotten : more ≡ Ok true → HasRead options.file.now all (k.front ++ k.has.lines) run new (Ok true) Has
+      forgotten goes_on = subst (λ r. HasRead options.file.now all (k.front ++ k.has.lines) run new r Has) goes_on (forgets options.file.now all k.front k.before read new more Has k.has config events lines begun next)

@@ -6,10 +6,10 @@ use Rattle.scene_events.specs.declared.scene.event.SceneEvent.{SceneEvent}
 use Rattle.command_line.specs.declared.fault.Fault.{Fault}
 use Rattle.command_line.specs.declared.fault.Fault.TheVariants as fault
 use Rattle.command_line.specs.declared.args.Options.{Options}
-use Rattle.scene_text.specs.SceneTexts.{ParsedLines, is_begun, no_lines, parsed_lines}
+use Rattle.scene_text.specs.SceneTexts.{ParsedLines, RunLine, is_begun, no_lines, parsed_lines}
 use Rattle.scene_text.specs.declared.reader.LinesRead.{LinesRead}
 use Rattle.scenes.specs.Follow.{StopsBy}
-use Rattle.scenes.specs.ParsedScenes.{OfText}
+use Rattle.scenes.specs.ParsedScenes.{OfLines}
 use Rattle.scenes.specs.Read.{HasRead}
 use Rattle.scenes.proofs.lemmas.FollowedRuns.{nothing_more}
 use Rattle.scenes.proofs.lemmas.ReadLines.{spells}
@@ -22,13 +22,13 @@ HasNoEvent run = run.events ≡ []
 abbrev pub IsRefusedMemory : ParsedLines → Fault → Type 0
 IsRefusedMemory run f = HasNoEvent run × (f ≡ fault.OutOfMemory)
 
-module _ (options : Options) (text : List ℕ) (read : LinesRead) (remaining : Option (List ℕ)) (none : read.run.events.items ≡ []) where
-  pub head_ends : HasRead options.file.now text [] no_lines read (Ok false) remaining → OfText text HasNoEvent
-  head_ends has = record { run = parsed_lines read.run; spelled = spells options.file.now text read [] no_lines remaining has; holds = none }
+module _ (options : Options) (all : List RunLine) (read : LinesRead) (Has : List RunLine → Type 0) (none : read.run.events.items ≡ []) where
+  pub head_ends : HasRead options.file.now all [] no_lines read (Ok false) Has → OfLines all HasNoEvent
+  head_ends has = record { run = parsed_lines read.run; spelled = spells options.file.now all read [] no_lines Has has; holds = none }
 
-  pub head_left : (f : Fault) → HasRead options.file.now text [] no_lines read (Err f) remaining → StopsBy options text HasNoEvent IsRefusedMemory f
+  pub head_left : (f : Fault) → HasRead options.file.now all [] no_lines read (Err f) Has → StopsBy options all HasNoEvent IsRefusedMemory f
   head_left f has =
-      nothing_more options text HasNoEvent IsRefusedMemory (parsed_lines read.run) none (none, refl) has.left read.next (record { front = has.lines; whole = has.whole; place = has.place ∙ omega (arith); tells = has.tells }) options.file.now f remaining has.more_is
+      nothing_more options all HasNoEvent IsRefusedMemory (parsed_lines read.run) none (none, refl) has.left read.next (record { front = has.lines; whole = has.whole; place = has.place ∙ omega (arith); tells = has.tells }) options.file.now f Has has.more_is
 
 -- whether there is an event
 pub is_none : (es : List SceneEvent) → (length es == 0) ≡ true → es ≡ []

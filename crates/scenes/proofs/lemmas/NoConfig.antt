@@ -4,7 +4,7 @@ use Rattle.std.specs.Str.{is_utf8}
 use Rattle.std.proofs.lemmas.Bool.{cases_Bool}
 use Rattle.scene_fields.specs.Fields.{Place}
 use Rattle.scene_text.specs.Lines.{event_line_fields}
-use Rattle.scene_text.specs.SceneTexts.{AllRead, ParsedLine, LinesBefore, ConfigLine, EventLine, NoEvent, ParsedLines, event_of, is_begun, is_passed_over, parsed_line, line_read, lines_before, event_line, lines_with, with_line, parsed_word, parsed_words}
+use Rattle.scene_text.specs.SceneTexts.{AllRead, ParsedLine, LinesBefore, ConfigLine, EventLine, NoEvent, ParsedLines, RunLine, event_of, is_begun, is_passed_over, parsed_line, line_read, line_value, lines_before, event_line, lines_with, with_event, with_line, parsed_word, parsed_words}
 use Rattle.scene_fields.specs.Split.{split_on}
 use Rattle.scene_fields.specs.declared.fault.LineFault.{LineFault}
 use Rattle.scene_events.specs.declared.scene.SceneConfig.{SceneConfig}
@@ -48,6 +48,12 @@ says_none config t = elim (cases_Bool (is_passed_over t)) [
   ]
 ]
 
+with_none_made : (make : SceneEvent → Result SceneEvent LineFault) (r : Said) → SaysNone r → SaysNone (with_event make r)
+with_none_made make (Ok NoEvent) none = tt
+with_none_made make (Ok (ConfigLine c)) none = none
+with_none_made make (Ok (EventLine e)) none = by_event (make e)
+with_none_made make (Err f) none = tt
+
 begun_more : (es : List SceneEvent) (e : SceneEvent) → is_begun es ≡ true → is_begun (es ++ e ∷ []) ≡ true
 begun_more [] e begun = refl
 begun_more (x ∷ es) e begun = refl
@@ -59,13 +65,14 @@ with_none before after (Ok (EventLine e)) none h begun =
     let same : with_line before (EventLine e) ≡ after = cc in (ap (λ x. x.config) (sym same), subst (λ x. is_begun x.events ≡ true) same (begun_more before.events e begun))
 with_none before after (Err f) none h begun = absurd (cc)
 
-one_kept : (before after : ParsedLines) (t : List ℕ) → is_begun before.events ≡ true → line_read before t ≡ Ok after → (after.config ≡ before.config) × (is_begun after.events ≡ true)
+one_kept : (before after : ParsedLines) (t : RunLine) → is_begun before.events ≡ true → line_read before t ≡ Ok after → (after.config ≡ before.config) × (is_begun after.events ≡ true)
 unfolding line_read
 one_kept before after t begun h =
     let same : lines_before before ≡ behind before.config = rw begun refl in
-    with_none before after (parsed_line (lines_before before) t) (subst (λ b. SaysNone (parsed_line b t)) (sym same) (says_none before.config t)) h begun
+    with_none before after (line_value (lines_before before) t)
+    (subst (λ b. SaysNone (line_value b t)) (sym same) (with_none_made (t.made (behind before.config)) (parsed_line (behind before.config) t.text) (says_none before.config t.text))) h begun
 
 -- lines behind an event keep the configuration
-pub config_kept : (before : ParsedLines) (ts : List (List ℕ)) (after : ParsedLines) → is_begun before.events ≡ true → AllRead before ts after → after.config ≡ before.config
+pub config_kept : (before : ParsedLines) (ts : List RunLine) (after : ParsedLines) → is_begun before.events ≡ true → AllRead before ts after → after.config ≡ before.config
 config_kept before [] after begun h = ap (λ x. x.config) (sym h)
 config_kept before (t ∷ ts) after begun h = (let one = one_kept before h.0 t begun h.1 in config_kept h.0 ts after one.1 h.2 ∙ one.0)

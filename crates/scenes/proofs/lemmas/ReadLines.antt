@@ -1,5 +1,5 @@
 -- Lines that were read piece by piece (for `read_next`, `read_whole`, `read_head`, `follow_rest`).
-use Rattle.std.proofs.Common.{◌≡◌, ℕ, ◌+◌, Bool, true, false, List, [], ◌∷◌, ◌++◌, Option, None, Some, Result, Ok, Err, length, refl, sym, ap, ◌∙◌, subst, arith, append-nil, append_assoc, inl, inr, ◌==◌}
+use Rattle.std.proofs.Common.{◌≡◌, ℕ, ◌+◌, Bool, true, false, List, [], ◌∷◌, ◌++◌, Option, None, Some, Result, Ok, Err, length, map, refl, sym, ap, ◌∙◌, subst, arith, append-nil, append_assoc, inl, inr, ◌==◌}
 use Rattle.std.specs.Io.Buffered.{reader_buffer, reader_capacity, reader_inner, reader_remaining}
 use Rattle.std.specs.Io.KnownBytes.{prepend_known}
 use Rattle.std.specs.List.{onto_first}
@@ -7,7 +7,7 @@ use Rattle.std.specs.declared.io.buffered.BufReader.{BufReader}
 use Rattle.std.specs.Prelude.{nat_lt}
 use Rattle.std.proofs.lemmas.Bool.Decides.{nat_tests}
 use Rattle.std.proofs.lemmas.Bool.{cases_Bool}
-use Rattle.std.proofs.lemmas.List.{length-append}
+use Rattle.std.proofs.lemmas.List.{length-append, map-append}
 use Rattle.command_line.specs.Faults.{fault_of_read}
 use Rattle.command_line.specs.Pieces.{IsNextPiece, IsUnread}
 use Rattle.command_line.specs.declared.fault.Fault.{Fault}
@@ -15,11 +15,11 @@ use Rattle.command_line.specs.declared.fault.Fault.TheVariants as program
 use Rattle.scene_fields.specs.Split.{split_on}
 use Rattle.scene_fields.specs.declared.fault.ReadFault.{ReadFault}
 use Rattle.scene_fields.specs.declared.fault.ReadFault.TheVariants as fault
-use Rattle.scene_text.specs.SceneTexts.{AllRead, IsNextFault, LeavesLines, ParsedLine, ReadsLines, ParsedLines, event_lines, is_begun, is_begun_behind, parsed_line, line_read, lines_before, lines_read, no_lines, text_read, parsed_lines, lines_after, with_line}
+use Rattle.scene_text.specs.SceneTexts.{AllRead, IsNextFault, LeavesLines, ParsedLine, ReadsLines, RunLine, ParsedLines, event_lines, is_begun, is_begun_behind, line_read, line_value, lines_before, lines_read, no_lines, plain_line, text_lines, text_read, parsed_lines, lines_after, with_line}
 use Rattle.scene_text.specs.declared.reader.LinesRead.{LinesRead}
 use Rattle.scene_text.proofs.lemmas.FirstFaults.{text_fault}
 use Rattle.scene_text.proofs.lemmas.Tellings.{all_append, all_told, begun_behind, noted_append, wrong_told}
-use Rattle.scenes.specs.Read.{AreLeft, AtLine, HasRead, IsMore}
+use Rattle.scenes.specs.Read.{AreLeft, AreLeftOf, AtLine, HasRead, IsMore}
 use Rattle.scenes.specs.ParsedScenes.{IsReadFault, IsSceneRead}
 
 -- a text has a first line
@@ -48,19 +48,23 @@ split_on_joined (c ∷ t) back = elim (cases_Bool (c == 10)) [
       rw n (ap (onto_first c) joined ∙ ap (λ ts. onto_first c ts ++ split_on 10 back) (sym h.is))
 ]
 
+-- and those lines of a run
+lines_joined : (front back : List ℕ) → text_lines (front ++ 10 ∷ back) ≡ text_lines front ++ text_lines back
+lines_joined front back = ap (map plain_line) (split_on_joined front back) ∙ map-append plain_line (split_on 10 front) (split_on 10 back)
+
 -- what is left begins with the lines of the next piece
-record IsCut (left : List (List ℕ)) (piece : List ℕ) (remaining : Option (List ℕ)) : Type 0 where
-  pub others : List (List ℕ)
-  pub is : left ≡ split_on 10 piece ++ others
+record IsCut (left : List RunLine) (piece : List ℕ) (remaining : Option (List ℕ)) : Type 0 where
+  pub others : List RunLine
+  pub is : left ≡ text_lines piece ++ others
   pub rest : List ℕ
   pub remains : remaining ≡ Some rest
   pub are : AreLeft others rest
 
-cut : (left : List (List ℕ)) (rest piece : List ℕ) (remaining : Option (List ℕ)) → AreLeft left rest → IsNextPiece rest true piece remaining → IsCut left piece remaining
+cut : (left : List RunLine) (rest piece : List ℕ) (remaining : Option (List ℕ)) → AreLeft left rest → IsNextPiece rest true piece remaining → IsCut left piece remaining
 cut left rest piece remaining (inl lines) (more, remains, inl feed) =
-    record { others = split_on 10 more; is = lines ∙ ap (split_on 10) feed ∙ split_on_joined piece more; rest = more; remains = remains; are = inl refl }
+    record { others = text_lines more; is = lines ∙ ap text_lines feed ∙ lines_joined piece more; rest = more; remains = remains; are = inl refl }
 cut left rest piece remaining (inl lines) (more, remains, inr end) =
-    record { others = []; is = lines ∙ ap (split_on 10) end.0 ∙ sym (append-nil (split_on 10 piece)); rest = more; remains = remains; are = inr (refl, end.1) }
+    record { others = []; is = lines ∙ ap text_lines end.0 ∙ sym (append-nil (text_lines piece)); rest = more; remains = remains; are = inr (refl, end.1) }
 cut left rest piece remaining (inr none) (more, remains, inl feed) =
     let size = ap length (sym none.1 ∙ feed) ∙ length-append piece (10 ∷ more) in absurd (omega (arith, size))
 cut left rest piece remaining (inr none) (more, remains, inr end) =
@@ -75,27 +79,27 @@ pub new_reader : {T A : Type 0} (remaining : T → Option (List ℕ)) (r : BufRe
     reader_remaining remaining r ≡ remaining inner
 new_reader remaining r inner size is empty sized some = rw (sized, some, empty, is) (known_behind (remaining inner))
 
--- no line was read of a text that a reader has
-pub none_read : (file text : List ℕ) (read : LinesRead) (remaining : Option (List ℕ)) → parsed_lines read.run ≡ no_lines → read.run.lines.items ≡ [] → read.is_begun ≡ false → read.next ≡ 1 → remaining ≡ Some text →
-    HasRead file text [] no_lines read (Ok true) remaining
+-- none of the lines that a source has was read
+pub none_read : (file : List ℕ) (all : List RunLine) (read : LinesRead) (Has : List RunLine → Type 0) → parsed_lines read.run ≡ no_lines → read.run.lines.items ≡ [] → read.is_begun ≡ false → read.next ≡ 1 → Has all →
+    HasRead file all [] no_lines read (Ok true) Has
 unfolding event_lines
-none_read file text read remaining tells noted begun place known = record {
+none_read file all read Has tells noted begun place known = record {
   lines = [];
-  left = split_on 10 text;
+  left = all;
   whole = refl;
   forgotten = refl;
   tells = ap (lines_after []) (sym tells);
   noted = noted;
   place = place ∙ omega (arith);
   begun = sym begun;
-  more_is = (text, known, inl refl);
+  more_is = known;
 }
 
-module _ (file text : List ℕ) (front : List (List ℕ)) (before : ParsedLines) (old new : LinesRead) where
-  module _ (remaining : Option (List ℕ)) (has : HasRead file text front before old (Ok true) remaining) where
+module _ (file : List ℕ) (all front : List RunLine) (before : ParsedLines) (old new : LinesRead) where
+  module _ (remaining : Option (List ℕ)) (has : HasRead file all front before old (Ok true) (AreLeftOf remaining)) where
     -- further lines were read
-    module _ (lines left : List (List ℕ)) (is : has.left ≡ lines ++ left) (reads : ReadsLines old new lines) (more : Result Bool Fault) (after : Option (List ℕ)) where
-      further : IsMore file more (lines_after before.events (parsed_lines new.run)) left new.next after → HasRead file text front before new more after
+    module _ (lines left : List RunLine) (is : has.left ≡ lines ++ left) (reads : ReadsLines old new lines) (more : Result Bool Fault) (after : Option (List ℕ)) where
+      further : IsMore file more (lines_after before.events (parsed_lines new.run)) left new.next (AreLeftOf after) → HasRead file all front before new more (AreLeftOf after)
       further more_is =
           let size = length-append has.lines lines in
           record {
@@ -113,27 +117,27 @@ module _ (file text : List ℕ) (front : List (List ℕ)) (before : ParsedLines)
           }
 
     -- a piece was read
-    pub piece_read : (piece : List ℕ) (after : Option (List ℕ)) → ((rest : List ℕ) → remaining ≡ Some rest → IsNextPiece rest true piece after) → ReadsLines old new (split_on 10 piece) → HasRead file text front before new (Ok true) after
+    pub piece_read : (piece : List ℕ) (after : Option (List ℕ)) → ((rest : List ℕ) → remaining ≡ Some rest → IsNextPiece rest true piece after) → ReadsLines old new (text_lines piece) → HasRead file all front before new (Ok true) (AreLeftOf after)
     piece_read piece after next reads =
         let c = cut has.left has.more_is.0 piece after has.more_is.2 (next has.more_is.0 has.more_is.1) in
-        further (split_on 10 piece) c.others c.is reads (Ok true) after (c.rest, c.remains, c.are)
+        further (text_lines piece) c.others c.is reads (Ok true) after (c.rest, c.remains, c.are)
 
-    next_fault : (n : ℕ) (run : ParsedLines) (lines others : List (List ℕ)) (f : ReadFault) → IsNextFault n run lines f → IsNextFault n run (lines ++ others) f
+    next_fault : (n : ℕ) (run : ParsedLines) (lines others : List RunLine) (f : ReadFault) → IsNextFault n run lines f → IsNextFault n run (lines ++ others) f
     next_fault n run lines others (fault.Line m f) h = (h.0, (h.1.0, h.1.1 ++ others, ap (λ ls. ls ++ others) h.1.2, h.1.3))
     next_fault n run lines others fault.OutOfMemory h = tt
 
     -- a line of it has a fault
     pub piece_left : (piece : List ℕ) (after : Option (List ℕ)) → ((rest : List ℕ) → remaining ≡ Some rest → IsNextPiece rest true piece after) → (f : ReadFault) (fault : Fault) → fault ≡ fault_of_read f →
-        LeavesLines old new (split_on 10 piece) f → HasRead file text front before new (Err fault) after
+        LeavesLines old new (text_lines piece) f → HasRead file all front before new (Err fault) (AreLeftOf after)
     piece_left piece after next f fault is leaves =
         let c = cut has.left has.more_is.0 piece after has.more_is.2 (next has.more_is.0 has.more_is.1) in
         further leaves.front (leaves.rest ++ c.others) (c.is ∙ ap (λ ls. ls ++ c.others) leaves.whole ∙ append_assoc leaves.front leaves.rest c.others) leaves.reads (Err fault) after
         (inr (f, is, next_fault new.next (lines_after before.events (parsed_lines new.run)) leaves.rest c.others f (leaves.wrong before.events has.begun)))
 
   -- no line more was read
-  module _ (remaining after : Option (List ℕ)) (has : HasRead file text front before old (Ok true) remaining) (same : new ≡ old) where
-    still : (more : Result Bool Fault) → IsMore file more (lines_after before.events (parsed_lines old.run)) has.left old.next after → HasRead file text front before new more after
-    still more more_is = subst (λ r. HasRead file text front before r more after) (sym same) (record {
+  module _ (Has Next : List RunLine → Type 0) (has : HasRead file all front before old (Ok true) Has) (same : new ≡ old) where
+    still : (more : Result Bool Fault) → IsMore file more (lines_after before.events (parsed_lines old.run)) has.left old.next Next → HasRead file all front before new more Next
+    still more more_is = subst (λ r. HasRead file all front before r more Next) (sym same) (record {
       lines = has.lines;
       left = has.left;
       whole = has.whole;
@@ -146,21 +150,21 @@ module _ (file text : List ℕ) (front : List (List ℕ)) (before : ParsedLines)
     })
 
     -- the file has ended
-    pub none_left : ((rest : List ℕ) → remaining ≡ Some rest → rest ≡ []) → HasRead file text front before new (Ok false) after
-    none_left none = still (Ok false) (subst (AreLeft has.left) (none has.more_is.0 has.more_is.1) has.more_is.2)
+    pub none_left : ((left : List RunLine) → Has left → AreLeft left []) → HasRead file all front before new (Ok false) Next
+    none_left none = still (Ok false) (none has.left has.more_is)
 
     -- or it could not be read
-    pub unread : (fault : Fault) → IsUnread file fault → HasRead file text front before new (Err fault) after
+    pub unread : (fault : Fault) → IsUnread file fault → HasRead file all front before new (Err fault) Next
     unread fault is = still (Err fault) (inl is)
 
 -- a line tells what it says
-pub line_reads : (run : ParsedLines) (t : List ℕ) (s : ParsedLine) → parsed_line (lines_before run) t ≡ Ok s → line_read run t ≡ Ok (with_line run s)
+pub line_reads : (run : ParsedLines) (t : RunLine) (s : ParsedLine) → line_value (lines_before run) t ≡ Ok s → line_read run t ≡ Ok (with_line run s)
 unfolding line_read
 line_reads run t s h = rw h refl
 
 -- the place behind a line that tells
-pub at_more : (text : List ℕ) (run : ParsedLines) (t : List ℕ) (lines : List (List ℕ)) (number : ℕ) (after : ParsedLines) → AtLine text run (t ∷ lines) number → line_read run t ≡ Ok after → AtLine text after lines (number + 1)
-at_more text run t lines number after at parsed_lines = record {
+pub at_more : (all : List RunLine) (run : ParsedLines) (t : RunLine) (lines : List RunLine) (number : ℕ) (after : ParsedLines) → AtLine all run (t ∷ lines) number → line_read run t ≡ Ok after → AtLine all after lines (number + 1)
+at_more all run t lines number after at parsed_lines = record {
   front = at.front ++ t ∷ [];
   whole = at.whole ∙ sym (append_assoc at.front (t ∷ []) lines);
   place = (let size = length-append at.front (t ∷ []) in omega (arith, at.place, size));
@@ -171,7 +175,7 @@ not_less : (n : ℕ) → nat_lt n n ≡ false
 not_less n = grind (arith, nat_tests)
 
 -- the events that were read are forgotten
-module _ (file text : List ℕ) (front : List (List ℕ)) (before : ParsedLines) (old new : LinesRead) (more : Result Bool Fault) (remaining : Option (List ℕ)) (has : HasRead file text front before old more remaining) where
+module _ (file : List ℕ) (all front : List RunLine) (before : ParsedLines) (old new : LinesRead) (more : Result Bool Fault) (Has : List RunLine → Type 0) (has : HasRead file all front before old more Has) where
   abbrev pub read_told : ParsedLines
   read_told = lines_after before.events (parsed_lines old.run)
 
@@ -179,7 +183,7 @@ module _ (file text : List ℕ) (front : List (List ℕ)) (before : ParsedLines)
     pub all_forgotten : read_told ≡ lines_after read_told.events (parsed_lines new.run)
     all_forgotten = rw (config, events, append-nil read_told.events) refl
 
-    pub forgets : HasRead file text (front ++ has.lines) read_told new more remaining
+    pub forgets : HasRead file all (front ++ has.lines) read_told new more Has
     unfolding event_lines
     forgets = record {
       lines = [];
@@ -190,54 +194,55 @@ module _ (file text : List ℕ) (front : List (List ℕ)) (before : ParsedLines)
       noted = lines;
       place = (let size = length-append front has.lines in omega (arith, size, next, has.place));
       begun = begun_behind before.events old.run.events.items ∙ ap (λ b. is_begun_behind b old.run.events.items) has.begun ∙ sym begun;
-      more_is = subst (λ n. IsMore file more (lines_after read_told.events (parsed_lines new.run)) has.left n remaining) (sym next) (subst (λ r. IsMore file more r has.left old.next remaining) all_forgotten has.more_is);
+      more_is = subst (λ n. IsMore file more (lines_after read_told.events (parsed_lines new.run)) has.left n Has) (sym next) (subst (λ r. IsMore file more r has.left old.next Has) all_forgotten has.more_is);
     }
 
--- a text that was read from its beginning
-module _ (file text : List ℕ) (read : LinesRead) where
+-- lines that were read from the first on
+module _ (file : List ℕ) (all : List RunLine) (read : LinesRead) where
   -- an empty line tells nothing
-  empty_tells : (run : ParsedLines) → line_read run [] ≡ Ok run
+  empty_tells : (run : ParsedLines) → line_read run (plain_line []) ≡ Ok run
   unfolding line_read parsed_line
   empty_tells run = refl
 
-  empty_noted : (n : ℕ) (run : ParsedLines) → event_lines n run ([] ∷ []) ≡ []
+  empty_noted : (n : ℕ) (run : ParsedLines) → event_lines n run (plain_line [] ∷ []) ≡ []
   unfolding event_lines line_read parsed_line
   empty_noted n run = rw (not_less (length run.events)) refl
 
   -- to its end
-  module _ (front : List (List ℕ)) (before : ParsedLines) (remaining : Option (List ℕ)) (has : HasRead file text front before read (Ok false) remaining) where
+  module _ (front : List RunLine) (before : ParsedLines) (Has : List RunLine → Type 0) (has : HasRead file all front before read (Ok false) Has) where
     abbrev pub after : ParsedLines
     after = lines_after before.events (parsed_lines read.run)
 
-    abbrev first_lines : List (List ℕ)
+    abbrev first_lines : List RunLine
     first_lines = front ++ has.lines
 
     first_told : AllRead no_lines first_lines after
     first_told = all_append no_lines front before has.lines after has.forgotten has.tells
 
-    pub spells : text_read text ≡ Ok after
+    pub spells : lines_read 1 no_lines all ≡ Ok after
     unfolding split_on
     spells = elim has.more_is [
       | inl last ↦
-          let all : split_on 10 text ≡ first_lines ++ [] ∷ [] = has.whole ∙ ap (λ ls. front ++ (has.lines ++ ls)) last ∙ sym (append_assoc front has.lines ([] ∷ [])) in
-          ap (lines_read 1 no_lines) all ∙ all_told 1 no_lines (first_lines ++ [] ∷ []) after (all_append no_lines first_lines after ([] ∷ []) after first_told (after, empty_tells after, refl))
+          let are : all ≡ first_lines ++ plain_line [] ∷ [] = has.whole ∙ ap (λ ls. front ++ (has.lines ++ ls)) last ∙ sym (append_assoc front has.lines (plain_line [] ∷ [])) in
+          ap (lines_read 1 no_lines) are ∙ all_told 1 no_lines (first_lines ++ plain_line [] ∷ []) after (all_append no_lines first_lines after (plain_line [] ∷ []) after first_told (after, empty_tells after, refl))
       | inr none ↦
-          let all : split_on 10 text ≡ first_lines = has.whole ∙ ap (λ ls. front ++ (has.lines ++ ls)) none.0 ∙ ap (λ ls. front ++ ls) (append-nil has.lines) in
-          ap (lines_read 1 no_lines) all ∙ all_told 1 no_lines first_lines after first_told
+          let are : all ≡ first_lines = has.whole ∙ ap (λ ls. front ++ (has.lines ++ ls)) none.0 ∙ ap (λ ls. front ++ ls) (append-nil has.lines) in
+          ap (lines_read 1 no_lines) are ∙ all_told 1 no_lines first_lines after first_told
     ]
 
-  pub notes : (remaining : Option (List ℕ)) → HasRead file text [] no_lines read (Ok false) remaining → read.run.lines.items ≡ event_lines 1 no_lines (split_on 10 text)
+  pub notes : (Has : List RunLine → Type 0) → HasRead file all [] no_lines read (Ok false) Has → read.run.lines.items ≡ event_lines 1 no_lines all
   unfolding split_on
-  notes remaining has = elim has.more_is [
+  notes Has has = elim has.more_is [
     | inl last ↦
-        let all : split_on 10 text ≡ has.lines ++ [] ∷ [] = has.whole ∙ ap (λ ls. has.lines ++ ls) last in
+        let are : all ≡ has.lines ++ plain_line [] ∷ [] = has.whole ∙ ap (λ ls. has.lines ++ ls) last in
         has.noted ∙ sym (append-nil _) ∙ ap (λ ls. event_lines 1 no_lines has.lines ++ ls) (sym (empty_noted read.next (parsed_lines read.run)))
-        ∙ sym (noted_append 1 read.next no_lines has.lines (parsed_lines read.run) ([] ∷ []) has.place has.tells) ∙ ap (event_lines 1 no_lines) (sym all)
+        ∙ sym (noted_append 1 read.next no_lines has.lines (parsed_lines read.run) (plain_line [] ∷ []) has.place has.tells) ∙ ap (event_lines 1 no_lines) (sym are)
     | inr none ↦ has.noted ∙ ap (event_lines 1 no_lines) (sym (has.whole ∙ ap (λ ls. has.lines ++ ls) none.0 ∙ append-nil has.lines))
   ]
 
-  -- or to a fault
-  fault_told : (n : ℕ) (lines : List (List ℕ)) → AllRead no_lines lines (parsed_lines read.run) → n ≡ 1 + length lines → (left : List (List ℕ)) → split_on 10 text ≡ lines ++ left → (f : ReadFault) → IsNextFault n (parsed_lines read.run) left f →
+-- a text that was read from its beginning to a fault
+module _ (file text : List ℕ) (read : LinesRead) where
+  fault_told : (n : ℕ) (lines : List RunLine) → AllRead no_lines lines (parsed_lines read.run) → n ≡ 1 + length lines → (left : List RunLine) → text_lines text ≡ lines ++ left → (f : ReadFault) → IsNextFault n (parsed_lines read.run) left f →
       IsSceneRead (Err (fault_of_read f)) (text_read text) × IsReadFault text (fault_of_read f)
   fault_told n lines tells place left whole (fault.Line m g) h =
       let here = h.1 in
@@ -255,8 +260,8 @@ module _ (file text : List ℕ) (read : LinesRead) where
   unread_told program.StoreFailed is = absurd is
   unread_told program.OutOfMemory is = (tt, tt)
 
-  pub stopped_read : (remaining : Option (List ℕ)) (fault : Fault) → HasRead file text [] no_lines read (Err fault) remaining → IsSceneRead (Err fault) (text_read text) × IsReadFault text fault
-  stopped_read remaining fault has = elim has.more_is [
+  pub stopped_read : (Has : List RunLine → Type 0) (fault : Fault) → HasRead file (text_lines text) [] no_lines read (Err fault) Has → IsSceneRead (Err fault) (text_read text) × IsReadFault text fault
+  stopped_read Has fault has = elim has.more_is [
     | inl is ↦ unread_told fault is
     | inr x ↦ subst (λ f. IsSceneRead (Err f) (text_read text) × IsReadFault text f) (sym x.1) (fault_told read.next has.lines has.tells has.place has.left has.whole x.0 x.2)
   ]

@@ -11,8 +11,7 @@ use Rattle.scenes.specs.SceneReporter.{BreaksParsed}
 use Rattle.scenes.specs.Judged.{IsRefusedText, IsSceneAccepted, IsSceneRefused}
 use Rattle.scenes.specs.Unloads.{decider_for}
 use Rattle.scenes.specs.ParsedScenes.{OfText, scene_lines}
-use Rattle.scene_text.specs.SceneTexts.{event_lines, no_lines, text_read}
-use Rattle.scene_fields.specs.Split.{split_on}
+use Rattle.scene_text.specs.SceneTexts.{event_lines, no_lines, text_lines, text_read}
 use Rattle.scenes.specs.SpelledRuns.{BeginsParsed, IsRejected, PrintsParsed}
 use Rattle.command_line.specs.declared.fault.Fault.{Fault}
 use Rattle.command_line.specs.declared.fault.Fault.TheVariants as fault
@@ -62,7 +61,7 @@ module _ (options : Options) (scene : Scene) (text : List ℕ) (old new store_ol
   prints_run (Ok done) printed = record { run = scene_lines scene; spelled = spelled; holds = printed }
   prints_run (Err fault) printed = tt
 
-  pub ends_run : scene.lines.items ≡ event_lines 1 no_lines (split_on 10 text) → {W S : Type 0} (before after : W) (store_before store_after : S) (outcome : Result (Unit {0}) Fault)
+  pub ends_run : scene.lines.items ≡ event_lines 1 no_lines (text_lines text) → {W S : Type 0} (before after : W) (store_before store_after : S) (outcome : Result (Unit {0}) Fault)
       → IfErr outcome (λ fault. (IsSceneRefused options scene fault × (after ≡ before) × (store_after ≡ store_before)) ⊎ BeginsParsed options (scene_lines scene) fault old new store_old store_new)
       → IfErr outcome (λ fault. IsRejected options text fault before after store_before store_after ⊎ OfText text (λ run. BeginsParsed options run fault old new store_old store_new))
   ends_run lines before after store_before store_after (Ok done) ended = tt
@@ -75,6 +74,6 @@ module _ (options : Options) (scene : Scene) (text : List ℕ) (old new store_ol
   ends_run lines before after store_before store_after (Err fault) (inr begun) = inr (record { run = scene_lines scene; spelled = spelled; holds = begun })
 
 -- a scene that was spelled has a refused call
-pub refused_text : (options : Options) (scene : Scene) (text : List ℕ) → text_read text ≡ Ok (scene_lines scene) → scene.lines.items ≡ event_lines 1 no_lines (split_on 10 text)
+pub refused_text : (options : Options) (scene : Scene) (text : List ℕ) → text_read text ≡ Ok (scene_lines scene) → scene.lines.items ≡ event_lines 1 no_lines (text_lines text)
     → (fault : Fault) → IsSceneRefused options scene fault → IsRefusedText options text fault
 refused_text options scene text spelled lines fault refused = record { scene = scene; spelled = spelled; lines = lines; refused = refused }

@@ -1,7 +1,6 @@
-use Rattle.std.proofs.Common.{◌≡◌, [], List, ℕ, true}
-use Rattle.std.specs.Io.Buffered.{reader_remaining}
+use Rattle.std.proofs.Common.{◌≡◌, [], List, true}
 use Rattle.console_reporter.specs.Telling.{IsSameReporter}
-use Rattle.scene_text.specs.SceneTexts.{is_begun, no_lines}
+use Rattle.scene_text.specs.SceneTexts.{RunLine, is_begun, no_lines}
 use Rattle.scenes.specs.Follow.{KeepsUp}
 use Rattle.scenes.specs.Read.{HasRead}
 use Rattle.scenes.specs.SceneReporter.{IsStart}
@@ -11,6 +10,6 @@ use Rattle.scenes.proofs.follow.follow_lines.Given as goal
 abbrev pub invariant-loop-turn : goal.invariant-loop-turn
 invariant-loop-turn g l = record {
   same : IsSameReporter l.fn.reporter.reporter l.reporter.reporter;
-  keeps_up : (text : List ℕ) → HasRead l.options.file.now text [] no_lines l.fn.read l.fn.more (reader_remaining g.R.Read.remaining l.fn.reader) → is_begun l.fn.read.run.events.items ≡ true
-      → IsStart g.W.WriteStr.meaning g.S.WriteStr.meaning l.options l.fn.read.run.config l.fn.reporter → KeepsUp g.W.WriteStr.meaning g.S.WriteStr.meaning l.options text l.fn.reporter l.reporter l.read l.more (reader_remaining g.R.Read.remaining l.reader);
+  keeps_up : (all : List RunLine) → HasRead l.options.file.now all [] no_lines l.fn.read l.fn.more (g.L.RunSource.left l.fn.source) → is_begun l.fn.read.run.events.items ≡ true
+      → IsStart g.W.WriteStr.meaning g.S.WriteStr.meaning l.options l.fn.read.run.config l.fn.reporter → KeepsUp g.W.WriteStr.meaning g.S.WriteStr.meaning l.options all l.fn.reporter l.reporter l.read l.more (g.L.RunSource.left l.source);
 }

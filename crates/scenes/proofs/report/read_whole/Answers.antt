@@ -1,34 +1,32 @@
-use Rattle.std.proofs.Common.{◌≡◌, [], ◌∙◌, refl}
-use Rattle.std.specs.Io.Buffered.{reader_remaining}
-use Rattle.scene_text.specs.SceneTexts.{no_lines}
+use Rattle.std.proofs.Common.{◌≡◌, [], ◌∙◌, inl, refl}
+use Rattle.scene_text.specs.SceneTexts.{no_lines, text_lines}
 use Rattle.scene_text.proofs.lemmas.FirstFaults.{all_tell}
-use Rattle.scenes.proofs.lemmas.ReadLines.{new_reader, none_read, notes, spells, stopped_read}
+use Rattle.scenes.proofs.lemmas.ReadLines.{none_read, notes, spells, stopped_read}
 use Rattle.scenes.proofs.report.read_whole.Goals as goal
 
 pub loop-turn-init : goal.loop-turn-init
 loop-turn-init g c = λ text known.
-    let has : reader_remaining g.R.Read.remaining c.in-Ok.buffered ≡ g.R.Read.remaining c.args.reader = new_reader g.R.Read.remaining c.in-Ok.buffered c.args.reader 16384 c.in-Ok.ensures.inner c.in-Ok.ensures.empty c.in-Ok.ensures.capacity refl in
-    none_read c.args.options.now.file.now text c.new-read.result _ c.new-read.ensures.read c.new-read.ensures.lines c.new-read.ensures.begun c.new-read.ensures.next (has ∙ known)
+    none_read c.args.options.now.file.now (text_lines text) c.new-read.result _ c.new-read.ensures.read c.new-read.ensures.lines c.new-read.ensures.begun c.new-read.ensures.next (text, c.in-Ok.ensures ∙ known, inl refl)
 
 pub returns-in-Ok-false-clause-scene : goal.returns-in-Ok-false-clause-scene
 returns-in-Ok-false-clause-scene g c = λ text known.
-    all_tell 1 no_lines _ _ (spells c.args.options.now.file.now text c.read_next.new.read [] no_lines _ (rw (c.in-Ok-false.is, c.in-Ok-false.field-0-test) at c.read_next.ensures.read text [] no_lines (c.loop-turn.invariant text known)))
+    all_tell 1 no_lines _ _ (spells c.args.options.now.file.now (text_lines text) c.read_next.new.read [] no_lines _ (rw (c.in-Ok-false.is, c.in-Ok-false.field-0-test) at c.read_next.ensures.read (text_lines text) [] no_lines (c.loop-turn.invariant text known)))
 
 pub returns-in-Ok-false-clause-lines : goal.returns-in-Ok-false-clause-lines
 returns-in-Ok-false-clause-lines g c = λ text known.
-    notes c.args.options.now.file.now text c.read_next.new.read _ (rw (c.in-Ok-false.is, c.in-Ok-false.field-0-test) at c.read_next.ensures.read text [] no_lines (c.loop-turn.invariant text known))
+    notes c.args.options.now.file.now (text_lines text) c.read_next.new.read _ (rw (c.in-Ok-false.is, c.in-Ok-false.field-0-test) at c.read_next.ensures.read (text_lines text) [] no_lines (c.loop-turn.invariant text known))
 
 pub returns-in-Ok-false-clause-answer : goal.returns-in-Ok-false-clause-answer
 returns-in-Ok-false-clause-answer g c = λ text known.
-    spells c.args.options.now.file.now text c.read_next.new.read [] no_lines _ (rw (c.in-Ok-false.is, c.in-Ok-false.field-0-test) at c.read_next.ensures.read text [] no_lines (c.loop-turn.invariant text known))
+    spells c.args.options.now.file.now (text_lines text) c.read_next.new.read [] no_lines _ (rw (c.in-Ok-false.is, c.in-Ok-false.field-0-test) at c.read_next.ensures.read (text_lines text) [] no_lines (c.loop-turn.invariant text known))
 
 pub returns-in-Err-read_next-clause-first_fault : goal.returns-in-Err-read_next-clause-first_fault
 returns-in-Err-read_next-clause-first_fault g c = λ text known.
-    (stopped_read c.args.options.now.file.now text c.read_next.new.read _ c.in-Err-read_next.fault (rw c.in-Err-read_next.is at c.read_next.ensures.read text [] no_lines (c.loop-turn.invariant text known))).1
+    (stopped_read c.args.options.now.file.now text c.read_next.new.read _ c.in-Err-read_next.fault (rw c.in-Err-read_next.is at c.read_next.ensures.read (text_lines text) [] no_lines (c.loop-turn.invariant text known))).1
 
 pub returns-in-Err-read_next-clause-answer : goal.returns-in-Err-read_next-clause-answer
 returns-in-Err-read_next-clause-answer g c = λ text known.
-    (stopped_read c.args.options.now.file.now text c.read_next.new.read _ c.in-Err-read_next.fault (rw c.in-Err-read_next.is at c.read_next.ensures.read text [] no_lines (c.loop-turn.invariant text known))).0
+    (stopped_read c.args.options.now.file.now text c.read_next.new.read _ c.in-Err-read_next.fault (rw c.in-Err-read_next.is at c.read_next.ensures.read (text_lines text) [] no_lines (c.loop-turn.invariant text known))).0
 
 pub loop-turn-preserved : goal.loop-turn-preserved
-loop-turn-preserved g c = λ text known. rw (c.in-Ok-true.is, c.in-Ok-true.field-0-test) at c.read_next.ensures.read text [] no_lines (c.loop-turn.invariant text known)
+loop-turn-preserved g c = λ text known. rw (c.in-Ok-true.is, c.in-Ok-true.field-0-test) at c.read_next.ensures.read (text_lines text) [] no_lines (c.loop-turn.invariant text known)

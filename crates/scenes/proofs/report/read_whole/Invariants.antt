@@ -1,9 +1,9 @@
 use Rattle.std.proofs.Common.{◌≡◌, [], List, ℕ, Ok, Some, true}
 use Rattle.std.specs.Io.Buffered.{reader_remaining}
-use Rattle.scene_text.specs.SceneTexts.{no_lines}
-use Rattle.scenes.specs.Read.{HasRead}
+use Rattle.scene_text.specs.SceneTexts.{no_lines, text_lines}
+use Rattle.scenes.specs.Read.{AreLeftOf, HasRead}
 use Rattle.scenes.proofs.report.read_whole.Given as goal
 
 -- the first lines were read
 abbrev pub invariant-loop-turn : goal.invariant-loop-turn
-invariant-loop-turn g l = (text : List ℕ) → g.R.Read.remaining l.fn.reader ≡ Some text → HasRead l.options.file.now text [] no_lines l.read (Ok true) (reader_remaining g.R.Read.remaining l.buffered)
+invariant-loop-turn g l = (text : List ℕ) → g.R.Read.remaining l.fn.reader ≡ Some text → HasRead l.options.file.now (text_lines text) [] no_lines l.read (Ok true) (AreLeftOf (reader_remaining g.R.Read.remaining l.source.reader))

@@ -1,5 +1,6 @@
-use Rattle.std.proofs.Common.{◌≡◌}
-use Rattle.scene_fields.specs.Split.{split_on, pieces_left}
+use Rattle.std.proofs.Common.{◌≡◌, map}
+use Rattle.scene_fields.specs.Split.{pieces_left}
+use Rattle.scene_text.specs.SceneTexts.{plain_line, text_lines}
 use Rattle.scene_text.proofs.lemmas.Tellings.{ReadsFirst}
 use Rattle.scene_text.proofs.reader.LinesRead.read_more.Given as goal
 
@@ -7,5 +8,5 @@ use Rattle.scene_text.proofs.reader.LinesRead.read_more.Given as goal
 abbrev pub invariant-loop-number : goal.invariant-loop-number
 invariant-loop-number l = record {
   number : l.self.next ≡ l.number;
-  reads : ReadsFirst l.initial.self l.self (split_on 10 l.text) (pieces_left 10 l.rest);
+  reads : ReadsFirst l.initial.self l.self (text_lines l.text) (map plain_line (pieces_left 10 l.rest));
 }
