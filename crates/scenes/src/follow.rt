@@ -22,6 +22,7 @@ use command_line::args::Options;
 use command_line::fault::Fault;
 use console_reporter::imp::{Store, give_back};
 use console_reporter::write_str::{TextBuffer, WriteStr};
+use run_model::memory::OutOfMemory;
 use scene_text::reader::LinesRead;
 use std::alloc::{AllocError, Global};
 use std::io::{Read, Write};
@@ -72,7 +73,7 @@ pub fn follow_scene<'a, R: Read + Drop, W: Write, S: Write>(
 {
     match SceneSource::new(alloc, reader) {
         Ok(mut source) => follow_source(alloc, options, &mut source, writer, store_writer),
-        Err(AllocError) => (Err(Fault::OutOfMemory), writer, store_writer),
+        Err(OutOfMemory) => (Err(Fault::OutOfMemory), writer, store_writer),
     }
 }
 

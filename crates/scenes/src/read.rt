@@ -8,9 +8,10 @@ ghost use Rattle.scenes.specs.Read.{AreLeftOf, HasRead};
 
 use command_line::fault::Fault;
 use command_line::pieces::next_piece;
+use run_model::memory::OutOfMemory;
 use scene_text::fault::ReadFault;
 use scene_text::reader::{LARGE, LinesRead};
-use std::alloc::{AllocError, Global};
+use std::alloc::Global;
 use std::io::{BufReader, Read};
 use std::mem;
 
@@ -43,11 +44,14 @@ pub struct SceneSource<R> {
 
 impl<R: Read + Drop> SceneSource<R> {
     /// The scene that this reader has. It allocates what is read at once.
-    pub fn new(alloc: Global, reader: R) -> Result<SceneSource<R>, AllocError>
+    pub fn new(alloc: Global, reader: R) -> Result<SceneSource<R>, OutOfMemory>
         ensures left { IfOk result (λ source. reader_remaining R.remaining source.reader ≡ R.remaining reader) }
     {
+        let Ok(reader) = BufReader::with_capacity(alloc, BYTES_AT_ONCE, reader) else {
+            return Err(OutOfMemory);
+        };
         Ok(SceneSource {
-            reader: BufReader::with_capacity(alloc, BYTES_AT_ONCE, reader)?,
+            reader,
             piece: Vec::new(alloc),
         })
     }

@@ -85,7 +85,7 @@ pub fn read_whole<'a, R: Read + Drop>(
 {
     let mut source = match SceneSource::new(alloc, reader) {
         Ok(source) => source,
-        Err(AllocError) => return Err(Fault::OutOfMemory),
+        Err(OutOfMemory) => return Err(Fault::OutOfMemory),
     };
     let mut read = LinesRead::new(alloc);
     for _turn in 0..u64::MAX {
