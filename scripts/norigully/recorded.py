@@ -191,13 +191,17 @@ class RecordedRun:
     def references(self, number):
         """The references of the line of this number, each with its bytes."""
         for it in references_of(number, self.lines[number - 1]):
-            data = b""
-            if it.offset + it.length <= self.size():
-                self.outputs.seek(it.offset)
-                data = self.outputs.read(it.length)
-            if len(data) != it.length or sum_of(data) != it.sum:
+            data = self.read(it.offset, it.length)
+            if data is None or sum_of(data) != it.sum:
                 raise bad_field(number, it.place)
             yield it, data
+
+    def read(self, offset, length):
+        """So many bytes of the outputs, or None where they go beyond the end. No length takes more memory than that."""
+        if offset + length > self.size():
+            return None
+        self.outputs.seek(offset)
+        return self.outputs.read(length)
 
     def scene(self):
         """The lines of the scene: those of the run, with each output in its place."""
