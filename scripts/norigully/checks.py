@@ -4,6 +4,8 @@ import os
 import re
 import shutil
 import sys
+from importlib.machinery import SourceFileLoader
+from importlib.util import module_from_spec, spec_from_loader
 
 from norigully import TOP
 from norigully.programs import note_sources, program, sum_of_sources
@@ -28,6 +30,14 @@ def need_tool(tool):
 def case_words(args):
     """The words of a case, which stand in NAME.args: one a line, `{}` for its scene."""
     return args.read_text().split("\n")[:-1]
+
+
+def module_of(script):
+    """The functions of a script, which tells nothing and ends nothing: a process for each call would take minutes."""
+    loader = SourceFileLoader(script.name, str(script))
+    module = module_from_spec(spec_from_loader(script.name, loader))
+    loader.exec_module(module)
+    return module
 
 
 def words_of(file, name):

@@ -1,4 +1,4 @@
-"""What the scripts share that make a scene of another tool's file."""
+"""What the scripts share that make a scene of another tool's file, or a recorded run of a scene."""
 
 import sys
 
@@ -7,16 +7,21 @@ class Bad(Exception):
     """What is wrong with the input."""
 
 
-def convert(name, doc, lines):
-    """Writes the lines of a scene, once all are made; tells what is wrong in one line, with status 2. `--help` prints
-    the script's doc."""
+def run_script(name, doc, work):
+    """What a script's work answers; what is wrong is told in one line, with status 2. `--help` prints the script's doc,
+    and nothing is answered."""
     if sys.argv[1:] in (["--help"], ["-h"]):
         print(doc, end="")
-        return
+        return None
     try:
-        made = lines()
+        return work()
     except (Bad, OSError, RecursionError) as error:
         print(f"{name}: {error}", file=sys.stderr)
         sys.exit(2)
+
+
+def convert(name, doc, lines):
+    """Writes the lines of a scene, once all are made."""
+    made = run_script(name, doc, lines)
     sys.stdout.reconfigure(encoding="utf-8", newline="\n")
-    sys.stdout.writelines(made)
+    sys.stdout.writelines(made or ())

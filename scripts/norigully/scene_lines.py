@@ -4,10 +4,17 @@
 with the statistics after it. The statistics follow nextest's `RunStats`; each rule stands where it is used.
 """
 
+import os
+import re
 import signal
+import sys
 from decimal import ROUND_HALF_UP, Decimal
 
 NAMED = {"\n": "\\n", "\t": "\\t", "\r": "\\r", "\x1b": "\\e", "\\": "\\\\"}
+# What does not stand for itself: an outputs' bytes that are not UTF-8 are surrogates in a text of Python.
+SPELLED = re.compile("[\x00-\x1f\x7f\\\\\ud800-\udfff]")
+ESCAPE = re.compile(rb"\\(?:[ntre\\]|x([0-9a-fA-F]{2}))")
+OF_ESCAPES = {escape.encode(): character.encode() for character, escape in NAMED.items()}
 # Reports show the id; what is made of another tool's output has none of its own.
 RUN_ID = "00000000-0000-4000-8000-000000000001"
 # A failure whose code is not known: nextest says nothing more of this code, with which a panic ends.
@@ -15,22 +22,20 @@ UNKNOWN_FAILURE = "fail:101"
 
 
 def spelled(character, may_be_byte):
-    """A character of a text. Bytes that are not UTF-8 can stand in outputs alone."""
+    """A character that does not stand for itself. Bytes that are not UTF-8 can stand in outputs alone."""
     if character in NAMED:
         return NAMED[character]
     code = ord(character)
     if 0xDC80 <= code <= 0xDCFF and may_be_byte:
         return f"\\x{code - 0xDC00:02x}"
-    if 0xD800 <= code <= 0xDFFF:
-        return "\ufffd"
-    return f"\\x{code:02x}" if code < 0x20 or code == 0x7F else character
+    return f"\\x{code:02x}" if code < 0x80 else "\ufffd"
 
 
 def text(value, may_be_byte=False):
     """A text, or `-` for None. A text that is `-` itself is spelled by its code."""
     if value is None:
         return "-"
-    return "\\x2d" if value == "-" else "".join(spelled(it, may_be_byte) for it in value)
+    return "\\x2d" if value == "-" else SPELLED.sub(lambda found: spelled(found[0], may_be_byte), value)
 
 
 def stream(output):
@@ -38,6 +43,13 @@ def stream(output):
     if isinstance(output, bytes):
         output = output.decode("utf-8", "surrogateescape")
     return text(output, may_be_byte=True)
+
+
+def unescaped(field):
+    """The bytes that a field spells, or None where one of its escapes is none."""
+    if b"\\" in ESCAPE.sub(b"", field):
+        return None
+    return ESCAPE.sub(lambda found: bytes.fromhex(found[1].decode()) if found[1] else OF_ESCAPES[found[0]], field)
 
 
 def signal_result(number):
@@ -68,6 +80,20 @@ def nanos(seconds):
         return str(rounded if 0 <= rounded < 1 << 128 else 0)
     except (ArithmeticError, ValueError):
         return "0"
+
+
+def header(started, status):
+    """The line of a replay's header: when the run started, as Python's `time` has it, and how it ended."""
+    return "\t".join(["header", RUN_ID, "-", "-", ",".join(map(str, started[:6])), text(status)]) + "\n"
+
+
+def write_out(line):
+    """Writes a line to standard output at once. Where nobody reads any more it is dropped."""
+    try:
+        sys.stdout.buffer.write(line)
+        sys.stdout.buffer.flush()
+    except BrokenPipeError:
+        os.dup2(os.open(os.devnull, os.O_WRONLY), sys.stdout.fileno())
 
 
 class Attempt:
