@@ -9,7 +9,7 @@ ghost use Rattle.recorded_outputs.specs.References.{end_of};
 use super::read_at::ReadAt;
 use super::reference::Reference;
 use bytes::Bytes;
-use std::alloc::{AllocError, Global};
+use std::alloc::{AllocError, AllocFailed, Global};
 use std::io;
 use std::io::ErrorKind;
 use thiserror::Error;
@@ -50,6 +50,17 @@ impl From<AllocError> for LoadFault {
     ghost from_gives = { λ _ fault. fault ≡ LoadFault.OutOfMemory };
 
     fn from(_refused: AllocError) -> LoadFault {
+        LoadFault::OutOfMemory
+    }
+}
+
+impl<T: Drop> From<AllocFailed<T>> for LoadFault {
+    ghost use Rattle.std.specs.Prelude.{◌≡◌};
+    ghost use Rattle.recorded_outputs.specs.declared.outputs.LoadFault.{LoadFault};
+
+    ghost from_gives = { λ _ fault. fault ≡ LoadFault.OutOfMemory };
+
+    fn from(_refused: AllocFailed<T>) -> LoadFault {
         LoadFault::OutOfMemory
     }
 }
@@ -101,6 +112,15 @@ impl<O: ReadAt + Drop> RecordedOutputs<O> {
     /// Reads the bytes that a reference names, and no others, into memory of just their size, and checks their sum.
     ///
     /// Where they are not all there no memory is asked for. [`LoadFault`] says what each fault is.
+    ///
+    /// ```
+    /// use recorded_outputs::reference::read_reference;
+    /// let reference = read_reference("\\@7:7:74170928bae84bb0a107a0906596aa52").ok_or("no reference")?;
+    /// let mut outputs = RecordedOutputs::new(b"passed\nfailed\n".as_slice())?;
+    /// let stream = outputs.load(alloc, &reference)?;
+    /// assert_eq!(stream.as_slice(), b"failed\n");
+    /// assert_eq!(outputs.bytes_read(), 7);
+    /// ```
     pub fn load(&mut self, alloc: Global, reference: &Reference) -> Result<Bytes, LoadFault>
         ensures loaded { IfSome (O.recorded self.old.source) (λ all. IsLoaded all reference.now result) }
         ensures sum { IfOk result (HasSum reference.now) }
@@ -115,10 +135,7 @@ impl<O: ReadAt + Drop> RecordedOutputs<O> {
         if !reference.has_sum_of(bytes.as_slice()) {
             return Err(LoadFault::WrongSum);
         }
-        match Bytes::from_vec(bytes) {
-            Ok(bytes) => Ok(bytes),
-            Err(_) => Err(LoadFault::OutOfMemory),
-        }
+        Ok(Bytes::from_vec(bytes)?)
     }
 
     // Fills a vector with the bytes from this place on, and counts them.

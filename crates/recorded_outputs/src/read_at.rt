@@ -47,21 +47,11 @@ impl ReadAt for &[u8] {
     }
 
     fn read_at(&mut self, offset: u64, buffer: &mut [u8]) -> io::Result<()> {
-        let all: &[u8] = *self;
-        let len = buffer.len();
-        if offset > all.len() as u64 {
-            return Err(ErrorKind::UnexpectedEof.into());
-        }
-        let left = &all[offset as usize..];
-        if len > left.len() {
-            return Err(ErrorKind::UnexpectedEof.into());
-        }
-        buffer.copy_from_slice(&left[..len]);
-        Ok(())
+        Cursor::new(*self).read_at(offset, buffer)
     }
 }
 
-/// The bytes under a cursor, wherever it stands. It is moved.
+/// The bytes under a cursor, wherever it stands. Both calls move it.
 impl<T: AsBytes> ReadAt for Cursor<T> {
     ghost recorded = { λ c. T.bytes (cursor_inner c) };
 

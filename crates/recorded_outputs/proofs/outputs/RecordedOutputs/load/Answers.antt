@@ -13,9 +13,9 @@ returns-then-not-has_sum_of-clause-loaded g c =
     let other = λ (same : md5 c.fill.new.bytes.items ≡ c.args.reference.now.sum). c.if-not-has_sum_of.ensures.1 (ap md5 c.as_slice.ensures.value ∙ same) in
     other_read _ _ _ c.fill.new.bytes.items c.if-not-branch.false c.in_ok-holds.ensures.holds read len (λ same. let wrong = other same in cc)
 
-pub returns-in-Ok-clause-loaded : goal.returns-in-Ok-clause-loaded
-returns-in-Ok-clause-loaded g c =
-    let len : length c.in-Ok.bytes ≡ c.args.reference.now.len = search rules in
-    let sum : md5 c.in-Ok.bytes ≡ c.args.reference.now.sum = search rules in
-    let read = rw (c.in_ok-holds.ensures.kept, ← c.in-Ok.ensures.ok) at c.in_ok-fill.ensures.read in
-    same_read _ _ _ c.in-Ok.bytes c.if-not-branch.false c.in_ok-holds.ensures.holds read len sum
+pub returns-clause-loaded : goal.returns-clause-loaded
+returns-clause-loaded g c =
+    let len : length c.in_ok-from_vec.field-0 ≡ c.args.reference.now.len = search rules in
+    let sum : md5 c.in_ok-from_vec.field-0 ≡ c.args.reference.now.sum = search rules in
+    let read = rw (c.in_ok-holds.ensures.kept, ← c.in_ok-from_vec.ensures.ok) at c.in_ok-fill.ensures.read in
+    same_read _ _ _ c.in_ok-from_vec.field-0 c.if-not-branch.false c.in_ok-holds.ensures.holds read len sum
