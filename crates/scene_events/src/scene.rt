@@ -1,6 +1,6 @@
 //! A run as it was read from the lines of a scene, with names of its own, and the calls that its events are.
 
-ghost use Rattle.std.specs.Prelude.{◌≡◌};
+ghost use Rattle.std.specs.Prelude.{◌≡◌, ◌++◌, ◌∷◌, [], OnErr, OnOk};
 
 pub mod attempts;
 pub mod binary_id;
@@ -18,6 +18,7 @@ pub mod test_events;
 use event::SceneEvent;
 use run_model::config::{NextestRunMode, TestOutputDisplay};
 use run_model::level::FinalStatusLevel;
+use run_model::memory::OutOfMemory;
 
 /// The lines of a scene, read: how the run is reported, and its events in order.
 #[derive(Drop)]
@@ -28,6 +29,24 @@ pub struct ParsedRun {
     pub events: Vec<SceneEvent>,
     /// The line of each event, from 1.
     pub lines: Vec<u64>,
+}
+
+impl ParsedRun {
+    /// Pushes an event and its line. Where memory is refused, neither is there.
+    pub fn push(&mut self, event: SceneEvent, line: u64) -> Result<(), OutOfMemory>
+        ensures config { self.new.config ≡ self.old.config }
+        ensures events { OnOk result (self.new.events.items ≡ self.old.events.items ++ event ∷ []) }
+        ensures lines { OnOk result (self.new.lines.items ≡ self.old.lines.items ++ line ∷ []) }
+        ensures kept { OnErr result ((self.new.events.items ≡ self.old.events.items) × (self.new.lines.items ≡ self.old.lines.items)) }
+    {
+        let count = self.events.len();
+        self.events.push(event)?;
+        if self.lines.push(line).is_err() {
+            self.events.truncate(count);
+            return Err(OutOfMemory);
+        }
+        Ok(())
+    }
 }
 
 /// How a run is reported.

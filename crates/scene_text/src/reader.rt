@@ -211,7 +211,7 @@ fn read_owned_line(
     read_fields(alloc, number, fields, is_begun, binaries, run)
 }
 
-// Reads the fields of a line into the run. What is wrong leaves the run as it was: an event whose line cannot be noted goes again.
+// Reads the fields of a line into the run. What is wrong leaves the run as it was.
 #[inline(always)]
 #[tactic(auto, using(std::proofs::lemmas::Bool::Decides::nat_tests))]
 fn read_fields(
@@ -237,12 +237,7 @@ fn read_fields(
             Ok(())
         }
         word => {
-            let count = run.events.len();
-            run.events.push(read_event(alloc, binaries, word, fields)?)?;
-            if run.lines.push(number).is_err() {
-                run.events.truncate(count);
-                return Err(LineError::OutOfMemory);
-            }
+            run.push(read_event(alloc, binaries, word, fields)?, number)?;
             Ok(())
         }
     }
