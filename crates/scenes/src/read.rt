@@ -45,7 +45,7 @@ pub struct SceneSource<R> {
 impl<R: Read + Drop> SceneSource<R> {
     /// The scene that this reader has. It allocates what is read at once.
     pub fn new(alloc: Global, reader: R) -> Result<SceneSource<R>, OutOfMemory>
-        ensures left { IfOk result (λ source. reader_remaining R.remaining source.reader ≡ R.remaining reader) }
+        ensures { IfOk result (λ source. reader_remaining R.remaining source.reader ≡ R.remaining reader) }
     {
         let Ok(reader) = BufReader::with_capacity(alloc, BYTES_AT_ONCE, reader) else {
             return Err(OutOfMemory);

@@ -15,7 +15,7 @@ use Rattle.command_line.specs.declared.fault.Fault.TheVariants as program
 use Rattle.scene_fields.specs.Split.{split_on}
 use Rattle.scene_fields.specs.declared.fault.ReadFault.{ReadFault}
 use Rattle.scene_fields.specs.declared.fault.ReadFault.TheVariants as fault
-use Rattle.scene_text.specs.SceneTexts.{AllRead, IsNextFault, LeavesLines, ParsedLine, ReadsLines, RunLine, ParsedLines, event_lines, is_begun, is_begun_behind, line_read, line_value, lines_before, lines_read, no_lines, plain_line, text_lines, text_read, parsed_lines, lines_after, with_line}
+use Rattle.scene_text.specs.SceneTexts.{AllRead, IsNextFault, LeavesLines, ParsedLine, ReadsLines, RunLine, ParsedLines, event_lines, is_begun, is_begun_behind, parsed_line, line_read, line_value, lines_before, lines_read, no_lines, plain_line, text_lines, text_read, parsed_lines, lines_after, with_line}
 use Rattle.scene_text.specs.declared.reader.LinesRead.{LinesRead}
 use Rattle.scene_text.proofs.lemmas.FirstFaults.{text_fault}
 use Rattle.scene_text.proofs.lemmas.Tellings.{all_append, all_told, begun_behind, noted_append, wrong_told}

@@ -9,5 +9,5 @@ returns-in-Ok-clause-ok g c = λ text known. c.follow_source.ensures.ok _ (text,
 pub returns-in-Ok-clause-err : goal.returns-in-Ok-clause-err
 returns-in-Ok-clause-err g c = λ text known. c.follow_source.ensures.err _ (text, c.in-Ok.ensures ∙ known, inl refl)
 
-pub returns-clause-err : goal.returns-clause-err
-returns-clause-err g c = λ text known. nothing_held c.args.options.now _ HasNoEvent _ _ _ _ refl refl
+pub returns-in-Err-clause-err : goal.returns-in-Err-clause-err
+returns-in-Err-clause-err g c = λ text known. nothing_held c.args.options.now _ HasNoEvent _ _ _ _ refl refl
