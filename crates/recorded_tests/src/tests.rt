@@ -109,33 +109,39 @@ fn check_loads<O: ReadAt + Drop>(
     alloc: Global,
     outputs: &mut RecordedOutputs<O>,
 ) -> Result<(), Fail> {
-    let mut read = outputs.bytes_read();
     for (field, stream) in STREAMS {
         let reference = reference(field)?;
         assert!(rt; outputs.holds(&reference)?, "of {field}");
+        let before = outputs.bytes_read();
         let loaded = outputs.load(alloc, &reference)?;
         assert_eq!(rt; loaded.as_slice(), stream);
-        read += stream.len() as u64;
-        assert_eq!(rt; outputs.bytes_read(), read);
+        assert_eq!(rt;
+            outputs.bytes_read().checked_sub(before),
+            Some(stream.len() as u64)
+        );
     }
     for field in PAST_END {
         let reference = reference(field)?;
+        let before = outputs.bytes_read();
         assert!(rt; !outputs.holds(&reference)?, "of {field}");
         assert_eq!(rt;
             fault_of(alloc, outputs, &reference),
             Some(LoadFault::PastEnd)
         );
-        assert_eq!(rt; outputs.bytes_read(), read);
+        assert_eq!(rt; outputs.bytes_read(), before);
     }
     for field in WRONG_SUM {
         let reference = reference(field)?;
+        let before = outputs.bytes_read();
         assert!(rt; outputs.holds(&reference)?, "of {field}");
         assert_eq!(rt;
             fault_of(alloc, outputs, &reference),
             Some(LoadFault::WrongSum)
         );
-        read += reference.len as u64;
-        assert_eq!(rt; outputs.bytes_read(), read);
+        assert_eq!(rt;
+            outputs.bytes_read().checked_sub(before),
+            Some(reference.len as u64)
+        );
     }
     Ok(())
 }
