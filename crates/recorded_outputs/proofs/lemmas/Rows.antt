@@ -1,0 +1,82 @@
+-- Worked rows: what the definitions say of references and of outputs that are written out.
+use Rattle.std.proofs.Common.{◌≡◌, ℕ, List, [], ◌∷◌, ◌++◌, codes, refl, None, Some}
+use Rattle.hex.proofs.OnLiterals.{hex_on_literals}
+use Rattle.scene_fields.specs.Numbers.{number_in}
+use Rattle.scene_fields.specs.Split.{cut}
+use Rattle.md5.specs.Md5.{md5}
+use Rattle.recorded_outputs.specs.Outputs.{stream_at}
+use Rattle.recorded_outputs.specs.References.{after_mark, reference_in, sum_in}
+
+-- the sum of no byte, as text and as bytes
+abbrev sum_text : List ℕ
+sum_text = codes "d41d8cd98f00b204e9800998ecf8427e"
+
+abbrev sum_bytes : List ℕ
+sum_bytes = 212 ∷ 29 ∷ 140 ∷ 217 ∷ 143 ∷ 0 ∷ 178 ∷ 4 ∷ 233 ∷ 128 ∷ 9 ∷ 152 ∷ 236 ∷ 248 ∷ 66 ∷ 126 ∷ []
+
+row_sum : sum_in sum_text ≡ Some sum_bytes
+unfolding sum_in hex_on_literals
+row_sum = refl
+
+-- a letter is upper case, a digit is missing, one is too many, and one is none
+row_upper : sum_in (codes "D41d8cd98f00b204e9800998ecf8427e") ≡ None
+unfolding sum_in hex_on_literals
+row_upper = refl
+
+row_short : sum_in (codes "d41d8cd98f00b204e9800998ecf8427") ≡ None
+unfolding sum_in hex_on_literals
+row_short = refl
+
+row_long : sum_in (codes "d41d8cd98f00b204e9800998ecf8427e00") ≡ None
+unfolding sum_in hex_on_literals
+row_long = refl
+
+row_no_digit : sum_in (codes "g41d8cd98f00b204e9800998ecf8427e") ≡ None
+unfolding sum_in hex_on_literals
+row_no_digit = refl
+
+row_reference : reference_in (codes "\\@70:007:" ++ sum_text) ≡ Some (record { offset = 70; len = 7; sum = sum_bytes })
+unfolding reference_in after_mark sum_in cut number_in hex_on_literals
+row_reference = refl
+
+-- text, a number that has a plus, one that is empty, one that is too large, no sum, and text behind the sum
+row_text : reference_in (codes "passed") ≡ None
+unfolding reference_in after_mark sum_in cut number_in hex_on_literals
+row_text = refl
+
+row_plus : reference_in (codes "\\@+70:7:" ++ sum_text) ≡ None
+unfolding reference_in after_mark sum_in cut number_in hex_on_literals
+row_plus = refl
+
+row_empty : reference_in (codes "\\@70::" ++ sum_text) ≡ None
+unfolding reference_in after_mark sum_in cut number_in hex_on_literals
+row_empty = refl
+
+row_large : reference_in (codes "\\@18446744073709551616:7:" ++ sum_text) ≡ None
+unfolding reference_in after_mark sum_in cut number_in hex_on_literals
+row_large = refl
+
+row_no_sum : reference_in (codes "\\@70:7") ≡ None
+unfolding reference_in after_mark sum_in cut number_in hex_on_literals
+row_no_sum = refl
+
+row_more : reference_in ((codes "\\@70:7:" ++ sum_text) ++ codes ":") ≡ None
+unfolding reference_in after_mark sum_in cut number_in hex_on_literals
+row_more = refl
+
+-- bytes that have the sum, bytes that have another, and places past the end, of a stream of no byte too
+row_stream : md5 (codes "bc") ≡ sum_bytes → stream_at (codes "abcd") (record { offset = 1; len = 2; sum = sum_bytes }) ≡ Some (codes "bc")
+unfolding stream_at
+row_stream same = rw same refl
+
+row_other : md5 (codes "bc") ≡ sum_bytes → stream_at (codes "abcd") (record { offset = 1; len = 2; sum = 0 ∷ [] }) ≡ None
+unfolding stream_at
+row_other same = rw same refl
+
+row_past : stream_at (codes "abcd") (record { offset = 3; len = 2; sum = sum_bytes }) ≡ None
+unfolding stream_at
+row_past = refl
+
+row_behind : stream_at (codes "abcd") (record { offset = 5; len = 0; sum = sum_bytes }) ≡ None
+unfolding stream_at
+row_behind = refl
