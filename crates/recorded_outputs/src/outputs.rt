@@ -118,7 +118,7 @@ impl<O: ReadAt + Drop> RecordedOutputs<O> {
     /// let reference = read_reference("\\@7:7:74170928bae84bb0a107a0906596aa52").ok_or("no reference")?;
     /// let mut outputs = RecordedOutputs::new(b"passed\nfailed\n".as_slice())?;
     /// let stream = outputs.load(alloc, &reference)?;
-    /// assert_eq!(stream.as_slice(), b"failed\n");
+    /// assert_eq!(stream.as_slice(), b"failed\n".as_slice());
     /// assert_eq!(outputs.bytes_read(), 7);
     /// ```
     pub fn load(&mut self, alloc: Global, reference: &Reference) -> Result<Bytes, LoadFault>

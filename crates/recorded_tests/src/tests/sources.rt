@@ -1,0 +1,111 @@
+//! What outputs are read from in these tests: calls that fail, bytes that come later, and bytes that are told and missing.
+
+use recorded_outputs::read_at::ReadAt;
+use std::io;
+use std::io::ErrorKind;
+
+/// Bytes of which some calls fail, be they questions or reads.
+#[derive(Drop)]
+pub struct Failing<'a> {
+    all: &'a [u8],
+    calls_left: usize,
+    kind: ErrorKind,
+    fails_on: bool,
+}
+
+impl<'a> Failing<'a> {
+    /// Every call after so many fails.
+    pub fn new(all: &'a [u8], calls: usize, kind: ErrorKind) -> Failing<'a> {
+        Failing {
+            all,
+            calls_left: calls,
+            kind,
+            fails_on: true,
+        }
+    }
+
+    /// The call after so many fails, and no other.
+    pub fn once(all: &'a [u8], calls: usize, kind: ErrorKind) -> Failing<'a> {
+        Failing {
+            fails_on: false,
+            ..Failing::new(all, calls, kind)
+        }
+    }
+
+    // Counts a call, which fails where none is left.
+    fn call(&mut self) -> io::Result<()> {
+        if self.calls_left > 0 {
+            self.calls_left -= 1;
+            return Ok(());
+        }
+        if !self.fails_on {
+            self.calls_left = usize::MAX;
+        }
+        Err(self.kind.into())
+    }
+}
+
+impl ReadAt for Failing<'_> {
+    fn len(&mut self) -> io::Result<u64> {
+        self.call()?;
+        ReadAt::len(&mut self.all)
+    }
+
+    fn read_at(&mut self, offset: u64, buffer: &mut [u8]) -> io::Result<()> {
+        self.call()?;
+        self.all.read_at(offset, buffer)
+    }
+}
+
+/// Bytes of which more are there at each question.
+#[derive(Drop)]
+pub struct Growing<'a> {
+    all: &'a [u8],
+    lens: &'a [usize],
+}
+
+impl<'a> Growing<'a> {
+    /// As many are there as these say, one after the other.
+    pub fn new(all: &'a [u8], lens: &'a [usize]) -> Growing<'a> {
+        Growing { all, lens }
+    }
+}
+
+impl ReadAt for Growing<'_> {
+    fn len(&mut self) -> io::Result<u64> {
+        let Some((len, later)) = self.lens.split_first() else {
+            return Err(ErrorKind::Other.into());
+        };
+        self.lens = later;
+        Ok(*len as u64)
+    }
+
+    fn read_at(&mut self, offset: u64, buffer: &mut [u8]) -> io::Result<()> {
+        self.all.read_at(offset, buffer)
+    }
+}
+
+/// Bytes of which fewer are there than they tell.
+#[derive(Drop)]
+pub struct Shortened<'a> {
+    all: &'a [u8],
+    there: usize,
+}
+
+impl<'a> Shortened<'a> {
+    /// So many of them are there.
+    pub fn new(all: &'a [u8], there: usize) -> Shortened<'a> {
+        Shortened { all, there }
+    }
+}
+
+impl ReadAt for Shortened<'_> {
+    fn len(&mut self) -> io::Result<u64> {
+        ReadAt::len(&mut self.all)
+    }
+
+    fn read_at(&mut self, offset: u64, buffer: &mut [u8]) -> io::Result<()> {
+        let (mut there, _) = self.all.split_at(self.there.min(self.all.len()));
+        there.read_at(offset, buffer)
+    }
+}
