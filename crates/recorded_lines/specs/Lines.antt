@@ -2,7 +2,7 @@
 use Rattle.std.specs.Prelude.{ℕ, ◌+◌, ◌-◌, ◌^◌, min, List, [], ◌∷◌, ◌++◌, length, take, drop, codes, bytes_eq, if◌then◌else◌, Option, None, Some}
 use Rattle.std.specs.List.{join_with_byte}
 use Rattle.scene_fields.specs.Split.{split_on}
-use Rattle.recorded_lines.specs.Stored.{stored_output}
+use Rattle.recorded_lines.specs.Stored.{stored_output_in}
 use Rattle.recorded_lines.specs.declared.line.PlacedOutput.{PlacedOutput}
 use Rattle.recorded_lines.specs.declared.stored.StoredOutput.{StoredOutput}
 use Rattle.recorded_lines.specs.declared.stored.StreamField.{StreamField}
@@ -32,7 +32,7 @@ unread_output form first second (Some output) = codes "unloaded" ∷ codes "-" �
 -- fields of which each eight end with an output, where the stored ones stay unread
 abbrev pub unread_groups : List (List ℕ) → List (List ℕ)
 unread_groups (x ∷ y ∷ z ∷ form ∷ first ∷ second ∷ errors ∷ highlight ∷ fields) =
-    (x ∷ y ∷ z ∷ []) ++ unread_output form first second (stored_output form first second) ++ (errors ∷ highlight ∷ unread_groups fields)
+    (x ∷ y ∷ z ∷ []) ++ unread_output form first second (stored_output_in form first second) ++ (errors ∷ highlight ∷ unread_groups fields)
 unread_groups fields = fields
 
 -- a stored output at its place
@@ -43,7 +43,7 @@ placed place field (Some output) = record { place = place; field = field; output
 -- the stored outputs of such fields, from this place and from this field of a first stream on
 abbrev pub placed_outputs : ℕ → ℕ → List (List ℕ) → List PlacedOutput
 placed_outputs place field (x ∷ y ∷ z ∷ form ∷ first ∷ second ∷ errors ∷ highlight ∷ fields) =
-    placed place field (stored_output form first second) ++ placed_outputs (place + 1) (field + 8) fields
+    placed place field (stored_output_in form first second) ++ placed_outputs (place + 1) (field + 8) fields
 placed_outputs place field fields = []
 
 -- the fields of a line whose stored outputs stay unread

@@ -15,20 +15,20 @@ stored_stream_in t =
     else option_map (λ reference. At reference) (reference_in t)
 
 -- its bytes stand among the outputs of the run
-abbrev pub is_stored : StoredStream → Bool
-is_stored NotCaptured = false
-is_stored Empty = false
-is_stored (At reference) = true
+abbrev pub is_reference : StoredStream → Bool
+is_reference NotCaptured = false
+is_reference Empty = false
+is_reference (At reference) = true
 
 -- two streams, of which one or both are stored
 abbrev pub stored_split : Option StoredStream → Option StoredStream → Option StoredOutput
 stored_split None stderr = None
 stored_split (Some stdout) None = None
-stored_split (Some stdout) (Some stderr) = if is_stored stdout || is_stored stderr then Some (Split stdout stderr) else None
+stored_split (Some stdout) (Some stderr) = if is_reference stdout || is_reference stderr then Some (Split stdout stderr) else None
 
 -- what is stored of an output with this form and these two fields behind it: of split streams one or both, of combined ones their bytes
-abbrev pub stored_output : List ℕ → List ℕ → List ℕ → Option StoredOutput
-stored_output form first second =
+abbrev pub stored_output_in : List ℕ → List ℕ → List ℕ → Option StoredOutput
+stored_output_in form first second =
     if bytes_eq form (codes "split") then stored_split (stored_stream_in first) (stored_stream_in second)
     else if bytes_eq form (codes "comb") && bytes_eq second (codes "-") then option_map (λ reference. Combined reference) (reference_in first)
     else None

@@ -1,7 +1,7 @@
 //! What a recorded run stores of an output, and how it is loaded.
 
 ghost use Rattle.std.specs.Prelude.{◌≡◌, IfSome, MatchResult};
-ghost use Rattle.recorded_lines.specs.Stored.{is_stored, stored_output, stored_stream_in};
+ghost use Rattle.recorded_lines.specs.Stored.{is_reference, stored_output_in, stored_stream_in};
 ghost use Rattle.recorded_outputs.specs.Outputs.{IsCounted, IsLoaded};
 ghost use Rattle.recorded_outputs.specs.declared.outputs.LoadFault.{LoadFault};
 ghost use Rattle.recorded_lines.specs.Loads.{IsCaptured, IsCapturedStream, IsCountedOf, IsCountedOfStream};
@@ -72,9 +72,9 @@ impl StoredStream {
         }
     }
 
-    // Whether it has bytes among the outputs of the run.
-    fn is_stored(&self) -> bool
-        ensures { result ≡ is_stored self.now }
+    // Whether its bytes stand among the outputs of the run.
+    fn is_reference(&self) -> bool
+        ensures { result ≡ is_reference self.now }
     {
         matches!(self, StoredStream::At(_))
     }
@@ -104,13 +104,13 @@ impl StoredOutput {
     /// assert_eq!(StoredOutput::read("split", "it failed", ""), None);
     /// ```
     pub fn read(form: &str, first: &str, second: &str) -> Option<StoredOutput>
-        ensures { result ≡ stored_output form.now first.now second.now }
+        ensures { result ≡ stored_output_in form.now first.now second.now }
     {
         match form {
             "split" => {
                 let stdout = StoredStream::read(first)?;
                 let stderr = StoredStream::read(second)?;
-                if !stdout.is_stored() && !stderr.is_stored() {
+                if !stdout.is_reference() && !stderr.is_reference() {
                     return None;
                 }
                 Some(StoredOutput::Split { stdout, stderr })

@@ -5,7 +5,7 @@ use Rattle.std.specs.List.{join_by, join_with_byte}
 use Rattle.std.specs.Borrow.{Bor}
 use Rattle.scene_fields.specs.Split.{field_texts}
 use Rattle.recorded_lines.specs.Lines.{placed, placed_outputs, unread_groups, unread_output}
-use Rattle.recorded_lines.specs.Stored.{stored_output}
+use Rattle.recorded_lines.specs.Stored.{stored_output_in}
 use Rattle.recorded_lines.specs.declared.stored.StoredOutput.{StoredOutput}
 use Rattle.recorded_lines.specs.declared.line.PlacedOutput.{PlacedOutput}
 
@@ -36,25 +36,25 @@ last_outputs front place field left whole few so_far =
     sym (append-nil front) ∙ ap (λ more. front ++ more) (sym (placed_outputs-few place field (field_texts left) few_texts)) ∙ so_far
 
 -- fields that end with an output, in parts
-eight_unread : (g : List (Bor (List ℕ))) (d e f : Bor (List ℕ)) → length g ≡ 8 → unread_groups (field_texts g) ≡ field_texts (take 3 g) ++ unread_output (get_or (take 3 (drop 3 g)) 0 d).now (get_or (take 3 (drop 3 g)) 1 e).now (get_or (take 3 (drop 3 g)) 2 f).now (stored_output (get_or (take 3 (drop 3 g)) 0 d).now (get_or (take 3 (drop 3 g)) 1 e).now (get_or (take 3 (drop 3 g)) 2 f).now) ++ field_texts (drop 3 (drop 3 g))
+eight_unread : (g : List (Bor (List ℕ))) (d e f : Bor (List ℕ)) → length g ≡ 8 → unread_groups (field_texts g) ≡ field_texts (take 3 g) ++ unread_output (get_or (take 3 (drop 3 g)) 0 d).now (get_or (take 3 (drop 3 g)) 1 e).now (get_or (take 3 (drop 3 g)) 2 f).now (stored_output_in (get_or (take 3 (drop 3 g)) 0 d).now (get_or (take 3 (drop 3 g)) 1 e).now (get_or (take 3 (drop 3 g)) 2 f).now) ++ field_texts (drop 3 (drop 3 g))
 eight_unread (x ∷ y ∷ z ∷ form ∷ first ∷ second ∷ errors ∷ highlight ∷ []) d e f eight = refl
 eight_unread g d e f eight = absurd (omega (arith, eight))
 
-eight_placed : (place field : ℕ) (g : List (Bor (List ℕ))) (d e f : Bor (List ℕ)) → length g ≡ 8 → placed_outputs place field (field_texts g) ≡ placed place field (stored_output (get_or (take 3 (drop 3 g)) 0 d).now (get_or (take 3 (drop 3 g)) 1 e).now (get_or (take 3 (drop 3 g)) 2 f).now)
+eight_placed : (place field : ℕ) (g : List (Bor (List ℕ))) (d e f : Bor (List ℕ)) → length g ≡ 8 → placed_outputs place field (field_texts g) ≡ placed place field (stored_output_in (get_or (take 3 (drop 3 g)) 0 d).now (get_or (take 3 (drop 3 g)) 1 e).now (get_or (take 3 (drop 3 g)) 2 f).now)
 eight_placed place field (x ∷ y ∷ z ∷ form ∷ first ∷ second ∷ errors ∷ highlight ∷ []) d e f eight = append-nil _
 eight_placed place field g d e f eight = absurd (omega (arith, eight))
 
 -- the first eight fields, and those behind them
 pub next_groups : (fs : List (List ℕ)) → 8 ≤ length fs → unread_groups fs ≡ unread_groups (take 8 fs) ++ unread_groups (drop 8 fs)
-next_groups (x ∷ y ∷ z ∷ form ∷ first ∷ second ∷ errors ∷ highlight ∷ fs) many = sym (append_assoc ((x ∷ y ∷ z ∷ []) ++ unread_output form first second (stored_output form first second)) (errors ∷ highlight ∷ []) (unread_groups fs))
+next_groups (x ∷ y ∷ z ∷ form ∷ first ∷ second ∷ errors ∷ highlight ∷ fs) many = sym (append_assoc ((x ∷ y ∷ z ∷ []) ++ unread_output form first second (stored_output_in form first second)) (errors ∷ highlight ∷ []) (unread_groups fs))
 next_groups fs many = absurd (omega (arith, many))
 
 pub next_placed : (place field : ℕ) (fs : List (List ℕ)) → 8 ≤ length fs → placed_outputs place field fs ≡ placed_outputs place field (take 8 fs) ++ placed_outputs (place + 1) (field + 8) (drop 8 fs)
-next_placed place field (x ∷ y ∷ z ∷ form ∷ first ∷ second ∷ errors ∷ highlight ∷ fs) many = ap (λ more. more ++ placed_outputs (place + 1) (field + 8) fs) (sym (append-nil (placed place field (stored_output form first second))))
+next_placed place field (x ∷ y ∷ z ∷ form ∷ first ∷ second ∷ errors ∷ highlight ∷ fs) many = ap (λ more. more ++ placed_outputs (place + 1) (field + 8) fs) (sym (append-nil (placed place field (stored_output_in form first second))))
 next_placed place field fs many = absurd (omega (arith, many))
 
 -- an output is taken out of the fields that it ends
-module _ (unit output streams after group : List (Bor (List ℕ))) (eight : length group ≡ 8) (front : unit ≡ take 3 group) (back : output ≡ drop 3 group) (middle : streams ≡ take 3 output) (end : after ≡ drop 3 output) (d e f : Bor (List ℕ)) (stored : Option StoredOutput) (read : stored ≡ stored_output (get_or streams 0 d).now (get_or streams 1 e).now (get_or streams 2 f).now) where
+module _ (unit output streams after group : List (Bor (List ℕ))) (eight : length group ≡ 8) (front : unit ≡ take 3 group) (back : output ≡ drop 3 group) (middle : streams ≡ take 3 output) (end : after ≡ drop 3 output) (d e f : Bor (List ℕ)) (stored : Option StoredOutput) (read : stored ≡ stored_output_in (get_or streams 0 d).now (get_or streams 1 e).now (get_or streams 2 f).now) where
   here : streams ≡ take 3 (drop 3 group)
   here = middle ∙ ap (take 3) back
 

@@ -9,16 +9,16 @@ use Rattle.recorded_outputs.specs.References.{after_mark, reference_in}
 use Rattle.recorded_outputs.specs.declared.reference.Reference.{Reference}
 use Rattle.scene_fields.specs.Split.{Lacks, split_on}
 use Rattle.recorded_lines.specs.Lines.{outputs_start, placed_outputs, stored_outputs, unread_groups, unread_fields, unread_text}
-use Rattle.recorded_lines.specs.Stored.{stored_output, stored_split}
+use Rattle.recorded_lines.specs.Stored.{stored_output_in, stored_split}
 use Rattle.recorded_lines.specs.declared.stored.StoredOutput.{StoredOutput}
 use Rattle.recorded_lines.specs.declared.stored.StoredOutput.TheVariants.{Combined}
 use Rattle.recorded_lines.specs.declared.stored.StoredStream.{StoredStream}
 use Rattle.recorded_lines.specs.declared.stored.StoredStream.TheVariants.{NotCaptured, Empty, At}
 
 -- none of the fields has a backslash
-abbrev pub ArePlain : List (List ℕ) → Type 0
-ArePlain [] = Unit {0}
-ArePlain (f ∷ fs) = Lacks 92 f × ArePlain fs
+abbrev pub LackBackslash : List (List ℕ) → Type 0
+LackBackslash [] = Unit {0}
+LackBackslash (f ∷ fs) = Lacks 92 f × LackBackslash fs
 
 pub not_reference : (t : List ℕ) → Lacks 92 t → reference_in t ≡ None
 unfolding reference_in after_mark
@@ -43,38 +43,38 @@ plain_output true b o none = none
 plain_output false true o none = refl
 plain_output false false o none = refl
 
-not_stored : (form first second : List ℕ) → Lacks 92 first → Lacks 92 second → stored_output form first second ≡ None
+not_stored : (form first second : List ℕ) → Lacks 92 first → Lacks 92 second → stored_output_in form first second ≡ None
 not_stored form first second l m =
     let r : reference_in first ≡ None = not_reference first l in
     let s : reference_in second ≡ None = not_reference second m in
     rw (r, s) (plain_output _ _ _ (plain_split (bytes_eq first []) (bytes_eq first (codes "-")) (bytes_eq second []) (bytes_eq second (codes "-"))))
 
-placed_plain : (place field : ℕ) (fs : List (List ℕ)) → ArePlain fs → placed_outputs place field fs ≡ []
+placed_plain : (place field : ℕ) (fs : List (List ℕ)) → LackBackslash fs → placed_outputs place field fs ≡ []
 placed_plain place field (x ∷ y ∷ z ∷ form ∷ first ∷ second ∷ errors ∷ highlight ∷ fs) plain =
-    let stays : stored_output form first second ≡ None = not_stored form first second plain.1.1.1.1.0 plain.1.1.1.1.1.0 in
+    let stays : stored_output_in form first second ≡ None = not_stored form first second plain.1.1.1.1.0 plain.1.1.1.1.1.0 in
     rw stays (placed_plain (place + 1) (field + 8) fs plain.1.1.1.1.1.1.1.1)
 placed_plain place field fs plain = refl
 
-groups_plain : (fs : List (List ℕ)) → ArePlain fs → unread_groups fs ≡ fs
+groups_plain : (fs : List (List ℕ)) → LackBackslash fs → unread_groups fs ≡ fs
 groups_plain (x ∷ y ∷ z ∷ form ∷ first ∷ second ∷ errors ∷ highlight ∷ fs) plain =
-    let stays : stored_output form first second ≡ None = not_stored form first second plain.1.1.1.1.0 plain.1.1.1.1.1.0 in
+    let stays : stored_output_in form first second ≡ None = not_stored form first second plain.1.1.1.1.0 plain.1.1.1.1.1.0 in
     rw stays (ap (λ more. x ∷ y ∷ z ∷ form ∷ first ∷ second ∷ errors ∷ highlight ∷ more) (groups_plain fs plain.1.1.1.1.1.1.1.1))
 groups_plain fs plain = refl
 
-drop_plain : (n : ℕ) (fs : List (List ℕ)) → ArePlain fs → ArePlain (drop n fs)
+drop_plain : (n : ℕ) (fs : List (List ℕ)) → LackBackslash fs → LackBackslash (drop n fs)
 drop_plain zero fs plain = plain
 drop_plain (suc n) [] plain = plain
 drop_plain (suc n) (f ∷ fs) plain = drop_plain n fs plain.1
 
-onto_plain : (c : ℕ) (parts : List (List ℕ)) → (c == 92) ≡ false → ArePlain parts → ArePlain (onto_first c parts)
+onto_plain : (c : ℕ) (parts : List (List ℕ)) → (c == 92) ≡ false → LackBackslash parts → LackBackslash (onto_first c parts)
 onto_plain c [] other plain = ((other, tt), tt)
 onto_plain c (part ∷ parts) other plain = ((other, plain.0), plain.1)
 
-cond_plain : (b : Bool) (c : ℕ) (parts : List (List ℕ)) → (c == 92) ≡ false → ArePlain parts → ArePlain (cond b ([] ∷ parts) (onto_first c parts))
+cond_plain : (b : Bool) (c : ℕ) (parts : List (List ℕ)) → (c == 92) ≡ false → LackBackslash parts → LackBackslash (cond b ([] ∷ parts) (onto_first c parts))
 cond_plain true c parts other plain = (tt, plain)
 cond_plain false c parts other plain = onto_plain c parts other plain
 
-split_plain : (t : List ℕ) → Lacks 92 t → ArePlain (split_on 9 t)
+split_plain : (t : List ℕ) → Lacks 92 t → LackBackslash (split_on 9 t)
 unfolding split_on
 split_plain [] lacks = (tt, tt)
 split_plain (c ∷ t) lacks = cond_plain (c == 9) c _ lacks.0 (split_plain t lacks.1)
@@ -84,7 +84,7 @@ nothing_stored line lacks =
     let fs = split_on 9 line in
     placed_plain 0 (outputs_start fs + 5) (drop (outputs_start fs) fs) (drop_plain (outputs_start fs) fs (split_plain line lacks))
 
-fields_plain : (fs : List (List ℕ)) → ArePlain fs → unread_fields fs ≡ fs
+fields_plain : (fs : List (List ℕ)) → LackBackslash fs → unread_fields fs ≡ fs
 fields_plain fs plain = ap (λ more. take (outputs_start fs) fs ++ more) (groups_plain _ (drop_plain _ fs plain)) ∙ take-append-drop (outputs_start fs) fs
 
 joined : (line : List ℕ) → join_with_byte 9 (split_on 9 line) ≡ line

@@ -6,7 +6,7 @@ use Rattle.recorded_outputs.specs.declared.reference.Reference.{Reference}
 use Rattle.recorded_lines.proofs.lemmas.References.{not_reference}
 use Rattle.recorded_lines.specs.Lines.{stored_outputs, unread_fields}
 use Rattle.recorded_lines.specs.Loads.{captured_at, counted_output}
-use Rattle.recorded_lines.specs.Stored.{stored_output}
+use Rattle.recorded_lines.specs.Stored.{stored_output_in}
 use Rattle.recorded_lines.specs.declared.stored.StoredOutput.TheVariants.{Split, Combined}
 use Rattle.recorded_lines.specs.declared.stored.StoredStream.TheVariants.{NotCaptured, Empty, At}
 
@@ -15,26 +15,26 @@ module _ (rest : List ℕ) (reference : Reference) (is : reference_in (codes "\\
   abbrev reference_text : List ℕ
   reference_text = codes "\\@" ++ rest
 
-  row_split : stored_output (codes "split") [] reference_text ≡ Some (Split Empty (At reference))
+  row_split : stored_output_in (codes "split") [] reference_text ≡ Some (Split Empty (At reference))
   row_split = rw is refl
 
-  row_one_stream : stored_output (codes "split") reference_text (codes "-") ≡ Some (Split (At reference) NotCaptured)
+  row_one_stream : stored_output_in (codes "split") reference_text (codes "-") ≡ Some (Split (At reference) NotCaptured)
   row_one_stream = rw is refl
 
-  row_combined : stored_output (codes "comb") reference_text (codes "-") ≡ Some (Combined reference)
+  row_combined : stored_output_in (codes "comb") reference_text (codes "-") ≡ Some (Combined reference)
   row_combined = rw is refl
 
   -- no stream is stored, a text stands beside a reference, combined streams have a second field, and what was left unread has a first one
-  row_none : stored_output (codes "split") [] (codes "-") ≡ None
+  row_none : stored_output_in (codes "split") [] (codes "-") ≡ None
   row_none = refl
 
-  row_text : stored_output (codes "split") reference_text (codes "x") ≡ None
+  row_text : stored_output_in (codes "split") reference_text (codes "x") ≡ None
   row_text = rw (is, not_reference (codes "x") (refl, tt)) refl
 
-  row_second : stored_output (codes "comb") reference_text [] ≡ None
+  row_second : stored_output_in (codes "comb") reference_text [] ≡ None
   row_second = refl
 
-  row_unloaded : stored_output (codes "unloaded") reference_text (codes "-") ≡ None
+  row_unloaded : stored_output_in (codes "unloaded") reference_text (codes "-") ≡ None
   row_unloaded = refl
 
   -- a finished test: of its three attempts the first wrote nothing, and what the others wrote is stored
