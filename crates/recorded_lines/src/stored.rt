@@ -13,6 +13,7 @@ use recorded_outputs::reference::{Reference, read_reference};
 use run_model::memory::OutOfMemory;
 use run_model::output::{ChildOutputDescription, ChildSingleOutput};
 use std::alloc::Global;
+use thiserror::Error;
 
 /// What a recorded run stores of a stream.
 #[derive(Clone, Copy, Debug, PartialEq, Eq)]
@@ -52,7 +53,8 @@ pub enum StreamField {
 }
 
 /// Which stream could not be loaded, and why.
-#[derive(Clone, Copy, Debug, PartialEq, Eq)]
+#[derive(Clone, Copy, Debug, PartialEq, Eq, Error)]
+#[error("{fault}")]
 pub struct StreamFault {
     /// The stream.
     pub stream: StreamField,
@@ -129,6 +131,15 @@ impl StoredOutput {
     /// Loads what was captured. It reads the bytes of its streams and no others, and allocates for these.
     ///
     /// A fault says which stream is damaged, cannot be read or finds no memory; standard output comes first.
+    ///
+    /// ```
+    /// use recorded_outputs::outputs::RecordedOutputs;
+    /// let reference = "\\@7:7:74170928bae84bb0a107a0906596aa52";
+    /// let stored = StoredOutput::read("comb", reference, "-").ok_or("no output")?;
+    /// let mut outputs = RecordedOutputs::new(b"passed\nfailed\n".as_slice())?;
+    /// assert!(stored.load(alloc, &mut outputs)?.is_loaded());
+    /// assert_eq!(outputs.bytes_read(), 7);
+    /// ```
     pub fn load<O: ReadAt + Drop>(
         &self,
         alloc: Global,
