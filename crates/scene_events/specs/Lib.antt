@@ -1,4 +1,7 @@
 pub mod Configs
+pub mod EarlierAttempts
+pub mod Loadables
+pub mod Loads
 pub mod Moments
 pub mod PackedStats
 pub mod SceneAttempts

@@ -1,12 +1,13 @@
 -- What the short form of an attempt leaves out.
-use Rattle.std.specs.Prelude.{List, [], Bool, true, Some}
+use Rattle.std.specs.Prelude.{ℕ, List, [], Bool, true, ◌==◌, if◌then◌else◌, Some}
 use Rattle.run_model.specs.Attempts.{Attempt, Written}
 use Rattle.run_model.specs.declared.output.ChildOutputDescription.{ChildOutputDescription}
 use Rattle.run_model.specs.declared.output.LiveSpec.{LiveSpec}
 use Rattle.run_model.specs.declared.status.ExecuteStatus.{ExecuteStatus}
 use Rattle.run_model.specs.declared.status.ExecutionResultDescription.{ExecutionResultDescription}
 use Rattle.run_model.specs.declared.status.SetupScriptExecuteStatus.{SetupScriptExecuteStatus}
-use Rattle.scene_events.specs.SceneOutputs.{is_loaded, no_output, written}
+use Rattle.scene_events.specs.EarlierAttempts.{before_last_with}
+use Rattle.scene_events.specs.SceneOutputs.{is_loaded, loaded, no_output, written}
 use Rattle.scene_events.specs.declared.scene.attempts.AttemptOutput.{AttemptOutput}
 use Rattle.scene_events.specs.declared.scene.attempts.AttemptOutput.TheVariants as attempt
 use Rattle.scene_events.specs.declared.scene.attempts.MoreAttempts.{MoreAttempts}
@@ -30,13 +31,19 @@ is_loaded_by (attempt.Output output) = is_loaded output
 abbrev pub earlier_in : MoreAttempts → List Attempt
 earlier_in more.Nothing = []
 earlier_in (more.Output output) = []
-earlier_in (more.Earlier earlier) = earlier.attempts.items
+earlier_in (more.Earlier earlier) = earlier.attempts
 
 -- what the last attempt wrote
 abbrev pub written_last : ExecutionResultDescription → MoreAttempts → Written
 written_last result more.Nothing = empty_output result
 written_last result (more.Output output) = written (Some result) output
 written_last result (more.Earlier earlier) = written_by result earlier.last_output
+
+-- what there is beside how the last attempt ended, where the attempt at this place captured this
+abbrev pub more_with : ℕ → ChildOutputDescription → MoreAttempts → MoreAttempts
+more_with place captured more.Nothing = if place == 0 then more.Output (loaded no_output captured) else more.Nothing
+more_with place captured (more.Output output) = if place == 0 then more.Output (loaded output captured) else more.Output output
+more_with place captured (more.Earlier earlier) = more.Earlier (before_last_with place captured earlier)
 
 -- an attempt as that of a setup script, which has no other
 abbrev pub script_status : ExecuteStatus LiveSpec ChildOutputDescription → SetupScriptExecuteStatus LiveSpec ChildOutputDescription

@@ -1,10 +1,11 @@
 //! The attempts of a test in a short form: most are one attempt that wrote nothing, and a scene may hold a million.
 
-ghost use Rattle.std.specs.Prelude.{◌≡◌, IfOk};
+ghost use Rattle.std.specs.Prelude.{◌≡◌, IfOk, OnErr, OnOk};
 ghost use Rattle.scene_events.specs.SceneAttempts.{empty_output};
+ghost use Rattle.scene_events.specs.SceneOutputs.{loaded, no_output};
 
+use super::loadable::Loadable;
 use super::outputs::SceneOutput;
-use run_model::boxed::Boxed;
 use run_model::memory::OutOfMemory;
 use run_model::output::{
     ChildExecutionOutputDescription, ChildOutputDescription, ChildSingleOutput, LiveSpec,
@@ -35,9 +36,9 @@ enum MoreAttempts {
     // Nothing: it is the only attempt, and wrote nothing, as most.
     Nothing,
     // It is the only attempt, and wrote this.
-    Output(Boxed<SceneOutput>),
+    Output(Loadable<SceneOutput>),
     // There are others before it.
-    Earlier(Boxed<EarlierAttempts>),
+    Earlier(Loadable<EarlierAttempts>),
 }
 
 // The attempts before the last one, and what that one wrote.
@@ -45,6 +46,14 @@ enum MoreAttempts {
 struct EarlierAttempts {
     attempts: Vec<SceneAttempt>,
     last_output: AttemptOutput,
+}
+
+impl Model for EarlierAttempts {
+    ghost use Rattle.scene_events.specs.EarlierAttempts.{BeforeLast};
+
+    ghost Value = { BeforeLast };
+
+    ghost view = { λ e. record { attempts = e.attempts.items; last_output = e.last_output } };
 }
 
 impl Model for SceneAttempts {
@@ -71,6 +80,7 @@ impl Model for SceneAttempts {
 
 impl SceneAttempts {
     ghost use Rattle.run_model.specs.Outputs.{has_loaded_output};
+    ghost use Rattle.scene_events.specs.Loads.{attempts_with};
 
     /// The attempts before the last one, in order, and the last; and what a success after earlier attempts counts as. It allocates
     /// only where there are earlier ones.
@@ -101,7 +111,7 @@ impl SceneAttempts {
                 attempts: earlier,
                 last_output: output,
             };
-            MoreAttempts::Earlier(Boxed::new(alloc, earlier)?)
+            MoreAttempts::Earlier(Loadable::new(alloc, earlier)?)
         };
         Ok(SceneAttempts {
             time_taken,
@@ -122,6 +132,21 @@ impl SceneAttempts {
             MoreAttempts::Output(output) => output.get().has_loaded_output(),
             MoreAttempts::Earlier(earlier) => earlier.get().last_output.is_loaded(),
         }
+    }
+
+    /// Puts this in place of what the attempt at this place captured, where the first stands at 0; errors and highlight stay. An attempt that
+    /// could not be started stays as it is, and a place behind the last attempt changes nothing. It allocates for an attempt that held
+    /// nothing, and where memory is refused, nothing is changed.
+    pub fn load(
+        &mut self,
+        alloc: Global,
+        place: usize,
+        captured: ChildOutputDescription,
+    ) -> Result<(), OutOfMemory>
+        ensures loaded { OnOk result (self.new ≡ attempts_with place captured self.old) }
+        ensures kept { OnErr result (self.new ≡ self.old) }
+    {
+        self.more.load(alloc, place, captured)
     }
 
     /// The attempts as an event has them. Copies their texts and shares the bytes of their outputs.
@@ -178,6 +203,59 @@ impl SceneAttempts {
     }
 }
 
+impl MoreAttempts {
+    ghost use Rattle.scene_events.specs.SceneAttempts.{more_with};
+
+    // Puts this in place of what the attempt at this place captured.
+    fn load(
+        &mut self,
+        alloc: Global,
+        place: usize,
+        captured: ChildOutputDescription,
+    ) -> Result<(), OutOfMemory>
+        ensures loaded { OnOk result (self.new ≡ more_with place captured self.old) }
+        ensures kept { OnErr result (self.new ≡ self.old) }
+    {
+        match self {
+            MoreAttempts::Earlier(earlier) => earlier.get_mut().load(alloc, place, captured)?,
+            MoreAttempts::Output(output) => {
+                if place == 0 {
+                    output.get_mut().load(captured);
+                }
+            }
+            MoreAttempts::Nothing => {
+                if place == 0 {
+                    *self = MoreAttempts::Output(loaded_output(alloc, captured)?);
+                }
+            }
+        }
+        Ok(())
+    }
+}
+
+impl EarlierAttempts {
+    ghost use Rattle.scene_events.specs.EarlierAttempts.{before_last_with};
+
+    // The same, where the last attempt stands behind the earlier ones.
+    fn load(
+        &mut self,
+        alloc: Global,
+        place: usize,
+        captured: ChildOutputDescription,
+    ) -> Result<(), OutOfMemory>
+        ensures loaded { OnOk result (self.new ≡ before_last_with place captured self.old) }
+        ensures kept { OnErr result (self.new ≡ self.old) }
+    {
+        if place == self.attempts.len() {
+            return self.last_output.load(alloc, captured);
+        }
+        let Some(attempt) = self.attempts.get_mut(place) else {
+            return Ok(());
+        };
+        attempt.load(alloc, captured)
+    }
+}
+
 // These attempts as an event has them. Most tests have none, and pass by what this function clears at its start.
 #[inline(never)]
 fn statuses_of(
@@ -209,10 +287,11 @@ enum AttemptOutput {
     // Both streams were captured, and hold nothing.
     Empty,
     // All else.
-    Output(Boxed<SceneOutput>),
+    Output(Loadable<SceneOutput>),
 }
 
 impl AttemptOutput {
+    ghost use Rattle.scene_events.specs.EarlierAttempts.{loaded_by};
     ghost use Rattle.scene_events.specs.SceneAttempts.{is_loaded_by, written_by};
 
     // Whether it is there, and not left unread.
@@ -223,6 +302,20 @@ impl AttemptOutput {
             AttemptOutput::Output(output) => output.get().has_loaded_output(),
             AttemptOutput::Empty => true,
         }
+    }
+
+    // Puts this in place of what was captured. It allocates for an attempt that held nothing.
+    fn load(&mut self, alloc: Global, captured: ChildOutputDescription) -> Result<(), OutOfMemory>
+        ensures loaded { OnOk result (self.new ≡ loaded_by self.old captured) }
+        ensures kept { OnErr result (self.new ≡ self.old) }
+    {
+        match self {
+            AttemptOutput::Output(output) => output.get_mut().load(captured),
+            AttemptOutput::Empty => {
+                *self = AttemptOutput::Output(loaded_output(alloc, captured)?);
+            }
+        }
+        Ok(())
     }
 
     // What an attempt that ended so wrote, as an event has it.
@@ -259,6 +352,7 @@ impl Model for SceneAttempt {
 }
 
 impl SceneAttempt {
+    ghost use Rattle.run_model.specs.Attempts.{attempt_with_output};
     ghost use Rattle.run_model.specs.Outputs.{has_loaded_output};
     ghost use Rattle.run_model.specs.Statuses.{is_success};
     ghost use Rattle.scene_events.specs.SceneAttempts.{script_status};
@@ -309,7 +403,7 @@ impl SceneAttempt {
         Ok(SceneAttempt {
             time_taken,
             result: outcome,
-            output: AttemptOutput::Output(Boxed::new(alloc, output)?),
+            output: AttemptOutput::Output(Loadable::new(alloc, output)?),
             retry_data,
             is_slow,
         })
@@ -327,6 +421,19 @@ impl SceneAttempt {
         ensures { result ≡ has_loaded_output self.now.output }
     {
         self.output.is_loaded()
+    }
+
+    /// Puts this in place of what it captured; errors and highlight stay. An attempt that could not be started stays as it is. It
+    /// allocates where the attempt held nothing, and where memory is refused, nothing is changed.
+    pub fn load(
+        &mut self,
+        alloc: Global,
+        captured: ChildOutputDescription,
+    ) -> Result<(), OutOfMemory>
+        ensures loaded { OnOk result (self.new ≡ attempt_with_output self.old captured) }
+        ensures kept { OnErr result (self.new ≡ self.old) }
+    {
+        self.output.load(alloc, captured)
     }
 
     /// The attempt as an event has it. Copies its texts and shares the bytes of its output.
@@ -356,6 +463,23 @@ impl SceneAttempt {
             is_slow: self.is_slow,
         })
     }
+}
+
+// The output of an attempt that wrote this, of which nothing else is known.
+fn loaded_output(
+    alloc: Global,
+    captured: ChildOutputDescription,
+) -> Result<Loadable<SceneOutput>, OutOfMemory>
+    ensures { IfOk result (λ output. output ≡ loaded no_output captured) }
+{
+    Loadable::new(
+        alloc,
+        SceneOutput::Output {
+            output: captured,
+            errors: None,
+            highlight: None,
+        },
+    )
 }
 
 // The output of an attempt with this result that wrote nothing.

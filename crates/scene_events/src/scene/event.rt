@@ -1,9 +1,10 @@
 //! The events of a scene.
 
-ghost use Rattle.std.specs.Prelude.{◌≡◌};
+ghost use Rattle.std.specs.Prelude.{◌≡◌, OnErr, OnOk};
 ghost use Rattle.scene_events.specs.Scenes.{IsPushed, PushesCallOf};
 
 use super::info_events::{InfoFinish, InfoStart, ScriptAnswer, TestAnswer};
+use super::loadable::Loadable;
 use super::replay_calls::{SceneHeader, push_prefix_call};
 use super::run_events::{RunCancel, RunFinish, RunPause, RunStart, StateRequest};
 use super::script_events::{SetupFinish, SetupStart, SlowSetup};
@@ -15,6 +16,7 @@ use run_model::boxed::Boxed;
 use run_model::call::ReportCall;
 use run_model::event::{TestEvent, TestEventKind};
 use run_model::memory::OutOfMemory;
+use run_model::output::ChildOutputDescription;
 use run_model::run_id::ShortestRunIdPrefix;
 use run_model::time::Nanos;
 use std::alloc::Global;
@@ -35,17 +37,17 @@ pub enum SceneEvent {
     /// A setup script runs longer than it should.
     SetupScriptSlow(Boxed<SlowSetup>),
     /// A setup script has finished.
-    SetupScriptFinished(Boxed<SetupFinish>),
+    SetupScriptFinished(Loadable<SetupFinish>),
     /// A test has started.
     TestStarted(Boxed<TestStart>),
     /// A test runs longer than it should.
     TestSlow(Boxed<SlowTest>),
     /// An attempt of a test has failed, and another one follows.
-    TestAttemptFailedWillRetry(Boxed<FailedAttempt>),
+    TestAttemptFailedWillRetry(Loadable<FailedAttempt>),
     /// Another attempt of a test has started.
     TestRetryStarted(Boxed<TestRetryStart>),
     /// A test has finished.
-    TestFinished(Boxed<TestFinish>),
+    TestFinished(Loadable<TestFinish>),
     /// A test is not to run.
     TestSkipped(Boxed<SceneTest>),
     /// The run is about to be cancelled: what runs is waited for, or ended.
@@ -59,9 +61,9 @@ pub enum SceneEvent {
     /// All units are asked what they are doing.
     InfoStarted(Boxed<InfoStart>),
     /// A setup script says what it is doing.
-    ScriptAnswered(Boxed<ScriptAnswer>),
+    ScriptAnswered(Loadable<ScriptAnswer>),
     /// A test says what it is doing.
-    TestAnswered(Boxed<TestAnswer>),
+    TestAnswered(Loadable<TestAnswer>),
     /// No further answers are waited for.
     InfoFinished(InfoFinish),
     /// The state of the run was asked for, by a key.
@@ -76,6 +78,7 @@ pub enum SceneEvent {
 const _: () = prove!(size_of::<SceneEvent>() == 16);
 
 impl SceneEvent {
+    ghost use Rattle.scene_events.specs.Loads.{event_with, event_with_only};
     ghost use Rattle.scene_events.specs.Scenes.{may_be_refused};
 
     /// Whether its call has to be looked at to know whether a reporter refuses it: output of it was left unread, or an attempt that
@@ -105,6 +108,59 @@ impl SceneEvent {
             SceneEvent::Header(_) => true,
             _ => false,
         }
+    }
+
+    /// Puts this in place of the captured output at this place: that of an attempt of a test that has finished, where the first stands at
+    /// 0, or the only output of another event, which stands at 0. Errors and highlight stay. Where the event has no output there, or the
+    /// unit could not be started, it stays as it is. It allocates for an attempt that held nothing, and where memory is refused, nothing is
+    /// changed.
+    ///
+    /// ```
+    /// use run_model::output::ChildOutputDescription;
+    /// use scene_events::scene::info_events::InfoFinish;
+    /// let mut event = SceneEvent::InfoFinished(InfoFinish { missing: 0 });
+    /// event.load(alloc, 0, ChildOutputDescription::NotLoaded)?; // it has no output
+    /// assert!(!event.may_be_refused());
+    /// ```
+    pub fn load(
+        &mut self,
+        alloc: Global,
+        place: usize,
+        captured: ChildOutputDescription,
+    ) -> Result<(), OutOfMemory>
+        ensures loaded { OnOk result (self.new ≡ event_with place captured self.old) }
+        ensures kept { OnErr result (self.new ≡ self.old) }
+    {
+        if let SceneEvent::TestFinished(finish) = self {
+            return finish.get_mut().attempts.load(alloc, place, captured);
+        }
+        if place > 0 {
+            return Ok(());
+        }
+        self.load_only(alloc, captured)
+    }
+
+    // The same of an event with only one output.
+    fn load_only(
+        &mut self,
+        alloc: Global,
+        captured: ChildOutputDescription,
+    ) -> Result<(), OutOfMemory>
+        ensures loaded { OnOk result (self.new ≡ event_with_only captured self.old) }
+        ensures kept { OnErr result (self.new ≡ self.old) }
+    {
+        match self {
+            SceneEvent::TestAttemptFailedWillRetry(failed) => {
+                failed.get_mut().attempt.load(alloc, captured)?;
+            }
+            SceneEvent::SetupScriptFinished(finish) => {
+                finish.get_mut().attempt.load(alloc, captured)?;
+            }
+            SceneEvent::ScriptAnswered(answer) => answer.get_mut().answer.load(captured),
+            SceneEvent::TestAnswered(answer) => answer.get_mut().answer.load(captured),
+            _ => {}
+        }
+        Ok(())
     }
 
     /// Pushes the call that this event is. It borrows the event's names.

@@ -7,6 +7,7 @@ ghost use Rattle.scene_events.specs.States.{result_of};
 ghost use Rattle.scene_events.specs.declared.scene.event.SceneEvent.{SceneEvent};
 
 use super::event::{push_event, push_event_after};
+use super::loadable::Loadable;
 use super::outputs::SceneOutput;
 use super::script_events::SceneScript;
 use super::states::SceneState;
@@ -16,7 +17,7 @@ use run_model::call::ReportCall;
 use run_model::event::TestEventKind;
 use run_model::info::{InfoResponse, SetupScriptInfoResponse, TestInfoResponse};
 use run_model::memory::OutOfMemory;
-use run_model::output::{ChildExecutionOutputDescription, LiveSpec};
+use run_model::output::{ChildExecutionOutputDescription, ChildOutputDescription, LiveSpec};
 use run_model::stats::RunStats;
 use run_model::status::RetryData;
 use run_model::stress::StressIndex;
@@ -70,7 +71,7 @@ pub struct UnitAnswer {
     /// What it is doing.
     pub state: Boxed<SceneState>,
     /// What it has written so far.
-    pub output: Boxed<SceneOutput>,
+    pub output: Loadable<SceneOutput>,
 }
 
 /// No further answers are waited for.
@@ -152,6 +153,15 @@ impl TestAnswer {
 }
 
 impl UnitAnswer {
+    ghost use Rattle.scene_events.specs.Loads.{answer_with};
+
+    /// Puts this in place of what it has captured so far, as [`SceneOutput::load`] does.
+    pub fn load(&mut self, captured: ChildOutputDescription)
+        ensures { self.new ≡ answer_with captured self.old }
+    {
+        self.output.get_mut().load(captured);
+    }
+
     // What it has written so far, as an event has it.
     fn description(
         &self,

@@ -2,7 +2,7 @@
 
 ghost use Rattle.std.specs.Prelude.{◌≡◌, IfOk};
 ghost use Rattle.std.specs.Option.{option_copied};
-ghost use Rattle.scene_events.specs.SceneOutputs.{is_loaded, written};
+ghost use Rattle.scene_events.specs.SceneOutputs.{is_loaded, loaded, written};
 
 use run_model::boxed::Boxed;
 use run_model::memory::OutOfMemory;
@@ -36,6 +36,17 @@ impl SceneOutput {
         match self {
             SceneOutput::Output { output, .. } => output.is_loaded(),
             SceneOutput::StartError(_) => true,
+        }
+    }
+
+    /// Puts this in place of what was captured; errors and highlight stay. A unit that could not be started captured nothing, and stays
+    /// as it is.
+    pub fn load(&mut self, captured: ChildOutputDescription)
+        ensures { self.new ≡ loaded self.old captured }
+    {
+        match self {
+            SceneOutput::Output { output, .. } => *output = captured,
+            SceneOutput::StartError(_) => {}
         }
     }
 

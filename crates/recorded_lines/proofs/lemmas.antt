@@ -1,0 +1,4 @@
+pub mod Fields
+pub mod References
+pub mod Rows
+pub mod Streams

@@ -1,0 +1,212 @@
+//! Lines of a recorded run, what is left of them, and their outputs.
+
+use recorded_lines::line::{PlacedOutput, RecordedLine};
+use recorded_lines::stored::{StoredOutput, StreamFault, StreamField};
+use recorded_outputs::outputs::{LoadFault, RecordedOutputs};
+use run_model::output::{ChildOutputDescription, ChildSingleOutput};
+use std::process::Abort;
+use std::test::Fail;
+
+// Two streams.
+const OUTPUTS: &[u8] = b"passed\nfailed\n";
+
+// In a line below, PASSED stands for a reference to the first of them, and FAILED for one to the second.
+const PASSED: &str = "\\@0:7:edf1b9bbb2e79dff0fa187fdc33dd0ac";
+
+const FAILED: &str = "\\@7:7:74170928bae84bb0a107a0906596aa52";
+
+// Lines, what is left of them, and the place and the first stream's field of each stored output.
+const STORED: [(&str, &str, &[(usize, usize)]); 8] = [
+    (
+        "done\t-\ta\tt\tnever\tfinal\tpass\t-\t1\tfail:1\t5\t0\tsplit\tPASSED\tFAILED\t-\t-",
+        "done\t-\ta\tt\tnever\tfinal\tpass\t-\t1\tfail:1\t5\t0\tunloaded\t-\t-\t-\t-",
+        &[(0, 14)],
+    ),
+    (
+        "done\t-\ta\tt\tnever\tfinal\tpass\t-\t3\tfail:1\t5\t0\tsplit\t\tFAILED\tx\t-\tfail:1\t6\t1\tsplit\t\t\t-\t-\tpass\t7\t0\tcomb\tPASSED\t-\t-\tcomb:0:p",
+        "done\t-\ta\tt\tnever\tfinal\tpass\t-\t3\tfail:1\t5\t0\tunloaded\t-\t-\tx\t-\tfail:1\t6\t1\tsplit\t\t\t-\t-\tpass\t7\t0\tunloaded\t-\t-\t-\tcomb:0:p",
+        &[(0, 14), (2, 30)],
+    ),
+    (
+        "retry\t-\ta\tt\t1\t2\t5\tfinal\tfail:1\t5\t0\tsplit\tPASSED\t-\t-\t-",
+        "retry\t-\ta\tt\t1\t2\t5\tfinal\tfail:1\t5\t0\tunloaded\t-\t-\t-\t-",
+        &[(0, 13)],
+    ),
+    (
+        "setupdone\t-\tdb\tinit\t\tpass\t5\t0\tcomb\tPASSED\t-\t-\t-",
+        "setupdone\t-\tdb\tinit\t\tpass\t5\t0\tunloaded\t-\t-\t-\t-",
+        &[(0, 10)],
+    ),
+    (
+        "answer-test\t0\t2\t-\ta\tt\t1\t1\trunning:4:5:-\t-\tsplit\t-\tFAILED\t-\t-",
+        "answer-test\t0\t2\t-\ta\tt\t1\t1\trunning:4:5:-\t-\tunloaded\t-\t-\t-\t-",
+        &[(0, 12)],
+    ),
+    (
+        "answer-script\t0\t2\t-\tdb\tinit\t\trunning:4:5:-\t-\tsplit\tFAILED\t\t-\t-",
+        "answer-script\t0\t2\t-\tdb\tinit\t\trunning:4:5:-\t-\tunloaded\t-\t-\t-\t-",
+        &[(0, 11)],
+    ),
+    // A text may have escapes of its own.
+    (
+        "retry\t-\ta\t\\x2d\t1\t2\t5\tfinal\tfail:1\t5\t0\tsplit\tPASSED\t\tc\\td\t-",
+        "retry\t-\ta\t\\x2d\t1\t2\t5\tfinal\tfail:1\t5\t0\tunloaded\t-\t-\tc\\td\t-",
+        &[(0, 13)],
+    ),
+    // The number of fields is not looked at: the reader of scenes does that.
+    (
+        "retry\t-\ta\tt\t1\t2\t5\tfinal\tfail:1\t5\t0\tsplit\tPASSED\t-\t-\t-\tx",
+        "retry\t-\ta\tt\t1\t2\t5\tfinal\tfail:1\t5\t0\tunloaded\t-\t-\t-\t-\tx",
+        &[(0, 13)],
+    ),
+];
+
+// Lines that stay as they are.
+const KEPT: [&str; 12] = [
+    "",
+    "end\t0\t-\t-",
+    "skip\t-\ta\tPASSED",
+    "start\t-\ta\tt\t-\tPASSED",
+    "info\tPASSED\tFAILED\tPASSED\tsplit\tPASSED\tFAILED\t-\t-\tsplit\tPASSED\tFAILED\t-\t-",
+    "retry\t-\ta\tt\t1\t2\t5\tfinal\tfail:1\t5\t0\tsplit\t\t-\t-\t-",
+    "retry\t-\ta\tt\t1\t2\t5\tfinal\tfail:1\t5\t0\tsplit\tPASSED\ttext\t-\t-",
+    "retry\t-\ta\tt\t1\t2\t5\tfinal\tfail:1\t5\t0\tsplit\tPASSEDx\t-\t-\t-",
+    "retry\t-\ta\tt\t1\t2\t5\tfinal\tfail:1\t5\t0\tcomb\tPASSED\t\t-\t-",
+    "retry\t-\ta\tt\t1\t2\t5\tfinal\tfail:1\t5\t0\tunloaded\tPASSED\t-\t-\t-",
+    "retry\t-\ta\tt\t1\t2\t5\tfinal\tfail:1\t5\t0\tstart\tPASSED\t-\t-\t-",
+    "retry\t-\ta\tt\t1\t2\t5\tfinal\tfail:1\t5\t0\tsplit\tPASSED\t-\t-",
+];
+
+#[test]
+fn takes_references_out_of_lines(rt: HostRuntime) -> Result<(), Fail> {
+    let alloc = rt.alloc();
+    for (short, text, places) in STORED {
+        let line = short
+            .replace(alloc, "PASSED", PASSED)?
+            .replace(alloc, "FAILED", FAILED)?;
+        let read = RecordedLine::read(alloc, line.as_str())?;
+        assert_eq!(rt; read.text.as_str(), text);
+        assert_eq!(rt; read.outputs.len(), places.len(), "of {short}");
+        for (output, (place, field)) in read.outputs.iter().zip(places.iter()) {
+            assert_eq!(rt;
+                (output.place, output.field),
+                (*place, *field),
+                "of {short}"
+            );
+        }
+    }
+    Ok(())
+}
+
+#[test]
+fn leaves_other_lines(rt: HostRuntime) -> Result<(), Fail> {
+    let alloc = rt.alloc();
+    for short in KEPT {
+        let line = short
+            .replace(alloc, "PASSED", PASSED)?
+            .replace(alloc, "FAILED", FAILED)?;
+        let read = RecordedLine::read(alloc, line.as_str())?;
+        assert_eq!(rt; read.text.as_str(), line.as_str());
+        assert!(rt; read.outputs.is_empty(), "of {short}");
+    }
+    Ok(())
+}
+
+// A stream that was captured with these bytes, or was not.
+fn assert_stream(rt: &impl Abort, stream: &Option<ChildSingleOutput>, want: Option<&[u8]>) {
+    assert_eq!(rt; stream.as_ref().map(|it| it.as_bytes()), want);
+}
+
+#[test]
+fn loads_outputs(rt: HostRuntime) -> Result<(), Fail> {
+    let alloc = rt.alloc();
+    let split: [(&str, &str, Option<&[u8]>, Option<&[u8]>, u64); 4] = [
+        (PASSED, FAILED, Some(b"passed\n"), Some(b"failed\n"), 14),
+        (FAILED, FAILED, Some(b"failed\n"), Some(b"failed\n"), 14),
+        (FAILED, "-", Some(b"failed\n"), None, 7),
+        ("", PASSED, Some(b""), Some(b"passed\n"), 7),
+    ];
+    for (first, second, want_stdout, want_stderr, count) in split {
+        let stored = StoredOutput::read("split", first, second).ok_or("an output")?;
+        let mut outputs = RecordedOutputs::new(OUTPUTS)?;
+        match stored.load(alloc, &mut outputs) {
+            Ok(ChildOutputDescription::Split { stdout, stderr }) => {
+                assert_stream(&rt, &stdout, want_stdout);
+                assert_stream(&rt, &stderr, want_stderr);
+            }
+            _ => return Err(Fail::from("two streams")),
+        }
+        assert_eq!(rt; outputs.bytes_read(), count);
+    }
+    let stored = StoredOutput::read("comb", FAILED, "-").ok_or("an output")?;
+    match stored.load(alloc, &mut RecordedOutputs::new(OUTPUTS)?) {
+        Ok(ChildOutputDescription::Combined { output }) => {
+            assert_eq!(rt; output.as_bytes(), b"failed\n".as_slice());
+        }
+        _ => return Err(Fail::from("one stream")),
+    }
+    Ok(())
+}
+
+#[test]
+fn tells_which_stream_is_damaged(rt: HostRuntime) -> Result<(), Fail> {
+    let past = "\\@8:7:74170928bae84bb0a107a0906596aa52";
+    let other = "\\@0:7:74170928bae84bb0a107a0906596aa52";
+    let rows = [
+        (
+            "split",
+            past,
+            PASSED,
+            StreamField::First,
+            LoadFault::PastEnd,
+            0,
+        ),
+        (
+            "split",
+            PASSED,
+            past,
+            StreamField::Second,
+            LoadFault::PastEnd,
+            7,
+        ),
+        (
+            "split",
+            other,
+            past,
+            StreamField::First,
+            LoadFault::WrongSum,
+            7,
+        ),
+        (
+            "split",
+            "-",
+            other,
+            StreamField::Second,
+            LoadFault::WrongSum,
+            7,
+        ),
+        (
+            "comb",
+            other,
+            "-",
+            StreamField::First,
+            LoadFault::WrongSum,
+            7,
+        ),
+    ];
+    for (form, first, second, stream, fault, count) in rows {
+        let output = StoredOutput::read(form, first, second).ok_or("an output")?;
+        let mut outputs = RecordedOutputs::new(OUTPUTS)?;
+        let loaded = output.load(rt.alloc(), &mut outputs);
+        assert_eq!(rt; loaded.err(), Some(StreamFault { stream, fault }));
+        assert_eq!(rt; outputs.bytes_read(), count);
+        let placed = PlacedOutput {
+            place: 0,
+            field: 14,
+            output,
+        };
+        let field = if stream == StreamField::First { 14 } else { 15 };
+        assert_eq!(rt; placed.field_of(stream), field);
+    }
+    Ok(())
+}
