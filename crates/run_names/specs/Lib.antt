@@ -1,4 +1,5 @@
 pub mod Aborts
+pub mod Boxes
 pub mod Displays
 pub mod ErrorChains
 pub mod Filters

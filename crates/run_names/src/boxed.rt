@@ -1,6 +1,7 @@
 //! Parts of a value that are rare and large, held apart so that the value itself stays small.
 
 ghost use Rattle.std.specs.Prelude.{◌≡◌, IfOk};
+ghost use Rattle.std.specs.Borrow.{sem};
 
 use crate::memory::OutOfMemory;
 use std::alloc::Global;
@@ -9,8 +10,10 @@ use std::marker::Model;
 /// A value with memory of its own. Contracts see the value.
 ///
 /// ```
-/// let boxed = Boxed::new(alloc, Nanos::from_secs(1))?;
+/// let mut boxed = Boxed::new(alloc, Nanos::from_secs(1))?;
 /// assert_eq!(*boxed.get(), Nanos::from_secs(1));
+/// *boxed.get_mut() = Nanos::from_secs(2);
+/// assert_eq!(*boxed.get(), Nanos::from_secs(2));
 /// ```
 #[derive(Debug, Drop)]
 pub struct Boxed<T> {
@@ -24,6 +27,8 @@ impl<T> Model for Boxed<T> {
 }
 
 impl<T: Drop> Boxed<T> {
+    ghost use Rattle.run_names.specs.Boxes.{LendsValue};
+
     /// Puts a value on the heap.
     pub fn new(alloc: Global, value: T) -> Result<Self, OutOfMemory>
         ensures { IfOk result (λ b. b ≡ value) }
@@ -38,6 +43,14 @@ impl<T: Drop> Boxed<T> {
         ensures { result.now ≡ self.now }
     {
         &*self.value
+    }
+
+    /// The value, which may be changed.
+    pub fn get_mut(&mut self) -> &mut T
+        ensures* lends { sem 𝓛 (LendsValue T.row self.entry result) }
+        ensures value { result.now ≡ self.old }
+    {
+        self.value.as_mut()
     }
 }
 

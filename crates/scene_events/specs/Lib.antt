@@ -1,6 +1,5 @@
 pub mod Configs
 pub mod EarlierAttempts
-pub mod Loadables
 pub mod Loads
 pub mod Moments
 pub mod PackedStats

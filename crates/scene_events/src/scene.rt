@@ -6,7 +6,6 @@ pub mod attempts;
 pub mod binary_id;
 pub mod event;
 pub mod info_events;
-pub mod loadable;
 pub mod outputs;
 pub mod packed_stats;
 pub mod replay_calls;

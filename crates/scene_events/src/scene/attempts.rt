@@ -4,8 +4,8 @@ ghost use Rattle.std.specs.Prelude.{◌≡◌, IfOk, OnErr, OnOk};
 ghost use Rattle.scene_events.specs.SceneAttempts.{empty_output};
 ghost use Rattle.scene_events.specs.SceneOutputs.{loaded, no_output};
 
-use super::loadable::Loadable;
 use super::outputs::SceneOutput;
+use run_model::boxed::Boxed;
 use run_model::memory::OutOfMemory;
 use run_model::output::{
     ChildExecutionOutputDescription, ChildOutputDescription, ChildSingleOutput, LiveSpec,
@@ -36,9 +36,9 @@ enum MoreAttempts {
     // Nothing: it is the only attempt, and wrote nothing, as most.
     Nothing,
     // It is the only attempt, and wrote this.
-    Output(Loadable<SceneOutput>),
+    Output(Boxed<SceneOutput>),
     // There are others before it.
-    Earlier(Loadable<EarlierAttempts>),
+    Earlier(Boxed<EarlierAttempts>),
 }
 
 // The attempts before the last one, and what that one wrote.
@@ -111,7 +111,7 @@ impl SceneAttempts {
                 attempts: earlier,
                 last_output: output,
             };
-            MoreAttempts::Earlier(Loadable::new(alloc, earlier)?)
+            MoreAttempts::Earlier(Boxed::new(alloc, earlier)?)
         };
         Ok(SceneAttempts {
             time_taken,
@@ -287,7 +287,7 @@ enum AttemptOutput {
     // Both streams were captured, and hold nothing.
     Empty,
     // All else.
-    Output(Loadable<SceneOutput>),
+    Output(Boxed<SceneOutput>),
 }
 
 impl AttemptOutput {
@@ -403,7 +403,7 @@ impl SceneAttempt {
         Ok(SceneAttempt {
             time_taken,
             result: outcome,
-            output: AttemptOutput::Output(Loadable::new(alloc, output)?),
+            output: AttemptOutput::Output(Boxed::new(alloc, output)?),
             retry_data,
             is_slow,
         })
@@ -469,10 +469,10 @@ impl SceneAttempt {
 fn loaded_output(
     alloc: Global,
     captured: ChildOutputDescription,
-) -> Result<Loadable<SceneOutput>, OutOfMemory>
+) -> Result<Boxed<SceneOutput>, OutOfMemory>
     ensures { IfOk result (λ output. output ≡ loaded no_output captured) }
 {
-    Loadable::new(
+    Boxed::new(
         alloc,
         SceneOutput::Output {
             output: captured,

@@ -4,7 +4,6 @@ ghost use Rattle.std.specs.Prelude.{◌≡◌, OnErr, OnOk};
 ghost use Rattle.scene_events.specs.Scenes.{IsPushed, PushesCallOf};
 
 use super::info_events::{InfoFinish, InfoStart, ScriptAnswer, TestAnswer};
-use super::loadable::Loadable;
 use super::replay_calls::{SceneHeader, push_prefix_call};
 use super::run_events::{RunCancel, RunFinish, RunPause, RunStart, StateRequest};
 use super::script_events::{SetupFinish, SetupStart, SlowSetup};
@@ -37,17 +36,17 @@ pub enum SceneEvent {
     /// A setup script runs longer than it should.
     SetupScriptSlow(Boxed<SlowSetup>),
     /// A setup script has finished.
-    SetupScriptFinished(Loadable<SetupFinish>),
+    SetupScriptFinished(Boxed<SetupFinish>),
     /// A test has started.
     TestStarted(Boxed<TestStart>),
     /// A test runs longer than it should.
     TestSlow(Boxed<SlowTest>),
     /// An attempt of a test has failed, and another one follows.
-    TestAttemptFailedWillRetry(Loadable<FailedAttempt>),
+    TestAttemptFailedWillRetry(Boxed<FailedAttempt>),
     /// Another attempt of a test has started.
     TestRetryStarted(Boxed<TestRetryStart>),
     /// A test has finished.
-    TestFinished(Loadable<TestFinish>),
+    TestFinished(Boxed<TestFinish>),
     /// A test is not to run.
     TestSkipped(Boxed<SceneTest>),
     /// The run is about to be cancelled: what runs is waited for, or ended.
@@ -61,9 +60,9 @@ pub enum SceneEvent {
     /// All units are asked what they are doing.
     InfoStarted(Boxed<InfoStart>),
     /// A setup script says what it is doing.
-    ScriptAnswered(Loadable<ScriptAnswer>),
+    ScriptAnswered(Boxed<ScriptAnswer>),
     /// A test says what it is doing.
-    TestAnswered(Loadable<TestAnswer>),
+    TestAnswered(Boxed<TestAnswer>),
     /// No further answers are waited for.
     InfoFinished(InfoFinish),
     /// The state of the run was asked for, by a key.

@@ -7,7 +7,6 @@ ghost use Rattle.scene_events.specs.States.{result_of};
 ghost use Rattle.scene_events.specs.declared.scene.event.SceneEvent.{SceneEvent};
 
 use super::event::{push_event, push_event_after};
-use super::loadable::Loadable;
 use super::outputs::SceneOutput;
 use super::script_events::SceneScript;
 use super::states::SceneState;
@@ -71,7 +70,7 @@ pub struct UnitAnswer {
     /// What it is doing.
     pub state: Boxed<SceneState>,
     /// What it has written so far.
-    pub output: Loadable<SceneOutput>,
+    pub output: Boxed<SceneOutput>,
 }
 
 /// No further answers are waited for.

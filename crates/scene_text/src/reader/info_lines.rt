@@ -14,7 +14,6 @@ use scene_events::scene::event::SceneEvent;
 use scene_events::scene::info_events::{
     InfoFinish, InfoStart, ScriptAnswer, TestAnswer, UnitAnswer,
 };
-use scene_events::scene::loadable::Loadable;
 use scene_fields::counts::read_stats;
 use scene_fields::fault::{LineError, LineFault};
 use scene_fields::fields::Fields;
@@ -63,7 +62,7 @@ pub fn read_answer_script(alloc: Global, fields: &mut Fields<'_>) -> Result<Scen
         script,
         answer,
     };
-    Ok(SceneEvent::ScriptAnswered(Loadable::new(alloc, answer)?))
+    Ok(SceneEvent::ScriptAnswered(Boxed::new(alloc, answer)?))
 }
 
 /// Reads an `answer-test` line: which answer it is of how many, the test, the attempt, and its answer.
@@ -87,7 +86,7 @@ pub fn read_answer_test(
         retry_data,
         answer,
     };
-    Ok(SceneEvent::TestAnswered(Loadable::new(alloc, answer)?))
+    Ok(SceneEvent::TestAnswered(Boxed::new(alloc, answer)?))
 }
 
 // Reads what a unit is doing, how the attempt ended, and what it has written so far.
@@ -100,6 +99,6 @@ fn read_answer(alloc: Global, fields: &mut Fields<'_>) -> Result<UnitAnswer, Lin
     let output = read_output(alloc, fields)?;
     Ok(UnitAnswer {
         state: Boxed::new(alloc, state)?,
-        output: Loadable::new(alloc, output)?,
+        output: Boxed::new(alloc, output)?,
     })
 }

@@ -7,7 +7,6 @@ use super::test_lines::read_attempt;
 use run_model::boxed::Boxed;
 use run_model::status::RetryData;
 use scene_events::scene::event::SceneEvent;
-use scene_events::scene::loadable::Loadable;
 use scene_events::scene::script_events::{SceneScript, SetupFinish, SetupStart, SlowSetup};
 use scene_fields::fault::LineError;
 use scene_fields::fields::Fields;
@@ -72,7 +71,7 @@ pub fn read_setup_done(alloc: Global, fields: &mut Fields<'_>) -> Result<SceneEv
         stress_index,
         script,
     };
-    Ok(SceneEvent::SetupScriptFinished(Loadable::new(alloc, finish)?))
+    Ok(SceneEvent::SetupScriptFinished(Boxed::new(alloc, finish)?))
 }
 
 /// Reads which script it is: its id, the program, and the program's arguments.

@@ -11,7 +11,6 @@ use run_model::status::{ExecutionResultDescription, FlakyResult, RetryData};
 use run_model::time::Nanos;
 use scene_events::scene::attempts::{SceneAttempt, SceneAttempts};
 use scene_events::scene::event::SceneEvent;
-use scene_events::scene::loadable::Loadable;
 use scene_events::scene::packed_stats::PackedStats;
 use scene_events::scene::test_events::{
     FailedAttempt, SceneTest, SlowTest, TestFinish, TestRetryStart, TestStart,
@@ -110,7 +109,7 @@ pub fn read_retry(
         delay_before_next_attempt,
         failure_output,
     };
-    Ok(SceneEvent::TestAttemptFailedWillRetry(Loadable::new(alloc, failed)?))
+    Ok(SceneEvent::TestAttemptFailedWillRetry(Boxed::new(alloc, failed)?))
 }
 
 /// Reads a `done` line: the test, when the output of a success and of a failure is shown, what a
@@ -137,7 +136,7 @@ pub fn read_done(
         attempts,
         current_stats: PackedStats::new(alloc, current_stats)?,
     };
-    Ok(SceneEvent::TestFinished(Loadable::new(alloc, finish)?))
+    Ok(SceneEvent::TestFinished(Boxed::new(alloc, finish)?))
 }
 
 /// Reads a `skip` line: the test.
