@@ -1,0 +1,95 @@
+-- The event that a replay makes of one whose outputs are stored.
+use Rattle.std.specs.Prelude.{◌≡◌, ℕ, ◌+◌, List, [], ◌∷◌, length, Bool, true, false, not, nat_le, if◌then◌else◌, Option, None, Some, Result, Ok, Err, ⊤}
+use Rattle.std.specs.Option.{is_some, option_or}
+use Rattle.run_model.specs.declared.output.ChildOutputDescription.{ChildOutputDescription}
+use Rattle.run_model.specs.declared.output.ChildOutputDescription.TheVariants as captured
+use Rattle.recorded_outputs.specs.Outputs.{bytes_at}
+use Rattle.recorded_outputs.specs.References.{end_of}
+use Rattle.recorded_lines.specs.Lines.{field_of}
+use Rattle.recorded_lines.specs.Loads.{captured_stream_at, stream_in_field}
+use Rattle.recorded_lines.specs.declared.line.PlacedOutput.{PlacedOutput}
+use Rattle.recorded_lines.specs.declared.stored.StoredOutput.{StoredOutput}
+use Rattle.recorded_lines.specs.declared.stored.StoredOutput.TheVariants.{Split, Combined}
+use Rattle.recorded_lines.specs.declared.stored.StoredStream.{StoredStream}
+use Rattle.recorded_lines.specs.declared.stored.StoredStream.TheVariants.{NotCaptured, Empty, At}
+use Rattle.recorded_lines.specs.declared.stored.StreamField.TheVariants.{First, Second}
+use Rattle.reporter_state.specs.declared.decider.OutputLoadDecider.{OutputLoadDecider}
+use Rattle.scene_events.specs.Loads.{event_with}
+use Rattle.scene_events.specs.declared.scene.event.SceneEvent.{SceneEvent}
+use Rattle.scene_fields.specs.declared.fault.LineFault.{LineFault}
+use Rattle.scene_fields.specs.declared.fault.LineFault.TheVariants.{BadField}
+use Rattle.recorded_events.specs.Skips.{skips}
+use Rattle.recorded_events.specs.declared.load.LoadEventFault.{LoadEventFault}
+use Rattle.recorded_events.specs.declared.load.LoadEventFault.TheVariants as fault
+
+-- the bytes of a stream at its place among all outputs, whatever their sum
+abbrev pub stream_inline : List ℕ → StoredStream → Option (List ℕ)
+stream_inline all NotCaptured = None
+stream_inline all Empty = Some []
+stream_inline all (At reference) = Some (bytes_at all reference)
+
+abbrev pub output_inline : List ℕ → StoredOutput → ChildOutputDescription
+output_inline all (Split stdout stderr) = captured.Split (stream_inline all stdout) (stream_inline all stderr)
+output_inline all (Combined reference) = captured.Combined (bytes_at all reference)
+
+-- an event with these outputs in it
+abbrev pub event_inline : List ℕ → List PlacedOutput → SceneEvent → SceneEvent
+event_inline all [] event = event
+event_inline all (p ∷ ps) event = event_inline all ps (event_with p.place (output_inline all p.output) event)
+
+-- whether all bytes of a stream are there, and whether they are those that were recorded
+abbrev pub is_there : List ℕ → StoredStream → Bool
+is_there all NotCaptured = true
+is_there all Empty = true
+is_there all (At reference) = nat_le (end_of reference) (length all)
+
+abbrev pub is_undamaged : List ℕ → StoredStream → Bool
+is_undamaged all stream = is_some (captured_stream_at all stream)
+
+-- the field of an output's first stream that is not so
+abbrev pub field_not : (StoredStream → Bool) → PlacedOutput → Option ℕ
+field_not so p =
+    if not (so (stream_in_field First p.output)) then Some (field_of p First)
+    else (if not (so (stream_in_field Second p.output)) then Some (field_of p Second) else None)
+
+-- the first such field of a line
+abbrev pub first_field_not : (StoredStream → Bool) → List PlacedOutput → Option ℕ
+first_field_not so [] = None
+first_field_not so (p ∷ ps) = option_or (field_not so p) (first_field_not so ps)
+
+-- an event, unless a field of its line is bad
+abbrev pub unless_bad : Option ℕ → Result SceneEvent LineFault → Result SceneEvent LineFault
+unless_bad (Some field) event = Err (BadField field)
+unless_bad None event = event
+
+-- what a replay makes of an event: its outputs must be there, and where its report shows them, they are in it, and must be those that were
+-- recorded
+unfoldable pub event_replayed : List ℕ → OutputLoadDecider → List PlacedOutput → SceneEvent → Result SceneEvent LineFault
+event_replayed all d stored event =
+    unless_bad (first_field_not (is_there all) stored)
+        (if skips d event then Ok event else unless_bad (first_field_not (is_undamaged all) stored) (Ok (event_inline all stored event)))
+
+-- that was made, or is the fault, unless the outputs cannot be read or memory was refused
+abbrev pub IsReplayed : List ℕ → OutputLoadDecider → List PlacedOutput → SceneEvent → Result ⊤ LoadEventFault → SceneEvent → Type 0
+IsReplayed all d stored old (Ok x) new = event_replayed all d stored old ≡ Ok new
+IsReplayed all d stored old (Err (fault.BadField field)) new = event_replayed all d stored old ≡ Err (BadField field)
+IsReplayed all d stored old (Err (fault.CannotRead kind)) new = ⊤
+IsReplayed all d stored old (Err fault.OutOfMemory) new = ⊤
+
+-- how many bytes a stream and an output have, and all outputs together
+abbrev pub stream_len : StoredStream → ℕ
+stream_len NotCaptured = 0
+stream_len Empty = 0
+stream_len (At reference) = reference.len
+
+abbrev pub output_len : StoredOutput → ℕ
+output_len (Split stdout stderr) = stream_len stdout + stream_len stderr
+output_len (Combined reference) = reference.len
+
+abbrev pub outputs_len : List PlacedOutput → ℕ
+outputs_len [] = 0
+outputs_len (p ∷ ps) = output_len p.output + outputs_len ps
+
+-- how many bytes are read for an event: all of its outputs, or none. No output is looked at
+abbrev pub needed_of : OutputLoadDecider → SceneEvent → List PlacedOutput → ℕ
+needed_of d event stored = if skips d event then 0 else outputs_len stored

@@ -1,0 +1,101 @@
+//! A recorded run as a source of lines.
+
+ghost use Rattle.std.specs.Prelude.{◌≡◌, ℕ, List, Option, None, Some, IfErr, IfOk, OnOk};
+ghost use Rattle.std.specs.Io.Buffered.{reader_remaining};
+ghost use Rattle.recorded_outputs.specs.Outputs.{counted};
+ghost use Rattle.recorded_runs.specs.Runs.{lines_inline, lines_replayed, needed_bytes, replayed};
+ghost use Rattle.recorded_runs.specs.Source.{IsLeft};
+ghost use Rattle.scene_text.specs.SceneTexts.{no_lines};
+ghost use Rattle.scenes.specs.Follow.{PrintsFollowed, StopsBy};
+ghost use Rattle.scenes.specs.ParsedScenes.{OfLines};
+ghost use Rattle.scenes.specs.SpelledRuns.{BeginsParsed, PrintsParsed};
+
+use recorded_events::load::{LoadEventFault, load_outputs};
+use recorded_lines::line::{PlacedOutput, RecordedLine};
+use recorded_outputs::outputs::RecordedOutputs;
+use recorded_outputs::read_at::ReadAt;
+use scene_text::reader::LinesRead;
+use scenes::args::Options;
+use scenes::fault::{Fault, LineFault};
+use scenes::follow::{RunOutcome, follow_source};
+use scenes::read::RunSource;
+use scenes::reporter::decider_of;
+use std::alloc::Global;
+use std::io::{BufRead, BufReader, Read, Write};
+
+/// How many bytes are read of the lines at once.
+const BYTES_AT_ONCE: usize = 16_384;
+
+/// A recorded run: its lines, and its outputs, which are read only where the report shows them.
+#[derive(Drop)]
+pub struct RecordedRun<'a, R, O: ReadAt> {
+    options: Options<'a>,
+    reader: BufReader<R>,
+    line: Vec<u8>,
+    outputs: RecordedOutputs<O>,
+}
+
+impl<'a, R: Read + Drop, O: ReadAt + Drop> RecordedRun<'a, R, O> {
+    /// The run whose lines this reader has, and whose outputs these are. It is reported as nextest shows a recorded run, whether or not the
+    /// options say so.
+    pub fn new(
+        alloc: Global,
+        options: Options<'a>,
+        reader: R,
+        outputs: RecordedOutputs<O>,
+    ) -> Result<RecordedRun<'a, R, O>, OutOfMemory>
+        ensures options { IfOk result (λ run. run.options ≡ replayed options) }
+        ensures lines { IfOk result (λ run. reader_remaining R.remaining run.reader ≡ R.remaining reader) }
+        ensures outputs { IfOk result (λ run. run.outputs ≡ outputs.entry) }
+    {
+    }
+
+    /// How many bytes of outputs were read. It stays at `u64::MAX` where it would pass that.
+    pub fn bytes_read(&self) -> u64
+        ensures { result ≡ self.now.outputs.bytes_read }
+    {
+        self.outputs.bytes_read()
+    }
+
+    /// Prints the report of the run, each line of it once it was read, and its records to a second device, if the options ask for them. Both
+    /// devices are given back.
+    ///
+    /// On `Ok` the first device has what `follow` prints of the scene in which every output stands in its place (`ok`), and the outputs that
+    /// the report does not show were not read (`reads`). The error is that of the first line that is wrong; the report of the lines before it
+    /// stands.
+    pub fn replay<W: Write, S: Write>(
+        &mut self,
+        alloc: Global,
+        writer: W,
+        store_writer: S,
+    ) -> (Result<RunOutcome, Fault<'a>>, W, S)
+        ensures ok { (text all : List ℕ) → reader_remaining R.remaining self.old.reader ≡ Some text → O.recorded self.old.outputs.source ≡ Some all → IfOk result.0 (λ come_to.
+            OfLines (lines_inline all text) (PrintsFollowed self.old.options come_to (W.contents writer) (W.contents result.1) (S.contents store_writer) (S.contents result.2))) }
+        ensures err { (text all : List ℕ) → reader_remaining R.remaining self.old.reader ≡ Some text → O.recorded self.old.outputs.source ≡ Some all → IfErr result.0 (StopsBy self.old.options (lines_replayed self.old.options all text)
+            (λ run. PrintsParsed self.old.options run (W.contents writer) (W.contents result.1) (S.contents store_writer) (S.contents result.2))
+            (λ run fault. BeginsParsed self.old.options run fault (W.contents writer) (W.contents result.1) (S.contents store_writer) (S.contents result.2))) }
+        ensures reads { (text all : List ℕ) → reader_remaining R.remaining self.old.reader ≡ Some text → O.recorded self.old.outputs.source ≡ Some all → IfOk result.0 (λ _.
+            self.new.outputs.bytes_read ≡ counted self.old.outputs.bytes_read (needed_bytes self.old.options text)) }
+        ensures no_store { self.old.options.store ≡ None → result.2 ≡ store_writer }
+    {
+        let options = self.options;
+        follow_source(alloc, &options, self, writer, store_writer)
+    }
+}
+
+impl<'o, R: Read, O: ReadAt + Drop> RunSource for RecordedRun<'o, R, O> {
+    ghost left = { λ in_all run. IsLeft in_all run.options (O.recorded run.outputs.source) (reader_remaining R.remaining run.reader) run.outputs.bytes_read };
+
+    fn read_next<'a>(
+        &mut self,
+        alloc: Global,
+        file: &'a str,
+        read: &mut LinesRead,
+    ) -> Result<bool, Fault<'a>> {
+        if !next_line(file, &mut self.reader, &mut self.line)? {
+            return Ok(false);
+        }
+        read_line(alloc, file, &self.options, self.line.as_slice(), &mut self.outputs, read)?;
+        Ok(true)
+    }
+}
