@@ -1,12 +1,14 @@
 -- What a replay prints is the report of the run with every output in its place (for `RecordedRun::replay`).
-use Rattle.std.proofs.Common.{◌≡◌, ℕ, List, [], ◌∷◌, ◌++◌, map, reverse, Option, refl, sym, ap, ◌∙◌, subst, inl, inr}
+use Rattle.std.proofs.Common.{◌≡◌, ℕ, ◌^◌, ◌-◌, ◌≤◌, List, [], ◌∷◌, reverse, Option, Result, Ok, Err, IfOk, OnOk, refl, sym, ap, ◌∙◌, subst, inl, inr}
 use Rattle.std.specs.Io.KnownBytes.{Appends}
 use Rattle.std.specs.List.{AllZip}
-use Rattle.std.proofs.lemmas.List.{map-append, reverse-append}
 use Rattle.command_line.specs.declared.args.Options.{Options}
+use Rattle.command_line.specs.declared.fault.Fault.{Fault}
 use Rattle.console_reporter.proofs.lemmas.Isolation.{isolated}
 use Rattle.recorded_events.proofs.lemmas.Skipped.{skipped_call}
 use Rattle.recorded_runs.specs.Runs.{lines_inline, lines_replayed, whole_lines}
+use Rattle.recorded_runs.specs.Source.{IsLeft}
+use Rattle.recorded_runs.proofs.lemmas.Counts.{read_all}
 use Rattle.recorded_runs.proofs.lemmas.Inline.{AreInline, IsInline, go_on}
 use Rattle.reporter_state.specs.Refusals.{first_refused}
 use Rattle.reporter_state.specs.Unread.{unread, unread_call}
@@ -14,12 +16,11 @@ use Rattle.reporter_state.specs.declared.decider.OutputLoadDecider.{OutputLoadDe
 use Rattle.run_model.specs.declared.call.ReportCall.{ReportCall}
 use Rattle.scene_events.specs.Scenes.{IsCallOf}
 use Rattle.scene_events.specs.declared.scene.event.SceneEvent.{SceneEvent}
-use Rattle.scene_text.specs.SceneTexts.{ParsedLines, no_lines}
+use Rattle.scene_text.specs.SceneTexts.{ParsedLines, RunLine, no_lines}
 use Rattle.scenes.specs.Follow.{PrintsFollowed}
 use Rattle.scenes.specs.Outcomes.{run_outcome}
 use Rattle.scenes.specs.ParsedScenes.{OfLines}
 use Rattle.scenes.specs.Reports.{configuration_for, report_of, stored_of}
-use Rattle.scenes.specs.SpelledRuns.{PrintsParsed}
 use Rattle.scenes.specs.Unloads.{decider_for}
 use Rattle.scenes.specs.declared.outcome.RunOutcome.{RunOutcome}
 use Rattle.scenes.proofs.lemmas.ReadyCalls.{outcome_unread}
@@ -84,3 +85,14 @@ pub replay_prints : (options : Options) (all text : List ℕ) (come_to : RunOutc
 replay_prints options all text come_to old new store_old store_new h =
     let go = go_on options all 1 (whole_lines text) no_lines no_lines h.run (record { config = refl; events = tt }) h.spelled in
     record { run = go.all_inline; spelled = go.reads; holds = prints_inline options all h.run go.all_inline go.are come_to old new store_old store_new h.holds }
+
+-- where it came to its end
+pub prints_on_ok : (options : Options) (all text : List ℕ) (old new store_old store_new : Option (List ℕ)) (r : Result RunOutcome Fault) →
+    IfOk r (λ come_to. OfLines (lines_replayed options all text) (PrintsFollowed options come_to old new store_old store_new)) → IfOk r (λ come_to. OfLines (lines_inline all text) (PrintsFollowed options come_to old new store_old store_new))
+prints_on_ok options all text old new store_old store_new (Ok come_to) h = replay_prints options all text come_to old new store_old store_new h
+prints_on_ok options all text old new store_old store_new (Err f) h = tt
+
+pub reads_on_ok : (in_all : ℕ) (options : Options) (recorded remaining : Option (List ℕ)) (bytes_read : ℕ) (lines : List RunLine) → bytes_read ≤ 2 ^ 64 - 1 → (r : Result RunOutcome Fault) →
+    OnOk r (OfLines lines (λ run. IsLeft in_all options recorded remaining bytes_read run [])) → IfOk r (λ come_to. bytes_read ≡ in_all)
+reads_on_ok in_all options recorded remaining bytes_read lines fits (Ok come_to) h = read_all in_all options recorded remaining bytes_read h.run fits h.holds
+reads_on_ok in_all options recorded remaining bytes_read lines fits (Err f) h = tt
