@@ -1,2 +1,5 @@
-pub mod WholeLines
+pub mod Counts
+pub mod Inline
+pub mod Reports
 pub mod UnreadTexts
+pub mod WholeLines
