@@ -1,5 +1,7 @@
 pub mod Counts
 pub mod Inline
+pub mod LoadedLines
+pub mod ReplayedLines
 pub mod Reports
 pub mod UnreadTexts
 pub mod WholeLines

@@ -1,5 +1,5 @@
 -- The next line of a recorded run, and what is left where it is wrong.
-use Rattle.std.specs.Prelude.{◌≡◌, ◌⊎◌, ℕ, Bool, true, false, List, [], ◌∷◌, ◌++◌, length, take, Option, Some}
+use Rattle.std.specs.Prelude.{◌≡◌, ◌⊎◌, ℕ, ◌+◌, Bool, true, false, List, [], ◌∷◌, ◌++◌, length, take, Option, Some}
 use Rattle.command_line.specs.Faults.{fault_of_read}
 use Rattle.command_line.specs.Pieces.{IsUnread}
 use Rattle.command_line.specs.declared.args.Options.{Options}
@@ -43,11 +43,12 @@ pub record KeepsRead (old new : LinesRead) : Type 0 where
   pub lines : (base : List SceneEvent) → is_begun base ≡ old.is_begun → take (length old.run.lines.items) new.run.lines.items ≡ old.run.lines.items
   pub begun : new.is_begun ≡ old.is_begun
 
--- the bytes that a line of this text with these stored outputs needs behind those that were read, and no others, were read
+-- of a line of this text with these stored outputs, behind those that were read, the bytes that it needs were read and no others: the count goes
+-- on from the old one with as many more
 abbrev pub IsCounted : Options → LinesRead → List ℕ → List PlacedOutput → ℕ → ℕ → Type 0
 IsCounted options read text stored old new =
-    (base : List SceneEvent) → is_begun base ≡ read.is_begun →
-        new ≡ counted old (needed_for options (lines_before (lines_after base (parsed_lines read.run))) stored (parsed_line (lines_before (lines_after base (parsed_lines read.run))) text))
+    (base : List SceneEvent) → is_begun base ≡ read.is_begun → (more : ℕ) →
+        counted new more ≡ counted old (needed_for options (lines_before (lines_after base (parsed_lines read.run))) stored (parsed_line (lines_before (lines_after base (parsed_lines read.run))) text) + more)
 
 -- the fault of the line of this number whose outputs were not loaded
 abbrev pub IsFaultOfLoad : List ℕ → ℕ → LoadEventFault → Fault → Type 0

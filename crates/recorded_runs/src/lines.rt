@@ -1,6 +1,6 @@
 //! The lines of a recorded run. One is read at a time, with the outputs that its report shows.
 
-ghost use Rattle.std.specs.Prelude.{◌≡◌, ℕ, List, [], ◌∷◌, Some, IfErr, IfOk, OnOk};
+ghost use Rattle.std.specs.Prelude.{◌≡◌, ℕ, List, [], ◌∷◌, Some, IfErr, IfOk, OnErr, OnOk};
 ghost use Rattle.std.specs.Cow.{cow_str_bytes};
 ghost use Rattle.std.specs.Io.Buffered.{reader_remaining};
 ghost use Rattle.command_line.specs.Faults.{IsJudgeFault};
@@ -115,7 +115,7 @@ fn read_and_load<'a, O: ReadAt + Drop>(
         → ReadsLines read.old read.new (loaded_line options.now all (cow_str_bytes recorded.now.text) recorded.now.outputs.items ∷ [])) }
     ensures left { IfErr result (λ fault. (all : List ℕ) → O.recorded outputs.old.source ≡ Some all → text_lines (cow_str_bytes recorded.now.text) ≡ plain_line (cow_str_bytes recorded.now.text) ∷ []
         → IsLineFault file.now read.old (loaded_line options.now all (cow_str_bytes recorded.now.text) recorded.now.outputs.items) fault) }
-    ensures still { KeepsRead read.old read.new }
+    ensures still { OnErr result (KeepsRead read.old read.new) }
     ensures fault { IfErr result (IsJudgeFault file.now) }
     ensures kept { O.recorded outputs.new.source ≡ O.recorded outputs.old.source }
     ensures count { OnOk result (text_lines (cow_str_bytes recorded.now.text) ≡ plain_line (cow_str_bytes recorded.now.text) ∷ []

@@ -6,10 +6,10 @@ use Rattle.std.proofs.lemmas.Bool.{cases_Bool}
 use Rattle.scene_fields.specs.Split.{Lacks, split_on}
 use Rattle.scene_fields.proofs.lemmas.Cuts.{split_on-lacks}
 use Rattle.scene_text.specs.SceneTexts.{RunLine, plain_line, text_lines}
-use Rattle.recorded_lines.specs.Lines.{outputs_start, unread_fields, unread_groups, unread_output, unread_text}
+use Rattle.recorded_lines.specs.Lines.{outputs_start, stored_outputs, unread_fields, unread_groups, unread_output, unread_text}
 use Rattle.recorded_lines.specs.Stored.{stored_output_in}
 use Rattle.recorded_lines.specs.declared.stored.StoredOutput.{StoredOutput}
-use Rattle.recorded_runs.specs.Runs.{line_unread}
+use Rattle.recorded_runs.specs.Runs.{line_unread, stored_in}
 
 -- no field has a line feed
 abbrev EachLacks : List (List ℕ) → Type 0
@@ -76,3 +76,16 @@ line_lacks t false is h = rw is h
 -- so it is a line by itself
 pub one_line : (t : List ℕ) → Lacks 10 t → text_lines (line_unread t) ≡ plain_line (line_unread t) ∷ []
 one_line t h = ap (map plain_line) (split_on-lacks 10 (line_unread t) (line_lacks t (is_utf8 t) refl h))
+
+-- what stands in a line that is a text, and in one that is none
+pub text_unread : (t : List ℕ) → is_utf8 t ≡ true → line_unread t ≡ unread_text t
+text_unread t is = rw is refl
+
+pub text_stored : (t : List ℕ) → is_utf8 t ≡ true → stored_in t ≡ stored_outputs (split_on 9 t)
+text_stored t is = rw is refl
+
+pub bytes_unread : (t : List ℕ) → is_utf8 t ≡ false → line_unread t ≡ t
+bytes_unread t is = rw is refl
+
+pub bytes_stored : (t : List ℕ) → is_utf8 t ≡ false → stored_in t ≡ []
+bytes_stored t is = rw is refl
