@@ -1,5 +1,6 @@
 pub mod Counts
 pub mod Inline
+pub mod LeftLines
 pub mod LoadedLines
 pub mod ReplayedLines
 pub mod Reports

@@ -1,5 +1,11 @@
 -- A line of a recorded run, which says where its outputs are stored (for `read_line`).
-use Rattle.std.proofs.Common.{◌≡◌, ℕ, List, [], ◌∷◌, refl, sym, ap, ◌∙◌, subst, inl, inr}
+use Rattle.std.proofs.Common.{◌≡◌, ℕ, Bool, true, List, [], ◌∷◌, Option, Some, Result, Ok, Err, length, refl, sym, ap, ◌∙◌, subst, arith, inl, inr, ◌==◌}
+use Rattle.std.proofs.lemmas.Bool.Decides.{nat_tests}
+use Rattle.std.proofs.lemmas.List.{nil_from_length}
+use Rattle.std.specs.Result.{IfErr, IsErr, IsErrAnd, OnOk}
+use Rattle.command_line.specs.Pieces.{IsUnread}
+use Rattle.command_line.specs.declared.fault.Fault.TheVariants as program
+use Rattle.scene_text.proofs.lemmas.Tellings.{reads_none}
 use Rattle.command_line.specs.Faults.{fault_of_read}
 use Rattle.command_line.specs.declared.args.Options.{Options}
 use Rattle.command_line.specs.declared.fault.Fault.{Fault}
@@ -30,6 +36,23 @@ module _ (options : Options) (t text : List ℕ) (text_is : line_unread t ≡ te
   pub replayed_counted : (old_count new_count : ℕ) → IsCounted options old text stored old_count new_count → IsCounted options old (line_unread t) (stored_in t) old_count new_count
   replayed_counted old_count new_count counted = subst (λ u. IsCounted options old u (stored_in t) old_count new_count) (sym text_is) (subst (λ s. IsCounted options old text s old_count new_count) (sym stored_is) counted)
 
+  -- as the clauses of its call say it
+  module _ {T : Type 0} (recorded : Option (List ℕ)) where
+    pub if_read : (r : Result T Fault) → OnOk r ((all : List ℕ) → recorded ≡ Some all → text_lines text ≡ plain_line text ∷ [] → ReadsLines old new (loaded_line options all text stored ∷ [])) →
+        OnOk r ((all : List ℕ) → recorded ≡ Some all → Lacks 10 t → ReadsLines old new (line_replayed options all t ∷ []))
+    if_read (Ok x) h = λ all known lacks. replayed_reads all (h all known (is_alone lacks))
+    if_read (Err fault) h = tt
+
+    pub if_left : (file : List ℕ) (r : Result T Fault) → IfErr r (λ fault. (all : List ℕ) → recorded ≡ Some all → text_lines text ≡ plain_line text ∷ [] → LeavesLine file old new (loaded_line options all text stored) fault) →
+        IfErr r (λ fault. (all : List ℕ) → recorded ≡ Some all → Lacks 10 t → LeavesLine file old new (line_replayed options all t) fault)
+    if_left file (Ok x) h = tt
+    if_left file (Err fault) h = λ all known lacks. replayed_leaves all file fault (h all known (is_alone lacks))
+
+    pub if_counted : (old_count new_count : ℕ) (r : Result T Fault) → OnOk r (text_lines text ≡ plain_line text ∷ [] → IsCounted options old text stored old_count new_count) →
+        OnOk r ((all : List ℕ) → recorded ≡ Some all → Lacks 10 t → IsCounted options old (line_unread t) (stored_in t) old_count new_count)
+    if_counted old_count new_count (Ok x) h = λ all known lacks. replayed_counted old_count new_count (h (is_alone lacks))
+    if_counted old_count new_count (Err fault) h = tt
+
 -- one that stores nothing is read as it stands
 module _ (options : Options) (t text : List ℕ) (text_is : line_unread t ≡ text) (nothing : stored_in t ≡ []) (lacks : Lacks 10 t) (old new : LinesRead) where
   pub plain_replayed : (all : List ℕ) → ReadsLines old new (text_lines text) → ReadsLines old new (line_replayed options all t ∷ [])
@@ -41,3 +64,14 @@ module _ (options : Options) (t text : List ℕ) (text_is : line_unread t ≡ te
 
 pub nothing_counted : (options : Options) (t text : List ℕ) → line_unread t ≡ text → stored_in t ≡ [] → (old : LinesRead) (count : ℕ) → IsCounted options old (line_unread t) (stored_in t) count count
 nothing_counted options t text text_is nothing old count = replayed_counted options t text text_is [] nothing old old count count (plain_counted options [] text old count)
+
+pub none_in : (ps : List PlacedOutput) (size : ℕ) (none : Bool) → none ≡ (size == 0) → none ≡ true → size ≡ length ps → ps ≡ []
+none_in ps size none says is same =
+    let zero_size : size ≡ 0 = (let tested = sym says ∙ is in grind (arith, nat_tests, tested)) in
+    nil_from_length ps (sym same ∙ zero_size)
+
+-- its references were not taken out of it
+pub not_recorded : {T : Type 0} (r : Result T Fault) (recorded : Option (List ℕ)) (t file : List ℕ) (read : LinesRead) (options : Options) → IsErr r × IsErrAnd r (λ fault. fault ≡ program.OutOfMemory) →
+    IfErr r (λ fault. (all : List ℕ) → recorded ≡ Some all → Lacks 10 t → LeavesLine file read read (line_replayed options all t) fault)
+not_recorded (Ok x) recorded t file read options is = tt
+not_recorded (Err fault) recorded t file read options is = λ all known lacks. inl (subst (IsUnread file) (sym is.1) tt, reads_none read)
