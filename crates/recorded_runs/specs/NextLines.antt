@@ -48,7 +48,7 @@ pub record KeepsRead (old new : LinesRead) : Type 0 where
 abbrev pub IsCounted : Options → LinesRead → List ℕ → List PlacedOutput → ℕ → ℕ → Type 0
 IsCounted options read text stored old new =
     (base : List SceneEvent) → is_begun base ≡ read.is_begun → (more : ℕ) →
-        counted new more ≡ counted old (needed_for options (lines_before (lines_after base (parsed_lines read.run))) stored (parsed_line (lines_before (lines_after base (parsed_lines read.run))) text) + more)
+    counted new more ≡ counted old (needed_for options (lines_before (lines_after base (parsed_lines read.run))) stored (parsed_line (lines_before (lines_after base (parsed_lines read.run))) text) + more)
 
 -- the fault of the line of this number whose outputs were not loaded
 abbrev pub IsFaultOfLoad : List ℕ → ℕ → LoadEventFault → Fault → Type 0

@@ -128,7 +128,13 @@ fn read_and_load<'a, O: ReadAt + Drop>(
     }
     let decider = decider_of(alloc, options, &read.run.config)?;
     let stored = recorded.outputs.as_slice();
-    match load_outputs(alloc, &decider, stored, outputs, &mut read.run.events[place]) {
+    match load_outputs(
+        alloc,
+        &decider,
+        stored,
+        outputs,
+        &mut read.run.events[place],
+    ) {
         Ok(()) => Ok(()),
         Err(fault) => Err(fault_of_load(file, number, fault)),
     }

@@ -155,5 +155,5 @@ module _ (file : List ℕ) (in_all : ℕ) (options : Options) (all front : List 
               let l = h.2 in
               further new l.front (l.rest ++ others) (left_is ∙ ap (λ ls. ls ++ others) l.whole ∙ append_assoc l.front l.rest others) l.reads (Err told) Next
               (inr (h.0, h.1, next_fault new.next (behind before.events new) l.rest others h.0 (l.wrong before.events has.begun)))
-          )
+              )
         ]

@@ -84,10 +84,10 @@ adds before (t ∷ ts) after h =
 pub keeps_read : (old new : LinesRead) (ts : List RunLine) → ReadsLines old new ts → KeepsRead old new
 keeps_read old new ts reads = record {
   events = λ base is. (
-    let more = adds (behind base old) ts (behind base new) (reads.tells base is) in
-    let added : new.run.events.items ≡ old.run.events.items ++ more.0 = append_cancel_left base new.run.events.items (old.run.events.items ++ more.0) (more.1 ∙ append_assoc base old.run.events.items more.0) in
-    ap (take (length old.run.events.items)) added ∙ take-append_seam old.run.events.items more.0
-  );
+      let more = adds (behind base old) ts (behind base new) (reads.tells base is) in
+      let added : new.run.events.items ≡ old.run.events.items ++ more.0 = append_cancel_left base new.run.events.items (old.run.events.items ++ more.0) (more.1 ∙ append_assoc base old.run.events.items more.0) in
+      ap (take (length old.run.events.items)) added ∙ take-append_seam old.run.events.items more.0
+      );
   lines = λ base is. ap (take (length old.run.lines.items)) (reads.noted base is) ∙ take-append_seam old.run.lines.items (event_lines old.next (behind base old) ts);
   begun = reads.begun;
 }
@@ -116,13 +116,17 @@ pub leaves_next : (file : List ℕ) (old new : LinesRead) (line : RunLine) (f : 
 leaves_next file old new line f reads (inl is) = inl (is, reads)
 leaves_next file old new line f reads (inr (g, is, next)) =
     let here : new.next ≡ old.next = omega (arith, reads.place) in
-    inr (g, is, record {
-      front = [];
-      rest = line ∷ [];
-      whole = refl;
-      reads = reads;
-      wrong = λ base begun. subst (λ run. IsNextFault new.next run (line ∷ []) g) (reads.tells base begun) (subst (λ n. IsNextFault n (behind base old) (line ∷ []) g) (sym here) (next base begun));
-    })
+    inr (
+      g,
+      is,
+      record {
+        front = [];
+        rest = line ∷ [];
+        whole = refl;
+        reads = reads;
+        wrong = λ base begun. subst (λ run. IsNextFault new.next run (line ∷ []) g) (reads.tells base begun) (subst (λ n. IsNextFault n (behind base old) (line ∷ []) g) (sym here) (next base begun));
+      },
+    )
 
 -- what a line says without its outputs
 wrong_event : (make : SceneEvent → Result SceneEvent LineFault) (says : Result ParsedLine LineFault) (f : LineFault) → with_event (λ e. Ok e) says ≡ Err f → with_event make says ≡ Err f
@@ -386,8 +390,8 @@ module _ (options : Options) (text : List ℕ) (stored : List PlacedOutput) (old
       loaded_reads = reads_one old new (loaded_line options all text stored)
           (λ base is. value_is base is all (Ok made) loaded ∙ ap Ok (same_run base is))
           (λ base is. (
-            let one = one_noted old.next (behind base old) (plain_line text) (behind base mid) (one_read old mid (plain_line text) reads base is) in
-            lines ∙ reads.noted base is ∙ ap (λ ls. old.run.lines.items ++ ls) (one ∙ here_so old.next (behind base old) (behind base mid) (behind base new) (sym (same_size base is)))
+          let one = one_noted old.next (behind base old) (plain_line text) (behind base mid) (one_read old mid (plain_line text) reads base is) in
+          lines ∙ reads.noted base is ∙ ap (λ ls. old.run.lines.items ++ ls) (one ∙ here_so old.next (behind base old) (behind base mid) (behind base new) (sym (same_size base is)))
           ))
           (begun ∙ reads.begun)
           (omega (arith, next, reads.place))

@@ -84,7 +84,7 @@ module _ (text taken line : List ℕ) (rest : Option (List ℕ)) (known : rest �
           | inl h ↦ (
               let same : h.line ≡ line = append_cancel_right h.line line (10 ∷ []) (sym h.taken ∙ sym is ∙ ends_so) in
               (drop_through 10 text, known, subst (λ l. text ≡ l ++ 10 ∷ drop_through 10 text) same h.whole, subst (Lacks 10) same h.lacks)
-          )
+              )
           | inr h ↦ absurd (feed_at_end line (subst (Lacks 10) (sym h.taken ∙ sym is ∙ ends_so) h.lacks))
         ]
 

@@ -16,7 +16,7 @@ pub returns-in_err-read_more-clause-left : goal.returns-in_err-read_more-clause-
 returns-in_err-read_more-clause-left g c =
     let none = utf8_fails _ c.in_default.ensures.cases.0 in
     at_error c.from_residual.result c.in_err-read_more.field-0.0 _ c.from_residual.ensures.1 (λ fault is all known lacks.
-      plain_left c.args.options.now c.args.line.now c.args.line.now (bytes_unread _ none) (bytes_stored _ none) lacks c.args.read.now c.read_more.new.self all c.args.file.now c.in_err-read_more.field-0.0 fault is c.in_err-read_more.ensures.left)
+    plain_left c.args.options.now c.args.line.now c.args.line.now (bytes_unread _ none) (bytes_stored _ none) lacks c.args.read.now c.read_more.new.self all c.args.file.now c.in_err-read_more.field-0.0 fault is c.in_err-read_more.ensures.left)
 
 pub returns-in_default-clause-read : goal.returns-in_default-clause-read
 returns-in_default-clause-read g c = λ all known lacks.
@@ -39,7 +39,7 @@ returns-in_err-read_more-2-clause-left g c =
     let none : c.in_ok-recorded.recorded.outputs.items ≡ [] = none_in _ _ _ c.is_empty.ensures c.if-is_empty.true c.in_ok-recorded.recorded.outputs.ok.0 in
     let nothing : stored_in c.args.line.now ≡ [] = text_stored _ valid ∙ ap (λ u. stored_outputs (split_on 9 u)) (sym same) ∙ sym c.in_ok-recorded.ensures.outputs ∙ none in
     at_error c.from_residual-in_err-read_more-2.result c.in_err-read_more-2.field-0.0 _ c.from_residual-in_err-read_more-2.ensures.1 (λ fault is all known lacks.
-      plain_left c.args.options.now c.args.line.now c.as_bytes.result.now text_is nothing lacks c.args.read.now c.read_more-then-is_empty.new.self all c.args.file.now c.in_err-read_more-2.field-0.0 fault is c.in_err-read_more-2.ensures.left)
+    plain_left c.args.options.now c.args.line.now c.as_bytes.result.now text_is nothing lacks c.args.read.now c.read_more-then-is_empty.new.self all c.args.file.now c.in_err-read_more-2.field-0.0 fault is c.in_err-read_more-2.ensures.left)
 
 pub returns-then-is_empty-clause-read : goal.returns-then-is_empty-clause-read
 returns-then-is_empty-clause-read g c = λ all known lacks.
