@@ -9,8 +9,9 @@ from dataclasses import dataclass
 
 from norigully.converters import Bad
 from norigully.scene_lines import stream, unescaped
+from norigully.words import FILES_OF_RUN
 
-LINES, OUTPUTS = "run.scene", "outputs"
+LINES, OUTPUTS = FILES_OF_RUN
 # In each line that has an output the field of its first stream, counted from 1.
 FIRST_STREAM = {b"done": 14, b"retry": 13, b"setupdone": 10, b"answer-test": 12, b"answer-script": 11}
 FIELDS_OF_AN_ATTEMPT = 8
