@@ -3,6 +3,7 @@ again need not read what is not shown. `Recorder` writes the folder of a run lin
 """
 
 import hashlib
+import io
 import os
 import re
 from dataclasses import dataclass
@@ -163,6 +164,13 @@ class Recorder:
         if self.room_at is not None:
             header = self.headers[ended]
             os.pwrite(self.lines.fileno(), header + comment(self.room() - len(header)), self.room_at)
+
+
+def record(scene, folder):
+    """Records the lines of a scene."""
+    recorder = Recorder(folder)
+    for line in io.BytesIO(scene):
+        recorder.write(line)
 
 
 def held_in(field):
