@@ -8,7 +8,7 @@ use Rattle.command_line.specs.declared.pieces.Taken.TheVariants as taken
 -- what was read of a text: nothing, where it was empty; or a piece that a line feed parts from what is left, or the whole text, where it was not
 -- empty
 abbrev pub IsNextPiece : List ℕ → Bool → List ℕ → Option (List ℕ) → Type 0
-IsNextPiece text false piece rest = text ≡ []
+IsNextPiece text false piece rest = (text ≡ []) × (rest ≡ Some [])
 IsNextPiece text true piece rest = (more : List ℕ) × (rest ≡ Some more) × ((text ≡ piece ++ 10 ∷ more) ⊎ ((text ≡ piece) × (more ≡ []) × (0 < length piece)))
 
 -- what was taken of a text whose first bytes are at hand, behind what was taken before: lines and the line feed that ends them, a part

@@ -58,7 +58,7 @@ StopsBy options all P Q fault.StoreFailed = StopsBehind all (λ run. Q run fault
 StopsBy options all P Q fault.OutOfMemory = StopsBehind all (λ run. Q run fault.OutOfMemory)
 
 -- What was read is at hand behind what a reporter has reported of all lines so far; an event is among both.
-pub record KeepsUp {W S : Type 0} (m : Meaning W) (n : Meaning S) (options : Options) (all : List RunLine) (start now : SceneReporter W S) (read : LinesRead) (more : Result Bool Fault) (Has : List RunLine → Type 0) : Type 0 where
+pub record KeepsUp {W S : Type 0} (m : Meaning W) (n : Meaning S) (options : Options) (all : List RunLine) (start now : SceneReporter W S) (read : LinesRead) (more : Result Bool Fault) (Has : ParsedLines → List RunLine → Type 0) : Type 0 where
   pub front : List RunLine
   pub before : ParsedLines
   pub has : HasRead options.file.now all front before read more Has

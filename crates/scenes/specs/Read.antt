@@ -22,16 +22,16 @@ pub record AtLine (all : List RunLine) (run : ParsedLines) (lines : List RunLine
   pub place : number ≡ length front + 1
   pub tells : AllRead no_lines front run
 
--- Why no further line was read: the file ended, it could not be read, or memory was refused, or the next line has a fault. Or there may be
--- one, and the source has it.
-abbrev pub IsMore : List ℕ → Result Bool Fault → ParsedLines → List RunLine → ℕ → (List RunLine → Type 0) → Type 0
-IsMore file (Ok true) run left number Has = Has left
-IsMore file (Ok false) run left number Has = AreLeft left []
+-- Why no further line was read: the source has none left, it could not be read, or memory was refused, or the next line has a fault. Or there
+-- may be one, and the source has it.
+abbrev pub IsMore : List ℕ → Result Bool Fault → ParsedLines → List RunLine → ℕ → (ParsedLines → List RunLine → Type 0) → Type 0
+IsMore file (Ok true) run left number Has = Has run left
+IsMore file (Ok false) run left number Has = AreLeft left [] × Has run []
 IsMore file (Err fault) run left number Has = IsUnread file fault ⊎ ((f : ReadFault) × (fault ≡ fault_of_read f) × IsNextFault number run left f)
 
 -- Behind the first of all lines, whose events are forgotten, further lines were read: their values and the numbers of their events are at
 -- hand. Then comes what is left, which the source may have.
-pub record HasRead (file : List ℕ) (all front : List RunLine) (before : ParsedLines) (read : LinesRead) (more : Result Bool Fault) (Has : List RunLine → Type 0) : Type 0 where
+pub record HasRead (file : List ℕ) (all front : List RunLine) (before : ParsedLines) (read : LinesRead) (more : Result Bool Fault) (Has : ParsedLines → List RunLine → Type 0) : Type 0 where
   pub lines : List RunLine
   pub left : List RunLine
   pub whole : all ≡ front ++ (lines ++ left)

@@ -34,8 +34,8 @@ fn read_head<'a, L: RunSource>(
     source: &mut L,
     read: &mut LinesRead,
 ) -> Result<bool, Fault<'a>>
-    ensures read { (all front : List RunLine) (before : ParsedLines) → HasRead file.now all front before read.old (Ok true) (L.left source.old)
-        → HasRead file.now all front before read.new result (L.left source.new) }
+    ensures read { (in_all : ℕ) (all front : List RunLine) (before : ParsedLines) → HasRead file.now all front before read.old (Ok true) (L.left in_all source.old)
+        → HasRead file.now all front before read.new result (L.left in_all source.new) }
     ensures event { IfOk result (λ may_go_on. may_go_on ≡ true → is_begun read.new.run.events.items ≡ true) }
 {
     for _turn in 0..u64::MAX {
@@ -77,7 +77,7 @@ pub fn follow_scene<'a, R: Read + Drop, W: Write, S: Write>(
     }
 }
 
-/// Follows the lines of a source as [`follow_scene`] does those of a reader.
+/// Follows the lines of a source as [`follow_scene`] does those of a reader. On `Ok` the source has none left.
 pub fn follow_source<'a, L: RunSource, W: Write, S: Write>(
     alloc: Global,
     options: &Options<'a>,
@@ -85,9 +85,10 @@ pub fn follow_source<'a, L: RunSource, W: Write, S: Write>(
     writer: W,
     store_writer: S,
 ) -> (Result<RunOutcome, Fault<'a>>, W, S)
-    ensures ok { (all : List RunLine) → L.left source.old all → IfOk result.0 (λ come_to.
+    ensures ok { (in_all : ℕ) (all : List RunLine) → L.left in_all source.old no_lines all → IfOk result.0 (λ come_to.
         OfLines all (PrintsFollowed options.now come_to (W.contents writer) (W.contents result.1) (S.contents store_writer) (S.contents result.2))) }
-    ensures err { (all : List RunLine) → L.left source.old all → IfErr result.0 (StopsBy options.now all
+    ensures rest { (in_all : ℕ) (all : List RunLine) → L.left in_all source.old no_lines all → OnOk result.0 (OfLines all (λ run. L.left in_all source.new run [])) }
+    ensures err { (in_all : ℕ) (all : List RunLine) → L.left in_all source.old no_lines all → IfErr result.0 (StopsBy options.now all
         (λ run. PrintsParsed options.now run (W.contents writer) (W.contents result.1) (S.contents store_writer) (S.contents result.2))
         (λ run fault. BeginsParsed options.now run fault (W.contents writer) (W.contents result.1) (S.contents store_writer) (S.contents result.2))) }
     ensures no_store { options.now.store ≡ None → result.2 ≡ store_writer }
@@ -141,9 +142,11 @@ fn follow_to<'a, 'w, L: RunSource, W: WriteStr, S: WriteStr>(
     requires { config_of store ≡ store_for options.now }
     ensures same_reference { result.1.ghost_name ≡ writer.entry.ghost_name }
     ensures same_store { IsSameStore store.entry result.2 }
-    ensures ok { IfOk result.0 (λ come_to. (all : List RunLine) → L.left source.old all → W.meaning.is_delivered writer.old → store_delivered S.meaning store.entry
+    ensures ok { IfOk result.0 (λ come_to. (in_all : ℕ) (all : List RunLine) → L.left in_all source.old no_lines all → W.meaning.is_delivered writer.old → store_delivered S.meaning store.entry
         → OfLines all (ReportsParsed W.meaning (store_meaning S.meaning) options.now writer.old result.1.now store.entry result.2 come_to)) }
-    ensures err { IfErr result.0 (λ fault. (all : List RunLine) → L.left source.old all → W.meaning.is_delivered writer.old → store_delivered S.meaning store.entry
+    ensures rest { OnOk result.0 ((in_all : ℕ) (all : List RunLine) → L.left in_all source.old no_lines all → W.meaning.is_delivered writer.old → store_delivered S.meaning store.entry
+        → OfLines all (λ run. L.left in_all source.new run [])) }
+    ensures err { IfErr result.0 (λ fault. (in_all : ℕ) (all : List RunLine) → L.left in_all source.old no_lines all → W.meaning.is_delivered writer.old → store_delivered S.meaning store.entry
         → StopsBy options.now all (HasReportedTo W.meaning (store_meaning S.meaning) options.now writer.old result.1.now store.entry result.2) (BreaksParsed W.meaning (store_meaning S.meaning) options.now writer.old result.1.now store.entry result.2) fault) }
 {
     let mut read = LinesRead::new(alloc);
@@ -179,9 +182,11 @@ fn follow_lines<'a, L: RunSource, W: WriteStr, S: WriteStr>(
     reporter: &mut SceneReporter<'_, W, S>,
 ) -> Result<(), Fault<'a>>
     ensures same { IsSameReporter reporter.old.reporter reporter.new.reporter }
-    ensures ok { OnOk result ((all : List RunLine) → HasRead options.now.file.now all [] no_lines read.old more.entry (L.left source.old) → is_begun read.old.run.events.items ≡ true
+    ensures ok { OnOk result ((in_all : ℕ) (all : List RunLine) → HasRead options.now.file.now all [] no_lines read.old more.entry (L.left in_all source.old) → is_begun read.old.run.events.items ≡ true
         → IsStart W.meaning S.meaning options.now read.old.run.config reporter.old → OfLines all (HasReported W.meaning S.meaning options.now reporter.old reporter.new)) }
-    ensures err { IfErr result (λ fault. (all : List RunLine) → HasRead options.now.file.now all [] no_lines read.old more.entry (L.left source.old) → is_begun read.old.run.events.items ≡ true
+    ensures rest { OnOk result ((in_all : ℕ) (all : List RunLine) → HasRead options.now.file.now all [] no_lines read.old more.entry (L.left in_all source.old) → is_begun read.old.run.events.items ≡ true
+        → IsStart W.meaning S.meaning options.now read.old.run.config reporter.old → OfLines all (λ run. L.left in_all source.new run [])) }
+    ensures err { IfErr result (λ fault. (in_all : ℕ) (all : List RunLine) → HasRead options.now.file.now all [] no_lines read.old more.entry (L.left in_all source.old) → is_begun read.old.run.events.items ≡ true
         → IsStart W.meaning S.meaning options.now read.old.run.config reporter.old → StopsBy options.now all (HasReported W.meaning S.meaning options.now reporter.old reporter.new) (BreaksOff W.meaning S.meaning options.now reporter.old reporter.new) fault) }
 {
     let mut more = more;

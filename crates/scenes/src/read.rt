@@ -20,8 +20,8 @@ const BYTES_AT_ONCE: usize = 16_384;
 
 /// Where the lines of a run come from.
 pub trait RunSource {
-    // Whether these lines are left.
-    ghost left: { Self → List RunLine → Type 0 };
+    // These lines are left behind those before, and once they are read, so many bytes of outputs were read in all.
+    ghost left: { ℕ → Self → ParsedLines → List RunLine → Type 0 };
 
     /// Reads further lines of this file. It answers whether there may be more. Where a line has a fault, the lines before it are read.
     fn read_next<'a>(
@@ -30,8 +30,8 @@ pub trait RunSource {
         file: &'a str,
         read: &mut LinesRead,
     ) -> Result<bool, Fault<'a>>
-        ensures read { (all front : List RunLine) (before : ParsedLines) → HasRead file.now all front before read.old (Ok true) (left self.old)
-            → HasRead file.now all front before read.new result (left self.new) }
+        ensures read { (in_all : ℕ) (all front : List RunLine) (before : ParsedLines) → HasRead file.now all front before read.old (Ok true) (left in_all self.old)
+            → HasRead file.now all front before read.new result (left in_all self.new) }
         ensures fault { IfErr result (IsJudgeFault file.now) };
 }
 
@@ -58,7 +58,8 @@ impl<R: Read + Drop> SceneSource<R> {
 }
 
 impl<R: Read> RunSource for SceneSource<R> {
-    ghost left = { λ s. AreLeftOf (reader_remaining R.remaining s.reader) };
+    // A scene has its outputs in its lines.
+    ghost left = { λ in_all s before. AreLeftOf (reader_remaining R.remaining s.reader) };
 
     fn read_next<'a>(
         &mut self,

@@ -45,6 +45,6 @@ module _ (text old left at_hand new : List ℕ) (rest : Option (List ℕ)) (so_f
 -- the file ends behind what was taken: it is the last piece, or nothing
 pub at_end : (text piece : List ℕ) (rest : Option (List ℕ)) (no_byte : Bool) → no_byte ≡ (length piece == 0) → text ≡ piece → rest ≡ Some [] → IsNextPiece text (not no_byte) piece rest
 at_end text [] rest false size is end = absurd (grind (arith, nat_tests, size))
-at_end text [] rest true size is end = is
+at_end text [] rest true size is end = (is, end)
 at_end text (c ∷ t) rest false size is end = ([], end, inr (is, refl, omega (arith)))
 at_end text (c ∷ t) rest true size is end = absurd (grind (arith, nat_tests, size))

@@ -51,7 +51,7 @@ stops_so options all P R Q T pr qt fault.StoreFailed h = record { run = h.run; l
 stops_so options all P R Q T pr qt fault.OutOfMemory h = record { run = h.run; lines = h.lines; number = h.number; at = h.at; holds = qt h.run fault.OutOfMemory h.holds }
 
 -- of what was returned
-pub from_ok : {P Q : Type 0} (r : Result (Unit {0}) Fault) → (P → Q) → OnOk r P → OnOk r Q
+pub from_ok : {T P Q : Type 0} (r : Result T Fault) → (P → Q) → OnOk r P → OnOk r Q
 from_ok (Ok done) f h = f h
 from_ok (Err fault) f h = tt
 
@@ -177,17 +177,17 @@ module _ {W S : Type 0} (contents : W → Option (List ℕ)) (n : Meaning S) (op
   begun run r h = from_err r (begins run) h
 
   -- and for lines that were followed
-  pub followed : (all : List RunLine) (K : List RunLine → Type 0) (L M : Type 0) → K all → L → M → (r : Result RunOutcome Fault) →
-      IfOk r (λ come_to. (all : List RunLine) → K all → L → M → OfLines all (ReportsParsed (buffer_meaning contents) (store_meaning n) options a b x y come_to)) →
+  pub followed : (in_all : ℕ) (all : List RunLine) (K : ℕ → List RunLine → Type 0) (L M : Type 0) → K in_all all → L → M → (r : Result RunOutcome Fault) →
+      IfOk r (λ come_to. (in_all : ℕ) (all : List RunLine) → K in_all all → L → M → OfLines all (ReportsParsed (buffer_meaning contents) (store_meaning n) options a b x y come_to)) →
       IfOk r (λ come_to. OfLines all (PrintsFollowed options come_to (contents old) (contents new) before after))
-  followed all K L M known ready also (Ok come_to) h = let o = h all known ready also in record { run = o.run; spelled = o.spelled; holds = prints come_to o.run o.holds }
-  followed all K L M known ready also (Err f) h = tt
+  followed in_all all K L M known ready also (Ok come_to) h = let o = h in_all all known ready also in record { run = o.run; spelled = o.spelled; holds = prints come_to o.run o.holds }
+  followed in_all all K L M known ready also (Err f) h = tt
 
-  pub left : (all : List RunLine) (K : List RunLine → Type 0) (L M : Type 0) → K all → L → M → (r : Result RunOutcome Fault) →
-      IfErr r (λ f. (all : List RunLine) → K all → L → M → StopsBy options all (HasReportedTo (buffer_meaning contents) (store_meaning n) options a b x y) (BreaksParsed (buffer_meaning contents) (store_meaning n) options a b x y) f) →
+  pub left : (in_all : ℕ) (all : List RunLine) (K : ℕ → List RunLine → Type 0) (L M : Type 0) → K in_all all → L → M → (r : Result RunOutcome Fault) →
+      IfErr r (λ f. (in_all : ℕ) (all : List RunLine) → K in_all all → L → M → StopsBy options all (HasReportedTo (buffer_meaning contents) (store_meaning n) options a b x y) (BreaksParsed (buffer_meaning contents) (store_meaning n) options a b x y) f) →
       IfErr r (StopsBy options all (λ run. PrintsParsed options run (contents old) (contents new) before after) (λ run f. BeginsParsed options run f (contents old) (contents new) before after))
-  left all K L M known ready also (Ok come_to) h = tt
-  left all K L M known ready also (Err f) h = stops_so options all _ _ _ _ (λ run p. (prints p.0 run p.1).printed) begins f (h all known ready also)
+  left in_all all K L M known ready also (Ok come_to) h = tt
+  left in_all all K L M known ready also (Err f) h = stops_so options all _ _ _ _ (λ run p. (prints p.0 run p.1).printed) begins f (h in_all all known ready also)
 
 -- what is not begun
 module _ {W T : Type 0} (m : Meaning W) (k : Meaning T) (laws : WriterLaws m) (others : WriterLaws k) (options : Options) (all : List RunLine) (old : W) (store_old : T) where

@@ -33,7 +33,7 @@ use Rattle.scenes.specs.Unloads.{decider_for, ready}
 use Rattle.scenes.specs.declared.scene_reporter.SceneReporter.{SceneReporter}
 use Rattle.scenes.proofs.lemmas.EventLines.{event_at}
 use Rattle.scenes.proofs.lemmas.NoConfig.{config_kept}
-use Rattle.scenes.proofs.lemmas.ReadLines.{at_more, forgets, line_reads, spells}
+use Rattle.scenes.proofs.lemmas.ReadLines.{at_more, forgets, line_reads, none_after, spells}
 use Rattle.scenes.proofs.lemmas.SceneReporters.{broke_before, broke_event, made_refused, now_reported, starts}
 
 abbrev is_wrong : LineFault → Result ParsedLine LineFault
@@ -69,7 +69,7 @@ module _ (options : Options) (all : List RunLine) (P : ParsedLines → Type 0) (
   }
   left_wrong read.OutOfMemory h = record { run = run; lines = left; number = number; at = at; holds = refused }
 
-  pub nothing_more : (file : List ℕ) (f : Fault) (Has : List RunLine → Type 0) → IsMore file (Err f) run left number Has → StopsBy options all P Q f
+  pub nothing_more : (file : List ℕ) (f : Fault) (Has : ParsedLines → List RunLine → Type 0) → IsMore file (Err f) run left number Has → StopsBy options all P Q f
   nothing_more file f Has (inl h) = left_unread file f h
   nothing_more file f Has (inr x) = subst (StopsBy options all P Q) (sym x.1) (left_wrong x.0 x.2)
 
@@ -115,11 +115,11 @@ module _ {W S : Type 0} {m : Meaning W} {n : Meaning S} (laws : WriterLaws m) (o
     one_left fault.OutOfMemory (inr broke) = left_event fault.OutOfMemory broke
 
   -- nothing was reported yet
-  pub keeps_up : (read : LinesRead) (more : Result Bool Fault) (Has : List RunLine → Type 0) → HasRead options.file.now all [] no_lines read more Has → is_begun read.run.events.items ≡ true →
+  pub keeps_up : (read : LinesRead) (more : Result Bool Fault) (Has : ParsedLines → List RunLine → Type 0) → HasRead options.file.now all [] no_lines read more Has → is_begun read.run.events.items ≡ true →
       IsStart m n options read.run.config start → KeepsUp m n options all start start read more Has
   keeps_up read more Has has begun is_start = record { front = []; before = no_lines; has = has; follows = starts laws others options start read.run.config is_start; begun = begun }
 
-  module _ (now : SceneReporter W S) (read : LinesRead) (more : Result Bool Fault) (Has : List RunLine → Type 0) (k : KeepsUp m n options all start now read more Has) where
+  module _ (now : SceneReporter W S) (read : LinesRead) (more : Result Bool Fault) (Has : ParsedLines → List RunLine → Type 0) (k : KeepsUp m n options all start now read more Has) where
     abbrev run : ParsedLines
     run = lines_after k.before.events (parsed_lines read.run)
 
@@ -198,6 +198,10 @@ module _ {W S : Type 0} {m : Meaning W} {n : Meaning S} (laws : WriterLaws m) (o
         holds = now_reported laws others options start next next run reported refl;
       }
 
+      -- and none is left
+      pub left_after_all : more ≡ Ok false → OfLines all (λ r. Has r [])
+      left_after_all last = none_after options.file.now all read k.front k.before Has (subst (λ r. HasRead options.file.now all k.front k.before read r Has) last k.has)
+
       -- or nothing more could be read
       pub reported_first : (f : Fault) → more ≡ Err f → StopsBy options all (HasReported m n options start next) (BreaksOff m n options start next) f
       reported_first f is =
@@ -205,7 +209,7 @@ module _ {W S : Type 0} {m : Meaning W} {n : Meaning S} (laws : WriterLaws m) (o
           k.has.left read.next here options.file.now f Has (subst (λ r. IsMore options.file.now r run k.has.left read.next Has) is k.has.more_is)
 
       -- or further lines were read behind it
-      pub reads_on : (new : LinesRead) (goes_on : Result Bool Fault) (Next : List RunLine → Type 0) → HasRead options.file.now all (k.front ++ k.has.lines) run new goes_on Next → KeepsUp m n options all start next new goes_on Next
+      pub reads_on : (new : LinesRead) (goes_on : Result Bool Fault) (Next : ParsedLines → List RunLine → Type 0) → HasRead options.file.now all (k.front ++ k.has.lines) run new goes_on Next → KeepsUp m n options all start next new goes_on Next
       reads_on new goes_on Next has = record {
         front = k.front ++ k.has.lines;
         before = run;

@@ -22,7 +22,7 @@ HasNoEvent run = run.events ≡ []
 abbrev pub IsRefusedMemory : ParsedLines → Fault → Type 0
 IsRefusedMemory run f = HasNoEvent run × (f ≡ fault.OutOfMemory)
 
-module _ (options : Options) (all : List RunLine) (read : LinesRead) (Has : List RunLine → Type 0) (none : read.run.events.items ≡ []) where
+module _ (options : Options) (all : List RunLine) (read : LinesRead) (Has : ParsedLines → List RunLine → Type 0) (none : read.run.events.items ≡ []) where
   pub head_ends : HasRead options.file.now all [] no_lines read (Ok false) Has → OfLines all HasNoEvent
   head_ends has = record { run = parsed_lines read.run; spelled = spells options.file.now all read [] no_lines Has has; holds = none }
 

@@ -20,7 +20,7 @@ use Rattle.scene_text.specs.declared.reader.LinesRead.{LinesRead}
 use Rattle.scene_text.proofs.lemmas.FirstFaults.{text_fault}
 use Rattle.scene_text.proofs.lemmas.Tellings.{all_append, all_told, begun_behind, noted_append, wrong_told}
 use Rattle.scenes.specs.Read.{AreLeft, AreLeftOf, AtLine, HasRead, IsMore}
-use Rattle.scenes.specs.ParsedScenes.{IsReadFault, IsSceneRead}
+use Rattle.scenes.specs.ParsedScenes.{IsReadFault, IsSceneRead, OfLines}
 
 -- a text has a first line
 record HasLine (text : List ℕ) : Type 0 where
@@ -80,7 +80,7 @@ pub new_reader : {T A : Type 0} (remaining : T → Option (List ℕ)) (r : BufRe
 new_reader remaining r inner size is empty sized some = rw (sized, some, empty, is) (known_behind (remaining inner))
 
 -- none of the lines that a source has was read
-pub none_read : (file : List ℕ) (all : List RunLine) (read : LinesRead) (Has : List RunLine → Type 0) → parsed_lines read.run ≡ no_lines → read.run.lines.items ≡ [] → read.is_begun ≡ false → read.next ≡ 1 → Has all →
+pub none_read : (file : List ℕ) (all : List RunLine) (read : LinesRead) (Has : ParsedLines → List RunLine → Type 0) → parsed_lines read.run ≡ no_lines → read.run.lines.items ≡ [] → read.is_begun ≡ false → read.next ≡ 1 → Has no_lines all →
     HasRead file all [] no_lines read (Ok true) Has
 unfolding event_lines
 none_read file all read Has tells noted begun place known = record {
@@ -92,50 +92,56 @@ none_read file all read Has tells noted begun place known = record {
   noted = noted;
   place = place ∙ omega (arith);
   begun = sym begun;
-  more_is = known;
+  more_is = subst (λ r. Has (lines_after [] r) all) (sym tells) known;
 }
 
 module _ (file : List ℕ) (all front : List RunLine) (before : ParsedLines) (old new : LinesRead) where
-  module _ (remaining : Option (List ℕ)) (has : HasRead file all front before old (Ok true) (AreLeftOf remaining)) where
-    -- further lines were read
-    module _ (lines left : List RunLine) (is : has.left ≡ lines ++ left) (reads : ReadsLines old new lines) (more : Result Bool Fault) (after : Option (List ℕ)) where
-      further : IsMore file more (lines_after before.events (parsed_lines new.run)) left new.next (AreLeftOf after) → HasRead file all front before new more (AreLeftOf after)
-      further more_is =
-          let size = length-append has.lines lines in
-          record {
-            lines = has.lines ++ lines;
-            left = left;
-            whole = has.whole ∙ ap (λ ls. front ++ ls) (ap (λ ls. has.lines ++ ls) is ∙ sym (append_assoc has.lines lines left));
-            forgotten = has.forgotten;
-            tells = all_append before has.lines (lines_after before.events (parsed_lines old.run)) lines (lines_after before.events (parsed_lines new.run)) has.tells (reads.tells before.events has.begun);
-            noted =
-                reads.noted before.events has.begun ∙ ap (λ ls. ls ++ event_lines old.next (lines_after before.events (parsed_lines old.run)) lines) has.noted
-                ∙ sym (noted_append (length front + 1) old.next before has.lines (lines_after before.events (parsed_lines old.run)) lines has.place has.tells);
-            place = omega (arith, size, reads.place, has.place);
-            begun = has.begun ∙ sym reads.begun;
-            more_is = more_is;
-          }
+  -- further lines were read
+  module _ (Has Next : ParsedLines → List RunLine → Type 0) (has : HasRead file all front before old (Ok true) Has) (lines left : List RunLine) (is : has.left ≡ lines ++ left) (reads : ReadsLines old new lines) (more : Result Bool Fault) where
+    pub further : IsMore file more (lines_after before.events (parsed_lines new.run)) left new.next Next → HasRead file all front before new more Next
+    further more_is =
+        let size = length-append has.lines lines in
+        record {
+          lines = has.lines ++ lines;
+          left = left;
+          whole = has.whole ∙ ap (λ ls. front ++ ls) (ap (λ ls. has.lines ++ ls) is ∙ sym (append_assoc has.lines lines left));
+          forgotten = has.forgotten;
+          tells = all_append before has.lines (lines_after before.events (parsed_lines old.run)) lines (lines_after before.events (parsed_lines new.run)) has.tells (reads.tells before.events has.begun);
+          noted =
+              reads.noted before.events has.begun ∙ ap (λ ls. ls ++ event_lines old.next (lines_after before.events (parsed_lines old.run)) lines) has.noted
+              ∙ sym (noted_append (length front + 1) old.next before has.lines (lines_after before.events (parsed_lines old.run)) lines has.place has.tells);
+          place = omega (arith, size, reads.place, has.place);
+          begun = has.begun ∙ sym reads.begun;
+          more_is = more_is;
+        }
 
+  next_fault : (n : ℕ) (run : ParsedLines) (lines others : List RunLine) (f : ReadFault) → IsNextFault n run lines f → IsNextFault n run (lines ++ others) f
+  next_fault n run lines others (fault.Line m f) h = (h.0, (h.1.0, h.1.1 ++ others, ap (λ ls. ls ++ others) h.1.2, h.1.3))
+  next_fault n run lines others fault.OutOfMemory h = tt
+
+  -- the first of these lines were read, and the next has a fault
+  pub wrong_left : (Has Next : ParsedLines → List RunLine → Type 0) (has : HasRead file all front before old (Ok true) Has) (lines others : List RunLine) → has.left ≡ lines ++ others → (f : ReadFault) (fault : Fault) →
+      fault ≡ fault_of_read f → LeavesLines old new lines f → HasRead file all front before new (Err fault) Next
+  wrong_left Has Next has lines others are f fault is leaves =
+      further Has Next has leaves.front (leaves.rest ++ others) (are ∙ ap (λ ls. ls ++ others) leaves.whole ∙ append_assoc leaves.front leaves.rest others) leaves.reads (Err fault)
+      (inr (f, is, next_fault new.next (lines_after before.events (parsed_lines new.run)) leaves.rest others f (leaves.wrong before.events has.begun)))
+
+  module _ (remaining : Option (List ℕ)) (has : HasRead file all front before old (Ok true) (λ run. AreLeftOf remaining)) where
     -- a piece was read
-    pub piece_read : (piece : List ℕ) (after : Option (List ℕ)) → ((rest : List ℕ) → remaining ≡ Some rest → IsNextPiece rest true piece after) → ReadsLines old new (text_lines piece) → HasRead file all front before new (Ok true) (AreLeftOf after)
+    pub piece_read : (piece : List ℕ) (after : Option (List ℕ)) → ((rest : List ℕ) → remaining ≡ Some rest → IsNextPiece rest true piece after) → ReadsLines old new (text_lines piece) → HasRead file all front before new (Ok true) (λ run. AreLeftOf after)
     piece_read piece after next reads =
         let c = cut has.left has.more_is.0 piece after has.more_is.2 (next has.more_is.0 has.more_is.1) in
-        further (text_lines piece) c.others c.is reads (Ok true) after (c.rest, c.remains, c.are)
-
-    next_fault : (n : ℕ) (run : ParsedLines) (lines others : List RunLine) (f : ReadFault) → IsNextFault n run lines f → IsNextFault n run (lines ++ others) f
-    next_fault n run lines others (fault.Line m f) h = (h.0, (h.1.0, h.1.1 ++ others, ap (λ ls. ls ++ others) h.1.2, h.1.3))
-    next_fault n run lines others fault.OutOfMemory h = tt
+        further (λ run. AreLeftOf remaining) (λ run. AreLeftOf after) has (text_lines piece) c.others c.is reads (Ok true) (c.rest, c.remains, c.are)
 
     -- a line of it has a fault
     pub piece_left : (piece : List ℕ) (after : Option (List ℕ)) → ((rest : List ℕ) → remaining ≡ Some rest → IsNextPiece rest true piece after) → (f : ReadFault) (fault : Fault) → fault ≡ fault_of_read f →
-        LeavesLines old new (text_lines piece) f → HasRead file all front before new (Err fault) (AreLeftOf after)
+        LeavesLines old new (text_lines piece) f → HasRead file all front before new (Err fault) (λ run. AreLeftOf after)
     piece_left piece after next f fault is leaves =
         let c = cut has.left has.more_is.0 piece after has.more_is.2 (next has.more_is.0 has.more_is.1) in
-        further leaves.front (leaves.rest ++ c.others) (c.is ∙ ap (λ ls. ls ++ c.others) leaves.whole ∙ append_assoc leaves.front leaves.rest c.others) leaves.reads (Err fault) after
-        (inr (f, is, next_fault new.next (lines_after before.events (parsed_lines new.run)) leaves.rest c.others f (leaves.wrong before.events has.begun)))
+        wrong_left (λ run. AreLeftOf remaining) (λ run. AreLeftOf after) has (text_lines piece) c.others c.is f fault is leaves
 
   -- no line more was read
-  module _ (Has Next : List RunLine → Type 0) (has : HasRead file all front before old (Ok true) Has) (same : new ≡ old) where
+  module _ (Has Next : ParsedLines → List RunLine → Type 0) (has : HasRead file all front before old (Ok true) Has) (same : new ≡ old) where
     still : (more : Result Bool Fault) → IsMore file more (lines_after before.events (parsed_lines old.run)) has.left old.next Next → HasRead file all front before new more Next
     still more more_is = subst (λ r. HasRead file all front before r more Next) (sym same) (record {
       lines = has.lines;
@@ -149,9 +155,9 @@ module _ (file : List ℕ) (all front : List RunLine) (before : ParsedLines) (ol
       more_is = more_is;
     })
 
-    -- the file has ended
-    pub none_left : ((left : List RunLine) → Has left → AreLeft left []) → HasRead file all front before new (Ok false) Next
-    none_left none = still (Ok false) (none has.left has.more_is)
+    -- there is none
+    pub none_left : ((run : ParsedLines) (left : List RunLine) → Has run left → AreLeft left [] × Next run []) → HasRead file all front before new (Ok false) Next
+    none_left none = still (Ok false) (none (lines_after before.events (parsed_lines old.run)) has.left has.more_is)
 
     -- or it could not be read
     pub unread : (fault : Fault) → IsUnread file fault → HasRead file all front before new (Err fault) Next
@@ -175,7 +181,7 @@ not_less : (n : ℕ) → nat_lt n n ≡ false
 not_less n = grind (arith, nat_tests)
 
 -- the events that were read are forgotten
-module _ (file : List ℕ) (all front : List RunLine) (before : ParsedLines) (old new : LinesRead) (more : Result Bool Fault) (Has : List RunLine → Type 0) (has : HasRead file all front before old more Has) where
+module _ (file : List ℕ) (all front : List RunLine) (before : ParsedLines) (old new : LinesRead) (more : Result Bool Fault) (Has : ParsedLines → List RunLine → Type 0) (has : HasRead file all front before old more Has) where
   abbrev pub read_told : ParsedLines
   read_told = lines_after before.events (parsed_lines old.run)
 
@@ -209,7 +215,7 @@ module _ (file : List ℕ) (all : List RunLine) (read : LinesRead) where
   empty_noted n run = rw (not_less (length run.events)) refl
 
   -- to its end
-  module _ (front : List RunLine) (before : ParsedLines) (Has : List RunLine → Type 0) (has : HasRead file all front before read (Ok false) Has) where
+  module _ (front : List RunLine) (before : ParsedLines) (Has : ParsedLines → List RunLine → Type 0) (has : HasRead file all front before read (Ok false) Has) where
     abbrev pub after : ParsedLines
     after = lines_after before.events (parsed_lines read.run)
 
@@ -221,7 +227,7 @@ module _ (file : List ℕ) (all : List RunLine) (read : LinesRead) where
 
     pub spells : lines_read 1 no_lines all ≡ Ok after
     unfolding split_on
-    spells = elim has.more_is [
+    spells = elim has.more_is.0 [
       | inl last ↦
           let are : all ≡ first_lines ++ plain_line [] ∷ [] = has.whole ∙ ap (λ ls. front ++ (has.lines ++ ls)) last ∙ sym (append_assoc front has.lines (plain_line [] ∷ [])) in
           ap (lines_read 1 no_lines) are ∙ all_told 1 no_lines (first_lines ++ plain_line [] ∷ []) after (all_append no_lines first_lines after (plain_line [] ∷ []) after first_told (after, empty_tells after, refl))
@@ -230,9 +236,13 @@ module _ (file : List ℕ) (all : List RunLine) (read : LinesRead) where
           ap (lines_read 1 no_lines) are ∙ all_told 1 no_lines first_lines after first_told
     ]
 
-  pub notes : (Has : List RunLine → Type 0) → HasRead file all [] no_lines read (Ok false) Has → read.run.lines.items ≡ event_lines 1 no_lines all
+    -- and none is left
+    pub none_after : OfLines all (λ run. Has run [])
+    none_after = record { run = after; spelled = spells; holds = has.more_is.1 }
+
+  pub notes : (Has : ParsedLines → List RunLine → Type 0) → HasRead file all [] no_lines read (Ok false) Has → read.run.lines.items ≡ event_lines 1 no_lines all
   unfolding split_on
-  notes Has has = elim has.more_is [
+  notes Has has = elim has.more_is.0 [
     | inl last ↦
         let are : all ≡ has.lines ++ plain_line [] ∷ [] = has.whole ∙ ap (λ ls. has.lines ++ ls) last in
         has.noted ∙ sym (append-nil _) ∙ ap (λ ls. event_lines 1 no_lines has.lines ++ ls) (sym (empty_noted read.next (parsed_lines read.run)))
@@ -260,7 +270,7 @@ module _ (file text : List ℕ) (read : LinesRead) where
   unread_told program.StoreFailed is = absurd is
   unread_told program.OutOfMemory is = (tt, tt)
 
-  pub stopped_read : (Has : List RunLine → Type 0) (fault : Fault) → HasRead file (text_lines text) [] no_lines read (Err fault) Has → IsSceneRead (Err fault) (text_read text) × IsReadFault text fault
+  pub stopped_read : (Has : ParsedLines → List RunLine → Type 0) (fault : Fault) → HasRead file (text_lines text) [] no_lines read (Err fault) Has → IsSceneRead (Err fault) (text_read text) × IsReadFault text fault
   stopped_read Has fault has = elim has.more_is [
     | inl is ↦ unread_told fault is
     | inr x ↦ subst (λ f. IsSceneRead (Err f) (text_read text) × IsReadFault text f) (sym x.1) (fault_told read.next has.lines has.tells has.place has.left has.whole x.0 x.2)

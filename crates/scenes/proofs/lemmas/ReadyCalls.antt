@@ -1,4 +1,4 @@
--- Calls of which the output that no report shows is left unread have the same report (for `SceneReporter::report_events`).
+-- Calls of which the output that no report shows is left unread have the same report (for `SceneReporter::report_events` and replays).
 use Rattle.std.proofs.Common.{◌≡◌, Bool, true, false, List, [], ◌∷◌, ◌++◌, map, reverse, refl, sym, ap, ◌∙◌, inl, inr}
 use Rattle.std.proofs.lemmas.Bool.{cases_Bool}
 use Rattle.std.proofs.lemmas.List.{map-append, map-id, reverse-append, reverse-reverse}
@@ -14,7 +14,7 @@ use Rattle.run_model.specs.declared.call.ReportCall.TheVariants.{Event, Header, 
 use Rattle.run_model.specs.declared.event.TestEventKind.{TestEventKind}
 use Rattle.run_model.specs.declared.event.TestEventKind.TheVariants as kind
 use Rattle.scene_events.specs.declared.scene.SceneConfig.{SceneConfig}
-use Rattle.scenes.specs.Outcomes.{outcome_after, outcome_after_event}
+use Rattle.scenes.specs.Outcomes.{outcome_after, outcome_after_event, run_outcome}
 use Rattle.scenes.specs.Reports.{configuration_for}
 use Rattle.scenes.specs.Unloads.{decider_for, ready, ready_if}
 use Rattle.command_line.specs.declared.args.Options.{Options}
@@ -35,6 +35,14 @@ unread_outcome : (d : OutputLoadDecider) (before : RunOutcome) (call : ReportCal
 unread_outcome d before (Event e) = elim (cases_Bool (is_skipped d e.kind)) [ inl skipped ↦ rw skipped (unloaded_outcome before e.kind) | inr loaded ↦ rw loaded refl ]
 unread_outcome d before (Header h) = refl
 unread_outcome d before (Prefix p) = refl
+
+past_outcome : (d : OutputLoadDecider) (past : List ReportCall) → run_outcome (map (unread_call d) past) ≡ run_outcome past
+unfolding run_outcome
+past_outcome d [] = refl
+past_outcome d (call ∷ past) = unread_outcome d (run_outcome (map (unread_call d) past)) call ∙ ap (λ before. outcome_after before call) (past_outcome d past)
+
+pub outcome_unread : (d : OutputLoadDecider) (calls : List ReportCall) → run_outcome (reverse (unread d calls)) ≡ run_outcome (reverse calls)
+outcome_unread d calls = ap run_outcome (sym (map-reverse (unread_call d) calls)) ∙ past_outcome d (reverse calls)
 
 outcome_if : (unloads : Bool) (d : OutputLoadDecider) (before : RunOutcome) (call : ReportCall) → outcome_after before (ready_if unloads d call) ≡ outcome_after before call
 outcome_if true d before call = unread_outcome d before call

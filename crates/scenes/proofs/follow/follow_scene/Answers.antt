@@ -4,10 +4,10 @@ use Rattle.scenes.proofs.lemmas.FollowedDevices.{nothing_held}
 use Rattle.scenes.proofs.follow.follow_scene.Goals as goal
 
 pub returns-in-Ok-clause-ok : goal.returns-in-Ok-clause-ok
-returns-in-Ok-clause-ok g c = λ text known. c.follow_source.ensures.ok _ (text, c.in-Ok.ensures ∙ known, inl refl)
+returns-in-Ok-clause-ok g c = λ text known. c.follow_source.ensures.ok 0 _ (text, c.in-Ok.ensures ∙ known, inl refl)
 
 pub returns-in-Ok-clause-err : goal.returns-in-Ok-clause-err
-returns-in-Ok-clause-err g c = λ text known. c.follow_source.ensures.err _ (text, c.in-Ok.ensures ∙ known, inl refl)
+returns-in-Ok-clause-err g c = λ text known. c.follow_source.ensures.err 0 _ (text, c.in-Ok.ensures ∙ known, inl refl)
 
 pub returns-in-Err-clause-err : goal.returns-in-Err-clause-err
 returns-in-Err-clause-err g c = λ text known. nothing_held c.args.options.now _ HasNoEvent _ _ _ _ refl refl

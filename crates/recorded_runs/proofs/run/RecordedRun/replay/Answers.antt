@@ -1,0 +1,23 @@
+use Rattle.std.proofs.Common.{refl}
+use Rattle.recorded_outputs.specs.Outputs.{counted}
+use Rattle.recorded_runs.specs.Runs.{lines_replayed, needed_bytes}
+use Rattle.recorded_runs.proofs.lemmas.Reports.{prints_on_ok, reads_on_ok}
+use Rattle.recorded_runs.proofs.run.RecordedRun.replay.Goals as goal
+
+pub returns-clause-ok : goal.returns-clause-ok
+returns-clause-ok g c = λ text all lines outputs.
+    let run = c.args.self.now in
+    prints_on_ok run.options all text _ _ _ _ _ (c.follow_source.ensures.ok (counted run.outputs.bytes_read (needed_bytes run.options text)) (lines_replayed run.options all text)
+    (record { all = all; text = text; outputs = outputs; rest = lines; is = refl; counts = refl }))
+
+pub returns-clause-err : goal.returns-clause-err
+returns-clause-err g c = λ text all lines outputs.
+    let run = c.args.self.now in
+    c.follow_source.ensures.err (counted run.outputs.bytes_read (needed_bytes run.options text)) (lines_replayed run.options all text)
+    (record { all = all; text = text; outputs = outputs; rest = lines; is = refl; counts = refl })
+
+pub returns-clause-reads : goal.returns-clause-reads
+returns-clause-reads g c = λ text all lines outputs.
+    let run = c.args.self.now in
+    reads_on_ok (counted run.outputs.bytes_read (needed_bytes run.options text)) _ _ _ _ _ (c.follow_source.ensures.rest (counted run.outputs.bytes_read (needed_bytes run.options text)) (lines_replayed run.options all text)
+    (record { all = all; text = text; outputs = outputs; rest = lines; is = refl; counts = refl }))
