@@ -1,0 +1,6 @@
+pub mod Counts
+pub mod Fields
+pub mod Loaded
+pub mod Skipped
+pub mod Skips
+pub mod Unloaded
