@@ -1,6 +1,8 @@
 pub mod Counts
 pub mod Fields
 pub mod Loaded
+pub mod Replayed
+pub mod Rows
 pub mod Skipped
 pub mod Skips
 pub mod Unloaded

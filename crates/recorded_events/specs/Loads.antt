@@ -83,7 +83,7 @@ unless_bad None event = event
 unfoldable pub event_replayed : List ℕ → OutputLoadDecider → List PlacedOutput → SceneEvent → Result SceneEvent LineFault
 event_replayed all d stored event =
     unless_bad (first_field_not (is_there all) stored)
-        (if skips d event then Ok event else unless_bad (first_field_not (is_undamaged all) stored) (Ok (event_inline all stored event)))
+    (if skips d event then Ok event else unless_bad (first_field_not (is_undamaged all) stored) (Ok (event_inline all stored event)))
 
 -- that was made, or is the fault, unless the outputs cannot be read or memory was refused
 abbrev pub IsReplayed : List ℕ → OutputLoadDecider → List PlacedOutput → SceneEvent → Result ⊤ LoadEventFault → SceneEvent → Type 0

@@ -1,6 +1,6 @@
 //! The stored outputs of an event, loaded where the report shows them.
 
-ghost use Rattle.std.specs.Prelude.{◌≡◌, IfOk, IfSome, OnOk};
+ghost use Rattle.std.specs.Prelude.{◌≡◌, ◌≤◌, ◌-◌, ◌^◌, IfOk, IfSome, OnOk};
 ghost use Rattle.recorded_lines.specs.Loads.{stream_in_field};
 ghost use Rattle.recorded_outputs.specs.Outputs.{counted};
 ghost use Rattle.recorded_events.specs.Loads.{IsFirstBad, IsReplayed, event_inline, fault_of_kind, fault_of_stream, field_not, first_field_not, is_there, is_undamaged, needed_of, output_inline, output_len, outputs_len, stream_field_not};
@@ -106,6 +106,7 @@ pub fn load_outputs<O: ReadAt + Drop>(
     ensures kept { O.recorded outputs.new.source ≡ O.recorded outputs.old.source }
     ensures count { OnOk result (outputs.new.bytes_read ≡ counted outputs.old.bytes_read (needed_of decider.now event.old stored.now)) }
 {
+    let _count = outputs.bytes_read(); // it is a `u64`, which a proof learns by reading it
     check_all_there(stored, outputs)?;
     if skips(alloc, decider, event)? {
         return Ok(());
@@ -222,6 +223,7 @@ fn load_all<O: ReadAt + Drop>(
     outputs: &mut RecordedOutputs<O>,
     event: &mut SceneEvent,
 ) -> Result<(), LoadEventFault>
+    requires { outputs.old.bytes_read ≤ 2 ^ 64 - 1 }
     ensures undamaged { IfSome (O.recorded outputs.old.source) (λ all. IsFirstBad (first_field_not (is_undamaged all) stored.now) result) }
     ensures loaded { IfSome (O.recorded outputs.old.source) (λ all. OnOk result (event.new ≡ event_inline all stored.now event.old)) }
     ensures kept { O.recorded outputs.new.source ≡ O.recorded outputs.old.source }
@@ -240,6 +242,7 @@ fn load_placed<O: ReadAt + Drop>(
     outputs: &mut RecordedOutputs<O>,
     event: &mut SceneEvent,
 ) -> Result<(), LoadEventFault>
+    requires { outputs.old.bytes_read ≤ 2 ^ 64 - 1 }
     ensures undamaged { IfSome (O.recorded outputs.old.source) (λ all. IsFirstBad (field_not (is_undamaged all) placed.now) result) }
     ensures loaded { IfSome (O.recorded outputs.old.source) (λ all. OnOk result (event.new ≡ event_with placed.now.place (output_inline all placed.now.output) event.old)) }
     ensures kept { O.recorded outputs.new.source ≡ O.recorded outputs.old.source }

@@ -48,28 +48,28 @@ same-with d place captured (scene.SetupScriptFinished e) (kind.SetupScriptFinish
     same-only d (place == 0) _ (scene.SetupScriptFinished e) (kind.SetupScriptFinished stress id program args status)
     (record {
       other = kind.SetupScriptFinished stress id program args (script_status (attempt_with_output e.attempt captured));
-      says = (says.0, says.1.0, refl);
+      says = (says.0, says.1, refl);
       skipped = skipped;
       elapsed = refl;
-      same = ap (λ s. kind.SetupScriptFinished stress id program args s) (unloaded-script e.attempt captured ∙ ap unloaded_script (sym says.1.1));
+      same = ap (λ s. kind.SetupScriptFinished stress id program args s) (unloaded-script e.attempt captured ∙ ap unloaded_script (sym says.2));
     })
     (same-still d (scene.SetupScriptFinished e) (kind.SetupScriptFinished stress id program args status) says skipped)
 same-with d place captured (scene.TestAttemptFailedWillRetry e) (kind.TestAttemptFailedWillRetry stress test status delay failure) says skipped =
     same-only d (place == 0) _ (scene.TestAttemptFailedWillRetry e) (kind.TestAttemptFailedWillRetry stress test status delay failure)
     (record {
       other = kind.TestAttemptFailedWillRetry stress test (attempt_with_output e.attempt captured) delay failure;
-      says = (says.0, says.1.0, refl, says.1.1.1.0, says.1.1.1.1);
+      says = (says.0, says.1, refl, says.3, says.4);
       skipped = skipped;
       elapsed = refl;
-      same = ap (λ s. kind.TestAttemptFailedWillRetry stress test s delay failure) (unloaded-attempt e.attempt captured ∙ ap unloaded_attempt (sym says.1.1.0));
+      same = ap (λ s. kind.TestAttemptFailedWillRetry stress test s delay failure) (unloaded-attempt e.attempt captured ∙ ap unloaded_attempt (sym says.2));
     })
     (same-still d (scene.TestAttemptFailedWillRetry e) (kind.TestAttemptFailedWillRetry stress test status delay failure) says skipped)
 same-with d place captured (scene.TestFinished e) (kind.TestFinished stress test success failure statuses stats) says skipped = record {
   other = kind.TestFinished stress test success failure (attempts_with place captured e.attempts) stats;
-  says = (says.0, says.1.0, says.1.1.0, says.1.1.1.0, refl, says.1.1.1.1.1);
+  says = (says.0, says.1, says.2, says.3, refl, says.5);
   skipped = ap (λ x. not (loads_finish d e.success_output e.failure_output x)) (same-summary place captured e.attempts) ∙ skipped;
   elapsed = refl;
-  same = ap (λ s. kind.TestFinished stress test success failure s stats) (unloaded-attempts place captured e.attempts ∙ ap unloaded_attempts (sym says.1.1.1.1.0));
+  same = ap (λ s. kind.TestFinished stress test success failure s stats) (unloaded-attempts place captured e.attempts ∙ ap unloaded_attempts (sym says.4));
 }
 same-with d place captured (scene.SetupScriptFinished e) k says skipped = absurd says
 same-with d place captured (scene.TestAttemptFailedWillRetry e) k says skipped = absurd says
@@ -113,4 +113,4 @@ skipped_call d all [] event c is skipped = (c, is, refl)
 skipped_call d all (p ∷ ps) event c is skipped =
     let here = same-call d p.place (output_inline all p.output) event c is skipped in
     let rest = skipped_call d all ps (event_with p.place (output_inline all p.output) event) here.other here.of_event here.skipped in
-    (rest.0, rest.1.0, rest.1.1 ∙ here.same)
+    (rest.0, rest.1, rest.2 ∙ here.same)

@@ -22,14 +22,14 @@ skip-if false = refl
 -- an event that says the same
 pub skips-same : (d : OutputLoadDecider) (event : SceneEvent) (k : TestEventKind) → SaysSame event k → is_skipped d k ≡ skips d event
 skips-same d (scene.SetupScriptFinished e) (kind.SetupScriptFinished stress id program args status) says =
-    skip-if (loads_script status.result) ∙ ap (λ s. not (loads_script s.result)) says.1.1
+    skip-if (loads_script status.result) ∙ ap (λ s. not (loads_script s.result)) says.2
 skips-same d (scene.TestAttemptFailedWillRetry e) (kind.TestAttemptFailedWillRetry stress test status delay failure) says =
-    skip-if (loads_attempt d failure) ∙ ap (λ f. not (loads_attempt d f)) says.1.1.1.1
+    skip-if (loads_attempt d failure) ∙ ap (λ f. not (loads_attempt d f)) says.4
 skips-same d (scene.TestFinished e) (kind.TestFinished stress test success failure statuses stats) says =
     skip-if (loads_finish d success failure (summary_of statuses))
-    ∙ ap (λ s. not (loads_finish d s failure (summary_of statuses))) says.1.1.0
-    ∙ ap (λ f. not (loads_finish d e.success_output f (summary_of statuses))) says.1.1.1.0
-    ∙ ap (λ a. not (loads_finish d e.success_output e.failure_output (summary_of a))) says.1.1.1.1.0
+    ∙ ap (λ s. not (loads_finish d s failure (summary_of statuses))) says.2
+    ∙ ap (λ f. not (loads_finish d e.success_output f (summary_of statuses))) says.3
+    ∙ ap (λ a. not (loads_finish d e.success_output e.failure_output (summary_of a))) says.4
 skips-same d (scene.SetupScriptFinished e) k says = absurd says
 skips-same d (scene.TestAttemptFailedWillRetry e) k says = absurd says
 skips-same d (scene.TestFinished e) k says = absurd says
