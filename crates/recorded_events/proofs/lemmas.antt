@@ -1,7 +1,6 @@
 pub mod Counts
 pub mod Fields
 pub mod Loaded
-pub mod Replayed
 pub mod Rows
 pub mod Skipped
 pub mod Skips

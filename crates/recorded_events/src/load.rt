@@ -4,7 +4,7 @@ ghost use Rattle.std.specs.Prelude.{◌≡◌, ◌≤◌, ◌-◌, ◌^◌, IfOk
 ghost use Rattle.recorded_lines.specs.Loads.{stream_in_field};
 ghost use Rattle.recorded_outputs.specs.Outputs.{counted};
 ghost use Rattle.recorded_events.specs.Loads.{IsFirstBad, IsReplayed, event_inline, fault_of_kind, fault_of_stream, field_not, first_field_not, is_there, is_undamaged, needed_of, output_inline, output_len, outputs_len, stream_field_not};
-ghost use Rattle.recorded_events.specs.Skips.{skips};
+ghost use Rattle.recorded_events.specs.Skips.{skips, skips_call};
 ghost use Rattle.reporter_state.specs.Unread.{is_skipped};
 ghost use Rattle.scene_events.specs.Loads.{event_with};
 
@@ -95,6 +95,7 @@ impl LoadEventFault {
 /// assert_eq!(load_outputs(alloc, &decider, line.outputs.as_slice(), &mut outputs, &mut event), Ok(()));
 /// assert_eq!(outputs.bytes_read(), 0); // the event has no output
 /// ```
+#[tactic(auto, unfolding(crate::specs::Loads::event_replayed))]
 pub fn load_outputs<O: ReadAt + Drop>(
     alloc: Global,
     decider: &OutputLoadDecider,
@@ -115,6 +116,7 @@ pub fn load_outputs<O: ReadAt + Drop>(
 }
 
 // Whether the decider skips the outputs of an event. It is asked about the call of the event, which is built for it and let go.
+#[tactic(auto, using(crate::proofs::lemmas::Skips::skips_call_same))]
 fn skips(
     alloc: Global,
     decider: &OutputLoadDecider,
@@ -125,12 +127,26 @@ fn skips(
     let mut calls = Vec::new(alloc);
     event.push_call(alloc, &mut calls)?;
     match calls.as_slice() {
-        [ReportCall::Event(called)] => skips_called(alloc, decider, called),
+        [call] => skips_call(alloc, decider, call),
         _ => Ok(false),
     }
 }
 
-// The same of a reporter's event.
+// The same of a call. A header and a prefix have no output.
+fn skips_call(
+    alloc: Global,
+    decider: &OutputLoadDecider,
+    call: &ReportCall<'_>,
+) -> Result<bool, OutOfMemory>
+    ensures { IfOk result (λ is. is ≡ skips_call decider.now call.now) }
+{
+    match call {
+        ReportCall::Event(event) => skips_called(alloc, decider, event),
+        ReportCall::Header(_) | ReportCall::Prefix(_) => Ok(false),
+    }
+}
+
+// The same of an event of a reporter.
 fn skips_called(
     alloc: Global,
     decider: &OutputLoadDecider,

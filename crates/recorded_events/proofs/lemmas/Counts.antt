@@ -1,13 +1,12 @@
 -- How many bytes are read, where a count stays at its greatest value.
-use Rattle.std.proofs.Common.{◌≡◌, ℕ, ◌+◌, ◌-◌, ◌^◌, ◌≤◌, min, List, [], ◌∷◌, refl, ap, sym, ◌∙◌, arith}
+use Rattle.std.proofs.Common.{◌≡◌, ℕ, ◌+◌, ◌-◌, ◌^◌, ◌≤◌, refl, ap, sym, ◌∙◌, arith}
 use Rattle.recorded_outputs.specs.Outputs.{counted}
 use Rattle.recorded_lines.specs.Loads.{counted_output, counted_stream}
 use Rattle.recorded_lines.specs.declared.stored.StoredOutput.{StoredOutput}
 use Rattle.recorded_lines.specs.declared.stored.StoredOutput.TheVariants.{Split, Combined}
 use Rattle.recorded_lines.specs.declared.stored.StoredStream.{StoredStream}
 use Rattle.recorded_lines.specs.declared.stored.StoredStream.TheVariants.{NotCaptured, Empty, At}
-use Rattle.recorded_lines.specs.declared.line.PlacedOutput.{PlacedOutput}
-use Rattle.recorded_events.specs.Loads.{output_len, outputs_len, stream_len}
+use Rattle.recorded_events.specs.Loads.{output_len, stream_len}
 
 -- two counts in turn are one of the sum
 pub counted-twice : (count a b : ℕ) → counted (counted count a) b ≡ counted count (a + b)

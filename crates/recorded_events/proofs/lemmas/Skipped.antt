@@ -1,8 +1,7 @@
 -- Outputs that are put into an event which the decider skips are gone once its skipped outputs are left unread.
-use Rattle.std.proofs.Common.{◌≡◌, ℕ, Bool, true, false, not, ◌==◌, if◌then◌else◌, List, [], ◌∷◌, Option, None, Some, refl, ap, sym, subst, ◌∙◌}
+use Rattle.std.proofs.Common.{◌≡◌, ℕ, Bool, true, false, not, ◌==◌, if◌then◌else◌, List, [], ◌∷◌, refl, ap, sym, ◌∙◌}
 use Rattle.std.proofs.lemmas.Bool.{false≢true}
-use Rattle.run_model.specs.Attempts.{Attempt, Attempts, attempt_with_output}
-use Rattle.run_model.specs.Statuses.{summary_of}
+use Rattle.run_model.specs.Attempts.{attempt_with_output}
 use Rattle.run_model.specs.Unloaded.{unloaded_attempt, unloaded_attempts, unloaded_event, unloaded_kind, unloaded_script}
 use Rattle.run_model.specs.declared.call.ReportCall.{ReportCall}
 use Rattle.run_model.specs.declared.call.ReportCall.TheVariants as call
@@ -10,13 +9,11 @@ use Rattle.run_model.specs.declared.event.TestEvent.{TestEvent}
 use Rattle.run_model.specs.declared.event.TestEventKind.{TestEventKind}
 use Rattle.run_model.specs.declared.event.TestEventKind.TheVariants as kind
 use Rattle.run_model.specs.declared.output.ChildOutputDescription.{ChildOutputDescription}
-use Rattle.run_model.specs.declared.output.LiveSpec.{LiveSpec}
-use Rattle.run_model.specs.declared.status.SetupScriptExecuteStatus.{SetupScriptExecuteStatus}
 use Rattle.recorded_lines.specs.declared.line.PlacedOutput.{PlacedOutput}
 use Rattle.reporter_state.specs.Loads.{loads_finish}
 use Rattle.reporter_state.specs.Unread.{is_skipped, unread_call}
 use Rattle.reporter_state.specs.declared.decider.OutputLoadDecider.{OutputLoadDecider}
-use Rattle.scene_events.specs.Loads.{attempts_with, event_with, event_with_only}
+use Rattle.scene_events.specs.Loads.{attempts_with, event_with}
 use Rattle.scene_events.specs.SceneAttempts.{script_status}
 use Rattle.scene_events.specs.Scenes.{IsCallOf, SaysSame, elapsed_of}
 use Rattle.scene_events.specs.declared.scene.event.SceneEvent.{SceneEvent}

@@ -1,7 +1,5 @@
 -- The decider skips an event of a scene just where it skips the event of a reporter that the call has.
-use Rattle.std.proofs.Common.{◌≡◌, ℕ, Bool, true, false, not, List, [], ◌∷◌, Option, None, Some, refl, ap, sym, ◌∙◌}
-use Rattle.run_model.specs.Attempts.{Attempts}
-use Rattle.run_model.specs.Recorded.{recorded_kind}
+use Rattle.std.proofs.Common.{◌≡◌, Bool, true, false, not, Some, refl, ap, ◌∙◌}
 use Rattle.run_model.specs.Statuses.{summary_of}
 use Rattle.run_model.specs.declared.call.ReportCall.{ReportCall}
 use Rattle.run_model.specs.declared.call.ReportCall.TheVariants as call
@@ -13,7 +11,7 @@ use Rattle.reporter_state.specs.declared.decider.OutputLoadDecider.{OutputLoadDe
 use Rattle.scene_events.specs.Scenes.{IsCallOf, SaysSame}
 use Rattle.scene_events.specs.declared.scene.event.SceneEvent.{SceneEvent}
 use Rattle.scene_events.specs.declared.scene.event.SceneEvent.TheVariants as scene
-use Rattle.recorded_events.specs.Skips.{skips}
+use Rattle.recorded_events.specs.Skips.{skips, skips_call}
 
 skip-if : (b : Bool) → is_skip (Some (load_if b)) ≡ not b
 skip-if true = refl
@@ -38,22 +36,10 @@ skips-same d event (kind.TestAttemptFailedWillRetry stress test status delay fai
 skips-same d event (kind.TestFinished stress test success failure statuses stats) says = absurd says
 skips-same d event k says = refl
 
--- a call that is no event has no output
-abbrev pub skips_call : OutputLoadDecider → ReportCall → Bool
-skips_call d (call.Event e) = is_skipped d e.kind
-skips_call d (call.Header h) = false
-skips_call d (call.Prefix p) = false
-
-pub skips-call : (d : OutputLoadDecider) (event : SceneEvent) (c : ReportCall) → IsCallOf event c → skips_call d c ≡ skips d event
-skips-call d event (call.Event e) is = skips-same d event e.kind is.1
-skips-call d (scene.Header header) (call.Header h) is = refl
-skips-call d (scene.Prefix prefix) (call.Prefix p) is = refl
-skips-call d event (call.Header h) is = absurd is
-skips-call d event (call.Prefix p) is = absurd is
-
--- an event without a recorded form is not skipped
-pub skips-none : (d : OutputLoadDecider) (k : TestEventKind) → recorded_kind k ≡ None → is_skipped d k ≡ false
-skips-none d (kind.SetupScriptFinished stress id program args status) none = cc
-skips-none d (kind.TestAttemptFailedWillRetry stress test status delay failure) none = cc
-skips-none d (kind.TestFinished stress test success failure statuses stats) none = cc
-skips-none d k none = refl
+-- a call of the event
+pub skips_call_same : (d : OutputLoadDecider) (event : SceneEvent) (c : ReportCall) → IsCallOf event c → skips_call d c ≡ skips d event
+skips_call_same d event (call.Event e) is = skips-same d event e.kind is.1
+skips_call_same d (scene.Header header) (call.Header h) is = refl
+skips_call_same d (scene.Prefix prefix) (call.Prefix p) is = refl
+skips_call_same d event (call.Header h) is = absurd is
+skips_call_same d event (call.Prefix p) is = absurd is
