@@ -12,7 +12,7 @@ from norigully.programs import note_sources, program, sum_of_sources
 
 CRATES = TOP / "crates"
 CASES = TOP / "cases"
-REPORT, FOLLOW = program("report"), program("follow")
+REPORT, FOLLOW, REPLAY = program("report"), program("follow"), program("replay")
 
 
 def need_program(program, makes="./build makes it"):

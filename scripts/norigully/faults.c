@@ -1,12 +1,14 @@
-/* Loaded before the C library, it makes one call of a program fail: the growth of memory, or the write to standard output or to a file
-   that was opened, or the read, whose number FAULT_AT says, of the kind that FAULT_KIND names. A short write takes one byte; what is
-   interrupted takes or gives none, and may be tried again. It creates the file FAULT_TOLD where the call came. `scripts/check-faults` builds and uses it. */
+/* Loaded before the C library, it makes one call of a program fail: the growth of memory, the write to standard output or to a file that
+   was opened, the read, the seek, or the look at what a file is (`look`). FAULT_KIND names the kind, and FAULT_AT says which call of it. A
+   short write takes one byte; what is interrupted takes or gives none, and may be tried again. It creates the file FAULT_TOLD where the call
+   came. `scripts/check-faults` builds and uses it. */
 #define _GNU_SOURCE
 #include <dlfcn.h>
 #include <errno.h>
 #include <fcntl.h>
 #include <stdlib.h>
 #include <string.h>
+#include <sys/stat.h>
 #include <sys/uio.h>
 #include <unistd.h>
 
@@ -81,4 +83,28 @@ ssize_t read(int file, void *bytes, size_t count)
         return -1;
     }
     return real(file, bytes, count);
+}
+
+off_t lseek(int file, off_t offset, int whence)
+{
+    static off_t (*real)(int, off_t, int);
+    if (!real)
+        real = next("lseek");
+    if (fails("seek")) {
+        errno = EIO;
+        return -1;
+    }
+    return real(file, offset, whence);
+}
+
+int statx(int folder, const char *path, int flags, unsigned int mask, struct statx *told)
+{
+    static int (*real)(int, const char *, int, unsigned int, struct statx *);
+    if (!real)
+        real = next("statx");
+    if (fails("look")) {
+        errno = EIO;
+        return -1;
+    }
+    return real(folder, path, flags, mask, told);
 }

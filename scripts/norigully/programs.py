@@ -11,7 +11,7 @@ import hashlib
 from norigully import TOP
 from norigully.crate_list import lines_of, sources_of, with_those_below
 
-PROGRAMS = ("report", "follow")
+PROGRAMS = ("report", "follow", "replay")
 
 
 def program(name, top=TOP):

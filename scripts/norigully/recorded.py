@@ -3,14 +3,16 @@ again need not read what is not shown. `Recorder` writes the folder of a run lin
 """
 
 import hashlib
+import io
 import os
 import re
 from dataclasses import dataclass
 
 from norigully.converters import Bad
 from norigully.scene_lines import stream, unescaped
+from norigully.words import FILES_OF_RUN
 
-LINES, OUTPUTS = "run.scene", "outputs"
+LINES, OUTPUTS = FILES_OF_RUN
 # In each line that has an output the field of its first stream, counted from 1.
 FIRST_STREAM = {b"done": 14, b"retry": 13, b"setupdone": 10, b"answer-test": 12, b"answer-script": 11}
 FIELDS_OF_AN_ATTEMPT = 8
@@ -162,6 +164,13 @@ class Recorder:
         if self.room_at is not None:
             header = self.headers[ended]
             os.pwrite(self.lines.fileno(), header + comment(self.room() - len(header)), self.room_at)
+
+
+def record(scene, folder):
+    """Records the lines of a scene."""
+    recorder = Recorder(folder)
+    for line in io.BytesIO(scene):
+        recorder.write(line)
 
 
 def held_in(field):

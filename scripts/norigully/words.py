@@ -1,6 +1,7 @@
-"""The words that `report` and `follow` take, listed once for all scripts. `scripts/check-run` holds their usage against
+"""The words that the programs take, listed once for all scripts. `scripts/check-run` holds their usage against
 the programs' own."""
 
+import os
 import re
 from dataclasses import dataclass, field
 
@@ -8,19 +9,23 @@ FLAGS = ("--color", "--counter", "--replay", "--unload", "--store-success", "--s
 LEVELS = ("none", "fail", "retry", "slow", "leak", "pass", "skip", "all")
 # In the order in which usage shows them.
 SHOWN = ("--color", "--counter", "--replay", "--unload", "--level L", "--store PATH", *FLAGS[-2:])
+# How usage shows the last word.
+LAST = {"report": "FILE", "follow": "[FILE]", "replay": "DIR"}
+# The files in the folder of a recorded run.
+FILES_OF_RUN = ("run.scene", "outputs")
 
 
 def usage(program):
     """The usage of a program, as it prints it itself."""
-    file = "FILE" if program == "report" else "[FILE]"
-    return f"usage: {program} {' '.join(f'[{it}]' for it in SHOWN)} {file}"
+    return f"usage: {program} {' '.join(f'[{it}]' for it in SHOWN)} {LAST[program]}"
 
 
 @dataclass
 class Options:
-    """What words ask for: the options before the file, and the file; None where `follow` reads standard input without
-    being told so."""
+    """What words ask of a program: the options before the file, and the file, which is the folder for `replay`; None
+    where `follow` reads standard input without being told so."""
 
+    program: str
     given: list = field(default_factory=list)
     store_at: int | None = None
     file: str | None = None
@@ -29,7 +34,14 @@ class Options:
 
     @property
     def reads_input(self):
-        return self.file in (None, "-")
+        return self.program != "replay" and self.file in (None, "-")
+
+    @property
+    def files(self):
+        """The files that the program reads by their names."""
+        if self.reads_input:
+            return []
+        return [os.path.join(self.file, it) for it in FILES_OF_RUN] if self.program == "replay" else [self.file]
 
 
 def options_of(program, words):
@@ -37,7 +49,7 @@ def options_of(program, words):
     words that are UTF-8 alone; `--no-color` is a word of ./run."""
     if any(re.search("[\ud800-\udfff]", word) for word in words):
         return None
-    options, at = Options(), 0
+    options, at = Options(program), 0
     while at < len(words):
         word, is_last = words[at], at == len(words) - 1
         if is_last and not (program == "follow" and (is_option(options, word) or word == "--no-color")):
@@ -58,7 +70,7 @@ def options_of(program, words):
     if not options.wants_color and "--color" in options.given:
         return None
     keeps_output = {"--store-success", "--store-failure"} & {*options.given}
-    if (keeps_output and options.store_at is None) or (program == "report" and options.file is None):
+    if (keeps_output and options.store_at is None) or (program != "follow" and options.file is None):
         return None
     return options
 

@@ -37,7 +37,7 @@ pub record Asked : Type 0 where
   pub status_level : StatusLevel
   -- where records of finished tests go, if they are asked for
   pub store : Option AskedStore
-  -- the file that holds the scene
+  -- the file that holds the scene, or the folder that holds the recorded run
   pub file : Text
 
 -- options as a value

@@ -24,11 +24,13 @@ fault_text fault.OutOfMemory = codes "out of memory"
 abbrev pub program_name : Program → List ℕ
 program_name program.Report = codes "report"
 program_name program.Follow = codes "follow"
+program_name program.Replay = codes "replay"
 
 -- the words that a program takes
 abbrev pub usage_of : Program → List ℕ
 usage_of program.Report = codes "usage: report [--color] [--counter] [--replay] [--unload] [--level L] [--store PATH] [--store-success] [--store-failure] FILE"
 usage_of program.Follow = codes "usage: follow [--color] [--counter] [--replay] [--unload] [--level L] [--store PATH] [--store-success] [--store-failure] [FILE]"
+usage_of program.Replay = codes "usage: replay [--color] [--counter] [--replay] [--unload] [--level L] [--store PATH] [--store-success] [--store-failure] DIR"
 
 abbrev pub said_by : Program → Fault → List ℕ
 said_by by fault.Usage = usage_of by

@@ -26,7 +26,7 @@ pub struct Options<'a> {
     pub status_level: StatusLevel,
     /// Where records of finished tests go, if they are asked for.
     pub store: Option<StoreOptions<'a>>,
-    /// The file that holds the scene.
+    /// The file that holds the scene, or the folder that holds the recorded run.
     pub file: &'a str,
 }
 

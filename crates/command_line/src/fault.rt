@@ -22,9 +22,9 @@ use std::io::ErrorKind;
 pub enum Fault<'a> {
     /// The command line is wrong.
     Usage,
-    /// The file cannot be read.
+    /// The file cannot be read, or a file in the folder.
     CannotRead {
-        /// The file, as the command line names it.
+        /// The file or the folder, as the command line names it.
         file: &'a str,
     },
     /// The file of the records cannot be made or emptied.
@@ -106,13 +106,15 @@ pub struct FaultLine<'a> {
     pub fault: Fault<'a>,
 }
 
-/// A program that reports scenes.
+/// A program that reports scenes or recorded runs.
 #[derive(Clone, Copy, PartialEq, Eq)]
 pub enum Program {
     /// It reports a scene that it has read to its end.
     Report,
     /// It reports each line as it comes.
     Follow,
+    /// It reports a recorded run, of whose outputs it reads those that it shows.
+    Replay,
 }
 
 impl Program {
@@ -123,6 +125,7 @@ impl Program {
         match self {
             Program::Report => "report",
             Program::Follow => "follow",
+            Program::Replay => "replay",
         }
     }
 
@@ -136,6 +139,9 @@ impl Program {
             }
             Program::Follow => {
                 "usage: follow [--color] [--counter] [--replay] [--unload] [--level L] [--store PATH] [--store-success] [--store-failure] [FILE]"
+            }
+            Program::Replay => {
+                "usage: replay [--color] [--counter] [--replay] [--unload] [--level L] [--store PATH] [--store-success] [--store-failure] DIR"
             }
         }
     }

@@ -1,6 +1,6 @@
 //! References as a scene writes them, and the streams that they name.
 
-mod sources;
+pub mod sources;
 
 use recorded_outputs::outputs::{LoadFault, RecordedOutputs};
 use recorded_outputs::read_at::ReadAt;

@@ -1,4 +1,4 @@
-//! What both programs do with their process: the words that they were called with, and the line and the status of a fault.
+//! What each program does with its process: the words that it was called with, and the line and the status of a fault.
 
 ghost use Rattle.std.specs.Prelude.{◌≡◌, ◌⊎◌, IfErr};
 ghost use Rattle.command_line.specs.Faults.{status_of};

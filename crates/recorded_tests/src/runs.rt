@@ -1,0 +1,210 @@
+//! Recorded runs that are replayed, with what is read of their outputs.
+
+use recorded_outputs::outputs::RecordedOutputs;
+use recorded_outputs::read_at::ReadAt;
+use recorded_runs::run::RecordedRun;
+use run_model::level::StatusLevel;
+use scenes::args::{Options, StoreOptions};
+use scenes::fault::{Fault, LineFault};
+use scenes::follow::{RunOutcome, follow_scene};
+use std::alloc::{AllocError, Global};
+use std::io;
+use std::io::ErrorKind;
+use std::test::Fail;
+use store_text::config::StoreConfig;
+
+use crate::tests::sources::Failing;
+
+// Two streams.
+const OUTPUTS: &[u8] = b"passed\nfailed\n";
+
+// In a line below, PASSED stands for a reference to the first of them, and FAILED for one to the second.
+const PASSED: &str = "\\@0:7:edf1b9bbb2e79dff0fa187fdc33dd0ac";
+
+const FAILED: &str = "\\@7:7:74170928bae84bb0a107a0906596aa52";
+
+const RUN: &str = "config\tfinal\tfail\n\
+run\t00000000-0000-4000-8000-000000000001\tdefault\t2\t1\t-\n\
+done\t-\talpha\tt1\tnever\tnever\tpass\tinitial=2 finished=1 passed=1\t1\tpass\t5000000\t0\tsplit\tPASSED\t\t-\t-\n\
+done\t-\talpha\tt2\tnever\timmediate\tpass\tinitial=2 finished=2 passed=1 failed=1\t1\tfail:1\t1500000000\t0\tsplit\t\tFAILED\t-\t-\n\
+end\t1520000000\tinitial=2 finished=2 passed=1 failed=1\t0\t-\n";
+
+const OPTIONS: Options<'static> = Options {
+    should_colorize: false,
+    show_counter: false,
+    is_replay: true,
+    unload_skipped: false,
+    status_level: StatusLevel::Pass,
+    store: None,
+    file: "DIR",
+};
+
+// Records with these outputs.
+const fn storing(store_success_output: bool, store_failure_output: bool) -> Options<'static> {
+    Options {
+        store: Some(StoreOptions {
+            file: "out",
+            config: StoreConfig {
+                store_success_output,
+                store_failure_output,
+            },
+        }),
+        ..OPTIONS
+    }
+}
+
+// What a replay came to, what it printed and stored, and how many bytes of outputs it read.
+struct Replayed<'a> {
+    outcome: Result<RunOutcome, Fault<'a>>,
+    printed: Vec<u8>,
+    stored: Vec<u8>,
+    bytes_read: u64,
+}
+
+fn replay<'a, O: ReadAt + Drop>(
+    alloc: Global,
+    options: &Options<'a>,
+    lines: &str,
+    outputs: O,
+) -> Result<Replayed<'a>, Fail> {
+    let outputs = RecordedOutputs::new(outputs)?;
+    let mut run = RecordedRun::new(alloc, *options, lines.as_bytes(), outputs)?;
+    let (outcome, printed, stored) = run.replay(alloc, Vec::new(alloc), Vec::new(alloc));
+    Ok(Replayed {
+        outcome,
+        printed,
+        stored,
+        bytes_read: run.bytes_read(),
+    })
+}
+
+// The run with these in place of its references.
+fn lines_with(alloc: Global, passed: &str, failed: &str) -> Result<String, AllocError> {
+    RUN.replace(alloc, "PASSED", passed)?
+        .replace(alloc, "FAILED", failed)
+}
+
+#[test]
+fn reads_what_is_shown_or_stored(rt: HostRuntime) -> Result<(), Fail> {
+    let alloc = rt.alloc();
+    let live = Options {
+        is_replay: false,
+        ..OPTIONS
+    };
+    let retries = Options {
+        status_level: StatusLevel::None,
+        ..OPTIONS
+    };
+    let rows = [
+        (OPTIONS, 7),
+        (live, 7),
+        (retries, 7),
+        (storing(false, false), 7),
+        (storing(true, false), 14),
+        (storing(true, true), 14),
+    ];
+    let lines = lines_with(alloc, PASSED, FAILED)?;
+    let inline = lines_with(alloc, "passed\\n", "failed\\n")?;
+    for (options, bytes_read) in rows {
+        let replayed = replay(alloc, &options, lines.as_str(), OUTPUTS)?;
+        assert_eq!(rt; replayed.bytes_read, bytes_read);
+        let shown = Options {
+            is_replay: true,
+            ..options
+        };
+        let (outcome, printed, stored) = follow_scene(
+            alloc,
+            &shown,
+            inline.as_bytes(),
+            Vec::new(alloc),
+            Vec::new(alloc),
+        );
+        assert!(rt; outcome? == RunOutcome::Failed && replayed.outcome? == RunOutcome::Failed);
+        assert_eq!(rt; replayed.printed.as_slice(), printed.as_slice());
+        assert_eq!(rt; replayed.stored.as_slice(), stored.as_slice());
+    }
+    Ok(())
+}
+
+#[test]
+fn tells_damaged_outputs_by_line_and_field(rt: HostRuntime) -> Result<(), Fail> {
+    let alloc = rt.alloc();
+    let past = "\\@8:7:74170928bae84bb0a107a0906596aa52";
+    let other = "\\@0:7:74170928bae84bb0a107a0906596aa52";
+    let empty = "\\@14:0:d41d8cd98f00b204e9800998ecf8427e";
+    let rows = [
+        (PASSED, FAILED, None),
+        (empty, empty, None),
+        // The sum of an output that is skipped is not looked at, but its bytes must be there.
+        (other, FAILED, None),
+        (past, FAILED, Some((3, 14))),
+        (PASSED, other, Some((4, 15))),
+        (PASSED, past, Some((4, 15))),
+        (other, other, Some((4, 15))),
+        ("\\@0:7", FAILED, Some((3, 14))),
+    ];
+    let whole = lines_with(alloc, PASSED, FAILED)?;
+    let report = replay(alloc, &OPTIONS, whole.as_str(), OUTPUTS)?.printed;
+    for (passed, failed, bad) in rows {
+        let lines = lines_with(alloc, passed, failed)?;
+        let replayed = replay(alloc, &OPTIONS, lines.as_str(), OUTPUTS)?;
+        let fault = match replayed.outcome {
+            Ok(_) => None,
+            Err(Fault::Line {
+                line,
+                fault: LineFault::BadField(field),
+            }) => Some((line, field)),
+            Err(_) => return Err(Fail::from("another fault")),
+        };
+        assert_eq!(rt; fault, bad);
+        if bad.is_some() {
+            assert!(rt; report.as_slice().starts_with(replayed.printed.as_slice()));
+        }
+    }
+    Ok(())
+}
+
+#[test]
+fn takes_a_line_that_was_cut_for_none(rt: HostRuntime) -> Result<(), Fail> {
+    let alloc = rt.alloc();
+    let lines = lines_with(alloc, PASSED, FAILED)?;
+    let whole = replay(alloc, &OPTIONS, lines.as_str(), OUTPUTS)?;
+    assert!(rt; whole.outcome? == RunOutcome::Failed);
+    for end in 0..lines.len() {
+        let (cut, _) = lines.as_str().split_at(end);
+        let kept = match cut.rfind('\n') {
+            Some(at) => &cut[..at + 1],
+            None => "",
+        };
+        let replayed = replay(alloc, &OPTIONS, cut, OUTPUTS)?;
+        let of_whole_lines = replay(alloc, &OPTIONS, kept, OUTPUTS)?;
+        assert!(rt; replayed.outcome? == RunOutcome::NotEnded);
+        assert_eq!(rt; replayed.printed.as_slice(), of_whole_lines.printed.as_slice());
+        assert!(rt; whole.printed.as_slice().starts_with(replayed.printed.as_slice()));
+    }
+    Ok(())
+}
+
+#[test]
+fn tells_that_outputs_cannot_be_read(rt: HostRuntime) -> Result<(), Fail> {
+    let alloc = rt.alloc();
+    let lines = lines_with(alloc, PASSED, FAILED)?;
+    let report = replay(alloc, &OPTIONS, lines.as_str(), OUTPUTS)?.printed;
+    let kinds = [
+        (ErrorKind::Other, "cannot read DIR", 2),
+        (ErrorKind::OutOfMemory, "out of memory", 3),
+    ];
+    for (kind, line, status) in kinds {
+        // The first call asks how many bytes there are.
+        let failing = Failing::new(OUTPUTS, 1, kind);
+        let replayed = replay(alloc, &OPTIONS, lines.as_str(), failing)?;
+        let Err(fault) = replayed.outcome else {
+            return Err(Fail::from("the read fails"));
+        };
+        assert_eq!(rt; fault.to_string(alloc)?.as_str(), line);
+        assert_eq!(rt; fault.status(), status);
+        assert!(rt; report.as_slice().starts_with(replayed.printed.as_slice()));
+        assert_eq!(rt; replayed.bytes_read, 0);
+    }
+    Ok(())
+}

@@ -1,0 +1,81 @@
+//! The program `replay`: it prints nextest's console report of a recorded run. Of what the tests wrote it reads what the report shows.
+//!
+//! Its status is that of the run, as it is of the program `follow`: 0 for a success, 100 for a failure, 4 where no test ran, and 3 for a run
+//! that did not end. What goes wrong is one line on standard error and the status.
+#![tactic(auto)]
+
+use recorded_outputs::outputs::RecordedOutputs;
+use recorded_runs::run::RecordedRun;
+use scenes::args::{Options, words};
+use scenes::fault::{Fault, Program};
+use scenes::follow::RunOutcome;
+use scenes::process::{arguments, tell};
+use std::fs::File;
+use std::io::{self, ErrorKind};
+use std::path::Path;
+use std::process::ExitCode;
+
+fn main(rt: HostRuntime) -> ExitCode {
+    let status = match arguments(&rt) {
+        Ok(args) => match run(&rt, args.as_slice()) {
+            Ok(outcome) => end(&rt, outcome),
+            Err(fault) => tell(&rt, Program::Replay, fault),
+        },
+        Err(fault) => tell(&rt, Program::Replay, fault),
+    };
+    ExitCode::from(status)
+}
+
+// Answers the status of the run. Of a run that did not end it prints a line.
+fn end(rt: &HostRuntime, outcome: RunOutcome) -> u8 {
+    if outcome == RunOutcome::NotEnded {
+        let _ = rt.eprintln("replay: the run did not end");
+    }
+    outcome.status()
+}
+
+// Runs the program on its words. Both files of the run are open before that of the records is made or emptied.
+fn run<'a>(rt: &HostRuntime, args: &'a [String]) -> Result<RunOutcome, Fault<'a>> {
+    let Some(options) = words(args) else {
+        return Err(Fault::Usage);
+    };
+    let (lines, outputs) = match open(rt, options.file) {
+        Ok(files) => files,
+        Err(error) => return Err(Fault::CannotRead { file: options.file }.by_kind(error.kind())),
+    };
+    replay(rt, options, lines, outputs)
+}
+
+// Opens the lines and the outputs of the run in this folder.
+fn open(rt: &HostRuntime, folder: &str) -> io::Result<(File, RecordedOutputs<File>)> {
+    let lines = open_file(rt, folder, "run.scene")?;
+    let outputs = RecordedOutputs::new(open_file(rt, folder, "outputs")?)?;
+    Ok((lines, outputs))
+}
+
+// Opens a file of a folder. A folder would open as well, and fail only once it is read.
+fn open_file(rt: &HostRuntime, folder: &str, name: &str) -> io::Result<File> {
+    let file = File::open(rt, Path::new(folder).join(rt.alloc(), name)?)?;
+    if file.metadata()?.is_dir() {
+        return Err(ErrorKind::IsADirectory.into());
+    }
+    Ok(file)
+}
+
+// Replays the run. The file of the records is made or emptied before a line is read.
+fn replay<'a>(
+    rt: &HostRuntime,
+    options: Options<'a>,
+    lines: File,
+    outputs: RecordedOutputs<File>,
+) -> Result<RunOutcome, Fault<'a>> {
+    let alloc = rt.alloc();
+    let mut run = RecordedRun::new(alloc, options, lines, outputs)?;
+    let Some(store) = options.store else {
+        return run.replay(alloc, io::writer(rt), io::sink()).0;
+    };
+    match File::create(rt, store.file) {
+        Ok(records) => run.replay(alloc, io::writer(rt), records).0,
+        Err(error) => Err(Fault::CannotWrite { file: store.file }.by_kind(error.kind())),
+    }
+}
