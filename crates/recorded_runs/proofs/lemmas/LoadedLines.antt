@@ -24,12 +24,12 @@ use Rattle.scene_fields.specs.declared.fault.LineFault.{LineFault}
 use Rattle.scene_fields.specs.declared.fault.LineFault.TheVariants as wrong
 use Rattle.scene_fields.specs.declared.fault.ReadFault.{ReadFault}
 use Rattle.scene_fields.specs.declared.fault.ReadFault.TheVariants as fault
-use Rattle.scene_text.specs.SceneTexts.{AllRead, ConfigLine, EventLine, IsNextFault, LeavesLines, LinesBefore, NoEvent, ParsedLine, ParsedLines, ReadsLines, RunLine, event_line, event_lines, is_begun, line_here, line_read, lines_after, lines_before, lines_with, parsed_line, parsed_lines, plain_line, with_event, with_line}
+use Rattle.scene_text.specs.SceneTexts.{AllRead, ConfigLine, EventLine, IsNextFault, LeavesLines, LinesBefore, NoEvent, ParsedLine, ParsedLines, ReadsLines, RunLine, event_line, event_lines, is_begun, line_here, line_read, lines_after, lines_before, lines_with, parsed_line, parsed_lines, plain_line, text_lines, with_event, with_line}
 use Rattle.scene_text.specs.declared.reader.LinesRead.{LinesRead}
 use Rattle.scenes.specs.Unloads.{decider_for}
 
 -- what holds of the value that is there
-pub at_some : {X : Type 0} (o : Option X) (x : X) (P : X → Type 0) → o ≡ Some x → IfSome o P → P x
+at_some : {X : Type 0} (o : Option X) (x : X) (P : X → Type 0) → o ≡ Some x → IfSome o P → P x
 at_some o x P is h = subst (λ r. IfSome r P) is h
 
 -- what holds of the error that a fault was made of
@@ -93,20 +93,20 @@ keeps_read old new ts reads = record {
 }
 
 -- also where the first event behind it is another now
-pub keeps_read-set : (old mid new : LinesRead) (event : SceneEvent) → KeepsRead old mid → new.run.events.items ≡ set mid.run.events.items (length old.run.events.items) event → new.run.lines.items ≡ mid.run.lines.items → new.is_begun ≡ mid.is_begun → KeepsRead old new
-keeps_read-set old mid new event keeps events lines begun = record {
-  events = λ base is. ap (take (length old.run.events.items)) events ∙ take-set mid.run.events.items (length old.run.events.items) event ∙ keeps.events base is;
+pub keeps_read-set : (old mid new : LinesRead) (event : SceneEvent) (place : ℕ) → KeepsRead old mid → place ≡ length old.run.events.items → new.run.events.items ≡ set mid.run.events.items place event → new.run.lines.items ≡ mid.run.lines.items → new.is_begun ≡ mid.is_begun → KeepsRead old new
+keeps_read-set old mid new event place keeps at events lines begun = record {
+  events = λ base is. ap (take (length old.run.events.items)) (events ∙ ap (λ k. set mid.run.events.items k event) at) ∙ take-set mid.run.events.items (length old.run.events.items) event ∙ keeps.events base is;
   lines = λ base is. ap (take (length old.run.lines.items)) lines ∙ keeps.lines base is;
   begun = begun ∙ keeps.begun;
 }
 
 -- and is there again once that is taken back
-pub taken_back : (old mid new : LinesRead) → KeepsRead old mid → new.run.config ≡ old.run.config → new.run.events.items ≡ take (length old.run.events.items) mid.run.events.items → new.run.lines.items ≡ take (length old.run.lines.items) mid.run.lines.items →
-    new.is_begun ≡ mid.is_begun → new.next ≡ old.next → ReadsLines old new []
+pub taken_back : (old mid new : LinesRead) (events lines : ℕ) → KeepsRead old mid → events ≡ length old.run.events.items → lines ≡ length old.run.lines.items → new.run.config ≡ old.run.config →
+    new.run.events.items ≡ take events mid.run.events.items → new.run.lines.items ≡ take lines mid.run.lines.items → new.is_begun ≡ mid.is_begun → new.next ≡ old.next → ReadsLines old new []
 unfolding event_lines
-taken_back old mid new keeps config events lines begun next = record {
-  tells = λ base is. rw (config, events, keeps.events base is) refl;
-  noted = λ base is. lines ∙ keeps.lines base is ∙ sym (append-nil old.run.lines.items);
+taken_back old mid new events lines keeps events_are lines_are config events_left lines_left begun next = record {
+  tells = λ base is. (let same = events_left ∙ ap (λ n. take n mid.run.events.items) events_are ∙ keeps.events base is in rw (config, same) refl);
+  noted = λ base is. lines_left ∙ ap (λ n. take n mid.run.lines.items) lines_are ∙ keeps.lines base is ∙ sym (append-nil old.run.lines.items);
   begun = begun ∙ keeps.begun;
   place = omega (arith, next);
 }
@@ -224,8 +224,10 @@ module _ (text : List ℕ) (made : LinesBefore → SceneEvent → Result SceneEv
     not_read fault.OutOfMemory (t ∷ []) rest whole reads base is wrong = tt
     not_read f (t ∷ u ∷ front) rest whole reads base is wrong = absurd (no_second (plain_line text) t u (front ++ rest) whole)
 
-    pub wrong_line : (file : List ℕ) (f : ReadFault) (told : Fault) → told ≡ fault_of_read f → LeavesLines old new (plain_line text ∷ []) f → IsLineFault file old line told
-    wrong_line file f told is leaves = inr (f, is, λ base begun. not_read f leaves.front leaves.rest leaves.whole leaves.reads base begun (leaves.wrong base begun))
+    pub wrong_line : (file bytes : List ℕ) (f : ReadFault) → bytes ≡ text → text_lines text ≡ plain_line text ∷ [] → LeavesLines old new (text_lines bytes) f → (told : Fault) → told ≡ fault_of_read f → IsLineFault file old line told
+    wrong_line file bytes f same one left told is =
+        let leaves = subst (λ ts. LeavesLines old new ts f) (ap text_lines same ∙ one) left in
+        inr (f, is, λ base begun. not_read f leaves.front leaves.rest leaves.whole leaves.reads base begun (leaves.wrong base begun))
 
 -- of no stored outputs nothing is made, and nothing is needed
 nothing_stored : (all : List ℕ) (d : OutputLoadDecider) (e : SceneEvent) → event_replayed all d [] e ≡ Ok e
@@ -304,94 +306,103 @@ event_set : (es : List SceneEvent) (e made : SceneEvent) → set (es ++ e ∷ []
 event_set [] e made = refl
 event_set (x ∷ es) e made = ap (λ ys. x ∷ ys) (event_set es e made)
 
-module _ (options : Options) (text : List ℕ) (stored : List PlacedOutput) (old mid : LinesRead) (reads : ReadsLines old mid (plain_line text ∷ [])) where
-  says_of : (base : List SceneEvent) → Result ParsedLine LineFault
-  says_of base = parsed_line (lines_before (behind base old)) text
+module _ (options : Options) (text bytes : List ℕ) (same : bytes ≡ text) (stored : List PlacedOutput) (old mid : LinesRead) (were_read : ReadsLines old mid (text_lines bytes)) (one : text_lines text ≡ plain_line text ∷ []) where
+  reads : ReadsLines old mid (plain_line text ∷ [])
+  reads = subst (ReadsLines old mid) (ap text_lines same ∙ one) were_read
 
   what_added : (base : List SceneEvent) → is_begun base ≡ old.is_begun → AddsEvent old mid (parsed_line (lines_before (behind base old)) text) ⊎ AddsNone old mid (parsed_line (lines_before (behind base old)) text)
   unfolding line_read
   what_added base is = added base old mid (parsed_line (lines_before (behind base old)) text) (one_read old mid (plain_line text) reads base is)
 
-  -- no event was added
-  module _ (none : length mid.run.events.items ≤ length old.run.events.items) where
-    no_event : (base : List SceneEvent) → is_begun base ≡ old.is_begun → (e : SceneEvent) → parsed_line (lines_before (behind base old)) text ≡ Ok (EventLine e) → ⊥
-    no_event base is e says = elim (what_added base is) [
-      | inl h ↦ (let size : length mid.run.events.items ≡ length old.run.events.items + 1 = ap length h.events ∙ length-append old.run.events.items (h.event ∷ []) in omega (arith, none))
-      | inr h ↦ h.none e says
-    ]
+  -- so many events were there, and so many are there now
+  module _ (place count : ℕ) (at : place ≡ length old.run.events.items) (counts : count ≡ length mid.run.events.items) where
+    -- none was added
+    module _ (none : count ≤ place) where
+      no_event : (base : List SceneEvent) → is_begun base ≡ old.is_begun → (e : SceneEvent) → parsed_line (lines_before (behind base old)) text ≡ Ok (EventLine e) → ⊥
+      no_event base is e says = elim (what_added base is) [
+        | inl h ↦ (let size : length mid.run.events.items ≡ length old.run.events.items + 1 = ap length h.events ∙ length-append old.run.events.items (h.event ∷ []) in omega (arith, at, counts, none))
+        | inr h ↦ h.none e says
+      ]
 
-    pub no_event_reads : (all : List ℕ) → ReadsLines old mid (loaded_line options all text stored ∷ [])
-    no_event_reads all = made_reads text (λ before e. event_replayed all (decider_for options before.config) stored e) old mid (λ base is e says. absurd (no_event base is e says)) reads
+      pub no_event_reads : (all : List ℕ) → ReadsLines old mid (loaded_line options all text stored ∷ [])
+      no_event_reads all = made_reads text (λ before e. event_replayed all (decider_for options before.config) stored e) old mid (λ base is e says. absurd (no_event base is e says)) reads
 
-    pub no_event_counted : (count : ℕ) → IsCounted options old text stored count count
-    no_event_counted count = λ base is more. counted_none count _ more (no_event_needed options (lines_before (behind base old)) stored (parsed_line (lines_before (behind base old)) text) (no_event base is))
+      pub no_event_counted : (read : ℕ) → IsCounted options old text stored read read
+      no_event_counted read = λ base is more. counted_none read _ more (no_event_needed options (lines_before (behind base old)) stored (parsed_line (lines_before (behind base old)) text) (no_event base is))
 
-  -- an event was added, and this decides about its outputs
-  module _ (some : length old.run.events.items < length mid.run.events.items) (d : OutputLoadDecider) (decides : d ≡ decider_for options mid.run.config) (event other : SceneEvent) (there : event ≡ get_or mid.run.events.items (length old.run.events.items) other) where
-    has_event : (base : List SceneEvent) → is_begun base ≡ old.is_begun → AddsEvent old mid (parsed_line (lines_before (behind base old)) text)
-    has_event base is = elim (what_added base is) [
-      | inl h ↦ h
-      | inr h ↦ (let size : length mid.run.events.items ≡ length old.run.events.items = ap length h.events in absurd (omega (arith, some)))
-    ]
+    -- this one was, and this decides about its outputs
+    module _ (some : place < count) (d : OutputLoadDecider) (decides : d ≡ decider_for options mid.run.config) (event other : SceneEvent) (there : event ≡ get_or mid.run.events.items place other) (given : List PlacedOutput) (given_is : given ≡ stored) where
+      has_event : (base : List SceneEvent) → is_begun base ≡ old.is_begun → AddsEvent old mid (parsed_line (lines_before (behind base old)) text)
+      has_event base is = elim (what_added base is) [
+        | inl h ↦ h
+        | inr h ↦ (let size : length mid.run.events.items ≡ length old.run.events.items = ap length h.events in absurd (omega (arith, at, counts, some)))
+      ]
 
-    module _ (base : List SceneEvent) (is : is_begun base ≡ old.is_begun) where
-      abbrev h : AddsEvent old mid (parsed_line (lines_before (behind base old)) text)
-      h = has_event base is
+      module _ (base : List SceneEvent) (is : is_begun base ≡ old.is_begun) where
+        abbrev h : AddsEvent old mid (parsed_line (lines_before (behind base old)) text)
+        h = has_event base is
 
-      is_it : h.event ≡ event
-      is_it = sym (there ∙ ap (λ es. get_or es (length old.run.events.items) other) h.events ∙ event_there old.run.events.items h.event other)
+        is_it : h.event ≡ event
+        is_it = sym (there ∙ ap (λ k. get_or mid.run.events.items k other) at ∙ ap (λ es. get_or es (length old.run.events.items) other) h.events ∙ event_there old.run.events.items h.event other)
 
-      says_it : parsed_line (lines_before (behind base old)) text ≡ Ok (EventLine event)
-      says_it = subst (λ e. parsed_line (lines_before (behind base old)) text ≡ Ok (EventLine e)) is_it h.is
+        says_it : parsed_line (lines_before (behind base old)) text ≡ Ok (EventLine event)
+        says_it = subst (λ e. parsed_line (lines_before (behind base old)) text ≡ Ok (EventLine e)) is_it h.is
 
-      decides_so : d ≡ decider_for options old.run.config
-      decides_so = decides ∙ ap (decider_for options) h.config
+        decides_so : d ≡ decider_for options old.run.config
+        decides_so = decides ∙ ap (decider_for options) h.config
 
-      value_is : (all : List ℕ) (r : Result SceneEvent LineFault) → event_replayed all d stored event ≡ r → line_read (behind base old) (loaded_line options all text stored) ≡ lines_with (behind base old) (event_line r)
-      unfolding line_read
-      value_is all r loaded =
-          let made : event_replayed all (decider_for options old.run.config) stored event ≡ r = subst (λ x. event_replayed all x stored event ≡ r) decides_so loaded in
-          rw says_it (ap (λ x. lines_with (behind base old) (event_line x)) made)
+        value_is : (all : List ℕ) (r : Result SceneEvent LineFault) → event_replayed all d given event ≡ r → line_read (behind base old) (loaded_line options all text stored) ≡ lines_with (behind base old) (event_line r)
+        unfolding line_read
+        value_is all r loaded =
+            let made : event_replayed all (decider_for options old.run.config) stored event ≡ r = subst (λ x. event_replayed all x stored event ≡ r) decides_so (subst (λ x. event_replayed all d x event ≡ r) given_is loaded) in
+            rw says_it (ap (λ x. lines_with (behind base old) (event_line x)) made)
 
-    -- its outputs were not loaded
-    pub not_loaded : (all file : List ℕ) (f : LineFault) (told : Fault) → told ≡ fault_of_read (fault.Line old.next f) → event_replayed all d stored event ≡ Err f → IsLineFault file old (loaded_line options all text stored) told
-    not_loaded all file f told is loaded = inr (fault.Line old.next f, is, λ base begun. (refl, (loaded_line options all text stored, [], refl, value_is base begun all (Err f) loaded)))
+      -- its outputs were not loaded
+      not_loaded : (all file : List ℕ) (f : LineFault) (told : Fault) → told ≡ fault_of_read (fault.Line old.next f) → event_replayed all d given event ≡ Err f → IsLineFault file old (loaded_line options all text stored) told
+      not_loaded all file f told is loaded = inr (fault.Line old.next f, is, λ base begun. (refl, (loaded_line options all text stored, [], refl, value_is base begun all (Err f) loaded)))
 
-    pub load_left : (all file : List ℕ) (f : LoadEventFault) (told : Fault) (after : SceneEvent) → IsFaultOfLoad file old.next f told → IsReplayed all d stored event (Err f) after → IsLineFault file old (loaded_line options all text stored) told
-    load_left all file (load.BadField field) told after is loaded = not_loaded all file (wrong.BadField field) told is loaded
-    load_left all file (load.CannotRead kind) told after is loaded = inl is
-    load_left all file load.OutOfMemory told after is loaded = inl (subst (IsUnread file) (sym is) tt)
+      left_by : (all file : List ℕ) (f : LoadEventFault) (told : Fault) (after : SceneEvent) → IsFaultOfLoad file old.next f told → IsReplayed all d given event (Err f) after → IsLineFault file old (loaded_line options all text stored) told
+      left_by all file (load.BadField field) told after is loaded = not_loaded all file (wrong.BadField field) told is loaded
+      left_by all file (load.CannotRead kind) told after is loaded = inl is
+      left_by all file load.OutOfMemory told after is loaded = inl (subst (IsUnread file) (sym is) tt)
 
-    pub loaded_counted : (old_count new_count : ℕ) → new_count ≡ counted old_count (needed_of d event stored) → IsCounted options old text stored old_count new_count
-    loaded_counted old_count new_count counts = λ base is more.
-        let needs : needed_for options (lines_before (behind base old)) stored (Ok (EventLine event)) ≡ needed_of d event stored = ap (λ x. needed_of x event stored) (sym (decides_so base is)) in
-        counted_more old_count new_count _ more (counts ∙ ap (counted old_count) (sym (ap (needed_for options (lines_before (behind base old)) stored) (says_it base is) ∙ needs)))
+      pub load_left : (recorded : Option (List ℕ)) (file : List ℕ) (f : LoadEventFault) (told : Fault) (after : SceneEvent) → IsFaultOfLoad file old.next f told → IfSome recorded (λ all. IsReplayed all d given event (Err f) after) →
+          (all : List ℕ) → recorded ≡ Some all → IsLineFault file old (loaded_line options all text stored) told
+      load_left recorded file f told after is loaded all known = left_by all file f told after is (at_some recorded all (λ outputs. IsReplayed outputs d given event (Err f) after) known loaded)
 
-    -- they were
-    module _ (all : List ℕ) (made : SceneEvent) (loaded : event_replayed all d stored event ≡ Ok made) (new : LinesRead) (config : new.run.config ≡ mid.run.config) (events : new.run.events.items ≡ set mid.run.events.items (length old.run.events.items) made) (lines : new.run.lines.items ≡ mid.run.lines.items) (begun : new.is_begun ≡ mid.is_begun) (next : new.next ≡ mid.next) where
-      all_made : (base : List SceneEvent) → is_begun base ≡ old.is_begun → new.run.events.items ≡ old.run.events.items ++ made ∷ []
-      all_made base is =
-          let h = has_event base is in
-          events ∙ ap (λ es. set es (length old.run.events.items) made) h.events ∙ event_set old.run.events.items h.event made
+      pub loaded_counted : (old_count new_count : ℕ) → new_count ≡ counted old_count (needed_of d event given) → IsCounted options old text stored old_count new_count
+      loaded_counted old_count new_count is_count = λ base is more.
+          let needs : needed_for options (lines_before (behind base old)) stored (Ok (EventLine event)) ≡ needed_of d event given = ap (λ x. needed_of x event stored) (sym (decides_so base is)) ∙ ap (needed_of d event) (sym given_is) in
+          counted_more old_count new_count _ more (is_count ∙ ap (counted old_count) (sym (ap (needed_for options (lines_before (behind base old)) stored) (says_it base is) ∙ needs)))
 
-      same_run : (base : List SceneEvent) → is_begun base ≡ old.is_begun → with_line (behind base old) (EventLine made) ≡ behind base new
-      same_run base is =
-          let h = has_event base is in
-          rw (config, h.config, all_made base is) (ap (λ es. record { config = old.run.config; events = es }) (append_assoc base old.run.events.items (made ∷ [])))
+      -- they were
+      module _ (made : SceneEvent) (new : LinesRead) (config : new.run.config ≡ mid.run.config) (events : new.run.events.items ≡ set mid.run.events.items place made) (lines : new.run.lines.items ≡ mid.run.lines.items) (begun : new.is_begun ≡ mid.is_begun) (next : new.next ≡ mid.next) where
+        all_made : (base : List SceneEvent) → is_begun base ≡ old.is_begun → new.run.events.items ≡ old.run.events.items ++ made ∷ []
+        all_made base is =
+            let h = has_event base is in
+            events ∙ ap (λ k. set mid.run.events.items k made) at ∙ ap (λ es. set es (length old.run.events.items) made) h.events ∙ event_set old.run.events.items h.event made
 
-      same_size : (base : List SceneEvent) → is_begun base ≡ old.is_begun → length (base ++ new.run.events.items) ≡ length (base ++ mid.run.events.items)
-      same_size base is =
-          let h = has_event base is in
-          let left = length-append old.run.events.items (made ∷ []) in
-          let right = length-append old.run.events.items (h.event ∷ []) in
-          length-append base new.run.events.items ∙ ap (λ n. length base + n) (ap length (all_made base is) ∙ left ∙ sym right ∙ sym (ap length h.events)) ∙ sym (length-append base mid.run.events.items)
+        same_run : (base : List SceneEvent) → is_begun base ≡ old.is_begun → with_line (behind base old) (EventLine made) ≡ behind base new
+        same_run base is =
+            let h = has_event base is in
+            rw (config, h.config, all_made base is) (ap (λ es. record { config = old.run.config; events = es }) (append_assoc base old.run.events.items (made ∷ [])))
 
-      pub loaded_reads : ReadsLines old new (loaded_line options all text stored ∷ [])
-      loaded_reads = reads_one old new (loaded_line options all text stored)
-          (λ base is. value_is base is all (Ok made) loaded ∙ ap Ok (same_run base is))
-          (λ base is. (
-          let one = one_noted old.next (behind base old) (plain_line text) (behind base mid) (one_read old mid (plain_line text) reads base is) in
-          lines ∙ reads.noted base is ∙ ap (λ ls. old.run.lines.items ++ ls) (one ∙ here_so old.next (behind base old) (behind base mid) (behind base new) (sym (same_size base is)))
-          ))
-          (begun ∙ reads.begun)
-          (omega (arith, next, reads.place))
+        same_size : (base : List SceneEvent) → is_begun base ≡ old.is_begun → length (base ++ mid.run.events.items) ≡ length (base ++ new.run.events.items)
+        same_size base is =
+            let h = has_event base is in
+            let left = length-append old.run.events.items (h.event ∷ []) in
+            let right = length-append old.run.events.items (made ∷ []) in
+            length-append base mid.run.events.items ∙ ap (λ n. length base + n) (ap length h.events ∙ left ∙ sym right ∙ sym (ap length (all_made base is))) ∙ sym (length-append base new.run.events.items)
+
+        loaded_so : (all : List ℕ) → event_replayed all d given event ≡ Ok made → ReadsLines old new (loaded_line options all text stored ∷ [])
+        loaded_so all loaded = reads_one old new (loaded_line options all text stored)
+            (λ base is. value_is base is all (Ok made) loaded ∙ ap Ok (same_run base is))
+            (λ base is. (
+              let noted = one_noted old.next (behind base old) (plain_line text) (behind base mid) (one_read old mid (plain_line text) reads base is) in
+              lines ∙ reads.noted base is ∙ ap (λ ls. old.run.lines.items ++ ls) (noted ∙ here_so old.next (behind base old) (behind base mid) (behind base new) (same_size base is))
+            ))
+            (begun ∙ reads.begun)
+            (omega (arith, next, reads.place))
+
+        pub loaded_reads : (recorded : Option (List ℕ)) → IfSome recorded (λ all. event_replayed all d given event ≡ Ok made) → (all : List ℕ) → recorded ≡ Some all → ReadsLines old new (loaded_line options all text stored ∷ [])
+        loaded_reads recorded loaded all known = loaded_so all (at_some recorded all (λ outputs. event_replayed outputs d given event ≡ Ok made) known loaded)
