@@ -1,10 +1,8 @@
 -- What is left of a recorded run, line by line (for `read_next`).
-use Rattle.std.proofs.Common.{◌≡◌, ◌⊎◌, ℕ, ◌+◌, Bool, true, false, List, [], ◌∷◌, ◌++◌, Option, Some, Result, Ok, Err, length, map, refl, sym, ap, ◌∙◌, subst, arith, append_assoc, inl, inr}
+use Rattle.std.proofs.Common.{◌≡◌, ℕ, ◌+◌, Bool, true, false, List, [], ◌∷◌, ◌++◌, Option, Some, Result, Ok, Err, length, map, refl, sym, ap, ◌∙◌, subst, arith, append_assoc, inl, inr}
 use Rattle.std.proofs.lemmas.List.{length-append}
-use Rattle.command_line.specs.Pieces.{IsUnread}
 use Rattle.command_line.specs.declared.args.Options.{Options}
 use Rattle.command_line.specs.declared.fault.Fault.{Fault}
-use Rattle.recorded_events.specs.Loads.{event_replayed}
 use Rattle.recorded_outputs.specs.Outputs.{counted}
 use Rattle.recorded_runs.specs.NextLines.{IsCounted, IsNextLine, LeavesLine}
 use Rattle.recorded_runs.specs.Runs.{before_next, line_replayed, line_unread, lines_replayed, needed, needed_for, stored_in, whole_lines}
@@ -16,11 +14,10 @@ use Rattle.scene_fields.specs.Split.{Lacks}
 use Rattle.scene_fields.specs.declared.fault.LineFault.{LineFault}
 use Rattle.scene_fields.specs.declared.fault.ReadFault.{ReadFault}
 use Rattle.scene_fields.specs.declared.fault.ReadFault.TheVariants as fault
-use Rattle.scene_text.specs.SceneTexts.{ConfigLine, EventLine, IsNextFault, LeavesLines, LinesBefore, NoEvent, ParsedLine, ParsedLines, ReadsLines, RunLine, event_line, event_lines, is_begun, line_read, lines_after, lines_before, lines_with, parsed_line, parsed_lines, with_event, with_line}
+use Rattle.scene_text.specs.SceneTexts.{ConfigLine, EventLine, IsNextFault, LinesBefore, NoEvent, ParsedLine, ParsedLines, ReadsLines, RunLine, event_line, event_lines, is_begun, line_read, lines_before, lines_with, parsed_line, with_event, with_line}
 use Rattle.scene_text.specs.declared.reader.LinesRead.{LinesRead}
 use Rattle.scene_text.proofs.lemmas.Tellings.{all_append, noted_append}
-use Rattle.scenes.specs.Read.{AreLeft, HasRead, IsMore}
-use Rattle.scenes.specs.Unloads.{decider_for}
+use Rattle.scenes.specs.Read.{HasRead, IsMore}
 
 -- what stands before the line behind one that tells
 begun_more : (es : List SceneEvent) (e : SceneEvent) → is_begun (es ++ e ∷ []) ≡ true

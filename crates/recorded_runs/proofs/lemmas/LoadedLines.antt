@@ -1,5 +1,5 @@
 -- A line as it is read, and as it is replayed (for `read_line`, `read_stored`, `read_and_load`).
-use Rattle.std.proofs.Common.{◌≡◌, ◌⊎◌, ℕ, ◌+◌, ◌-◌, ◌^◌, ◌<◌, ◌≤◌, Bool, true, false, List, [], ◌∷◌, ◌++◌, Option, None, Some, Result, Ok, Err, length, take, get_or, min, refl, sym, ap, ◌∙◌, subst, arith, append_assoc, append-nil, inl, inr, if◌then◌else◌}
+use Rattle.std.proofs.Common.{◌≡◌, ◌⊎◌, ℕ, ◌+◌, ◌<◌, ◌≤◌, List, [], ◌∷◌, ◌++◌, Option, Some, Result, Ok, Err, length, take, get_or, refl, sym, ap, ◌∙◌, subst, arith, append_assoc, append-nil, inl, inr, if◌then◌else◌}
 use Rattle.std.specs.Prelude.{IfErr, IfSome, OnErr, nat_lt}
 use Rattle.std.specs.Result.{IsErrAnd}
 use Rattle.std.proofs.Math.ListN.{set}
@@ -10,7 +10,7 @@ use Rattle.command_line.specs.Faults.{fault_of_read}
 use Rattle.command_line.specs.Pieces.{IsUnread}
 use Rattle.command_line.specs.declared.args.Options.{Options}
 use Rattle.command_line.specs.declared.fault.Fault.{Fault}
-use Rattle.recorded_events.specs.Loads.{IsReplayed, event_replayed, first_field_not, is_there, is_undamaged, needed_of, unless_bad}
+use Rattle.recorded_events.specs.Loads.{IsReplayed, event_replayed, needed_of}
 use Rattle.recorded_events.specs.Skips.{skips}
 use Rattle.recorded_events.specs.declared.load.LoadEventFault.{LoadEventFault}
 use Rattle.recorded_events.specs.declared.load.LoadEventFault.TheVariants as load
@@ -398,8 +398,8 @@ module _ (options : Options) (text bytes : List ℕ) (same : bytes ≡ text) (st
         loaded_so all loaded = reads_one old new (loaded_line options all text stored)
             (λ base is. value_is base is all (Ok made) loaded ∙ ap Ok (same_run base is))
             (λ base is. (
-              let noted = one_noted old.next (behind base old) (plain_line text) (behind base mid) (one_read old mid (plain_line text) reads base is) in
-              lines ∙ reads.noted base is ∙ ap (λ ls. old.run.lines.items ++ ls) (noted ∙ here_so old.next (behind base old) (behind base mid) (behind base new) (same_size base is))
+            let noted = one_noted old.next (behind base old) (plain_line text) (behind base mid) (one_read old mid (plain_line text) reads base is) in
+            lines ∙ reads.noted base is ∙ ap (λ ls. old.run.lines.items ++ ls) (noted ∙ here_so old.next (behind base old) (behind base mid) (behind base new) (same_size base is))
             ))
             (begun ∙ reads.begun)
             (omega (arith, next, reads.place))

@@ -1,5 +1,5 @@
 -- A line of a recorded run, which says where its outputs are stored (for `read_line`).
-use Rattle.std.proofs.Common.{◌≡◌, ℕ, Bool, true, List, [], ◌∷◌, Option, Some, Result, Ok, Err, length, refl, sym, ap, ◌∙◌, subst, arith, inl, inr, ◌==◌}
+use Rattle.std.proofs.Common.{◌≡◌, ℕ, Bool, true, List, [], ◌∷◌, Option, Some, Result, Ok, Err, length, sym, ap, ◌∙◌, subst, arith, inl, inr, ◌==◌}
 use Rattle.std.proofs.lemmas.Bool.Decides.{nat_tests}
 use Rattle.std.proofs.lemmas.List.{nil_from_length}
 use Rattle.std.specs.Result.{IfErr, IsErr, IsErrAnd, OnOk}
@@ -16,7 +16,7 @@ use Rattle.recorded_runs.proofs.lemmas.LoadedLines.{plain_counted, plain_leaves,
 use Rattle.recorded_runs.proofs.lemmas.UnreadTexts.{one_line}
 use Rattle.scene_fields.specs.Split.{Lacks}
 use Rattle.scene_fields.specs.declared.fault.ReadFault.{ReadFault}
-use Rattle.scene_text.specs.SceneTexts.{LeavesLines, ReadsLines, RunLine, plain_line, text_lines}
+use Rattle.scene_text.specs.SceneTexts.{LeavesLines, ReadsLines, plain_line, text_lines}
 use Rattle.scene_text.specs.declared.reader.LinesRead.{LinesRead}
 
 -- a line with this text and these stored outputs

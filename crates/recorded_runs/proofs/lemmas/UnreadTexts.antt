@@ -1,13 +1,15 @@
 -- The text of a line whose stored outputs stay unread is one line (for `read_line`).
-use Rattle.std.proofs.Common.{◌≡◌, ℕ, zero, suc, ◌+◌, Bool, true, false, List, [], ◌∷◌, ◌++◌, Option, None, Some, length, take, drop, codes, refl, sym, ap, ◌∙◌, subst, arith, inl, inr, ◌==◌, map}
+use Rattle.std.proofs.Common.{◌≡◌, ℕ, zero, suc, Bool, true, false, List, [], ◌∷◌, ◌++◌, Option, None, Some, take, drop, refl, sym, ap, ◌∙◌, inl, inr, ◌==◌, map}
 use Rattle.std.specs.List.{join_with_byte, onto_first}
-use Rattle.std.specs.Str.{is_utf8}
+use Rattle.std.specs.Str.{IsUtf8, is_utf8}
 use Rattle.std.proofs.lemmas.Bool.{cases_Bool}
 use Rattle.scene_fields.specs.Split.{Lacks, split_on}
 use Rattle.scene_fields.proofs.lemmas.Cuts.{split_on-lacks}
-use Rattle.scene_text.specs.SceneTexts.{RunLine, plain_line, text_lines}
+use Rattle.scene_fields.proofs.lemmas.Utf8.{utf8_fails, utf8_passes}
+use Rattle.scene_text.specs.SceneTexts.{plain_line, text_lines}
 use Rattle.recorded_lines.specs.Lines.{outputs_start, stored_outputs, unread_fields, unread_groups, unread_output, unread_text}
 use Rattle.recorded_lines.specs.Stored.{stored_output_in}
+use Rattle.recorded_lines.specs.declared.line.PlacedOutput.{PlacedOutput}
 use Rattle.recorded_lines.specs.declared.stored.StoredOutput.{StoredOutput}
 use Rattle.recorded_runs.specs.Runs.{line_unread, stored_in}
 
@@ -78,14 +80,14 @@ pub one_line : (t : List ℕ) → Lacks 10 t → text_lines (line_unread t) ≡ 
 one_line t h = ap (map plain_line) (split_on-lacks 10 (line_unread t) (line_lacks t (is_utf8 t) refl h))
 
 -- what stands in a line that is a text, and in one that is none
-pub text_unread : (t : List ℕ) → is_utf8 t ≡ true → line_unread t ≡ unread_text t
-text_unread t is = rw is refl
+pub text_unread : (t text unread : List ℕ) → (text ≡ t) × IsUtf8 t → unread ≡ unread_text text → line_unread t ≡ unread
+text_unread t text unread valid is = let passes = utf8_passes t valid.1 in rw passes (ap unread_text (sym valid.0) ∙ sym is)
 
-pub text_stored : (t : List ℕ) → is_utf8 t ≡ true → stored_in t ≡ stored_outputs (split_on 9 t)
-text_stored t is = rw is refl
+pub text_stored : (t text : List ℕ) (stored : List PlacedOutput) → (text ≡ t) × IsUtf8 t → stored ≡ stored_outputs (split_on 9 text) → stored_in t ≡ stored
+text_stored t text stored valid is = let passes = utf8_passes t valid.1 in rw passes (ap (λ u. stored_outputs (split_on 9 u)) (sym valid.0) ∙ sym is)
 
-pub bytes_unread : (t : List ℕ) → is_utf8 t ≡ false → line_unread t ≡ t
-bytes_unread t is = rw is refl
+pub bytes_unread : (t : List ℕ) → ¬ (IsUtf8 t) → line_unread t ≡ t
+bytes_unread t none = let fails = utf8_fails t none in rw fails refl
 
-pub bytes_stored : (t : List ℕ) → is_utf8 t ≡ false → stored_in t ≡ []
-bytes_stored t is = rw is refl
+pub bytes_stored : (t : List ℕ) → ¬ (IsUtf8 t) → stored_in t ≡ []
+bytes_stored t none = let fails = utf8_fails t none in rw fails refl

@@ -1,4 +1,4 @@
-use Rattle.std.proofs.Common.{ap, sym, ◌∙◌, ◌++◌, ◌∷◌, []}
+use Rattle.std.proofs.Common.{ap, sym, ◌∙◌, ◌++◌}
 use Rattle.std.specs.Io.BufRead.{take_through}
 use Rattle.recorded_runs.proofs.lemmas.WholeLines.{last_taken, none_taken}
 use Rattle.recorded_runs.proofs.lines.next_line.Goals as goal

@@ -1,4 +1,4 @@
-use Rattle.std.proofs.Common.{◌≡◌, ◌∙◌, ◌∷◌, [], Some, true, false, refl, sym, subst}
+use Rattle.std.proofs.Common.{true, refl, sym, subst}
 use Rattle.std.specs.Io.Buffered.{reader_remaining}
 use Rattle.recorded_runs.specs.NextLines.{IsNextLine}
 use Rattle.recorded_runs.proofs.lemmas.LeftLines.{line_is_left, line_is_read, none_left}
