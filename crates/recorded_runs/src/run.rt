@@ -47,8 +47,7 @@ impl<'a, R: Read + Drop, O: ReadAt + Drop> RecordedRun<'a, R, O> {
         ensures options { IfOk result (λ run. run.options ≡ replayed options) }
         ensures lines { IfOk result (λ run. reader_remaining R.remaining run.reader ≡ R.remaining reader) }
         ensures outputs { IfOk result (λ run. run.outputs ≡ outputs.entry) }
-    {
-    }
+    {}
 
     /// How many bytes of outputs were read. It stays at `u64::MAX` where it would pass that.
     pub fn bytes_read(&self) -> u64
@@ -95,7 +94,14 @@ impl<'o, R: Read, O: ReadAt + Drop> RunSource for RecordedRun<'o, R, O> {
         if !next_line(file, &mut self.reader, &mut self.line)? {
             return Ok(false);
         }
-        read_line(alloc, file, &self.options, self.line.as_slice(), &mut self.outputs, read)?;
+        read_line(
+            alloc,
+            file,
+            &self.options,
+            self.line.as_slice(),
+            &mut self.outputs,
+            read,
+        )?;
         Ok(true)
     }
 }

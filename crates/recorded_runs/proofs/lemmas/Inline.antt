@@ -128,9 +128,9 @@ module _ (options : Options) (all : List ℕ) where
     pub are : AreInline options all run all_inline
 
   pub go_on : (n : ℕ) (ts : List (List ℕ)) (replayed inline run : ParsedLines) → AreInline options all replayed inline → lines_read n replayed (map (line_replayed options all) ts) ≡ Ok run → GoOn n ts inline run
+
   go_on_by : (n : ℕ) (t : List ℕ) (ts : List (List ℕ)) (replayed inline run : ParsedLines) → AreInline options all replayed inline → (first : Result ParsedLines LineFault) →
       line_read replayed (line_replayed options all t) ≡ first → lines_read_after (λ after. lines_read (n + 1) after (map (line_replayed options all) ts)) n first ≡ Ok run → GoOn n (t ∷ ts) inline run
-
   unfolding lines_read
   go_on n [] replayed inline run are h = (let same : replayed ≡ run = cc in record { all_inline = inline; reads = refl; are = subst (λ x. AreInline options all x inline) same are })
   go_on n (t ∷ ts) replayed inline run are h = go_on_by n t ts replayed inline run are (line_read replayed (line_replayed options all t)) refl h
