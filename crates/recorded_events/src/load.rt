@@ -88,6 +88,7 @@ impl LoadEventFault {
 /// ```
 /// use recorded_lines::line::RecordedLine;
 /// use recorded_outputs::outputs::RecordedOutputs;
+/// use scene_events::scene::event::SceneEvent;
 /// use scene_events::scene::info_events::InfoFinish;
 /// let line = RecordedLine::read(alloc, "answers-end\t0")?;
 /// let mut event = SceneEvent::InfoFinished(InfoFinish { missing: 0 });

@@ -1,5 +1,6 @@
 //! Recorded runs that are replayed, with what is read of their outputs.
 
+use crate::tests::sources::Failing;
 use recorded_outputs::outputs::RecordedOutputs;
 use recorded_outputs::read_at::ReadAt;
 use recorded_runs::run::RecordedRun;
@@ -12,8 +13,6 @@ use std::io;
 use std::io::ErrorKind;
 use std::test::Fail;
 use store_text::config::StoreConfig;
-
-use crate::tests::sources::Failing;
 
 // Two streams.
 const OUTPUTS: &[u8] = b"passed\nfailed\n";
@@ -150,10 +149,12 @@ fn tells_damaged_outputs_by_line_and_field(rt: HostRuntime) -> Result<(), Fail> 
         let replayed = replay(alloc, &OPTIONS, lines.as_str(), OUTPUTS)?;
         let fault = match replayed.outcome {
             Ok(_) => None,
-            Err(Fault::Line {
-                line,
-                fault: LineFault::BadField(field),
-            }) => Some((line, field)),
+            Err(
+                Fault::Line {
+                    line,
+                    fault: LineFault::BadField(field),
+                },
+            ) => Some((line, field)),
             Err(_) => return Err(Fail::from("another fault")),
         };
         assert_eq!(rt; fault, bad);
@@ -179,8 +180,16 @@ fn takes_a_line_that_was_cut_for_none(rt: HostRuntime) -> Result<(), Fail> {
         let replayed = replay(alloc, &OPTIONS, cut, OUTPUTS)?;
         let of_whole_lines = replay(alloc, &OPTIONS, kept, OUTPUTS)?;
         assert!(rt; replayed.outcome? == RunOutcome::NotEnded);
-        assert_eq!(rt; replayed.printed.as_slice(), of_whole_lines.printed.as_slice());
-        assert!(rt; whole.printed.as_slice().starts_with(replayed.printed.as_slice()));
+        assert_eq!(rt;
+            replayed.printed.as_slice(),
+            of_whole_lines.printed.as_slice()
+        );
+        assert!(rt;
+            whole
+                .printed
+                .as_slice()
+                .starts_with(replayed.printed.as_slice())
+        );
     }
     Ok(())
 }

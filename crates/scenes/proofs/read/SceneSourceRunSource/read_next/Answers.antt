@@ -9,8 +9,8 @@ pub returns-in-Ok-false-clause-read : goal.returns-in-Ok-false-clause-read
 returns-in-Ok-false-clause-read g c = λ in_all all front before has.
     none_left c.args.file.now all front before c.args.read.now c.args.read.now _ _ has refl
     (λ run left h.
-        let none = subst (λ has_piece. IsNextPiece h.0 has_piece c.next_piece.new.piece.items (reader_remaining g.R.Read.remaining c.next_piece.new.reader)) c.in-Ok-false.field-0-test (c.in-Ok-false.ensures.piece h.0 h.1) in
-        (subst (AreLeft left) none.0 h.2, ([], none.1, inr (refl, refl))))
+    let none = subst (λ has_piece. IsNextPiece h.0 has_piece c.next_piece.new.piece.items (reader_remaining g.R.Read.remaining c.next_piece.new.reader)) c.in-Ok-false.field-0-test (c.in-Ok-false.ensures.piece h.0 h.1) in
+    (subst (AreLeft left) none.0 h.2, ([], none.1, inr (refl, refl))))
 
 pub returns-in-Err-clause-read : goal.returns-in-Err-clause-read
 returns-in-Err-clause-read g c = λ in_all all front before has.
