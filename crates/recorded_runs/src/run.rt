@@ -26,6 +26,20 @@ use std::io::{BufReader, Read, Write};
 const BYTES_AT_ONCE: usize = 16_384;
 
 /// A recorded run: its lines, and its outputs, which are read only where the report shows them.
+///
+/// ```
+/// use recorded_outputs::outputs::RecordedOutputs;
+/// use scenes::args::{CommandLine, words};
+/// let given = CommandLine::from_words(alloc, &["--level", "pass", "DIR"])?;
+/// let options = words(given.words()).ok_or("no options")?;
+/// let lines = "done\t-\talpha\tt1\tnever\tnever\tpass\tinitial=1 finished=1 passed=1\t1\tpass\t5000000\t0\tcomb\t\\@0:7:edf1b9bbb2e79dff0fa187fdc33dd0ac\t-\t-\t-\n";
+/// let outputs = RecordedOutputs::new(b"passed\n".as_slice())?;
+/// let mut run = RecordedRun::new(alloc, options, lines.as_bytes(), outputs)?;
+/// let (outcome, printed, _records) = run.replay(alloc, Vec::new(alloc), Vec::new(alloc));
+/// assert!(outcome? == RunOutcome::NotEnded);
+/// assert!(!printed.is_empty());
+/// assert_eq!(run.bytes_read(), 0); // its report shows no output of a test that passed
+/// ```
 #[derive(Drop)]
 pub struct RecordedRun<'a, R, O: ReadAt> {
     options: Options<'a>,
