@@ -1,10 +1,14 @@
 -- The event that a replay makes of one whose outputs are stored.
-use Rattle.std.specs.Prelude.{◌≡◌, ℕ, ◌+◌, List, [], ◌∷◌, length, Bool, true, false, not, nat_le, if◌then◌else◌, Option, None, Some, Result, Ok, Err, ⊤}
+use Rattle.std.specs.Prelude.{◌≡◌, ℕ, ◌+◌, List, [], ◌∷◌, length, Bool, true, not, nat_le, if◌then◌else◌, Option, None, Some, Result, Ok, Err, ⊤}
 use Rattle.std.specs.Option.{is_some, option_or}
+use Rattle.std.specs.declared.io.ErrorKind.{ErrorKind}
+use Rattle.std.specs.declared.io.ErrorKind.TheVariants as error
 use Rattle.run_model.specs.declared.output.ChildOutputDescription.{ChildOutputDescription}
 use Rattle.run_model.specs.declared.output.ChildOutputDescription.TheVariants as captured
 use Rattle.recorded_outputs.specs.Outputs.{bytes_at}
 use Rattle.recorded_outputs.specs.References.{end_of}
+use Rattle.recorded_outputs.specs.declared.outputs.LoadFault.{LoadFault}
+use Rattle.recorded_outputs.specs.declared.outputs.LoadFault.TheVariants as load
 use Rattle.recorded_lines.specs.Lines.{field_of}
 use Rattle.recorded_lines.specs.Loads.{captured_stream_at, stream_in_field}
 use Rattle.recorded_lines.specs.declared.line.PlacedOutput.{PlacedOutput}
@@ -12,6 +16,7 @@ use Rattle.recorded_lines.specs.declared.stored.StoredOutput.{StoredOutput}
 use Rattle.recorded_lines.specs.declared.stored.StoredOutput.TheVariants.{Split, Combined}
 use Rattle.recorded_lines.specs.declared.stored.StoredStream.{StoredStream}
 use Rattle.recorded_lines.specs.declared.stored.StoredStream.TheVariants.{NotCaptured, Empty, At}
+use Rattle.recorded_lines.specs.declared.stored.StreamField.{StreamField}
 use Rattle.recorded_lines.specs.declared.stored.StreamField.TheVariants.{First, Second}
 use Rattle.reporter_state.specs.declared.decider.OutputLoadDecider.{OutputLoadDecider}
 use Rattle.scene_events.specs.Loads.{event_with}
@@ -46,6 +51,10 @@ is_there all (At reference) = nat_le (end_of reference) (length all)
 abbrev pub is_undamaged : List ℕ → StoredStream → Bool
 is_undamaged all stream = is_some (captured_stream_at all stream)
 
+-- the field of a stream, if that is not so
+abbrev pub stream_field_not : (StoredStream → Bool) → PlacedOutput → StreamField → Option ℕ
+stream_field_not so p stream = if not (so (stream_in_field stream p.output)) then Some (field_of p stream) else None
+
 -- the field of an output's first stream that is not so
 abbrev pub field_not : (StoredStream → Bool) → PlacedOutput → Option ℕ
 field_not so p =
@@ -57,6 +66,13 @@ abbrev pub first_field_not : (StoredStream → Bool) → List PlacedOutput → O
 first_field_not so [] = None
 first_field_not so (p ∷ ps) = option_or (field_not so p) (first_field_not so ps)
 
+-- what was accepted has no bad field, and what was refused for one has this first. Other faults say nothing of fields
+abbrev pub IsFirstBad : Option ℕ → Result ⊤ LoadEventFault → Type 0
+IsFirstBad field (Ok x) = field ≡ None
+IsFirstBad field (Err (fault.BadField n)) = field ≡ Some n
+IsFirstBad field (Err (fault.CannotRead kind)) = ⊤
+IsFirstBad field (Err fault.OutOfMemory) = ⊤
+
 -- an event, unless a field of its line is bad
 abbrev pub unless_bad : Option ℕ → Result SceneEvent LineFault → Result SceneEvent LineFault
 unless_bad (Some field) event = Err (BadField field)
@@ -67,7 +83,7 @@ unless_bad None event = event
 unfoldable pub event_replayed : List ℕ → OutputLoadDecider → List PlacedOutput → SceneEvent → Result SceneEvent LineFault
 event_replayed all d stored event =
     unless_bad (first_field_not (is_there all) stored)
-        (if skips d event then Ok event else unless_bad (first_field_not (is_undamaged all) stored) (Ok (event_inline all stored event)))
+    (if skips d event then Ok event else unless_bad (first_field_not (is_undamaged all) stored) (Ok (event_inline all stored event)))
 
 -- that was made, or is the fault, unless the outputs cannot be read or memory was refused
 abbrev pub IsReplayed : List ℕ → OutputLoadDecider → List PlacedOutput → SceneEvent → Result ⊤ LoadEventFault → SceneEvent → Type 0
@@ -75,6 +91,17 @@ IsReplayed all d stored old (Ok x) new = event_replayed all d stored old ≡ Ok 
 IsReplayed all d stored old (Err (fault.BadField field)) new = event_replayed all d stored old ≡ Err (BadField field)
 IsReplayed all d stored old (Err (fault.CannotRead kind)) new = ⊤
 IsReplayed all d stored old (Err fault.OutOfMemory) new = ⊤
+
+-- what an error of this kind means, and what the fault of a stream in this field means
+abbrev pub fault_of_kind : ErrorKind → LoadEventFault
+fault_of_kind error.OutOfMemory = fault.OutOfMemory
+fault_of_kind kind = fault.CannotRead kind
+
+abbrev pub fault_of_stream : ℕ → LoadFault → LoadEventFault
+fault_of_stream field (load.CannotRead kind) = fault_of_kind kind
+fault_of_stream field load.PastEnd = fault.BadField field
+fault_of_stream field load.WrongSum = fault.BadField field
+fault_of_stream field load.OutOfMemory = fault.OutOfMemory
 
 -- how many bytes a stream and an output have, and all outputs together
 abbrev pub stream_len : StoredStream → ℕ

@@ -1,20 +1,25 @@
 //! The stored outputs of an event, loaded where the report shows them.
 
-ghost use Rattle.std.specs.Prelude.{◌≡◌, IfErr, IfOk, IfSome, OnOk};
+ghost use Rattle.std.specs.Prelude.{◌≡◌, ◌≤◌, ◌-◌, ◌^◌, IfOk, IfSome, OnOk};
+ghost use Rattle.recorded_lines.specs.Loads.{stream_in_field};
 ghost use Rattle.recorded_outputs.specs.Outputs.{counted};
-ghost use Rattle.recorded_events.specs.Loads.{AreThere, IsLoadedEvent, IsReplayed, counted_outputs, is_there, needed_of};
-ghost use Rattle.recorded_events.specs.Skips.{skips};
+ghost use Rattle.recorded_events.specs.Loads.{IsFirstBad, IsReplayed, event_inline, fault_of_kind, fault_of_stream, field_not, first_field_not, is_there, is_undamaged, needed_of, output_inline, output_len, outputs_len, stream_field_not};
+ghost use Rattle.recorded_events.specs.Skips.{skips, skips_call};
+ghost use Rattle.reporter_state.specs.Unread.{is_skipped};
+ghost use Rattle.scene_events.specs.Loads.{event_with};
 
 use recorded_lines::line::PlacedOutput;
-use recorded_lines::stored::{StoredOutput, StoredStream, StreamField};
+use recorded_lines::stored::{StoredOutput, StoredStream, StreamFault, StreamField};
 use recorded_outputs::outputs::{LoadFault, RecordedOutputs};
 use recorded_outputs::read_at::ReadAt;
 use reporter_state::decider::OutputLoadDecider;
 use run_model::call::ReportCall;
+use run_model::event::TestEvent;
 use run_model::memory::OutOfMemory;
 use run_model::output_event::LoadOutput;
 use scene_events::scene::event::SceneEvent;
 use std::alloc::Global;
+use std::io;
 use std::io::ErrorKind;
 
 /// Why the outputs of an event were not loaded.
@@ -28,11 +33,69 @@ pub enum LoadEventFault {
     OutOfMemory,
 }
 
+impl From<OutOfMemory> for LoadEventFault {
+    ghost use Rattle.std.specs.Prelude.{◌≡◌};
+    ghost use Rattle.recorded_events.specs.declared.load.LoadEventFault.{LoadEventFault};
+
+    ghost from_gives = { λ _ fault. fault ≡ LoadEventFault.OutOfMemory };
+
+    fn from(_refused: OutOfMemory) -> LoadEventFault {
+        LoadEventFault::OutOfMemory
+    }
+}
+
+impl From<io::Error> for LoadEventFault {
+    ghost use Rattle.std.specs.Prelude.{◌≡◌};
+    ghost use Rattle.std.specs.IoError.{error_kind};
+    ghost use Rattle.recorded_events.specs.Loads.{fault_of_kind};
+
+    ghost from_gives = { λ error fault. fault ≡ fault_of_kind (error_kind error) };
+
+    fn from(error: io::Error) -> LoadEventFault {
+        LoadEventFault::of_kind(error.kind())
+    }
+}
+
+impl LoadEventFault {
+    // What an error of this kind means: it can say that memory was refused.
+    fn of_kind(kind: ErrorKind) -> LoadEventFault
+        ensures { result ≡ fault_of_kind kind }
+    {
+        match kind {
+            ErrorKind::OutOfMemory => LoadEventFault::OutOfMemory,
+            _ => LoadEventFault::CannotRead(kind),
+        }
+    }
+
+    // What the fault of a stream means, which stands in this field of its line.
+    fn of_stream(field: usize, fault: LoadFault) -> LoadEventFault
+        ensures { result ≡ fault_of_stream field fault }
+    {
+        match fault {
+            LoadFault::CannotRead(kind) => LoadEventFault::of_kind(kind),
+            LoadFault::PastEnd | LoadFault::WrongSum => LoadEventFault::BadField(field),
+            LoadFault::OutOfMemory => LoadEventFault::OutOfMemory,
+        }
+    }
+}
+
 /// Puts the stored outputs of an event into it, if its report shows them: the decider says so by how its unit ended and by the settings, and
 /// no output is read for the answer. Of an answer of a unit all is loaded, since no decider is asked about it. Where they are skipped, the
 /// event stays as it is, and nothing is read.
 ///
 /// Every output must be there, also one that is skipped. After an error the event is not to be used: some of its outputs may be in it.
+///
+/// ```
+/// use recorded_lines::line::RecordedLine;
+/// use recorded_outputs::outputs::RecordedOutputs;
+/// use scene_events::scene::info_events::InfoFinish;
+/// let line = RecordedLine::read(alloc, "answers-end\t0")?;
+/// let mut event = SceneEvent::InfoFinished(InfoFinish { missing: 0 });
+/// let mut outputs = RecordedOutputs::new(b"passed\nfailed\n".as_slice())?;
+/// assert_eq!(load_outputs(alloc, &decider, line.outputs.as_slice(), &mut outputs, &mut event), Ok(()));
+/// assert_eq!(outputs.bytes_read(), 0); // the event has no output
+/// ```
+#[tactic(auto, unfolding(crate::specs::Loads::event_replayed))]
 pub fn load_outputs<O: ReadAt + Drop>(
     alloc: Global,
     decider: &OutputLoadDecider,
@@ -44,9 +107,167 @@ pub fn load_outputs<O: ReadAt + Drop>(
     ensures kept { O.recorded outputs.new.source ≡ O.recorded outputs.old.source }
     ensures count { OnOk result (outputs.new.bytes_read ≡ counted outputs.old.bytes_read (needed_of decider.now event.old stored.now)) }
 {
+    let _count = outputs.bytes_read(); // it is a `u64`, which a proof learns by reading it
     check_all_there(stored, outputs)?;
     if skips(alloc, decider, event)? {
         return Ok(());
     }
     load_all(alloc, stored, outputs, event)
+}
+
+// Whether the decider skips the outputs of an event. It is asked about the call of the event, which is built for it and let go.
+#[tactic(auto, using(crate::proofs::lemmas::Skips::skips_call_same))]
+fn skips(
+    alloc: Global,
+    decider: &OutputLoadDecider,
+    event: &SceneEvent,
+) -> Result<bool, OutOfMemory>
+    ensures { IfOk result (λ is. is ≡ skips decider.now event.now) }
+{
+    let mut calls = Vec::new(alloc);
+    event.push_call(alloc, &mut calls)?;
+    match calls.as_slice() {
+        [call] => skips_call(alloc, decider, call),
+        _ => Ok(false),
+    }
+}
+
+// The same of a call. A header and a prefix have no output.
+fn skips_call(
+    alloc: Global,
+    decider: &OutputLoadDecider,
+    call: &ReportCall<'_>,
+) -> Result<bool, OutOfMemory>
+    ensures { IfOk result (λ is. is ≡ skips_call decider.now call.now) }
+{
+    match call {
+        ReportCall::Event(event) => skips_called(alloc, decider, event),
+        ReportCall::Header(_) | ReportCall::Prefix(_) => Ok(false),
+    }
+}
+
+// The same of an event of a reporter.
+fn skips_called(
+    alloc: Global,
+    decider: &OutputLoadDecider,
+    event: &TestEvent<'_>,
+) -> Result<bool, OutOfMemory>
+    ensures { IfOk result (λ is. is ≡ is_skipped decider.now event.now.kind) }
+{
+    match event.recorded(alloc)? {
+        Some(recorded) => Ok(decider.should_load_output(&recorded) == LoadOutput::Skip),
+        None => Ok(false),
+    }
+}
+
+// Checks that all stored outputs are there. It reads none of them.
+fn check_all_there<O: ReadAt + Drop>(
+    stored: &[PlacedOutput],
+    outputs: &mut RecordedOutputs<O>,
+) -> Result<(), LoadEventFault>
+    ensures there { IfSome (O.recorded outputs.old.source) (λ all. IsFirstBad (first_field_not (is_there all) stored.now) result) }
+    ensures kept { O.recorded outputs.new.source ≡ O.recorded outputs.old.source }
+    ensures count { outputs.new.bytes_read ≡ outputs.old.bytes_read }
+{
+    for placed in stored {
+        check_output_there(placed, outputs)?;
+    }
+    Ok(())
+}
+
+// The same of one output. Standard output comes first.
+fn check_output_there<O: ReadAt + Drop>(
+    placed: &PlacedOutput,
+    outputs: &mut RecordedOutputs<O>,
+) -> Result<(), LoadEventFault>
+    ensures there { IfSome (O.recorded outputs.old.source) (λ all. IsFirstBad (field_not (is_there all) placed.now) result) }
+    ensures kept { O.recorded outputs.new.source ≡ O.recorded outputs.old.source }
+    ensures count { outputs.new.bytes_read ≡ outputs.old.bytes_read }
+{
+    check_stream_there(placed, StreamField::First, outputs)?;
+    check_stream_there(placed, StreamField::Second, outputs)
+}
+
+// The same of one of its streams.
+fn check_stream_there<O: ReadAt + Drop>(
+    placed: &PlacedOutput,
+    stream: StreamField,
+    outputs: &mut RecordedOutputs<O>,
+) -> Result<(), LoadEventFault>
+    ensures there { IfSome (O.recorded outputs.old.source) (λ all. IsFirstBad (stream_field_not (is_there all) placed.now stream) result) }
+    ensures kept { O.recorded outputs.new.source ≡ O.recorded outputs.old.source }
+    ensures count { outputs.new.bytes_read ≡ outputs.old.bytes_read }
+{
+    if is_there(stream_in_field(stream, &placed.output), outputs)? {
+        Ok(())
+    } else {
+        Err(LoadEventFault::BadField(placed.field_of(stream)))
+    }
+}
+
+// The stream in a field of an output. Streams that were captured together stand in the first.
+fn stream_in_field(stream: StreamField, output: &StoredOutput) -> StoredStream
+    ensures { result ≡ stream_in_field stream output.now }
+{
+    match (stream, output) {
+        (StreamField::First, StoredOutput::Split { stdout, .. }) => *stdout,
+        (StreamField::Second, StoredOutput::Split { stderr, .. }) => *stderr,
+        (StreamField::First, StoredOutput::Combined { output }) => StoredStream::At(*output),
+        (StreamField::Second, StoredOutput::Combined { .. }) => StoredStream::NotCaptured,
+    }
+}
+
+// Whether all bytes of a stream are there.
+fn is_there<O: ReadAt + Drop>(
+    stream: StoredStream,
+    outputs: &mut RecordedOutputs<O>,
+) -> io::Result<bool>
+    ensures there { IfSome (O.recorded outputs.old.source) (λ all. IfOk result (λ is. is ≡ is_there all stream)) }
+    ensures kept { O.recorded outputs.new.source ≡ O.recorded outputs.old.source }
+    ensures count { outputs.new.bytes_read ≡ outputs.old.bytes_read }
+{
+    match stream {
+        StoredStream::NotCaptured | StoredStream::Empty => Ok(true),
+        StoredStream::At(reference) => outputs.holds(&reference),
+    }
+}
+
+// Puts all stored outputs into an event.
+fn load_all<O: ReadAt + Drop>(
+    alloc: Global,
+    stored: &[PlacedOutput],
+    outputs: &mut RecordedOutputs<O>,
+    event: &mut SceneEvent,
+) -> Result<(), LoadEventFault>
+    requires { outputs.old.bytes_read ≤ 2 ^ 64 - 1 }
+    ensures undamaged { IfSome (O.recorded outputs.old.source) (λ all. IsFirstBad (first_field_not (is_undamaged all) stored.now) result) }
+    ensures loaded { IfSome (O.recorded outputs.old.source) (λ all. OnOk result (event.new ≡ event_inline all stored.now event.old)) }
+    ensures kept { O.recorded outputs.new.source ≡ O.recorded outputs.old.source }
+    ensures count { OnOk result (outputs.new.bytes_read ≡ counted outputs.old.bytes_read (outputs_len stored.now)) }
+{
+    for placed in stored {
+        load_placed(alloc, placed, outputs, event)?;
+    }
+    Ok(())
+}
+
+// Puts one of them into it.
+fn load_placed<O: ReadAt + Drop>(
+    alloc: Global,
+    placed: &PlacedOutput,
+    outputs: &mut RecordedOutputs<O>,
+    event: &mut SceneEvent,
+) -> Result<(), LoadEventFault>
+    requires { outputs.old.bytes_read ≤ 2 ^ 64 - 1 }
+    ensures undamaged { IfSome (O.recorded outputs.old.source) (λ all. IsFirstBad (field_not (is_undamaged all) placed.now) result) }
+    ensures loaded { IfSome (O.recorded outputs.old.source) (λ all. OnOk result (event.new ≡ event_with placed.now.place (output_inline all placed.now.output) event.old)) }
+    ensures kept { O.recorded outputs.new.source ≡ O.recorded outputs.old.source }
+    ensures count { OnOk result (outputs.new.bytes_read ≡ counted outputs.old.bytes_read (output_len placed.now.output)) }
+{
+    match placed.output.load(alloc, outputs) {
+        Ok(captured) => Ok(event.load(alloc, placed.place, captured)?),
+        Err(StreamFault { stream, fault }) => {
+            Err(LoadEventFault::of_stream(placed.field_of(stream), fault))
+        }
+    }
 }

@@ -1,6 +1,6 @@
 -- What was captured of a stored output, and how many bytes are read for it.
-use Rattle.std.specs.Prelude.{◌≡◌, ℕ, List, [], Option, None, Some, Result, Ok, Err}
-use Rattle.std.specs.Option.{option_map}
+use Rattle.std.specs.Prelude.{◌≡◌, ℕ, List, [], true, Option, None, Some, Result, Ok, Err, ⊤}
+use Rattle.std.specs.Option.{is_some, option_map}
 use Rattle.run_model.specs.declared.output.ChildOutputDescription.{ChildOutputDescription}
 use Rattle.run_model.specs.declared.output.ChildOutputDescription.TheVariants as captured
 use Rattle.recorded_outputs.specs.Outputs.{IsCounted, IsLoaded, counted, stream_at}
@@ -42,6 +42,11 @@ IsFaultOf all NotCaptured fault = ⊥
 IsFaultOf all Empty fault = ⊥
 IsFaultOf all (At reference) fault = IsLoaded all reference (Err fault)
 
+-- the stream before the one in this field is not damaged
+abbrev pub IsWholeBefore : List ℕ → StreamField → StoredOutput → Type 0
+IsWholeBefore all First output = ⊤
+IsWholeBefore all Second output = is_some (captured_stream_at all (stream_in_field First output)) ≡ true
+
 -- what was loaded of a stream, or of an output, is what was captured; what was not has a fault
 abbrev pub IsCapturedStream : List ℕ → StoredStream → Result (Option (List ℕ)) LoadFault → Type 0
 IsCapturedStream all stream (Ok loaded) = captured_stream_at all stream ≡ Some loaded
@@ -49,7 +54,7 @@ IsCapturedStream all stream (Err fault) = IsFaultOf all stream fault
 
 abbrev pub IsCaptured : List ℕ → StoredOutput → Result ChildOutputDescription StreamFault → Type 0
 IsCaptured all output (Ok loaded) = captured_at all output ≡ Some loaded
-IsCaptured all output (Err f) = IsFaultOf all (stream_in_field f.stream output) f.fault
+IsCaptured all output (Err f) = IsFaultOf all (stream_in_field f.stream output) f.fault × IsWholeBefore all f.stream output
 
 -- a count of bytes once the bytes of a stream, or of an output, are read: those of its references
 abbrev pub counted_stream : ℕ → StoredStream → ℕ

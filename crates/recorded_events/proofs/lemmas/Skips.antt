@@ -1,0 +1,45 @@
+-- The decider skips an event of a scene just where it skips the event of a reporter that the call has.
+use Rattle.std.proofs.Common.{◌≡◌, Bool, true, false, not, Some, refl, ap, ◌∙◌}
+use Rattle.run_model.specs.Statuses.{summary_of}
+use Rattle.run_model.specs.declared.call.ReportCall.{ReportCall}
+use Rattle.run_model.specs.declared.call.ReportCall.TheVariants as call
+use Rattle.run_model.specs.declared.event.TestEventKind.{TestEventKind}
+use Rattle.run_model.specs.declared.event.TestEventKind.TheVariants as kind
+use Rattle.reporter_state.specs.Loads.{load_if, loads_attempt, loads_finish, loads_script}
+use Rattle.reporter_state.specs.Unread.{is_skip, is_skipped}
+use Rattle.reporter_state.specs.declared.decider.OutputLoadDecider.{OutputLoadDecider}
+use Rattle.scene_events.specs.Scenes.{IsCallOf, SaysSame}
+use Rattle.scene_events.specs.declared.scene.event.SceneEvent.{SceneEvent}
+use Rattle.scene_events.specs.declared.scene.event.SceneEvent.TheVariants as scene
+use Rattle.recorded_events.specs.Skips.{skips, skips_call}
+
+skip-if : (b : Bool) → is_skip (Some (load_if b)) ≡ not b
+skip-if true = refl
+skip-if false = refl
+
+-- an event that says the same
+pub skips-same : (d : OutputLoadDecider) (event : SceneEvent) (k : TestEventKind) → SaysSame event k → is_skipped d k ≡ skips d event
+skips-same d (scene.SetupScriptFinished e) (kind.SetupScriptFinished stress id program args status) says =
+    skip-if (loads_script status.result) ∙ ap (λ s. not (loads_script s.result)) says.2
+skips-same d (scene.TestAttemptFailedWillRetry e) (kind.TestAttemptFailedWillRetry stress test status delay failure) says =
+    skip-if (loads_attempt d failure) ∙ ap (λ f. not (loads_attempt d f)) says.4
+skips-same d (scene.TestFinished e) (kind.TestFinished stress test success failure statuses stats) says =
+    skip-if (loads_finish d success failure (summary_of statuses))
+    ∙ ap (λ s. not (loads_finish d s failure (summary_of statuses))) says.2
+    ∙ ap (λ f. not (loads_finish d e.success_output f (summary_of statuses))) says.3
+    ∙ ap (λ a. not (loads_finish d e.success_output e.failure_output (summary_of a))) says.4
+skips-same d (scene.SetupScriptFinished e) k says = absurd says
+skips-same d (scene.TestAttemptFailedWillRetry e) k says = absurd says
+skips-same d (scene.TestFinished e) k says = absurd says
+skips-same d event (kind.SetupScriptFinished stress id program args status) says = absurd says
+skips-same d event (kind.TestAttemptFailedWillRetry stress test status delay failure) says = absurd says
+skips-same d event (kind.TestFinished stress test success failure statuses stats) says = absurd says
+skips-same d event k says = refl
+
+-- a call of the event
+pub skips_call_same : (d : OutputLoadDecider) (event : SceneEvent) (c : ReportCall) → IsCallOf event c → skips_call d c ≡ skips d event
+skips_call_same d event (call.Event e) is = skips-same d event e.kind is.1
+skips_call_same d (scene.Header header) (call.Header h) is = refl
+skips_call_same d (scene.Prefix prefix) (call.Prefix p) is = refl
+skips_call_same d event (call.Header h) is = absurd is
+skips_call_same d event (call.Prefix p) is = absurd is

@@ -1,0 +1,15 @@
+use Rattle.std.proofs.Common.{◌≡◌, ◌≤◌, ◌-◌, ◌^◌, drop}
+use Rattle.recorded_outputs.specs.Outputs.{counted}
+use Rattle.recorded_events.specs.Loads.{is_undamaged, outputs_len}
+use Rattle.recorded_events.proofs.lemmas.Fields.{IsLeft, IsLeftEvent}
+use Rattle.recorded_events.proofs.load.load_all.Given as goal
+
+-- the outputs so far are undamaged and in the event, and the others will be
+abbrev pub invariant-loop-placed : goal.invariant-loop-placed
+invariant-loop-placed g l = record {
+  undamaged : IsLeft is_undamaged (g.O.ReadAt.recorded l.fn.outputs.source) (drop l.placed-index l.stored) l.stored;
+  loaded : IsLeftEvent (g.O.ReadAt.recorded l.fn.outputs.source) (drop l.placed-index l.stored) l.event l.stored l.fn.event;
+  kept : g.O.ReadAt.recorded l.outputs.source ≡ g.O.ReadAt.recorded l.fn.outputs.source;
+  small : l.outputs.bytes_read ≤ 2 ^ 64 - 1;
+  count : counted l.outputs.bytes_read (outputs_len (drop l.placed-index l.stored)) ≡ counted l.fn.outputs.bytes_read (outputs_len l.stored);
+}
