@@ -1,2 +1,3 @@
+pub mod NextLines
 pub mod Runs
 pub mod Source

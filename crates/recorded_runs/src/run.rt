@@ -1,6 +1,6 @@
 //! A recorded run as a source of lines.
 
-ghost use Rattle.std.specs.Prelude.{◌≡◌, ℕ, List, Option, None, Some, IfErr, IfOk, OnOk};
+ghost use Rattle.std.specs.Prelude.{◌≡◌, ℕ, List, None, Some, IfErr, IfOk};
 ghost use Rattle.std.specs.Io.Buffered.{reader_remaining};
 ghost use Rattle.recorded_outputs.specs.Outputs.{counted};
 ghost use Rattle.recorded_runs.specs.Runs.{lines_inline, lines_replayed, needed_bytes, replayed};
@@ -10,18 +10,17 @@ ghost use Rattle.scenes.specs.Follow.{PrintsFollowed, StopsBy};
 ghost use Rattle.scenes.specs.ParsedScenes.{OfLines};
 ghost use Rattle.scenes.specs.SpelledRuns.{BeginsParsed, PrintsParsed};
 
-use recorded_events::load::{LoadEventFault, load_outputs};
-use recorded_lines::line::{PlacedOutput, RecordedLine};
+use crate::lines::{next_line, read_line};
 use recorded_outputs::outputs::RecordedOutputs;
 use recorded_outputs::read_at::ReadAt;
+use run_model::memory::OutOfMemory;
 use scene_text::reader::LinesRead;
 use scenes::args::Options;
-use scenes::fault::{Fault, LineFault};
+use scenes::fault::Fault;
 use scenes::follow::{RunOutcome, follow_source};
 use scenes::read::RunSource;
-use scenes::reporter::decider_of;
 use std::alloc::Global;
-use std::io::{BufRead, BufReader, Read, Write};
+use std::io::{BufReader, Read, Write};
 
 /// How many bytes are read of the lines at once.
 const BYTES_AT_ONCE: usize = 16_384;
@@ -44,10 +43,23 @@ impl<'a, R: Read + Drop, O: ReadAt + Drop> RecordedRun<'a, R, O> {
         reader: R,
         outputs: RecordedOutputs<O>,
     ) -> Result<RecordedRun<'a, R, O>, OutOfMemory>
-        ensures options { IfOk result (λ run. run.options ≡ replayed options) }
+        ensures options { IfOk result (λ run. run.options ≡ replayed options.entry) }
         ensures lines { IfOk result (λ run. reader_remaining R.remaining run.reader ≡ R.remaining reader) }
-        ensures outputs { IfOk result (λ run. run.outputs ≡ outputs.entry) }
-    {}
+        ensures outputs { IfOk result (λ run. run.outputs ≡ outputs) }
+    {
+        let Ok(reader) = BufReader::with_capacity(alloc, BYTES_AT_ONCE, reader) else {
+            return Err(OutOfMemory);
+        };
+        Ok(RecordedRun {
+            options: Options {
+                is_replay: true,
+                ..options
+            },
+            reader,
+            line: Vec::new(alloc),
+            outputs,
+        })
+    }
 
     /// How many bytes of outputs were read. It stays at `u64::MAX` where it would pass that.
     pub fn bytes_read(&self) -> u64
@@ -91,17 +103,15 @@ impl<'o, R: Read, O: ReadAt + Drop> RunSource for RecordedRun<'o, R, O> {
         file: &'a str,
         read: &mut LinesRead,
     ) -> Result<bool, Fault<'a>> {
-        if !next_line(file, &mut self.reader, &mut self.line)? {
-            return Ok(false);
+        match next_line(file, &mut self.reader, &mut self.line) {
+            Ok(true) => {}
+            Ok(false) => return Ok(false),
+            Err(fault) => return Err(fault),
         }
-        read_line(
-            alloc,
-            file,
-            &self.options,
-            self.line.as_slice(),
-            &mut self.outputs,
-            read,
-        )?;
-        Ok(true)
+        let (options, line) = (&self.options, self.line.as_slice());
+        match read_line(alloc, file, options, line, &mut self.outputs, read) {
+            Ok(()) => Ok(true),
+            Err(fault) => Err(fault),
+        }
     }
 }

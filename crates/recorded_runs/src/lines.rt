@@ -1,0 +1,155 @@
+//! The lines of a recorded run. One is read at a time, with the outputs that its report shows.
+
+ghost use Rattle.std.specs.Prelude.{◌≡◌, ℕ, List, [], ◌∷◌, Some, IfErr, IfOk, OnErr, OnOk};
+ghost use Rattle.std.specs.Cow.{cow_str_bytes};
+ghost use Rattle.std.specs.Io.Buffered.{reader_remaining};
+ghost use Rattle.command_line.specs.Faults.{IsJudgeFault};
+ghost use Rattle.command_line.specs.Pieces.{IsUnread};
+ghost use Rattle.recorded_runs.specs.NextLines.{IsCounted, IsFaultOfLoad, IsLineFault, IsNextLine, KeepsRead, LeavesLine, loaded_line};
+ghost use Rattle.recorded_runs.specs.Runs.{line_replayed, line_unread, stored_in};
+ghost use Rattle.scene_fields.specs.Split.{Lacks};
+ghost use Rattle.scene_text.specs.SceneTexts.{ReadsLines, plain_line, text_lines};
+
+use recorded_events::load::{LoadEventFault, load_outputs};
+use recorded_lines::line::RecordedLine;
+use recorded_outputs::outputs::RecordedOutputs;
+use recorded_outputs::read_at::ReadAt;
+use scene_text::reader::LinesRead;
+use scenes::args::Options;
+use scenes::fault::{Fault, LineFault};
+use scenes::reporter::decider_of;
+use std::alloc::Global;
+use std::io::{BufRead, BufReader, Read};
+
+/// Reads the next line into the buffer, without the line feed that ends it. It answers whether there is one: what stands behind the last line
+/// feed is none.
+pub(crate) fn next_line<'a, R: Read>(
+    file: &'a str,
+    reader: &mut BufReader<R>,
+    line: &mut Vec<u8>,
+) -> Result<bool, Fault<'a>>
+    ensures line { IfOk result (λ is_whole. (text : List ℕ) → reader_remaining R.remaining reader.old ≡ Some text → IsNextLine text is_whole line.new.items (reader_remaining R.remaining reader.new)) }
+    ensures err { IfErr result (IsUnread file.now) }
+{
+    line.clear();
+    match reader.read_until(b'\n', line) {
+        Ok(_) => {}
+        Err(error) => return Err(Fault::CannotRead { file }.by_kind(error.kind())),
+    }
+    match line.pop() {
+        Some(last) => Ok(last == b'\n'),
+        None => Ok(false),
+    }
+}
+
+/// Reads a line behind those that were read, with the outputs that its report shows. Of a line that is wrong nothing is among those read.
+pub(crate) fn read_line<'a, O: ReadAt + Drop>(
+    alloc: Global,
+    file: &'a str,
+    options: &Options<'_>,
+    line: &[u8],
+    outputs: &mut RecordedOutputs<O>,
+    read: &mut LinesRead,
+) -> Result<(), Fault<'a>>
+    ensures read { OnOk result ((all : List ℕ) → O.recorded outputs.old.source ≡ Some all → Lacks 10 line.now → ReadsLines read.old read.new (line_replayed options.now all line.now ∷ [])) }
+    ensures left { IfErr result (λ fault. (all : List ℕ) → O.recorded outputs.old.source ≡ Some all → Lacks 10 line.now → LeavesLine file.now read.old read.new (line_replayed options.now all line.now) fault) }
+    ensures fault { IfErr result (IsJudgeFault file.now) }
+    ensures kept { O.recorded outputs.new.source ≡ O.recorded outputs.old.source }
+    ensures count { OnOk result ((all : List ℕ) → O.recorded outputs.old.source ≡ Some all → Lacks 10 line.now → IsCounted options.now read.old (line_unread line.now) (stored_in line.now) outputs.old.bytes_read outputs.new.bytes_read) }
+{
+    let Ok(text) = str::from_utf8(line) else {
+        // A comment may hold any bytes, and another such line is wrong.
+        read.read_more(alloc, line)?;
+        return Ok(());
+    };
+    let recorded = RecordedLine::read(alloc, text)?;
+    if recorded.outputs.is_empty() {
+        read.read_more(alloc, recorded.text.as_str().as_bytes())?;
+        return Ok(());
+    }
+    read_stored(alloc, file, options, &recorded, outputs, read)
+}
+
+// Reads a line with stored outputs. What was read of one that is wrong is taken back, so that its event is not reported.
+fn read_stored<'a, O: ReadAt + Drop>(
+    alloc: Global,
+    file: &'a str,
+    options: &Options<'_>,
+    recorded: &RecordedLine<'_>,
+    outputs: &mut RecordedOutputs<O>,
+    read: &mut LinesRead,
+) -> Result<(), Fault<'a>>
+    ensures read { OnOk result ((all : List ℕ) → O.recorded outputs.old.source ≡ Some all → text_lines (cow_str_bytes recorded.now.text) ≡ plain_line (cow_str_bytes recorded.now.text) ∷ []
+        → ReadsLines read.old read.new (loaded_line options.now all (cow_str_bytes recorded.now.text) recorded.now.outputs.items ∷ [])) }
+    ensures left { IfErr result (λ fault. (all : List ℕ) → O.recorded outputs.old.source ≡ Some all → text_lines (cow_str_bytes recorded.now.text) ≡ plain_line (cow_str_bytes recorded.now.text) ∷ []
+        → LeavesLine file.now read.old read.new (loaded_line options.now all (cow_str_bytes recorded.now.text) recorded.now.outputs.items) fault) }
+    ensures fault { IfErr result (IsJudgeFault file.now) }
+    ensures kept { O.recorded outputs.new.source ≡ O.recorded outputs.old.source }
+    ensures count { OnOk result (text_lines (cow_str_bytes recorded.now.text) ≡ plain_line (cow_str_bytes recorded.now.text) ∷ []
+        → IsCounted options.now read.old (cow_str_bytes recorded.now.text) recorded.now.outputs.items outputs.old.bytes_read outputs.new.bytes_read) }
+{
+    let (config, next) = (read.run.config, read.next);
+    let (events, lines) = (read.run.events.len(), read.run.lines.len());
+    match read_and_load(alloc, file, options, recorded, outputs, read) {
+        Ok(()) => Ok(()),
+        Err(fault) => {
+            read.run.config = config;
+            read.run.events.truncate(events);
+            read.run.lines.truncate(lines);
+            read.next = next;
+            Err(fault)
+        }
+    }
+}
+
+// Reads such a line, and loads the outputs that the report of its event shows.
+fn read_and_load<'a, O: ReadAt + Drop>(
+    alloc: Global,
+    file: &'a str,
+    options: &Options<'_>,
+    recorded: &RecordedLine<'_>,
+    outputs: &mut RecordedOutputs<O>,
+    read: &mut LinesRead,
+) -> Result<(), Fault<'a>>
+    ensures read { OnOk result ((all : List ℕ) → O.recorded outputs.old.source ≡ Some all → text_lines (cow_str_bytes recorded.now.text) ≡ plain_line (cow_str_bytes recorded.now.text) ∷ []
+        → ReadsLines read.old read.new (loaded_line options.now all (cow_str_bytes recorded.now.text) recorded.now.outputs.items ∷ [])) }
+    ensures left { IfErr result (λ fault. (all : List ℕ) → O.recorded outputs.old.source ≡ Some all → text_lines (cow_str_bytes recorded.now.text) ≡ plain_line (cow_str_bytes recorded.now.text) ∷ []
+        → IsLineFault file.now read.old (loaded_line options.now all (cow_str_bytes recorded.now.text) recorded.now.outputs.items) fault) }
+    ensures still { OnErr result (KeepsRead read.old read.new) }
+    ensures fault { IfErr result (IsJudgeFault file.now) }
+    ensures kept { O.recorded outputs.new.source ≡ O.recorded outputs.old.source }
+    ensures count { OnOk result (text_lines (cow_str_bytes recorded.now.text) ≡ plain_line (cow_str_bytes recorded.now.text) ∷ []
+        → IsCounted options.now read.old (cow_str_bytes recorded.now.text) recorded.now.outputs.items outputs.old.bytes_read outputs.new.bytes_read) }
+{
+    let (number, place) = (read.next, read.run.events.len());
+    read.read_more(alloc, recorded.text.as_str().as_bytes())?;
+    if read.run.events.len() <= place {
+        return Ok(());
+    }
+    let decider = decider_of(alloc, options, &read.run.config)?;
+    let stored = recorded.outputs.as_slice();
+    match load_outputs(
+        alloc,
+        &decider,
+        stored,
+        outputs,
+        &mut read.run.events[place],
+    ) {
+        Ok(()) => Ok(()),
+        Err(fault) => Err(fault_of_load(file, number, fault)),
+    }
+}
+
+// The fault of the line of this number, where the outputs of its event were not loaded.
+fn fault_of_load<'a>(file: &'a str, line: u64, fault: LoadEventFault) -> Fault<'a>
+    ensures { IsFaultOfLoad file.now line fault result }
+{
+    match fault {
+        LoadEventFault::BadField(field) => Fault::Line {
+            line,
+            fault: LineFault::BadField(field),
+        },
+        LoadEventFault::CannotRead(kind) => Fault::CannotRead { file }.by_kind(kind),
+        LoadEventFault::OutOfMemory => Fault::OutOfMemory,
+    }
+}
