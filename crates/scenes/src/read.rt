@@ -1,4 +1,4 @@
-//! Where the lines of a run come from: a file that is read piece by piece, the way into both programs.
+//! Where the lines of a run come from: a file that is read piece by piece, the way into `report` and `follow`, or another source.
 
 ghost use Rattle.std.specs.Prelude.{◌≡◌, ℕ, List, [], Ok, true, IfErr, IfOk, OnOk};
 ghost use Rattle.std.specs.Io.Buffered.{reader_remaining};

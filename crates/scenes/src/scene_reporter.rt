@@ -1,4 +1,4 @@
-//! The events of a scene, each made a call of the reporter: what both programs do with the lines that were read.
+//! The events of a scene, each made a call of the reporter: what each program does with the lines that were read.
 
 ghost use Rattle.std.specs.Prelude.{◌≡◌, ◌++◌, List, [], IfOk, IfErr, OnOk};
 ghost use Rattle.console_reporter.specs.HeldState.{HasFailed};

@@ -10,23 +10,23 @@ loop-turn-init g c = λ text known.
 
 pub returns-in-Ok-false-clause-scene : goal.returns-in-Ok-false-clause-scene
 returns-in-Ok-false-clause-scene g c = λ text known.
-    all_tell 1 no_lines _ _ (spells c.args.options.now.file.now (text_lines text) c.read_next.new.read [] no_lines _ (rw (c.in-Ok-false.is, c.in-Ok-false.field-0-test) at c.read_next.ensures.read (text_lines text) [] no_lines (c.loop-turn.invariant text known)))
+    all_tell 1 no_lines _ _ (spells c.args.options.now.file.now (text_lines text) c.read_next.new.read [] no_lines _ (rw (c.in-Ok-false.is, c.in-Ok-false.field-0-test) at c.read_next.ensures.read 0 (text_lines text) [] no_lines (c.loop-turn.invariant text known)))
 
 pub returns-in-Ok-false-clause-lines : goal.returns-in-Ok-false-clause-lines
 returns-in-Ok-false-clause-lines g c = λ text known.
-    notes c.args.options.now.file.now (text_lines text) c.read_next.new.read _ (rw (c.in-Ok-false.is, c.in-Ok-false.field-0-test) at c.read_next.ensures.read (text_lines text) [] no_lines (c.loop-turn.invariant text known))
+    notes c.args.options.now.file.now (text_lines text) c.read_next.new.read _ (rw (c.in-Ok-false.is, c.in-Ok-false.field-0-test) at c.read_next.ensures.read 0 (text_lines text) [] no_lines (c.loop-turn.invariant text known))
 
 pub returns-in-Ok-false-clause-answer : goal.returns-in-Ok-false-clause-answer
 returns-in-Ok-false-clause-answer g c = λ text known.
-    spells c.args.options.now.file.now (text_lines text) c.read_next.new.read [] no_lines _ (rw (c.in-Ok-false.is, c.in-Ok-false.field-0-test) at c.read_next.ensures.read (text_lines text) [] no_lines (c.loop-turn.invariant text known))
+    spells c.args.options.now.file.now (text_lines text) c.read_next.new.read [] no_lines _ (rw (c.in-Ok-false.is, c.in-Ok-false.field-0-test) at c.read_next.ensures.read 0 (text_lines text) [] no_lines (c.loop-turn.invariant text known))
 
 pub returns-in-Err-read_next-clause-first_fault : goal.returns-in-Err-read_next-clause-first_fault
 returns-in-Err-read_next-clause-first_fault g c = λ text known.
-    (stopped_read c.args.options.now.file.now text c.read_next.new.read _ c.in-Err-read_next.fault (rw c.in-Err-read_next.is at c.read_next.ensures.read (text_lines text) [] no_lines (c.loop-turn.invariant text known))).1
+    (stopped_read c.args.options.now.file.now text c.read_next.new.read _ c.in-Err-read_next.fault (rw c.in-Err-read_next.is at c.read_next.ensures.read 0 (text_lines text) [] no_lines (c.loop-turn.invariant text known))).1
 
 pub returns-in-Err-read_next-clause-answer : goal.returns-in-Err-read_next-clause-answer
 returns-in-Err-read_next-clause-answer g c = λ text known.
-    (stopped_read c.args.options.now.file.now text c.read_next.new.read _ c.in-Err-read_next.fault (rw c.in-Err-read_next.is at c.read_next.ensures.read (text_lines text) [] no_lines (c.loop-turn.invariant text known))).0
+    (stopped_read c.args.options.now.file.now text c.read_next.new.read _ c.in-Err-read_next.fault (rw c.in-Err-read_next.is at c.read_next.ensures.read 0 (text_lines text) [] no_lines (c.loop-turn.invariant text known))).0
 
 pub loop-turn-preserved : goal.loop-turn-preserved
-loop-turn-preserved g c = λ text known. rw (c.in-Ok-true.is, c.in-Ok-true.field-0-test) at c.read_next.ensures.read (text_lines text) [] no_lines (c.loop-turn.invariant text known)
+loop-turn-preserved g c = λ text known. rw (c.in-Ok-true.is, c.in-Ok-true.field-0-test) at c.read_next.ensures.read 0 (text_lines text) [] no_lines (c.loop-turn.invariant text known)
