@@ -104,7 +104,9 @@ impl<'a, R: Read + Drop, O: ReadAt + Drop> RecordedRun<'a, R, O> {
         ensures no_store { self.old.options.store ≡ None → result.2 ≡ store_writer }
     {
         let options = self.options;
-        follow_source(alloc, &options, self, writer, store_writer)
+        let followed = follow_source(alloc, &options, self, writer, store_writer);
+        let _count = self.bytes_read(); // it is a `u64`, which a proof learns by reading it
+        followed
     }
 }
 

@@ -25,16 +25,16 @@ pub record AreInline (options : Options) (all : List ℕ) (replayed inline : Par
   pub config : inline.config ≡ replayed.config
   pub events : AllZip (IsInline all (decider_for options replayed.config)) replayed.events inline.events
 
-same_begun : {R : SceneEvent → SceneEvent → Type 0} (es fs : List SceneEvent) → AllZip R es fs → is_begun fs ≡ is_begun es
-same_begun [] [] h = refl
-same_begun [] (f ∷ fs) h = absurd h
-same_begun (e ∷ es) [] h = absurd h
-same_begun (e ∷ es) (f ∷ fs) h = refl
+same_begun : (R : SceneEvent → SceneEvent → Type 0) (es fs : List SceneEvent) → AllZip R es fs → is_begun fs ≡ is_begun es
+same_begun R [] [] h = refl
+same_begun R [] (f ∷ fs) h = absurd h
+same_begun R (e ∷ es) [] h = absurd h
+same_begun R (e ∷ es) (f ∷ fs) h = refl
 
-none_zipped : {R Q : SceneEvent → SceneEvent → Type 0} (es fs : List SceneEvent) → is_begun es ≡ false → AllZip R es fs → AllZip Q es fs
-none_zipped [] [] none h = tt
-none_zipped [] (f ∷ fs) none h = absurd h
-none_zipped (e ∷ es) fs none h = absurd (false≢true (sym none))
+none_zipped : (R Q : SceneEvent → SceneEvent → Type 0) (es fs : List SceneEvent) → is_begun es ≡ false → AllZip R es fs → AllZip Q es fs
+none_zipped R Q [] [] none h = tt
+none_zipped R Q [] (f ∷ fs) none h = absurd h
+none_zipped R Q (e ∷ es) fs none h = absurd (false≢true (sym none))
 
 -- what is made of an event
 module _ (all : List ℕ) (d : OutputLoadDecider) (stored : List PlacedOutput) (event made : SceneEvent) where
@@ -55,7 +55,7 @@ module _ (all : List ℕ) (d : OutputLoadDecider) (stored : List PlacedOutput) (
   is_inline h = made_so (first_field_not (is_there all) stored) (skips d event) refl (first_field_not (is_undamaged all) stored) h
 
 module _ (options : Options) (all : List ℕ) where
-  record Goes (t : List ℕ) (inline after : ParsedLines) : Type 0 where
+  pub record Goes (t : List ℕ) (inline after : ParsedLines) : Type 0 where
     pub next : ParsedLines
     pub reads : line_read inline (line_inline all t) ≡ Ok next
     pub are : AreInline options all after next
@@ -66,7 +66,7 @@ module _ (options : Options) (all : List ℕ) where
     d = decider_for options replayed.config
 
     same_before : lines_before inline ≡ lines_before replayed
-    same_before = rw (are.config, same_begun replayed.events inline.events are.events) refl
+    same_before = rw (are.config, same_begun _ replayed.events inline.events are.events) refl
 
     -- what the inline line reads, by what the line says
     reads_so : (says : Result ParsedLine LineFault) → parsed_line (lines_before replayed) (line_unread t) ≡ says →
@@ -107,7 +107,7 @@ module _ (options : Options) (all : List ℕ) where
               | inl begun ↦
                   let kept : c ≡ replayed.config = ap (λ x. x.config) same ∙ config_kept replayed (line_replayed options all t ∷ []) after begun (after, reads, refl) in
                   subst (λ k. AllZip (IsInline all (decider_for options k)) replayed.events inline.events) (sym kept) are.events
-              | inr none ↦ none_zipped replayed.events inline.events none are.events
+              | inr none ↦ none_zipped _ _ replayed.events inline.events none are.events
             ];
           });
         }
@@ -127,17 +127,19 @@ module _ (options : Options) (all : List ℕ) where
     pub reads : lines_read n inline (map (line_inline all) ts) ≡ Ok all_inline
     pub are : AreInline options all run all_inline
 
-  pub go_on : (n : ℕ) (ts : List (List ℕ)) (replayed inline run : ParsedLines) → AreInline options all replayed inline → lines_read n replayed (map (line_replayed options all) ts) ≡ Ok run → GoOn n ts inline run
-
-  go_on_by : (n : ℕ) (t : List ℕ) (ts : List (List ℕ)) (replayed inline run : ParsedLines) → AreInline options all replayed inline → (first : Result ParsedLines LineFault) →
+  -- the lines behind the first, by what that one reads
+  go_on_by : (n : ℕ) (t : List ℕ) (ts : List (List ℕ)) (replayed inline run : ParsedLines) → AreInline options all replayed inline →
+      ((after next : ParsedLines) → AreInline options all after next → lines_read (n + 1) after (map (line_replayed options all) ts) ≡ Ok run → GoOn (n + 1) ts next run) → (first : Result ParsedLines LineFault) →
       line_read replayed (line_replayed options all t) ≡ first → lines_read_after (λ after. lines_read (n + 1) after (map (line_replayed options all) ts)) n first ≡ Ok run → GoOn n (t ∷ ts) inline run
   unfolding lines_read
-  go_on n [] replayed inline run are h = (let same : replayed ≡ run = cc in record { all_inline = inline; reads = refl; are = subst (λ x. AreInline options all x inline) same are })
-  go_on n (t ∷ ts) replayed inline run are h = go_on_by n t ts replayed inline run are (line_read replayed (line_replayed options all t)) refl h
-
-  unfolding lines_read
-  go_on_by n t ts replayed inline run are (Ok after) is h =
+  go_on_by n t ts replayed inline run are behind (Ok after) is h =
       let one = goes replayed inline after are t is in
-      let more = go_on (n + 1) ts after one.next run one.are h in
+      let more = behind after one.next one.are h in
       record { all_inline = more.all_inline; reads = ap (lines_read_after (λ next. lines_read (n + 1) next (map (line_inline all) ts)) n) one.reads ∙ more.reads; are = more.are }
-  go_on_by n t ts replayed inline run are (Err f) is h = absurd (cc)
+  go_on_by n t ts replayed inline run are behind (Err f) is h = absurd (cc)
+
+  pub go_on : (n : ℕ) (ts : List (List ℕ)) (replayed inline run : ParsedLines) → AreInline options all replayed inline → lines_read n replayed (map (line_replayed options all) ts) ≡ Ok run → GoOn n ts inline run
+  unfolding lines_read
+  go_on n [] replayed inline run are h = (let same : replayed ≡ run = cc in record { all_inline = inline; reads = refl; are = subst (λ x. AreInline options all x inline) same are })
+  go_on n (t ∷ ts) replayed inline run are h =
+      go_on_by n t ts replayed inline run are (λ after next behind reads. go_on (n + 1) ts after next run behind reads) (line_read replayed (line_replayed options all t)) refl h
