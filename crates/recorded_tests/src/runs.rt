@@ -53,6 +53,7 @@ const fn storing(store_success_output: bool, store_failure_output: bool) -> Opti
 }
 
 // What a replay came to, what it printed and stored, and how many bytes of outputs it read.
+#[derive(Drop)]
 struct Replayed<'a> {
     outcome: Result<RunOutcome, Fault<'a>>,
     printed: Vec<u8>,
