@@ -54,7 +54,7 @@ impl<'a> RecordedLine<'a> {
     /// Where a field begins like a reference and is none, or stands where none may, it stays in the text, in which it is a bad field.
     ///
     /// ```
-    /// let sum = "74170928bae84bb0a107a0906596aa52";
+    /// let sum = "ee2a98c236301c76";
     /// let text = format!(in alloc; "setupdone\t-\tdb\tinit\t\tpass\t5\t0\tcomb\t\\@70:7:{sum}\t-\t-\t-")?;
     /// let line = RecordedLine::read(alloc, text.as_str())?;
     /// assert!(line.text.as_str().ends_with("\t0\tunloaded\t-\t-\t-\t-"));

@@ -134,7 +134,7 @@ impl StoredOutput {
     ///
     /// ```
     /// use recorded_outputs::outputs::RecordedOutputs;
-    /// let reference = "\\@7:7:74170928bae84bb0a107a0906596aa52";
+    /// let reference = "\\@7:7:ee2a98c236301c76";
     /// let stored = StoredOutput::read("comb", reference, "-").ok_or("no output")?;
     /// let mut outputs = RecordedOutputs::new(b"passed\nfailed\n".as_slice())?;
     /// assert!(stored.load(alloc, &mut outputs)?.is_loaded());

@@ -1,8 +1,7 @@
 -- What is loaded of a file of outputs.
 use Rattle.std.specs.Prelude.{◌≡◌, ℕ, ◌+◌, ◌-◌, ◌^◌, ◌≤◌, ◌<◌, ◌&&◌, ◌⊎◌, min, nat_le, bytes_eq, if◌then◌else◌, List, length, take, drop, Option, None, Some, Result, Ok, Err, ⊤}
-use Rattle.md5.specs.Md5.{md5}
 use Rattle.recorded_outputs.specs.declared.reference.Reference.{Reference}
-use Rattle.recorded_outputs.specs.References.{end_of}
+use Rattle.recorded_outputs.specs.References.{end_of, sum_of}
 use Rattle.recorded_outputs.specs.declared.outputs.LoadFault.{LoadFault}
 use Rattle.recorded_outputs.specs.declared.outputs.LoadFault.TheVariants.{CannotRead, PastEnd, WrongSum, OutOfMemory}
 
@@ -12,7 +11,7 @@ bytes_at all r = take r.len (drop r.offset all)
 
 -- the stream that a reference names: its bytes, if they are all there and have its sum
 unfoldable pub stream_at : List ℕ → Reference → Option (List ℕ)
-stream_at all r = if nat_le (end_of r) (length all) && bytes_eq (md5 (bytes_at all r)) r.sum then Some (bytes_at all r) else None
+stream_at all r = if nat_le (end_of r) (length all) && bytes_eq (sum_of (bytes_at all r)) r.sum then Some (bytes_at all r) else None
 
 -- what is loaded is the stream that the reference names; what is damaged is none; and memory is only asked for where all bytes are there
 abbrev pub IsLoaded : List ℕ → Reference → Result (List ℕ) LoadFault → Type 0
@@ -24,7 +23,7 @@ IsLoaded all r (Err OutOfMemory) = end_of r ≤ length all
 
 -- these bytes are as many as the reference says, and have its sum
 abbrev pub HasSum : Reference → List ℕ → Type 0
-HasSum r bytes = (length bytes ≡ r.len) × (md5 bytes ≡ r.sum)
+HasSum r bytes = (length bytes ≡ r.len) × (sum_of bytes ≡ r.sum)
 
 -- a count with so many more, which stays at its greatest value
 abbrev pub counted : ℕ → ℕ → ℕ

@@ -1,6 +1,8 @@
 -- Where a captured stream stands, as the scene of a recorded run says it.
 use Rattle.std.specs.Prelude.{ℕ, ◌+◌, List, codes, drop, nat_eq, if◌then◌else◌, Option, None, Some}
 use Rattle.std.specs.Char.{is_ascii_uppercase}
+use Rattle.std.specs.Hash.DefaultHasher as sip
+use Rattle.std.specs.Int.{w64, to_be_bytes}
 use Rattle.std.specs.List.{list_any, starts_with}
 use Rattle.std.specs.Option.{option_and_then}
 use Rattle.std.specs.Result.{result_ok}
@@ -21,9 +23,13 @@ mark = codes "\\@"
 unfoldable pub after_mark : List ℕ → Option (List ℕ)
 after_mark t = if starts_with nat_eq t mark then Some (drop 2 t) else None
 
--- 16 bytes as 32 hexadecimal digits, of which no letter is upper case
+-- the sum of bytes: their SipHash-1-3 with the key 0, its highest byte first
+unfoldable pub sum_of : List ℕ → List ℕ
+sum_of bytes = to_be_bytes w64 (sip.finish (sip.write sip.initial bytes))
+
+-- 8 bytes as 16 hexadecimal digits, of which no letter is upper case
 unfoldable pub sum_in : List ℕ → Option (List ℕ)
-sum_in t = if list_any is_ascii_uppercase t then None else result_ok (decode_sized t 16)
+sum_in t = if list_any is_ascii_uppercase t then None else result_ok (decode_sized t 8)
 
 -- a reference of three parts, each of which must say something
 abbrev pub with_parts : Option ℕ → Option ℕ → Option (List ℕ) → Option Reference

@@ -115,7 +115,7 @@ impl<O: ReadAt + Drop> RecordedOutputs<O> {
     ///
     /// ```
     /// use recorded_outputs::reference::read_reference;
-    /// let reference = read_reference("\\@7:7:74170928bae84bb0a107a0906596aa52").ok_or("no reference")?;
+    /// let reference = read_reference("\\@7:7:ee2a98c236301c76").ok_or("no reference")?;
     /// let mut outputs = RecordedOutputs::new(b"passed\nfailed\n".as_slice())?;
     /// let stream = outputs.load(alloc, &reference)?;
     /// assert_eq!(stream.as_slice(), b"failed\n".as_slice());

@@ -4,13 +4,12 @@ ghost use Rattle.std.specs.Prelude.{◌≡◌, ◌≤◌, ◌↔◌, IsTrue};
 ghost use Rattle.std.specs.Char.{is_ascii_uppercase};
 ghost use Rattle.std.specs.List.{list_any};
 ghost use Rattle.std.specs.Option.{option_map};
-ghost use Rattle.md5.specs.Md5.{md5};
-ghost use Rattle.recorded_outputs.specs.References.{after_mark, end_of, reference_in, sum_in};
+ghost use Rattle.recorded_outputs.specs.References.{after_mark, end_of, reference_in, sum_in, sum_of};
 
 use hex::FromHex;
-use md5::{Digest, Md5};
 use scene_fields::numbers::read_count;
 use scene_fields::split::split_at_byte;
+use std::hash::{DefaultHasher, Hasher};
 
 /// Where a captured stream stands in the file of the outputs, and the sum by which its bytes are known.
 #[derive(Clone, Copy, Debug, PartialEq, Eq)]
@@ -19,8 +18,8 @@ pub struct Reference {
     pub offset: u64,
     /// How many bytes it has.
     pub len: usize,
-    /// The MD5 sum of its bytes.
-    pub sum: [u8; 16],
+    /// The sum of its bytes: their SipHash-1-3 with the key 0, its highest byte first. It finds what was damaged, and guards against nobody.
+    pub sum: [u8; 8],
 }
 
 impl Reference {
@@ -36,16 +35,26 @@ impl Reference {
 
     /// Whether these bytes have the sum of what this names.
     pub fn has_sum_of(&self, bytes: &[u8]) -> bool
-        ensures { IsTrue result ↔ (md5 bytes.now ≡ self.now.sum) }
+        ensures { IsTrue result ↔ (sum_of bytes.now ≡ self.now.sum) }
     {
-        Md5::digest(bytes) == self.sum
+        sum_of(bytes) == self.sum
     }
+}
+
+// The sum of these bytes.
+#[tactic(auto, unfolding(crate::specs::References::sum_of))]
+fn sum_of(bytes: &[u8]) -> [u8; 8]
+    ensures { result ≡ sum_of bytes.now }
+{
+    let mut hasher = DefaultHasher::new();
+    hasher.write(bytes);
+    hasher.finish().to_be_bytes()
 }
 
 /// Reads a reference, `\@OFFSET:LENGTH:SUM`. `None` means that the field is none.
 ///
 /// ```
-/// let reference = read_reference("\\@70:0:d41d8cd98f00b204e9800998ecf8427e");
+/// let reference = read_reference("\\@70:0:d1fba762150c532c");
 /// assert_eq!(reference.map(|it| (it.offset, it.len)), Some((70, 0)));
 /// assert_eq!(read_reference("\\@70:0"), None);
 /// ```
@@ -72,13 +81,13 @@ fn after_mark(field: &str) -> Option<&str>
 
 // Reads a sum, whose digits are lower case.
 #[tactic(auto, unfolding(crate::specs::References::sum_in))]
-fn read_sum(digits: &str) -> Option<[u8; 16]>
+fn read_sum(digits: &str) -> Option<[u8; 8]>
     ensures { result ≡ sum_in digits.now }
 {
     if has_upper_case(digits) {
         return None;
     }
-    <[u8; 16] as FromHex>::from_hex(digits).ok()
+    <[u8; 8] as FromHex>::from_hex(digits).ok()
 }
 
 // Whether a text has an upper-case letter of ASCII.

@@ -11,9 +11,9 @@ use std::test::Fail;
 const OUTPUTS: &[u8] = b"passed\nfailed\n";
 
 // In a line below, PASSED stands for a reference to the first of them, and FAILED for one to the second.
-const PASSED: &str = "\\@0:7:edf1b9bbb2e79dff0fa187fdc33dd0ac";
+const PASSED: &str = "\\@0:7:62cd0a585dc2fe91";
 
-const FAILED: &str = "\\@7:7:74170928bae84bb0a107a0906596aa52";
+const FAILED: &str = "\\@7:7:ee2a98c236301c76";
 
 // Lines, what is left of them, and the place and the first stream's field of each stored output.
 const STORED: [(&str, &str, &[(usize, usize)]); 8] = [
@@ -150,8 +150,8 @@ fn loads_outputs(rt: HostRuntime) -> Result<(), Fail> {
 
 #[test]
 fn tells_which_stream_is_damaged(rt: HostRuntime) -> Result<(), Fail> {
-    let past = "\\@8:7:74170928bae84bb0a107a0906596aa52";
-    let other = "\\@0:7:74170928bae84bb0a107a0906596aa52";
+    let past = "\\@8:7:ee2a98c236301c76";
+    let other = "\\@0:7:ee2a98c236301c76";
     let rows = [
         (
             "split",

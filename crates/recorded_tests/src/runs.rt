@@ -18,9 +18,9 @@ use store_text::config::StoreConfig;
 const OUTPUTS: &[u8] = b"passed\nfailed\n";
 
 // In a line below, PASSED stands for a reference to the first of them, and FAILED for one to the second.
-const PASSED: &str = "\\@0:7:edf1b9bbb2e79dff0fa187fdc33dd0ac";
+const PASSED: &str = "\\@0:7:62cd0a585dc2fe91";
 
-const FAILED: &str = "\\@7:7:74170928bae84bb0a107a0906596aa52";
+const FAILED: &str = "\\@7:7:ee2a98c236301c76";
 
 const RUN: &str = "config\tfinal\tfail\n\
 run\t00000000-0000-4000-8000-000000000001\tdefault\t2\t1\t-\n\
@@ -129,9 +129,9 @@ fn reads_what_is_shown_or_stored(rt: HostRuntime) -> Result<(), Fail> {
 #[test]
 fn tells_damaged_outputs_by_line_and_field(rt: HostRuntime) -> Result<(), Fail> {
     let alloc = rt.alloc();
-    let past = "\\@8:7:74170928bae84bb0a107a0906596aa52";
-    let other = "\\@0:7:74170928bae84bb0a107a0906596aa52";
-    let empty = "\\@14:0:d41d8cd98f00b204e9800998ecf8427e";
+    let past = "\\@8:7:ee2a98c236301c76";
+    let other = "\\@0:7:ee2a98c236301c76";
+    let empty = "\\@14:0:d1fba762150c532c";
     let rows = [
         (PASSED, FAILED, None),
         (empty, empty, None),

@@ -18,31 +18,31 @@ const OUTPUTS: &[u8] = b"passed\nfailed\n";
 
 // References to these: to the first, the second, both, and to no byte in front and behind.
 const STREAMS: [(&str, &[u8]); 5] = [
-    ("\\@0:7:edf1b9bbb2e79dff0fa187fdc33dd0ac", b"passed\n"),
-    ("\\@7:7:74170928bae84bb0a107a0906596aa52", b"failed\n"),
+    ("\\@0:7:62cd0a585dc2fe91", b"passed\n"),
+    ("\\@7:7:ee2a98c236301c76", b"failed\n"),
     (
-        "\\@0:14:f661c67f6c529f9ddfe2ace0efe64612",
+        "\\@0:14:1f5c9955d83970a4",
         b"passed\nfailed\n",
     ),
-    ("\\@0:0:d41d8cd98f00b204e9800998ecf8427e", b""),
-    ("\\@14:0:d41d8cd98f00b204e9800998ecf8427e", b""),
+    ("\\@0:0:d1fba762150c532c", b""),
+    ("\\@14:0:d1fba762150c532c", b""),
 ];
 
 // References whose bytes are not all there, however many are asked for.
 const PAST_END: [&str; 5] = [
-    "\\@8:7:74170928bae84bb0a107a0906596aa52",
-    "\\@15:0:d41d8cd98f00b204e9800998ecf8427e",
-    "\\@0:18446744073709551615:d41d8cd98f00b204e9800998ecf8427e",
-    "\\@18446744073709551615:1:d41d8cd98f00b204e9800998ecf8427e",
-    "\\@18446744073709551615:18446744073709551615:d41d8cd98f00b204e9800998ecf8427e",
+    "\\@8:7:ee2a98c236301c76",
+    "\\@15:0:d1fba762150c532c",
+    "\\@0:18446744073709551615:d1fba762150c532c",
+    "\\@18446744073709551615:1:d1fba762150c532c",
+    "\\@18446744073709551615:18446744073709551615:d1fba762150c532c",
 ];
 
 // References to bytes that have another sum.
 const WRONG_SUM: [&str; 4] = [
-    "\\@7:7:edf1b9bbb2e79dff0fa187fdc33dd0ac",
-    "\\@1:7:edf1b9bbb2e79dff0fa187fdc33dd0ac",
-    "\\@0:7:edf1b9bbb2e79dff0fa187fdc33dd0ad",
-    "\\@0:0:edf1b9bbb2e79dff0fa187fdc33dd0ac",
+    "\\@7:7:62cd0a585dc2fe91",
+    "\\@1:7:62cd0a585dc2fe91",
+    "\\@0:7:62cd0a585dc2fe92",
+    "\\@0:0:62cd0a585dc2fe91",
 ];
 
 // The reference that a field writes.
@@ -58,7 +58,7 @@ fn reads_references(rt: HostRuntime) -> Result<(), Fail> {
         &first.sum,
         b"\xed\xf1\xb9\xbb\xb2\xe7\x9d\xff\x0f\xa1\x87\xfd\xc3\x3d\xd0\xac"
     );
-    let zeros = reference("\\@0070:007:00000000000000000000000000000000")?;
+    let zeros = reference("\\@0070:007:0000000000000000")?;
     assert_eq!(rt; (zeros.offset, zeros.len), (70, 7));
     assert_eq!(rt; &zeros.sum, &[0; 16]);
     let greatest = reference(PAST_END[4])?;
@@ -74,29 +74,29 @@ fn refuses_what_is_no_reference(rt: HostRuntime) {
         "passed",
         "\\",
         "\\@",
-        "@0:0:d41d8cd98f00b204e9800998ecf8427e",
-        " \\@0:0:d41d8cd98f00b204e9800998ecf8427e",
-        "\\\\@0:0:d41d8cd98f00b204e9800998ecf8427e",
+        "@0:0:d1fba762150c532c",
+        " \\@0:0:d1fba762150c532c",
+        "\\\\@0:0:d1fba762150c532c",
         "\\@0",
         "\\@0:0",
         "\\@0:0:",
-        "\\@:0:d41d8cd98f00b204e9800998ecf8427e",
-        "\\@0::d41d8cd98f00b204e9800998ecf8427e",
-        "\\@+0:0:d41d8cd98f00b204e9800998ecf8427e",
-        "\\@0:-0:d41d8cd98f00b204e9800998ecf8427e",
-        "\\@0: 0:d41d8cd98f00b204e9800998ecf8427e",
-        "\\@0x0:0:d41d8cd98f00b204e9800998ecf8427e",
-        "\\@18446744073709551616:0:d41d8cd98f00b204e9800998ecf8427e",
-        "\\@0:18446744073709551616:d41d8cd98f00b204e9800998ecf8427e",
-        "\\@0:0:d41d8cd98f00b204e9800998ecf8427",
-        "\\@0:0:d41d8cd98f00b204e9800998ecf8427e0",
-        "\\@0:0:d41d8cd98f00b204e9800998ecf8427ee0",
-        "\\@0:0:d41d8cd98f00b204e9800998ecf8427g",
+        "\\@:0:d1fba762150c532c",
+        "\\@0::d1fba762150c532c",
+        "\\@+0:0:d1fba762150c532c",
+        "\\@0:-0:d1fba762150c532c",
+        "\\@0: 0:d1fba762150c532c",
+        "\\@0x0:0:d1fba762150c532c",
+        "\\@18446744073709551616:0:d1fba762150c532c",
+        "\\@0:18446744073709551616:d1fba762150c532c",
+        "\\@0:0:d1fba762150c532",
+        "\\@0:0:d1fba762150c532c0",
+        "\\@0:0:d1fba762150c532ce0",
+        "\\@0:0:d1fba762150c532g",
         "\\@0:0:D41D8CD98F00B204E9800998ECF8427E",
-        "\\@0:0:d41d8cd98f00b204e9800998ecf8427E",
-        "\\@0:0:d41d8cd98f00b204e9800998ecf8427e:",
-        "\\@0:0:d41d8cd98f00b204e9800998ecf8427e ",
-        "\\@0:0:0:d41d8cd98f00b204e9800998ecf8427e",
+        "\\@0:0:d1fba762150c532E",
+        "\\@0:0:d1fba762150c532c:",
+        "\\@0:0:d1fba762150c532c ",
+        "\\@0:0:0:d1fba762150c532c",
     ];
     for field in fields {
         assert_eq!(rt; read_reference(field), None, "of {field}");

@@ -3,35 +3,34 @@ use Rattle.std.proofs.Common.{◌≡◌, ℕ, List, [], ◌∷◌, ◌++◌, cod
 use Rattle.hex.proofs.OnLiterals.{hex_on_literals}
 use Rattle.scene_fields.specs.Numbers.{number_in}
 use Rattle.scene_fields.specs.Split.{cut}
-use Rattle.md5.specs.Md5.{md5}
 use Rattle.recorded_outputs.specs.Outputs.{stream_at}
-use Rattle.recorded_outputs.specs.References.{after_mark, reference_in, sum_in}
+use Rattle.recorded_outputs.specs.References.{after_mark, reference_in, sum_in, sum_of}
 
 -- the sum of no byte, as text and as bytes
 abbrev sum_text : List ℕ
-sum_text = codes "d41d8cd98f00b204e9800998ecf8427e"
+sum_text = codes "d1fba762150c532c"
 
 abbrev sum_bytes : List ℕ
-sum_bytes = 212 ∷ 29 ∷ 140 ∷ 217 ∷ 143 ∷ 0 ∷ 178 ∷ 4 ∷ 233 ∷ 128 ∷ 9 ∷ 152 ∷ 236 ∷ 248 ∷ 66 ∷ 126 ∷ []
+sum_bytes = 209 ∷ 251 ∷ 167 ∷ 98 ∷ 21 ∷ 12 ∷ 83 ∷ 44 ∷ []
 
 row_sum : sum_in sum_text ≡ Some sum_bytes
 unfolding sum_in hex_on_literals
 row_sum = refl
 
 -- a letter is upper case, a digit is missing, one is too many, and one is none
-row_upper : sum_in (codes "D41d8cd98f00b204e9800998ecf8427e") ≡ None
+row_upper : sum_in (codes "D1fba762150c532c") ≡ None
 unfolding sum_in hex_on_literals
 row_upper = refl
 
-row_short : sum_in (codes "d41d8cd98f00b204e9800998ecf8427") ≡ None
+row_short : sum_in (codes "d1fba762150c532") ≡ None
 unfolding sum_in hex_on_literals
 row_short = refl
 
-row_long : sum_in (codes "d41d8cd98f00b204e9800998ecf8427e00") ≡ None
+row_long : sum_in (codes "d1fba762150c532c00") ≡ None
 unfolding sum_in hex_on_literals
 row_long = refl
 
-row_no_digit : sum_in (codes "g41d8cd98f00b204e9800998ecf8427e") ≡ None
+row_no_digit : sum_in (codes "g1fba762150c532c") ≡ None
 unfolding sum_in hex_on_literals
 row_no_digit = refl
 
@@ -65,11 +64,11 @@ unfolding reference_in after_mark sum_in cut number_in hex_on_literals
 row_more = refl
 
 -- bytes that have the sum, bytes that have another, and places past the end, of a stream of no byte too
-row_stream : md5 (codes "bc") ≡ sum_bytes → stream_at (codes "abcd") (record { offset = 1; len = 2; sum = sum_bytes }) ≡ Some (codes "bc")
+row_stream : sum_of (codes "bc") ≡ sum_bytes → stream_at (codes "abcd") (record { offset = 1; len = 2; sum = sum_bytes }) ≡ Some (codes "bc")
 unfolding stream_at
 row_stream same = rw same refl
 
-row_other : md5 (codes "bc") ≡ sum_bytes → stream_at (codes "abcd") (record { offset = 1; len = 2; sum = 0 ∷ [] }) ≡ None
+row_other : sum_of (codes "bc") ≡ sum_bytes → stream_at (codes "abcd") (record { offset = 1; len = 2; sum = 0 ∷ [] }) ≡ None
 unfolding stream_at
 row_other same = rw same refl
 

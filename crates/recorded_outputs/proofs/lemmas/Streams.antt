@@ -4,11 +4,10 @@ use Rattle.std.specs.Str.{bytes_eq}
 use Rattle.std.proofs.lemmas.Bool.{cases_Bool}
 use Rattle.std.proofs.lemmas.Bool.Decides.{nat_tests}
 use Rattle.std.proofs.lemmas.Slice.Eq.{bytes_eq-Decides}
-use Rattle.md5.specs.Md5.{md5}
 use Rattle.recorded_outputs.specs.declared.reference.Reference.{Reference}
 use Rattle.recorded_outputs.specs.Outputs.{bytes_at, stream_at}
 use Rattle.recorded_outputs.specs.ReadAt.{HasRead}
-use Rattle.recorded_outputs.specs.References.{end_of}
+use Rattle.recorded_outputs.specs.References.{end_of, sum_of}
 
 -- no stream ends behind the last byte
 stream_at-past : (all : List ℕ) (r : Reference) → length all < end_of r → stream_at all r ≡ None
@@ -16,20 +15,20 @@ unfolding stream_at
 stream_at-past all r past = let not_there : nat_le (end_of r) (length all) ≡ false = grind (arith, nat_tests) in rw not_there refl
 
 -- bytes that are all there are the stream where they have its sum
-stream_at-same : (all : List ℕ) (r : Reference) → end_of r ≤ length all → md5 (bytes_at all r) ≡ r.sum → stream_at all r ≡ Some (bytes_at all r)
+stream_at-same : (all : List ℕ) (r : Reference) → end_of r ≤ length all → sum_of (bytes_at all r) ≡ r.sum → stream_at all r ≡ Some (bytes_at all r)
 unfolding stream_at
 stream_at-same all r there same =
     let is_there : nat_le (end_of r) (length all) ≡ true = grind (arith, nat_tests) in
-    let is_same : bytes_eq (md5 (bytes_at all r)) r.sum ≡ true = (bytes_eq-Decides _ _).1 same in
+    let is_same : bytes_eq (sum_of (bytes_at all r)) r.sum ≡ true = (bytes_eq-Decides _ _).1 same in
     rw (is_there, is_same) refl
 
 -- and no stream where they have another
-stream_at-other : (all : List ℕ) (r : Reference) → end_of r ≤ length all → md5 (bytes_at all r) ≢ r.sum → stream_at all r ≡ None
+stream_at-other : (all : List ℕ) (r : Reference) → end_of r ≤ length all → sum_of (bytes_at all r) ≢ r.sum → stream_at all r ≡ None
 unfolding stream_at
 stream_at-other all r there other =
     let is_there : nat_le (end_of r) (length all) ≡ true = grind (arith, nat_tests) in
-    elim (cases_Bool (bytes_eq (md5 (bytes_at all r)) r.sum)) [
-      | inl same ↦ absurd (other ((bytes_eq-Decides (md5 (bytes_at all r)) r.sum).0 same))
+    elim (cases_Bool (bytes_eq (sum_of (bytes_at all r)) r.sum)) [
+      | inl same ↦ absurd (other ((bytes_eq-Decides (sum_of (bytes_at all r)) r.sum).0 same))
       | inr is_other ↦ rw (is_there, is_other) refl
     ]
 
@@ -43,15 +42,15 @@ bytes_read : (all : List ℕ) (r : Reference) (bytes : List ℕ) → HasRead r.o
 bytes_read all r bytes read len = sym (read ∙ ap (λ n. take n (drop r.offset all)) len)
 
 -- where they have its sum, they are the stream
-pub same_read : (known : Option (List ℕ)) (r : Reference) (holds : Bool) (bytes : List ℕ) → holds ≡ true → IfSome known (λ all. IsTrue holds ↔ (end_of r ≤ length all)) → IfSome known (HasRead r.offset bytes) → length bytes ≡ r.len → md5 bytes ≡ r.sum → IfSome known (λ all. stream_at all r ≡ Some bytes)
+pub same_read : (known : Option (List ℕ)) (r : Reference) (holds : Bool) (bytes : List ℕ) → holds ≡ true → IfSome known (λ all. IsTrue holds ↔ (end_of r ≤ length all)) → IfSome known (HasRead r.offset bytes) → length bytes ≡ r.len → sum_of bytes ≡ r.sum → IfSome known (λ all. stream_at all r ≡ Some bytes)
 same_read None r holds bytes is there read len same = tt
 same_read (Some all) r holds bytes is there read len same =
     let here = bytes_read all r bytes read len in
-    stream_at-same all r (there.0 is) (ap md5 here ∙ same) ∙ ap Some here
+    stream_at-same all r (there.0 is) (ap sum_of here ∙ same) ∙ ap Some here
 
 -- where they have another, there is none
-pub other_read : (known : Option (List ℕ)) (r : Reference) (holds : Bool) (bytes : List ℕ) → holds ≡ true → IfSome known (λ all. IsTrue holds ↔ (end_of r ≤ length all)) → IfSome known (HasRead r.offset bytes) → length bytes ≡ r.len → md5 bytes ≢ r.sum → IfSome known (λ all. (end_of r ≤ length all) × (stream_at all r ≡ None))
+pub other_read : (known : Option (List ℕ)) (r : Reference) (holds : Bool) (bytes : List ℕ) → holds ≡ true → IfSome known (λ all. IsTrue holds ↔ (end_of r ≤ length all)) → IfSome known (HasRead r.offset bytes) → length bytes ≡ r.len → sum_of bytes ≢ r.sum → IfSome known (λ all. (end_of r ≤ length all) × (stream_at all r ≡ None))
 other_read None r holds bytes is there read len other = tt
 other_read (Some all) r holds bytes is there read len other =
     let here = bytes_read all r bytes read len in
-    (there.0 is, stream_at-other all r (there.0 is) (λ same. other (ap md5 (sym here) ∙ same)))
+    (there.0 is, stream_at-other all r (there.0 is) (λ same. other (ap sum_of (sym here) ∙ same)))
