@@ -20,10 +20,7 @@ const OUTPUTS: &[u8] = b"passed\nfailed\n";
 const STREAMS: [(&str, &[u8]); 5] = [
     ("\\@0:7:62cd0a585dc2fe91", b"passed\n"),
     ("\\@7:7:ee2a98c236301c76", b"failed\n"),
-    (
-        "\\@0:14:1f5c9955d83970a4",
-        b"passed\nfailed\n",
-    ),
+    ("\\@0:14:1f5c9955d83970a4", b"passed\nfailed\n"),
     ("\\@0:0:d1fba762150c532c", b""),
     ("\\@14:0:d1fba762150c532c", b""),
 ];
