@@ -12,6 +12,9 @@ use scene_fields::split::split_at_byte;
 use std::alloc::Global;
 use std::borrow::CowStr;
 
+// Room for the fields of most lines: those of a finished test with one attempt, and of a second one.
+const FIELDS: usize = 32;
+
 // How many fields an output ends: three on its unit, its form, its two streams, errors and a highlight.
 const GROUP: usize = 8;
 
@@ -71,7 +74,7 @@ impl<'a> RecordedLine<'a> {
             let text = CowStr::Borrowed(line);
             return Ok(RecordedLine { text, outputs });
         }
-        let mut fields = Vec::new(alloc);
+        let mut fields = Vec::with_capacity(alloc, FIELDS)?;
         split_fields(line, &mut fields)?;
         let mut unread = Vec::with_capacity(alloc, fields.len())?;
         take_outputs(fields.as_slice(), &mut unread, &mut outputs)?;

@@ -37,7 +37,7 @@ IsLineFault file read line fault =
 abbrev pub LeavesLine : List ℕ → LinesRead → LinesRead → RunLine → Fault → Type 0
 LeavesLine file old new line fault = (IsUnread file fault × ReadsLines old new []) ⊎ ((f : ReadFault) × (fault ≡ fault_of_read f) × LeavesLines old new (line ∷ []) f)
 
--- behind whatever events were forgotten, what was read stands still before what was added
+-- what was read before still stands in front of what was added, whatever events were forgotten
 pub record KeepsRead (old new : LinesRead) : Type 0 where
   pub events : (base : List SceneEvent) → is_begun base ≡ old.is_begun → take (length old.run.events.items) new.run.events.items ≡ old.run.events.items
   pub lines : (base : List SceneEvent) → is_begun base ≡ old.is_begun → take (length old.run.lines.items) new.run.lines.items ≡ old.run.lines.items
