@@ -173,9 +173,9 @@ fn takes_a_line_that_was_cut_for_none(rt: HostRuntime) -> Result<(), Fail> {
     let whole = replay(alloc, &OPTIONS, lines.as_str(), OUTPUTS)?;
     assert!(rt; whole.outcome? == RunOutcome::Failed);
     for end in 0..lines.len() {
-        let (cut, _) = lines.as_str().split_at(end);
-        let kept = match cut.rfind('\n') {
-            Some(at) => &cut[..at + 1],
+        let cut = lines.as_str().get(..end).ok_or("a beginning")?;
+        let kept = match cut.rsplit_once('\n') {
+            Some((before, _)) => &cut[..before.len() + 1],
             None => "",
         };
         let replayed = replay(alloc, &OPTIONS, cut, OUTPUTS)?;
