@@ -1,7 +1,6 @@
 //! The stored outputs of an event, loaded where the report shows them.
 
 ghost use Rattle.std.specs.Prelude.{◌≡◌, ◌≤◌, ◌-◌, ◌^◌, IfOk, IfSome, OnOk};
-ghost use Rattle.recorded_lines.specs.Loads.{stream_in_field};
 ghost use Rattle.recorded_outputs.specs.Outputs.{counted};
 ghost use Rattle.recorded_events.specs.Loads.{IsFirstBad, IsReplayed, event_inline, fault_of_kind, fault_of_stream, field_not, first_field_not, is_there, is_undamaged, needed_of, output_inline, output_len, outputs_len, stream_field_not};
 ghost use Rattle.recorded_events.specs.Skips.{skips, skips_call};
@@ -9,7 +8,7 @@ ghost use Rattle.reporter_state.specs.Unread.{is_skipped};
 ghost use Rattle.scene_events.specs.Loads.{event_with};
 
 use recorded_lines::line::PlacedOutput;
-use recorded_lines::stored::{StoredOutput, StoredStream, StreamFault, StreamField};
+use recorded_lines::stored::{StoredStream, StreamFault, StreamField};
 use recorded_outputs::outputs::{LoadFault, RecordedOutputs};
 use recorded_outputs::read_at::ReadAt;
 use reporter_state::decider::OutputLoadDecider;
@@ -23,7 +22,7 @@ use std::io;
 use std::io::ErrorKind;
 
 /// Why the outputs of an event were not loaded.
-#[derive(Clone, Copy, Debug, PartialEq, Eq)]
+#[derive(Clone, Copy)]
 pub enum LoadEventFault {
     /// This field of its line, from 1 for the event's name, names bytes that are not there, or others than were recorded.
     BadField(usize),
@@ -93,7 +92,7 @@ impl LoadEventFault {
 /// let line = RecordedLine::read(alloc, "answers-end\t0")?;
 /// let mut event = SceneEvent::InfoFinished(InfoFinish { missing: 0 });
 /// let mut outputs = RecordedOutputs::new(b"passed\nfailed\n".as_slice())?;
-/// assert_eq!(load_outputs(alloc, &decider, line.outputs.as_slice(), &mut outputs, &mut event), Ok(()));
+/// assert!(load_outputs(alloc, &decider, line.outputs.as_slice(), &mut outputs, &mut event).is_ok());
 /// assert_eq!(outputs.bytes_read(), 0); // the event has no output
 /// ```
 #[tactic(auto, unfolding(crate::specs::Loads::event_replayed))]
@@ -199,22 +198,10 @@ fn check_stream_there<O: ReadAt + Drop>(
     ensures kept { O.recorded outputs.new.source ≡ O.recorded outputs.old.source }
     ensures count { outputs.new.bytes_read ≡ outputs.old.bytes_read }
 {
-    if is_there(stream_in_field(stream, &placed.output), outputs)? {
+    if is_there(placed.output.stream(stream), outputs)? {
         Ok(())
     } else {
         Err(LoadEventFault::BadField(placed.field_of(stream)))
-    }
-}
-
-// The stream in a field of an output. Streams that were captured together stand in the first.
-fn stream_in_field(stream: StreamField, output: &StoredOutput) -> StoredStream
-    ensures { result ≡ stream_in_field stream output.now }
-{
-    match (stream, output) {
-        (StreamField::First, StoredOutput::Split { stdout, .. }) => *stdout,
-        (StreamField::Second, StoredOutput::Split { stderr, .. }) => *stderr,
-        (StreamField::First, StoredOutput::Combined { output }) => StoredStream::At(*output),
-        (StreamField::Second, StoredOutput::Combined { .. }) => StoredStream::NotCaptured,
     }
 }
 

@@ -28,7 +28,7 @@ pub struct RecordedLine<'a> {
 }
 
 /// A stored output, and where it stands in its line.
-#[derive(Clone, Copy, Debug, PartialEq, Eq)]
+#[derive(Clone, Copy)]
 pub struct PlacedOutput {
     /// The place of its attempt, from 0. The only output of an event has the place 0.
     pub place: usize,

@@ -4,7 +4,7 @@ ghost use Rattle.std.specs.Prelude.{◌≡◌, IfSome, MatchResult};
 ghost use Rattle.recorded_lines.specs.Stored.{is_reference, stored_output_in, stored_stream_in};
 ghost use Rattle.recorded_outputs.specs.Outputs.{IsCounted, IsLoaded};
 ghost use Rattle.recorded_outputs.specs.declared.outputs.LoadFault.{LoadFault};
-ghost use Rattle.recorded_lines.specs.Loads.{IsCaptured, IsCapturedStream, IsCountedOf, IsCountedOfStream};
+ghost use Rattle.recorded_lines.specs.Loads.{IsCaptured, IsCapturedStream, IsCountedOf, IsCountedOfStream, stream_in_field};
 
 use bytes::Bytes;
 use recorded_outputs::outputs::{LoadFault, RecordedOutputs};
@@ -125,6 +125,23 @@ impl StoredOutput {
                 Some(StoredOutput::Combined { output })
             }
             _ => None,
+        }
+    }
+
+    /// The stream in one of its two fields. Streams that were captured together stand in the first.
+    ///
+    /// ```
+    /// let stored = StoredOutput::read("comb", "\\@7:7:ee2a98c236301c76", "-").ok_or("no output")?;
+    /// assert_eq!(stored.stream(StreamField::Second), StoredStream::NotCaptured);
+    /// ```
+    pub fn stream(&self, field: StreamField) -> StoredStream
+        ensures { result ≡ stream_in_field field self.now }
+    {
+        match (field, self) {
+            (StreamField::First, StoredOutput::Split { stdout, .. }) => *stdout,
+            (StreamField::Second, StoredOutput::Split { stderr, .. }) => *stderr,
+            (StreamField::First, StoredOutput::Combined { output }) => StoredStream::At(*output),
+            (StreamField::Second, StoredOutput::Combined { .. }) => StoredStream::NotCaptured,
         }
     }
 

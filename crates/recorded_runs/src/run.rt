@@ -6,9 +6,9 @@ ghost use Rattle.recorded_outputs.specs.Outputs.{counted};
 ghost use Rattle.recorded_runs.specs.Runs.{lines_inline, lines_replayed, needed_bytes, replayed};
 ghost use Rattle.recorded_runs.specs.Source.{IsLeft};
 ghost use Rattle.scene_text.specs.SceneTexts.{no_lines};
-ghost use Rattle.scenes.specs.Follow.{PrintsFollowed, StopsBy};
+ghost use Rattle.scenes.specs.Follow.{StopsBy};
 ghost use Rattle.scenes.specs.ParsedScenes.{OfLines};
-ghost use Rattle.scenes.specs.SpelledRuns.{BeginsParsed, PrintsParsed};
+ghost use Rattle.scenes.specs.Prints.{Begins, Prints, PrintsFollowed, device};
 
 use crate::lines::{next_line, read_line};
 use recorded_outputs::outputs::RecordedOutputs;
@@ -25,7 +25,7 @@ use std::io::{BufReader, Read, Write};
 /// How many bytes are read of the lines at once.
 const BYTES_AT_ONCE: usize = 16_384;
 
-/// A recorded run: its lines, and its outputs, which are read only where the report shows them.
+/// A recorded run: its lines, and its outputs. Those that the decider skips are not read.
 ///
 /// ```
 /// use recorded_outputs::outputs::RecordedOutputs;
@@ -39,7 +39,7 @@ const BYTES_AT_ONCE: usize = 16_384;
 /// let (outcome, printed, _records) = run.replay(alloc, Vec::new(alloc), Vec::new(alloc));
 /// assert!(outcome? == RunOutcome::NotEnded);
 /// assert!(!printed.is_empty());
-/// assert_eq!(run.bytes_read(), 0); // its report shows no output of a test that passed
+/// assert_eq!(run.bytes_read(), 0); // the decider skips the output of a test that passed
 /// ```
 #[derive(Drop)]
 pub struct RecordedRun<'a, R, O: ReadAt> {
@@ -96,10 +96,10 @@ impl<'a, R: Read + Drop, O: ReadAt + Drop> RecordedRun<'a, R, O> {
         store_writer: S,
     ) -> (Result<RunOutcome, Fault<'a>>, W, S)
         ensures ok { (text all : List ℕ) → reader_remaining R.remaining self.old.reader ≡ Some text → O.recorded self.old.outputs.source ≡ Some all → IfOk result.0 (λ come_to.
-            OfLines (lines_inline all text) (PrintsFollowed self.old.options come_to (W.contents writer) (W.contents result.1) (S.contents store_writer) (S.contents result.2))) }
+            OfLines (lines_inline all text) (PrintsFollowed device device self.old.options (W.contents writer, S.contents store_writer) (W.contents result.1, S.contents result.2) come_to)) }
         ensures err { (text all : List ℕ) → reader_remaining R.remaining self.old.reader ≡ Some text → O.recorded self.old.outputs.source ≡ Some all → IfErr result.0 (StopsBy self.old.options (lines_replayed self.old.options all text)
-            (λ run. PrintsParsed self.old.options run (W.contents writer) (W.contents result.1) (S.contents store_writer) (S.contents result.2))
-            (λ run fault. BeginsParsed self.old.options run fault (W.contents writer) (W.contents result.1) (S.contents store_writer) (S.contents result.2))) }
+            (Prints device device self.old.options (W.contents writer, S.contents store_writer) (W.contents result.1, S.contents result.2))
+            (Begins device device self.old.options (W.contents writer, S.contents store_writer) (W.contents result.1, S.contents result.2))) }
         ensures reads { (text all : List ℕ) → reader_remaining R.remaining self.old.reader ≡ Some text → O.recorded self.old.outputs.source ≡ Some all → IfOk result.0 (λ _.
             self.new.outputs.bytes_read ≡ counted self.old.outputs.bytes_read (needed_bytes self.old.options text)) }
         ensures no_store { self.old.options.store ≡ None → result.2 ≡ store_writer }

@@ -7,7 +7,7 @@ use Rattle.scene_fields.specs.declared.fault.ReadFault.{ReadFault}
 use Rattle.scene_fields.specs.declared.fault.ReadFault.TheVariants as read
 use Rattle.scenes.specs.Judged.{IsJudged}
 use Rattle.scenes.specs.ParsedScenes.{OfText}
-use Rattle.scenes.specs.SpelledRuns.{PrintsParsed}
+use Rattle.scenes.specs.Prints.{Prints, device}
 use Rattle.command_line.specs.declared.fault.Fault.{Fault}
 use Rattle.command_line.specs.declared.fault.Fault.TheVariants as fault
 use Rattle.command_line.specs.declared.args.Options.{Options}
@@ -39,7 +39,7 @@ pub record AsksFor (options : NorigullyOptions) (program : Options) : Type 0 whe
 pub record IsReport (options : NorigullyOptions) (text report : List ℕ) : Type 0 where
   pub program : Options
   pub asked : AsksFor options program
-  pub printed : OfText text (λ run. PrintsParsed program run (Some []) (Some report) None None)
+  pub printed : OfText text (Prints device device program (Some [], None) (Some report, None))
 
 -- The report fits the buffer, which begins with it now and is as it was behind it.
 pub record IsWritten (options : NorigullyOptions) (text old new : List ℕ) (n : ℕ) : Type 0 where

@@ -2,7 +2,7 @@
 
 ghost use Rattle.std.specs.Prelude.{◌≡◌, ◌↔◌, [], IfSome, IfOk, IfErr, None, Some};
 ghost use Rattle.scenes.specs.ParsedScenes.{OfText};
-ghost use Rattle.scenes.specs.SpelledRuns.{PrintsParsed};
+ghost use Rattle.scenes.specs.Prints.{Prints, device};
 ghost use Rattle.report_c.specs.Reported.{AsksFor, IsUnreported, fault_told, level_numbered};
 
 use crate::NorigullyOptions;
@@ -52,7 +52,7 @@ fn read_level(number: u32) -> Option<StatusLevel>
 
 /// The report of the run that a text spells; or the line that is wrong, or that memory was refused.
 pub fn report_of(alloc: Global, options: &Options<'_>, text: &[u8]) -> Result<Vec<u8>, ReadFault>
-    ensures report { IfOk result (λ report. OfText text.now (λ run. PrintsParsed options.now run (Some []) (Some report.items) None None)) }
+    ensures report { IfOk result (λ report. OfText text.now (Prints device device options.now (Some [], None) (Some report.items, None))) }
     ensures fault { IfErr result (IsUnreported options.now text.now) }
 {
     let (outcome, report, _unstored) = report_scene(

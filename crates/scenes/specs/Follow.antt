@@ -1,5 +1,6 @@
 -- A report that keeps up with its lines: what stops one, and what the run came to.
-use Rattle.std.specs.Prelude.{◌≡◌, ◌⊎◌, ℕ, List, ◌∷◌, ◌++◌, Bool, true, Option, Some, Result, Ok, Err, reverse}
+use Rattle.std.specs.Prelude.{◌≡◌, ◌⊎◌, ℕ, List, ◌∷◌, ◌++◌, Bool, true, Some, Result, Ok, Err}
+use Rattle.std.specs.Borrow.{Bor}
 use Rattle.std.specs.Option.{option_map}
 use Rattle.plain_text.specs.Writer.{Meaning}
 use Rattle.run_model.specs.declared.call.ReportCall.{ReportCall}
@@ -9,16 +10,13 @@ use Rattle.scene_text.specs.declared.reader.LinesRead.{LinesRead}
 use Rattle.scene_events.specs.Scenes.{IsCallOf}
 use Rattle.scene_events.specs.declared.scene.event.SceneEvent.{SceneEvent}
 use Rattle.scene_fields.specs.declared.fault.LineFault.{LineFault}
-use Rattle.scenes.specs.Outcomes.{run_outcome}
 use Rattle.scenes.specs.Read.{AtLine, HasRead}
 use Rattle.scenes.specs.Reports.{fault_at_call}
 use Rattle.scenes.specs.SceneReporter.{Follows}
-use Rattle.scenes.specs.SpelledRuns.{PrintsParsed}
 use Rattle.scenes.specs.Unloads.{decider_for}
 use Rattle.command_line.specs.declared.fault.Fault.{Fault}
-use Rattle.command_line.specs.declared.fault.Fault.TheVariants as fault
+use Rattle.command_line.specs.declared.fault.Fault.TheVariants.{CannotRead, Line}
 use Rattle.command_line.specs.declared.args.Options.{Options}
-use Rattle.scenes.specs.declared.outcome.RunOutcome.{RunOutcome}
 use Rattle.scenes.specs.declared.scene_reporter.SceneReporter.{SceneReporter}
 
 -- a line behind these is an event whose call is refused, and this is why
@@ -27,35 +25,25 @@ pub record IsRefusedEvent (options : Options) (run : ParsedLines) (t : RunLine) 
   pub says : line_value (lines_before run) t ≡ Ok (EventLine event)
   pub call : ReportCall
   pub of_event : IsCallOf event call
-  pub refused : (n : ℕ) → option_map (fault_at_call n) (refusal_by (decider_for options run.config) call) ≡ Some (fault.Line n f)
+  pub refused : (n : ℕ) → option_map (fault_at_call n) (refusal_by (decider_for options run.config) call) ≡ Some (Line n f)
 
--- the line of this number has this fault behind those before it, of which P holds
-pub record StopsAtLine (options : Options) (all : List RunLine) (P : ParsedLines → Type 0) (number : ℕ) (f : LineFault) : Type 0 where
-  pub run : ParsedLines
+-- the first of the lines behind a run, which has this number, is wrong or an event whose call is refused, and this is its fault
+pub record IsWrongLine (options : Options) (run : ParsedLines) (lines : List RunLine) (number : ℕ) (fault : Fault) : Type 0 where
   pub t : RunLine
   pub more : List RunLine
-  pub at : AtLine all run (t ∷ more) number
+  pub first : lines ≡ t ∷ more
+  pub f : LineFault
+  pub is : fault ≡ Line number f
   pub wrong : (line_value (lines_before run) t ≡ Err f) ⊎ IsRefusedEvent options run t f
-  pub holds : P run
 
--- P holds of some first lines of all
-pub record StopsBehind (all : List RunLine) (P : ParsedLines → Type 0) : Type 0 where
+-- Where a fault stops lines that are followed: P holds of the lines before a line that is wrong, and of those before the reader failed; Q
+-- of those that were begun, and of the fault, where a device failed or memory was refused.
+pub record StopsBy (options : Options) (all : List RunLine) (P : ParsedLines → Type 0) (Q : ParsedLines → Fault → Type 0) (fault : Fault) : Type 0 where
   pub run : ParsedLines
   pub lines : List RunLine
   pub number : ℕ
   pub at : AtLine all run lines number
-  pub holds : P run
-
--- What a fault leaves of lines that are followed: P holds of the lines before a line that is wrong, and of those before the reader failed;
--- Q of those that were begun where a device failed or memory was refused.
-abbrev pub StopsBy : Options → List RunLine → (ParsedLines → Type 0) → (ParsedLines → Fault → Type 0) → Fault → Type 0
-StopsBy options all P Q fault.Usage = ⊥
-StopsBy options all P Q (fault.CannotRead file) = StopsBehind all P
-StopsBy options all P Q (fault.CannotWrite file) = ⊥
-StopsBy options all P Q (fault.Line n f) = StopsAtLine options all P n f
-StopsBy options all P Q fault.WriteFailed = StopsBehind all (λ run. Q run fault.WriteFailed)
-StopsBy options all P Q fault.StoreFailed = StopsBehind all (λ run. Q run fault.StoreFailed)
-StopsBy options all P Q fault.OutOfMemory = StopsBehind all (λ run. Q run fault.OutOfMemory)
+  pub holds : (P run × (IsWrongLine options run lines number fault ⊎ ((file : Bor (List ℕ)) × (fault ≡ CannotRead file)))) ⊎ Q run fault
 
 -- What was read is at hand behind what a reporter has reported of all lines so far; an event is among both.
 pub record KeepsUp {W S : Type 0} (m : Meaning W) (n : Meaning S) (options : Options) (all : List RunLine) (start now : SceneReporter W S) (read : LinesRead) (more : Result Bool Fault) (Has : ParsedLines → List RunLine → Type 0) : Type 0 where
@@ -64,8 +52,3 @@ pub record KeepsUp {W S : Type 0} (m : Meaning W) (n : Meaning S) (options : Opt
   pub has : HasRead options.file.now all front before read more Has
   pub follows : Follows m n options start now (record { config = read.run.config; events = before.events })
   pub begun : is_begun (before.events ++ read.run.events.items) ≡ true
-
--- the bytes grew by the report of the run, and the outcome is that of its calls
-pub record PrintsFollowed (options : Options) (come_to : RunOutcome) (old new store_old store_new : Option (List ℕ)) (run : ParsedLines) : Type 0 where
-  pub printed : PrintsParsed options run old new store_old store_new
-  pub outcome : come_to ≡ run_outcome (reverse printed.calls)

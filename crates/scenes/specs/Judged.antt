@@ -9,6 +9,7 @@ use Rattle.scene_text.specs.SceneTexts.{event_lines, no_lines, text_lines, text_
 use Rattle.scene_events.specs.Scenes.{IsCallOf}
 use Rattle.scene_events.specs.declared.scene.event.SceneEvent.{SceneEvent}
 use Rattle.scenes.specs.Unloads.{decider_for}
+use Rattle.command_line.specs.Faults.{IsJudgeFault}
 use Rattle.command_line.specs.declared.fault.Fault.{Fault}
 use Rattle.command_line.specs.declared.fault.Fault.TheVariants as fault
 use Rattle.scene_fields.specs.declared.fault.LineFault.{LineFault}
@@ -71,3 +72,9 @@ IsJudged options (Err fault) text = IsSceneRead (Err fault) (text_read text) ⊎
 -- the fault is the first one of the text, or that of a refused call; or the file cannot be read, or memory was refused
 abbrev pub IsJudgedFault : Options → List ℕ → Fault → Type 0
 IsJudgedFault options text fault = IsReadFault text fault ⊎ IsRefusedText options text fault
+
+-- the fault is the text's own, or that it was not read whole, and nothing was written
+pub record IsRejected {W S : Type 0} (options : Options) (text : List ℕ) (fault : Fault) (old new : W × S) : Type 0 where
+  pub judged : IsJudged options (Err fault) text
+  pub of_judge : IsJudgeFault options.file.now fault
+  pub untouched : (new.0 ≡ old.0) × (new.1 ≡ old.1)

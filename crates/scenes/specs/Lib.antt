@@ -2,9 +2,9 @@ pub mod Deferred
 pub mod Follow
 pub mod Judged
 pub mod Outcomes
+pub mod Prints
 pub mod Read
 pub mod Reports
 pub mod SceneReporter
-pub mod SpelledRuns
 pub mod ParsedScenes
 pub mod Unloads

@@ -1,6 +1,6 @@
 -- Scenes as lines that were read.
 use Rattle.std.specs.Prelude.{◌≡◌, ℕ, List, Result, Ok, Err, ⊤}
-use Rattle.scene_text.specs.SceneTexts.{IsFirstFault, ParsedLines, RunLine, lines_read, no_lines, parsed_lines, text_lines, text_read}
+use Rattle.scene_text.specs.SceneTexts.{IsFirstFault, ParsedLines, RunLine, lines_read, no_lines, parsed_lines, text_lines}
 use Rattle.scene_fields.specs.declared.fault.LineFault.{LineFault}
 use Rattle.scene_events.specs.declared.scene.ParsedRun.{ParsedRun}
 use Rattle.command_line.specs.declared.fault.Fault.{Fault}

@@ -1,7 +1,6 @@
 -- What the program writes of a scene.
-use Rattle.std.specs.Prelude.{◌≡◌, ℕ, List, ◌++◌, reverse, true, false, if◌then◌else◌, Option, Some, ⊤}
-use Rattle.std.specs.Io.KnownBytes.{Appends}
-use Rattle.std.specs.Option.{is_some, option_map}
+use Rattle.std.specs.Prelude.{ℕ, List, reverse, false, if◌then◌else◌, Option}
+use Rattle.std.specs.Option.{option_map}
 use Rattle.std.specs.List.{AllZip}
 use Rattle.run_names.specs.Filters.{default_config_filter}
 use Rattle.unit_report.specs.Levels.{overridden}
@@ -10,11 +9,8 @@ use Rattle.unit_report.specs.declared.config.ShowProgress.TheVariants as progres
 use Rattle.unit_report.specs.declared.unit_output.DisplayerKind.{DisplayerKind}
 use Rattle.unit_report.specs.declared.unit_output.DisplayerKind.TheVariants as displayer
 use Rattle.plain_text.specs.Texts.{Text}
-use Rattle.plain_text.specs.TextBuffer.{GrowsWithin}
-use Rattle.plain_text.specs.Writer.{Meaning}
 use Rattle.store_text.specs.declared.config.StoreConfig.{StoreConfig}
 use Rattle.console_reporter.specs.Configuration.{Configuration, configured_in}
-use Rattle.console_reporter.specs.Outcomes.{HasFront, Stops, StopsRecord}
 use Rattle.console_reporter.specs.Report.{report}
 use Rattle.console_reporter.specs.Stored.{stored}
 use Rattle.console_reporter.specs.declared.imp.builder.DisplayReporterBuilder.{DisplayReporterBuilder}
@@ -26,7 +22,7 @@ use Rattle.scene_events.specs.Scenes.{IsCallOf}
 use Rattle.scene_fields.specs.declared.fault.LineFault.TheVariants as line
 use Rattle.scene_events.specs.declared.scene.SceneConfig.{SceneConfig}
 use Rattle.command_line.specs.declared.fault.Fault.{Fault}
-use Rattle.command_line.specs.declared.fault.Fault.TheVariants.{Usage, CannotRead, CannotWrite, Line, WriteFailed, StoreFailed, OutOfMemory}
+use Rattle.command_line.specs.declared.fault.Fault.TheVariants.{Line, WriteFailed, StoreFailed, OutOfMemory}
 use Rattle.scenes.specs.declared.scene.Scene.{Scene}
 use Rattle.command_line.specs.declared.args.Options.{Options}
 
@@ -85,53 +81,3 @@ fault_at_call n Io = WriteFailed
 fault_at_call n Memory = OutOfMemory
 fault_at_call n Failed = WriteFailed
 fault_at_call n StoreIo = StoreFailed
-
--- From old, this fault of the program stopped the report, of which a beginning was accepted, and left new: its writer's, its
--- store's, or memory was refused. No other fault stops one.
-abbrev pub StopsText : {S : Type 0} → Meaning S → S → Text → Fault → S → Type 0
-StopsText m old text Usage new = ⊥
-StopsText m old text (CannotRead file) new = ⊥
-StopsText m old text (CannotWrite file) new = ⊥
-StopsText m old text (Line n f) new = ⊥
-StopsText m old text WriteFailed new = Stops m old text Io new
-StopsText m old text StoreFailed new = HasFront m old text new
-StopsText m old text OutOfMemory new = Stops m old text Memory new
-
--- the same of the second writer
-abbrev pub StopsStore : {S : Type 0} → Meaning S → S → Text → Fault → S → Type 0
-StopsStore m old text Usage new = ⊥
-StopsStore m old text (CannotRead file) new = ⊥
-StopsStore m old text (CannotWrite file) new = ⊥
-StopsStore m old text (Line n f) new = ⊥
-StopsStore m old text WriteFailed new = HasFront m old text new
-StopsStore m old text StoreFailed new = StopsRecord m old text StoreIo new
-StopsStore m old text OutOfMemory new = StopsRecord m old text Memory new
-
--- of some first calls of a past, and of no more, a writer accepted the texts, and delivered them
-pub record HasFirstCalls {S : Type 0} (m : Meaning S) (texts : List ReportCall → Text) (past : List ReportCall) (old new : S) : Type 0 where
-  pub later : List ReportCall
-  pub earlier : List ReportCall
-  pub is : past ≡ later ++ earlier
-  pub accepted : m.accepts old (texts earlier) new
-  pub delivered : m.is_delivered new
-
--- the same of a device, where its bytes are known
-pub record HoldsFirstCalls (texts : List ReportCall → Text) (past : List ReportCall) (old new : Option (List ℕ)) : Type 0 where
-  pub later : List ReportCall
-  pub earlier : List ReportCall
-  pub is : past ≡ later ++ earlier
-  pub grown : Appends old new (texts earlier)
-
--- a report stops by a fault of its device, of the store's where there is one, or for want of memory
-abbrev pub IsStop : Options → Fault → Type 0
-IsStop options Usage = ⊥
-IsStop options (CannotRead file) = ⊥
-IsStop options (CannotWrite file) = ⊥
-IsStop options (Line n f) = ⊥
-IsStop options WriteFailed = ⊤
-IsStop options StoreFailed = is_some (store_for options) ≡ true
-IsStop options OutOfMemory = ⊤
-
--- what a device holds, where its bytes are known: what it held, and a prefix of the text
-abbrev pub Begins : Option (List ℕ) → Option (List ℕ) → Text → Type 0
-Begins before after text = (old new : List ℕ) → before ≡ Some old → after ≡ Some new → GrowsWithin old new text

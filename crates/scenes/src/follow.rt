@@ -7,16 +7,16 @@ ghost use Rattle.std.specs.Prelude.{◌≡◌, ℕ, List, [], true, Option, None
 ghost use Rattle.console_reporter.specs.OptionalStore.{IsSameStore, config_of, store_delivered, store_meaning};
 ghost use Rattle.console_reporter.specs.Telling.{IsSameReporter};
 ghost use Rattle.scene_text.specs.SceneTexts.{ParsedLines, RunLine, is_begun, no_lines, text_lines};
-ghost use Rattle.scenes.specs.Follow.{PrintsFollowed, StopsBy};
+ghost use Rattle.scenes.specs.Follow.{StopsBy};
 ghost use Rattle.scenes.specs.ParsedScenes.{OfLines, OfText};
+ghost use Rattle.scenes.specs.Prints.{Begins, Prints, PrintsFollowed, device};
 ghost use Rattle.scenes.specs.Read.{HasRead};
 ghost use Rattle.scenes.specs.Reports.{store_for};
-ghost use Rattle.scenes.specs.SceneReporter.{BreaksOff, BreaksParsed, HasReported, HasReportedTo, IsStart, ReportsParsed};
-ghost use Rattle.scenes.specs.SpelledRuns.{BeginsParsed, PrintsParsed};
+ghost use Rattle.scenes.specs.SceneReporter.{IsStart, writers};
 
 pub use crate::outcome::RunOutcome;
 use crate::read::{RunSource, SceneSource};
-use crate::reporter::{builder_of, surroundings_of};
+use crate::reporter::builder_of;
 use crate::scene_reporter::SceneReporter;
 use command_line::args::Options;
 use command_line::fault::Fault;
@@ -65,10 +65,10 @@ pub fn follow_scene<'a, R: Read + Drop, W: Write, S: Write>(
     store_writer: S,
 ) -> (Result<RunOutcome, Fault<'a>>, W, S)
     ensures ok { (text : List ℕ) → R.remaining reader ≡ Some text → IfOk result.0 (λ come_to.
-        OfText text (PrintsFollowed options.now come_to (W.contents writer) (W.contents result.1) (S.contents store_writer) (S.contents result.2))) }
+        OfText text (PrintsFollowed device device options.now (W.contents writer, S.contents store_writer) (W.contents result.1, S.contents result.2) come_to)) }
     ensures err { (text : List ℕ) → R.remaining reader ≡ Some text → IfErr result.0 (StopsBy options.now (text_lines text)
-        (λ run. PrintsParsed options.now run (W.contents writer) (W.contents result.1) (S.contents store_writer) (S.contents result.2))
-        (λ run fault. BeginsParsed options.now run fault (W.contents writer) (W.contents result.1) (S.contents store_writer) (S.contents result.2))) }
+        (Prints device device options.now (W.contents writer, S.contents store_writer) (W.contents result.1, S.contents result.2))
+        (Begins device device options.now (W.contents writer, S.contents store_writer) (W.contents result.1, S.contents result.2))) }
     ensures no_store { options.now.store ≡ None → result.2 ≡ store_writer }
 {
     match SceneSource::new(alloc, reader) {
@@ -86,11 +86,11 @@ pub fn follow_source<'a, L: RunSource, W: Write, S: Write>(
     store_writer: S,
 ) -> (Result<RunOutcome, Fault<'a>>, W, S)
     ensures ok { (in_all : ℕ) (all : List RunLine) → L.left in_all source.old no_lines all → IfOk result.0 (λ come_to.
-        OfLines all (PrintsFollowed options.now come_to (W.contents writer) (W.contents result.1) (S.contents store_writer) (S.contents result.2))) }
+        OfLines all (PrintsFollowed device device options.now (W.contents writer, S.contents store_writer) (W.contents result.1, S.contents result.2) come_to)) }
     ensures rest { (in_all : ℕ) (all : List RunLine) → L.left in_all source.old no_lines all → OnOk result.0 (OfLines all (λ run. L.left in_all source.new run [])) }
     ensures err { (in_all : ℕ) (all : List RunLine) → L.left in_all source.old no_lines all → IfErr result.0 (StopsBy options.now all
-        (λ run. PrintsParsed options.now run (W.contents writer) (W.contents result.1) (S.contents store_writer) (S.contents result.2))
-        (λ run fault. BeginsParsed options.now run fault (W.contents writer) (W.contents result.1) (S.contents store_writer) (S.contents result.2))) }
+        (Prints device device options.now (W.contents writer, S.contents store_writer) (W.contents result.1, S.contents result.2))
+        (Begins device device options.now (W.contents writer, S.contents store_writer) (W.contents result.1, S.contents result.2))) }
     ensures no_store { options.now.store ≡ None → result.2 ≡ store_writer }
 {
     let mut out = match TextBuffer::new(alloc, writer) {
@@ -139,15 +139,16 @@ fn follow_to<'a, 'w, L: RunSource, W: WriteStr, S: WriteStr>(
     &'w mut W,
     Option<Store<'w, S>>,
 )
-    requires { config_of store ≡ store_for options.now }
+    requires store_asked { config_of store ≡ store_for options.now }
+    requires delivered { W.meaning.is_delivered writer.old }
+    requires store_delivered { store_delivered S.meaning store }
     ensures same_reference { result.1.ghost_name ≡ writer.entry.ghost_name }
     ensures same_store { IsSameStore store.entry result.2 }
-    ensures ok { IfOk result.0 (λ come_to. (in_all : ℕ) (all : List RunLine) → L.left in_all source.old no_lines all → W.meaning.is_delivered writer.old → store_delivered S.meaning store.entry
-        → OfLines all (ReportsParsed W.meaning (store_meaning S.meaning) options.now writer.old result.1.now store.entry result.2 come_to)) }
-    ensures rest { OnOk result.0 ((in_all : ℕ) (all : List RunLine) → L.left in_all source.old no_lines all → W.meaning.is_delivered writer.old → store_delivered S.meaning store.entry
-        → OfLines all (λ run. L.left in_all source.new run [])) }
-    ensures err { IfErr result.0 (λ fault. (in_all : ℕ) (all : List RunLine) → L.left in_all source.old no_lines all → W.meaning.is_delivered writer.old → store_delivered S.meaning store.entry
-        → StopsBy options.now all (HasReportedTo W.meaning (store_meaning S.meaning) options.now writer.old result.1.now store.entry result.2) (BreaksParsed W.meaning (store_meaning S.meaning) options.now writer.old result.1.now store.entry result.2) fault) }
+    ensures ok { (in_all : ℕ) (all : List RunLine) → L.left in_all source.old no_lines all
+        → IfOk result.0 (λ come_to. OfLines all (PrintsFollowed W.meaning (store_meaning S.meaning) options.now (writer.old, store.entry) (result.1.now, result.2) come_to)) }
+    ensures rest { (in_all : ℕ) (all : List RunLine) → L.left in_all source.old no_lines all → OnOk result.0 (OfLines all (λ run. L.left in_all source.new run [])) }
+    ensures err { (in_all : ℕ) (all : List RunLine) → L.left in_all source.old no_lines all
+        → IfErr result.0 (StopsBy options.now all (Prints W.meaning (store_meaning S.meaning) options.now (writer.old, store.entry) (result.1.now, result.2)) (Begins W.meaning (store_meaning S.meaning) options.now (writer.old, store.entry) (result.1.now, result.2))) }
 {
     let mut read = LinesRead::new(alloc);
     let more = read_head(alloc, options.file, source, &mut read);
@@ -161,8 +162,7 @@ fn follow_to<'a, 'w, L: RunSource, W: WriteStr, S: WriteStr>(
         Ok(builder) => builder,
         Err(fault) => return (Err(fault), writer, store),
     };
-    let reporter = builder.build_in(alloc, writer, store, surroundings_of(&read.run.config));
-    let mut reporter = SceneReporter::new(reporter);
+    let mut reporter = SceneReporter::build(alloc, builder, &read.run.config, writer, store);
     let followed = follow_lines(alloc, options, source, &mut read, more, &mut reporter);
     let SceneReporter { outcome, reporter } = reporter;
     let (writer, store) = reporter.into_parts();
@@ -183,11 +183,11 @@ fn follow_lines<'a, L: RunSource, W: WriteStr, S: WriteStr>(
 ) -> Result<(), Fault<'a>>
     ensures same { IsSameReporter reporter.old.reporter reporter.new.reporter }
     ensures ok { OnOk result ((in_all : ℕ) (all : List RunLine) → HasRead options.now.file.now all [] no_lines read.old more.entry (L.left in_all source.old) → is_begun read.old.run.events.items ≡ true
-        → IsStart W.meaning S.meaning options.now read.old.run.config reporter.old → OfLines all (HasReported W.meaning S.meaning options.now reporter.old reporter.new)) }
+        → IsStart W.meaning S.meaning options.now read.old.run.config reporter.old → OfLines all (PrintsFollowed W.meaning (store_meaning S.meaning) options.now (writers reporter.old) (writers reporter.new) reporter.new.outcome)) }
     ensures rest { OnOk result ((in_all : ℕ) (all : List RunLine) → HasRead options.now.file.now all [] no_lines read.old more.entry (L.left in_all source.old) → is_begun read.old.run.events.items ≡ true
         → IsStart W.meaning S.meaning options.now read.old.run.config reporter.old → OfLines all (λ run. L.left in_all source.new run [])) }
     ensures err { IfErr result (λ fault. (in_all : ℕ) (all : List RunLine) → HasRead options.now.file.now all [] no_lines read.old more.entry (L.left in_all source.old) → is_begun read.old.run.events.items ≡ true
-        → IsStart W.meaning S.meaning options.now read.old.run.config reporter.old → StopsBy options.now all (HasReported W.meaning S.meaning options.now reporter.old reporter.new) (BreaksOff W.meaning S.meaning options.now reporter.old reporter.new) fault) }
+        → IsStart W.meaning S.meaning options.now read.old.run.config reporter.old → StopsBy options.now all (Prints W.meaning (store_meaning S.meaning) options.now (writers reporter.old) (writers reporter.new)) (Begins W.meaning (store_meaning S.meaning) options.now (writers reporter.old) (writers reporter.new)) fault) }
 {
     let mut more = more;
     for _turn in 0..u64::MAX {

@@ -7,16 +7,15 @@ ghost use Rattle.std.specs.Prelude.{◌≡◌, ◌⊎◌, ℕ, List, [], Option,
 ghost use Rattle.command_line.specs.declared.fault.Fault.{Fault};
 ghost use Rattle.command_line.specs.Faults.{IsJudgeFault};
 ghost use Rattle.console_reporter.specs.OptionalStore.{IsSameStore, config_of, store_delivered, store_meaning};
-ghost use Rattle.scenes.specs.SceneReporter.{BreaksParsed, HasReportedTo};
-ghost use Rattle.scenes.specs.Judged.{IsJudged, IsJudgedFault, IsSceneAccepted, IsSceneRefused, ChecksEvent};
+ghost use Rattle.scenes.specs.Judged.{IsJudged, IsJudgedFault, IsRejected, IsSceneAccepted, IsSceneRefused, ChecksEvent};
+ghost use Rattle.scenes.specs.Prints.{Begins, Prints, device};
 ghost use Rattle.scenes.specs.Reports.{store_for};
 ghost use Rattle.scene_text.specs.SceneTexts.{AllRead, event_lines, no_lines, text_lines, text_read};
-ghost use Rattle.scenes.specs.SpelledRuns.{BeginsParsed, IsRejected, PrintsParsed};
 ghost use Rattle.scenes.specs.ParsedScenes.{IsReadFault, IsSceneRead, OfText, scene_lines};
 
 use crate::deferred::{Deferred, deliver_rest};
 use crate::read::{RunSource, SceneSource};
-use crate::reporter::{builder_of, decider_of, fault_at_call, surroundings_of};
+use crate::reporter::{builder_of, decider_of, fault_at_call};
 use crate::scene::Scene;
 use crate::scene::event::SceneEvent;
 use crate::scene_reporter::{SceneReporter, call_in};
@@ -174,10 +173,10 @@ pub fn report_scene<'a, R: Read + Drop, W: Write, S: Write>(
     store_writer: S,
 ) -> (Result<(), Fault<'a>>, W, S)
     ensures ok { (text : List ℕ) → R.remaining reader ≡ Some text →
-        OnOk result.0 (OfText text (λ run. PrintsParsed options.now run (W.contents writer) (W.contents result.1) (S.contents store_writer) (S.contents result.2))) }
+        OnOk result.0 (OfText text (Prints device device options.now (W.contents writer, S.contents store_writer) (W.contents result.1, S.contents result.2))) }
     ensures err { (text : List ℕ) → R.remaining reader ≡ Some text →
-        IfErr result.0 (λ fault. IsRejected options.now text fault writer result.1 store_writer result.2
-        ⊎ OfText text (λ run. BeginsParsed options.now run fault (W.contents writer) (W.contents result.1) (S.contents store_writer) (S.contents result.2))) }
+        IfErr result.0 (λ fault. IsRejected options.now text fault (writer, store_writer) (result.1, result.2)
+        ⊎ OfText text (λ run. Begins device device options.now (W.contents writer, S.contents store_writer) (W.contents result.1, S.contents result.2) run fault)) }
     ensures no_store { options.now.store ≡ None → result.2 ≡ store_writer }
 {
     match read_whole(alloc, options, reader) {
@@ -194,9 +193,9 @@ fn report_read<W: Write, S: Write>(
     writer: W,
     store_writer: S,
 ) -> (Result<(), Fault<'static>>, W, S)
-    ensures ok { OnOk result.0 (PrintsParsed options.now (scene_lines scene.now) (W.contents writer) (W.contents result.1) (S.contents store_writer) (S.contents result.2)) }
+    ensures ok { OnOk result.0 (Prints device device options.now (W.contents writer, S.contents store_writer) (W.contents result.1, S.contents result.2) (scene_lines scene.now)) }
     ensures err { IfErr result.0 (λ fault. (IsSceneRefused options.now scene.now fault × (result.1 ≡ writer) × (result.2 ≡ store_writer))
-        ⊎ BeginsParsed options.now (scene_lines scene.now) fault (W.contents writer) (W.contents result.1) (S.contents store_writer) (S.contents result.2)) }
+        ⊎ Begins device device options.now (W.contents writer, S.contents store_writer) (W.contents result.1, S.contents result.2) (scene_lines scene.now) fault) }
     ensures no_store { options.now.store ≡ None → result.2 ≡ store_writer }
 {
     match accept_scene(alloc, options, scene) {
@@ -214,9 +213,9 @@ pub fn write_report<W: Write + Drop, S: Write + Drop>(
     writer: W,
     store_writer: S,
 ) -> Result<(), Fault<'static>>
-    ensures ok { OnOk result ((last : W) × (store_last : S) × PrintsParsed options.now (scene_lines scene.now) (W.contents writer) (W.contents last) (S.contents store_writer) (S.contents store_last)) }
+    ensures ok { OnOk result ((last : W) × (store_last : S) × Prints device device options.now (W.contents writer, S.contents store_writer) (W.contents last, S.contents store_last) (scene_lines scene.now)) }
     ensures err { IfErr result (λ fault. IsSceneRefused options.now scene.now fault
-        ⊎ ((last : W) × (store_last : S) × BeginsParsed options.now (scene_lines scene.now) fault (W.contents writer) (W.contents last) (S.contents store_writer) (S.contents store_last))) }
+        ⊎ ((last : W) × (store_last : S) × Begins device device options.now (W.contents writer, S.contents store_writer) (W.contents last, S.contents store_last) (scene_lines scene.now) fault)) }
 {
     let judged = match accept_scene(alloc, options, scene) {
         Ok(judged) => judged,
@@ -235,8 +234,8 @@ pub fn report_accepted<W: Write, S: Write>(
     writer: W,
     store_writer: S,
 ) -> (Result<(), Fault<'static>>, W, S)
-    ensures ok { OnOk result.0 (PrintsParsed judged.now.options (scene_lines judged.now.scene) (W.contents writer) (W.contents result.1) (S.contents store_writer) (S.contents result.2)) }
-    ensures err { IfErr result.0 (λ fault. BeginsParsed judged.now.options (scene_lines judged.now.scene) fault (W.contents writer) (W.contents result.1) (S.contents store_writer) (S.contents result.2)) }
+    ensures ok { OnOk result.0 (Prints device device judged.now.options (W.contents writer, S.contents store_writer) (W.contents result.1, S.contents result.2) (scene_lines judged.now.scene)) }
+    ensures err { IfErr result.0 (Begins device device judged.now.options (W.contents writer, S.contents store_writer) (W.contents result.1, S.contents result.2) (scene_lines judged.now.scene)) }
     ensures no_store { judged.now.options.store ≡ None → result.2 ≡ store_writer }
 {
     let (options, scene) = (judged.options, judged.scene);
@@ -292,15 +291,14 @@ fn report_to<'w, W: WriteStr, S: WriteStr>(
     requires accepted { IsSceneAccepted options.now scene.now }
     ensures same_reference { result.1.ghost_name ≡ writer.entry.ghost_name }
     ensures same_store { IsSameStore store.entry result.2 }
-    ensures ok { OnOk result.0 (HasReportedTo W.meaning (store_meaning S.meaning) options.now writer.old result.1.now store.entry result.2 (scene_lines scene.now)) }
-    ensures err { IfErr result.0 (BreaksParsed W.meaning (store_meaning S.meaning) options.now writer.old result.1.now store.entry result.2 (scene_lines scene.now)) }
+    ensures ok { OnOk result.0 (Prints W.meaning (store_meaning S.meaning) options.now (writer.old, store.entry) (result.1.now, result.2) (scene_lines scene.now)) }
+    ensures err { IfErr result.0 (Begins W.meaning (store_meaning S.meaning) options.now (writer.old, store.entry) (result.1.now, result.2) (scene_lines scene.now)) }
 {
     let builder = match builder_of(alloc, options, &scene.config) {
         Ok(builder) => builder,
         Err(fault) => return (Err(fault), writer, store),
     };
-    let reporter = builder.build_in(alloc, writer, store, surroundings_of(&scene.config));
-    let mut reporter = SceneReporter::new(reporter);
+    let mut reporter = SceneReporter::build(alloc, builder, &scene.config, writer, store);
     let (events, lines) = (scene.events.as_slice(), scene.lines.as_slice());
     let reported = reporter.report_events(alloc, options, events, lines);
     let (writer, store) = reporter.reporter.into_parts();

@@ -2,18 +2,22 @@
 
 ghost use Rattle.std.specs.Prelude.{◌≡◌, ◌++◌, List, [], IfOk, IfErr, OnOk};
 ghost use Rattle.console_reporter.specs.HeldState.{HasFailed};
+ghost use Rattle.console_reporter.specs.OptionalStore.{config_of, store_delivered};
 ghost use Rattle.console_reporter.specs.Telling.{AreDelivered, IsSameReporter};
 ghost use Rattle.scene_events.specs.Scenes.{IsCallOf};
-ghost use Rattle.scenes.specs.SceneReporter.{Follows, LeavesEvent, StopsAtEvent, ReportsEvent};
+ghost use Rattle.scenes.specs.Reports.{builder_for, store_for};
+ghost use Rattle.scenes.specs.SceneReporter.{Follows, IsStart, LeavesEvent, StopsAtEvent, ReportsEvent, writers};
 ghost use Rattle.scenes.specs.Unloads.{IsReadyCall};
 
 use crate::outcome::RunOutcome;
-use crate::reporter::fault_at_call;
+use crate::reporter::{fault_at_call, surroundings_of};
 use crate::scene::event::SceneEvent;
 use crate::scene::{SceneConfig, line_at};
 use command_line::args::Options;
 use command_line::fault::Fault;
-use console_reporter::imp::{DisplayReporter, OutputLoadDecider, ReportCall};
+use console_reporter::imp::{
+    DisplayReporter, DisplayReporterBuilder, OutputLoadDecider, ReportCall, Store,
+};
 use console_reporter::write_str::WriteStr;
 use run_model::memory::OutOfMemory;
 use std::alloc::Global;
@@ -26,11 +30,20 @@ pub(crate) struct SceneReporter<'a, W, S> {
 }
 
 impl<'a, W: WriteStr, S: WriteStr> SceneReporter<'a, W, S> {
-    /// Takes a reporter that has made no call yet.
-    pub(crate) fn new(reporter: DisplayReporter<'a, W, S>) -> SceneReporter<'a, W, S>
-        ensures outcome { result.outcome ≡ RunOutcome.NotEnded }
-        ensures reporter { result.reporter ≡ reporter.entry }
+    /// Builds the reporter of a scene that is configured so. It has made no call yet.
+    pub(crate) fn build(
+        alloc: Global,
+        builder: DisplayReporterBuilder,
+        config: &SceneConfig,
+        writer: &'a mut W,
+        store: Option<Store<'a, S>>,
+    ) -> SceneReporter<'a, W, S>
+        ensures same_reference { result.reporter.writer.ghost_name ≡ writer.entry.ghost_name }
+        ensures writers { writers result ≡ (writer.old, store.entry) }
+        ensures start { (options : Options) → builder ≡ builder_for options config.now → config_of store.entry ≡ store_for options
+            → W.meaning.is_delivered writer.old → store_delivered S.meaning store.entry → IsStart W.meaning S.meaning options config.now result }
     {
+        let reporter = builder.build_in(alloc, writer, store, surroundings_of(config));
         SceneReporter {
             outcome: RunOutcome::NotEnded,
             reporter,

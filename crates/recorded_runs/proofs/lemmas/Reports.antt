@@ -17,7 +17,7 @@ use Rattle.run_model.specs.declared.call.ReportCall.{ReportCall}
 use Rattle.scene_events.specs.Scenes.{IsCallOf}
 use Rattle.scene_events.specs.declared.scene.event.SceneEvent.{SceneEvent}
 use Rattle.scene_text.specs.SceneTexts.{ParsedLines, RunLine, no_lines}
-use Rattle.scenes.specs.Follow.{PrintsFollowed}
+use Rattle.scenes.specs.Prints.{PrintsFollowed, device}
 use Rattle.scenes.specs.Outcomes.{run_outcome}
 use Rattle.scenes.specs.ParsedScenes.{OfLines}
 use Rattle.scenes.specs.Reports.{configuration_for, report_of, stored_of}
@@ -59,8 +59,8 @@ module _ (options : Options) (all : List ℕ) (run inline : ParsedLines) (are : 
   abbrev d : OutputLoadDecider
   d = decider_for options run.config
 
-  prints_inline : (come_to : RunOutcome) (old new store_old store_new : Option (List ℕ)) → PrintsFollowed options come_to old new store_old store_new run → PrintsFollowed options come_to old new store_old store_new inline
-  prints_inline come_to old new store_old store_new prints =
+  prints_inline : (come_to : RunOutcome) (old new : Option (List ℕ) × Option (List ℕ)) → PrintsFollowed device device options old new come_to run → PrintsFollowed device device options old new come_to inline
+  prints_inline come_to old new prints =
       let printed = prints.printed in
       let has = has_calls all d run.events inline.events printed.calls are.events printed.of_run in
       let left = isolated d has.inline in
@@ -68,29 +68,30 @@ module _ (options : Options) (all : List ℕ) (run inline : ParsedLines) (are : 
       let config = configuration_for options run.config in
       let same_report : report_of options run.config has.inline ≡ report_of options run.config printed.calls = sym (left.1 config refl) ∙ ap (λ calls. report_of options run.config calls) has.same ∙ right.1 config refl in
       let same_record : stored_of options has.inline ≡ stored_of options printed.calls = sym (left.3 config refl) ∙ ap (λ calls. stored_of options calls) has.same ∙ right.3 config refl in
-      subst (λ c. PrintsFollowed options come_to old new store_old store_new (record { config = c; events = inline.events })) (sym are.config) (record {
+      subst (λ c. PrintsFollowed device device options old new come_to (record { config = c; events = inline.events })) (sym are.config) (record {
         printed = record {
           calls = has.inline;
           of_run = has.of_events;
           accepted = sym left.5 ∙ ap (λ calls. first_refused d calls) has.same ∙ right.5 ∙ printed.accepted;
-          printed = subst (λ text. Appends old new text) (sym same_report) printed.printed;
-          kept = subst (λ text. Appends store_old store_new text) (sym same_record) printed.kept;
+          printed = subst (λ text. Appends old.0 new.0 text) (sym same_report) printed.printed;
+          kept = subst (λ text. Appends old.1 new.1 text) (sym same_record) printed.kept;
+          delivered = printed.delivered;
         };
         outcome = prints.outcome ∙ sym (outcome_unread d printed.calls) ∙ ap (λ calls. run_outcome (reverse calls)) (sym has.same) ∙ outcome_unread d has.inline;
       })
 
 -- a run that was replayed
-pub replay_prints : (options : Options) (all text : List ℕ) (come_to : RunOutcome) (old new store_old store_new : Option (List ℕ)) →
-    OfLines (lines_replayed options all text) (PrintsFollowed options come_to old new store_old store_new) → OfLines (lines_inline all text) (PrintsFollowed options come_to old new store_old store_new)
-replay_prints options all text come_to old new store_old store_new h =
+pub replay_prints : (options : Options) (all text : List ℕ) (come_to : RunOutcome) (old new : Option (List ℕ) × Option (List ℕ)) →
+    OfLines (lines_replayed options all text) (PrintsFollowed device device options old new come_to) → OfLines (lines_inline all text) (PrintsFollowed device device options old new come_to)
+replay_prints options all text come_to old new h =
     let go = go_on options all 1 (whole_lines text) no_lines no_lines h.run (record { config = refl; events = tt }) h.spelled in
-    record { run = go.all_inline; spelled = go.reads; holds = prints_inline options all h.run go.all_inline go.are come_to old new store_old store_new h.holds }
+    record { run = go.all_inline; spelled = go.reads; holds = prints_inline options all h.run go.all_inline go.are come_to old new h.holds }
 
 -- where it came to its end
-pub prints_on_ok : (options : Options) (all text : List ℕ) (old new store_old store_new : Option (List ℕ)) (r : Result RunOutcome Fault) →
-    IfOk r (λ come_to. OfLines (lines_replayed options all text) (PrintsFollowed options come_to old new store_old store_new)) → IfOk r (λ come_to. OfLines (lines_inline all text) (PrintsFollowed options come_to old new store_old store_new))
-prints_on_ok options all text old new store_old store_new (Ok come_to) h = replay_prints options all text come_to old new store_old store_new h
-prints_on_ok options all text old new store_old store_new (Err f) h = tt
+pub prints_on_ok : (options : Options) (all text : List ℕ) (old new : Option (List ℕ) × Option (List ℕ)) (r : Result RunOutcome Fault) →
+    IfOk r (λ come_to. OfLines (lines_replayed options all text) (PrintsFollowed device device options old new come_to)) → IfOk r (λ come_to. OfLines (lines_inline all text) (PrintsFollowed device device options old new come_to))
+prints_on_ok options all text old new (Ok come_to) h = replay_prints options all text come_to old new h
+prints_on_ok options all text old new (Err f) h = tt
 
 pub reads_on_ok : (in_all : ℕ) (options : Options) (recorded remaining : Option (List ℕ)) (bytes_read : ℕ) (lines : List RunLine) → bytes_read ≤ 2 ^ 64 - 1 → (r : Result RunOutcome Fault) →
     OnOk r (OfLines lines (λ run. IsLeft in_all options recorded remaining bytes_read run [])) → IfOk r (λ come_to. bytes_read ≡ in_all)

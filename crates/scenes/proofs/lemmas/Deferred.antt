@@ -1,29 +1,26 @@
 -- A report whose delivery was put off, and its rest delivered (for `deliver_rest`, `report_accepted`).
-use Rattle.std.proofs.Common.{◌≡◌, ℕ, List, [], ◌++◌, Option, None, Some, Result, Ok, Err, IfErr, OnOk, reverse, refl, sym, ap, ◌∙◌, subst, append-nil, inl, inr}
+use Rattle.std.proofs.Common.{◌≡◌, ℕ, List, [], Option, None, Some, Result, Ok, Err, IfErr, OnOk, refl, sym, ap, ◌∙◌, subst, append-nil, inl, inr}
 use Rattle.std.specs.List.{AllZip}
 use Rattle.plain_text.specs.Texts.{Text}
 use Rattle.plain_text.specs.TextBuffer.{BufferAccepts, BufferStops, buffer_laws, buffer_meaning}
 use Rattle.plain_text.specs.Writer.{Meaning}
 use Rattle.plain_text.specs.declared.write_str.WriteFault.TheVariants.{Device, Memory}
 use Rattle.plain_text.specs.declared.write_str.text_buffer.TextBuffer.{TextBuffer}
-use Rattle.console_reporter.specs.Outcomes.{HasFront}
-use Rattle.console_reporter.specs.Report.{report}
 use Rattle.console_reporter.specs.OptionalStore.{IsSameStore, store_meaning}
-use Rattle.console_reporter.specs.Stored.{stored}
 use Rattle.console_reporter.specs.declared.imp.store.Store.{Store}
 use Rattle.reporter_state.specs.Refusals.{first_refused}
 use Rattle.run_model.specs.declared.call.ReportCall.{ReportCall}
 use Rattle.scene_events.specs.Scenes.{IsCallOf}
 use Rattle.scene_text.specs.SceneTexts.{ParsedLines}
 use Rattle.scenes.specs.Deferred.{DeliversRest, deferred_meaning}
-use Rattle.scenes.specs.Reports.{StopsStore, StopsText, configuration_for, store_for}
-use Rattle.scenes.specs.SceneReporter.{BreaksParsed, HasReportedTo}
+use Rattle.scenes.specs.Prints.{Begins, Begun, Prints}
+use Rattle.scenes.specs.Reports.{report_of, stored_of}
 use Rattle.scenes.specs.Unloads.{decider_for}
 use Rattle.scenes.specs.declared.deferred.Deferred.{Deferred}
 use Rattle.command_line.specs.declared.fault.Fault.{Fault}
-use Rattle.command_line.specs.declared.fault.Fault.TheVariants as fault
+use Rattle.command_line.specs.declared.fault.Fault.TheVariants.{WriteFailed}
 use Rattle.command_line.specs.declared.args.Options.{Options}
-use Rattle.scenes.proofs.lemmas.Devices.{write_no_store}
+use Rattle.scenes.proofs.lemmas.Prints.{write_no_store}
 
 abbrev is_fault : Fault → Result (Unit {0}) Fault
 is_fault f = Err f
@@ -35,132 +32,116 @@ same_fault f g is = cc
 no_memory : {W : Type 0} (contents : W → Option (List ℕ)) (a b : TextBuffer W) (t : Text) → BufferStops contents a t Memory b → ⊥
 no_memory contents a b t h = let is : Memory ≡ Device = h.device in cc
 
-module _ {W : Type 0} (contents : W → Option (List ℕ)) (a b c : TextBuffer W) where
+-- what is begun of a writer whose delivery is put off is begun of the one below
+begun_below : {W : Type 0} (m : Meaning W) (F : Type 0) (a b : Deferred W) (t : Text) → Begun (deferred_meaning m) F a t b → Begun m F a.writer t b.writer
+begun_below m F a b t (inl h) = inl h
+begun_below m F a b t (inr (inl h)) = inr (inl h)
+begun_below m F a b t (inr (inr h)) = inr (inr (record { front = h.front; rest = h.rest; whole = h.whole; accepted = h.accepted }))
+
+module _ {W : Type 0} (contents : W → Option (List ℕ)) (a b c : TextBuffer W) (t : Text) where
   -- the rest of a text was delivered
-  rest_accepted : (t : Text) → BufferAccepts contents a t b → BufferAccepts contents b [] c → BufferAccepts contents a t c
-  rest_accepted t h rest = subst (λ x. BufferAccepts contents a x c) (append-nil t) ((buffer_laws contents).joins a b c t [] h rest)
+  rest_accepted : (u : Text) → BufferAccepts contents a u b → BufferAccepts contents b [] c → BufferAccepts contents a u c
+  rest_accepted u h rest = subst (λ x. BufferAccepts contents a x c) (append-nil u) ((buffer_laws contents).joins a b c u [] h rest)
 
-  rest_front : (t : Text) → HasFront (buffer_meaning contents) a t b → BufferAccepts contents b [] c → HasFront (buffer_meaning contents) a t c
-  rest_front t h rest = record { front = h.front; rest = h.rest; whole = h.whole; accepted = rest_accepted h.front h.accepted rest }
-
-  rest_stopped : (t : Text) (f : Fault) → StopsText (buffer_meaning contents) a t f b → (f ≡ fault.WriteFailed → c ≡ b) → BufferAccepts contents b [] c → StopsText (buffer_meaning contents) a t f c
-  rest_stopped t fault.Usage h same rest = absurd h
-  rest_stopped t (fault.CannotRead file) h same rest = absurd h
-  rest_stopped t (fault.CannotWrite file) h same rest = absurd h
-  rest_stopped t (fault.Line n f) h same rest = absurd h
-  rest_stopped t fault.WriteFailed h same rest = subst (λ x. BufferStops contents a t Device x) (sym (same refl)) h
-  rest_stopped t fault.StoreFailed h same rest = rest_front t h rest
-  rest_stopped t fault.OutOfMemory (inl h) same rest = absurd (no_memory contents a b t h)
-  rest_stopped t fault.OutOfMemory (inr h) same rest = inr (rest_front t h rest)
+  rest_begun : (F : Type 0) → Begun (buffer_meaning contents) F a t b → (F → c ≡ b) → BufferAccepts contents b [] c → Begun (buffer_meaning contents) F a t c
+  rest_begun F (inl h) same rest = inl (h.0, subst (λ x. BufferStops contents a t Device x) (sym (same h.0)) h.1)
+  rest_begun F (inr (inl h)) same rest = absurd (no_memory contents a b t h)
+  rest_begun F (inr (inr h)) same rest = inr (inr (record { front = h.front; rest = h.rest; whole = h.whole; accepted = rest_accepted h.front h.accepted rest }))
 
   -- or its device failed then
-  rest_lost : (t : Text) → BufferAccepts contents a t b → BufferStops contents b [] Device c → BufferStops contents a t Device c
-  rest_lost t h lost = subst (λ x. BufferStops contents a x Device c) (append-nil t) ((buffer_laws contents).goes_on a b c t [] Device h lost)
+  rest_lost : (u : Text) → BufferAccepts contents a u b → BufferStops contents b [] Device c → BufferStops contents a u Device c
+  rest_lost u h lost = subst (λ x. BufferStops contents a x Device c) (append-nil u) ((buffer_laws contents).goes_on a b c u [] Device h lost)
 
-  front_lost : (t : Text) → HasFront (buffer_meaning contents) a t b → BufferStops contents b [] Device c → BufferStops contents a t Device c
-  front_lost t h lost = subst (λ x. BufferStops contents a x Device c) (sym h.whole) ((buffer_laws contents).stops_within a c h.front h.rest Device (rest_lost h.front h.accepted lost))
-
-  stopped_lost : (t : Text) (f : Fault) → StopsText (buffer_meaning contents) a t f b → (f ≡ fault.WriteFailed → ⊥) → BufferStops contents b [] Device c → BufferStops contents a t Device c
-  stopped_lost t fault.Usage h other lost = absurd h
-  stopped_lost t (fault.CannotRead file) h other lost = absurd h
-  stopped_lost t (fault.CannotWrite file) h other lost = absurd h
-  stopped_lost t (fault.Line n f) h other lost = absurd h
-  stopped_lost t fault.WriteFailed h other lost = absurd (other refl)
-  stopped_lost t fault.StoreFailed h other lost = front_lost t h lost
-  stopped_lost t fault.OutOfMemory (inl h) other lost = absurd (no_memory contents a b t h)
-  stopped_lost t fault.OutOfMemory (inr h) other lost = front_lost t h lost
-
--- what stopped a writer whose delivery is put off stopped the one below
-module _ {W : Type 0} (m : Meaning W) (old now : Deferred W) (t : Text) where
-  front_below : HasFront (deferred_meaning m) old t now → HasFront m old.writer t now.writer
-  front_below h = record { front = h.front; rest = h.rest; whole = h.whole; accepted = h.accepted }
-
-  stopped_below : (f : Fault) → StopsText (deferred_meaning m) old t f now → StopsText m old.writer t f now.writer
-  stopped_below fault.Usage h = absurd h
-  stopped_below (fault.CannotRead file) h = absurd h
-  stopped_below (fault.CannotWrite file) h = absurd h
-  stopped_below (fault.Line n f) h = absurd h
-  stopped_below fault.WriteFailed h = h
-  stopped_below fault.StoreFailed h = front_below h
-  stopped_below fault.OutOfMemory (inl h) = inl h
-  stopped_below fault.OutOfMemory (inr h) = inr (front_below h)
+  begun_lost : (F : Type 0) → Begun (buffer_meaning contents) F a t b → (F → ⊥) → BufferStops contents b [] Device c → BufferStops contents a t Device c
+  begun_lost F (inl h) other lost = absurd (other h.0)
+  begun_lost F (inr (inl h)) other lost = absurd (no_memory contents a b t h)
+  begun_lost F (inr (inr h)) other lost =
+      subst (λ x. BufferStops contents a x Device c) (sym h.whole) ((buffer_laws contents).stops_within a c h.front h.rest Device (rest_lost h.front h.accepted lost))
 
 -- of a report without a store
 module _ {W S : Type 0} (contents : W → Option (List ℕ)) (n : Meaning S) (options : Options) (old now : Deferred (TextBuffer W)) (c : TextBuffer W) (run : ParsedLines) where
   abbrev below : Meaning (TextBuffer W)
   below = buffer_meaning contents
 
-  abbrev AreTold : Option (Store S) → Type 0
-  AreTold y = HasReportedTo (deferred_meaning below) (store_meaning n) options old now None y run
+  abbrev none : Option (Store S)
+  none = None
 
-  abbrev AreBroken : Option (Store S) → Fault → Type 0
-  AreBroken y f = BreaksParsed (deferred_meaning below) (store_meaning n) options old now None y run f
+  abbrev PrintsAbove : Type 0
+  PrintsAbove = Prints (deferred_meaning below) (store_meaning n) options (old, none) (now, none) run
 
-  told_whole : (y : Option (Store S)) → AreTold y → BufferAccepts contents now.writer [] c → c.pending ≡ [] → HasReportedTo below (store_meaning n) options old.writer c None y run
-  told_whole y h rest delivered = (
-    h.0,
-    record {
-      past = h.1.past;
-      of_run = h.1.of_run;
-      accepted = h.1.accepted;
-      reported = rest_accepted contents old.writer now.writer c (report (configuration_for options run.config) h.1.past) h.1.reported rest;
-      kept = h.1.kept;
-      delivered = delivered;
-      store_delivered = h.1.store_delivered;
-      outcome = h.1.outcome;
-    },
-  )
+  abbrev BeginsAbove : Fault → Type 0
+  BeginsAbove f = Begins (deferred_meaning below) (store_meaning n) options (old, none) (now, none) run f
 
-  -- the fault of a store that is not there
-  no_store : (y : Option (Store S)) (t : Text) (f : Fault) → StopsStore (store_meaning n) None t f y → f ≡ fault.StoreFailed → ⊥
-  no_store y t f h is = subst (λ g. StopsStore (store_meaning n) None t g y) is h
+  abbrev BeginsBelow : Fault → Type 0
+  BeginsBelow f = Begins below (store_meaning n) options (old.writer, none) (c, none) run f
 
-  broken_before : (y : Option (Store S)) (f : Fault) → AreBroken y f → (f ≡ fault.WriteFailed → c ≡ now.writer) → BufferAccepts contents now.writer [] c → BreaksParsed below (store_meaning n) options old.writer c None y run f
-  broken_before y f h same rest =
-      let t = report (configuration_for options run.config) h.past in
+  prints_below : PrintsAbove → BufferAccepts contents now.writer [] c → c.pending ≡ [] → Prints below (store_meaning n) options (old.writer, none) (c, none) run
+  prints_below h rest delivered = record {
+    calls = h.calls;
+    of_run = h.of_run;
+    accepted = h.accepted;
+    printed = rest_accepted contents old.writer now.writer c [] (report_of options run.config h.calls) h.printed rest;
+    kept = h.kept;
+    delivered = (delivered, tt);
+  }
+
+  begins_before : (f : Fault) → BeginsAbove f → (f ≡ WriteFailed → c ≡ now.writer) → BufferAccepts contents now.writer [] c → ((f ≡ WriteFailed → ⊥) → c.pending ≡ []) → BeginsBelow f
+  begins_before f h same rest delivered =
+      let texts = report_of options run.config in
       record {
-        past = h.past;
+        calls = h.calls;
         of_run = h.of_run;
         accepted = h.accepted;
-        stopped = rest_stopped contents old.writer now.writer c t f (stopped_below below old now t f h.stopped) same rest;
-        store_stopped = h.store_stopped;
-        whole_text = λ is. absurd (no_store y _ f h.store_stopped is);
+        stopped = h.stopped;
+        begun = rest_begun contents old.writer now.writer c (texts h.calls) (f ≡ WriteFailed) (begun_below below (f ≡ WriteFailed) old now (texts h.calls) h.begun) same rest;
+        kept = h.kept;
+        whole_text = λ is.
+            let w = h.whole_text is in
+            record {
+              first = w.first;
+              rest = w.rest;
+              is = w.is;
+              accepted = rest_accepted contents old.writer now.writer c [] (texts w.first) w.accepted rest;
+              delivered = delivered (λ other. write_no_store (sym other ∙ is));
+            };
         whole_records = h.whole_records;
       }
 
   -- the device failed at the end
-  lost_at_end : (past : List ReportCall) → AllZip IsCallOf run.events (reverse past) → first_refused (decider_for options run.config) (reverse past) ≡ None →
-      BufferStops contents old.writer (report (configuration_for options run.config) past) Device c → BreaksParsed below (store_meaning n) options old.writer c None None run fault.WriteFailed
-  lost_at_end past of_run accepted lost = record {
-    past = past;
+  lost_at_end : (calls : List ReportCall) → AllZip IsCallOf run.events calls → first_refused (decider_for options run.config) calls ≡ None →
+      BufferStops contents old.writer (report_of options run.config calls) Device c → BeginsBelow WriteFailed
+  lost_at_end calls of_run accepted lost = record {
+    calls = calls;
     of_run = of_run;
     accepted = accepted;
-    stopped = lost;
-    store_stopped = record { front = []; rest = stored (store_for options) past; whole = refl; accepted = tt };
+    stopped = inl refl;
+    begun = inl (refl, lost);
+    kept = inr (inr (record { front = []; rest = stored_of options calls; whole = refl; accepted = tt }));
     whole_text = λ is. absurd (write_no_store is);
-    whole_records = λ is. record { later = []; earlier = past; is = refl; accepted = tt; delivered = tt };
+    whole_records = λ is. record { first = calls; rest = []; is = sym (append-nil calls); accepted = tt; delivered = tt };
   }
 
-  -- how the report ended, and the delivery of its rest
-  pub delivered : (y : Option (Store S)) (reported outcome : Result (Unit {0}) Fault) → OnOk reported (AreTold y) →
-      OnOk outcome ((reported ≡ Ok tt) × BufferAccepts contents now.writer [] c × (c.pending ≡ [])) → OnOk outcome (HasReportedTo below (store_meaning n) options old.writer c None y run)
-  delivered y (Ok done) (Ok tt) parsed_lines h = told_whole y parsed_lines h.1 h.2
-  delivered y (Err f) (Ok tt) parsed_lines h = absurd (let wrong = h.0 in cc)
-  delivered y reported (Err f) parsed_lines h = tt
+  -- how the report ended, whose store was not there, and the delivery of its rest
+  pub delivered : (y : Option (Store S)) → IsSameStore None y → (reported outcome : Result (Unit {0}) Fault) → OnOk reported (Prints (deferred_meaning below) (store_meaning n) options (old, none) (now, y) run) →
+      OnOk outcome ((reported ≡ Ok tt) × BufferAccepts contents now.writer [] c × (c.pending ≡ [])) → OnOk outcome (Prints below (store_meaning n) options (old.writer, none) (c, none) run)
+  delivered (Some s) same reported outcome prints h = absurd same
+  delivered None same (Ok done) (Ok tt) prints h = prints_below prints h.1 h.2
+  delivered None same (Err f) (Ok tt) prints h = absurd (let wrong = h.0 in cc)
+  delivered None same reported (Err f) prints h = tt
 
-  pub undelivered : (y : Option (Store S)) → IsSameStore None y → (reported outcome : Result (Unit {0}) Fault) → OnOk reported (AreTold y) → IfErr reported (AreBroken y) →
-      IfErr outcome (DeliversRest contents reported now.writer c) → IfErr outcome (BreaksParsed below (store_meaning n) options old.writer c None y run)
-  undelivered y same reported (Ok tt) parsed_lines broken h = tt
-  undelivered (Some s) same reported (Err f) parsed_lines broken h = absurd same
-  undelivered None same (Ok done) (Err f) parsed_lines broken (inl h) = absurd (let wrong = h.0 in cc)
-  undelivered None same (Ok done) (Err f) parsed_lines broken (inr h) =
-      let t = report (configuration_for options run.config) parsed_lines.1.past in
-      subst (BreaksParsed below (store_meaning n) options old.writer c None None run) (sym h.1)
-      (lost_at_end parsed_lines.1.past parsed_lines.1.of_run parsed_lines.1.accepted (rest_lost contents old.writer now.writer c t parsed_lines.1.reported h.2))
-  undelivered None same (Err g) (Err f) parsed_lines broken (inl h) =
+  pub undelivered : (y : Option (Store S)) → IsSameStore None y → (reported outcome : Result (Unit {0}) Fault) → OnOk reported (Prints (deferred_meaning below) (store_meaning n) options (old, none) (now, y) run) →
+      IfErr reported (Begins (deferred_meaning below) (store_meaning n) options (old, none) (now, y) run) → IfErr outcome (DeliversRest contents reported now.writer c) → IfErr outcome BeginsBelow
+  undelivered (Some s) same reported outcome prints begins h = absurd same
+  undelivered None same reported (Ok tt) prints begins h = tt
+  undelivered None same (Ok done) (Err f) prints begins (inl h) = absurd (let wrong = h.0 in cc)
+  undelivered None same (Ok done) (Err f) prints begins (inr h) =
+      let t = report_of options run.config prints.calls in
+      subst BeginsBelow (sym h.1) (lost_at_end prints.calls prints.of_run prints.accepted (rest_lost contents old.writer now.writer c [] t prints.printed h.2))
+  undelivered None same (Err g) (Err f) prints begins (inl h) =
       let is : g ≡ f = same_fault g f h.0 in
-      subst (BreaksParsed below (store_meaning n) options old.writer c None None run) is (broken_before None g broken (λ failed. h.1 (sym is ∙ failed)) h.2)
-  undelivered None same (Err g) (Err f) parsed_lines broken (inr h) =
-      let t = report (configuration_for options run.config) broken.past in
-      subst (BreaksParsed below (store_meaning n) options old.writer c None None run) (sym h.1)
-      (lost_at_end broken.past broken.of_run broken.accepted (stopped_lost contents old.writer now.writer c t g (stopped_below below old now t g broken.stopped) (λ failed. h.0 (ap is_fault failed)) h.2))
+      subst BeginsBelow is (begins_before g begins (λ failed. h.1 (sym is ∙ failed)) h.2 (λ other. h.3 (λ failed. other (is ∙ failed))))
+  undelivered None same (Err g) (Err f) prints begins (inr h) =
+      let t = report_of options run.config begins.calls in
+      subst BeginsBelow (sym h.1)
+      (lost_at_end begins.calls begins.of_run begins.accepted
+      (begun_lost contents old.writer now.writer c t (g ≡ WriteFailed) (begun_below below (g ≡ WriteFailed) old now t begins.begun) (λ failed. h.0 (ap is_fault failed)) h.2))

@@ -1,11 +1,12 @@
 -- All calls of one event are refused alike (for `check_refusal`, `check_refusals`, `report_events`).
-use Rattle.std.proofs.Common.{◌≡◌, ℕ, Bool, false, not, List, [], ◌∷◌, ◌++◌, Option, None, Some, length, take, get_or, suc, ◌+◌, ◌<◌, arith, if◌then◌else◌, refl, sym, ap, ap₂, subst, ◌∙◌}
+use Rattle.std.proofs.Common.{◌≡◌, ℕ, Bool, false, not, List, [], ◌∷◌, ◌++◌, Option, None, Some, length, take, get_or, suc, ◌+◌, ◌<◌, arith, if◌then◌else◌, refl, sym, ap, ap₂, ◌∙◌}
 use Rattle.std.specs.Prelude.{cond, nat_lt}
 use Rattle.std.specs.List.{AllZip, position_or_len, slice_get}
 use Rattle.std.specs.Option.{is_some, option_map_or}
 use Rattle.std.proofs.lemmas.Grind.{common_steps}
-use Rattle.std.proofs.lemmas.List.{length-append, take_more}
+use Rattle.std.proofs.lemmas.List.{length-append}
 use Rattle.std.proofs.lemmas.Option.{slice_get-get_or}
+use Rattle.std.proofs.lemmas.Slice.Zip.{AllZip-long}
 use Rattle.run_model.specs.Attempts.{Attempt, Written}
 use Rattle.run_model.specs.Infos.{has_valid_output}
 use Rattle.run_model.specs.Outputs.{has_loaded_output}
@@ -102,27 +103,8 @@ same_first d es a b h k =
     let same = same_place d es a b h k in
     ap₂ (λ (n long : ℕ). cond (nat_lt n long) (Some n) None) same.0 same.1
 
--- a call more
-pub zip_more : (es : List SceneEvent) (calls : List ReportCall) (e : SceneEvent) (c : ReportCall) → AllZip IsCallOf es calls → IsCallOf e c → AllZip IsCallOf (es ++ e ∷ []) (calls ++ c ∷ [])
-zip_more [] [] e c h is = (is, tt)
-zip_more [] (x ∷ calls) e c h is = absurd h
-zip_more (x ∷ es) [] e c h is = absurd h
-zip_more (x ∷ es) (y ∷ calls) e c h is = (h.0, zip_more es calls e c h.1 is)
-
-pub zip_place : (es : List SceneEvent) (calls : List ReportCall) (i : ℕ) (e : SceneEvent) (c : ReportCall) → i < length es → e ≡ get_or es i e → AllZip IsCallOf (take i es) calls → IsCallOf e c →
-    AllZip IsCallOf (take (i + 1) es) (calls ++ c ∷ [])
-zip_place es calls i e c within is h of_event =
-    let more : take (i + 1) es ≡ take i es ++ e ∷ [] = take_more es i e within ∙ ap (λ x. take i es ++ x ∷ []) (sym is) in
-    subst (λ first. AllZip IsCallOf first (calls ++ c ∷ [])) (sym more) (zip_more (take i es) calls e c h of_event)
-
-zip_length : (es : List SceneEvent) (calls : List ReportCall) → AllZip IsCallOf es calls → length calls ≡ length es
-zip_length [] [] h = refl
-zip_length [] (x ∷ calls) h = absurd h
-zip_length (e ∷ es) [] h = absurd h
-zip_length (e ∷ es) (x ∷ calls) h = ap suc (zip_length es calls h.1)
-
 pub zip_long : (es : List SceneEvent) (calls : List ReportCall) (i : ℕ) → i < length es → AllZip IsCallOf (take i es) calls → length calls ≡ i
-zip_long es calls i within h = zip_length (take i es) calls h ∙ grind (arith, common_steps, within)
+zip_long es calls i within h = AllZip-long IsCallOf (take i es) calls h ∙ grind (arith, common_steps, within)
 
 -- the calls of the first events and those of the others
 pub zip_both : (es fs : List SceneEvent) (calls more : List ReportCall) → AllZip IsCallOf es calls → AllZip IsCallOf fs more → AllZip IsCallOf (es ++ fs) (calls ++ more)

@@ -1,40 +1,45 @@
 -- What is read of lines that is followed is reported, or left (for `follow_lines`).
-use Rattle.std.proofs.Common.{◌≡◌, ℕ, ◌+◌, Bool, true, false, List, [], ◌∷◌, ◌++◌, Option, Result, Ok, Err, length, map, get_or, reverse, refl, sym, ap, ◌∙◌, subst, arith, append_assoc, inl, inr}
+use Rattle.std.proofs.Common.{◌≡◌, ℕ, ◌+◌, Bool, true, false, List, [], ◌∷◌, ◌++◌, None, Some, Result, Ok, Err, length, map, get_or, reverse, refl, sym, ap, ◌∙◌, subst, arith, append_assoc, inl, inr}
 use Rattle.std.specs.Borrow.{Bor}
 use Rattle.std.specs.List.{AllZip}
+use Rattle.std.specs.Option.{is_some, option_map}
 use Rattle.std.proofs.lemmas.Bool.{cases_Bool, false≢true}
 use Rattle.std.proofs.lemmas.List.{length-append, reverse-reverse}
 use Rattle.plain_text.specs.Writer.{Meaning, WriterLaws}
 use Rattle.run_model.specs.declared.call.ReportCall.{ReportCall}
+use Rattle.reporter_state.specs.Refusals.{refusal_in}
+use Rattle.reporter_state.specs.declared.faults.WriteEventError.{WriteEventError}
+use Rattle.reporter_state.specs.declared.faults.WriteEventError.TheVariants.{RetriedSuccess, OutputNotLoaded, Io, Memory, Failed, StoreIo}
 use Rattle.console_reporter.specs.Report.{report}
 use Rattle.console_reporter.specs.OptionalStore.{store_meaning}
 use Rattle.console_reporter.specs.Stored.{stored}
 use Rattle.command_line.specs.Faults.{fault_of_read}
 use Rattle.command_line.specs.Pieces.{IsUnread}
 use Rattle.command_line.specs.declared.fault.Fault.{Fault}
-use Rattle.command_line.specs.declared.fault.Fault.TheVariants as fault
+use Rattle.command_line.specs.declared.fault.Fault.TheVariants.{CannotRead, CannotWrite, Line, OutOfMemory, StoreFailed, Usage, WriteFailed}
 use Rattle.command_line.specs.declared.args.Options.{Options}
 use Rattle.scene_events.specs.Scenes.{IsCallOf}
 use Rattle.scene_events.specs.declared.scene.SceneConfig.{SceneConfig}
 use Rattle.scene_events.specs.declared.scene.event.SceneEvent.{SceneEvent}
 use Rattle.scene_fields.specs.declared.fault.LineFault.{LineFault}
+use Rattle.scene_fields.specs.declared.fault.LineFault.TheVariants as line
 use Rattle.scene_fields.specs.declared.fault.ReadFault.{ReadFault}
 use Rattle.scene_fields.specs.declared.fault.ReadFault.TheVariants as read
 use Rattle.scene_text.specs.SceneTexts.{IsNextFault, ParsedLine, EventLine, ParsedLines, RunLine, is_begun, is_begun_behind, line_read, line_value, lines_before, no_lines, parsed_lines, lines_after, lines_with, with_line}
 use Rattle.scene_text.specs.declared.reader.LinesRead.{LinesRead}
 use Rattle.scene_text.proofs.lemmas.Tellings.{all_append, begun_behind}
-use Rattle.scenes.specs.Follow.{KeepsUp, StopsBehind, StopsBy}
+use Rattle.scenes.specs.Follow.{KeepsUp, StopsBy}
+use Rattle.scenes.specs.Prints.{Begins, Prints, PrintsFollowed}
 use Rattle.scenes.specs.ParsedScenes.{OfLines}
-use Rattle.scenes.specs.Outcomes.{run_outcome}
 use Rattle.scenes.specs.Read.{AtLine, HasRead, IsMore}
-use Rattle.scenes.specs.Reports.{configuration_for}
-use Rattle.scenes.specs.SceneReporter.{BreaksEvent, BreaksOff, Follows, HasReported, IsStart, LeavesEvent, StopsAtEvent}
+use Rattle.scenes.specs.Reports.{configuration_for, fault_at_call}
+use Rattle.scenes.specs.SceneReporter.{AnswersError, Follows, IsStart, LeavesEvent, StopsAtEvent, writers}
 use Rattle.scenes.specs.Unloads.{decider_for, ready}
 use Rattle.scenes.specs.declared.scene_reporter.SceneReporter.{SceneReporter}
 use Rattle.scenes.proofs.lemmas.EventLines.{event_at}
 use Rattle.scenes.proofs.lemmas.NoConfig.{config_kept}
 use Rattle.scenes.proofs.lemmas.ReadLines.{at_more, forgets, line_reads, none_after, spells}
-use Rattle.scenes.proofs.lemmas.SceneReporters.{broke_before, broke_event, made_refused, now_reported, starts}
+use Rattle.scenes.proofs.lemmas.SceneReporters.{begins_event, begins_no_more, made_refused, now_followed, now_prints, starts}
 
 abbrev is_wrong : LineFault → Result ParsedLine LineFault
 is_wrong f = Err f
@@ -48,26 +53,25 @@ unfolding line_read
 wrong_said run t f h = wrong_with run f (line_value (lines_before run) t) h
 
 -- what was read so far holds, and nothing more could be read behind it
-module _ (options : Options) (all : List RunLine) (P : ParsedLines → Type 0) (Q : ParsedLines → Fault → Type 0) (run : ParsedLines) (holds : P run) (refused : Q run fault.OutOfMemory) (left : List RunLine) (number : ℕ) (at : AtLine all run left number) where
+module _ (options : Options) (all : List RunLine) (P : ParsedLines → Type 0) (Q : ParsedLines → Fault → Type 0) (run : ParsedLines) (holds : P run) (refused : Q run OutOfMemory) (left : List RunLine) (number : ℕ) (at : AtLine all run left number) where
   left_unread : (file : List ℕ) (f : Fault) → IsUnread file f → StopsBy options all P Q f
-  left_unread file fault.Usage h = absurd h
-  left_unread file (fault.CannotRead f) h = record { run = run; lines = left; number = number; at = at; holds = holds }
-  left_unread file (fault.CannotWrite f) h = absurd h
-  left_unread file (fault.Line j f) h = absurd h
-  left_unread file fault.WriteFailed h = absurd h
-  left_unread file fault.StoreFailed h = absurd h
-  left_unread file fault.OutOfMemory h = record { run = run; lines = left; number = number; at = at; holds = refused }
+  left_unread file Usage h = absurd h
+  left_unread file (CannotRead name) h = record { run = run; lines = left; number = number; at = at; holds = inl (holds, inr (name, refl)) }
+  left_unread file (CannotWrite name) h = absurd h
+  left_unread file (Line j f) h = absurd h
+  left_unread file WriteFailed h = absurd h
+  left_unread file StoreFailed h = absurd h
+  left_unread file OutOfMemory h = record { run = run; lines = left; number = number; at = at; holds = inr refused }
 
   left_wrong : (f : ReadFault) → IsNextFault number run left f → StopsBy options all P Q (fault_of_read f)
   left_wrong (read.Line j f) h = record {
     run = run;
-    t = h.1.0;
-    more = h.1.1;
-    at = record { front = at.front; whole = at.whole ∙ ap (λ ls. at.front ++ ls) h.1.2; place = h.0 ∙ at.place; tells = at.tells };
-    wrong = inl (wrong_said run h.1.0 f h.1.3);
-    holds = holds;
+    lines = left;
+    number = number;
+    at = at;
+    holds = inl (holds, inl (record { t = h.1.0; more = h.1.1; first = h.1.2; f = f; is = ap (λ n. Line n f) h.0; wrong = inl (wrong_said run h.1.0 f h.1.3) }));
   }
-  left_wrong read.OutOfMemory h = record { run = run; lines = left; number = number; at = at; holds = refused }
+  left_wrong read.OutOfMemory h = record { run = run; lines = left; number = number; at = at; holds = inr refused }
 
   pub nothing_more : (file : List ℕ) (f : Fault) (Has : ParsedLines → List RunLine → Type 0) → IsMore file (Err f) run left number Has → StopsBy options all P Q f
   nothing_more file f Has (inl h) = left_unread file f h
@@ -88,31 +92,56 @@ no_call (c ∷ calls) h = absurd h
 module _ {W S : Type 0} {m : Meaning W} {n : Meaning S} (laws : WriterLaws m) (others : WriterLaws n) (options : Options) (all : List RunLine) (start : SceneReporter W S) where
   -- the event of the next line was left
   module _ (now next : SceneReporter W S) (run : ParsedLines) (follows : Follows m n options start now run) (t : RunLine) (more : List RunLine) (number : ℕ) (at : AtLine all run (t ∷ more) number) (e : SceneEvent) (says : line_value (lines_before run) t ≡ Ok (EventLine e)) where
-    left_event : (f : Fault) → BreaksEvent m n options (decider_for options run.config) e f now next → StopsBehind all (λ r. BreaksOff m n options start next r f)
-    left_event f broke = record {
-      run = with_line run (EventLine e);
-      lines = more;
-      number = number + 1;
-      at = at_more all run t more number (with_line run (EventLine e)) at (line_reads run t (EventLine e) says);
-      holds = broke_event laws others options start now next run follows e f broke;
-    }
+    abbrev Stops : Fault → Type 0
+    Stops = StopsBy options all (Prints m (store_meaning n) options (writers start) (writers next)) (Begins m (store_meaning n) options (writers start) (writers next))
 
-    one_left : (f : Fault) → LeavesEvent m n options (decider_for options run.config) number e f now next → StopsBy options all (HasReported m n options start next) (BreaksOff m n options start next) f
-    one_left fault.Usage h = absurd h
-    one_left (fault.CannotRead file) h = absurd h
-    one_left (fault.CannotWrite file) h = absurd h
-    one_left (fault.Line j f) h = record {
-      run = run;
-      t = t;
-      more = more;
-      at = record { front = at.front; whole = at.whole; place = h.0 ∙ at.place; tells = at.tells };
-      wrong = inr (record { event = e; says = says; call = h.2.of_event.made; of_event = h.2.of_event.of_event; refused = made_refused laws others options start now now run follows e f h.2 });
-      holds = now_reported laws others options start now next run follows h.1;
-    }
-    one_left fault.WriteFailed h = left_event fault.WriteFailed h
-    one_left fault.StoreFailed h = left_event fault.StoreFailed h
-    one_left fault.OutOfMemory (inl same) = record { run = run; lines = t ∷ more; number = number; at = at; holds = broke_before laws others options start now next run follows same }
-    one_left fault.OutOfMemory (inr broke) = left_event fault.OutOfMemory broke
+    -- since its call answered an error
+    module _ (f : Fault) (h : AnswersError m n options (decider_for options run.config) number e f now next) where
+      left_begun : refusal_in h.error ≡ None → Stops f
+      left_begun unrefused = record {
+        run = with_line run (EventLine e);
+        lines = more;
+        number = number + 1;
+        at = at_more all run t more number (with_line run (EventLine e)) at (line_reads run t (EventLine e) says);
+        holds = inr (begins_event laws others options start now next run follows number e f h unrefused);
+      }
+
+      left_refused : (error : WriteEventError) (x : LineFault) → h.error ≡ error → refusal_in error ≡ Some error → ((n : ℕ) → fault_at_call n error ≡ Line n x) → Stops f
+      left_refused error x is refused fault = record {
+        run = run;
+        lines = t ∷ more;
+        number = number;
+        at = at;
+        holds = inl (
+          now_prints laws others options start now next run follows (h.untouched (ap is_some (ap refusal_in is ∙ refused))),
+          inl (record {
+            t = t;
+            more = more;
+            first = refl;
+            f = x;
+            is = h.is ∙ ap (fault_at_call number) is ∙ fault number;
+            wrong = inr (record {
+              event = e;
+              says = says;
+              call = h.of_event.made;
+              of_event = h.of_event.of_event;
+              refused = λ n. ap (option_map (fault_at_call n)) (made_refused laws others options start now next run follows number e f h ∙ ap refusal_in is ∙ refused) ∙ ap Some (fault n);
+            });
+          }),
+        );
+      }
+
+      left_answered : (error : WriteEventError) → h.error ≡ error → Stops f
+      left_answered RetriedSuccess is = left_refused RetriedSuccess line.RetriedSuccess is refl (λ n. refl)
+      left_answered OutputNotLoaded is = left_refused OutputNotLoaded line.OutputNotLoaded is refl (λ n. refl)
+      left_answered Io is = left_begun (ap refusal_in is)
+      left_answered Memory is = left_begun (ap refusal_in is)
+      left_answered Failed is = left_begun (ap refusal_in is)
+      left_answered StoreIo is = left_begun (ap refusal_in is)
+
+    one_left : (f : Fault) → LeavesEvent m n options (decider_for options run.config) number e f now next → Stops f
+    one_left f (inl h) = record { run = run; lines = t ∷ more; number = number; at = at; holds = inr (subst (Begins m (store_meaning n) options (writers start) (writers next) run) (sym h.0) (begins_no_more laws others options start now next run follows h.1)) }
+    one_left f (inr h) = left_answered f h h.error refl
 
   -- nothing was reported yet
   pub keeps_up : (read : LinesRead) (more : Result Bool Fault) (Has : ParsedLines → List RunLine → Type 0) → HasRead options.file.now all [] no_lines read more Has → is_begun read.run.events.items ≡ true →
@@ -135,7 +164,7 @@ module _ {W S : Type 0} {m : Meaning W} {n : Meaning S} (laws : WriterLaws m) (o
 
     -- an event of what was read was left
     pub stops_run : (next : SceneReporter W S) (f : Fault) → StopsAtEvent m n options read.run.config read.run.events.items read.run.lines.items k.before.events f start next →
-        StopsBy options all (HasReported m n options start next) (BreaksOff m n options start next) f
+        StopsBy options all (Prints m (store_meaning n) options (writers start) (writers next)) (Begins m (store_meaning n) options (writers start) (writers next)) f
     stops_run next f stop =
         let at = event_at (length k.front + 1) k.before k.has.lines run k.has.tells stop.front stop.event stop.rest (ap (λ es. k.before.events ++ es) stop.whole) in
         let mid_is = told_same at.mid read.run.config (k.before.events ++ stop.front) at.config at.events in
@@ -153,49 +182,46 @@ module _ {W S : Type 0} {m : Meaning W} {n : Meaning S} (laws : WriterLaws m) (o
         }) stop.event at.says f (subst (λ c. LeavesEvent m n options (decider_for options c) number stop.event f stop.now next) (sym at.config) stop.leaves)
 
     -- what was reported before
-    none_reported : k.before.events ≡ [] → HasReported m n options start now k.before
-    unfolding run_outcome
-    none_reported none =
+    none_printed : k.before.events ≡ [] → Prints m (store_meaning n) options (writers start) (writers now) k.before
+    none_printed none =
         let no_calls = no_call (reverse k.follows.past) (subst (λ es. AllZip IsCallOf es (reverse k.follows.past)) none k.follows.of_run) in
         let no_past : k.follows.past ≡ [] = sym (reverse-reverse k.follows.past) ∙ ap reverse no_calls in
         let config = configuration_for options read.run.config in
         record {
-          past = [];
+          calls = [];
           of_run = subst (λ es. AllZip IsCallOf es []) (sym none) tt;
           accepted = refl;
-          reported = subst (λ p. m.accepts start.reporter.writer.now (report config (map (ready options read.run.config) p)) now.reporter.writer.now) no_past (k.follows.tells.accepted config k.follows.stands);
+          printed = subst (λ p. m.accepts start.reporter.writer.now (report config (map (ready options read.run.config) p)) now.reporter.writer.now) no_past (k.follows.tells.accepted config k.follows.stands);
           kept = subst (λ p. (store_meaning n).accepts start.reporter.store (stored config.store (map (ready options read.run.config) p)) now.reporter.store) no_past (k.follows.tells.stored config k.follows.stands);
-          delivered = k.follows.delivered.writer;
-          store_delivered = k.follows.delivered.store;
-          outcome = k.follows.outcome ∙ ap run_outcome no_past;
+          delivered = (k.follows.delivered.writer, k.follows.delivered.store);
         }
 
-    reported_before : HasReported m n options start now k.before
-    reported_before = elim (cases_Bool (is_begun k.before.events)) [
+    printed_before : Prints m (store_meaning n) options (writers start) (writers now) k.before
+    printed_before = elim (cases_Bool (is_begun k.before.events)) [
       | inl begun ↦
-          now_reported laws others options start now now k.before
+          now_prints laws others options start now now k.before
           (subst (λ c. Follows m n options start now (record { config = c; events = k.before.events })) (config_kept k.before k.has.lines run begun k.has.tells) k.follows) refl
-      | inr not ↦ none_reported (not_begun k.before.events not)
+      | inr not ↦ none_printed (not_begun k.before.events not)
     ]
 
     -- there are lines that no number counts
-    pub reported_uncounted : (file : Bor (List ℕ)) → StopsBy options all (HasReported m n options start now) (BreaksOff m n options start now) (fault.CannotRead file)
+    pub reported_uncounted : (file : Bor (List ℕ)) → StopsBy options all (Prints m (store_meaning n) options (writers start) (writers now)) (Begins m (store_meaning n) options (writers start) (writers now)) (CannotRead file)
     reported_uncounted file = record {
       run = k.before;
       lines = k.has.lines ++ k.has.left;
       number = length k.front + 1;
       at = record { front = k.front; whole = k.has.whole; place = refl; tells = k.has.forgotten };
-      holds = reported_before;
+      holds = inl (printed_before, inr (file, refl));
     }
 
     -- all that was read was reported
     module _ (next : SceneReporter W S) (reported : Follows m n options start next (record { config = read.run.config; events = k.before.events ++ read.run.events.items })) where
       -- and the lines end there
-      pub reported_all : more ≡ Ok false → OfLines all (HasReported m n options start next)
+      pub reported_all : more ≡ Ok false → OfLines all (PrintsFollowed m (store_meaning n) options (writers start) (writers next) next.outcome)
       reported_all last = record {
         run = run;
         spelled = spells options.file.now all read k.front k.before Has (subst (λ r. HasRead options.file.now all k.front k.before read r Has) last k.has);
-        holds = now_reported laws others options start next next run reported refl;
+        holds = now_followed laws others options start next next run reported refl;
       }
 
       -- and none is left
@@ -203,9 +229,10 @@ module _ {W S : Type 0} {m : Meaning W} {n : Meaning S} (laws : WriterLaws m) (o
       left_after_all last = none_after options.file.now all read k.front k.before Has (subst (λ r. HasRead options.file.now all k.front k.before read r Has) last k.has)
 
       -- or nothing more could be read
-      pub reported_first : (f : Fault) → more ≡ Err f → StopsBy options all (HasReported m n options start next) (BreaksOff m n options start next) f
+      pub reported_first : (f : Fault) → more ≡ Err f → StopsBy options all (Prints m (store_meaning n) options (writers start) (writers next)) (Begins m (store_meaning n) options (writers start) (writers next)) f
       reported_first f is =
-          nothing_more options all (HasReported m n options start next) (BreaksOff m n options start next) run (now_reported laws others options start next next run reported refl) (broke_before laws others options start next next run reported refl)
+          nothing_more options all (Prints m (store_meaning n) options (writers start) (writers next)) (Begins m (store_meaning n) options (writers start) (writers next)) run (now_prints laws others options start next next run reported refl)
+          (begins_no_more laws others options start next next run reported refl)
           k.has.left read.next here options.file.now f Has (subst (λ r. IsMore options.file.now r run k.has.left read.next Has) is k.has.more_is)
 
       -- or further lines were read behind it

@@ -1,17 +1,25 @@
--- A text whose lines tell no event before it ends, or before it cannot be read further (for `follow_to`).
-use Rattle.std.proofs.Common.{◌≡◌, ℕ, Bool, true, false, List, [], ◌∷◌, Option, Ok, Err, length, refl, sym, ap, ◌∙◌, arith, ◌==◌}
+-- A text whose lines tell no event before it ends, or before it cannot be read further (for `follow_to`), and what stopped lines (for `follow_source`).
+use Rattle.std.proofs.Common.{◌≡◌, Bool, true, false, List, [], ◌∷◌, Ok, Err, length, Result, IfOk, refl, sym, ap, ◌∙◌, subst, arith, ◌==◌, inl, inr}
+use Rattle.std.specs.List.{AllZip}
 use Rattle.std.proofs.lemmas.Bool.{false≢true}
 use Rattle.std.proofs.lemmas.Bool.Decides.{nat_tests}
+use Rattle.plain_text.specs.Writer.{Meaning}
+use Rattle.scene_events.specs.Scenes.{IsCallOf}
 use Rattle.scene_events.specs.declared.scene.event.SceneEvent.{SceneEvent}
 use Rattle.command_line.specs.declared.fault.Fault.{Fault}
-use Rattle.command_line.specs.declared.fault.Fault.TheVariants as fault
+use Rattle.command_line.specs.declared.fault.Fault.TheVariants.{OutOfMemory}
 use Rattle.command_line.specs.declared.args.Options.{Options}
 use Rattle.scene_text.specs.SceneTexts.{ParsedLines, RunLine, is_begun, no_lines, parsed_lines}
 use Rattle.scene_text.specs.declared.reader.LinesRead.{LinesRead}
 use Rattle.scenes.specs.Follow.{StopsBy}
+use Rattle.scenes.specs.Outcomes.{run_outcome}
+use Rattle.scenes.specs.Prints.{Begins, Prints, PrintsFollowed}
+use Rattle.scenes.specs.declared.outcome.RunOutcome.{RunOutcome}
+use Rattle.scenes.specs.declared.outcome.RunOutcome.TheVariants.{NotEnded}
 use Rattle.scenes.specs.ParsedScenes.{OfLines}
 use Rattle.scenes.specs.Read.{HasRead}
 use Rattle.scenes.proofs.lemmas.FollowedRuns.{nothing_more}
+use Rattle.scenes.proofs.lemmas.Prints.{begins_nothing}
 use Rattle.scenes.proofs.lemmas.ReadLines.{spells}
 
 -- lines tell no event
@@ -20,7 +28,7 @@ HasNoEvent run = run.events ≡ []
 
 -- and memory was refused behind them
 abbrev pub IsRefusedMemory : ParsedLines → Fault → Type 0
-IsRefusedMemory run f = HasNoEvent run × (f ≡ fault.OutOfMemory)
+IsRefusedMemory run f = HasNoEvent run × (f ≡ OutOfMemory)
 
 module _ (options : Options) (all : List RunLine) (read : LinesRead) (Has : ParsedLines → List RunLine → Type 0) (none : read.run.events.items ≡ []) where
   pub head_ends : HasRead options.file.now all [] no_lines read (Ok false) Has → OfLines all HasNoEvent
@@ -43,3 +51,53 @@ is_some_begun (e ∷ es) h = refl
 pub ends_at : (may_go_on : Bool) (es : List SceneEvent) → es ≡ [] → (may_go_on ≡ true → is_begun es ≡ true) → (P : Bool → Type 0) → P may_go_on → P false
 ends_at false es none begun P h = h
 ends_at true es none begun P h = absurd (false≢true (ap is_begun (sym none) ∙ begun refl))
+
+-- where P and Q hold of what stopped lines, so does what follows from them
+pub stops_so : (options : Options) (all : List RunLine) (P R : ParsedLines → Type 0) (Q T : ParsedLines → Fault → Type 0) → ((run : ParsedLines) → P run → R run) → ((run : ParsedLines) (f : Fault) → Q run f → T run f) →
+    (f : Fault) → StopsBy options all P Q f → StopsBy options all R T f
+stops_so options all P R Q T pr qt f h = record {
+  run = h.run;
+  lines = h.lines;
+  number = h.number;
+  at = h.at;
+  holds = elim h.holds [
+    | inl p ↦ inl (pr h.run p.0, p.1)
+    | inr q ↦ inr (qt h.run f q)
+  ];
+}
+
+pub followed_so : (all : List RunLine) {P Q : RunOutcome → ParsedLines → Type 0} (r : Result RunOutcome Fault) → ((come_to : RunOutcome) (run : ParsedLines) → P come_to run → Q come_to run) →
+    IfOk r (λ come_to. OfLines all (P come_to)) → IfOk r (λ come_to. OfLines all (Q come_to))
+followed_so all (Ok come_to) more h = record { run = h.run; spelled = h.spelled; holds = more come_to h.run h.holds }
+followed_so all (Err f) more h = tt
+
+-- what is not begun
+module _ {W T : Type 0} (m : Meaning W) (k : Meaning T) (options : Options) (all : List RunLine) (held : W × T) (nothing : m.accepts held.0 [] held.0) (also : k.accepts held.1 [] held.1) where
+  no_calls : (run : ParsedLines) → HasNoEvent run → AllZip IsCallOf run.events []
+  no_calls run none = subst (λ es. AllZip IsCallOf es []) (sym none) tt
+
+  begins_none : (run : ParsedLines) (f : Fault) → IsRefusedMemory run f → Begins m k options held held run f
+  begins_none run f h = begins_nothing m k options held nothing also run [] (no_calls run h.0) refl f h.1
+
+  -- memory was refused before the first line
+  pub nothing_stops : (P : ParsedLines → Type 0) (f : Fault) → f ≡ OutOfMemory → StopsBy options all P (Begins m k options held held) f
+  nothing_stops P f is = record {
+    run = no_lines;
+    lines = all;
+    number = 1;
+    at = record { front = []; whole = refl; place = refl; tells = refl };
+    holds = inr (begins_none no_lines f (refl, is));
+  }
+
+  module _ (delivered : m.is_delivered held.0 × k.is_delivered held.1) where
+    prints_none : (run : ParsedLines) → HasNoEvent run → Prints m k options held held run
+    prints_none run none = record { calls = []; of_run = no_calls run none; accepted = refl; printed = nothing; kept = also; delivered = delivered }
+
+    -- no line is an event
+    pub head_told : OfLines all HasNoEvent → OfLines all (PrintsFollowed m k options held held NotEnded)
+    unfolding run_outcome prints_none
+    head_told h = record { run = h.run; spelled = h.spelled; holds = record { printed = prints_none h.run h.holds; outcome = refl } }
+
+    -- a line before the first event stopped it
+    pub head_stops : (f : Fault) → StopsBy options all HasNoEvent IsRefusedMemory f → StopsBy options all (Prints m k options held held) (Begins m k options held held) f
+    head_stops f h = stops_so options all _ _ _ _ prints_none begins_none f h

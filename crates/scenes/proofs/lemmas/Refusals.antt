@@ -19,7 +19,8 @@ use Rattle.scene_events.specs.declared.scene.event.SceneEvent.{SceneEvent}
 use Rattle.scenes.specs.Judged.{IsSceneRefused, ChecksEvent}
 use Rattle.scenes.specs.Reports.{fault_at_call}
 use Rattle.scenes.specs.Unloads.{decider_for}
-use Rattle.scenes.proofs.lemmas.EventCalls.{last_there, same_there, zip_long, zip_place}
+use Rattle.scenes.proofs.lemmas.EventCalls.{last_there, same_there, zip_long}
+use Rattle.scenes.proofs.lemmas.Zips.{AllZip-more}
 use Rattle.command_line.specs.declared.fault.Fault.{Fault}
 use Rattle.command_line.specs.declared.fault.Fault.TheVariants as fault
 use Rattle.scene_fields.specs.declared.fault.LineFault.{LineFault}
@@ -123,7 +124,7 @@ module _ (options : Options) (scene : Scene) where
   -- one event more was judged
   module _ (i : ℕ) (e : SceneEvent) (within : i < length scene.events.items) (is : e ≡ get_or scene.events.items i e) where
     calls_more : (calls : List ReportCall) (call : ReportCall) → AllZip IsCallOf (take i scene.events.items) calls → IsCallOf e call → AllZip IsCallOf (take (i + 1) scene.events.items) (calls ++ call ∷ [])
-    calls_more calls call h of_event = zip_place scene.events.items calls i e call within is h of_event
+    calls_more calls call h of_event = AllZip-more IsCallOf scene.events.items calls i e call within is h of_event
 
     -- one is refused already
     judged_after : (x : Fault) (n : ℕ) (fault : Option Fault) → HasChecked i (Some x) → ChecksEvent judge n e fault → HasChecked (i + 1) (Some x)

@@ -1,72 +1,66 @@
 -- Events reported one after the other, and one that is left (for `SceneReporter::report_event`, `SceneReporter::report_events`, `report_to`, `follow_lines`).
-use Rattle.std.proofs.Common.{◌≡◌, ℕ, suc, ◌+◌, ◌<◌, true, List, [], ◌∷◌, ◌++◌, None, Some, length, take, drop, map, get_or, reverse, refl, sym, ap, ◌∙◌, subst, arith, append-nil, append_assoc, inl, inr}
+use Rattle.std.proofs.Common.{◌≡◌, ℕ, suc, ◌+◌, ◌<◌, true, List, [], ◌∷◌, ◌++◌, Option, None, Some, length, take, drop, map, get_or, reverse, refl, sym, ap, ◌∙◌, subst, arith, append-nil, append_assoc, inl, inr}
 use Rattle.std.proofs.Math.Seq.{drop-cons}
 use Rattle.std.specs.List.{AllZip, slice_get}
-use Rattle.std.specs.Option.{is_some, option_and_then, option_map}
-use Rattle.std.proofs.lemmas.List.{length-take-le, reverse-append, take-append-drop, take_more}
+use Rattle.std.proofs.lemmas.Slice.Zip.{all_zipped_more}
+use Rattle.std.specs.Option.{is_some, option_and_then}
+use Rattle.std.proofs.lemmas.List.{length-take-le, reverse-append, reverse-reverse, take-append-drop, take_more}
+use Rattle.plain_text.specs.Texts.{Text}
 use Rattle.plain_text.specs.Writer.{Meaning, WriterLaws}
 use Rattle.run_model.specs.declared.call.ReportCall.{ReportCall}
 use Rattle.console_reporter.specs.Accepted.{refusal}
 use Rattle.console_reporter.specs.Configuration.{Configuration}
 use Rattle.console_reporter.specs.Report.{report, text}
-use Rattle.console_reporter.specs.OptionalStore.{store_meaning}
+use Rattle.console_reporter.specs.Outcomes.{StopsRecord}
+use Rattle.console_reporter.specs.OptionalStore.{config_of, store_meaning}
+use Rattle.console_reporter.specs.declared.imp.store.Store.{Store}
 use Rattle.console_reporter.specs.HeldState.{StandsAfter}
 use Rattle.console_reporter.specs.Stored.{stored, stored_text}
-use Rattle.console_reporter.specs.Telling.{AreDelivered, Breaks, TellsRun}
+use Rattle.console_reporter.specs.Telling.{AreDelivered, Tells, TellsRun}
 use Rattle.console_reporter.specs.declared.imp.reporter.DisplayReporter.{DisplayReporter}
 use Rattle.console_reporter.proofs.lemmas.Runs.{run_begun}
 use Rattle.console_reporter.proofs.lemmas.Stores.{store-laws}
 use Rattle.reporter_state.specs.Refusals.{first_refused, refusal_by, refusal_in}
-use Rattle.reporter_state.specs.declared.decider.OutputLoadDecider.{OutputLoadDecider}
 use Rattle.reporter_state.specs.declared.faults.WriteEventError.{WriteEventError}
-use Rattle.reporter_state.specs.declared.faults.WriteEventError.TheVariants.{RetriedSuccess, OutputNotLoaded, Io, Memory, Failed, StoreIo}
+use Rattle.reporter_state.specs.declared.faults.WriteEventError.TheVariants.{StoreIo}
 use Rattle.scene_text.specs.SceneTexts.{EventLine, ParsedLines, with_line}
 use Rattle.scene_events.specs.Scenes.{IsCallOf}
 use Rattle.scene_events.specs.declared.scene.SceneConfig.{SceneConfig}
 use Rattle.scene_events.specs.declared.scene.event.SceneEvent.{SceneEvent}
-use Rattle.scene_fields.specs.declared.fault.LineFault.{LineFault}
-use Rattle.scene_fields.specs.declared.fault.LineFault.TheVariants as line
 use Rattle.scenes.specs.Judged.{IsSceneAccepted}
 use Rattle.scenes.specs.Outcomes.{outcome_after, run_outcome}
-use Rattle.scenes.specs.Reports.{StopsStore, StopsText, configuration_for, fault_at_call}
-use Rattle.scenes.specs.SceneReporter.{BreaksEvent, BreaksOff, Follows, HasReported, IsStart, LeavesEvent, RefusesEvent, StopsAtEvent, ReportsEvent}
+use Rattle.scenes.specs.Prints.{Begins, Begun, Prints, PrintsFollowed}
+use Rattle.scenes.specs.Reports.{configuration_for, fault_at_call, store_for}
+use Rattle.scenes.specs.SceneReporter.{AnswersError, Follows, IsStart, LeavesEvent, StopsAtEvent, ReportsEvent, writers}
 use Rattle.scenes.specs.ParsedScenes.{scene_lines}
 use Rattle.scenes.specs.Unloads.{IsReadyCall, decider_for, ready}
 use Rattle.command_line.specs.declared.fault.Fault.{Fault}
-use Rattle.command_line.specs.declared.fault.Fault.TheVariants as fault
+use Rattle.command_line.specs.declared.fault.Fault.TheVariants.{OutOfMemory, StoreFailed, WriteFailed}
 use Rattle.command_line.specs.declared.args.Options.{Options}
 use Rattle.scenes.specs.declared.scene.Scene.{Scene}
 use Rattle.scenes.specs.declared.scene_reporter.SceneReporter.{SceneReporter}
-use Rattle.scenes.proofs.lemmas.Devices.{memory_no_device, memory_no_store}
-use Rattle.scenes.proofs.lemmas.EventCalls.{refusal_of_call, same_first, zip_more}
+use Rattle.scenes.proofs.lemmas.EventCalls.{refusal_of_call, same_first}
 use Rattle.scenes.proofs.lemmas.ReadyCalls.{outcome_ready, refusal_ready, report_ready, stored_ready}
 use Rattle.scenes.proofs.lemmas.Refusals.{none_more, none_refused_at}
-use Rattle.scenes.proofs.lemmas.Reports.{broke_longer, device_error, store_behind, store_error, store_joined, text_behind, text_joined, told_more}
+use Rattle.scenes.proofs.lemmas.Prints.{begins_longer, begun_whole, broken, memory_no_device, memory_no_store, store_error}
 
--- with this reporter
-abbrev pub with_reporter : {W S : Type 0} → SceneReporter W S → DisplayReporter W S → SceneReporter W S
-with_reporter old r = record { outcome = old.outcome; reporter = r }
+-- one call more was made
+made_more : {W S : Type 0} {m : Meaning W} {n : Meaning S} (laws : WriterLaws m) (others : WriterLaws n) (a b c : DisplayReporter W S) (past : List ReportCall) (call : ReportCall) →
+    TellsRun m n a past b → Tells m n b (Some call) c → TellsRun m n a (call ∷ past) c
+made_more laws others a b c past call before here = record {
+  accepted = λ config stands. laws.joins _ _ _ _ _ (before.accepted config stands) (here.accepted config past (before.stands config stands));
+  stored = λ config stands. (store-laws others).joins _ _ _ _ _ (before.stored config stands) (here.stored config past (before.stands config stands));
+  stands = λ config stands. here.stands config past (before.stands config stands);
+}
 
--- a call that was refused, or broke off (for `report_event`)
-module _ {W S : Type 0} (m : Meaning W) (n : Meaning S) (options : Options) (d : OutputLoadDecider) (number : ℕ) (event : SceneEvent) (old : SceneReporter W S) (call : ReportCall) (of_event : IsReadyCall options d event call) where
-  says_refused : (f : LineFault) (e : WriteEventError) → ((k : ℕ) → fault_at_call k e ≡ fault.Line k f) → ((config : Configuration) (past : List ReportCall) → StandsAfter config past old.reporter → Some e ≡ refusal config call) → RefusesEvent m n options d event f old
-  says_refused f e is refused = record { call = call; of_event = of_event; refused = λ config past stands k. ap (option_map (fault_at_call k)) (sym (refused config past stands)) ∙ ap Some (is k) }
+-- the calls in their order have that past
+by_past : (P : List ReportCall → Type 0) (past : List ReportCall) → P past → P (reverse (reverse past))
+by_past P past h = subst P (sym (reverse-reverse past)) h
 
-  module _ (r : DisplayReporter W S) where
-    breaks_by : (e : WriteEventError) → ((k : ℕ) → fault_at_call number e ≡ fault_at_call k e) → Breaks m n old.reporter (Some call) e r → refusal_in e ≡ None → ((config : Configuration) (past : List ReportCall) → StandsAfter config past old.reporter → None ≡ refusal config call) →
-        BreaksEvent m n options d event (fault_at_call number e) old (with_reporter old r)
-    breaks_by e any breaks none refused =
-        record { call = call; of_event = of_event; error = e; breaks = breaks; unrefused = none; accepted = λ config past stands. sym (refused config past stands); is = any }
-
-    pub left_by : (e : WriteEventError) → Breaks m n old.reporter (Some call) e r →
-        ((config : Configuration) (past : List ReportCall) → StandsAfter config past old.reporter → refusal_in e ≡ refusal config call) → (is_some (refusal_in e) ≡ true → r ≡ old.reporter) →
-        LeavesEvent m n options d number event (fault_at_call number e) old (with_reporter old r)
-    left_by RetriedSuccess breaks refused same = (refl, ap (with_reporter old) (same refl), says_refused line.RetriedSuccess RetriedSuccess (λ k. refl) refused)
-    left_by OutputNotLoaded breaks refused same = (refl, ap (with_reporter old) (same refl), says_refused line.OutputNotLoaded OutputNotLoaded (λ k. refl) refused)
-    left_by Io breaks refused same = breaks_by Io (λ k. refl) breaks refl refused
-    left_by Memory breaks refused same = inr (breaks_by Memory (λ k. refl) breaks refl refused)
-    left_by Failed breaks refused same = breaks_by Failed (λ k. refl) breaks refl refused
-    left_by StoreIo breaks refused same = breaks_by StoreIo (λ k. refl) breaks refl refused
+-- a store is there where its device failed
+store_there : {S : Type 0} (n : Meaning S) (options : Options) (old new : Option (Store S)) (text : Text) (e : WriteEventError) → config_of old ≡ store_for options → StopsRecord (store_meaning n) old text e new → e ≡ StoreIo → is_some (store_for options) ≡ true
+store_there n options None new text e asked h is = absurd (subst (λ x. StopsRecord (store_meaning n) None text x new) is h)
+store_there n options (Some s) new text e asked h is = sym (ap is_some asked)
 
 -- a call more of a past is the last of its calls
 reverse_more : (past : List ReportCall) (call : ReportCall) → reverse (call ∷ past) ≡ reverse past ++ call ∷ []
@@ -94,7 +88,7 @@ module _ {W S : Type 0} {m : Meaning W} {n : Meaning S} (laws : WriterLaws m) (o
     -- a call of its own decider, as the reporter gets it and as it was made
     module _ (e : SceneEvent) (call : ReportCall) (r : IsReadyCall options (decider_for options run.config) e call) where
       calls_more : AllZip IsCallOf (run.events ++ e ∷ []) (reverse (r.made ∷ follows.past))
-      calls_more = subst (λ calls. AllZip IsCallOf (run.events ++ e ∷ []) calls) (sym (reverse_more follows.past r.made)) (zip_more run.events (reverse follows.past) e r.made follows.of_run r.of_event)
+      calls_more = subst (λ calls. AllZip IsCallOf (run.events ++ e ∷ []) calls) (sym (reverse_more follows.past r.made)) (all_zipped_more IsCallOf run.events (reverse follows.past) e r.made follows.of_run r.of_event)
 
       made_refusal : refusal_by (decider_for options run.config) call ≡ refusal_by (decider_for options run.config) r.made
       made_refusal = ap (refusal_by (decider_for options run.config)) r.ready ∙ refusal_ready options run.config r.made
@@ -127,100 +121,92 @@ module _ {W S : Type 0} {m : Meaning W} {n : Meaning S} (laws : WriterLaws m) (o
           of_run = calls_more e parsed_lines.call r;
           stands = follows.stands;
           tells = subst (λ c. TellsRun m n start.reporter (c ∷ map (ready options run.config) follows.past) next.reporter) r.ready
-              (told_more laws others start.reporter now.reporter next.reporter (map (ready options run.config) follows.past) parsed_lines.call follows.tells parsed_lines.tells);
+              (made_more laws others start.reporter now.reporter next.reporter (map (ready options run.config) follows.past) parsed_lines.call follows.tells parsed_lines.tells);
           accepted = accepted_more e parsed_lines.call r parsed_lines.accepted;
           delivered = delivered;
           outcome = parsed_lines.outcome ∙ ap (outcome_after now.outcome) r.ready ∙ outcome_ready options run.config now.outcome r.made ∙ ap (λ o. outcome_after o r.made) follows.outcome;
         }
 
-    -- an event's call broke off
-    pub broke_event : (e : SceneEvent) (f : Fault) → BreaksEvent m n options (decider_for options run.config) e f now next → BreaksOff m n options start next (with_line run (EventLine e)) f
-    broke_event e f broke =
-        let r = broke.of_event in
+    -- an event's call answered an error that is no refusal
+    pub begins_event : (number : ℕ) (e : SceneEvent) (f : Fault) (h : AnswersError m n options (decider_for options run.config) number e f now next) → refusal_in h.error ≡ None →
+        Begins m (store_meaning n) options (writers start) (writers next) (with_line run (EventLine e)) f
+    begins_event number e f h unrefused =
+        let r = h.of_event in
         let config = configuration_for options run.config in
         let past = map (ready options run.config) follows.past in
-        let a = start.reporter.writer.now in
-        let b = now.reporter.writer.now in
-        let c = next.reporter.writer.now in
-        let t = report config past in
-        let u = text config past broke.call in
-        let records = stored config.store past in
-        let entry = stored_text config.store broke.call in
-        let stopped = broke.breaks.stopped config past here_stands in
-        let store_stopped = broke.breaks.store_stopped config past here_stands in
-        record {
-          past = r.made ∷ follows.past;
-          of_run = calls_more e broke.call r;
-          accepted = accepted_more e broke.call r broke.accepted;
-          stopped = subst (λ g. StopsText m a (report config (r.made ∷ follows.past)) g c) (sym (broke.is 0))
-              (subst (λ x. StopsText m a x (fault_at_call 0 broke.error) c) (text_more e broke.call r) (text_joined laws a b c t u 0 broke.error broke.unrefused (follows.tells.accepted config follows.stands) stopped));
-          store_stopped = subst (λ g. StopsStore (store_meaning n) start.reporter.store (stored config.store (r.made ∷ follows.past)) g next.reporter.store) (sym (broke.is 0))
-              (subst (λ x. StopsStore (store_meaning n) start.reporter.store x (fault_at_call 0 broke.error) next.reporter.store) (stored_more e broke.call r)
-              (store_joined (store-laws others) start.reporter.store now.reporter.store next.reporter.store records entry 0 broke.error broke.unrefused (follows.tells.stored config follows.stands) store_stopped));
-          whole_text = λ is.
-              let of_store = store_error 0 broke.error (sym (broke.is 0) ∙ is) in
-              record {
-                later = [];
-                earlier = r.made ∷ follows.past;
-                is = refl;
-                accepted = subst (λ x. m.accepts a x c) (text_more e broke.call r) (laws.joins a b c t u (follows.tells.accepted config follows.stands) (text_behind m b c u broke.error of_store stopped));
-                delivered = broke.breaks.delivered of_store;
-              };
-          whole_records = λ is.
-              let of_device = device_error m _ _ _ 0 broke.error broke.unrefused (sym (broke.is 0) ∙ is) stopped in
-              let same = store_behind (store_meaning n) now.reporter.store next.reporter.store entry broke.error of_device store_stopped in
-              record {
-                later = r.made ∷ [];
-                earlier = follows.past;
-                is = refl;
-                accepted = subst (λ x. (store_meaning n).accepts start.reporter.store (stored config.store follows.past) x) (sym same)
-                    (subst (λ x. (store_meaning n).accepts start.reporter.store x now.reporter.store) (stored_ready options run.config follows.past) (follows.tells.stored config follows.stands));
-                delivered = subst (store_meaning n).is_delivered (sym same) follows.delivered.store;
-              };
-        }
+        let all : List ReportCall = r.made ∷ follows.past in
+        let stored_before = follows.tells.stored config follows.stands in
+        let store_stopped = h.breaks.store_stopped config past here_stands in
+        let b = broken laws (store-laws others) options start.reporter.writer.now now.reporter.writer.now next.reporter.writer.now start.reporter.store now.reporter.store next.reporter.store
+        (report config past) (text config past h.call) (stored config.store past) (stored_text config.store h.call) (follows.tells.accepted config follows.stands) stored_before
+        number h.error unrefused (store_there n options now.reporter.store next.reporter.store _ h.error here_stands.store store_stopped) (h.breaks.stopped config past here_stands) store_stopped in
+        let text_is = text_more e h.call r in
+        let fault : Fault = fault_at_call number h.error in
+        subst (λ g. Begins m (store_meaning n) options (writers start) (writers next) (with_line run (EventLine e)) g) (sym h.is) (record {
+          calls = reverse all;
+          of_run = calls_more e h.call r;
+          accepted = accepted_more e h.call r (λ config past stands. sym (h.refused config past stands) ∙ unrefused);
+          stopped = b.stopped;
+          begun = by_past (λ p. Begun m (fault ≡ WriteFailed) start.reporter.writer.now (report config p) next.reporter.writer.now) all (subst (λ x. Begun m (fault ≡ WriteFailed) start.reporter.writer.now x next.reporter.writer.now) text_is b.begun);
+          kept = by_past (λ p. Begun (store_meaning n) (fault ≡ StoreFailed) start.reporter.store (stored config.store p) next.reporter.store) all
+              (subst (λ x. Begun (store_meaning n) (fault ≡ StoreFailed) start.reporter.store x next.reporter.store) (stored_more e h.call r) b.kept);
+          whole_text = λ is. record {
+            first = reverse all;
+            rest = [];
+            is = sym (append-nil (reverse all));
+            accepted = by_past (λ p. m.accepts start.reporter.writer.now (report config p) next.reporter.writer.now) all (subst (λ x. m.accepts start.reporter.writer.now x next.reporter.writer.now) text_is (b.whole_text is));
+            delivered = h.breaks.delivered (store_error number h.error is);
+          };
+          whole_records = λ is. record {
+            first = reverse follows.past;
+            rest = r.made ∷ [];
+            is = reverse_more follows.past r.made;
+            accepted = by_past (λ p. (store_meaning n).accepts start.reporter.store (stored config.store p) next.reporter.store) follows.past
+                (subst (λ x. (store_meaning n).accepts start.reporter.store (stored config.store follows.past) x) (sym (b.untouched is))
+                (subst (λ x. (store_meaning n).accepts start.reporter.store x now.reporter.store) (stored_ready options run.config follows.past) stored_before));
+            delivered = subst (store_meaning n).is_delivered (sym (b.untouched is)) follows.delivered.store;
+          };
+        })
+
+    -- what was reported stands, and is how the run does
+    pub now_followed : next ≡ now → PrintsFollowed m (store_meaning n) options (writers start) (writers next) next.outcome run
+    now_followed same =
+        let config = configuration_for options run.config in
+        subst (λ x. PrintsFollowed m (store_meaning n) options (writers start) (writers x) x.outcome run) (sym same) (record {
+          printed = record {
+            calls = reverse follows.past;
+            of_run = follows.of_run;
+            accepted = follows.accepted;
+            printed = by_past (λ p. m.accepts start.reporter.writer.now (report config p) now.reporter.writer.now) follows.past
+                (subst (λ t. m.accepts start.reporter.writer.now t now.reporter.writer.now) (report_ready options run.config follows.past) (follows.tells.accepted config follows.stands));
+            kept = by_past (λ p. (store_meaning n).accepts start.reporter.store (stored config.store p) now.reporter.store) follows.past
+                (subst (λ t. (store_meaning n).accepts start.reporter.store t now.reporter.store) (stored_ready options run.config follows.past) (follows.tells.stored config follows.stands));
+            delivered = (follows.delivered.writer, follows.delivered.store);
+          };
+          outcome = follows.outcome ∙ by_past (λ p. run_outcome follows.past ≡ run_outcome p) follows.past refl;
+        })
+
+    pub now_prints : next ≡ now → Prints m (store_meaning n) options (writers start) (writers next) run
+    now_prints same = (now_followed same).printed
 
     -- memory was refused before another call
-    pub broke_before : next ≡ now → BreaksOff m n options start next run fault.OutOfMemory
-    broke_before same =
-        let config = configuration_for options run.config in
-        subst (λ x. BreaksOff m n options start x run fault.OutOfMemory) (sym same) (record {
-          past = follows.past;
-          of_run = follows.of_run;
-          accepted = follows.accepted;
-          stopped = inr (record {
-            front = report config (map (ready options run.config) follows.past);
-            rest = [];
-            whole = sym (append-nil (report config (map (ready options run.config) follows.past)) ∙ report_ready options run.config follows.past);
-            accepted = follows.tells.accepted config follows.stands;
-          });
-          store_stopped = inr (record {
-            front = stored config.store (map (ready options run.config) follows.past);
-            rest = [];
-            whole = sym (append-nil (stored config.store (map (ready options run.config) follows.past)) ∙ stored_ready options run.config follows.past);
-            accepted = follows.tells.stored config follows.stands;
-          });
+    pub begins_no_more : next ≡ now → Begins m (store_meaning n) options (writers start) (writers next) run OutOfMemory
+    begins_no_more same =
+        let h = now_prints same in
+        record {
+          calls = h.calls;
+          of_run = h.of_run;
+          accepted = h.accepted;
+          stopped = inr (inl refl);
+          begun = begun_whole laws _ _ _ _ h.printed;
+          kept = begun_whole (store-laws others) _ _ _ _ h.kept;
           whole_text = λ is. absurd (memory_no_store is);
           whole_records = λ is. absurd (memory_no_device is);
-        })
-
-    -- what was reported stands
-    pub now_reported : next ≡ now → HasReported m n options start next run
-    now_reported same =
-        let config = configuration_for options run.config in
-        subst (λ x. HasReported m n options start x run) (sym same) (record {
-          past = follows.past;
-          of_run = follows.of_run;
-          accepted = follows.accepted;
-          reported = subst (λ t. m.accepts start.reporter.writer.now t now.reporter.writer.now) (report_ready options run.config follows.past) (follows.tells.accepted config follows.stands);
-          kept = subst (λ t. (store_meaning n).accepts start.reporter.store t now.reporter.store) (stored_ready options run.config follows.past) (follows.tells.stored config follows.stands);
-          delivered = follows.delivered.writer;
-          store_delivered = follows.delivered.store;
-          outcome = follows.outcome;
-        })
+        }
 
     -- why the event that was refused was
-    pub made_refused : (e : SceneEvent) (f : LineFault) (h : RefusesEvent m n options (decider_for options run.config) e f now) (k : ℕ) → option_map (fault_at_call k) (refusal_by (decider_for options run.config) h.of_event.made) ≡ Some (fault.Line k f)
-    made_refused e f h k = ap (option_map (fault_at_call k)) (sym (made_refusal e h.call h.of_event)) ∙ h.refused (configuration_for options run.config) (map (ready options run.config) follows.past) here_stands k
+    pub made_refused : (number : ℕ) (e : SceneEvent) (f : Fault) (h : AnswersError m n options (decider_for options run.config) number e f now next) → refusal_by (decider_for options run.config) h.of_event.made ≡ refusal_in h.error
+    made_refused number e f h = sym (made_refusal e h.call h.of_event) ∙ sym (h.refused (configuration_for options run.config) (map (ready options run.config) follows.past) here_stands)
 
   -- the event at this place
   module _ (config : SceneConfig) (events : List SceneEvent) (base : List SceneEvent) (place : ℕ) (now next : SceneReporter W S) (e : SceneEvent) (within : place < length events) (is : e ≡ get_or events place e)
@@ -273,31 +259,24 @@ module _ (options : Options) (scene : Scene) (accepted : IsSceneAccepted options
 
   module _ {W S : Type 0} {m : Meaning W} {n : Meaning S} (laws : WriterLaws m) (others : WriterLaws n) (start new : SceneReporter W S) where
     -- what stopped the report of its first events stopped that of all
-    broke_scene : (es fs : List SceneEvent) → scene.events.items ≡ es ++ fs → (f : Fault) → BreaksOff m n options start new (record { config = scene.config; events = es }) f → BreaksOff m n options start new (scene_lines scene) f
-    broke_scene es fs whole f broke =
+    begins_scene : (es fs : List SceneEvent) → scene.events.items ≡ es ++ fs → (f : Fault) → Begins m (store_meaning n) options (writers start) (writers new) (record { config = scene.config; events = es }) f →
+        Begins m (store_meaning n) options (writers start) (writers new) (scene_lines scene) f
+    begins_scene es fs whole f begins =
         let more = zip_after es fs accepted.calls (subst (λ x. AllZip IsCallOf x accepted.calls) whole accepted.of_scene) in
-        subst (λ x. BreaksOff m n options start new (record { config = scene.config; events = x }) f) (sym whole)
-        (broke_longer laws (store-laws others) options scene.config es fs start.reporter.writer.now new.reporter.writer.now start.reporter.store new.reporter.store f broke more.0 more.1
+        subst (λ x. Begins m (store_meaning n) options (writers start) (writers new) (record { config = scene.config; events = x }) f) (sym whole)
+        (begins_longer laws (store-laws others) options scene.config es fs (writers start) (writers new) f begins more.0 more.1
         (λ calls of_all. all_accepted calls (subst (λ x. AllZip IsCallOf x calls) (sym whole) of_all)))
 
-    stops_broken : (f : Fault) (s : StopsAtEvent m n options scene.config scene.events.items scene.lines.items [] f start new) → BreaksEvent m n options (decider_for options scene.config) s.event f s.now new → BreaksOff m n options start new (scene_lines scene) f
-    stops_broken f s broke =
-        broke_scene (s.front ++ s.event ∷ []) s.rest (s.whole ∙ sym (append_assoc s.front (s.event ∷ []) s.rest)) f
-        (broke_event laws others options start s.now new (record { config = scene.config; events = s.front }) s.follows s.event f broke)
-
     -- so what leaves an event of it is no refusal
-    pub stops_scene : (f : Fault) → StopsAtEvent m n options scene.config scene.events.items scene.lines.items [] f start new → BreaksOff m n options start new (scene_lines scene) f
-    stops_scene fault.Usage s = absurd s.leaves
-    stops_scene (fault.CannotRead file) s = absurd s.leaves
-    stops_scene (fault.CannotWrite file) s = absurd s.leaves
-    stops_scene (fault.Line k f) s =
-        let refused = s.leaves.2 in
-        let none = accepted_at s.front s.event s.rest s.whole refused.of_event.made refused.of_event.of_event in
-        let some = made_refused laws others options start s.now s.now (record { config = scene.config; events = s.front }) s.follows s.event f refused k in
-        absurd (cc)
-    stops_scene fault.WriteFailed s = stops_broken fault.WriteFailed s s.leaves
-    stops_scene fault.StoreFailed s = stops_broken fault.StoreFailed s s.leaves
-    stops_scene fault.OutOfMemory s = elim s.leaves [
-      | inl same ↦ broke_scene s.front (s.event ∷ s.rest) s.whole fault.OutOfMemory (broke_before laws others options start s.now new (record { config = scene.config; events = s.front }) s.follows same)
-      | inr broke ↦ stops_broken fault.OutOfMemory s broke
-    ]
+    pub stops_scene : (f : Fault) → StopsAtEvent m n options scene.config scene.events.items scene.lines.items [] f start new → Begins m (store_meaning n) options (writers start) (writers new) (scene_lines scene) f
+    stops_scene f s =
+        let run : ParsedLines = record { config = scene.config; events = s.front } in
+        elim s.leaves [
+          | inl h ↦
+              subst (λ g. Begins m (store_meaning n) options (writers start) (writers new) (scene_lines scene) g) (sym h.0)
+              (begins_scene s.front (s.event ∷ s.rest) s.whole OutOfMemory (begins_no_more laws others options start s.now new run s.follows h.1))
+          | inr h ↦
+              let unrefused = sym (made_refused laws others options start s.now new run s.follows _ s.event f h) ∙ accepted_at s.front s.event s.rest s.whole h.of_event.made h.of_event.of_event in
+              begins_scene (s.front ++ s.event ∷ []) s.rest (s.whole ∙ sym (append_assoc s.front (s.event ∷ []) s.rest)) f
+              (begins_event laws others options start s.now new run s.follows _ s.event f h unrefused)
+        ]

@@ -1,6 +1,8 @@
 use Rattle.std.proofs.Common.{◌∙◌, inl, refl}
-use Rattle.scenes.proofs.lemmas.Heads.{HasNoEvent}
-use Rattle.scenes.proofs.lemmas.FollowedDevices.{nothing_held}
+use Rattle.std.proofs.KnownBytes.{Appends-nil}
+use Rattle.scenes.specs.Prints.{device}
+use Rattle.command_line.specs.declared.fault.Fault.TheVariants.{OutOfMemory}
+use Rattle.scenes.proofs.lemmas.Heads.{nothing_stops}
 use Rattle.scenes.proofs.follow.follow_scene.Goals as goal
 
 pub returns-in-Ok-clause-ok : goal.returns-in-Ok-clause-ok
@@ -10,4 +12,4 @@ pub returns-in-Ok-clause-err : goal.returns-in-Ok-clause-err
 returns-in-Ok-clause-err g c = λ text known. c.follow_source.ensures.err 0 _ (text, c.in-Ok.ensures ∙ known, inl refl)
 
 pub returns-in-Err-clause-err : goal.returns-in-Err-clause-err
-returns-in-Err-clause-err g c = λ text known. nothing_held c.args.options.now _ HasNoEvent _ _ _ _ refl refl
+returns-in-Err-clause-err g c = λ text known. nothing_stops device device c.args.options.now _ _ (Appends-nil _) (Appends-nil _) _ OutOfMemory refl

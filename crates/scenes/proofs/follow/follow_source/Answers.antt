@@ -1,36 +1,45 @@
-use Rattle.std.proofs.Common.{◌∙◌, None, Some, ap, refl, rules}
+use Rattle.std.proofs.Common.{◌∙◌, None, Some, ap, refl, rules, sym}
+use Rattle.std.proofs.KnownBytes.{Appends-nil}
 use Rattle.plain_text.specs.StringWriter.{string_meaning}
 use Rattle.plain_text.specs.TextBuffer.{buffer_meaning}
-use Rattle.scene_text.specs.SceneTexts.{no_lines}
-use Rattle.scenes.proofs.lemmas.Heads.{HasNoEvent}
-use Rattle.scenes.proofs.lemmas.FollowedDevices.{followed, from_ok, keeps_none, keeps_some, left, nothing_held, same_there}
+use Rattle.console_reporter.specs.OptionalStore.{store_meaning}
+use Rattle.scenes.specs.Follow.{StopsBy}
+use Rattle.scenes.specs.Prints.{Begins, Prints, device}
+use Rattle.scenes.specs.Reports.{report_of}
+use Rattle.command_line.specs.declared.fault.Fault.TheVariants.{OutOfMemory}
+use Rattle.scenes.proofs.lemmas.Devices.{buffer_holds, followed_there, no_store_holds, same_there, stops_there, store_holds}
+use Rattle.scenes.proofs.lemmas.Heads.{followed_so, nothing_stops}
+use Rattle.scenes.proofs.lemmas.Prints.{from_err, moved, pair}
 use Rattle.scenes.proofs.follow.follow_source.Goals as goal
 
 pub returns-in-Err-clause-err : goal.returns-in-Err-clause-err
-returns-in-Err-clause-err g c = λ in_all all known. nothing_held c.args.options.now all HasNoEvent _ _ _ _ (ap g.W.Write.contents c.in-Err.ensures.err) refl
+returns-in-Err-clause-err g c = λ in_all all known.
+    moved (λ old new. StopsBy c.args.options.now all (Prints device device c.args.options.now old new) (Begins device device c.args.options.now old new) OutOfMemory) refl (pair (ap g.W.Write.contents (sym c.in-Err.ensures.err)) refl)
+    (nothing_stops device device c.args.options.now all _ (Appends-nil _) (Appends-nil _) _ OutOfMemory refl)
 
 pub returns-in_default-clause-ok : goal.returns-in_default-clause-ok
 returns-in_default-clause-ok g c = λ in_all all known.
     let out = c.in-Ok.ensures.ok in
     let made = c.follow_to-lent in
-    followed g.W.Write.contents string_meaning c.args.options.now c.in-Ok.out made.result.1.now out.1 c.args.writer c.into_inner-writer.result.0 out.0 (search rules)
-    None made.result.2 _ _ (keeps_none c.args.options.now string_meaning made.result.2 (search rules) (g.S.Write.contents c.args.store_writer))
-    in_all all (λ n. g.L.RunSource.left n c.args.source.now no_lines) _ _ known out.1 tt made.result.0 made.ensures.ok
-
-pub returns-in_default-clause-rest : goal.returns-in_default-clause-rest
-returns-in_default-clause-rest g c = λ in_all all known. from_ok c.follow_to-lent.result.0 (λ left. left in_all all known c.in-Ok.ensures.ok.1 tt) c.follow_to-lent.ensures.rest
+    let options = c.args.options.now in
+    followed_so all made.result.0 (followed_there (buffer_meaning g.W.Write.contents) (store_meaning string_meaning) options (c.in-Ok.out, None) (made.result.1.now, made.result.2) _ _
+    (λ config. buffer_holds g.W.Write.contents c.in-Ok.out made.result.1.now out.1 (report_of options config) c.args.writer c.into_inner-writer.result.0 out.0 (search rules))
+    (no_store_holds options string_meaning made.result.2 (search rules) (g.S.Write.contents c.args.store_writer))) (made.ensures.ok in_all all known)
 
 pub returns-in_default-clause-err : goal.returns-in_default-clause-err
 returns-in_default-clause-err g c = λ in_all all known.
     let out = c.in-Ok.ensures.ok in
     let made = c.follow_to-lent in
-    left g.W.Write.contents string_meaning c.args.options.now c.in-Ok.out made.result.1.now out.1 c.args.writer c.into_inner-writer.result.0 out.0 (search rules)
-    None made.result.2 _ _ (keeps_none c.args.options.now string_meaning made.result.2 (search rules) (g.S.Write.contents c.args.store_writer))
-    in_all all (λ n. g.L.RunSource.left n c.args.source.now no_lines) _ _ known out.1 tt made.result.0 made.ensures.err
+    let options = c.args.options.now in
+    from_err made.result.0 (stops_there (buffer_meaning g.W.Write.contents) (store_meaning string_meaning) options (c.in-Ok.out, None) (made.result.1.now, made.result.2) _ _
+    (λ config. buffer_holds g.W.Write.contents c.in-Ok.out made.result.1.now out.1 (report_of options config) c.args.writer c.into_inner-writer.result.0 out.0 (search rules))
+    (no_store_holds options string_meaning made.result.2 (search rules) (g.S.Write.contents c.args.store_writer)) all) (made.ensures.err in_all all known)
 
 pub returns-in-Err-new-clause-err : goal.returns-in-Err-new-clause-err
 returns-in-Err-new-clause-err g c = λ in_all all known.
-    nothing_held c.args.options.now all HasNoEvent _ _ _ _ (ap g.W.Write.contents (c.into_inner-writer-in-Err-new.ensures.writer ∙ c.in-Ok.ensures.ok.0)) (ap g.S.Write.contents c.in-Err-new.ensures.err)
+    moved (λ old new. StopsBy c.args.options.now all (Prints device device c.args.options.now old new) (Begins device device c.args.options.now old new) OutOfMemory) refl
+    (pair (ap g.W.Write.contents (sym (c.into_inner-writer-in-Err-new.ensures.writer ∙ c.in-Ok.ensures.ok.0))) (ap g.S.Write.contents (sym c.in-Err-new.ensures.err)))
+    (nothing_stops device device c.args.options.now all _ (Appends-nil _) (Appends-nil _) _ OutOfMemory refl)
 
 pub returns-clause-ok : goal.returns-clause-ok
 returns-clause-ok g c = λ in_all all known.
@@ -39,16 +48,11 @@ returns-clause-ok g c = λ in_all all known.
     let store = c.new-store in
     let made = c.follow_to-lent-2 in
     let names = same_there store.result c.in-Some-store.store made.result.2 c.in-Some-store.is made.ensures.same_store ∙ ap (λ s. s.writer.ghost_name) store.ensures in
-    let empty = ap (λ s. s.writer.now.pending) store.ensures ∙ records.1 in
-    followed g.W.Write.contents (buffer_meaning g.S.Write.contents) c.args.options.now c.in-Ok.out made.result.1.now out.1 c.args.writer c.into_inner-writer-2.result.0 out.0 (search rules) (Some store.result) made.result.2 _ _
-    (keeps_some c.args.options.now g.S.Write.contents store.result c.in-Some-store.store made.result.2 (rw c.in-Some.is refl) empty c.in-Some-store.is
-    c.args.store_writer c.into_inner-store_writer.result.0 (ap (λ s. s.writer.now.writer) store.ensures ∙ records.0) (search rules))
-    in_all all (λ n. g.L.RunSource.left n c.args.source.now no_lines) _ _ known out.1 empty made.result.0 made.ensures.ok
-
-pub returns-clause-rest : goal.returns-clause-rest
-returns-clause-rest g c = λ in_all all known.
-    let empty = ap (λ s. s.writer.now.pending) c.new-store.ensures ∙ c.in-Ok-new.ensures.ok.1 in
-    from_ok c.follow_to-lent-2.result.0 (λ left. left in_all all known c.in-Ok.ensures.ok.1 empty) c.follow_to-lent-2.ensures.rest
+    let options = c.args.options.now in
+    followed_so all made.result.0 (followed_there (buffer_meaning g.W.Write.contents) (store_meaning (buffer_meaning g.S.Write.contents)) options (c.in-Ok.out, Some store.result) (made.result.1.now, made.result.2) _ _
+    (λ config. buffer_holds g.W.Write.contents c.in-Ok.out made.result.1.now out.1 (report_of options config) c.args.writer c.into_inner-writer-2.result.0 out.0 (search rules))
+    (store_holds options g.S.Write.contents store.result c.in-Some-store.store made.result.2 (ap (λ s. s.writer.now.pending) store.ensures ∙ records.1) c.in-Some-store.is
+    c.args.store_writer c.into_inner-store_writer.result.0 (ap (λ s. s.writer.now.writer) store.ensures ∙ records.0) (search rules))) (made.ensures.ok in_all all known)
 
 pub returns-clause-err : goal.returns-clause-err
 returns-clause-err g c = λ in_all all known.
@@ -57,8 +61,8 @@ returns-clause-err g c = λ in_all all known.
     let store = c.new-store in
     let made = c.follow_to-lent-2 in
     let names = same_there store.result c.in-Some-store.store made.result.2 c.in-Some-store.is made.ensures.same_store ∙ ap (λ s. s.writer.ghost_name) store.ensures in
-    let empty = ap (λ s. s.writer.now.pending) store.ensures ∙ records.1 in
-    left g.W.Write.contents (buffer_meaning g.S.Write.contents) c.args.options.now c.in-Ok.out made.result.1.now out.1 c.args.writer c.into_inner-writer-2.result.0 out.0 (search rules) (Some store.result) made.result.2 _ _
-    (keeps_some c.args.options.now g.S.Write.contents store.result c.in-Some-store.store made.result.2 (rw c.in-Some.is refl) empty c.in-Some-store.is
-    c.args.store_writer c.into_inner-store_writer.result.0 (ap (λ s. s.writer.now.writer) store.ensures ∙ records.0) (search rules))
-    in_all all (λ n. g.L.RunSource.left n c.args.source.now no_lines) _ _ known out.1 empty made.result.0 made.ensures.err
+    let options = c.args.options.now in
+    from_err made.result.0 (stops_there (buffer_meaning g.W.Write.contents) (store_meaning (buffer_meaning g.S.Write.contents)) options (c.in-Ok.out, Some store.result) (made.result.1.now, made.result.2) _ _
+    (λ config. buffer_holds g.W.Write.contents c.in-Ok.out made.result.1.now out.1 (report_of options config) c.args.writer c.into_inner-writer-2.result.0 out.0 (search rules))
+    (store_holds options g.S.Write.contents store.result c.in-Some-store.store made.result.2 (ap (λ s. s.writer.now.pending) store.ensures ∙ records.1) c.in-Some-store.is
+    c.args.store_writer c.into_inner-store_writer.result.0 (ap (λ s. s.writer.now.writer) store.ensures ∙ records.0) (search rules)) all) (made.ensures.err in_all all known)

@@ -1,4 +1,4 @@
-use Rattle.scenes.proofs.lemmas.SpelledRuns.{refused_is_judged, refused_text}
+use Rattle.scenes.proofs.lemmas.Judged.{refused_is_judged, refused_text}
 use Rattle.std.proofs.Common.{inr}
 use Rattle.scenes.proofs.report.judge.Goals as goal
 

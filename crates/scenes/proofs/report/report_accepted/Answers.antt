@@ -1,16 +1,24 @@
-use Rattle.std.proofs.Common.{◌≡◌, ◌∙◌, [], None, Some, Ok, IfErr, OnOk, ap, refl, rules, subst}
+use Rattle.std.proofs.Common.{◌≡◌, ◌∙◌, [], None, Some, Ok, IfErr, OnOk, ap, refl, rules, subst, sym}
+use Rattle.std.proofs.KnownBytes.{Appends-nil}
 use Rattle.plain_text.specs.StringWriter.{string_meaning}
 use Rattle.plain_text.specs.TextBuffer.{BufferAccepts, buffer_meaning}
+use Rattle.console_reporter.specs.OptionalStore.{store_meaning}
 use Rattle.scenes.specs.Deferred.{DeliversRest}
 use Rattle.scenes.specs.ParsedScenes.{scene_lines}
+use Rattle.scenes.specs.Prints.{Begins, device}
+use Rattle.scenes.specs.Reports.{report_of}
 use Rattle.scenes.proofs.lemmas.Deferred.{delivered, undelivered}
-use Rattle.scenes.proofs.lemmas.FollowedDevices.{begun, keeps_none, keeps_some, printed, same_there}
-use Rattle.scenes.proofs.lemmas.SpelledRuns.{unbegun}
+use Rattle.scenes.proofs.lemmas.Devices.{begins_there, buffer_holds, no_store_holds, prints_there, same_there, store_holds}
+use Rattle.scenes.proofs.lemmas.Prints.{begins_nothing, from_err, from_ok, moved, pair}
+use Rattle.command_line.specs.declared.fault.Fault.TheVariants.{OutOfMemory}
 use Rattle.scenes.proofs.report.report_accepted.Goals as goal
 
 pub returns-in-Err-clause-err : goal.returns-in-Err-clause-err
 returns-in-Err-clause-err g c =
-    rw (← c.judged.view_is) (unbegun c.judged.inside.options.now c.judged.inside.scene.now c.judged.invariant _ _ _ _ (ap g.W.Write.contents c.in-Err.ensures.err) refl)
+    let accepted = c.judged.invariant in
+    rw (← c.judged.view_is)
+    (moved (λ old new. Begins device device c.judged.inside.options.now old new (scene_lines c.judged.inside.scene.now) OutOfMemory) refl (pair (ap g.W.Write.contents (sym c.in-Err.ensures.err)) refl)
+    (begins_nothing device device c.judged.inside.options.now _ (Appends-nil _) (Appends-nil _) (scene_lines c.judged.inside.scene.now) accepted.calls accepted.of_scene accepted.accepted OutOfMemory refl))
 
 pub returns-in_default-clause-ok : goal.returns-in_default-clause-ok
 returns-in_default-clause-ok g c =
@@ -18,11 +26,13 @@ returns-in_default-clause-ok g c =
     let made = c.report_to-lent in
     let rest = c.deliver_rest-outcome in
     let settled : c.deferred-in_default-1.given.0 ≡ made.result.1.now = search rules in
+    let options = c.judged.inside.options.now in
     let run = scene_lines c.judged.inside.scene.now in
     rw (← c.judged.view_is)
-    (printed g.W.Write.contents string_meaning c.judged.inside.options.now c.in-Ok.out rest.new.out out.1 c.args.writer c.into_inner-writer.result.0 out.0 (search rules)
-    None made.result.2 _ _ (keeps_none c.judged.inside.options.now string_meaning made.result.2 (search rules) (g.S.Write.contents c.args.store_writer)) run rest.result
-    (delivered g.W.Write.contents string_meaning c.judged.inside.options.now (record { writer = c.in-Ok.out }) made.result.1.now rest.new.out run made.result.2 made.result.0 rest.result made.ensures.ok
+    (from_ok rest.result (prints_there (buffer_meaning g.W.Write.contents) (store_meaning string_meaning) options (c.in-Ok.out, None) (rest.new.out, None) _ _
+    (λ config. buffer_holds g.W.Write.contents c.in-Ok.out rest.new.out out.1 (report_of options config) c.args.writer c.into_inner-writer.result.0 out.0 (search rules))
+    (no_store_holds options string_meaning None (search rules) (g.S.Write.contents c.args.store_writer)) run)
+    (delivered g.W.Write.contents string_meaning options (record { writer = c.in-Ok.out }) made.result.1.now rest.new.out run made.result.2 made.ensures.same_store made.result.0 rest.result made.ensures.ok
     (subst (λ b. OnOk rest.result ((made.result.0 ≡ Ok tt) × BufferAccepts g.W.Write.contents b.writer [] rest.new.out × (rest.new.out.pending ≡ []))) settled rest.ensures.ok)))
 
 pub returns-in_default-clause-err : goal.returns-in_default-clause-err
@@ -31,17 +41,22 @@ returns-in_default-clause-err g c =
     let made = c.report_to-lent in
     let rest = c.deliver_rest-outcome in
     let settled : c.deferred-in_default-1.given.0 ≡ made.result.1.now = search rules in
+    let options = c.judged.inside.options.now in
     let run = scene_lines c.judged.inside.scene.now in
     rw (← c.judged.view_is)
-    (begun g.W.Write.contents string_meaning c.judged.inside.options.now c.in-Ok.out rest.new.out out.1 c.args.writer c.into_inner-writer.result.0 out.0 (search rules)
-    None made.result.2 _ _ (keeps_none c.judged.inside.options.now string_meaning made.result.2 (search rules) (g.S.Write.contents c.args.store_writer)) run rest.result
-    (undelivered g.W.Write.contents string_meaning c.judged.inside.options.now (record { writer = c.in-Ok.out }) made.result.1.now rest.new.out run made.result.2 made.ensures.same_store made.result.0 rest.result
-    made.ensures.ok made.ensures.err (subst (λ b. IfErr rest.result (DeliversRest g.W.Write.contents made.result.0 b.writer rest.new.out)) settled rest.ensures.err)))
+    (from_err rest.result (begins_there (buffer_meaning g.W.Write.contents) (store_meaning string_meaning) options (c.in-Ok.out, None) (rest.new.out, None) _ _
+    (λ config. buffer_holds g.W.Write.contents c.in-Ok.out rest.new.out out.1 (report_of options config) c.args.writer c.into_inner-writer.result.0 out.0 (search rules))
+    (no_store_holds options string_meaning None (search rules) (g.S.Write.contents c.args.store_writer)) run)
+    (undelivered g.W.Write.contents string_meaning options (record { writer = c.in-Ok.out }) made.result.1.now rest.new.out run made.result.2 made.ensures.same_store made.result.0 rest.result made.ensures.ok made.ensures.err
+    (subst (λ b. IfErr rest.result (DeliversRest g.W.Write.contents made.result.0 b.writer rest.new.out)) settled rest.ensures.err)))
 
 pub returns-in-Err-new-clause-err : goal.returns-in-Err-new-clause-err
 returns-in-Err-new-clause-err g c =
+    let accepted = c.judged.invariant in
     rw (← c.judged.view_is)
-    (unbegun c.judged.inside.options.now c.judged.inside.scene.now c.judged.invariant _ _ _ _ (ap g.W.Write.contents (c.into_inner-writer-in-Err-new.ensures.writer ∙ c.in-Ok.ensures.ok.0)) (ap g.S.Write.contents c.in-Err-new.ensures.err))
+    (moved (λ old new. Begins device device c.judged.inside.options.now old new (scene_lines c.judged.inside.scene.now) OutOfMemory) refl
+    (pair (ap g.W.Write.contents (sym (c.into_inner-writer-in-Err-new.ensures.writer ∙ c.in-Ok.ensures.ok.0))) (ap g.S.Write.contents (sym c.in-Err-new.ensures.err)))
+    (begins_nothing device device c.judged.inside.options.now _ (Appends-nil _) (Appends-nil _) (scene_lines c.judged.inside.scene.now) accepted.calls accepted.of_scene accepted.accepted OutOfMemory refl))
 
 pub returns-clause-ok : goal.returns-clause-ok
 returns-clause-ok g c =
@@ -50,11 +65,13 @@ returns-clause-ok g c =
     let store = c.new-store in
     let made = c.report_to-lent-2 in
     let names = same_there store.result c.in-Some-store.store made.result.2 c.in-Some-store.is made.ensures.same_store ∙ ap (λ s. s.writer.ghost_name) store.ensures in
+    let options = c.judged.inside.options.now in
     rw (← c.judged.view_is)
-    (printed g.W.Write.contents (buffer_meaning g.S.Write.contents) c.judged.inside.options.now c.in-Ok.out made.result.1.now out.1 c.args.writer c.into_inner-writer-2.result.0 out.0 (search rules) (Some store.result) made.result.2 _ _
-    (keeps_some c.judged.inside.options.now g.S.Write.contents store.result c.in-Some-store.store made.result.2 (rw c.in-Some.is refl) (ap (λ s. s.writer.now.pending) store.ensures ∙ records.1) c.in-Some-store.is
+    (from_ok made.result.0 (prints_there (buffer_meaning g.W.Write.contents) (store_meaning (buffer_meaning g.S.Write.contents)) options (c.in-Ok.out, Some store.result) (made.result.1.now, made.result.2) _ _
+    (λ config. buffer_holds g.W.Write.contents c.in-Ok.out made.result.1.now out.1 (report_of options config) c.args.writer c.into_inner-writer-2.result.0 out.0 (search rules))
+    (store_holds options g.S.Write.contents store.result c.in-Some-store.store made.result.2 (ap (λ s. s.writer.now.pending) store.ensures ∙ records.1) c.in-Some-store.is
     c.args.store_writer c.into_inner-store_writer.result.0 (ap (λ s. s.writer.now.writer) store.ensures ∙ records.0) (search rules))
-    (scene_lines c.judged.inside.scene.now) made.result.0 made.ensures.ok)
+    (scene_lines c.judged.inside.scene.now)) made.ensures.ok)
 
 pub returns-clause-err : goal.returns-clause-err
 returns-clause-err g c =
@@ -63,8 +80,10 @@ returns-clause-err g c =
     let store = c.new-store in
     let made = c.report_to-lent-2 in
     let names = same_there store.result c.in-Some-store.store made.result.2 c.in-Some-store.is made.ensures.same_store ∙ ap (λ s. s.writer.ghost_name) store.ensures in
+    let options = c.judged.inside.options.now in
     rw (← c.judged.view_is)
-    (begun g.W.Write.contents (buffer_meaning g.S.Write.contents) c.judged.inside.options.now c.in-Ok.out made.result.1.now out.1 c.args.writer c.into_inner-writer-2.result.0 out.0 (search rules) (Some store.result) made.result.2 _ _
-    (keeps_some c.judged.inside.options.now g.S.Write.contents store.result c.in-Some-store.store made.result.2 (rw c.in-Some.is refl) (ap (λ s. s.writer.now.pending) store.ensures ∙ records.1) c.in-Some-store.is
+    (from_err made.result.0 (begins_there (buffer_meaning g.W.Write.contents) (store_meaning (buffer_meaning g.S.Write.contents)) options (c.in-Ok.out, Some store.result) (made.result.1.now, made.result.2) _ _
+    (λ config. buffer_holds g.W.Write.contents c.in-Ok.out made.result.1.now out.1 (report_of options config) c.args.writer c.into_inner-writer-2.result.0 out.0 (search rules))
+    (store_holds options g.S.Write.contents store.result c.in-Some-store.store made.result.2 (ap (λ s. s.writer.now.pending) store.ensures ∙ records.1) c.in-Some-store.is
     c.args.store_writer c.into_inner-store_writer.result.0 (ap (λ s. s.writer.now.writer) store.ensures ∙ records.0) (search rules))
-    (scene_lines c.judged.inside.scene.now) made.result.0 made.ensures.err)
+    (scene_lines c.judged.inside.scene.now)) made.ensures.err)

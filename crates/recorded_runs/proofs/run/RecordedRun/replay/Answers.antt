@@ -7,7 +7,7 @@ use Rattle.recorded_runs.proofs.run.RecordedRun.replay.Goals as goal
 pub returns-clause-ok : goal.returns-clause-ok
 returns-clause-ok g c = λ text all lines outputs.
     let run = c.args.self.now in
-    prints_on_ok run.options all text _ _ _ _ _ (c.follow_source-followed.ensures.ok (counted run.outputs.bytes_read (needed_bytes run.options text)) (lines_replayed run.options all text)
+    prints_on_ok run.options all text _ _ _ (c.follow_source-followed.ensures.ok (counted run.outputs.bytes_read (needed_bytes run.options text)) (lines_replayed run.options all text)
     (record { all = all; text = text; outputs = outputs; rest = lines; is = refl; counts = refl }))
 
 pub returns-clause-err : goal.returns-clause-err

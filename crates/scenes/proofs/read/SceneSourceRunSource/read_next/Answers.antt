@@ -1,7 +1,7 @@
 use Rattle.std.proofs.Common.{[], inr, refl, subst}
 use Rattle.std.specs.Io.Buffered.{reader_remaining}
 use Rattle.command_line.specs.Pieces.{IsNextPiece}
-use Rattle.scenes.specs.Read.{AreLeft, AreLeftOf}
+use Rattle.scenes.specs.Read.{AreLeft}
 use Rattle.scenes.proofs.lemmas.ReadLines.{none_left, piece_left, piece_read, unread}
 use Rattle.scenes.proofs.read.SceneSourceRunSource.read_next.Goals as goal
 

@@ -1,4 +1,4 @@
-use Rattle.std.proofs.Common.{◌≡◌, ◌++◌, append-nil, map, refl, rules, subst, sym}
+use Rattle.std.proofs.Common.{◌++◌, append-nil, map, refl, rules, subst, sym}
 use Rattle.std.proofs.lemmas.List.{take_all}
 use Rattle.console_reporter.proofs.lemmas.Runs.{same-after}
 use Rattle.scenes.specs.Reports.{configuration_for}
