@@ -7,7 +7,6 @@ pub mod Isolation
 pub mod OtherOutputs
 pub mod Pasts
 pub mod Promises
-pub mod Records
 pub mod Refusals
 pub mod ReportColourPairs
 pub mod Rows

@@ -15,42 +15,35 @@ pub record HasFront {S : Type 0} (m : Meaning S) (old : S) (text : Text) (new : 
   pub whole : text ≡ front ++ rest
   pub accepted : m.accepts old front new
 
--- From old, the error stopped the text, of which a beginning was accepted, and left new. Memory is refused by a writer or to
--- the reporter itself; a refusal leaves the writer as it was, and a fault of the store comes after the whole text.
-abbrev pub Stops : {S : Type 0} → Meaning S → S → Text → WriteEventError → S → Type 0
-Stops m old text RetriedSuccess new = new ≡ old
-Stops m old text OutputNotLoaded new = new ≡ old
-Stops m old text Io new = m.stops old text Device new
-Stops m old text Memory new = m.stops old text RefusedMemory new ⊎ HasFront m old text new
-Stops m old text Failed new = ⊥
-Stops m old text StoreIo new = m.accepts old text new
+-- what a reporter writes: the report to its first writer, and the records to its store
+pub data Side : Type 0 where
+  Report : Side
+  Records : Side
 
--- The same of the store and of the record: a fault of the first writer leaves the store as it was.
-abbrev pub StopsRecord : {S : Type 0} → Meaning S → S → Text → WriteEventError → S → Type 0
-StopsRecord m old text RetriedSuccess new = new ≡ old
-StopsRecord m old text OutputNotLoaded new = new ≡ old
-StopsRecord m old text Io new = new ≡ old
-StopsRecord m old text Memory new = m.stops old text RefusedMemory new ⊎ HasFront m old text new
-StopsRecord m old text Failed new = ⊥
-StopsRecord m old text StoreIo new = m.stops old text Device new
+-- From old, the error stopped the text of a side, of which a beginning was accepted, and left new: a device stops the side that it is
+-- of, and memory either, or the reporter itself. A refusal leaves both as they were, a fault of the first writer the store, and a fault
+-- of the store comes after the whole text of the report.
+abbrev pub Stops : {S : Type 0} → Side → Meaning S → S → Text → WriteEventError → S → Type 0
+Stops side m old text RetriedSuccess new = new ≡ old
+Stops side m old text OutputNotLoaded new = new ≡ old
+Stops side m old text Memory new = m.stops old text RefusedMemory new ⊎ HasFront m old text new
+Stops side m old text Failed new = ⊥
+Stops Report m old text Io new = m.stops old text Device new
+Stops Report m old text StoreIo new = m.accepts old text new
+Stops Records m old text Io new = new ≡ old
+Stops Records m old text StoreIo new = m.stops old text Device new
 
 -- the refusal that a call answered
 abbrev pub answered_refusal : Result (Unit {0}) WriteEventError → Option WriteEventError
 answered_refusal (Ok done) = None
 answered_refusal (Err e) = refusal_in e
 
--- One text was accepted, and the error stopped the one after it.
-pub record StopsAfter {S : Type 0} (m : Meaning S) (old : S) (before here : Text) (e : WriteEventError) (new : S) : Type 0 where
+-- Of a side one text was accepted, and the error stopped the one after it.
+pub record StopsAfter {S : Type 0} (side : Side) (m : Meaning S) (old : S) (before here : Text) (e : WriteEventError) (new : S) : Type 0 where
   -- the writer in between
   pub mid : S
   pub accepted : m.accepts old before mid
-  pub stopped : Stops m mid here e new
-
--- The same of the store: some records were kept, and the error stopped the one after them.
-pub record StopsRecordAfter {S : Type 0} (m : Meaning S) (old : S) (before here : Text) (e : WriteEventError) (new : S) : Type 0 where
-  pub mid : S
-  pub accepted : m.accepts old before mid
-  pub stopped : StopsRecord m mid here e new
+  pub stopped : Stops side m mid here e new
 
 -- the text is empty or ends in a line feed
 abbrev pub IsOfLines : Text → Type 0

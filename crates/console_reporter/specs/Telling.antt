@@ -1,15 +1,16 @@
 -- What one call does to the two writers of a reporter, and what calls in turn do.
-use Rattle.std.specs.Prelude.{◌≡◌, ◌≤◌, ◌⊎◌, ◌++◌, ℕ, true, List, [], ◌∷◌, Option, None, Some, Result, Err, OnOk, IfErr, length}
-use Rattle.std.specs.Option.{is_some}
+use Rattle.std.specs.Prelude.{◌≡◌, ◌⊎◌, true, List, [], ◌∷◌, Option, None, Some, Result, Err, OnOk, IfErr}
+use Rattle.std.specs.Option.{is_some, option_and_then, option_map_or}
 use Rattle.plain_text.specs.Texts.{Text}
 use Rattle.plain_text.specs.Writer.{Meaning, successor}
 use Rattle.console_reporter.specs.Configuration.{Configuration}
 use Rattle.console_reporter.specs.Accepted.{refusal}
-use Rattle.console_reporter.specs.Outcomes.{IsOfLines, Stops, StopsAfter, StopsRecord, StopsRecordAfter, answered_refusal}
-use Rattle.console_reporter.specs.Report.{past_at, report, text, text_at}
+use Rattle.console_reporter.specs.Outcomes.{IsOfLines, Stops, answered_refusal}
+use Rattle.console_reporter.specs.Outcomes.Side.{Report, Records}
+use Rattle.console_reporter.specs.Report.{report, text}
 use Rattle.console_reporter.specs.OptionalStore.{IsSameStore, store_meaning}
 use Rattle.console_reporter.specs.HeldState.{HasFailed, MayGrowIn, StandsAfter}
-use Rattle.console_reporter.specs.Stored.{stored, stored_at, stored_text}
+use Rattle.console_reporter.specs.Stored.{stored, stored_text}
 use Rattle.run_model.specs.declared.call.ReportCall.{ReportCall}
 use Rattle.run_model.specs.declared.call.ReportCall.TheVariants.{Event, Header, Prefix}
 use Rattle.reporter_state.specs.Refusals.{refusal_in}
@@ -24,12 +25,10 @@ past_with None past = past
 past_with (Some call) past = call ∷ past
 
 abbrev pub told_text : Configuration → List ReportCall → Option ReportCall → Text
-told_text config past None = []
-told_text config past (Some call) = text config past call
+told_text config past call = option_map_or (text config past) call []
 
 abbrev pub kept_text : Configuration → Option ReportCall → Text
-kept_text config None = []
-kept_text config (Some call) = stored_text config.store call
+kept_text config call = option_map_or (stored_text config.store) call []
 
 abbrev pub MayGrowFor : {W S : Type 0} → DisplayReporter W S → Option ReportCall → Type 0
 MayGrowFor reporter None = ⊥
@@ -37,8 +36,7 @@ MayGrowFor reporter (Some call) = MayGrowIn reporter call
 
 -- why the call is refused; the end of a report is not
 abbrev pub refusal_for : Configuration → Option ReportCall → Option WriteEventError
-refusal_for config None = None
-refusal_for config (Some call) = refusal config call
+refusal_for config call = option_and_then (refusal config) call
 
 -- events alone are refused
 abbrev pub IsNeverRefused : Option ReportCall → Type 0
@@ -74,8 +72,8 @@ module _ {W S : Type 0} (m : Meaning W) (n : Meaning S) where
 
   -- the error stopped the call, and no byte of its record was accepted before its whole text
   pub record Breaks (old : DisplayReporter W S) (call : Option ReportCall) (e : WriteEventError) (new : DisplayReporter W S) : Type 0 where
-    pub stopped : (config : Configuration) (past : List ReportCall) → StandsAfter config past old → Stops m old.writer.now (told_text config past call) e new.writer.now
-    pub store_stopped : (config : Configuration) (past : List ReportCall) → StandsAfter config past old → StopsRecord (store_meaning n) old.store (kept_text config call) e new.store
+    pub stopped : (config : Configuration) (past : List ReportCall) → StandsAfter config past old → Stops Report m old.writer.now (told_text config past call) e new.writer.now
+    pub store_stopped : (config : Configuration) (past : List ReportCall) → StandsAfter config past old → Stops Records (store_meaning n) old.store (kept_text config call) e new.store
     pub order : (config : Configuration) (past : List ReportCall) → StandsAfter config past old → (new.store ≡ old.store) ⊎ m.accepts old.writer.now (told_text config past call) new.writer.now
     pub io : e ≡ Io → m.failures new.writer.now ≡ successor (m.failures old.writer.now)
     pub store_io : e ≡ StoreIo → (store_meaning n).failures new.store ≡ successor ((store_meaning n).failures old.store)
@@ -103,14 +101,3 @@ module _ {W S : Type 0} (m : Meaning W) (n : Meaning S) where
     pub accepted : (config : Configuration) → StandsAfter config [] old → m.accepts old.writer.now (report config past) new.writer.now
     pub stored : (config : Configuration) → StandsAfter config [] old → (store_meaning n).accepts old.store (stored config.store past) new.store
     pub stands : (config : Configuration) → StandsAfter config [] old → StandsAfter config past new
-
-  -- the error stopped the call at this place, or past the last the end of the report, and no byte of its record was accepted before
-  -- its whole text
-  pub record BreaksRun (old : DisplayReporter W S) (calls : List ReportCall) (position : ℕ) (e : WriteEventError) (new : DisplayReporter W S) : Type 0 where
-    pub within : position ≤ length calls
-    pub stopped : (config : Configuration) → StandsAfter config [] old → StopsAfter m old.writer.now (report config (past_at calls position)) (text_at config calls position) e new.writer.now
-    pub store_stopped : (config : Configuration) → StandsAfter config [] old → StopsRecordAfter (store_meaning n) old.store (stored config.store (past_at calls position)) (stored_at config.store calls position) e new.store
-    pub order : (config : Configuration) → StandsAfter config [] old → (store_meaning n).accepts old.store (stored config.store (past_at calls position)) new.store
-        ⊎ m.accepts old.writer.now (report config (past_at calls position) ++ text_at config calls position) new.writer.now
-    -- a fault of the store comes once the text is delivered
-    pub delivered : e ≡ StoreIo → m.is_delivered new.writer.now

@@ -27,6 +27,7 @@ use Rattle.run_model.specs.declared.call.ReportCall.TheVariants.{Event, Header, 
 use Rattle.reporter_state.specs.declared.final_output.FinalOutput.{FinalOutput}
 use Rattle.reporter_state.specs.declared.final_output.FinalOutput.TheVariants.{Executed, ExecutedWithOutput, Skipped}
 use Rattle.reporter_state.specs.declared.final_output.FinalOutputEntry.{FinalOutputEntry}
+use Rattle.reporter_state.specs.declared.kept_test.KeptTest.{KeptTest}
 use Rattle.text_parts.specs.declared.instance.CountedInstance.{CountedInstance}
 use Rattle.text_parts.specs.declared.settings.Settings.{Settings}
 use Rattle.test_text.specs.declared.status_line.StatusLineKind.TheVariants.{Final}
@@ -77,10 +78,14 @@ final_level_of_output Skipped = final.Skip
 abbrev pub level_key : FinalOutputEntry → ℕ
 level_key e = 7 - final_rank (final_level_of_output e.output)
 
--- the key of an entry: the final level, the greatest first, then the iteration, then the counter where one is shown, then
--- the bytes of the binary's id and of the test's name
+-- a test's part of a key: the iteration, then the counter where one is shown, then the bytes of the binary's id and of the test's
+-- name
+abbrev pub test_key : KeptTest → List (List ℕ)
+test_key t = iteration_key t.stress_index ∷ counter_key t.counter ∷ t.instance.binary_id ∷ t.instance.test_name ∷ []
+
+-- the key of an entry: the final level, the greatest first, then the test
 abbrev pub entry_key : FinalOutputEntry → List (List ℕ)
-entry_key e = (level_key e ∷ []) ∷ iteration_key e.test.stress_index ∷ counter_key e.test.counter ∷ e.test.instance.binary_id ∷ e.test.instance.test_name ∷ []
+entry_key e = (level_key e ∷ []) ∷ test_key e.test
 
 abbrev pub entry_cmp : FinalOutputEntry → FinalOutputEntry → Ordering
 entry_cmp a b = key_cmp (entry_key a) (entry_key b)

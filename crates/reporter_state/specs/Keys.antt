@@ -7,22 +7,10 @@ use Rattle.std.specs.Cmp.Lexicographic.{lists_total, nat_list_cmp_total}
 use Rattle.std.specs.List.{AllByRecursion}
 use Rattle.std.specs.List.Sorted.{ties}
 use Rattle.run_names.specs.Levels.{final_rank}
-use Rattle.run_names.specs.declared.name.OwnedTestInstanceId.{OwnedTestInstanceId}
-use Rattle.reporter_state.specs.Entries.{counter_key, final_level_of_output, iteration_key}
+use Rattle.reporter_state.specs.Entries.{final_level_of_output, test_key}
 use Rattle.reporter_state.specs.Order.{key_cmp, ordered_by}
 use Rattle.reporter_state.specs.declared.final_output.FinalOutputEntry.{FinalOutputEntry}
-use Rattle.reporter_state.specs.declared.kept_test.KeptTest.{KeptTest}
 use Rattle.reporter_state.specs.declared.placed_entry.PlacedEntry.{PlacedEntry}
-
--- the parts of a key from the instance, from the counter and from the iteration on
-abbrev pub instance_key : OwnedTestInstanceId → List (List ℕ)
-instance_key i = i.binary_id ∷ i.test_name ∷ []
-
-abbrev pub counted_key : KeptTest → List (List ℕ)
-counted_key t = counter_key t.counter ∷ instance_key t.instance
-
-abbrev pub test_key : KeptTest → List (List ℕ)
-test_key t = iteration_key t.stress_index ∷ counted_key t
 
 -- the final order's part of a key
 abbrev pub order_key : PlacedEntry → List (List ℕ)

@@ -4,8 +4,8 @@ ghost use Rattle.std.specs.Prelude.{◌≡◌, refl, Some, IfOk};
 ghost use Rattle.std.specs.Ordering.{as_partial_cmp, eq_by_cmp, nat_cmp};
 ghost use Rattle.std.specs.Cmp.{eq_by_cmp_equiv, partial_equiv_from_equiv, partial_order_from_total};
 ghost use Rattle.std.specs.Cmp.Lexicographic.{slice_cmp};
-ghost use Rattle.reporter_state.specs.Entries.{counter_key, iteration_key};
-ghost use Rattle.reporter_state.specs.Keys.{counted_key, instance_key, order_key, placed_at, placed_cmp, placed_total, test_key};
+ghost use Rattle.reporter_state.specs.Entries.{counter_key, iteration_key, test_key};
+ghost use Rattle.reporter_state.specs.Keys.{order_key, placed_at, placed_cmp, placed_total};
 ghost use Rattle.reporter_state.specs.Order.{key_cmp};
 
 use crate::final_output::FinalOutputEntry;
@@ -14,7 +14,6 @@ use report_text::helpers::DisplayCounterIndex;
 use run_model::boxed::Boxed;
 use run_model::level::FinalStatusLevel;
 use run_model::memory::OutOfMemory;
-use run_model::name::OwnedTestInstanceId;
 use run_model::stress::StressIndex;
 use std::alloc::Global;
 use std::cmp::Ordering;
@@ -83,34 +82,27 @@ impl Ord for PlacedEntry {
     ghost matches_eq = { λ x y. refl };
 
     fn cmp(&self, other: &PlacedEntry) -> Ordering {
-        match compare_order(self, other) {
-            Ordering::Less => Ordering::Less,
-            Ordering::Equal => self.place.cmp(&other.place),
-            Ordering::Greater => Ordering::Greater,
-        }
+        compare_order(self, other).then_with(|| self.place.cmp(&other.place))
     }
 }
 
-// Compares as the final order does, which does not look at places. Most entries that are compared are of one level.
+// Compares as the final order does, which does not look at places.
 fn compare_order(left: &PlacedEntry, right: &PlacedEntry) -> Ordering
     ensures { result ≡ key_cmp (order_key left.now) (order_key right.now) }
 {
-    let (below, right_below) = (left.level.below_all(), right.level.below_all());
-    if below == right_below {
-        return compare_tests(&left.entry.get().test, &right.entry.get().test);
-    }
-    below.cmp(&right_below)
+    let levels = left.level.below_all().cmp(&right.level.below_all());
+    levels.then_with(|| compare_tests(&left.entry.get().test, &right.entry.get().test))
 }
 
-// Compares the iterations, then the counters and the instances.
+// Compares the iterations, then the counters, then the bytes of the binaries' ids and of the tests' names.
 fn compare_tests(left: &KeptTest, right: &KeptTest) -> Ordering
     ensures { result ≡ key_cmp (test_key left.now) (test_key right.now) }
 {
-    match compare_iterations(left.stress_index, right.stress_index) {
-        Ordering::Less => Ordering::Less,
-        Ordering::Equal => compare_counted(left, right),
-        Ordering::Greater => Ordering::Greater,
-    }
+    let (left_instance, right_instance) = (&left.instance, &right.instance);
+    compare_iterations(left.stress_index, right.stress_index)
+        .then_with(|| compare_counters(left.counter, right.counter))
+        .then_with(|| left_instance.binary_id.cmp(&right_instance.binary_id))
+        .then_with(|| left_instance.test_name.cmp(&right_instance.test_name))
 }
 
 // Compares iterations: none first.
@@ -122,17 +114,6 @@ fn compare_iterations(left: Option<StressIndex>, right: Option<StressIndex>) -> 
         (None, Some(_)) => Ordering::Less,
         (Some(_), None) => Ordering::Greater,
         (Some(left), Some(right)) => left.compare(&right),
-    }
-}
-
-// Compares the counters, then the instances.
-fn compare_counted(left: &KeptTest, right: &KeptTest) -> Ordering
-    ensures { result ≡ key_cmp (counted_key left.now) (counted_key right.now) }
-{
-    match compare_counters(left.counter, right.counter) {
-        Ordering::Less => Ordering::Less,
-        Ordering::Equal => compare_instances(&left.instance, &right.instance),
-        Ordering::Greater => Ordering::Greater,
     }
 }
 
@@ -161,25 +142,10 @@ fn compare_shown_counters(left: DisplayCounterIndex, right: DisplayCounterIndex)
                 current: right_current,
                 total: right_total,
             },
-        ) => match current.cmp(&right_current) {
-            Ordering::Less => Ordering::Less,
-            Ordering::Equal => total.cmp(&right_total),
-            Ordering::Greater => Ordering::Greater,
-        },
+        ) => (current, total).cmp(&(right_current, right_total)),
         (DisplayCounterIndex::Counter { .. }, DisplayCounterIndex::Padded { .. }) => Ordering::Less,
         (DisplayCounterIndex::Padded { .. }, DisplayCounterIndex::Counter { .. }) =>
             Ordering::Greater,
         (DisplayCounterIndex::Padded { .. }, DisplayCounterIndex::Padded { .. }) => Ordering::Equal,
-    }
-}
-
-// Compares the bytes of the binaries' ids, then of the tests' names.
-fn compare_instances(left: &OwnedTestInstanceId, right: &OwnedTestInstanceId) -> Ordering
-    ensures { result ≡ key_cmp (instance_key left.now) (instance_key right.now) }
-{
-    match left.binary_id.cmp(&right.binary_id) {
-        Ordering::Less => Ordering::Less,
-        Ordering::Equal => left.test_name.cmp(&right.test_name),
-        Ordering::Greater => Ordering::Greater,
     }
 }

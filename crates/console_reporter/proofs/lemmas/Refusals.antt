@@ -7,7 +7,8 @@ use Rattle.console_reporter.specs.Telling.{Breaks}
 use Rattle.run_model.specs.declared.call.ReportCall.{ReportCall}
 use Rattle.console_reporter.specs.declared.imp.reporter.DisplayReporter.{DisplayReporter}
 use Rattle.reporter_state.specs.Refusals.{refusal_in}
-use Rattle.console_reporter.specs.Outcomes.{Stops, StopsRecord}
+use Rattle.console_reporter.specs.Outcomes.{Side, Stops}
+use Rattle.console_reporter.specs.Outcomes.Side.{Report, Records}
 use Rattle.reporter_state.specs.declared.faults.WriteEventError.{WriteEventError}
 use Rattle.reporter_state.specs.declared.faults.WriteEventError.TheVariants.{RetriedSuccess, OutputNotLoaded, Io, Memory, Failed, StoreIo}
 
@@ -20,23 +21,14 @@ none_where_not_some (Some x) not_some = absurd (not_some x refl)
 pub not_refused : (e : WriteEventError) → refusal_in e ≡ None → is_some (refusal_in e) ≡ true → ⊥
 not_refused e none some = cc
 
--- a refusal leaves the writer as it was
-stops_refused : {S : Type 0} (m : Meaning S) (w : S) (t : List ℕ) (e : WriteEventError) → refusal_in e ≡ Some e → Stops m w t e w
-stops_refused m w t RetriedSuccess told = refl
-stops_refused m w t OutputNotLoaded told = refl
-stops_refused m w t Io told = cc
-stops_refused m w t Memory told = cc
-stops_refused m w t Failed told = cc
-stops_refused m w t StoreIo told = cc
-
--- and the store
-record_refused : {S : Type 0} (m : Meaning S) (w : S) (t : List ℕ) (e : WriteEventError) → refusal_in e ≡ Some e → StopsRecord m w t e w
-record_refused m w t RetriedSuccess told = refl
-record_refused m w t OutputNotLoaded told = refl
-record_refused m w t Io told = cc
-record_refused m w t Memory told = cc
-record_refused m w t Failed told = cc
-record_refused m w t StoreIo told = cc
+-- a refusal leaves both writers as they were
+stops_refused : {S : Type 0} (side : Side) (m : Meaning S) (w : S) (t : List ℕ) (e : WriteEventError) → refusal_in e ≡ Some e → Stops side m w t e w
+stops_refused side m w t RetriedSuccess told = refl
+stops_refused side m w t OutputNotLoaded told = refl
+stops_refused side m w t Io told = cc
+stops_refused side m w t Memory told = cc
+stops_refused side m w t Failed told = cc
+stops_refused side m w t StoreIo told = cc
 
 -- and is no fault of the device or of memory
 refused_not_io : (e : WriteEventError) → refusal_in e ≡ Some e → e ≡ Io → ⊥
@@ -53,8 +45,8 @@ told_none e told none = cc
 
 pub breaks_refused : {W S : Type 0} (m : Meaning W) (n : Meaning S) (reporter : DisplayReporter W S) (call : Option ReportCall) (e : WriteEventError) → refusal_in e ≡ Some e → Breaks m n reporter call e reporter
 breaks_refused m n reporter call e told = record {
-  stopped = λ config past stands. stops_refused m _ _ e told;
-  store_stopped = λ config past stands. record_refused (store_meaning n) _ _ e told;
+  stopped = λ config past stands. stops_refused Report m _ _ e told;
+  store_stopped = λ config past stands. stops_refused Records (store_meaning n) _ _ e told;
   order = λ config past stands. inl refl;
   io = λ is. absurd (refused_not_io e told is);
   store_io = λ is. absurd (refused_not_store_io e told is);

@@ -1,76 +1,98 @@
--- Calls in turn, of a reporter with both its writers (for `DisplayReporter::make_calls`).
-use Rattle.std.proofs.Common.{◌≡◌, ℕ, ◌+◌, ◌<◌, ◌⊎◌, inl, inr, List, [], ◌++◌, Some, None, length, reverse, get_or, subst, sym, ◌∙◌, arith}
-use Rattle.plain_text.specs.Texts.{Text}
+-- Calls in turn, of a reporter with both its writers (for `DisplayReporter::make_calls`, `run_report`, `run_report_with_store`).
+use Rattle.std.proofs.Common.{◌≡◌, ◌⊎◌, inl, inr, List, [], ◌++◌, Option, Some, None, Err, IsTrue, false, append-nil, subst, sym, ◌∙◌}
+use Rattle.std.specs.Option.{option_map_or}
+use Rattle.std.specs.Prelude.{slice_get}
 use Rattle.plain_text.specs.Writer.{Meaning, WriterLaws}
-use Rattle.console_reporter.specs.Configuration.{Configuration}
-use Rattle.console_reporter.specs.Report.{past_at, report}
-use Rattle.console_reporter.specs.OptionalStore.{store_meaning}
-use Rattle.console_reporter.specs.HeldState.{StandsAfter}
-use Rattle.console_reporter.specs.Stored.{stored}
-use Rattle.console_reporter.specs.Telling.{IsSameReporter, Breaks, BreaksRun, Tells, TellsRun}
+use Rattle.reporter_state.specs.Entries.{cancel}
+use Rattle.console_reporter.specs.Accepted.{refusal_at}
+use Rattle.console_reporter.specs.Configuration.{Configuration, settings_of}
+use Rattle.console_reporter.specs.Outcomes.{StopsAfter}
+use Rattle.console_reporter.specs.Outcomes.Side.{Report, Records}
+use Rattle.console_reporter.specs.Report.{past_at, report, text_at}
+use Rattle.console_reporter.specs.OptionalStore.{store_accepts, store_may_refuse, store_meaning}
+use Rattle.console_reporter.specs.HeldState.{MayGrowAt, StandsAfter, may_grow_in}
+use Rattle.console_reporter.specs.Stored.{stored, stored_at}
+use Rattle.console_reporter.specs.Telling.{IsSameReporter, MayGrowFor, Promises, Tells, TellsRun, past_with}
 use Rattle.run_model.specs.declared.call.ReportCall.{ReportCall}
-use Rattle.reporter_state.specs.declared.faults.WriteEventError.{WriteEventError}
+use Rattle.reporter_state.specs.Refusals.{refusal_in}
+use Rattle.reporter_state.specs.declared.faults.RunFault.{RunFault}
+use Rattle.reporter_state.specs.declared.faults.WriteEventError.TheVariants.{Memory}
 use Rattle.console_reporter.specs.declared.imp.reporter.DisplayReporter.{DisplayReporter}
-use Rattle.console_reporter.proofs.lemmas.Calls.{past_all, past_read, text_past, text_read, accepted_more, stopped_at, accepted_all, stopped_past}
-use Rattle.console_reporter.proofs.lemmas.Records.{stored_more, record_stopped_at, stored_all, record_stopped_past}
+use Rattle.console_reporter.specs.declared.imp.store.Store.{Store}
 use Rattle.console_reporter.proofs.lemmas.Stores.{same-store-after, store-laws, store-nothing}
 
 pub same-after : {W S : Type 0} {a b c : DisplayReporter W S} → IsSameReporter a b → IsSameReporter b c → IsSameReporter a c
 same-after p q = record { writer = q.writer ∙ p.writer; store = same-store-after _ _ _ p.store q.store; settings = q.settings ∙ p.settings }
 
--- no more was stored than of a past, or the text after it was accepted too
-abbrev IsOrdered : {W S : Type 0} → Meaning W → Meaning S → Configuration → DisplayReporter W S → DisplayReporter W S → List ReportCall → Text → Type 0
-IsOrdered m n config a c past t = (store_meaning n).accepts a.store (stored config.store past) c.store ⊎ m.accepts a.writer.now (report config past ++ t) c.writer.now
-
-module _ {W S : Type 0} {m : Meaning W} (laws : WriterLaws m) (n : Meaning S) (config : Configuration) (a b c : DisplayReporter W S) (past : List ReportCall) (t : Text) where
-  ordered : m.accepts a.writer.now (report config past) b.writer.now → (store_meaning n).accepts a.store (stored config.store past) b.store →
-      (c.store ≡ b.store) ⊎ m.accepts b.writer.now t c.writer.now → IsOrdered m n config a c past t
-  ordered told kept (inl same) = inl (subst (λ s. (store_meaning n).accepts a.store (stored config.store past) s) (sym same) kept)
-  ordered told kept (inr here) = inr (laws.joins a.writer.now b.writer.now c.writer.now (report config past) t told here)
+-- what a call may take memory for, the call at its place may
+grow_at : {W S : Type 0} (config : Configuration) (past : List ReportCall) (call : Option ReportCall) (reporter : DisplayReporter W S) → StandsAfter config past reporter → MayGrowFor reporter call →
+    IsTrue (option_map_or (may_grow_in (settings_of config) (cancel past)) call false)
+grow_at config past None reporter stands grows = absurd grows
+grow_at config past (Some call) reporter stands grows =
+    subst (λ s. IsTrue (may_grow_in s (cancel past) call)) stands.settings
+    (subst (λ n. IsTrue (may_grow_in reporter.state.settings n call)) stands.reason grows)
 
 module _ {W S : Type 0} {m : Meaning W} {n : Meaning S} (laws : WriterLaws m) (store_laws : WriterLaws n) where
   -- no call was made
   pub run_begun : (a : DisplayReporter W S) → TellsRun m n a [] a
   run_begun a = record { accepted = λ config stands. laws.nothing _; stored = λ config stands. store-nothing store_laws _; stands = λ config stands. stands }
 
-  module _ (calls : List ReportCall) (i : ℕ) {a b c : DisplayReporter W S} (before : TellsRun m n a (past_at calls i) b) where
-    -- one call more was made
-    pub run_more : (call : ReportCall) → call ≡ get_or calls i call → i < length calls → Tells m n b (Some call) c → TellsRun m n a (past_at calls (i + 1)) c
-    run_more call is within here = record {
-      accepted = λ config stands. accepted_more laws config calls i _ _ _ (before.accepted config stands) call is within (here.accepted config _ (before.stands config stands));
-      stored = λ config stands. stored_more (store-laws store_laws) config.store calls i _ _ _ (before.stored config stands) call is within (here.stored config _ (before.stands config stands));
-      stands = λ config stands. subst (λ past. StandsAfter config past c) (sym (past_read calls i call is within)) (here.stands config _ (before.stands config stands));
-    }
+  -- one call more was made, or the report has its end
+  pub run_more : {a b c : DisplayReporter W S} (past : List ReportCall) (call : Option ReportCall) → TellsRun m n a past b → Tells m n b call c → TellsRun m n a (past_with call past) c
+  run_more {a} {b} {c} past None before here = record {
+    accepted = λ config stands. subst (λ t. m.accepts a.writer.now t c.writer.now) (append-nil _) (laws.joins _ _ _ _ [] (before.accepted config stands) (here.accepted config past (before.stands config stands)));
+    stored = λ config stands. subst (λ t. store_accepts n a.store t c.store) (append-nil _) ((store-laws store_laws).joins _ _ _ _ [] (before.stored config stands) (here.stored config past (before.stands config stands)));
+    stands = λ config stands. here.stands config past (before.stands config stands);
+  }
+  run_more past (Some call) before here = record {
+    accepted = λ config stands. laws.joins _ _ _ _ _ (before.accepted config stands) (here.accepted config past (before.stands config stands));
+    stored = λ config stands. (store-laws store_laws).joins _ _ _ _ _ (before.stored config stands) (here.stored config past (before.stands config stands));
+    stands = λ config stands. here.stands config past (before.stands config stands);
+  }
 
-    -- the call at this place was stopped
-    pub run_broken : (call : ReportCall) (e : WriteEventError) → call ≡ get_or calls i call → i < length calls → Breaks m n b (Some call) e c → BreaksRun m n a calls i e c
-    run_broken call e is within here = record {
-      within = omega arith;
-      stopped = λ config stands. stopped_at laws config calls i _ _ _ (before.accepted config stands) call e is within (here.stopped config _ (before.stands config stands));
-      store_stopped = λ config stands. record_stopped_at (store-laws store_laws) config.store calls i _ _ _ (before.stored config stands) call e is within (here.store_stopped config _ (before.stands config stands));
-      order = λ config stands.
-          let here_first = ordered laws n config a b c (past_at calls i) _ (before.accepted config stands) (before.stored config stands) (here.order config _ (before.stands config stands)) in
-          subst (IsOrdered m n config a c (past_at calls i)) (sym (text_read config calls i call is within)) here_first;
-      delivered = here.delivered;
-    }
+  -- what a run leaves where the calls before this one were made, and it was stopped, or past the last of them the end
+  module _ (config : Configuration) (calls : List ReportCall) {old new : DisplayReporter W S} (stands : StandsAfter config [] old) (stop : RunFault)
+      (h : (mid : DisplayReporter W S) × TellsRun m n old (past_at calls stop.position) mid × Promises m n mid (slice_get calls stop.position) (Err stop.fault) new) where
+    pub run_refusal : refusal_at config calls stop.position ≡ refusal_in stop.fault
+    run_refusal = sym (h.2.refused config _ (h.1.stands config stands))
 
-    -- all calls were made, and the report has its end
-    pub run_ended : i ≡ length calls → Tells m n b None c → TellsRun m n a (reverse calls) c
-    run_ended at here = record {
-      accepted = λ config stands. accepted_all laws config calls i _ _ _ (before.accepted config stands) (omega arith) (here.accepted config _ (before.stands config stands));
-      stored = λ config stands. stored_all (store-laws store_laws) config.store calls i _ _ _ (before.stored config stands) (omega arith) (here.stored config _ (before.stands config stands));
-      stands = λ config stands. subst (λ past. StandsAfter config past c) (past_all calls i (omega arith)) (here.stands config _ (before.stands config stands));
-    }
+    pub run_stopped : StopsAfter Report m old.writer.now (report config (past_at calls stop.position)) (text_at config calls stop.position) stop.fault new.writer.now
+    run_stopped = record { mid = h.0.writer.now; accepted = h.1.accepted config stands; stopped = h.2.err.stopped config _ (h.1.stands config stands) }
 
-    -- its end was stopped
-    pub run_unended : (e : WriteEventError) → i ≡ length calls → Breaks m n b None e c → BreaksRun m n a calls (length calls) e c
-    run_unended e at here = record {
-      within = omega arith;
-      stopped = λ config stands. stopped_past laws config calls i _ _ _ (before.accepted config stands) e at (here.stopped config _ (before.stands config stands));
-      store_stopped = λ config stands. record_stopped_past (store-laws store_laws) config.store calls i _ _ _ (before.stored config stands) e at (here.store_stopped config _ (before.stands config stands));
-      order = λ config stands.
-          let here_first = ordered laws n config a b c (past_at calls i) [] (before.accepted config stands) (before.stored config stands) (here.order config _ (before.stands config stands)) in
-          subst (IsOrdered m n config a c (past_at calls (length calls))) (sym (text_past config calls (length calls) (omega arith)))
-          (subst (λ position. IsOrdered m n config a c (past_at calls position) []) at here_first);
-      delivered = here.delivered;
-    }
+    pub records_stopped : StopsAfter Records (store_meaning n) old.store (stored config.store (past_at calls stop.position)) (stored_at config.store calls stop.position) stop.fault new.store
+    records_stopped = record { mid = h.0.store; accepted = h.1.stored config stands; stopped = h.2.err.store_stopped config _ (h.1.stands config stands) }
+
+    text_first : store_accepts n old.store (stored config.store (past_at calls stop.position)) new.store
+        ⊎ m.accepts old.writer.now (report config (past_at calls stop.position) ++ text_at config calls stop.position) new.writer.now
+    text_first = elim (h.2.err.order config _ (h.1.stands config stands)) [
+      | inl same ↦ inl (subst (λ s. store_accepts n old.store (stored config.store (past_at calls stop.position)) s) (sym same) (h.1.stored config stands))
+      | inr told ↦ inr (laws.joins _ _ _ _ _ (h.1.accepted config stands) told)
+    ]
+
+    memory : stop.fault ≡ Memory → m.may_refuse old.writer.now ⊎ MayGrowAt config calls stop.position ⊎ store_may_refuse n old.store
+    memory is = elim (h.2.err.memory is) [
+      | inl w ↦ inl ((laws.kept _ _ _ (h.1.accepted config stands)).1 w)
+      | inr (inl grows) ↦ inr (inl (grow_at config _ (slice_get calls stop.position) h.0 (h.1.stands config stands) grows))
+      | inr (inr w) ↦ inr (inr (((store-laws store_laws).kept _ _ _ (h.1.stored config stands)).1 w))
+    ]
+
+    -- with a store
+    pub text_first_there : {a b : Store S} → old.store ≡ Some a → new.store ≡ Some b → n.accepts a.writer.now (stored config.store (past_at calls stop.position)) b.writer.now
+        ⊎ m.accepts old.writer.now (report config (past_at calls stop.position) ++ text_at config calls stop.position) new.writer.now
+    text_first_there old_is new_is = let s = text_first in rw (old_is, new_is) at s
+
+    pub memory_there : {a : Store S} → old.store ≡ Some a → stop.fault ≡ Memory → m.may_refuse old.writer.now ⊎ MayGrowAt config calls stop.position ⊎ n.may_refuse a.writer.now
+    memory_there old_is is = let s = memory is in rw old_is at s
+
+    -- without one, by the writer that the reporter began with
+    pub memory_alone : {w : W} → old.writer.now ≡ w → old.store ≡ None → stop.fault ≡ Memory → m.may_refuse w ⊎ MayGrowAt config calls stop.position
+    memory_alone same none is = elim (memory is) [
+      | inl w ↦ inl (subst m.may_refuse same w)
+      | inr (inl grows) ↦ inr grows
+      | inr (inr k) ↦ absurd (subst (store_may_refuse n) none k)
+    ]
+
+-- the records of a run in which all calls were made
+pub stored_there : {W S : Type 0} {m : Meaning W} {n : Meaning S} {config : Configuration} {past : List ReportCall} {old new : DisplayReporter W S} {a b : Store S} →
+    StandsAfter config [] old → old.store ≡ Some a → new.store ≡ Some b → TellsRun m n old past new → n.accepts a.writer.now (stored config.store past) b.writer.now
+stored_there {config = config} stands old_is new_is h = let s = h.stored config stands in rw (old_is, new_is) at s

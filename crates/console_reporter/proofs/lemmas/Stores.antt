@@ -1,22 +1,19 @@
 -- A store that may be absent obeys the laws of writers (for `DisplayReporter::make_calls`, `run_report_with_store`).
-use Rattle.std.proofs.Common.{◌≡◌, ℕ, List, [], ◌++◌, Option, None, Some, refl, ap, subst, ◌∙◌, Result, Ok, Err, OnOk, IfErr, ◌⊎◌, inl, inr}
+use Rattle.std.proofs.Common.{◌≡◌, ℕ, List, [], ◌++◌, Option, None, Some, refl, ap, subst, ◌∙◌, inl, inr}
 use Rattle.std.specs.Io.KnownBytes.{Appends}
 use Rattle.plain_text.specs.Writer.{AppendsFront, Meaning, WriterLaws, successor}
 use Rattle.plain_text.specs.declared.write_str.WriteFault.TheVariants.{Device, Memory as RefusedMemory}
-use Rattle.console_reporter.specs.Outcomes.{StopsRecord, StopsRecordAfter}
-use Rattle.console_reporter.specs.HeldState.{MayGrowAt, StandsAfter}
+use Rattle.console_reporter.specs.Outcomes.{Stops, StopsAfter}
+use Rattle.console_reporter.specs.Outcomes.Side.{Records}
+use Rattle.console_reporter.specs.HeldState.{StandsAfter}
 use Rattle.console_reporter.specs.Configuration.{Configuration}
 use Rattle.console_reporter.specs.declared.imp.reporter.DisplayReporter.{DisplayReporter}
 use Rattle.run_model.specs.declared.call.ReportCall.{ReportCall}
 use Rattle.reporter_state.specs.declared.state.ReporterState.{ReporterState}
-use Rattle.reporter_state.specs.declared.faults.RunFault.{RunFault}
 use Rattle.run_names.specs.Levels.{reason_rank}
 use Rattle.reporter_state.specs.declared.faults.WriteEventError.{WriteEventError}
 use Rattle.reporter_state.specs.declared.faults.WriteEventError.TheVariants.{RetriedSuccess, OutputNotLoaded, Io, Memory, Failed, StoreIo}
 use Rattle.plain_text.specs.declared.write_str.WriteFault.{WriteFault}
-use Rattle.console_reporter.specs.Report.{past_at, report, text_at}
-use Rattle.console_reporter.specs.Stored.{stored, stored_at}
-use Rattle.console_reporter.specs.Telling.{BreaksRun, TellsRun}
 use Rattle.console_reporter.specs.OptionalStore.{IsSameStore, config_of, store_accepts, store_adds, store_failures, store_known, store_may_refuse, store_meaning, store_stops}
 use Rattle.console_reporter.specs.declared.imp.store.Store.{Store}
 
@@ -115,7 +112,7 @@ module _ {S : Type 0} {m : Meaning S} (laws : WriterLaws m) where
 
 -- What is said of a store that is there is said of its writer.
 module _ {S : Type 0} (m : Meaning S) where
-  stops_there : (a b : Store S) (t : List ℕ) (e : WriteEventError) → StopsRecord (store_meaning m) (Some a) t e (Some b) → StopsRecord m a.writer.now t e b.writer.now
+  stops_there : (a b : Store S) (t : List ℕ) (e : WriteEventError) → Stops Records (store_meaning m) (Some a) t e (Some b) → Stops Records m a.writer.now t e b.writer.now
   stops_there a b t RetriedSuccess h = let same : b ≡ a = cc in ap (λ (s : Store S). s.writer.now) same
   stops_there a b t OutputNotLoaded h = let same : b ≡ a = cc in ap (λ (s : Store S). s.writer.now) same
   stops_there a b t Io h = let same : b ≡ a = cc in ap (λ (s : Store S). s.writer.now) same
@@ -124,46 +121,22 @@ module _ {S : Type 0} (m : Meaning S) where
   stops_there a b t Memory (inr h) = inr (record { front = h.front; rest = h.rest; whole = h.whole; accepted = h.accepted })
   stops_there a b t Failed h = h
 
-  stopped_mid : (a b : Store S) (mid : Option (Store S)) (t u : List ℕ) (e : WriteEventError) → store_accepts m (Some a) t mid → StopsRecord (store_meaning m) mid u e (Some b) → StopsRecordAfter m a.writer.now t u e b.writer.now
+  stopped_mid : (a b : Store S) (mid : Option (Store S)) (t u : List ℕ) (e : WriteEventError) → store_accepts m (Some a) t mid → Stops Records (store_meaning m) mid u e (Some b) → StopsAfter Records m a.writer.now t u e b.writer.now
   stopped_mid a b None t u e before stopped = absurd before
   stopped_mid a b (Some x) t u e before stopped = record { mid = x.writer.now; accepted = before; stopped = stops_there x b u e stopped }
 
-  module _ {W : Type 0} (k : Meaning W) (config : Configuration) (old new : DisplayReporter W S) (a b : Store S) (stands : StandsAfter config [] old) (old_is : old.store ≡ Some a) (new_is : new.store ≡ Some b) where
-    pub ok_there : (past : List ReportCall) (r : Result (Unit {0}) RunFault) → OnOk r (TellsRun k m old past new) → OnOk r (m.accepts a.writer.now (stored config.store past) b.writer.now)
-    ok_there past (Ok done) h = let s = h.stored config stands in rw (old_is, new_is) at s
-    ok_there past (Err stop) h = tt
-
-    pub err_there : (calls : List ReportCall) (r : Result (Unit {0}) RunFault) → IfErr r (λ stop. BreaksRun k m old calls stop.position stop.fault new) →
-        IfErr r (λ stop. StopsRecordAfter m a.writer.now (stored config.store (past_at calls stop.position)) (stored_at config.store calls stop.position) stop.fault b.writer.now)
-    err_there calls (Ok done) h = tt
-    err_there calls (Err stop) h =
-        let s = subst (λ x. StopsRecordAfter (store_meaning m) x (stored config.store (past_at calls stop.position)) (stored_at config.store calls stop.position) stop.fault new.store) old_is (h.store_stopped config stands) in
-        let z = subst (λ x. StopsRecordAfter (store_meaning m) (Some a) (stored config.store (past_at calls stop.position)) (stored_at config.store calls stop.position) stop.fault x) new_is s in
-        stopped_mid a b z.mid _ _ stop.fault z.accepted z.stopped
-
-    pub first_there : (calls : List ReportCall) (r : Result (Unit {0}) RunFault) → IfErr r (λ stop. BreaksRun k m old calls stop.position stop.fault new) →
-        IfErr r (λ stop. m.accepts a.writer.now (stored config.store (past_at calls stop.position)) b.writer.now
-        ⊎ k.accepts old.writer.now (report config (past_at calls stop.position) ++ text_at config calls stop.position) new.writer.now)
-    first_there calls (Ok done) h = tt
-    first_there calls (Err stop) h = let s = h.order config stands in rw (old_is, new_is) at s
-
-  -- why memory was refused in a run with a store
-  pub refused_there : {W : Type 0} (k : Meaning W) (config : Configuration) (old : DisplayReporter W S) (a : Store S) → StandsAfter config [] old → old.store ≡ Some a → (calls : List ReportCall) (r : Result (Unit {0}) RunFault) →
-      IfErr r (λ stop. (c : Configuration) → StandsAfter c [] old → stop.fault ≡ Memory → k.may_refuse old.writer.now ⊎ MayGrowAt c calls stop.position ⊎ store_may_refuse m old.store) →
-      IfErr r (λ stop. stop.fault ≡ Memory → k.may_refuse old.writer.now ⊎ MayGrowAt config calls stop.position ⊎ m.may_refuse a.writer.now)
-  refused_there k config old a stands old_is calls (Ok done) h = tt
-  refused_there k config old a stands old_is calls (Err stop) h = λ is. let s = h config stands is in rw old_is at s
+  pub stopped_there : {old new : Option (Store S)} {a b : Store S} {t u : List ℕ} {e : WriteEventError} → old ≡ Some a → new ≡ Some b → StopsAfter Records (store_meaning m) old t u e new → StopsAfter Records m a.writer.now t u e b.writer.now
+  stopped_there {old} {new} {a} {b} {t} {u} {e} old_is new_is h =
+      let s = subst (λ x. StopsAfter Records (store_meaning m) x t u e new) old_is h in
+      let z = subst (λ x. StopsAfter Records (store_meaning m) (Some a) t u e x) new_is s in
+      stopped_mid a b z.mid t u e z.accepted z.stopped
 
   -- where there is no store, none fails
-  absent_mid : (mid : Option (Store S)) (t u : List ℕ) (new : Option (Store S)) → store_accepts m None t mid → StopsRecord (store_meaning m) mid u StoreIo new → ⊥
+  absent_mid : (mid : Option (Store S)) (t u : List ℕ) (new : Option (Store S)) → store_accepts m None t mid → Stops Records (store_meaning m) mid u StoreIo new → ⊥
   absent_mid None t u new before stopped = stopped
   absent_mid (Some x) t u new before stopped = before
 
-  absent_stop : (t u : List ℕ) (e : WriteEventError) (new : Option (Store S)) → StopsRecordAfter (store_meaning m) None t u e new → e ≡ StoreIo → ⊥
-  absent_stop t u e new h is = absent_mid h.mid t u new h.accepted (subst (λ x. StopsRecord (store_meaning m) h.mid u x new) is h.stopped)
-
-  pub absent_here : {W : Type 0} (k : Meaning W) (config : Configuration) (old new : DisplayReporter W S) → StandsAfter config [] old → old.store ≡ None → (calls : List ReportCall) (r : Result (Unit {0}) RunFault) →
-      IfErr r (λ stop. BreaksRun k m old calls stop.position stop.fault new) → IfErr r (λ stop. stop.fault ≡ StoreIo → ⊥)
-  absent_here k config old new stands none calls (Ok done) h = tt
-  absent_here k config old new stands none calls (Err stop) h =
-      absent_stop _ _ stop.fault new.store (subst (λ x. StopsRecordAfter (store_meaning m) x (stored config.store (past_at calls stop.position)) (stored_at config.store calls stop.position) stop.fault new.store) none (h.store_stopped config stands))
+  pub absent_stop : {old new : Option (Store S)} {t u : List ℕ} {e : WriteEventError} → old ≡ None → StopsAfter Records (store_meaning m) old t u e new → e ≡ StoreIo → ⊥
+  absent_stop {old} {new} {t} {u} {e} none h is =
+      let s = subst (λ x. StopsAfter Records (store_meaning m) x t u e new) none h in
+      absent_mid s.mid t u new s.accepted (subst (λ x. Stops Records (store_meaning m) s.mid u x new) is s.stopped)

@@ -1,6 +1,6 @@
 //! The calls of a reporter.
 
-ghost use Rattle.std.specs.Prelude.{◌≡◌, ◌⊎◌, List, [], ◌∷◌, OnOk, IfErr, IsErrOf, None, Some, nat_lt, reverse, take, true, false};
+ghost use Rattle.std.specs.Prelude.{◌≡◌, ◌≤◌, ◌⊎◌, List, [], ◌∷◌, OnOk, IfErr, IsErrOf, Err, None, Some, length, nat_lt, reverse, slice_get, take, true, false};
 ghost use Rattle.std.specs.Option.{option_map};
 ghost use Rattle.run_names.specs.Levels.{reason_rank};
 ghost use Rattle.plain_text.specs.Writer.{Puts, successor};
@@ -9,19 +9,20 @@ ghost use Rattle.run_model.specs.declared.call.ReportCall.{ReportCall};
 ghost use Rattle.reporter_state.specs.declared.faults.WriteEventError.{WriteEventError};
 ghost use Rattle.console_reporter.specs.Configuration.{Configuration, settings_of};
 ghost use Rattle.reporter_state.specs.Refusals.{decider_by};
-ghost use Rattle.console_reporter.specs.Accepted.{AreAccepted, decider_of, refusal, refusal_at};
+ghost use Rattle.console_reporter.specs.Accepted.{AreAccepted, decider_of};
 ghost use Rattle.reporter_state.specs.Effects.{HasEndOutputIn, effect_of, end_of};
 ghost use Rattle.reporter_state.specs.Loads.{lacks_output};
 ghost use Rattle.reporter_state.specs.Entries.{hiding_rank};
 ghost use Rattle.console_reporter.specs.Exactness.{IsExact};
 ghost use Rattle.reporter_state.specs.Refusals.{refusal_in};
 ghost use Rattle.console_reporter.specs.Outcomes.{IsOfConsole, Stops, error_for, store_error_for};
-ghost use Rattle.console_reporter.specs.Report.{end_of_run_text, event_text, finished_text, listed_text, text, report};
-ghost use Rattle.console_reporter.specs.OptionalStore.{config_of, store_accepts, store_delivered, store_may_refuse, store_meaning};
-ghost use Rattle.console_reporter.specs.Stored.{record_of, stored};
-ghost use Rattle.console_reporter.specs.Telling.{AreDelivered, IsSameReporter, Breaks, BreaksRun, Promises, Tells, TellsRun};
+ghost use Rattle.console_reporter.specs.Outcomes.Side.{Report};
+ghost use Rattle.console_reporter.specs.Report.{end_of_run_text, event_text, finished_text, listed_text, past_at, text};
+ghost use Rattle.console_reporter.specs.OptionalStore.{config_of, store_accepts, store_delivered, store_meaning};
+ghost use Rattle.console_reporter.specs.Stored.{record_of};
+ghost use Rattle.console_reporter.specs.Telling.{AreDelivered, IsSameReporter, Breaks, Promises, Tells, TellsRun};
 ghost use Rattle.console_reporter.specs.Topics.{is_of_run};
-ghost use Rattle.console_reporter.specs.HeldState.{StandsAfter, HasFailed, IsSameWriter, MayGrow, MayGrowAt, known_by};
+ghost use Rattle.console_reporter.specs.HeldState.{StandsAfter, HasFailed, IsSameWriter, MayGrow, known_by};
 
 use super::store::Store;
 use super::topics::{write_attempt, write_info, write_setup_script, write_start, write_stop};
@@ -173,7 +174,7 @@ impl<'a, W: WriteStr, S: WriteStr> DisplayReporter<'a, W, S> {
             StandsAfter config (ReportCall.Event event.now ∷ past) self.new) }
         ensures delivered { OnOk result (W.meaning.is_delivered self.new.writer.now) }
         ensures err { IfErr result (λ e. (config : Configuration) (past : List ReportCall) → StandsAfter config past self.old →
-            Stops W.meaning self.old.writer.now (text config past (ReportCall.Event event.now)) e self.new.writer.now) }
+            Stops Report W.meaning self.old.writer.now (text config past (ReportCall.Event event.now)) e self.new.writer.now) }
         ensures io { IsErrOf result WriteEventError.Io → W.meaning.failures self.new.writer.now ≡ successor (W.meaning.failures self.old.writer.now) }
         ensures memory { IsErrOf result WriteEventError.Memory → W.meaning.may_refuse self.old.writer.now ⊎ MayGrow self.old event.now }
         ensures of_console { IfErr result IsOfConsole }
@@ -359,12 +360,12 @@ impl<'a, W: WriteStr, S: WriteStr> DisplayReporter<'a, W, S> {
         ensures same { IsSameReporter self.old self.new }
         ensures ok { OnOk result (TellsRun W.meaning S.meaning self.old (reverse calls.now) self.new) }
         ensures delivered { OnOk result (AreDelivered W.meaning S.meaning self.new) }
-        ensures err { IfErr result (λ stop. BreaksRun W.meaning S.meaning self.old calls.now stop.position stop.fault self.new) }
         ensures accepted { OnOk result ((config : Configuration) → StandsAfter config [] self.old → AreAccepted config calls.now) }
+        ensures position { IfErr result (λ stop. stop.position ≤ length calls.now) }
         ensures accepted_before { IfErr result (λ stop. (config : Configuration) → StandsAfter config [] self.old → AreAccepted config (take stop.position calls.now)) }
-        ensures refused { IfErr result (λ stop. (config : Configuration) → StandsAfter config [] self.old → refusal_at config calls.now stop.position ≡ refusal_in stop.fault) }
-        ensures memory { IfErr result (λ stop. (config : Configuration) → StandsAfter config [] self.old → stop.fault ≡ WriteEventError.Memory →
-            W.meaning.may_refuse self.old.writer.now ⊎ MayGrowAt config calls.now stop.position ⊎ store_may_refuse S.meaning self.old.store) }
+        // The calls before were made, and then that at the position, or past the last of them the end, was not.
+        ensures err { IfErr result (λ stop. (mid : DisplayReporter W S) × TellsRun W.meaning S.meaning self.old (past_at calls.now stop.position) mid
+            × Promises W.meaning S.meaning mid (slice_get calls.now stop.position) (Err stop.fault) self.new) }
     {
         for position in 0..calls.len() {
             match self.make_call(alloc, &calls[position]) {

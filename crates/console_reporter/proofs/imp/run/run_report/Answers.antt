@@ -1,13 +1,13 @@
-use Rattle.std.proofs.Common.{rules, take, ◌≡◌}
+use Rattle.std.proofs.Common.{rules, take}
+use Rattle.console_reporter.specs.Accepted.{AreAccepted}
 use Rattle.std.proofs.lemmas.Result.{on_ok_weaker, IfErr-weaker}
 use Rattle.console_reporter.specs.Configuration.{configured}
-use Rattle.console_reporter.specs.Accepted.{AreAccepted, refusal_at}
-use Rattle.plain_text.specs.StringWriter.{string_meaning}
-use Rattle.reporter_state.specs.Refusals.{refusal_in}
-use Rattle.console_reporter.proofs.lemmas.Calls.{err_here, ok_here, refused_from, stopped_io, stopped_known}
+use Rattle.plain_text.specs.StringWriter.{string_laws, string_meaning}
+use Rattle.console_reporter.proofs.lemmas.Calls.{err_here, ok_here, stopped_io, stopped_known}
 use Rattle.console_reporter.proofs.lemmas.ReportColourPairs.{colour_holds, plain_holds}
 use Rattle.console_reporter.proofs.lemmas.Independence.{order_independent, stats_independent}
-use Rattle.console_reporter.proofs.lemmas.Stores.{absent_here}
+use Rattle.console_reporter.proofs.lemmas.Runs.{memory_alone, records_stopped, run_refusal, run_stopped}
+use Rattle.console_reporter.proofs.lemmas.Stores.{absent_stop}
 use Rattle.console_reporter.proofs.imp.run.run_report.Goals as goal
 
 pub returns-clause-ok : goal.returns-clause-ok
@@ -23,10 +23,12 @@ returns-clause-accepted_before g c =
 
 pub returns-clause-refused : goal.returns-clause-refused
 returns-clause-refused g c =
-    err_here _ c.build-reporter.result c.build-reporter.ensures.stands (λ config stop. refusal_at config c.args.calls.now stop.position ≡ refusal_in stop.fault) c.make_calls-outcome.result c.make_calls-outcome.ensures.refused
+    IfErr-weaker _ _ _ (run_refusal g.met.W.WriteStr.laws string_laws _ c.args.calls.now c.build-reporter.ensures.stands) c.make_calls-outcome.ensures.err
 
 pub returns-clause-err : goal.returns-clause-err
-returns-clause-err g c = search rules
+returns-clause-err g c =
+    let h = IfErr-weaker _ _ _ (run_stopped g.met.W.WriteStr.laws string_laws _ c.args.calls.now c.build-reporter.ensures.stands) c.make_calls-outcome.ensures.err in
+    search rules
 
 pub returns-clause-no_failure : goal.returns-clause-no_failure
 returns-clause-no_failure g c = on_ok_weaker _ (λ h. (g.met.W.WriteStr.laws.kept _ _ _ h).0) (returns-clause-ok g c)
@@ -36,8 +38,8 @@ returns-clause-io g c = IfErr-weaker _ _ _ (λ stop h. stopped_io g.met.W.WriteS
 
 pub returns-clause-memory : goal.returns-clause-memory
 returns-clause-memory g c =
-    let config = configured c.args.builder c.args.use_unicode c.args.is_terminal c.args.is_ci c.args.display_empty_outputs in
-    IfErr-weaker _ _ _ (refused_from g.W.WriteStr.meaning string_meaning config c.args.calls.now c.build-reporter.result c.build-reporter.ensures.untouched c.build-reporter.ensures.no_store c.build-reporter.ensures.stands) c.make_calls-outcome.ensures.memory
+    let built = c.build-reporter.ensures in
+    IfErr-weaker _ _ _ (λ stop h. memory_alone g.met.W.WriteStr.laws string_laws _ c.args.calls.now built.stands stop h built.untouched built.no_store) c.make_calls-outcome.ensures.err
 
 pub returns-clause-known : goal.returns-clause-known
 returns-clause-known g c = IfErr-weaker _ _ _ (λ stop h. stopped_known g.met.W.WriteStr.laws _ _ _ _ _ h) (returns-clause-err g c)
@@ -56,4 +58,5 @@ returns-clause-statistics g c = stats_independent (configured c.args.builder c.a
 
 pub returns-clause-no_store : goal.returns-clause-no_store
 returns-clause-no_store g c =
-    absent_here string_meaning g.W.WriteStr.meaning _ c.build-reporter.result _ c.build-reporter.ensures.stands c.build-reporter.ensures.no_store _ _ c.make_calls-outcome.ensures.err
+    let built = c.build-reporter.ensures in
+    IfErr-weaker _ _ _ (λ stop h. absent_stop string_meaning built.no_store (records_stopped g.met.W.WriteStr.laws string_laws _ c.args.calls.now built.stands stop h)) c.make_calls-outcome.ensures.err

@@ -1,13 +1,12 @@
-use Rattle.std.proofs.Common.{take, ◌≡◌, rules}
-use Rattle.console_reporter.specs.Accepted.{AreAccepted, refusal_at}
+use Rattle.std.proofs.Common.{take, rules}
+use Rattle.console_reporter.specs.Accepted.{AreAccepted}
 use Rattle.console_reporter.specs.Configuration.{configured_with_store}
-use Rattle.reporter_state.specs.Refusals.{refusal_in}
 use Rattle.std.proofs.lemmas.Result.{on_ok_weaker, IfErr-weaker}
-use Rattle.console_reporter.proofs.lemmas.Calls.{err_here, ok_here, stopped_io, stopped_known}
+use Rattle.console_reporter.proofs.lemmas.Calls.{err_here, ok_here, stopped_io, stopped_known, stopped_store_io}
 use Rattle.console_reporter.proofs.lemmas.Independence.{order_independent, stats_independent}
-use Rattle.console_reporter.proofs.lemmas.Records.{stopped_store_io}
 use Rattle.console_reporter.proofs.lemmas.ReportColourPairs.{colour_holds, plain_holds}
-use Rattle.console_reporter.proofs.lemmas.Stores.{ok_there, err_there, first_there, refused_there}
+use Rattle.console_reporter.proofs.lemmas.Runs.{memory_there, records_stopped, run_refusal, run_stopped, stored_there, text_first_there}
+use Rattle.console_reporter.proofs.lemmas.Stores.{stopped_there}
 use Rattle.console_reporter.proofs.imp.run.run_report_with_store.Goals as goal
 
 pub returns-in-Some-clause-accepted : goal.returns-in-Some-clause-accepted
@@ -20,41 +19,40 @@ returns-in-Some-clause-accepted_before g c =
 
 pub returns-in-Some-clause-refused : goal.returns-in-Some-clause-refused
 returns-in-Some-clause-refused g c =
-    err_here _ c.build_with_store-reporter.result c.build_with_store-reporter.ensures.stands (λ config stop. refusal_at config c.args.calls.now stop.position ≡ refusal_in stop.fault) c.make_calls-outcome.result c.make_calls-outcome.ensures.refused
+    IfErr-weaker _ _ _ (run_refusal g.met.W.WriteStr.laws g.met.S.WriteStr.laws _ c.args.calls.now c.build_with_store-reporter.ensures.stands) c.make_calls-outcome.ensures.err
 
 pub returns-in-Some-clause-stored : goal.returns-in-Some-clause-stored
 returns-in-Some-clause-stored g c =
-    let built = c.build_with_store-reporter in
-    let config = configured_with_store c.args.store c.args.builder c.args.use_unicode c.args.is_terminal c.args.is_ci c.args.display_empty_outputs in
-    let h = ok_there g.S.WriteStr.meaning g.W.WriteStr.meaning config built.result _ _ _ built.ensures.stands built.ensures.store c.in-Some.is _ _ c.make_calls-outcome.ensures.ok in
+    let built = c.build_with_store-reporter.ensures in
+    let h = on_ok_weaker _ (stored_there built.stands built.store c.in-Some.is) c.make_calls-outcome.ensures.ok in
+    search rules
+
+pub returns-in-Some-clause-err : goal.returns-in-Some-clause-err
+returns-in-Some-clause-err g c =
+    let h = IfErr-weaker _ _ _ (run_stopped g.met.W.WriteStr.laws g.met.S.WriteStr.laws _ c.args.calls.now c.build_with_store-reporter.ensures.stands) c.make_calls-outcome.ensures.err in
     search rules
 
 pub returns-in-Some-clause-store_err : goal.returns-in-Some-clause-store_err
 returns-in-Some-clause-store_err g c =
-    let built = c.build_with_store-reporter in
-    let config = configured_with_store c.args.store c.args.builder c.args.use_unicode c.args.is_terminal c.args.is_ci c.args.display_empty_outputs in
-    let h = err_there g.S.WriteStr.meaning g.W.WriteStr.meaning config built.result _ _ _ built.ensures.stands built.ensures.store c.in-Some.is _ _ c.make_calls-outcome.ensures.err in
+    let built = c.build_with_store-reporter.ensures in
+    let h = IfErr-weaker _ _ _ (λ stop h. stopped_there g.S.WriteStr.meaning built.store c.in-Some.is
+    (records_stopped g.met.W.WriteStr.laws g.met.S.WriteStr.laws _ c.args.calls.now built.stands stop h)) c.make_calls-outcome.ensures.err in
     search rules
 
 pub returns-in-Some-clause-text_first : goal.returns-in-Some-clause-text_first
 returns-in-Some-clause-text_first g c =
-    let built = c.build_with_store-reporter in
-    let config = configured_with_store c.args.store c.args.builder c.args.use_unicode c.args.is_terminal c.args.is_ci c.args.display_empty_outputs in
-    let h = first_there g.S.WriteStr.meaning g.W.WriteStr.meaning config built.result _ _ _ built.ensures.stands built.ensures.store c.in-Some.is _ _ c.make_calls-outcome.ensures.err in
+    let built = c.build_with_store-reporter.ensures in
+    let h = IfErr-weaker _ _ _ (λ stop h. text_first_there g.met.W.WriteStr.laws g.met.S.WriteStr.laws _ c.args.calls.now built.stands stop h built.store c.in-Some.is) c.make_calls-outcome.ensures.err in
     search rules
 
 pub returns-in-Some-clause-memory : goal.returns-in-Some-clause-memory
 returns-in-Some-clause-memory g c =
-    let built = c.build_with_store-reporter in
-    let config = configured_with_store c.args.store c.args.builder c.args.use_unicode c.args.is_terminal c.args.is_ci c.args.display_empty_outputs in
-    let h = refused_there g.S.WriteStr.meaning g.W.WriteStr.meaning config built.result _ built.ensures.stands built.ensures.store _ _ c.make_calls-outcome.ensures.memory in
+    let built = c.build_with_store-reporter.ensures in
+    let h = IfErr-weaker _ _ _ (λ stop h. memory_there g.met.W.WriteStr.laws g.met.S.WriteStr.laws _ c.args.calls.now built.stands stop h built.store) c.make_calls-outcome.ensures.err in
     search rules
 
 pub returns-in-Some-clause-ok : goal.returns-in-Some-clause-ok
 returns-in-Some-clause-ok g c = search rules
-
-pub returns-in-Some-clause-err : goal.returns-in-Some-clause-err
-returns-in-Some-clause-err g c = search rules
 
 pub returns-in-Some-clause-no_failure : goal.returns-in-Some-clause-no_failure
 returns-in-Some-clause-no_failure g c = on_ok_weaker _ (λ h. (g.met.W.WriteStr.laws.kept _ _ _ h).0) (returns-in-Some-clause-ok g c)

@@ -1,7 +1,10 @@
-use Rattle.std.proofs.Common.{rules, arith, length, refl, sym, ◌∙◌, inl, inr}
-use Rattle.console_reporter.proofs.lemmas.Calls.{grow_at, accepted_read, accepted_to_end, refusal_past, refusal_read}
-use Rattle.console_reporter.proofs.lemmas.Runs.{run_begun, run_broken, run_ended, run_more, run_unended, same-after}
-use Rattle.console_reporter.proofs.lemmas.Stores.{same-store, store-laws}
+use Rattle.std.proofs.Common.{rules, arith, length, refl, sym, subst, ap, ◌∙◌, Err, Some}
+use Rattle.std.proofs.lemmas.Option.{slice_get-get_or, slice_get_past}
+use Rattle.console_reporter.specs.Telling.{Promises, TellsRun}
+use Rattle.console_reporter.specs.Report.{past_at}
+use Rattle.console_reporter.proofs.lemmas.Calls.{accepted_read, accepted_to_end, past_all, past_read}
+use Rattle.console_reporter.proofs.lemmas.Runs.{run_begun, run_more, same-after}
+use Rattle.console_reporter.proofs.lemmas.Stores.{same-store}
 use Rattle.console_reporter.proofs.imp.reporter.DisplayReporter.make_calls.Goals as goal
 
 pub loop-position-init : goal.loop-position-init
@@ -12,41 +15,35 @@ loop-position-init g c = record {
 }
 
 pub loop-position-preserved : goal.loop-position-preserved
-loop-position-preserved g c = record {
-  same = same-after c.loop-position.invariant.same c.make_call.ensures.same;
-  tells = run_more g.met.W.WriteStr.laws g.met.S.WriteStr.laws _ _ c.loop-position.invariant.tells _ c.index-calls-position.is c.loop-position-test.true c.in-Ok.ensures.ok;
-  unrefused = λ config stands.
-      let i = c.loop-position.invariant in
-      accepted_read config _ _ _ c.index-calls-position.is c.loop-position-test.true (i.unrefused config stands) (sym (c.in-Ok.ensures.refused config _ (i.tells.stands config stands)));
-}
+loop-position-preserved g c =
+    let i = c.loop-position.invariant in
+    record {
+      same = same-after i.same c.make_call.ensures.same;
+      tells =
+          subst (λ past. TellsRun g.W.WriteStr.meaning g.S.WriteStr.meaning c.args.self.now past c.make_call.new.self) (sym (past_read _ _ _ c.index-calls-position.is c.loop-position-test.true))
+          (run_more g.met.W.WriteStr.laws g.met.S.WriteStr.laws _ (Some c.index-calls-position.result) i.tells c.in-Ok.ensures.ok);
+      unrefused = λ config stands.
+          accepted_read config _ _ _ c.index-calls-position.is c.loop-position-test.true (i.unrefused config stands) (sym (c.in-Ok.ensures.refused config _ (i.tells.stands config stands)));
+    }
 
 pub returns-in-Err-clause-same : goal.returns-in-Err-clause-same
 returns-in-Err-clause-same g c = same-after c.loop-position.invariant.same c.make_call.ensures.same
 
 pub returns-in-Err-clause-err : goal.returns-in-Err-clause-err
 returns-in-Err-clause-err g c =
-    run_broken g.met.W.WriteStr.laws g.met.S.WriteStr.laws _ _ c.loop-position.invariant.tells _ _ c.index-calls-position.is c.loop-position-test.true c.in-Err.ensures.err
-
-pub returns-in-Err-clause-refused : goal.returns-in-Err-clause-refused
-returns-in-Err-clause-refused g c = λ config stands.
-    let i = c.loop-position.invariant in
-    refusal_read config _ _ _ c.index-calls-position.is c.loop-position-test.true ∙ sym (c.in-Err.ensures.refused config _ (i.tells.stands config stands))
-
-pub returns-in-Err-clause-memory : goal.returns-in-Err-clause-memory
-returns-in-Err-clause-memory g c = λ config stands is.
-    let i = c.loop-position.invariant.tells in
-    elim (c.in-Err.ensures.err.memory is) [
-      | inl w ↦ inl ((g.met.W.WriteStr.laws.kept _ _ _ (i.accepted config stands)).1 w)
-      | inr (inl grows) ↦ inr (inl (grow_at config _ c.loop-position.position _ _ c.index-calls-position.is c.loop-position-test.true (i.stands config stands) grows))
-      | inr (inr w) ↦ inr (inr (((store-laws g.met.S.WriteStr.laws).kept _ _ _ (i.stored config stands)).1 w))
-    ]
+    let read = slice_get-get_or _ _ c.index-calls-position.result c.loop-position-test.true ∙ ap Some (sym c.index-calls-position.is) in (
+      c.loop-position.self,
+      c.loop-position.invariant.tells,
+      subst (λ call. Promises g.W.WriteStr.meaning g.S.WriteStr.meaning c.loop-position.self call (Err c.in-Err.fault) c.make_call.new.self) (sym read) c.in-Err.ensures,
+    )
 
 pub returns-in-Ok-finish-clause-same : goal.returns-in-Ok-finish-clause-same
 returns-in-Ok-finish-clause-same g c = same-after c.loop-position.invariant.same c.finish.ensures.call.same
 
 pub returns-in-Ok-finish-clause-ok : goal.returns-in-Ok-finish-clause-ok
 returns-in-Ok-finish-clause-ok g c =
-    run_ended g.met.W.WriteStr.laws g.met.S.WriteStr.laws c.args.calls.now c.loop-position.position c.loop-position.invariant.tells (omega arith) c.in-Ok-finish.ensures.call.ok
+    subst (λ past. TellsRun g.W.WriteStr.meaning g.S.WriteStr.meaning c.args.self.now past c.finish.new.self) (past_all c.args.calls.now c.loop-position.position (omega arith))
+    (run_more g.met.W.WriteStr.laws g.met.S.WriteStr.laws _ _ c.loop-position.invariant.tells c.in-Ok-finish.ensures.call.ok)
 
 pub returns-in-Ok-finish-clause-accepted : goal.returns-in-Ok-finish-clause-accepted
 returns-in-Ok-finish-clause-accepted g c = λ config stands.
@@ -57,7 +54,8 @@ returns-in-Err-finish-clause-same g c = same-after c.loop-position.invariant.sam
 
 pub returns-in-Err-finish-clause-err : goal.returns-in-Err-finish-clause-err
 returns-in-Err-finish-clause-err g c =
-    run_unended g.met.W.WriteStr.laws g.met.S.WriteStr.laws c.args.calls.now c.loop-position.position c.loop-position.invariant.tells _ (omega arith) c.in-Err-finish.ensures.call.err
-
-pub returns-in-Err-finish-clause-refused : goal.returns-in-Err-finish-clause-refused
-returns-in-Err-finish-clause-refused g c = λ config stands. refusal_past config c.args.calls.now (length c.args.calls.now) (omega arith) ∙ sym (c.in-Err-finish.ensures.call.unrefused tt)
+    let past = slice_get_past c.args.calls.now (length c.args.calls.now) (omega arith) in (
+      c.loop-position.self,
+      subst (λ i. TellsRun g.W.WriteStr.meaning g.S.WriteStr.meaning c.args.self.now (past_at c.args.calls.now i) c.loop-position.self) (omega arith) c.loop-position.invariant.tells,
+      subst (λ call. Promises g.W.WriteStr.meaning g.S.WriteStr.meaning c.loop-position.self call (Err c.in-Err-finish.fault) c.finish.new.self) (sym past) c.in-Err-finish.ensures.call,
+    )
