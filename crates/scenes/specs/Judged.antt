@@ -34,25 +34,21 @@ pub record ChecksEvent (d : OutputLoadDecider) (n : ℕ) (event : SceneEvent) (f
   pub of_event : IsCallOf event call
   pub is : fault ≡ option_map (fault_at_call n) (refusal_by d call)
 
--- the line is that of the first call that is refused, and its fault is why
-pub record IsRefusedLine (options : Options) (scene : Scene) (calls : List ReportCall) (n : ℕ) (f : LineFault) : Type 0 where
+-- the line is that of the first call of the scene that is refused, and its fault is why
+pub record IsRefusedLine (options : Options) (scene : Scene) (n : ℕ) (f : LineFault) : Type 0 where
+  pub calls : List ReportCall
+  pub of_scene : AreCallsOf scene calls
   pub place : ℕ
   pub refused : first_refused (decider_for options scene.config) calls ≡ Some place
   pub number : n ≡ get_or scene.lines.items place 0
   pub says : option_map (fault_at_call n) (refusal_at_by (decider_for options scene.config) calls place) ≡ Some (fault.Line n f)
-
--- the same of the scene's calls
-pub record IsRefusedThere (options : Options) (scene : Scene) (n : ℕ) (f : LineFault) : Type 0 where
-  pub calls : List ReportCall
-  pub of_scene : AreCallsOf scene calls
-  pub refused : IsRefusedLine options scene calls n f
 
 -- the fault is that the first refused call of the scene has, unless memory was refused
 abbrev pub IsSceneRefused : Options → Scene → Fault → Type 0
 IsSceneRefused options scene fault.Usage = ⊥
 IsSceneRefused options scene (fault.CannotRead file) = ⊥
 IsSceneRefused options scene (fault.CannotWrite file) = ⊥
-IsSceneRefused options scene (fault.Line n f) = IsRefusedThere options scene n f
+IsSceneRefused options scene (fault.Line n f) = IsRefusedLine options scene n f
 IsSceneRefused options scene fault.WriteFailed = ⊥
 IsSceneRefused options scene fault.StoreFailed = ⊥
 IsSceneRefused options scene fault.OutOfMemory = ⊤

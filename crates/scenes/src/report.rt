@@ -179,26 +179,11 @@ pub fn report_scene<'a, R: Read + Drop, W: Write, S: Write>(
         ⊎ OfText text (λ run. Begins device device options.now (W.contents writer, S.contents store_writer) (W.contents result.1, S.contents result.2) run fault)) }
     ensures no_store { options.now.store ≡ None → result.2 ≡ store_writer }
 {
-    match read_whole(alloc, options, reader) {
-        Ok(scene) => report_read(alloc, options, &scene, writer, store_writer),
-        Err(fault) => (Err(fault), writer, store_writer),
-    }
-}
-
-// Judges a scene that was read, and reports it.
-fn report_read<W: Write, S: Write>(
-    alloc: Global,
-    options: &Options<'_>,
-    scene: &Scene,
-    writer: W,
-    store_writer: S,
-) -> (Result<(), Fault<'static>>, W, S)
-    ensures ok { OnOk result.0 (Prints device device options.now (W.contents writer, S.contents store_writer) (W.contents result.1, S.contents result.2) (scene_lines scene.now)) }
-    ensures err { IfErr result.0 (λ fault. (IsSceneRefused options.now scene.now fault × (result.1 ≡ writer) × (result.2 ≡ store_writer))
-        ⊎ Begins device device options.now (W.contents writer, S.contents store_writer) (W.contents result.1, S.contents result.2) (scene_lines scene.now) fault) }
-    ensures no_store { options.now.store ≡ None → result.2 ≡ store_writer }
-{
-    match accept_scene(alloc, options, scene) {
+    let scene = match read_whole(alloc, options, reader) {
+        Ok(scene) => scene,
+        Err(fault) => return (Err(fault), writer, store_writer),
+    };
+    match accept_scene(alloc, options, &scene) {
         Ok(judged) => report_accepted(alloc, &judged, writer, store_writer),
         Err(fault) => (Err(fault), writer, store_writer),
     }

@@ -52,32 +52,24 @@ told_refusal d (scene.TestAnswered e) = lacking (has_valid_output (unit_state e.
 told_refusal d other = None
 
 refusal_told : (d : OutputLoadDecider) (event : SceneEvent) (k : TestEventKind) → SaysSame event k → event_refusal d k ≡ told_refusal d event
-refusal_told d (scene.RunStarted e) (kind.RunStarted tests id profile) h = refl
-refusal_told d (scene.StressSubRunStarted e) (kind.StressSubRunStarted progress) h = refl
-refusal_told d (scene.SetupScriptStarted e) (kind.SetupScriptStarted stress index total id program args) h = refl
-refusal_told d (scene.SetupScriptSlow e) (kind.SetupScriptSlow stress id program args elapsed will_terminate) h = refl
 refusal_told d (scene.SetupScriptFinished e) (kind.SetupScriptFinished stress id program args status) h = ap lacking_script h.2
-refusal_told d (scene.TestStarted e) (kind.TestStarted stress test stats command) h = refl
-refusal_told d (scene.TestSlow e) (kind.TestSlow stress test retry_data elapsed will_terminate) h = refl
 refusal_told d (scene.TestAttemptFailedWillRetry e) (kind.TestAttemptFailedWillRetry stress test status delay failure) h =
     ap₂ (λ display attempt. lacking_attempt (loads_attempt d display) attempt) h.4 h.2
-refusal_told d (scene.TestRetryStarted e) (kind.TestRetryStarted stress test retry_data command) h = refl
 refusal_told d (scene.TestFinished e) (kind.TestFinished stress test success failure statuses stats) h = rw (h.2, h.3, h.4) refl
-refusal_told d (scene.TestSkipped e) (kind.TestSkipped stress test) h = refl
-refusal_told d (scene.RunBeginCancel e) (kind.RunBeginCancel scripts stats running) h = refl
-refusal_told d (scene.RunBeginKill e) (kind.RunBeginKill scripts stats running) h = refl
-refusal_told d (scene.RunPaused e) (kind.RunPaused scripts running) h = refl
-refusal_told d (scene.RunContinued e) (kind.RunContinued scripts running) h = refl
-refusal_told d (scene.InfoStarted e) (kind.InfoStarted total stats) h = refl
 refusal_told d (scene.ScriptAnswered e) (kind.InfoResponse index total (response.SetupScript r)) h = ap₂ (λ state output. lacking (has_valid_output state) output) h.2.2.0 h.2.2.1
 refusal_told d (scene.ScriptAnswered e) (kind.InfoResponse index total (response.Test r)) h = absurd h.2
 refusal_told d (scene.TestAnswered e) (kind.InfoResponse index total (response.SetupScript r)) h = absurd h.2
 refusal_told d (scene.TestAnswered e) (kind.InfoResponse index total (response.Test r)) h = ap₂ (λ state output. lacking (has_valid_output state) output) h.2.3.0 h.2.3.1
-refusal_told d (scene.InfoFinished e) (kind.InfoFinished missing) h = refl
-refusal_told d (scene.InputEnter e) (kind.InputEnter stats running) h = refl
-refusal_told d (scene.StressSubRunFinished e) (kind.StressSubRunFinished progress elapsed stats) h = refl
-refusal_told d (scene.RunFinished e) (kind.RunFinished elapsed run_stats outstanding) h = refl
-refusal_told d event other h = absurd h
+refusal_told d (scene.SetupScriptFinished e) other h = absurd h
+refusal_told d (scene.TestAttemptFailedWillRetry e) other h = absurd h
+refusal_told d (scene.TestFinished e) other h = absurd h
+refusal_told d (scene.ScriptAnswered e) other h = absurd h
+refusal_told d (scene.TestAnswered e) other h = absurd h
+refusal_told d event (kind.SetupScriptFinished stress id program args status) h = absurd h
+refusal_told d event (kind.TestAttemptFailedWillRetry stress test status delay failure) h = absurd h
+refusal_told d event (kind.TestFinished stress test success failure statuses stats) h = absurd h
+refusal_told d event (kind.InfoResponse index total answer) h = absurd h
+refusal_told d event other h = refl
 
 pub refusal_of_call : (d : OutputLoadDecider) (event : SceneEvent) (c : ReportCall) → IsCallOf event c → refusal_by d c ≡ told_refusal d event
 refusal_of_call d event (call.Event e) h = refusal_told d event e.kind h.1

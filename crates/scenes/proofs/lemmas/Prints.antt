@@ -6,7 +6,8 @@ use Rattle.std.proofs.lemmas.List.{reverse-append}
 use Rattle.plain_text.specs.Texts.{Text}
 use Rattle.plain_text.specs.Writer.{Meaning, WriterLaws}
 use Rattle.plain_text.specs.declared.write_str.WriteFault.TheVariants.{Memory as RefusedMemory}
-use Rattle.console_reporter.specs.Outcomes.{HasFront, Stops, StopsRecord}
+use Rattle.console_reporter.specs.Outcomes.{HasFront, Stops}
+use Rattle.console_reporter.specs.Outcomes.Side.{Records, Report}
 use Rattle.console_reporter.specs.Report.{report, text}
 use Rattle.console_reporter.specs.Stored.{stored, stored_text}
 use Rattle.console_reporter.proofs.lemmas.Refusals.{not_refused}
@@ -76,7 +77,7 @@ module _ {W T : Type 0} {m : Meaning W} {k : Meaning T} (laws : WriterLaws m) (o
     pub whole_text : fault ≡ StoreFailed → m.accepts a (t ++ u) c
     pub untouched : fault ≡ WriteFailed → z ≡ y
 
-  pub broken : (n : ℕ) (e : WriteEventError) → refusal_in e ≡ None → (e ≡ StoreIo → is_some (store_for options) ≡ true) → Stops m b u e c → StopsRecord k y s e z → Broken (fault_at_call n e)
+  pub broken : (n : ℕ) (e : WriteEventError) → refusal_in e ≡ None → (e ≡ StoreIo → is_some (store_for options) ≡ true) → Stops Report m b u e c → Stops Records k y s e z → Broken (fault_at_call n e)
   broken n RetriedSuccess none there h i = absurd (not_refused RetriedSuccess none refl)
   broken n OutputNotLoaded none there h i = absurd (not_refused OutputNotLoaded none refl)
   broken n Io none there h i = record {

@@ -1,10 +1,12 @@
 -- What the line of the first refused call says (for `check_refusals`).
 use Rattle.std.proofs.Common.{◌≡◌, ℕ, ◌+◌, ◌<◌, ◌≤◌, List, [], ◌∷◌, ◌++◌, Bool, Option, true, false, length, take, arith, get_or, refl, sym, ap, subst, ◌∙◌, ◌⊎◌, None, Some, inl, inr, unwrap_or}
+use Rattle.std.specs.Prelude.{cond, eqb}
 use Rattle.std.specs.Option.{is_some, option_and_then, option_map, option_or}
 use Rattle.std.specs.List.{AllZip, position, position_or_len, slice_get}
 use Rattle.std.proofs.lemmas.Bool.{cases_Bool, cases_lt, false≢true}
 use Rattle.std.proofs.lemmas.Grind.{common_steps}
 use Rattle.std.proofs.lemmas.List.{length-append, take_all}
+use Rattle.std.proofs.lemmas.List.Folds.{position_or_len_push}
 use Rattle.std.proofs.lemmas.List.Sums.{fails_before_first, position_or_len_is}
 use Rattle.std.proofs.lemmas.List.Quantifiers.{position-Some}
 use Rattle.std.proofs.lemmas.Option.{slice_get-get_or, slice_get_past}
@@ -29,10 +31,8 @@ use Rattle.scenes.specs.declared.scene.Scene.{Scene}
 use Rattle.command_line.specs.declared.args.Options.{Options}
 
 -- where no item passes, each fails
-pub position-None : {X : Type 0} (p : X → Bool) (xs : List X) (i : ℕ) (d : X) → position p xs ≡ None → i < length xs → p (get_or xs i d) ≡ false
-position-None p xs i d e within =
-    let all : length xs ≤ position_or_len p xs = grind (arith, common_steps) in
-    fails_before_first p xs i d (omega (arith, within, all))
+position-None : {X : Type 0} (p : X → Bool) (xs : List X) (i : ℕ) (d : X) → position p xs ≡ None → i < length xs → p (get_or xs i d) ≡ false
+position-None p xs i d e within = (let all : length xs ≤ position_or_len p xs = grind (arith, common_steps) in fails_before_first p xs i d (omega (arith, within, all)))
 
 -- the fault of a call that is refused is its line's
 is_line : (d : OutputLoadDecider) (call : ReportCall) (n : ℕ) → (option_map (fault_at_call n) (refusal_by d call) ≡ None) ⊎ ((f : LineFault) × (option_map (fault_at_call n) (refusal_by d call) ≡ Some (fault.Line n f)))
@@ -65,31 +65,20 @@ module _ {X : Type 0} (p : X → Bool) (xs : List X) (x : X) where
   size : length (xs ++ x ∷ []) ≡ length xs + 1
   size = length-append xs (x ∷ [])
 
-  none_passes : position p xs ≡ None → (k : ℕ) → k < length xs → p (get_or (xs ++ x ∷ []) k x) ≡ false
-  none_passes none k l = let q : p (get_or xs k x) ≡ false = position-None p xs k x none l in grind (arith, common_steps, l, q)
+  push : position_or_len p (xs ++ x ∷ []) ≡ cond (eqb (position_or_len p xs) (length xs)) (length xs + cond (p x) 0 1) (position_or_len p xs)
+  push = position_or_len_push p xs x
 
   pub none_more : position p xs ≡ None → p x ≡ false → position p (xs ++ x ∷ []) ≡ None
-  none_more none one =
-      let each : (k : ℕ) → k < length (xs ++ x ∷ []) → p (get_or (xs ++ x ∷ []) k x) ≡ false = λ k within. elim (cases_lt k (length xs)) [
-        | inl l ↦ none_passes none k l
-        | inr g ↦ (let last : k ≡ length xs = omega (arith, size, within, g) in grind (arith, common_steps, last, one))
-      ] in
-      let e = position_or_len_is p (xs ++ x ∷ []) (length (xs ++ x ∷ [])) x (omega arith) each (λ l. absurd (omega (arith, l))) in
-      grind (arith, common_steps, e)
+  none_more none one = grind (arith, common_steps, push, size, none, one)
 
   last_passes : position p xs ≡ None → p x ≡ true → position p (xs ++ x ∷ []) ≡ Some (length xs)
   last_passes none one =
-      let e = position_or_len_is p (xs ++ x ∷ []) (length xs) x (omega (arith, size)) (none_passes none) (λ l. grind (arith, common_steps, one)) in
+      let before : (k : ℕ) → k < length xs → p (get_or (xs ++ x ∷ []) k x) ≡ false = λ k l. (let q = position-None p xs k x none l in grind (arith, common_steps, l, q)) in
+      let e = position_or_len_is p (xs ++ x ∷ []) (length xs) x (omega (arith, size)) before (λ l. grind (arith, common_steps, one)) in
       grind (arith, common_steps, e, size)
 
   still_passes : (i : ℕ) → position p xs ≡ Some i → position p (xs ++ x ∷ []) ≡ Some i
-  still_passes i first =
-      let s = position-Some p xs i x first in
-      let l : i < length xs = s.0 in
-      let here : p (get_or xs i x) ≡ true = s.1 in
-      let before : (k : ℕ) → k < i → p (get_or (xs ++ x ∷ []) k x) ≡ false = λ k lt. (let q : p (get_or xs k x) ≡ false = s.2 k lt in let within : k < length xs = omega (arith, lt, l) in grind (arith, common_steps, within, q)) in
-      let e = position_or_len_is p (xs ++ x ∷ []) i x (omega (arith, size, l)) before (λ m. grind (arith, common_steps, l, here)) in
-      grind (arith, common_steps, e, size, l)
+  still_passes i first = grind (arith, common_steps, push, size, first)
 
 -- the scene's events before a place were judged: these are their calls, and the first that is refused
 module _ (options : Options) (scene : Scene) where
@@ -118,7 +107,10 @@ module _ (options : Options) (scene : Scene) where
       subst (IsSceneRefused options scene) (sym l.1) (record {
         calls = h.calls;
         of_scene = subst (λ es. AllZip IsCallOf es h.calls) (take_all i scene.events.items past) h.of_first;
-        refused = record { place = h.first.place; refused = h.first.refused; number = refl; says = h.first.says ∙ ap Some l.1 };
+        place = h.first.place;
+        refused = h.first.refused;
+        number = refl;
+        says = h.first.says ∙ ap Some l.1;
       })
 
   -- one event more was judged

@@ -11,7 +11,8 @@ use Rattle.run_model.specs.declared.call.ReportCall.{ReportCall}
 use Rattle.console_reporter.specs.Accepted.{refusal}
 use Rattle.console_reporter.specs.Configuration.{Configuration}
 use Rattle.console_reporter.specs.Report.{report, text}
-use Rattle.console_reporter.specs.Outcomes.{StopsRecord}
+use Rattle.console_reporter.specs.Outcomes.{Stops}
+use Rattle.console_reporter.specs.Outcomes.Side.{Records}
 use Rattle.console_reporter.specs.OptionalStore.{config_of, store_meaning}
 use Rattle.console_reporter.specs.declared.imp.store.Store.{Store}
 use Rattle.console_reporter.specs.HeldState.{StandsAfter}
@@ -58,8 +59,8 @@ by_past : (P : List ReportCall → Type 0) (past : List ReportCall) → P past �
 by_past P past h = subst P (sym (reverse-reverse past)) h
 
 -- a store is there where its device failed
-store_there : {S : Type 0} (n : Meaning S) (options : Options) (old new : Option (Store S)) (text : Text) (e : WriteEventError) → config_of old ≡ store_for options → StopsRecord (store_meaning n) old text e new → e ≡ StoreIo → is_some (store_for options) ≡ true
-store_there n options None new text e asked h is = absurd (subst (λ x. StopsRecord (store_meaning n) None text x new) is h)
+store_there : {S : Type 0} (n : Meaning S) (options : Options) (old new : Option (Store S)) (text : Text) (e : WriteEventError) → config_of old ≡ store_for options → Stops Records (store_meaning n) old text e new → e ≡ StoreIo → is_some (store_for options) ≡ true
+store_there n options None new text e asked h is = absurd (subst (λ x. Stops Records (store_meaning n) None text x new) is h)
 store_there n options (Some s) new text e asked h is = sym (ap is_some asked)
 
 -- a call more of a past is the last of its calls

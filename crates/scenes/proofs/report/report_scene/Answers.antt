@@ -1,10 +1,10 @@
-use Rattle.scenes.proofs.lemmas.Judged.{ends_run, prints_run}
+use Rattle.std.proofs.Common.{inl, inr, refl}
+use Rattle.scenes.proofs.lemmas.Judged.{refused_is_judged, refused_text}
 use Rattle.scenes.proofs.report.report_scene.Goals as goal
 
-pub returns-in-Ok-clause-ok : goal.returns-in-Ok-clause-ok
-returns-in-Ok-clause-ok g c = λ text known.
-    prints_run _ c.in-Ok.scene text (c.in-Ok.ensures.answer text known) _ _ c.report_read.result.0 c.report_read.ensures.ok
-
-pub returns-in-Ok-clause-err : goal.returns-in-Ok-clause-err
-returns-in-Ok-clause-err g c = λ text known.
-    ends_run _ c.in-Ok.scene text (c.in-Ok.ensures.answer text known) _ _ (c.in-Ok.ensures.lines text known) _ _ c.report_read.result.0 c.report_read.ensures.err
+pub returns-clause-err : goal.returns-clause-err
+returns-clause-err g c = λ text known. inl (record {
+  judged = inr (refused_text _ c.in-Ok.scene text (c.in-Ok.ensures.answer text known) (c.in-Ok.ensures.lines text known) c.in-Err-accept_scene.fault c.in-Err-accept_scene.ensures.err);
+  of_judge = refused_is_judged _ c.in-Ok.scene _ c.in-Err-accept_scene.fault c.in-Err-accept_scene.ensures.err;
+  untouched = (refl, refl);
+})
