@@ -112,7 +112,7 @@ impl<'a, R: Read + Drop, O: ReadAt + Drop> RecordedRun<'a, R, O> {
 }
 
 impl<'o, R: Read, O: ReadAt + Drop> RunSource for RecordedRun<'o, R, O> {
-    ghost left = { λ in_all run. IsLeft in_all run.options (O.recorded run.outputs.source) (reader_remaining R.remaining run.reader) run.outputs.bytes_read };
+    ghost left = { λ total run. IsLeft total run.options (O.recorded run.outputs.source) (reader_remaining R.remaining run.reader) run.outputs.bytes_read };
 
     fn read_next<'a>(
         &mut self,

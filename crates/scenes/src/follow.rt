@@ -34,8 +34,8 @@ fn read_head<'a, L: RunSource>(
     source: &mut L,
     read: &mut LinesRead,
 ) -> Result<bool, Fault<'a>>
-    ensures read { (in_all : ℕ) (all front : List RunLine) (before : ParsedLines) → HasRead file.now all front before read.old (Ok true) (L.left in_all source.old)
-        → HasRead file.now all front before read.new result (L.left in_all source.new) }
+    ensures read { (total : ℕ) (all front : List RunLine) (before : ParsedLines) → HasRead file.now all front before read.old (Ok true) (L.left total source.old)
+        → HasRead file.now all front before read.new result (L.left total source.new) }
     ensures event { IfOk result (λ may_go_on. may_go_on ≡ true → is_begun read.new.run.events.items ≡ true) }
 {
     for _turn in 0..u64::MAX {
@@ -85,10 +85,10 @@ pub fn follow_source<'a, L: RunSource, W: Write, S: Write>(
     writer: W,
     store_writer: S,
 ) -> (Result<RunOutcome, Fault<'a>>, W, S)
-    ensures ok { (in_all : ℕ) (all : List RunLine) → L.left in_all source.old no_lines all → IfOk result.0 (λ come_to.
+    ensures ok { (total : ℕ) (all : List RunLine) → L.left total source.old no_lines all → IfOk result.0 (λ come_to.
         OfLines all (PrintsFollowed device device options.now (W.contents writer, S.contents store_writer) (W.contents result.1, S.contents result.2) come_to)) }
-    ensures rest { (in_all : ℕ) (all : List RunLine) → L.left in_all source.old no_lines all → OnOk result.0 (OfLines all (λ run. L.left in_all source.new run [])) }
-    ensures err { (in_all : ℕ) (all : List RunLine) → L.left in_all source.old no_lines all → IfErr result.0 (StopsBy options.now all
+    ensures rest { (total : ℕ) (all : List RunLine) → L.left total source.old no_lines all → OnOk result.0 (OfLines all (λ run. L.left total source.new run [])) }
+    ensures err { (total : ℕ) (all : List RunLine) → L.left total source.old no_lines all → IfErr result.0 (StopsBy options.now all
         (Prints device device options.now (W.contents writer, S.contents store_writer) (W.contents result.1, S.contents result.2))
         (Begins device device options.now (W.contents writer, S.contents store_writer) (W.contents result.1, S.contents result.2))) }
     ensures no_store { options.now.store ≡ None → result.2 ≡ store_writer }
@@ -144,10 +144,10 @@ fn follow_to<'a, 'w, L: RunSource, W: WriteStr, S: WriteStr>(
     requires store_delivered { store_delivered S.meaning store }
     ensures same_reference { result.1.ghost_name ≡ writer.entry.ghost_name }
     ensures same_store { IsSameStore store.entry result.2 }
-    ensures ok { (in_all : ℕ) (all : List RunLine) → L.left in_all source.old no_lines all
+    ensures ok { (total : ℕ) (all : List RunLine) → L.left total source.old no_lines all
         → IfOk result.0 (λ come_to. OfLines all (PrintsFollowed W.meaning (store_meaning S.meaning) options.now (writer.old, store.entry) (result.1.now, result.2) come_to)) }
-    ensures rest { (in_all : ℕ) (all : List RunLine) → L.left in_all source.old no_lines all → OnOk result.0 (OfLines all (λ run. L.left in_all source.new run [])) }
-    ensures err { (in_all : ℕ) (all : List RunLine) → L.left in_all source.old no_lines all
+    ensures rest { (total : ℕ) (all : List RunLine) → L.left total source.old no_lines all → OnOk result.0 (OfLines all (λ run. L.left total source.new run [])) }
+    ensures err { (total : ℕ) (all : List RunLine) → L.left total source.old no_lines all
         → IfErr result.0 (StopsBy options.now all (Prints W.meaning (store_meaning S.meaning) options.now (writer.old, store.entry) (result.1.now, result.2)) (Begins W.meaning (store_meaning S.meaning) options.now (writer.old, store.entry) (result.1.now, result.2))) }
 {
     let mut read = LinesRead::new(alloc);
@@ -182,11 +182,11 @@ fn follow_lines<'a, L: RunSource, W: WriteStr, S: WriteStr>(
     reporter: &mut SceneReporter<'_, W, S>,
 ) -> Result<(), Fault<'a>>
     ensures same { IsSameReporter reporter.old.reporter reporter.new.reporter }
-    ensures ok { OnOk result ((in_all : ℕ) (all : List RunLine) → HasRead options.now.file.now all [] no_lines read.old more.entry (L.left in_all source.old) → is_begun read.old.run.events.items ≡ true
+    ensures ok { OnOk result ((total : ℕ) (all : List RunLine) → HasRead options.now.file.now all [] no_lines read.old more.entry (L.left total source.old) → is_begun read.old.run.events.items ≡ true
         → IsStart W.meaning S.meaning options.now read.old.run.config reporter.old → OfLines all (PrintsFollowed W.meaning (store_meaning S.meaning) options.now (writers reporter.old) (writers reporter.new) reporter.new.outcome)) }
-    ensures rest { OnOk result ((in_all : ℕ) (all : List RunLine) → HasRead options.now.file.now all [] no_lines read.old more.entry (L.left in_all source.old) → is_begun read.old.run.events.items ≡ true
-        → IsStart W.meaning S.meaning options.now read.old.run.config reporter.old → OfLines all (λ run. L.left in_all source.new run [])) }
-    ensures err { IfErr result (λ fault. (in_all : ℕ) (all : List RunLine) → HasRead options.now.file.now all [] no_lines read.old more.entry (L.left in_all source.old) → is_begun read.old.run.events.items ≡ true
+    ensures rest { OnOk result ((total : ℕ) (all : List RunLine) → HasRead options.now.file.now all [] no_lines read.old more.entry (L.left total source.old) → is_begun read.old.run.events.items ≡ true
+        → IsStart W.meaning S.meaning options.now read.old.run.config reporter.old → OfLines all (λ run. L.left total source.new run [])) }
+    ensures err { IfErr result (λ fault. (total : ℕ) (all : List RunLine) → HasRead options.now.file.now all [] no_lines read.old more.entry (L.left total source.old) → is_begun read.old.run.events.items ≡ true
         → IsStart W.meaning S.meaning options.now read.old.run.config reporter.old → StopsBy options.now all (Prints W.meaning (store_meaning S.meaning) options.now (writers reporter.old) (writers reporter.new)) (Begins W.meaning (store_meaning S.meaning) options.now (writers reporter.old) (writers reporter.new)) fault) }
 {
     let mut more = more;

@@ -30,8 +30,8 @@ pub trait RunSource {
         file: &'a str,
         read: &mut LinesRead,
     ) -> Result<bool, Fault<'a>>
-        ensures read { (in_all : ℕ) (all front : List RunLine) (before : ParsedLines) → HasRead file.now all front before read.old (Ok true) (left in_all self.old)
-            → HasRead file.now all front before read.new result (left in_all self.new) }
+        ensures read { (total : ℕ) (all front : List RunLine) (before : ParsedLines) → HasRead file.now all front before read.old (Ok true) (left total self.old)
+            → HasRead file.now all front before read.new result (left total self.new) }
         ensures fault { IfErr result (IsJudgeFault file.now) };
 }
 
@@ -59,7 +59,7 @@ impl<R: Read + Drop> SceneSource<R> {
 
 impl<R: Read> RunSource for SceneSource<R> {
     // A scene has its outputs in its lines.
-    ghost left = { λ in_all s before. AreLeftOf (reader_remaining R.remaining s.reader) };
+    ghost left = { λ total s before. AreLeftOf (reader_remaining R.remaining s.reader) };
 
     fn read_next<'a>(
         &mut self,

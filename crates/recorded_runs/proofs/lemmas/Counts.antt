@@ -12,9 +12,9 @@ none_mapped f [] h = refl
 none_mapped f (x ∷ xs) h = absurd (cc)
 
 -- where no line is left, as many were read as there are to read
-pub read_all : (in_all : ℕ) (options : Options) (recorded remaining : Option (List ℕ)) (bytes_read : ℕ) (before : ParsedLines) → bytes_read ≤ 2 ^ 64 - 1 → IsLeft in_all options recorded remaining bytes_read before [] → bytes_read ≡ in_all
+pub read_all : (total : ℕ) (options : Options) (recorded remaining : Option (List ℕ)) (bytes_read : ℕ) (before : ParsedLines) → bytes_read ≤ 2 ^ 64 - 1 → IsLeft total options recorded remaining bytes_read before [] → bytes_read ≡ total
 unfolding needed
-read_all in_all options recorded remaining bytes_read before fits left =
+read_all total options recorded remaining bytes_read before fits left =
     let none = none_mapped (line_replayed options left.all) (whole_lines left.text) left.is in
     let nothing : needed options (lines_before before) (whole_lines left.text) ≡ 0 = ap (needed options (lines_before before)) none in
     let counts = left.counts ∙ ap (counted bytes_read) nothing in

@@ -50,9 +50,9 @@ next_fault : (n : ℕ) (run : ParsedLines) (lines others : List RunLine) (f : Re
 next_fault n run lines others (fault.Line m f) h = (h.0, (h.1.0, h.1.1 ++ others, ap (λ ls. ls ++ others) h.1.2, h.1.3))
 next_fault n run lines others fault.OutOfMemory h = tt
 
-module _ (file : List ℕ) (in_all : ℕ) (options : Options) (all front : List RunLine) (before : ParsedLines) (old : LinesRead) (recorded remaining : Option (List ℕ)) (count : ℕ) where
+module _ (file : List ℕ) (total : ℕ) (options : Options) (all front : List RunLine) (before : ParsedLines) (old : LinesRead) (recorded remaining : Option (List ℕ)) (count : ℕ) where
   abbrev Left : ParsedLines → List RunLine → Type 0
-  Left = IsLeft in_all options recorded remaining count
+  Left = IsLeft total options recorded remaining count
 
   module _ (has : HasRead file all front before old (Ok true) Left) where
     -- further lines were read
@@ -76,12 +76,12 @@ module _ (file : List ℕ) (in_all : ℕ) (options : Options) (all front : List 
 
     module _ (recorded_new remaining_new : Option (List ℕ)) (kept : recorded_new ≡ recorded) (line : List ℕ) where
       -- no line is left
-      pub none_left : ((text : List ℕ) → remaining ≡ Some text → IsNextLine text false line remaining_new) → (new : LinesRead) → new ≡ old → HasRead file all front before new (Ok false) (IsLeft in_all options recorded_new remaining_new count)
+      pub none_left : ((text : List ℕ) → remaining ≡ Some text → IsNextLine text false line remaining_new) → (new : LinesRead) → new ≡ old → HasRead file all front before new (Ok false) (IsLeft total options recorded_new remaining_new count)
       none_left next new same =
           let left = has.more_is in
           let ends = next left.text left.rest in
           let none : has.left ≡ [] = left.is ∙ ap (map (line_replayed options left.all)) ends.0 in
-          subst (λ r. HasRead file all front before r (Ok false) (IsLeft in_all options recorded_new remaining_new count)) (sym same) (record {
+          subst (λ r. HasRead file all front before r (Ok false) (IsLeft total options recorded_new remaining_new count)) (sym same) (record {
             lines = has.lines;
             left = has.left;
             whole = has.whole;
@@ -125,7 +125,7 @@ module _ (file : List ℕ) (in_all : ℕ) (options : Options) (all front : List 
 
         -- and was read
         pub line_is_read : (count_new : ℕ) → ((outputs : List ℕ) → recorded ≡ Some outputs → Lacks 10 line → ReadsLines old new (line_replayed options outputs line ∷ [])) →
-            ((outputs : List ℕ) → recorded ≡ Some outputs → Lacks 10 line → IsCounted options old (line_unread line) (stored_in line) count count_new) → HasRead file all front before new (Ok true) (IsLeft in_all options recorded_new remaining_new count_new)
+            ((outputs : List ℕ) → recorded ≡ Some outputs → Lacks 10 line → IsCounted options old (line_unread line) (stored_in line) count count_new) → HasRead file all front before new (Ok true) (IsLeft total options recorded_new remaining_new count_new)
         line_is_read count_new reads counts =
             let read = reads all_outputs has.more_is.outputs lacks in
             let b = lines_before (behind before.events old) in
@@ -133,7 +133,7 @@ module _ (file : List ℕ) (in_all : ℕ) (options : Options) (all front : List 
             let then : lines_before (behind before.events new) ≡ before_next b says =
             before_behind (behind before.events old) (behind before.events new) (line_replayed options all_outputs line) (one_read old new (line_replayed options all_outputs line) read before.events has.begun) in
             let needs : needed options b (whole_lines has.more_is.text) ≡ needed_for options b (stored_in line) says + needed options (before_next b says) (whole_lines more) = ap (needed options b) lines_are ∙ needed_first options b line (whole_lines more) in
-            further new (line_replayed options all_outputs line ∷ []) others left_is read (Ok true) (IsLeft in_all options recorded_new remaining_new count_new) (record {
+            further new (line_replayed options all_outputs line ∷ []) others left_is read (Ok true) (IsLeft total options recorded_new remaining_new count_new) (record {
               all = all_outputs;
               text = more;
               outputs = kept ∙ has.more_is.outputs;

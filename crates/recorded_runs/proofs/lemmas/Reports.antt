@@ -93,7 +93,7 @@ pub prints_on_ok : (options : Options) (all text : List ℕ) (old new : Option (
 prints_on_ok options all text old new (Ok come_to) h = replay_prints options all text come_to old new h
 prints_on_ok options all text old new (Err f) h = tt
 
-pub reads_on_ok : (in_all : ℕ) (options : Options) (recorded remaining : Option (List ℕ)) (bytes_read : ℕ) (lines : List RunLine) → bytes_read ≤ 2 ^ 64 - 1 → (r : Result RunOutcome Fault) →
-    OnOk r (OfLines lines (λ run. IsLeft in_all options recorded remaining bytes_read run [])) → IfOk r (λ come_to. bytes_read ≡ in_all)
-reads_on_ok in_all options recorded remaining bytes_read lines fits (Ok come_to) h = read_all in_all options recorded remaining bytes_read h.run fits h.holds
-reads_on_ok in_all options recorded remaining bytes_read lines fits (Err f) h = tt
+pub reads_on_ok : (total : ℕ) (options : Options) (recorded remaining : Option (List ℕ)) (bytes_read : ℕ) (lines : List RunLine) → bytes_read ≤ 2 ^ 64 - 1 → (r : Result RunOutcome Fault) →
+    OnOk r (OfLines lines (λ run. IsLeft total options recorded remaining bytes_read run [])) → IfOk r (λ come_to. bytes_read ≡ total)
+reads_on_ok total options recorded remaining bytes_read lines fits (Ok come_to) h = read_all total options recorded remaining bytes_read h.run fits h.holds
+reads_on_ok total options recorded remaining bytes_read lines fits (Err f) h = tt

@@ -10,6 +10,6 @@ use Rattle.scenes.proofs.follow.follow_lines.Given as goal
 abbrev pub invariant-loop-turn : goal.invariant-loop-turn
 invariant-loop-turn g l = record {
   same : IsSameReporter l.fn.reporter.reporter l.reporter.reporter;
-  keeps_up : (in_all : ℕ) (all : List RunLine) → HasRead l.options.file.now all [] no_lines l.fn.read l.fn.more (g.L.RunSource.left in_all l.fn.source) → is_begun l.fn.read.run.events.items ≡ true
-      → IsStart g.W.WriteStr.meaning g.S.WriteStr.meaning l.options l.fn.read.run.config l.fn.reporter → KeepsUp g.W.WriteStr.meaning g.S.WriteStr.meaning l.options all l.fn.reporter l.reporter l.read l.more (g.L.RunSource.left in_all l.source);
+  keeps_up : (total : ℕ) (all : List RunLine) → HasRead l.options.file.now all [] no_lines l.fn.read l.fn.more (g.L.RunSource.left total l.fn.source) → is_begun l.fn.read.run.events.items ≡ true
+      → IsStart g.W.WriteStr.meaning g.S.WriteStr.meaning l.options l.fn.read.run.config l.fn.reporter → KeepsUp g.W.WriteStr.meaning g.S.WriteStr.meaning l.options all l.fn.reporter l.reporter l.read l.more (g.L.RunSource.left total l.source);
 }

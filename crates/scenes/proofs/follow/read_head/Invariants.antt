@@ -5,5 +5,5 @@ use Rattle.scenes.proofs.follow.read_head.Given as goal
 
 -- lines were read that tell no event
 abbrev pub invariant-loop-turn : goal.invariant-loop-turn
-invariant-loop-turn g l = (in_all : ℕ) (all front : List RunLine) (before : ParsedLines) → HasRead l.file all front before l.initial.read (Ok true) (g.L.RunSource.left in_all l.initial.source)
-    → HasRead l.file all front before l.read (Ok true) (g.L.RunSource.left in_all l.source)
+invariant-loop-turn g l = (total : ℕ) (all front : List RunLine) (before : ParsedLines) → HasRead l.file all front before l.initial.read (Ok true) (g.L.RunSource.left total l.initial.source)
+    → HasRead l.file all front before l.read (Ok true) (g.L.RunSource.left total l.source)
