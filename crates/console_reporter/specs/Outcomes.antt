@@ -49,15 +49,11 @@ pub record StopsAfter {S : Type 0} (side : Side) (m : Meaning S) (old : S) (befo
 abbrev pub IsOfLines : Text → Type 0
 IsOfLines t = (t ≡ []) ⊎ ((front : Text) × (t ≡ front ++ 10 ∷ []))
 
--- what a fault of the writer is to the caller of a reporter
-abbrev pub error_for : WriteFault → WriteEventError
-error_for Device = Io
-error_for RefusedMemory = Memory
-
--- and one of the store
-abbrev pub store_error_for : WriteFault → WriteEventError
-store_error_for Device = StoreIo
-store_error_for RefusedMemory = Memory
+-- what a fault at a side is to the caller of a reporter
+abbrev pub error_for : Side → WriteFault → WriteEventError
+error_for Report Device = Io
+error_for Records Device = StoreIo
+error_for side RefusedMemory = Memory
 
 -- a fault of the first writer, or of the reporter itself
 abbrev pub IsOfConsole : WriteEventError → Type 0

@@ -12,7 +12,7 @@ use Rattle.console_reporter.specs.Report.{past_at}
 use Rattle.console_reporter.specs.Configuration.{Configuration}
 use Rattle.run_model.specs.declared.call.ReportCall.{ReportCall}
 use Rattle.plain_text.specs.declared.write_str.WriteFault.TheVariants.{Device, Memory as RefusedMemory}
-use Rattle.console_reporter.specs.Outcomes.{IsOfConsole, Stops, StopsAfter, error_for}
+use Rattle.console_reporter.specs.Outcomes.{IsOfConsole, Side, Stops, StopsAfter, error_for}
 use Rattle.console_reporter.specs.Outcomes.Side.{Report, Records}
 use Rattle.console_reporter.specs.HeldState.{StandsAfter}
 use Rattle.console_reporter.specs.declared.imp.reporter.DisplayReporter.{DisplayReporter}
@@ -42,22 +42,21 @@ pub past_all : (calls : List ReportCall) (i : ℕ) → length calls ≤ i → pa
 past_all calls i h = ap reverse (take_all i calls h)
 
 -- what the causes of a stop say
-module _ {S : Type 0} {m : Meaning S} (laws : WriterLaws m) (a c : S) (t u : List ℕ) (e : WriteEventError) where
-  pub stopped_io : StopsAfter Report m a t u e c → e ≡ Io → m.failures c ≡ successor (m.failures a)
-  stopped_io h is =
-      laws.device h.mid c u (subst (λ x. Stops Report m h.mid u x c) is h.stopped)
+stops_device : {S : Type 0} (side : Side) (m : Meaning S) (a b : S) (t : List ℕ) → Stops side m a t (error_for side Device) b → m.stops a t Device b
+stops_device Report m a b t h = h
+stops_device Records m a b t h = h
+
+module _ (side : Side) {S : Type 0} {m : Meaning S} (laws : WriterLaws m) (a c : S) (t u : List ℕ) (e : WriteEventError) (h : StopsAfter side m a t u e c) where
+  pub stopped_device : e ≡ error_for side Device → m.failures c ≡ successor (m.failures a)
+  stopped_device is =
+      laws.device h.mid c u (stops_device side m h.mid c u (subst (λ x. Stops side m h.mid u x c) is h.stopped))
       ∙ ap successor (laws.kept a h.mid t h.accepted).0
 
-  pub stopped_store_io : StopsAfter Records m a t u e c → e ≡ StoreIo → m.failures c ≡ successor (m.failures a)
-  stopped_store_io h is =
-      laws.device h.mid c u (subst (λ x. Stops Records m h.mid u x c) is h.stopped)
-      ∙ ap successor (laws.kept a h.mid t h.accepted).0
-
-  pub stopped_known : StopsAfter Report m a t u e c → e ≡ Failed → ⊥
-  stopped_known h is = subst (λ x. Stops Report m h.mid u x c) is h.stopped
+  pub stopped_known : e ≡ Failed → ⊥
+  stopped_known is = subst (λ x. Stops side m h.mid u x c) is h.stopped
 
 -- a fault of the writer, as the caller of a reporter sees it
-pub stops_error : {S : Type 0} (m : Meaning S) (a b : S) (t : List ℕ) (fault : WriteFault) (e : WriteEventError) → e ≡ error_for fault → m.stops a t fault b → Stops Report m a t e b
+pub stops_error : {S : Type 0} (m : Meaning S) (a b : S) (t : List ℕ) (fault : WriteFault) (e : WriteEventError) → e ≡ error_for Report fault → m.stops a t fault b → Stops Report m a t e b
 stops_error m a b t Device e is h = subst (λ x. Stops Report m a t x b) (sym is) h
 stops_error m a b t RefusedMemory e is h = subst (λ x. Stops Report m a t x b) (sym is) (inl h)
 

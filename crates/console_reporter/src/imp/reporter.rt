@@ -15,8 +15,8 @@ ghost use Rattle.reporter_state.specs.Loads.{lacks_output};
 ghost use Rattle.reporter_state.specs.Entries.{hiding_rank};
 ghost use Rattle.console_reporter.specs.Exactness.{IsExact};
 ghost use Rattle.reporter_state.specs.Refusals.{refusal_in};
-ghost use Rattle.console_reporter.specs.Outcomes.{IsOfConsole, Stops, error_for, store_error_for};
-ghost use Rattle.console_reporter.specs.Outcomes.Side.{Report};
+ghost use Rattle.console_reporter.specs.Outcomes.{IsOfConsole, Stops, error_for};
+ghost use Rattle.console_reporter.specs.Outcomes.Side.{Report, Records};
 ghost use Rattle.console_reporter.specs.Report.{end_of_run_text, event_text, finished_text, listed_text, past_at, text};
 ghost use Rattle.console_reporter.specs.OptionalStore.{config_of, store_accepts, store_delivered, store_meaning};
 ghost use Rattle.console_reporter.specs.Stored.{record_of};
@@ -403,7 +403,7 @@ impl<'a, W: WriteStr, S: WriteStr> DisplayReporter<'a, W, S> {
 
 // What a fault of the writer is to the caller of a reporter.
 fn error_of(fault: WriteFault) -> WriteEventError
-    ensures error { result ≡ error_for fault }
+    ensures error { result ≡ error_for Report fault }
     ensures of_console { IsOfConsole result }
     ensures unrefused { refusal_in result ≡ None }
 {
@@ -415,7 +415,7 @@ fn error_of(fault: WriteFault) -> WriteEventError
 
 // What a fault of the store is to the caller of a reporter.
 fn store_error_of(fault: WriteFault) -> WriteEventError
-    ensures error { result ≡ store_error_for fault }
+    ensures error { result ≡ error_for Records fault }
     ensures unrefused { refusal_in result ≡ None }
 {
     match fault {

@@ -2,7 +2,8 @@ use Rattle.std.proofs.Common.{take, rules}
 use Rattle.console_reporter.specs.Accepted.{AreAccepted}
 use Rattle.console_reporter.specs.Configuration.{configured_with_store}
 use Rattle.std.proofs.lemmas.Result.{on_ok_weaker, IfErr-weaker}
-use Rattle.console_reporter.proofs.lemmas.Calls.{err_here, ok_here, stopped_io, stopped_known, stopped_store_io}
+use Rattle.console_reporter.specs.Outcomes.Side.{Report, Records}
+use Rattle.console_reporter.proofs.lemmas.Calls.{err_here, ok_here, stopped_device, stopped_known}
 use Rattle.console_reporter.proofs.lemmas.Independence.{order_independent, stats_independent}
 use Rattle.console_reporter.proofs.lemmas.ReportColourPairs.{colour_holds, plain_holds}
 use Rattle.console_reporter.proofs.lemmas.Runs.{memory_there, records_stopped, run_refusal, run_stopped, stored_there, text_first_there}
@@ -58,13 +59,13 @@ pub returns-in-Some-clause-no_failure : goal.returns-in-Some-clause-no_failure
 returns-in-Some-clause-no_failure g c = on_ok_weaker _ (λ h. (g.met.W.WriteStr.laws.kept _ _ _ h).0) (returns-in-Some-clause-ok g c)
 
 pub returns-in-Some-clause-io : goal.returns-in-Some-clause-io
-returns-in-Some-clause-io g c = IfErr-weaker _ _ _ (λ stop h. stopped_io g.met.W.WriteStr.laws _ _ _ _ _ h) (returns-in-Some-clause-err g c)
+returns-in-Some-clause-io g c = IfErr-weaker _ _ _ (λ stop h. stopped_device Report g.met.W.WriteStr.laws _ _ _ _ _ h) (returns-in-Some-clause-err g c)
 
 pub returns-in-Some-clause-store_io : goal.returns-in-Some-clause-store_io
-returns-in-Some-clause-store_io g c = IfErr-weaker _ _ _ (λ stop h. stopped_store_io g.met.S.WriteStr.laws _ _ _ _ _ h) (returns-in-Some-clause-store_err g c)
+returns-in-Some-clause-store_io g c = IfErr-weaker _ _ _ (λ stop h. stopped_device Records g.met.S.WriteStr.laws _ _ _ _ _ h) (returns-in-Some-clause-store_err g c)
 
 pub returns-in-Some-clause-known : goal.returns-in-Some-clause-known
-returns-in-Some-clause-known g c = IfErr-weaker _ _ _ (λ stop h. stopped_known g.met.W.WriteStr.laws _ _ _ _ _ h) (returns-in-Some-clause-err g c)
+returns-in-Some-clause-known g c = IfErr-weaker _ _ _ (λ stop h. stopped_known Report g.met.W.WriteStr.laws _ _ _ _ _ h) (returns-in-Some-clause-err g c)
 
 pub returns-in-Some-clause-colour : goal.returns-in-Some-clause-colour
 returns-in-Some-clause-colour g c = colour_holds (configured_with_store c.args.store c.args.builder c.args.use_unicode c.args.is_terminal c.args.is_ci c.args.display_empty_outputs) c.args.calls.now
