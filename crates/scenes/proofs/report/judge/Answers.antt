@@ -1,9 +1,6 @@
-use Rattle.scenes.proofs.lemmas.Judged.{refused_is_judged, refused_text}
+use Rattle.scenes.proofs.lemmas.Judged.{refused_text}
 use Rattle.std.proofs.Common.{inr}
 use Rattle.scenes.proofs.report.judge.Goals as goal
-
-pub returns-in-Err-clause-fault : goal.returns-in-Err-clause-fault
-returns-in-Err-clause-fault g c = refused_is_judged _ _ _ c.in-Err.fault c.in-Err.ensures.err
 
 pub returns-in-Err-clause-first_fault : goal.returns-in-Err-clause-first_fault
 returns-in-Err-clause-first_fault g c = λ bytes known.

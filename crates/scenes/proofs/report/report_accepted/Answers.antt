@@ -1,24 +1,14 @@
-use Rattle.std.proofs.Common.{◌≡◌, ◌∙◌, [], None, Some, Ok, IfErr, OnOk, ap, refl, rules, subst, sym}
-use Rattle.std.proofs.KnownBytes.{Appends-nil}
+use Rattle.std.proofs.Common.{◌≡◌, ◌∙◌, [], None, Some, Ok, IfErr, OnOk, ap, rules, subst}
 use Rattle.plain_text.specs.StringWriter.{string_meaning}
 use Rattle.plain_text.specs.TextBuffer.{BufferAccepts, buffer_meaning}
 use Rattle.console_reporter.specs.OptionalStore.{store_meaning}
 use Rattle.scenes.specs.Deferred.{DeliversRest}
 use Rattle.scenes.specs.ParsedScenes.{scene_lines}
-use Rattle.scenes.specs.Prints.{Begins, device}
 use Rattle.scenes.specs.Reports.{report_of}
 use Rattle.scenes.proofs.lemmas.Deferred.{delivered, undelivered}
 use Rattle.scenes.proofs.lemmas.Devices.{begins_there, buffer_holds, no_store_holds, prints_there, same_there, store_holds}
-use Rattle.scenes.proofs.lemmas.Prints.{begins_nothing, from_err, from_ok, moved, pair}
-use Rattle.command_line.specs.declared.fault.Fault.TheVariants.{OutOfMemory}
+use Rattle.scenes.proofs.lemmas.Prints.{from_err, from_ok}
 use Rattle.scenes.proofs.report.report_accepted.Goals as goal
-
-pub returns-in-Err-clause-err : goal.returns-in-Err-clause-err
-returns-in-Err-clause-err g c =
-    let accepted = c.judged.invariant in
-    rw (← c.judged.view_is)
-    (moved (λ old new. Begins device device c.judged.inside.options.now old new (scene_lines c.judged.inside.scene.now) OutOfMemory) refl (pair (ap g.W.Write.contents (sym c.in-Err.ensures.err)) refl)
-    (begins_nothing device device c.judged.inside.options.now _ (Appends-nil _) (Appends-nil _) (scene_lines c.judged.inside.scene.now) accepted.calls accepted.of_scene accepted.accepted OutOfMemory refl))
 
 pub returns-in_default-clause-ok : goal.returns-in_default-clause-ok
 returns-in_default-clause-ok g c =
@@ -49,14 +39,6 @@ returns-in_default-clause-err g c =
     (no_store_holds options string_meaning None (search rules) (g.S.Write.contents c.args.store_writer)) run)
     (undelivered g.W.Write.contents string_meaning options (record { writer = c.in-Ok.out }) made.result.1.now rest.new.out run made.result.2 made.ensures.same_store made.result.0 rest.result made.ensures.ok made.ensures.err
     (subst (λ b. IfErr rest.result (DeliversRest g.W.Write.contents made.result.0 b.writer rest.new.out)) settled rest.ensures.err)))
-
-pub returns-in-Err-new-clause-err : goal.returns-in-Err-new-clause-err
-returns-in-Err-new-clause-err g c =
-    let accepted = c.judged.invariant in
-    rw (← c.judged.view_is)
-    (moved (λ old new. Begins device device c.judged.inside.options.now old new (scene_lines c.judged.inside.scene.now) OutOfMemory) refl
-    (pair (ap g.W.Write.contents (sym (c.into_inner-writer-in-Err-new.ensures.writer ∙ c.in-Ok.ensures.ok.0))) (ap g.S.Write.contents (sym c.in-Err-new.ensures.err)))
-    (begins_nothing device device c.judged.inside.options.now _ (Appends-nil _) (Appends-nil _) (scene_lines c.judged.inside.scene.now) accepted.calls accepted.of_scene accepted.accepted OutOfMemory refl))
 
 pub returns-clause-ok : goal.returns-clause-ok
 returns-clause-ok g c =

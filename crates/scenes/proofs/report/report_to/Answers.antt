@@ -1,27 +1,12 @@
 use Rattle.std.proofs.Common.{[], ap, refl, subst, sym}
 use Rattle.std.specs.Prelude.{IfErr, OnOk}
-use Rattle.console_reporter.specs.OptionalStore.{IsSameStore, store_meaning}
-use Rattle.console_reporter.proofs.lemmas.Stores.{same-store, store-laws}
+use Rattle.console_reporter.specs.OptionalStore.{store_meaning}
 use Rattle.scenes.specs.ParsedScenes.{scene_lines}
 use Rattle.scenes.specs.Prints.{Begins, Prints}
 use Rattle.scenes.specs.SceneReporter.{Follows, StopsAtEvent}
-use Rattle.scenes.proofs.lemmas.Prints.{begins_nothing, from_err, from_ok, moved, pair}
+use Rattle.scenes.proofs.lemmas.Prints.{from_err, from_ok, moved, pair}
 use Rattle.scenes.proofs.lemmas.SceneReporters.{now_prints, starts, stops_scene}
 use Rattle.scenes.proofs.report.report_to.Goals as goal
-
-pub returns-in-Err-clause-same_store : goal.returns-in-Err-clause-same_store
-returns-in-Err-clause-same_store g c = same-store c.args.store
-
-pub returns-in-Err-clause-err : goal.returns-in-Err-clause-err
-returns-in-Err-clause-err g c =
-    let accepted = c.requires.accepted in
-    begins_nothing g.W.WriteStr.meaning (store_meaning g.S.WriteStr.meaning) c.args.options.now (c.args.writer.now, c.args.store) (g.met.W.WriteStr.laws.nothing _) ((store-laws g.met.S.WriteStr.laws).nothing _) (scene_lines c.args.scene.now)
-    accepted.calls accepted.of_scene accepted.accepted c.in-Err.fault c.in-Err.ensures.err
-
-pub returns-clause-same_store : goal.returns-clause-same_store
-returns-clause-same_store g c =
-    subst (λ x. IsSameStore x c.into_parts-writer.result.1) (ap (λ w. w.1) c.build-reporter.ensures.writers)
-    (subst (λ y. IsSameStore c.build-reporter.result.reporter.store y) (sym c.into_parts-writer.ensures.store) c.report_events-reported.ensures.same.store)
 
 pub returns-clause-ok : goal.returns-clause-ok
 returns-clause-ok g c =

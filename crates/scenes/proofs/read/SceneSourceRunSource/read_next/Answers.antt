@@ -2,7 +2,7 @@ use Rattle.std.proofs.Common.{[], inr, refl, subst}
 use Rattle.std.specs.Io.Buffered.{reader_remaining}
 use Rattle.command_line.specs.Pieces.{IsNextPiece}
 use Rattle.scenes.specs.Read.{AreLeft}
-use Rattle.scenes.proofs.lemmas.ReadLines.{none_left, piece_left, piece_read, unread}
+use Rattle.scenes.proofs.lemmas.ReadLines.{none_left, piece_left, piece_read}
 use Rattle.scenes.proofs.read.SceneSourceRunSource.read_next.Goals as goal
 
 pub returns-in-Ok-false-clause-read : goal.returns-in-Ok-false-clause-read
@@ -11,10 +11,6 @@ returns-in-Ok-false-clause-read g c = λ total all front before has.
     (λ run left h.
     let none = subst (λ has_piece. IsNextPiece h.0 has_piece c.next_piece.new.piece.items (reader_remaining g.R.Read.remaining c.next_piece.new.reader)) c.in-Ok-false.field-0-test (c.in-Ok-false.ensures.piece h.0 h.1) in
     (subst (AreLeft left) none.0 h.2, ([], none.1, inr (refl, refl))))
-
-pub returns-in-Err-clause-read : goal.returns-in-Err-clause-read
-returns-in-Err-clause-read g c = λ total all front before has.
-    unread c.args.file.now all front before c.args.read.now c.args.read.now _ _ has refl c.in-Err.fault c.in-Err.ensures.err
 
 pub returns-in-Ok-clause-read : goal.returns-in-Ok-clause-read
 returns-in-Ok-clause-read g c = λ total all front before has.

@@ -1,4 +1,4 @@
-use Rattle.std.proofs.Common.{◌++◌, append-nil, map, refl, rules, subst, sym}
+use Rattle.std.proofs.Common.{◌++◌, map, rules, subst}
 use Rattle.std.proofs.lemmas.List.{take_all}
 use Rattle.console_reporter.proofs.lemmas.Runs.{same-after}
 use Rattle.scenes.specs.Reports.{configuration_for}
@@ -6,13 +6,6 @@ use Rattle.scenes.specs.SceneReporter.{Follows, LeavesEvent, ReportsEvent}
 use Rattle.scenes.specs.Unloads.{ready}
 use Rattle.scenes.proofs.lemmas.SceneReporters.{stops_to, reported_to}
 use Rattle.scenes.proofs.scene_reporter.SceneReporter.report_events.Goals as goal
-
-pub loop-place-init : goal.loop-place-init
-loop-place-init g c = record {
-  same = search rules;
-  follows = λ config start base follows. subst (λ es. Follows g.W.WriteStr.meaning g.S.WriteStr.meaning c.args.options.now start c.args.self.now (record { config = config; events = es })) (sym (append-nil base)) follows;
-  failed = λ failed. (refl, refl);
-}
 
 pub loop-place-preserved : goal.loop-place-preserved
 loop-place-preserved g c =
