@@ -31,7 +31,7 @@ device = record {
   failures = λ held. 0;
 }
 
--- A beginning of the text was accepted. Its device fails only where this may be.
+-- A beginning of the text was accepted: its device failed, where that may be; or memory was refused; or the fault was another's.
 abbrev pub Begun : {S : Type 0} → Meaning S → Type 0 → S → Text → S → Type 0
 Begun m may_fail old text new = (may_fail × m.stops old text Device new) ⊎ m.stops old text Memory new ⊎ HasFront m old text new
 
