@@ -5,12 +5,9 @@ pub mod EventLines
 pub mod FollowedRuns
 pub mod Heads
 pub mod Judged
-pub mod NoConfig
 pub mod Prints
 pub mod ReadLines
 pub mod ReadyCalls
 pub mod Refusals
 pub mod SceneReporters
 pub mod Unloads
-pub mod UnmadeCalls
-pub mod Zips

@@ -1,12 +1,12 @@
--- All calls of one event are refused alike (for `check_refusal`, `check_refusals`, `report_events`).
-use Rattle.std.proofs.Common.{◌≡◌, ℕ, Bool, false, not, List, [], ◌∷◌, ◌++◌, Option, None, Some, length, take, get_or, suc, ◌+◌, ◌<◌, arith, if◌then◌else◌, refl, sym, ap, ap₂, ◌∙◌}
+-- All calls of one event are refused alike, and some need not be made to judge it (for `check_refusal`, `check_refusals`, `report_events`).
+use Rattle.std.proofs.Common.{◌≡◌, ℕ, Bool, false, not, List, [], ◌∷◌, ◌++◌, Option, None, Some, length, take, get_or, ◌+◌, ◌<◌, arith, if◌then◌else◌, refl, sym, ap, ap₂, ◌∙◌, true, ◌||◌, inl, inr, rules}
 use Rattle.std.specs.Prelude.{cond, nat_lt}
 use Rattle.std.specs.List.{AllZip, position_or_len, slice_get}
-use Rattle.std.specs.Option.{is_some, option_map_or}
+use Rattle.std.specs.Option.{is_some, option_map_or, option_map}
 use Rattle.std.proofs.lemmas.Grind.{common_steps}
-use Rattle.std.proofs.lemmas.List.{length-append}
+use Rattle.std.proofs.lemmas.List.{length-append, take_more}
 use Rattle.std.proofs.lemmas.Option.{slice_get-get_or}
-use Rattle.std.proofs.lemmas.Slice.Zip.{AllZip-long}
+use Rattle.std.proofs.lemmas.Slice.Zip.{AllZip-long, all_zipped_more}
 use Rattle.run_model.specs.Attempts.{Attempt, Written}
 use Rattle.run_model.specs.Infos.{has_valid_output}
 use Rattle.run_model.specs.Outputs.{has_loaded_output}
@@ -25,11 +25,20 @@ use Rattle.reporter_state.specs.declared.decider.OutputLoadDecider.{OutputLoadDe
 use Rattle.reporter_state.specs.declared.faults.WriteEventError.{WriteEventError}
 use Rattle.reporter_state.specs.declared.faults.WriteEventError.TheVariants.{OutputNotLoaded, RetriedSuccess}
 use Rattle.scene_events.specs.SceneAttempts.{script_status}
-use Rattle.scene_events.specs.Scenes.{IsCallOf, SaysSame}
-use Rattle.scene_events.specs.SceneOutputs.{written}
+use Rattle.scene_events.specs.Scenes.{IsCallOf, SaysSame, may_be_refused, nothing_counted, elapsed_of}
+use Rattle.scene_events.specs.SceneOutputs.{written, is_loaded}
 use Rattle.scene_events.specs.States.{result_of, unit_state}
 use Rattle.scene_events.specs.declared.scene.event.SceneEvent.{SceneEvent}
 use Rattle.scene_events.specs.declared.scene.event.SceneEvent.TheVariants as scene
+use Rattle.std.proofs.lemmas.Bool.{cases_Bool, false≢true, not-false}
+use Rattle.reporter_state.specs.KeptTests.{lent}
+use Rattle.run_model.specs.declared.status.ExecutionResultDescription.{ExecutionResultDescription}
+use Rattle.run_names.specs.declared.name.TestInstanceId.{TestInstanceId}
+use Rattle.scene_events.specs.declared.scene.outputs.SceneOutput.{SceneOutput}
+use Rattle.scene_events.specs.declared.scene.outputs.SceneOutput.TheVariants.{Output, StartError}
+use Rattle.scene_events.specs.declared.scene.test_events.SceneTest.{SceneTest}
+use Rattle.scenes.specs.Judged.{ChecksEvent}
+use Rattle.scenes.specs.Reports.{fault_at_call}
 
 -- why an event is refused whose output is needed or is not
 abbrev pub lacking : Bool → Written → Option WriteEventError
@@ -57,43 +66,27 @@ refusal_told d (scene.TestAttemptFailedWillRetry e) (kind.TestAttemptFailedWillR
     ap₂ (λ display attempt. lacking_attempt (loads_attempt d display) attempt) h.4 h.2
 refusal_told d (scene.TestFinished e) (kind.TestFinished stress test success failure statuses stats) h = rw (h.2, h.3, h.4) refl
 refusal_told d (scene.ScriptAnswered e) (kind.InfoResponse index total (response.SetupScript r)) h = ap₂ (λ state output. lacking (has_valid_output state) output) h.2.2.0 h.2.2.1
-refusal_told d (scene.ScriptAnswered e) (kind.InfoResponse index total (response.Test r)) h = absurd h.2
-refusal_told d (scene.TestAnswered e) (kind.InfoResponse index total (response.SetupScript r)) h = absurd h.2
 refusal_told d (scene.TestAnswered e) (kind.InfoResponse index total (response.Test r)) h = ap₂ (λ state output. lacking (has_valid_output state) output) h.2.3.0 h.2.3.1
-refusal_told d (scene.SetupScriptFinished e) other h = absurd h
-refusal_told d (scene.TestAttemptFailedWillRetry e) other h = absurd h
-refusal_told d (scene.TestFinished e) other h = absurd h
-refusal_told d (scene.ScriptAnswered e) other h = absurd h
-refusal_told d (scene.TestAnswered e) other h = absurd h
-refusal_told d event (kind.SetupScriptFinished stress id program args status) h = absurd h
-refusal_told d event (kind.TestAttemptFailedWillRetry stress test status delay failure) h = absurd h
-refusal_told d event (kind.TestFinished stress test success failure statuses stats) h = absurd h
-refusal_told d event (kind.InfoResponse index total answer) h = absurd h
-refusal_told d event other h = refl
+refusal_told d event other h = search rules
 
 pub refusal_of_call : (d : OutputLoadDecider) (event : SceneEvent) (c : ReportCall) → IsCallOf event c → refusal_by d c ≡ told_refusal d event
 refusal_of_call d event (call.Event e) h = refusal_told d event e.kind h.1
-refusal_of_call d (scene.Prefix prefix) (call.Prefix p) h = refl
-refusal_of_call d (scene.Header header) (call.Header x) h = refl
-refusal_of_call d event other h = absurd h
+refusal_of_call d event other h = search rules
 
--- where one list of calls of the events has its first that is refused, another has it too
-same_place : (d : OutputLoadDecider) (es : List SceneEvent) (a b : List ReportCall) → AllZip IsCallOf es a → AllZip IsCallOf es b →
-    (position_or_len (λ c. is_some (refusal_by d c)) a ≡ position_or_len (λ c. is_some (refusal_by d c)) b) × (length a ≡ length b)
-same_place d [] [] [] h k = (refl, refl)
-same_place d [] [] (y ∷ b) h k = absurd k
-same_place d [] (x ∷ a) b h k = absurd h
-same_place d (e ∷ es) [] b h k = absurd h
-same_place d (e ∷ es) (x ∷ a) [] h k = absurd k
-same_place d (e ∷ es) (x ∷ a) (y ∷ b) h k =
-    let more = same_place d es a b h.1 k.1 in
-    let here : refusal_by d x ≡ refusal_by d y = refusal_of_call d e x h.0 ∙ sym (refusal_of_call d e y k.0) in
-    (ap₂ (λ o n. cond (not (is_some o)) (1 + n) 0) here more.0, ap suc more.1)
+-- the first call that is refused stands where the first event does whose calls are
+first_told : (d : OutputLoadDecider) (es : List SceneEvent) (calls : List ReportCall) → AllZip IsCallOf es calls →
+    position_or_len (λ c. is_some (refusal_by d c)) calls ≡ position_or_len (λ e. is_some (told_refusal d e)) es
+first_told d [] [] h = refl
+first_told d (e ∷ es) (c ∷ calls) h = ap₂ (λ o n. cond (not (is_some o)) (1 + n) 0) (refusal_of_call d e c h.0) (first_told d es calls h.1)
+first_told d es calls h = absurd h
 
 pub same_first : (d : OutputLoadDecider) (es : List SceneEvent) (a b : List ReportCall) → AllZip IsCallOf es a → AllZip IsCallOf es b → first_refused d a ≡ first_refused d b
 same_first d es a b h k =
-    let same = same_place d es a b h k in
-    ap₂ (λ (n long : ℕ). cond (nat_lt n long) (Some n) None) same.0 same.1
+    ap₂ (λ (n long : ℕ). cond (nat_lt n long) (Some n) None) (first_told d es a h ∙ sym (first_told d es b k)) (AllZip-long IsCallOf es a h ∙ sym (AllZip-long IsCallOf es b k))
+
+-- one more element of each of two lists
+pub AllZip-more : {A B : Type 0} (R : A → B → Type 0) (xs : List A) (ys : List B) (i : ℕ) (x : A) (y : B) → i < length xs → x ≡ get_or xs i x → AllZip R (take i xs) ys → R x y → AllZip R (take (i + 1) xs) (ys ++ y ∷ [])
+AllZip-more R xs ys i x y l e h r = rw (take_more xs i x l, ← e) (all_zipped_more R (take i xs) ys x y h r)
 
 pub zip_long : (es : List SceneEvent) (calls : List ReportCall) (i : ℕ) → i < length es → AllZip IsCallOf (take i es) calls → length calls ≡ i
 zip_long es calls i within h = AllZip-long IsCallOf (take i es) calls h ∙ grind (arith, common_steps, within)
@@ -101,19 +94,82 @@ zip_long es calls i within h = AllZip-long IsCallOf (take i es) calls h ∙ grin
 -- the calls of the first events and those of the others
 pub zip_both : (es fs : List SceneEvent) (calls more : List ReportCall) → AllZip IsCallOf es calls → AllZip IsCallOf fs more → AllZip IsCallOf (es ++ fs) (calls ++ more)
 zip_both [] fs [] more h k = k
-zip_both [] fs (x ∷ calls) more h k = absurd h
-zip_both (e ∷ es) fs [] more h k = absurd h
 zip_both (e ∷ es) fs (x ∷ calls) more h k = (h.0, zip_both es fs calls more h.1 k)
+zip_both es fs calls more h k = absurd h
 
 -- the call behind others, and those before it
-pub behind_there : (calls more : List ReportCall) (c : ReportCall) → slice_get (calls ++ c ∷ more) (length calls) ≡ Some c
-behind_there [] more c = refl
-behind_there (x ∷ calls) more c = behind_there calls more c
-
 pub last_there : (calls : List ReportCall) (c : ReportCall) → slice_get (calls ++ c ∷ []) (length calls) ≡ Some c
-last_there calls c = behind_there calls [] c
+last_there [] c = refl
+last_there (x ∷ calls) c = last_there calls c
 
 pub same_there : (calls : List ReportCall) (c : ReportCall) (i : ℕ) → i < length calls → slice_get (calls ++ c ∷ []) i ≡ slice_get calls i
 same_there calls c i within =
-    let size = length-append calls (c ∷ []) in
-    slice_get-get_or (calls ++ c ∷ []) i c (omega (arith, size, within)) ∙ ap (λ (x : ReportCall). Some x) (grind (arith, common_steps, within)) ∙ sym (slice_get-get_or calls i c within)
+    slice_get-get_or (calls ++ c ∷ []) i c (omega (arith, length-append calls (c ∷ []), within)) ∙ ap (λ (x : ReportCall). Some x) (grind (arith, common_steps, within)) ∙ sym (slice_get-get_or calls i c within)
+
+-- of output that is there nothing is lacking
+none_lacking : (is_needed : Bool) (output : Written) → has_loaded_output output ≡ true → lacking is_needed output ≡ None
+none_lacking true output there = rw there refl
+none_lacking false output there = refl
+
+attempt_lacks_none : (is_needed : Bool) (attempt : Attempt) → (is_success attempt.result || not (has_loaded_output attempt.output)) ≡ false → lacking_attempt is_needed attempt ≡ None
+attempt_lacks_none is_needed attempt h = elim (cases_Bool (is_success attempt.result)) [
+  | inl y ↦ absurd (false≢true (sym (rw y at h)))
+  | inr n ↦ rw n (none_lacking is_needed attempt.output (not-false _ (rw n at h)))
+]
+
+-- whether output is there does not depend on how its unit ended
+loaded : (result : Option ExecutionResultDescription) (output : SceneOutput) → is_loaded output ≡ true → has_loaded_output (written result output) ≡ true
+loaded result (Output output errors highlight) h = h
+loaded result (StartError error) h = refl
+
+-- a test as a call names it
+abbrev named : SceneTest → TestInstanceId
+named t = record { binary_id = lent t.binary_id; test_name = lent t.test_name }
+
+-- the call that says the same
+abbrev told_call : SceneEvent → TestEventKind → ReportCall
+told_call event k = call.Event (record { elapsed = record { 0 = elapsed_of event }; kind = k })
+
+judged_by : (d : OutputLoadDecider) (event : SceneEvent) (k : TestEventKind) → SaysSame event k → told_refusal d event ≡ None → (n : ℕ) → ChecksEvent d n event None
+judged_by d event k same none n =
+    let of_event : IsCallOf event (told_call event k) = (refl, same) in
+    record { call = told_call event k; of_event = of_event; is = sym (ap (option_map (fault_at_call n)) (refusal_of_call d event (told_call event k) of_event ∙ none)) }
+
+-- an event that needs no judging is refused by no reporter
+pub judged_unmade : (d : OutputLoadDecider) (event : SceneEvent) → may_be_refused event ≡ false → (n : ℕ) → ChecksEvent d n event None
+judged_unmade d (scene.Prefix p) off = λ n. record { call = call.Prefix p; of_event = refl; is = refl }
+judged_unmade d (scene.Header h) off = absurd (false≢true (sym off))
+judged_unmade d (scene.RunStarted e) off = judged_by d _ (kind.RunStarted e.test_list e.run_id e.profile_name) (refl, refl, refl) refl
+judged_unmade d (scene.StressSubRunStarted e) off = judged_by d _ (kind.StressSubRunStarted e.progress) refl refl
+judged_unmade d (scene.SetupScriptStarted e) off = judged_by d _ (kind.SetupScriptStarted e.stress_index e.index e.total e.script.script_id e.script.program e.script.args) (refl, refl, refl, (refl, refl, refl)) refl
+judged_unmade d (scene.SetupScriptSlow e) off = judged_by d _ (kind.SetupScriptSlow e.stress_index e.script.script_id e.script.program e.script.args e.elapsed e.will_terminate) (refl, (refl, refl, refl), refl, refl) refl
+judged_unmade d (scene.SetupScriptFinished e) off =
+    judged_by d _ (kind.SetupScriptFinished e.stress_index e.script.script_id e.script.program e.script.args (script_status e.attempt)) (refl, (refl, refl, refl), refl)
+    (none_lacking (loads_script e.attempt.result) e.attempt.output (not-false _ off))
+judged_unmade d (scene.TestStarted e) off = judged_by d _ (kind.TestStarted e.test.stress_index (named e.test) e.current_stats e.command_line) (refl, (refl, refl), refl, refl) refl
+judged_unmade d (scene.TestSlow e) off = judged_by d _ (kind.TestSlow e.test.stress_index (named e.test) e.retry_data e.elapsed e.will_terminate) (refl, (refl, refl), refl, refl, refl) refl
+judged_unmade d (scene.TestAttemptFailedWillRetry e) off =
+    judged_by d _ (kind.TestAttemptFailedWillRetry e.test.stress_index (named e.test) e.attempt e.delay_before_next_attempt e.failure_output) (refl, (refl, refl), refl, refl, refl)
+    (attempt_lacks_none (loads_attempt d e.failure_output) e.attempt off)
+judged_unmade d (scene.TestRetryStarted e) off = judged_by d _ (kind.TestRetryStarted e.test.stress_index (named e.test) e.retry_data e.command_line) (refl, (refl, refl), refl, refl) refl
+judged_unmade d (scene.TestFinished e) off =
+    judged_by d _ (kind.TestFinished e.test.stress_index (named e.test) e.success_output e.failure_output e.attempts e.current_stats) (refl, (refl, refl), refl, refl, refl, refl)
+    (none_lacking (loads_finish d e.success_output e.failure_output (summary_of e.attempts)) e.attempts.last.output (not-false _ off))
+judged_unmade d (scene.TestSkipped e) off = judged_by d _ (kind.TestSkipped e.stress_index (named e)) (refl, (refl, refl)) refl
+judged_unmade d (scene.RunBeginCancel e) off = judged_by d _ (kind.RunBeginCancel e.setup_scripts_running (nothing_counted e.reason) e.running) (refl, refl, refl) refl
+judged_unmade d (scene.RunBeginKill e) off = judged_by d _ (kind.RunBeginKill e.setup_scripts_running (nothing_counted e.reason) e.running) (refl, refl, refl) refl
+judged_unmade d (scene.RunPaused e) off = judged_by d _ (kind.RunPaused e.setup_scripts_running e.running) (refl, refl) refl
+judged_unmade d (scene.RunContinued e) off = judged_by d _ (kind.RunContinued e.setup_scripts_running e.running) (refl, refl) refl
+judged_unmade d (scene.InfoStarted e) off = judged_by d _ (kind.InfoStarted e.total e.run_stats) (refl, refl) refl
+judged_unmade d (scene.ScriptAnswered e) off =
+    judged_by d _
+    (kind.InfoResponse e.index e.total (response.SetupScript (record { stress_index = e.stress_index; script_id = e.script.script_id; program = e.script.program; args = e.script.args; state = unit_state e.answer.state; output = written (result_of e.answer.state) e.answer.output })))
+    (refl, refl, (refl, (refl, refl, refl), (refl, refl))) (none_lacking (has_valid_output (unit_state e.answer.state)) (written (result_of e.answer.state) e.answer.output) (loaded (result_of e.answer.state) e.answer.output (not-false _ off)))
+judged_unmade d (scene.TestAnswered e) off =
+    judged_by d _
+    (kind.InfoResponse e.index e.total (response.Test (record { stress_index = e.test.stress_index; test_instance = named e.test; retry_data = e.retry_data; state = unit_state e.answer.state; output = written (result_of e.answer.state) e.answer.output })))
+    (refl, refl, (refl, (refl, refl), refl, (refl, refl))) (none_lacking (has_valid_output (unit_state e.answer.state)) (written (result_of e.answer.state) e.answer.output) (loaded (result_of e.answer.state) e.answer.output (not-false _ off)))
+judged_unmade d (scene.InfoFinished e) off = judged_by d _ (kind.InfoFinished e.missing) refl refl
+judged_unmade d (scene.InputEnter e) off = judged_by d _ (kind.InputEnter e.current_stats e.running) (refl, refl) refl
+judged_unmade d (scene.StressSubRunFinished e) off = judged_by d _ (kind.StressSubRunFinished e.progress e.sub_elapsed e.sub_stats) (refl, refl, refl) refl
+judged_unmade d (scene.RunFinished e) off = judged_by d _ (kind.RunFinished e.elapsed e.run_stats e.outstanding_not_seen) (refl, refl, refl) refl

@@ -1,13 +1,73 @@
--- Which line says an event of those that lines tell (for `tell_read`).
-use Rattle.std.proofs.Common.{◌≡◌, ◌⊎◌, ℕ, ◌+◌, true, false, List, [], ◌∷◌, ◌++◌, Result, Ok, Err, length, get_or, refl, sym, ap, ◌∙◌, arith, append-nil, append_assoc, inl, inr}
+-- Which line says an event of those that lines tell, and that a line behind an event makes no configuration (for `follow_lines`).
+use Rattle.std.proofs.Common.{bytes_eq, codes, if◌then◌else◌, ◌≡◌, ◌⊎◌, ℕ, ◌+◌, true, false, List, [], ◌∷◌, ◌++◌, Result, Ok, Err, length, get_or, refl, sym, ap, ◌∙◌, arith, append-nil, append_assoc, inl, inr}
 use native.Mathlib.Numerals.{unary_clauses}
 use Rattle.std.specs.Prelude.{nat_lt}
 use Rattle.std.proofs.lemmas.Bool.Decides.{nat_tests}
 use Rattle.std.proofs.lemmas.List.{append_cancel_left, length-append}
 use Rattle.scene_events.specs.declared.scene.event.SceneEvent.{SceneEvent}
 use Rattle.scene_fields.specs.declared.fault.LineFault.{LineFault}
-use Rattle.scene_text.specs.SceneTexts.{AllRead, ParsedLine, ConfigLine, EventLine, NoEvent, ParsedLines, RunLine, event_lines, is_begun, line_here, line_read, line_value, lines_before, lines_with, with_line}
-use Rattle.scenes.proofs.lemmas.NoConfig.{config_kept}
+use Rattle.scene_text.specs.SceneTexts.{AllRead, ParsedLine, ConfigLine, EventLine, NoEvent, ParsedLines, RunLine, event_lines, is_begun, is_passed_over, line_read, line_value, lines_before, lines_with, with_line, LinesBefore, event_of, parsed_line, event_line, with_event, parsed_words, parsed_config}
+use Rattle.std.proofs.lemmas.Bool.{cond_both}
+use Rattle.scene_text.specs.Lines.{event_line_fields}
+use Rattle.scene_fields.specs.Fields.{Place}
+use Rattle.std.specs.Str.{is_utf8}
+use Rattle.scene_fields.specs.declared.fault.LineFault.TheVariants.{NotUtf8}
+use Rattle.scene_fields.specs.Split.{split_on}
+use Rattle.scene_events.specs.declared.scene.SceneConfig.{SceneConfig}
+
+-- what a line is read by that stands behind an event
+abbrev behind : SceneConfig → LinesBefore
+behind config = record { config = config; is_begun = true }
+
+abbrev Said : Type 0
+Said = Result ParsedLine LineFault
+
+-- it says no configuration
+abbrev SaysNone : Said → Type 0
+SaysNone (Ok (ConfigLine c)) = ⊥
+SaysNone other = Unit {0}
+
+by_event : (r : Result SceneEvent LineFault) → SaysNone (event_line r)
+by_event (Ok x) = tt
+by_event (Err f) = tt
+
+by_line : (config : SceneConfig) (words : List (List ℕ)) → SaysNone (parsed_words (behind config) words)
+by_line config [] = tt
+by_line config (word ∷ fields) =
+    let place : Place = record { number = 1; left = fields } in
+    let event : Said = event_line (event_of (event_line_fields word place)) in
+    cond_both (bytes_eq word (codes "config")) (parsed_config (behind config) place) event SaysNone (λ configures. tt) (λ tells. by_event (event_of (event_line_fields word place)))
+
+says_none : (config : SceneConfig) (t : List ℕ) → SaysNone (parsed_line (behind config) t)
+unfolding parsed_line
+says_none config t =
+    let words : Said = parsed_words (behind config) (split_on 9 t) in
+    cond_both (is_passed_over t) (Ok NoEvent) (if is_utf8 t then words else Err NotUtf8) SaysNone (λ passed. tt) (λ told. cond_both (is_utf8 t) words (Err NotUtf8) SaysNone (λ good. by_line config (split_on 9 t)) (λ bad. tt))
+
+with_none_made : (make : SceneEvent → Result SceneEvent LineFault) (r : Said) → SaysNone r → SaysNone (with_event make r)
+with_none_made make (Ok (EventLine e)) none = by_event (make e)
+with_none_made make other none = none
+
+begun_by : (es : List SceneEvent) (e : SceneEvent) → is_begun (es ++ e ∷ []) ≡ true
+begun_by [] e = refl
+begun_by (x ∷ es) e = refl
+
+with_none : (before after : ParsedLines) (r : Said) → SaysNone r → lines_with before r ≡ Ok after → is_begun before.events ≡ true → (after.config ≡ before.config) × (is_begun after.events ≡ true)
+with_none before after (Ok (EventLine e)) none h begun = (let same : with_line before (EventLine e) ≡ after = cc in rw (← same) (refl, begun_by before.events e))
+with_none before after (Ok (ConfigLine c)) none h begun = absurd none
+with_none before after (Ok NoEvent) none h begun = (let same : before ≡ after = cc in rw (← same) (refl, begun))
+with_none before after (Err f) none h begun = absurd (cc)
+
+one_kept : (before after : ParsedLines) (t : RunLine) → is_begun before.events ≡ true → line_read before t ≡ Ok after → (after.config ≡ before.config) × (is_begun after.events ≡ true)
+unfolding line_read
+one_kept before after t begun h =
+    let none : SaysNone (line_value (lines_before before) t) = rw begun (with_none_made (t.made (behind before.config)) (parsed_line (behind before.config) t.text) (says_none before.config t.text)) in
+    with_none before after (line_value (lines_before before) t) none h begun
+
+-- lines behind an event keep the configuration
+pub config_kept : (before : ParsedLines) (ts : List RunLine) (after : ParsedLines) → is_begun before.events ≡ true → AllRead before ts after → after.config ≡ before.config
+config_kept before [] after begun h = ap (λ x. x.config) (sym h)
+config_kept before (t ∷ ts) after begun h = (let one = one_kept before h.0 t begun h.1 in config_kept h.0 ts after one.1 h.2 ∙ one.0)
 
 -- a line says an event
 record ReadsOne (before after : ParsedLines) (t : RunLine) : Type 0 where
@@ -17,11 +77,8 @@ record ReadsOne (before after : ParsedLines) (t : RunLine) : Type 0 where
   pub config : after.config ≡ before.config
 
 with_cases : (before after : ParsedLines) (t : RunLine) (r : Result ParsedLine LineFault) → line_value (lines_before before) t ≡ r → lines_with before r ≡ Ok after → (after.events ≡ before.events) ⊎ ReadsOne before after t
-with_cases before after t (Ok NoEvent) says h = (let same : before ≡ after = cc in inl (ap (λ x. x.events) (sym same)))
-with_cases before after t (Ok (ConfigLine c)) says h = (let same : with_line before (ConfigLine c) ≡ after = cc in inl (ap (λ x. x.events) (sym same)))
-with_cases before after t (Ok (EventLine e)) says h =
-    let same : with_line before (EventLine e) ≡ after = cc in
-    inr (record { event = e; says = says; events = ap (λ x. x.events) (sym same); config = ap (λ x. x.config) (sym same) })
+with_cases before after t (Ok (EventLine e)) says h = (let same : with_line before (EventLine e) ≡ after = cc in inr (rw (← same) (record { event = e; says = says; events = refl; config = refl })))
+with_cases before after t (Ok s) says h = (let same : with_line before s ≡ after = cc in inl (rw (← same) refl))
 with_cases before after t (Err f) says h = absurd (cc)
 
 -- what a line does that tells: it says an event, or leaves the events as they are
@@ -39,26 +96,19 @@ grown before (t ∷ ts) after h =
       | inr one ↦ (one.event ∷ next.0, next.1 ∙ ap (λ es. es ++ next.0) one.events ∙ append_assoc before.events (one.event ∷ []) next.0)
     ]
 
-not_less : (n : ℕ) → nat_lt n n ≡ false
+pub not_less : (n : ℕ) → nat_lt n n ≡ false
 not_less n = grind (arith, nat_tests)
 
-less : (n m : ℕ) → m ≡ n + 1 → nat_lt n m ≡ true
-less n m h = grind (arith, nat_tests, h)
-
-none_here : (n : ℕ) (before after : ParsedLines) → after.events ≡ before.events → line_here n before after ≡ []
-none_here n before after same = rw (same, not_less (length before.events)) refl
-
-one_here : (n : ℕ) (before after : ParsedLines) (e : SceneEvent) → after.events ≡ before.events ++ e ∷ [] → line_here n before after ≡ n ∷ []
-one_here n before after e events =
-    let size : length after.events ≡ length before.events + 1 = ap length events ∙ length-append before.events (e ∷ []) in
-    rw (less (length before.events) (length after.events) size) refl
-
-lines_step : (n : ℕ) (before mid : ParsedLines) (t : RunLine) (ts : List RunLine) → line_read before t ≡ Ok mid → event_lines n before (t ∷ ts) ≡ line_here n before mid ++ event_lines (n + 1) mid ts
+-- a line notes its number where it says an event
+notes_none : (n : ℕ) (before mid : ParsedLines) (t : RunLine) (ts : List RunLine) → line_read before t ≡ Ok mid → mid.events ≡ before.events → event_lines n before (t ∷ ts) ≡ event_lines (n + 1) mid ts
 unfolding event_lines
-lines_step n before mid t ts h = rw h refl
+notes_none n before mid t ts h same = rw (h, same, not_less (length before.events)) refl
 
-first_of : (x y : SceneEvent) (xs ys : List SceneEvent) → x ∷ xs ≡ y ∷ ys → x ≡ y
-first_of x y xs ys h = cc
+notes_one : (n : ℕ) (before mid : ParsedLines) (t : RunLine) (ts : List RunLine) → line_read before t ≡ Ok mid → ReadsOne before mid t → event_lines n before (t ∷ ts) ≡ n ∷ event_lines (n + 1) mid ts
+unfolding event_lines
+notes_one n before mid t ts h one =
+    let less : nat_lt (length before.events) (length mid.events) ≡ true = grind (arith, nat_tests, ap length one.events, length-append before.events (one.event ∷ [])) in
+    rw (h, less) refl
 
 -- the line that says the event behind these, and its number among those of events
 pub record HasEventAt (n : ℕ) (before : ParsedLines) (lines : List RunLine) (after : ParsedLines) (front : List SceneEvent) (e : SceneEvent) : Type 0 where
@@ -89,49 +139,35 @@ later n before mid t ts after parsed_lines front inner e k events number = recor
   number = number ∙ k.number ∙ omega (arith);
 }
 
-begun_by : (before : List SceneEvent) (e : SceneEvent) → is_begun (before ++ e ∷ []) ≡ true
-begun_by [] e = refl
-begun_by (x ∷ xs) e = refl
-
-said_here : (n : ℕ) (before mid : ParsedLines) (t : RunLine) (ts : List RunLine) (after : ParsedLines) → line_read before t ≡ Ok mid → AllRead mid ts after → ReadsOne before mid t → ((front : List SceneEvent) (e : SceneEvent) (rest : List SceneEvent) → after.events ≡ mid.events ++ (front ++ e ∷ rest) → HasEventAt (n + 1) mid ts after front e) → (front : List SceneEvent) (e : SceneEvent) (rest : List SceneEvent) →
-    after.events ≡ before.events ++ (front ++ e ∷ rest) → HasEventAt n before (t ∷ ts) after front e
-said_here n before mid t ts after parsed_lines tells one behind [] e rest is =
-    let next = grown mid ts after tells in
-    let both : one.event ∷ next.0 ≡ e ∷ rest =
-    append_cancel_left before.events (one.event ∷ next.0) (e ∷ rest) (sym (append_assoc before.events (one.event ∷ []) next.0) ∙ ap (λ es. es ++ next.0) (sym one.events) ∙ sym next.1 ∙ is) in
-    let same : one.event ≡ e = first_of one.event e next.0 rest both in
-    record {
-      skipped = [];
-      t = t;
-      more = ts;
-      whole = refl;
-      mid = before;
-      tells = refl;
-      events = sym (append-nil before.events);
-      config = sym (config_kept mid ts after (ap is_begun one.events ∙ begun_by before.events one.event) tells ∙ one.config);
-      says = one.says ∙ ap (λ x. Ok (EventLine x)) same;
-      number = ap (λ ls. get_or ls 0 0) (lines_step n before mid t ts parsed_lines ∙ ap (λ ls. ls ++ event_lines (n + 1) mid ts) (one_here n before mid one.event one.events)) ∙ omega (arith);
-    }
-said_here n before mid t ts after parsed_lines tells one behind (f ∷ fs) e rest is =
-    let next = grown mid ts after tells in
-    let both : one.event ∷ next.0 ≡ f ∷ (fs ++ e ∷ rest) =
-    append_cancel_left before.events (one.event ∷ next.0) (f ∷ (fs ++ e ∷ rest)) (sym (append_assoc before.events (one.event ∷ []) next.0) ∙ ap (λ es. es ++ next.0) (sym one.events) ∙ sym next.1 ∙ is) in
-    let same : one.event ≡ f = first_of one.event f next.0 (fs ++ e ∷ rest) both in
-    let grows : (more : List SceneEvent) → mid.events ++ more ≡ before.events ++ f ∷ more =
-    λ more. ap (λ es. es ++ more) one.events ∙ append_assoc before.events (one.event ∷ []) more ∙ ap (λ x. before.events ++ x ∷ more) same in
-    let number : get_or (event_lines n before (t ∷ ts)) (length (f ∷ fs)) 0 ≡ get_or (event_lines (n + 1) mid ts) (length fs) 0 =
-    ap (λ ls. get_or ls (length (f ∷ fs)) 0) (lines_step n before mid t ts parsed_lines ∙ ap (λ ls. ls ++ event_lines (n + 1) mid ts) (one_here n before mid one.event one.events)) ∙ simp unary_clauses refl in
-    later n before mid t ts after parsed_lines (f ∷ fs) fs e (behind fs e rest (is ∙ sym (grows (fs ++ e ∷ rest)))) (grows fs) number
+said_here : (n : ℕ) (before mid : ParsedLines) (t : RunLine) (ts : List RunLine) (after : ParsedLines) → line_read before t ≡ Ok mid → AllRead mid ts after → (one : ReadsOne before mid t) → ((front : List SceneEvent) (e : SceneEvent) (rest : List SceneEvent) → after.events ≡ mid.events ++ (front ++ e ∷ rest) → HasEventAt (n + 1) mid ts after front e) → (front : List SceneEvent) (e : SceneEvent) (rest next : List SceneEvent) →
+    after.events ≡ mid.events ++ next → one.event ∷ next ≡ front ++ e ∷ rest → HasEventAt n before (t ∷ ts) after front e
+said_here n before mid t ts after parsed_lines tells one behind [] e rest next events both = record {
+  skipped = [];
+  t = t;
+  more = ts;
+  whole = refl;
+  mid = before;
+  tells = refl;
+  events = sym (append-nil before.events);
+  config = sym (config_kept mid ts after (ap is_begun one.events ∙ begun_by before.events one.event) tells ∙ one.config);
+  says = (let same : one.event ≡ e = cc in one.says ∙ ap (λ x. Ok (EventLine x)) same);
+  number = ap (λ ls. get_or ls 0 0) (notes_one n before mid t ts parsed_lines one) ∙ omega (arith);
+}
+said_here n before mid t ts after parsed_lines tells one behind (f ∷ fs) e rest next events both =
+    let grows : mid.events ++ fs ≡ before.events ++ f ∷ fs = (let same : one.event ≡ f = cc in ap (λ es. es ++ fs) one.events ∙ append_assoc before.events (one.event ∷ []) fs ∙ ap (λ x. before.events ++ x ∷ fs) same) in
+    let left : next ≡ fs ++ e ∷ rest = cc in
+    later n before mid t ts after parsed_lines (f ∷ fs) fs e (behind fs e rest (events ∙ ap (λ es. mid.events ++ es) left)) grows (ap (λ ls. get_or ls (length (f ∷ fs)) 0) (notes_one n before mid t ts parsed_lines one) ∙ simp unary_clauses refl)
 
 pub event_at : (n : ℕ) (before : ParsedLines) (lines : List RunLine) (after : ParsedLines) → AllRead before lines after → (front : List SceneEvent) (e : SceneEvent) (rest : List SceneEvent) → after.events ≡ before.events ++ (front ++ e ∷ rest) →
     HasEventAt n before lines after front e
 event_at n before [] after h front e rest is =
-    let size = ap length (ap (λ x. x.events) h ∙ is) ∙ length-append before.events (front ++ e ∷ rest) ∙ ap (λ k. length before.events + k) (length-append front (e ∷ rest)) in
-    absurd (omega (arith, size))
+    absurd (omega (arith, ap length (ap (λ x. x.events) h ∙ is), length-append before.events (front ++ e ∷ rest), length-append front (e ∷ rest)))
 event_at n before (t ∷ ts) after h front e rest is = elim (cases before h.0 t h.1) [
   | inl same ↦
-      let number : get_or (event_lines n before (t ∷ ts)) (length front) 0 ≡ get_or (event_lines (n + 1) h.0 ts) (length front) 0 =
-      ap (λ ls. get_or ls (length front) 0) (lines_step n before h.0 t ts h.1 ∙ ap (λ ls. ls ++ event_lines (n + 1) h.0 ts) (none_here n before h.0 same)) in
-      later n before h.0 t ts after h.1 front front e (event_at (n + 1) h.0 ts after h.2 front e rest (is ∙ ap (λ es. es ++ (front ++ e ∷ rest)) (sym same))) (ap (λ es. es ++ front) same) number
-  | inr one ↦ said_here n before h.0 t ts after h.1 h.2 one (λ front e rest is. event_at (n + 1) h.0 ts after h.2 front e rest is) front e rest is
+      later n before h.0 t ts after h.1 front front e (event_at (n + 1) h.0 ts after h.2 front e rest (is ∙ ap (λ es. es ++ (front ++ e ∷ rest)) (sym same))) (ap (λ es. es ++ front) same)
+      (ap (λ ls. get_or ls (length front) 0) (notes_none n before h.0 t ts h.1 same))
+  | inr one ↦
+      let next = grown h.0 ts after h.2 in
+      let both = append_cancel_left before.events (one.event ∷ next.0) (front ++ e ∷ rest) (sym (append_assoc before.events (one.event ∷ []) next.0) ∙ ap (λ es. es ++ next.0) (sym one.events) ∙ sym next.1 ∙ is) in
+      said_here n before h.0 t ts after h.1 h.2 one (λ front e rest is. event_at (n + 1) h.0 ts after h.2 front e rest is) front e rest next.0 next.1 both
 ]

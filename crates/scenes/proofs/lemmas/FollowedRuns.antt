@@ -36,8 +36,7 @@ use Rattle.scenes.specs.Reports.{configuration_for, fault_at_call}
 use Rattle.scenes.specs.SceneReporter.{AnswersError, Follows, IsStart, LeavesEvent, StopsAtEvent, writers}
 use Rattle.scenes.specs.Unloads.{decider_for, ready}
 use Rattle.scenes.specs.declared.scene_reporter.SceneReporter.{SceneReporter}
-use Rattle.scenes.proofs.lemmas.EventLines.{event_at}
-use Rattle.scenes.proofs.lemmas.NoConfig.{config_kept}
+use Rattle.scenes.proofs.lemmas.EventLines.{config_kept, event_at}
 use Rattle.scenes.proofs.lemmas.ReadLines.{at_more, forgets, line_reads, none_after, spells}
 use Rattle.scenes.proofs.lemmas.SceneReporters.{begins_event, begins_no_more, made_refused, now_followed, now_prints, starts}
 

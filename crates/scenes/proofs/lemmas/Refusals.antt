@@ -21,8 +21,7 @@ use Rattle.scene_events.specs.declared.scene.event.SceneEvent.{SceneEvent}
 use Rattle.scenes.specs.Judged.{IsSceneRefused, ChecksEvent}
 use Rattle.scenes.specs.Reports.{fault_at_call}
 use Rattle.scenes.specs.Unloads.{decider_for}
-use Rattle.scenes.proofs.lemmas.EventCalls.{last_there, same_there, zip_long}
-use Rattle.scenes.proofs.lemmas.Zips.{AllZip-more}
+use Rattle.scenes.proofs.lemmas.EventCalls.{AllZip-more, last_there, same_there, zip_long}
 use Rattle.command_line.specs.declared.fault.Fault.{Fault}
 use Rattle.command_line.specs.declared.fault.Fault.TheVariants as fault
 use Rattle.scene_fields.specs.declared.fault.LineFault.{LineFault}

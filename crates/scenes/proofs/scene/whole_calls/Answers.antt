@@ -1,4 +1,4 @@
-use Rattle.scenes.proofs.lemmas.Zips.{AllZip-more}
+use Rattle.scenes.proofs.lemmas.EventCalls.{AllZip-more}
 use Rattle.scene_events.specs.Scenes.{IsCallOf}
 use Rattle.scenes.proofs.scene.whole_calls.Goals as goal
 
