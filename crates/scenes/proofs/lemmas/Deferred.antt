@@ -1,25 +1,10 @@
 -- A report whose delivery was put off, and its rest delivered (for `deliver_rest`, `report_accepted`).
 use Rattle.std.proofs.Common.{◌≡◌, ℕ, List, [], Option, None, Some, Result, Ok, Err, IfErr, OnOk, refl, sym, ap, ◌∙◌, subst, append-nil, inl, inr}
-use Rattle.std.specs.List.{AllZip}
-use Rattle.plain_text.specs.Texts.{Text}
-use Rattle.plain_text.specs.TextBuffer.{BufferAccepts, BufferStops, buffer_laws, buffer_meaning}
-use Rattle.plain_text.specs.Writer.{Meaning}
+use Rattle.scenes.proofs.Common.{AllZip, Begins, Begun, buffer_meaning, BufferAccepts, decider_for, DeliversRest, Fault, first_refused, IsCallOf, IsSameStore, Meaning, Options, ParsedLines, Prints, report_of, ReportCall, Store, store_meaning, stored_of, Text, TextBuffer, WriteFailed}
+use Rattle.plain_text.specs.TextBuffer.{BufferStops, buffer_laws}
 use Rattle.plain_text.specs.declared.write_str.WriteFault.TheVariants.{Device, Memory}
-use Rattle.plain_text.specs.declared.write_str.text_buffer.TextBuffer.{TextBuffer}
-use Rattle.console_reporter.specs.OptionalStore.{IsSameStore, store_meaning}
-use Rattle.console_reporter.specs.declared.imp.store.Store.{Store}
-use Rattle.reporter_state.specs.Refusals.{first_refused}
-use Rattle.run_model.specs.declared.call.ReportCall.{ReportCall}
-use Rattle.scene_events.specs.Scenes.{IsCallOf}
-use Rattle.scene_text.specs.SceneTexts.{ParsedLines}
-use Rattle.scenes.specs.Deferred.{DeliversRest, deferred_meaning}
-use Rattle.scenes.specs.Prints.{Begins, Begun, Prints}
-use Rattle.scenes.specs.Reports.{report_of, stored_of}
-use Rattle.scenes.specs.Unloads.{decider_for}
+use Rattle.scenes.specs.Deferred.{deferred_meaning}
 use Rattle.scenes.specs.declared.deferred.Deferred.{Deferred}
-use Rattle.command_line.specs.declared.fault.Fault.{Fault}
-use Rattle.command_line.specs.declared.fault.Fault.TheVariants.{WriteFailed}
-use Rattle.command_line.specs.declared.args.Options.{Options}
 use Rattle.scenes.proofs.lemmas.Prints.{write_no_store}
 
 abbrev is_fault : Fault → Result (Unit {0}) Fault

@@ -2,26 +2,11 @@
 use Rattle.std.proofs.Common.{◌≡◌, ℕ, List, [], ◌∷◌, ◌++◌, reverse, Option, None, Some, refl, sym, ap, ◌∙◌, subst, append-nil, inl, inr}
 use Rattle.std.specs.Prelude.{⊤}
 use Rattle.std.specs.Io.KnownBytes.{Appends, append_known}
-use Rattle.std.proofs.KnownBytes.{Appends-nil}
-use Rattle.plain_text.specs.Texts.{Text}
-use Rattle.plain_text.specs.TextBuffer.{GrowsWithin, Holds, buffer_meaning}
-use Rattle.plain_text.specs.Writer.{AppendsFront, Meaning}
-use Rattle.plain_text.specs.declared.write_str.text_buffer.TextBuffer.{TextBuffer}
+use Rattle.scenes.proofs.Common.{Appends-nil, Begins, Begun, buffer_meaning, device, Event, Fault, Header, IsSameStore, Meaning, Options, ParsedLines, Prefix, Prints, PrintsFollowed, report_of, ReportCall, RunLine, RunOutcome, SceneConfig, StopsBy, Store, store_for, store_meaning, stored, stored_of, Text, TextBuffer}
+use Rattle.plain_text.specs.TextBuffer.{GrowsWithin, Holds}
+use Rattle.plain_text.specs.Writer.{AppendsFront}
 use Rattle.plain_text.proofs.lemmas.Deliveries.{accepted_delivers, begins_of, stopped_begins}
-use Rattle.console_reporter.specs.OptionalStore.{IsSameStore, store_meaning}
-use Rattle.console_reporter.specs.Stored.{stored}
-use Rattle.console_reporter.specs.declared.imp.store.Store.{Store}
-use Rattle.run_model.specs.declared.call.ReportCall.{ReportCall}
-use Rattle.run_model.specs.declared.call.ReportCall.TheVariants.{Event, Header, Prefix}
 use Rattle.store_text.specs.declared.config.StoreConfig.{StoreConfig}
-use Rattle.scene_events.specs.declared.scene.SceneConfig.{SceneConfig}
-use Rattle.scene_text.specs.SceneTexts.{ParsedLines, RunLine}
-use Rattle.scenes.specs.Follow.{StopsBy}
-use Rattle.scenes.specs.Prints.{Begins, Begun, Prints, PrintsFollowed, device}
-use Rattle.scenes.specs.Reports.{report_of, store_for, stored_of}
-use Rattle.scenes.specs.declared.outcome.RunOutcome.{RunOutcome}
-use Rattle.command_line.specs.declared.fault.Fault.{Fault}
-use Rattle.command_line.specs.declared.args.Options.{Options}
 use Rattle.scenes.proofs.lemmas.Heads.{stops_so}
 
 -- known bytes that stay, and grow by a beginning where they are known

@@ -1,44 +1,32 @@
 -- All calls of one event are refused alike, and some need not be made to judge it (for `check_refusal`, `check_refusals`, `report_events`).
 use Rattle.std.proofs.Common.{◌≡◌, ℕ, Bool, false, not, List, [], ◌∷◌, ◌++◌, Option, None, Some, length, take, get_or, ◌+◌, ◌<◌, arith, if◌then◌else◌, refl, sym, ap, ap₂, ◌∙◌, true, ◌||◌, inl, inr, rules}
-use Rattle.std.specs.Prelude.{cond, nat_lt}
-use Rattle.std.specs.List.{AllZip, position_or_len, slice_get}
-use Rattle.std.specs.Option.{is_some, option_map_or, option_map}
-use Rattle.std.proofs.lemmas.Grind.{common_steps}
-use Rattle.std.proofs.lemmas.List.{length-append, take_more}
-use Rattle.std.proofs.lemmas.Option.{slice_get-get_or}
-use Rattle.std.proofs.lemmas.Slice.Zip.{AllZip-long, all_zipped_more}
+use Rattle.scenes.proofs.Common.{all_zipped_more, AllZip, cases_Bool, ChecksEvent, common_steps, cond, false≢true, fault_at_call, first_refused, is_some, IsCallOf, length-append, nat_lt, option_map, OutputLoadDecider, OutputNotLoaded, position_or_len, refusal_by, ReportCall, RetriedSuccess, SceneEvent, slice_get, slice_get-get_or, take_more, TestEventKind, WriteEventError}
+use Rattle.std.specs.Option.{option_map_or}
+use Rattle.std.proofs.lemmas.Slice.Zip.{AllZip-long}
 use Rattle.run_model.specs.Attempts.{Attempt, Written}
 use Rattle.run_model.specs.Infos.{has_valid_output}
 use Rattle.run_model.specs.Outputs.{has_loaded_output}
 use Rattle.run_model.specs.Statuses.{is_success, summary_of}
-use Rattle.run_model.specs.declared.event.TestEventKind.{TestEventKind}
 use Rattle.run_model.specs.declared.event.TestEventKind.TheVariants as kind
 use Rattle.run_model.specs.declared.info.InfoResponse.TheVariants as response
 use Rattle.run_model.specs.declared.output.ChildOutputDescription.{ChildOutputDescription}
 use Rattle.run_model.specs.declared.output.LiveSpec.{LiveSpec}
 use Rattle.run_model.specs.declared.status.SetupScriptExecuteStatus.{SetupScriptExecuteStatus}
-use Rattle.run_model.specs.declared.call.ReportCall.{ReportCall}
 use Rattle.run_model.specs.declared.call.ReportCall.TheVariants as call
 use Rattle.reporter_state.specs.Loads.{loads_attempt, loads_finish, loads_script}
-use Rattle.reporter_state.specs.Refusals.{event_refusal, first_refused, refusal_by}
-use Rattle.reporter_state.specs.declared.decider.OutputLoadDecider.{OutputLoadDecider}
-use Rattle.reporter_state.specs.declared.faults.WriteEventError.{WriteEventError}
-use Rattle.reporter_state.specs.declared.faults.WriteEventError.TheVariants.{OutputNotLoaded, RetriedSuccess}
+use Rattle.reporter_state.specs.Refusals.{event_refusal}
 use Rattle.scene_events.specs.SceneAttempts.{script_status}
-use Rattle.scene_events.specs.Scenes.{IsCallOf, SaysSame, may_be_refused, nothing_counted, elapsed_of}
+use Rattle.scene_events.specs.Scenes.{SaysSame, may_be_refused, nothing_counted, elapsed_of}
 use Rattle.scene_events.specs.SceneOutputs.{written, is_loaded}
 use Rattle.scene_events.specs.States.{result_of, unit_state}
-use Rattle.scene_events.specs.declared.scene.event.SceneEvent.{SceneEvent}
 use Rattle.scene_events.specs.declared.scene.event.SceneEvent.TheVariants as scene
-use Rattle.std.proofs.lemmas.Bool.{cases_Bool, false≢true, not-false}
+use Rattle.std.proofs.lemmas.Bool.{not-false}
 use Rattle.reporter_state.specs.KeptTests.{lent}
 use Rattle.run_model.specs.declared.status.ExecutionResultDescription.{ExecutionResultDescription}
 use Rattle.run_names.specs.declared.name.TestInstanceId.{TestInstanceId}
 use Rattle.scene_events.specs.declared.scene.outputs.SceneOutput.{SceneOutput}
 use Rattle.scene_events.specs.declared.scene.outputs.SceneOutput.TheVariants.{Output, StartError}
 use Rattle.scene_events.specs.declared.scene.test_events.SceneTest.{SceneTest}
-use Rattle.scenes.specs.Judged.{ChecksEvent}
-use Rattle.scenes.specs.Reports.{fault_at_call}
 
 -- why an event is refused whose output is needed or is not
 abbrev pub lacking : Bool → Written → Option WriteEventError

@@ -1,19 +1,15 @@
 -- Which line says an event of those that lines tell, and that a line behind an event makes no configuration (for `follow_lines`).
 use Rattle.std.proofs.Common.{bytes_eq, codes, if◌then◌else◌, ◌≡◌, ◌⊎◌, ℕ, ◌+◌, true, false, List, [], ◌∷◌, ◌++◌, Result, Ok, Err, length, get_or, refl, sym, ap, ◌∙◌, arith, append-nil, append_assoc, inl, inr}
 use native.Mathlib.Numerals.{unary_clauses}
-use Rattle.std.specs.Prelude.{nat_lt}
-use Rattle.std.proofs.lemmas.Bool.Decides.{nat_tests}
-use Rattle.std.proofs.lemmas.List.{append_cancel_left, length-append}
-use Rattle.scene_events.specs.declared.scene.event.SceneEvent.{SceneEvent}
-use Rattle.scene_fields.specs.declared.fault.LineFault.{LineFault}
-use Rattle.scene_text.specs.SceneTexts.{AllRead, ParsedLine, ConfigLine, EventLine, NoEvent, ParsedLines, RunLine, event_lines, is_begun, is_passed_over, line_read, line_value, lines_before, lines_with, with_line, LinesBefore, event_of, parsed_line, event_line, with_event, parsed_words, parsed_config}
+use Rattle.scenes.proofs.Common.{AllRead, EventLine, is_begun, length-append, line_value, LineFault, lines_before, lines_with, nat_lt, nat_tests, ParsedLine, ParsedLines, RunLine, SceneConfig, SceneEvent, with_line}
+use Rattle.std.proofs.lemmas.List.{append_cancel_left}
+use Rattle.scene_text.specs.SceneTexts.{ConfigLine, NoEvent, event_lines, is_passed_over, line_read, LinesBefore, event_of, parsed_line, event_line, with_event, parsed_words, parsed_config}
 use Rattle.std.proofs.lemmas.Bool.{cond_both}
 use Rattle.scene_text.specs.Lines.{event_line_fields}
 use Rattle.scene_fields.specs.Fields.{Place}
 use Rattle.std.specs.Str.{is_utf8}
 use Rattle.scene_fields.specs.declared.fault.LineFault.TheVariants.{NotUtf8}
 use Rattle.scene_fields.specs.Split.{split_on}
-use Rattle.scene_events.specs.declared.scene.SceneConfig.{SceneConfig}
 
 -- what a line is read by that stands behind an event
 abbrev behind : SceneConfig → LinesBefore

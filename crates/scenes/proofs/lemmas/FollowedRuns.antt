@@ -1,41 +1,12 @@
 -- What is read of lines that is followed is reported, or left (for `follow_lines`).
 use Rattle.std.proofs.Common.{◌≡◌, ℕ, ◌+◌, Bool, true, false, List, [], ◌∷◌, ◌++◌, None, Some, Result, Ok, Err, length, map, get_or, reverse, refl, sym, ap, ◌∙◌, subst, arith, append_assoc, inl, inr}
 use Rattle.std.specs.Borrow.{Bor}
-use Rattle.std.specs.List.{AllZip}
-use Rattle.std.specs.Option.{is_some, option_map}
-use Rattle.std.proofs.lemmas.Bool.{cases_Bool, false≢true}
-use Rattle.std.proofs.lemmas.List.{length-append, reverse-reverse}
-use Rattle.plain_text.specs.Writer.{Meaning, WriterLaws}
-use Rattle.run_model.specs.declared.call.ReportCall.{ReportCall}
-use Rattle.reporter_state.specs.Refusals.{refusal_in}
-use Rattle.reporter_state.specs.declared.faults.WriteEventError.{WriteEventError}
-use Rattle.reporter_state.specs.declared.faults.WriteEventError.TheVariants.{RetriedSuccess, OutputNotLoaded, Io, Memory, Failed, StoreIo}
-use Rattle.console_reporter.specs.Report.{report}
-use Rattle.console_reporter.specs.OptionalStore.{store_meaning}
-use Rattle.console_reporter.specs.Stored.{stored}
-use Rattle.command_line.specs.Faults.{fault_of_read}
-use Rattle.command_line.specs.Pieces.{IsUnread}
-use Rattle.command_line.specs.declared.fault.Fault.{Fault}
-use Rattle.command_line.specs.declared.fault.Fault.TheVariants.{CannotRead, CannotWrite, Line, OutOfMemory, StoreFailed, Usage, WriteFailed}
-use Rattle.command_line.specs.declared.args.Options.{Options}
-use Rattle.scene_events.specs.Scenes.{IsCallOf}
-use Rattle.scene_events.specs.declared.scene.SceneConfig.{SceneConfig}
-use Rattle.scene_events.specs.declared.scene.event.SceneEvent.{SceneEvent}
-use Rattle.scene_fields.specs.declared.fault.LineFault.{LineFault}
+use Rattle.scenes.proofs.Common.{all_append, AllZip, AnswersError, AtLine, Begins, begun_behind, cases_Bool, configuration_for, decider_for, EventLine, Failed, false≢true, Fault, fault_at_call, fault_of_read, Follows, HasRead, Io, is_begun, is_begun_behind, is_some, IsCallOf, IsMore, IsNextFault, IsStart, IsUnread, KeepsUp, LeavesEvent, length-append, Line, line_value, LineFault, lines_after, lines_before, lines_with, LinesRead, Meaning, no_lines, OfLines, option_map, Options, OutOfMemory, OutputNotLoaded, parsed_lines, ParsedLine, ParsedLines, Prints, PrintsFollowed, ReadFault, ready, refusal_in, report, ReportCall, RetriedSuccess, reverse-reverse, RunLine, SceneConfig, SceneEvent, SceneReporter, StopsAtEvent, StopsBy, store_meaning, stored, StoreFailed, StoreIo, with_line, WriteEventError, WriteFailed, WriterLaws, writers}
+use Rattle.reporter_state.specs.declared.faults.WriteEventError.TheVariants.{Memory}
+use Rattle.command_line.specs.declared.fault.Fault.TheVariants.{CannotRead, CannotWrite, Usage}
 use Rattle.scene_fields.specs.declared.fault.LineFault.TheVariants as line
-use Rattle.scene_fields.specs.declared.fault.ReadFault.{ReadFault}
 use Rattle.scene_fields.specs.declared.fault.ReadFault.TheVariants as read
-use Rattle.scene_text.specs.SceneTexts.{IsNextFault, ParsedLine, EventLine, ParsedLines, RunLine, is_begun, is_begun_behind, line_read, line_value, lines_before, no_lines, parsed_lines, lines_after, lines_with, with_line}
-use Rattle.scene_text.specs.declared.reader.LinesRead.{LinesRead}
-use Rattle.scene_text.proofs.lemmas.Tellings.{all_append, begun_behind}
-use Rattle.scenes.specs.Follow.{KeepsUp, StopsBy}
-use Rattle.scenes.specs.Prints.{Begins, Prints, PrintsFollowed}
-use Rattle.scenes.specs.ParsedScenes.{OfLines}
-use Rattle.scenes.specs.Read.{AtLine, HasRead, IsMore}
-use Rattle.scenes.specs.Reports.{configuration_for, fault_at_call}
-use Rattle.scenes.specs.SceneReporter.{AnswersError, Follows, IsStart, LeavesEvent, StopsAtEvent, writers}
-use Rattle.scenes.specs.Unloads.{decider_for, ready}
-use Rattle.scenes.specs.declared.scene_reporter.SceneReporter.{SceneReporter}
+use Rattle.scene_text.specs.SceneTexts.{line_read}
 use Rattle.scenes.proofs.lemmas.EventLines.{config_kept, event_at}
 use Rattle.scenes.proofs.lemmas.ReadLines.{at_more, forgets, line_reads, none_after, spells}
 use Rattle.scenes.proofs.lemmas.SceneReporters.{begins_event, begins_no_more, made_refused, now_followed, now_prints, starts}

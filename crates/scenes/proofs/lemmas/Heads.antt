@@ -1,23 +1,8 @@
 -- A text whose lines tell no event before it ends, or before it cannot be read further (for `follow_to`), and what stopped lines (for `follow_source`).
 use Rattle.std.proofs.Common.{◌≡◌, Bool, true, false, List, [], ◌∷◌, Ok, Err, length, Result, IfOk, refl, sym, ap, ◌∙◌, subst, arith, ◌==◌, inl, inr}
-use Rattle.std.specs.List.{AllZip}
-use Rattle.std.proofs.lemmas.Bool.{false≢true}
-use Rattle.std.proofs.lemmas.Bool.Decides.{nat_tests}
-use Rattle.plain_text.specs.Writer.{Meaning}
-use Rattle.scene_events.specs.Scenes.{IsCallOf}
-use Rattle.scene_events.specs.declared.scene.event.SceneEvent.{SceneEvent}
-use Rattle.command_line.specs.declared.fault.Fault.{Fault}
-use Rattle.command_line.specs.declared.fault.Fault.TheVariants.{OutOfMemory}
-use Rattle.command_line.specs.declared.args.Options.{Options}
-use Rattle.scene_text.specs.SceneTexts.{ParsedLines, RunLine, is_begun, no_lines, parsed_lines}
-use Rattle.scene_text.specs.declared.reader.LinesRead.{LinesRead}
-use Rattle.scenes.specs.Follow.{StopsBy}
+use Rattle.scenes.proofs.Common.{AllZip, Begins, false≢true, Fault, HasRead, is_begun, IsCallOf, LinesRead, Meaning, nat_tests, no_lines, OfLines, Options, OutOfMemory, parsed_lines, ParsedLines, Prints, PrintsFollowed, RunLine, RunOutcome, SceneEvent, StopsBy}
 use Rattle.scenes.specs.Outcomes.{run_outcome}
-use Rattle.scenes.specs.Prints.{Begins, Prints, PrintsFollowed}
-use Rattle.scenes.specs.declared.outcome.RunOutcome.{RunOutcome}
 use Rattle.scenes.specs.declared.outcome.RunOutcome.TheVariants.{NotEnded}
-use Rattle.scenes.specs.ParsedScenes.{OfLines}
-use Rattle.scenes.specs.Read.{HasRead}
 use Rattle.scenes.proofs.lemmas.FollowedRuns.{nothing_more}
 use Rattle.scenes.proofs.lemmas.Prints.{begins_nothing}
 use Rattle.scenes.proofs.lemmas.ReadLines.{spells}

@@ -2,13 +2,10 @@
 use Rattle.std.proofs.Common.{◌≡◌, ℕ, List}
 use Rattle.std.specs.Prelude.{Ok}
 use Rattle.command_line.specs.Faults.{IsJudgeFault}
-use Rattle.scenes.specs.Judged.{IsRefusedText, IsSceneRefused}
-use Rattle.scenes.specs.ParsedScenes.{scene_lines}
-use Rattle.scene_text.specs.SceneTexts.{event_lines, no_lines, text_lines, text_read}
-use Rattle.command_line.specs.declared.fault.Fault.{Fault}
+use Rattle.scenes.proofs.Common.{Fault, IsSceneRefused, no_lines, Options, Scene, scene_lines, text_lines, text_read}
+use Rattle.scenes.specs.Judged.{IsRefusedText}
+use Rattle.scene_text.specs.SceneTexts.{event_lines}
 use Rattle.command_line.specs.declared.fault.Fault.TheVariants as fault
-use Rattle.scenes.specs.declared.scene.Scene.{Scene}
-use Rattle.command_line.specs.declared.args.Options.{Options}
 
 -- the fault of a refused call is one of judging
 pub refused_is_judged : (options : Options) (scene : Scene) (file : List ℕ) (f : Fault) → IsSceneRefused options scene f → IsJudgeFault file f

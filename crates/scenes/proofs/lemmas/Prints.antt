@@ -1,32 +1,13 @@
 -- What two writers have of a report that stopped, and of a longer one (for `SceneReporter::report_events`, `report_to`, `follow_to`).
 use Rattle.std.proofs.Common.{◌≡◌, ℕ, List, [], ◌∷◌, ◌++◌, true, reverse, refl, sym, ap, ap₂, ◌∙◌, subst, None, Result, Ok, Err, IfErr, OnOk, append-nil, append_assoc, ◌⊎◌, inl, inr}
-use Rattle.std.specs.List.{AllZip}
-use Rattle.std.specs.Option.{is_some}
-use Rattle.std.proofs.lemmas.List.{reverse-append}
-use Rattle.plain_text.specs.Texts.{Text}
-use Rattle.plain_text.specs.Writer.{Meaning, WriterLaws}
+use Rattle.scenes.proofs.Common.{AllZip, Begins, Begun, configuration_for, decider_for, Failed, Fault, fault_at_call, first_refused, Io, is_some, IsCallOf, Line, LineFault, Meaning, Options, OutOfMemory, OutputNotLoaded, ParsedLines, Records, refusal_in, report, report_of, ReportCall, RetriedSuccess, reverse-append, SceneConfig, SceneEvent, Stops, store_for, stored, stored_of, stored_text, StoreFailed, StoreIo, Text, text, WriteEventError, WriteFailed, WriterLaws}
 use Rattle.plain_text.specs.declared.write_str.WriteFault.TheVariants.{Memory as RefusedMemory}
-use Rattle.console_reporter.specs.Outcomes.{HasFront, Stops}
-use Rattle.console_reporter.specs.Outcomes.Side.{Records, Report}
-use Rattle.console_reporter.specs.Report.{report, text}
-use Rattle.console_reporter.specs.Stored.{stored, stored_text}
+use Rattle.console_reporter.specs.Outcomes.{HasFront}
+use Rattle.console_reporter.specs.Outcomes.Side.{Report}
 use Rattle.console_reporter.proofs.lemmas.Refusals.{not_refused}
-use Rattle.reporter_state.specs.Refusals.{first_refused, refusal_in}
-use Rattle.reporter_state.specs.declared.faults.WriteEventError.{WriteEventError}
-use Rattle.reporter_state.specs.declared.faults.WriteEventError.TheVariants.{RetriedSuccess, OutputNotLoaded, Io, Memory, Failed, StoreIo}
-use Rattle.run_model.specs.declared.call.ReportCall.{ReportCall}
-use Rattle.scene_events.specs.Scenes.{IsCallOf}
-use Rattle.scene_events.specs.declared.scene.SceneConfig.{SceneConfig}
-use Rattle.scene_events.specs.declared.scene.event.SceneEvent.{SceneEvent}
-use Rattle.scene_fields.specs.declared.fault.LineFault.{LineFault}
+use Rattle.reporter_state.specs.declared.faults.WriteEventError.TheVariants.{Memory}
 use Rattle.scene_fields.specs.declared.fault.LineFault.TheVariants as line
-use Rattle.scene_text.specs.SceneTexts.{ParsedLines}
-use Rattle.scenes.specs.Prints.{Begins, Begun, IsStop}
-use Rattle.scenes.specs.Reports.{configuration_for, fault_at_call, report_of, store_for, stored_of}
-use Rattle.scenes.specs.Unloads.{decider_for}
-use Rattle.command_line.specs.declared.fault.Fault.{Fault}
-use Rattle.command_line.specs.declared.fault.Fault.TheVariants.{Line, OutOfMemory, StoreFailed, WriteFailed}
-use Rattle.command_line.specs.declared.args.Options.{Options}
+use Rattle.scenes.specs.Prints.{IsStop}
 use Rattle.scenes.proofs.lemmas.EventCalls.{zip_both}
 
 -- refused memory is no fault of a device, and a fault of one device is none of the other

@@ -1,26 +1,19 @@
 -- Lines that were read piece by piece (for `read_next`, `read_whole`, `read_head`, `follow_rest`).
 use Rattle.std.proofs.Common.{◌≡◌, ℕ, ◌+◌, Bool, true, false, List, [], ◌∷◌, ◌++◌, Option, Some, Result, Ok, Err, length, map, refl, sym, ap, ◌∙◌, subst, arith, append-nil, append_assoc, inl, inr, ◌==◌}
-use Rattle.std.specs.Io.Buffered.{reader_buffer, reader_capacity, reader_inner, reader_remaining}
+use Rattle.scenes.proofs.Common.{all_append, AllRead, AreLeft, AreLeftOf, AtLine, begun_behind, cases_Bool, Fault, fault_of_read, HasRead, is_begun, is_begun_behind, IsMore, IsNextFault, IsNextPiece, IsUnread, length-append, line_value, lines_after, lines_before, LinesRead, map-append, no_lines, OfLines, parsed_lines, ParsedLine, ParsedLines, reader_remaining, ReadFault, RunLine, text_lines, text_read, with_line}
+use Rattle.std.specs.Io.Buffered.{reader_buffer, reader_capacity, reader_inner}
 use Rattle.std.specs.List.{onto_first}
 use Rattle.std.specs.declared.io.buffered.BufReader.{BufReader}
-use Rattle.std.proofs.lemmas.Bool.{cases_Bool}
-use Rattle.std.proofs.lemmas.List.{length-append, map-append}
-use Rattle.command_line.specs.Faults.{fault_of_read}
-use Rattle.command_line.specs.Pieces.{IsNextPiece, IsUnread}
-use Rattle.command_line.specs.declared.fault.Fault.{Fault}
 use Rattle.command_line.specs.declared.fault.Fault.TheVariants as program
 use Rattle.scene_fields.specs.Split.{split_on}
-use Rattle.scene_fields.specs.declared.fault.ReadFault.{ReadFault}
 use Rattle.scene_fields.specs.declared.fault.ReadFault.TheVariants as reading
-use Rattle.scene_text.specs.SceneTexts.{AllRead, IsNextFault, LeavesLines, ParsedLine, ReadsLines, RunLine, ParsedLines, event_lines, is_begun, is_begun_behind, parsed_line, line_read, line_value, lines_before, lines_read, no_lines, plain_line, text_lines, text_read, parsed_lines, lines_after, with_line}
-use Rattle.scene_text.specs.declared.reader.LinesRead.{LinesRead}
+use Rattle.scene_text.specs.SceneTexts.{LeavesLines, ReadsLines, event_lines, parsed_line, line_read, lines_read, plain_line}
 use Rattle.scene_text.proofs.lemmas.FirstFaults.{text_fault}
-use Rattle.scene_text.proofs.lemmas.Tellings.{all_append, all_told, begun_behind, noted_append, reads_none, wrong_told}
+use Rattle.scene_text.proofs.lemmas.Tellings.{all_told, noted_append, reads_none, wrong_told}
 use Rattle.scenes.proofs.lemmas.EventLines.{not_less}
 use Rattle.std.proofs.lemmas.Iterator.Adapters.{option_map_id}
 use Rattle.std.proofs.lemmas.List.Splits.{length-slice_split}
-use Rattle.scenes.specs.Read.{AreLeft, AreLeftOf, AtLine, HasRead, IsMore}
-use Rattle.scenes.specs.ParsedScenes.{IsReadFault, IsSceneRead, OfLines}
+use Rattle.scenes.specs.ParsedScenes.{IsReadFault, IsSceneRead}
 
 -- a byte before the first of some lines is before the first of those and others
 onto_more : (c n : ℕ) (xs ys : List (List ℕ)) → length xs ≡ n + 1 → onto_first c (xs ++ ys) ≡ onto_first c xs ++ ys

@@ -1,24 +1,13 @@
 -- Calls of which the output that no report shows is left unread have the same report (for `SceneReporter::report_events` and replays).
 use Rattle.std.proofs.Common.{rules, ◌≡◌, Bool, true, false, List, [], ◌∷◌, ◌++◌, map, reverse, refl, sym, ap, ◌∙◌, inl, inr}
-use Rattle.std.proofs.lemmas.Bool.{cases_Bool}
-use Rattle.std.proofs.lemmas.List.{map-append, map-id, reverse-append, reverse-reverse}
-use Rattle.console_reporter.specs.Report.{report}
-use Rattle.console_reporter.specs.Stored.{stored}
+use Rattle.scenes.proofs.Common.{cases_Bool, configuration_for, decider_for, Event, map-append, Options, outcome_after, OutputLoadDecider, ready, refusal_by, report, ReportCall, reverse-append, reverse-reverse, RunOutcome, SceneConfig, stored, TestEventKind, unread, unread_call}
+use Rattle.std.proofs.lemmas.List.{map-id}
 use Rattle.console_reporter.proofs.lemmas.Isolation.{isolated}
-use Rattle.reporter_state.specs.Refusals.{refusal_by}
-use Rattle.reporter_state.specs.Unread.{is_skipped, unread, unread_call}
-use Rattle.reporter_state.specs.declared.decider.OutputLoadDecider.{OutputLoadDecider}
+use Rattle.reporter_state.specs.Unread.{is_skipped}
 use Rattle.run_model.specs.Unloaded.{unloaded_kind}
-use Rattle.run_model.specs.declared.call.ReportCall.{ReportCall}
-use Rattle.run_model.specs.declared.call.ReportCall.TheVariants.{Event}
-use Rattle.run_model.specs.declared.event.TestEventKind.{TestEventKind}
 use Rattle.run_model.specs.declared.event.TestEventKind.TheVariants as kind
-use Rattle.scene_events.specs.declared.scene.SceneConfig.{SceneConfig}
-use Rattle.scenes.specs.Outcomes.{outcome_after, outcome_after_event}
-use Rattle.scenes.specs.Reports.{configuration_for}
-use Rattle.scenes.specs.Unloads.{decider_for, ready, ready_if}
-use Rattle.command_line.specs.declared.args.Options.{Options}
-use Rattle.scenes.specs.declared.outcome.RunOutcome.{RunOutcome}
+use Rattle.scenes.specs.Outcomes.{outcome_after_event}
+use Rattle.scenes.specs.Unloads.{ready_if}
 
 map-reverse : {X Y : Type 0} (f : X → Y) (xs : List X) → map f (reverse xs) ≡ reverse (map f xs)
 map-reverse f [] = refl

@@ -1,33 +1,19 @@
 -- What the line of the first refused call says (for `check_refusals`).
 use Rattle.std.proofs.Common.{◌≡◌, ℕ, ◌+◌, ◌<◌, ◌≤◌, List, [], ◌∷◌, ◌++◌, Bool, Option, true, false, length, take, arith, get_or, refl, sym, ap, subst, ◌∙◌, ◌⊎◌, None, Some, inl, inr, unwrap_or}
-use Rattle.std.specs.Prelude.{cond, eqb}
-use Rattle.std.specs.Option.{is_some, option_and_then, option_map, option_or}
-use Rattle.std.specs.List.{AllZip, position, position_or_len, slice_get}
-use Rattle.std.proofs.lemmas.Bool.{cases_Bool, cases_lt, false≢true}
-use Rattle.std.proofs.lemmas.Grind.{common_steps}
-use Rattle.std.proofs.lemmas.List.{length-append, take_all}
+use Rattle.scenes.proofs.Common.{AllZip, cases_Bool, ChecksEvent, common_steps, cond, decider_for, Event, false≢true, Fault, fault_at_call, first_refused, Header, is_some, IsCallOf, IsSceneRefused, length-append, LineFault, option_and_then, option_map, Options, OutputLoadDecider, position_or_len, Prefix, refusal_by, ReportCall, Scene, SceneEvent, slice_get, slice_get-get_or, take_all, WriteEventError}
+use Rattle.std.specs.Prelude.{eqb}
+use Rattle.std.specs.Option.{option_or}
+use Rattle.std.specs.List.{position}
+use Rattle.std.proofs.lemmas.Bool.{cases_lt}
 use Rattle.std.proofs.lemmas.List.Folds.{position_or_len_push}
 use Rattle.std.proofs.lemmas.List.Sums.{fails_before_first, position_or_len_is}
 use Rattle.std.proofs.lemmas.List.Quantifiers.{position-Some}
-use Rattle.std.proofs.lemmas.Option.{slice_get-get_or, slice_get_past}
-use Rattle.reporter_state.specs.Refusals.{first_refused, is_retried_success, refusal_at_by, refusal_by}
-use Rattle.reporter_state.specs.declared.faults.WriteEventError.{WriteEventError}
+use Rattle.std.proofs.lemmas.Option.{slice_get_past}
+use Rattle.reporter_state.specs.Refusals.{is_retried_success, refusal_at_by}
 use Rattle.reporter_state.specs.Loads.{lacks_output}
-use Rattle.run_model.specs.declared.call.ReportCall.{ReportCall}
-use Rattle.run_model.specs.declared.call.ReportCall.TheVariants.{Event, Header, Prefix}
-use Rattle.reporter_state.specs.declared.decider.OutputLoadDecider.{OutputLoadDecider}
-use Rattle.scene_events.specs.Scenes.{IsCallOf}
-use Rattle.scene_events.specs.declared.scene.event.SceneEvent.{SceneEvent}
-use Rattle.scenes.specs.Judged.{IsSceneRefused, ChecksEvent}
-use Rattle.scenes.specs.Reports.{fault_at_call}
-use Rattle.scenes.specs.Unloads.{decider_for}
 use Rattle.scenes.proofs.lemmas.EventCalls.{AllZip-more, last_there, same_there, zip_long}
-use Rattle.command_line.specs.declared.fault.Fault.{Fault}
 use Rattle.command_line.specs.declared.fault.Fault.TheVariants as fault
-use Rattle.scene_fields.specs.declared.fault.LineFault.{LineFault}
 use Rattle.scene_fields.specs.declared.fault.LineFault.TheVariants as line
-use Rattle.scenes.specs.declared.scene.Scene.{Scene}
-use Rattle.command_line.specs.declared.args.Options.{Options}
 
 -- where no item passes, each fails
 position-None : {X : Type 0} (p : X → Bool) (xs : List X) (i : ℕ) (d : X) → position p xs ≡ None → i < length xs → p (get_or xs i d) ≡ false

@@ -1,45 +1,18 @@
 -- Events reported one after the other, and one that is left (for `SceneReporter::report_event`, `SceneReporter::report_events`, `report_to`, `follow_lines`).
 use Rattle.std.proofs.Common.{◌≡◌, ℕ, suc, ◌+◌, ◌<◌, true, List, [], ◌∷◌, ◌++◌, Option, None, Some, length, take, drop, map, get_or, reverse, refl, sym, ap, ◌∙◌, subst, arith, append-nil, append_assoc, inl, inr}
 use Rattle.std.proofs.Math.Seq.{drop-cons}
-use Rattle.std.specs.List.{AllZip, slice_get}
-use Rattle.std.proofs.lemmas.Slice.Zip.{all_zipped_more}
-use Rattle.std.specs.Option.{is_some, option_and_then}
-use Rattle.std.proofs.lemmas.List.{length-take-le, reverse-append, reverse-reverse, take-append-drop, take_more}
-use Rattle.plain_text.specs.Texts.{Text}
-use Rattle.plain_text.specs.Writer.{Meaning, WriterLaws}
-use Rattle.run_model.specs.declared.call.ReportCall.{ReportCall}
+use Rattle.scenes.proofs.Common.{all_zipped_more, AllZip, AnswersError, Begins, Begun, configuration_for, decider_for, EventLine, Fault, fault_at_call, first_refused, Follows, is_some, IsCallOf, IsStart, LeavesEvent, Meaning, option_and_then, Options, outcome_after, OutOfMemory, ParsedLines, Prints, PrintsFollowed, ready, Records, refusal_by, refusal_in, report, ReportCall, ReportsEvent, reverse-append, reverse-reverse, Scene, scene_lines, SceneConfig, SceneEvent, SceneReporter, slice_get, Stops, StopsAtEvent, Store, store-laws, store_for, store_meaning, stored, stored_text, StoreFailed, StoreIo, take_more, Text, text, with_line, WriteEventError, WriteFailed, WriterLaws, writers}
+use Rattle.std.proofs.lemmas.List.{length-take-le, take-append-drop}
 use Rattle.console_reporter.specs.Accepted.{refusal}
 use Rattle.console_reporter.specs.Configuration.{Configuration}
-use Rattle.console_reporter.specs.Report.{report, text}
-use Rattle.console_reporter.specs.Outcomes.{Stops}
-use Rattle.console_reporter.specs.Outcomes.Side.{Records}
-use Rattle.console_reporter.specs.OptionalStore.{config_of, store_meaning}
-use Rattle.console_reporter.specs.declared.imp.store.Store.{Store}
+use Rattle.console_reporter.specs.OptionalStore.{config_of}
 use Rattle.console_reporter.specs.HeldState.{StandsAfter}
-use Rattle.console_reporter.specs.Stored.{stored, stored_text}
 use Rattle.console_reporter.specs.Telling.{AreDelivered, Tells, TellsRun}
 use Rattle.console_reporter.specs.declared.imp.reporter.DisplayReporter.{DisplayReporter}
 use Rattle.console_reporter.proofs.lemmas.Runs.{run_begun}
-use Rattle.console_reporter.proofs.lemmas.Stores.{store-laws}
-use Rattle.reporter_state.specs.Refusals.{first_refused, refusal_by, refusal_in}
-use Rattle.reporter_state.specs.declared.faults.WriteEventError.{WriteEventError}
-use Rattle.reporter_state.specs.declared.faults.WriteEventError.TheVariants.{StoreIo}
-use Rattle.scene_text.specs.SceneTexts.{EventLine, ParsedLines, with_line}
-use Rattle.scene_events.specs.Scenes.{IsCallOf}
-use Rattle.scene_events.specs.declared.scene.SceneConfig.{SceneConfig}
-use Rattle.scene_events.specs.declared.scene.event.SceneEvent.{SceneEvent}
 use Rattle.scenes.specs.Judged.{IsSceneAccepted}
-use Rattle.scenes.specs.Outcomes.{outcome_after, run_outcome}
-use Rattle.scenes.specs.Prints.{Begins, Begun, Prints, PrintsFollowed}
-use Rattle.scenes.specs.Reports.{configuration_for, fault_at_call, store_for}
-use Rattle.scenes.specs.SceneReporter.{AnswersError, Follows, IsStart, LeavesEvent, StopsAtEvent, ReportsEvent, writers}
-use Rattle.scenes.specs.ParsedScenes.{scene_lines}
-use Rattle.scenes.specs.Unloads.{IsReadyCall, decider_for, ready}
-use Rattle.command_line.specs.declared.fault.Fault.{Fault}
-use Rattle.command_line.specs.declared.fault.Fault.TheVariants.{OutOfMemory, StoreFailed, WriteFailed}
-use Rattle.command_line.specs.declared.args.Options.{Options}
-use Rattle.scenes.specs.declared.scene.Scene.{Scene}
-use Rattle.scenes.specs.declared.scene_reporter.SceneReporter.{SceneReporter}
+use Rattle.scenes.specs.Outcomes.{run_outcome}
+use Rattle.scenes.specs.Unloads.{IsReadyCall}
 use Rattle.scenes.proofs.lemmas.EventCalls.{refusal_of_call, same_first}
 use Rattle.scenes.proofs.lemmas.ReadyCalls.{outcome_ready, refusal_ready, report_ready, stored_ready}
 use Rattle.scenes.proofs.lemmas.Refusals.{none_more, none_refused_at}

@@ -1,12 +1,6 @@
 -- Calls of which output is left unread make the same report (for `Scene::calls`).
 use Rattle.std.proofs.Common.{◌≡◌, List, true, false, refl, ◌∙◌}
-use Rattle.console_reporter.specs.Isolation.{IsIsolated}
-use Rattle.reporter_state.specs.Unread.{unread}
-use Rattle.run_model.specs.declared.call.ReportCall.{ReportCall}
-use Rattle.scenes.specs.Reports.{AreCallsOf}
-use Rattle.scenes.specs.Unloads.{AreReadyCallsOf, decider_for}
-use Rattle.scenes.specs.declared.scene.Scene.{Scene}
-use Rattle.command_line.specs.declared.args.Options.{Options}
+use Rattle.scenes.proofs.Common.{AreCallsOf, AreReadyCallsOf, decider_for, IsIsolated, Options, ReportCall, Scene, unread}
 
 module _ (options : Options) (scene : Scene) where
   -- nothing is left unread

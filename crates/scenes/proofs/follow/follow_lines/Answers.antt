@@ -1,5 +1,5 @@
 use Rattle.std.proofs.Common.{refl, rules}
-use Rattle.console_reporter.proofs.lemmas.Runs.{same-after}
+use Rattle.scenes.proofs.Common.{same-after}
 use Rattle.scenes.proofs.lemmas.FollowedRuns.{forgotten, keeps_up, left_after_all, reads_on, stops_run, reported_all, reported_first, reported_uncounted}
 use Rattle.scenes.proofs.follow.follow_lines.Goals as goal
 

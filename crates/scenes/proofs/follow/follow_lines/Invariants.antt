@@ -1,9 +1,5 @@
 use Rattle.std.proofs.Common.{◌≡◌, [], ℕ, List, true}
-use Rattle.console_reporter.specs.Telling.{IsSameReporter}
-use Rattle.scene_text.specs.SceneTexts.{RunLine, is_begun, no_lines}
-use Rattle.scenes.specs.Follow.{KeepsUp}
-use Rattle.scenes.specs.Read.{HasRead}
-use Rattle.scenes.specs.SceneReporter.{IsStart}
+use Rattle.scenes.proofs.Common.{HasRead, is_begun, IsSameReporter, IsStart, KeepsUp, no_lines, RunLine}
 use Rattle.scenes.proofs.follow.follow_lines.Given as goal
 
 -- what was read is at hand, and all before it was reported

@@ -1,7 +1,5 @@
 use Rattle.std.proofs.Common.{◌∙◌, inl, refl}
-use Rattle.std.proofs.KnownBytes.{Appends-nil}
-use Rattle.scenes.specs.Prints.{device}
-use Rattle.command_line.specs.declared.fault.Fault.TheVariants.{OutOfMemory}
+use Rattle.scenes.proofs.Common.{Appends-nil, device, OutOfMemory}
 use Rattle.scenes.proofs.lemmas.Heads.{nothing_stops}
 use Rattle.scenes.proofs.follow.follow_scene.Goals as goal
 

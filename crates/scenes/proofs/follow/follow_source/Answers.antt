@@ -1,12 +1,5 @@
 use Rattle.std.proofs.Common.{◌∙◌, None, Some, ap, refl, rules, sym}
-use Rattle.std.proofs.KnownBytes.{Appends-nil}
-use Rattle.plain_text.specs.StringWriter.{string_meaning}
-use Rattle.plain_text.specs.TextBuffer.{buffer_meaning}
-use Rattle.console_reporter.specs.OptionalStore.{store_meaning}
-use Rattle.scenes.specs.Follow.{StopsBy}
-use Rattle.scenes.specs.Prints.{Begins, Prints, device}
-use Rattle.scenes.specs.Reports.{report_of}
-use Rattle.command_line.specs.declared.fault.Fault.TheVariants.{OutOfMemory}
+use Rattle.scenes.proofs.Common.{Appends-nil, Begins, buffer_meaning, device, OutOfMemory, Prints, report_of, StopsBy, store_meaning, string_meaning}
 use Rattle.scenes.proofs.lemmas.Devices.{buffer_holds, followed_there, no_store_holds, same_there, stops_there, store_holds}
 use Rattle.scenes.proofs.lemmas.Heads.{followed_so, nothing_stops}
 use Rattle.scenes.proofs.lemmas.Prints.{from_err, moved, pair}

@@ -1,11 +1,5 @@
 use Rattle.std.proofs.Common.{[], Ok, ◌∙◌, ◌==◌, ap, sym}
-use Rattle.console_reporter.specs.OptionalStore.{store_meaning}
-use Rattle.console_reporter.proofs.lemmas.Stores.{store-laws}
-use Rattle.scene_text.specs.SceneTexts.{no_lines}
-use Rattle.scenes.specs.Follow.{StopsBy}
-use Rattle.scenes.specs.ParsedScenes.{OfLines}
-use Rattle.scenes.specs.Prints.{Begins, Prints, PrintsFollowed}
-use Rattle.scenes.specs.Read.{HasRead}
+use Rattle.scenes.proofs.Common.{Begins, HasRead, no_lines, OfLines, Prints, PrintsFollowed, StopsBy, store-laws, store_meaning}
 use Rattle.scenes.proofs.lemmas.Heads.{ends_at, head_ends, head_left, head_stops, head_told, is_none, is_some_begun, nothing_stops}
 use Rattle.scenes.proofs.lemmas.Prints.{moved, pair}
 use Rattle.scenes.proofs.lemmas.ReadLines.{none_after, none_read}

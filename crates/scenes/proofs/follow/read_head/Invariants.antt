@@ -1,6 +1,5 @@
 use Rattle.std.proofs.Common.{ℕ, List, Ok, true}
-use Rattle.scene_text.specs.SceneTexts.{ParsedLines, RunLine}
-use Rattle.scenes.specs.Read.{HasRead}
+use Rattle.scenes.proofs.Common.{HasRead, ParsedLines, RunLine}
 use Rattle.scenes.proofs.follow.read_head.Given as goal
 
 -- lines were read that tell no event

@@ -1,5 +1,5 @@
 use Rattle.std.proofs.Common.{◌+◌, rules, subst}
-use Rattle.scenes.specs.Judged.{ChecksEvent}
+use Rattle.scenes.proofs.Common.{ChecksEvent}
 use Rattle.scenes.proofs.lemmas.Refusals.{HasChecked, all_judged, judged_more}
 use Rattle.scenes.proofs.report.check_refusals.Goals as goal
 

@@ -1,5 +1,5 @@
 use Rattle.std.proofs.Common.{[], ◌∙◌, inl, refl}
-use Rattle.scene_text.specs.SceneTexts.{no_lines, text_lines}
+use Rattle.scenes.proofs.Common.{no_lines, text_lines}
 use Rattle.scene_text.proofs.lemmas.FirstFaults.{all_tell}
 use Rattle.scenes.proofs.lemmas.ReadLines.{none_read, notes, spells, stopped_read}
 use Rattle.scenes.proofs.report.read_whole.Goals as goal

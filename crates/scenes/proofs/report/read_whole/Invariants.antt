@@ -1,7 +1,5 @@
 use Rattle.std.proofs.Common.{◌≡◌, [], List, ℕ, Ok, Some, true}
-use Rattle.std.specs.Io.Buffered.{reader_remaining}
-use Rattle.scene_text.specs.SceneTexts.{no_lines, text_lines}
-use Rattle.scenes.specs.Read.{AreLeftOf, HasRead}
+use Rattle.scenes.proofs.Common.{AreLeftOf, HasRead, no_lines, reader_remaining, text_lines}
 use Rattle.scenes.proofs.report.read_whole.Given as goal
 
 -- the first lines were read

@@ -1,10 +1,5 @@
 use Rattle.std.proofs.Common.{◌≡◌, ◌∙◌, [], None, Some, Ok, IfErr, OnOk, ap, rules, subst}
-use Rattle.plain_text.specs.StringWriter.{string_meaning}
-use Rattle.plain_text.specs.TextBuffer.{BufferAccepts, buffer_meaning}
-use Rattle.console_reporter.specs.OptionalStore.{store_meaning}
-use Rattle.scenes.specs.Deferred.{DeliversRest}
-use Rattle.scenes.specs.ParsedScenes.{scene_lines}
-use Rattle.scenes.specs.Reports.{report_of}
+use Rattle.scenes.proofs.Common.{buffer_meaning, BufferAccepts, DeliversRest, report_of, scene_lines, store_meaning, string_meaning}
 use Rattle.scenes.proofs.lemmas.Deferred.{delivered, undelivered}
 use Rattle.scenes.proofs.lemmas.Devices.{begins_there, buffer_holds, no_store_holds, prints_there, same_there, store_holds}
 use Rattle.scenes.proofs.lemmas.Prints.{from_err, from_ok}

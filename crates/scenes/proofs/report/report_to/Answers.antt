@@ -1,9 +1,6 @@
 use Rattle.std.proofs.Common.{[], ap, refl, subst, sym}
 use Rattle.std.specs.Prelude.{IfErr, OnOk}
-use Rattle.console_reporter.specs.OptionalStore.{store_meaning}
-use Rattle.scenes.specs.ParsedScenes.{scene_lines}
-use Rattle.scenes.specs.Prints.{Begins, Prints}
-use Rattle.scenes.specs.SceneReporter.{Follows, StopsAtEvent}
+use Rattle.scenes.proofs.Common.{Begins, Follows, Prints, scene_lines, StopsAtEvent, store_meaning}
 use Rattle.scenes.proofs.lemmas.Prints.{from_err, from_ok, moved, pair}
 use Rattle.scenes.proofs.lemmas.SceneReporters.{now_prints, starts, stops_scene}
 use Rattle.scenes.proofs.report.report_to.Goals as goal

@@ -1,5 +1,5 @@
 use Rattle.scenes.proofs.lemmas.EventCalls.{AllZip-more}
-use Rattle.scene_events.specs.Scenes.{IsCallOf}
+use Rattle.scenes.proofs.Common.{IsCallOf}
 use Rattle.scenes.proofs.scene.whole_calls.Goals as goal
 
 pub loop-event-preserved : goal.loop-event-preserved

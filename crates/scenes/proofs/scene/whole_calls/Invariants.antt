@@ -1,6 +1,5 @@
 use Rattle.std.proofs.Common.{take}
-use Rattle.std.specs.List.{AllZip}
-use Rattle.scene_events.specs.Scenes.{IsCallOf}
+use Rattle.scenes.proofs.Common.{AllZip, IsCallOf}
 use Rattle.scenes.proofs.scene.whole_calls.Given as goal
 
 -- the events so far have their calls

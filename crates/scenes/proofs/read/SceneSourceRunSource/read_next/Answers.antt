@@ -1,7 +1,5 @@
 use Rattle.std.proofs.Common.{[], inr, refl, subst}
-use Rattle.std.specs.Io.Buffered.{reader_remaining}
-use Rattle.command_line.specs.Pieces.{IsNextPiece}
-use Rattle.scenes.specs.Read.{AreLeft}
+use Rattle.scenes.proofs.Common.{AreLeft, IsNextPiece, reader_remaining}
 use Rattle.scenes.proofs.lemmas.ReadLines.{none_left, piece_left, piece_read}
 use Rattle.scenes.proofs.read.SceneSourceRunSource.read_next.Goals as goal
 

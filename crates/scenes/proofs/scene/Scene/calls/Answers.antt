@@ -1,10 +1,7 @@
 use Rattle.std.proofs.Common.{rules, ◌≡◌, ◌++◌, length, take, drop, ap, sym, subst, ◌∙◌, true}
 use Rattle.std.proofs.Math.Seq.{take-append_seam}
 use Rattle.std.proofs.lemmas.List.{length-map}
-use Rattle.console_reporter.specs.Isolation.{IsIsolated}
-use Rattle.reporter_state.specs.Unread.{unread, unread_call}
-use Rattle.scenes.specs.Reports.{AreCallsOf}
-use Rattle.scenes.specs.Unloads.{AreReadyCallsOf, decider_for}
+use Rattle.scenes.proofs.Common.{AreCallsOf, AreReadyCallsOf, decider_for, IsIsolated, unread, unread_call}
 use Rattle.scenes.proofs.lemmas.Unloads.{ready_unread}
 use Rattle.scenes.proofs.scene.Scene.calls.Goals as goal
 

@@ -1,9 +1,5 @@
 use Rattle.std.proofs.Common.{◌++◌, map, rules, subst}
-use Rattle.std.proofs.lemmas.List.{take_all}
-use Rattle.console_reporter.proofs.lemmas.Runs.{same-after}
-use Rattle.scenes.specs.Reports.{configuration_for}
-use Rattle.scenes.specs.SceneReporter.{Follows, LeavesEvent, ReportsEvent}
-use Rattle.scenes.specs.Unloads.{ready}
+use Rattle.scenes.proofs.Common.{configuration_for, Follows, LeavesEvent, ready, ReportsEvent, same-after, take_all}
 use Rattle.scenes.proofs.lemmas.SceneReporters.{stops_to, reported_to}
 use Rattle.scenes.proofs.scene_reporter.SceneReporter.report_events.Goals as goal
 

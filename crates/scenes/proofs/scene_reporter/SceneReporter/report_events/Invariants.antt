@@ -1,10 +1,6 @@
 use Rattle.std.proofs.Common.{◌≡◌, ◌++◌, List, take}
 use Rattle.console_reporter.specs.HeldState.{HasFailed}
-use Rattle.console_reporter.specs.Telling.{IsSameReporter}
-use Rattle.scene_events.specs.declared.scene.SceneConfig.{SceneConfig}
-use Rattle.scene_events.specs.declared.scene.event.SceneEvent.{SceneEvent}
-use Rattle.scenes.specs.SceneReporter.{Follows}
-use Rattle.scenes.specs.declared.scene_reporter.SceneReporter.{SceneReporter}
+use Rattle.scenes.proofs.Common.{Follows, IsSameReporter, SceneConfig, SceneEvent, SceneReporter}
 use Rattle.scenes.proofs.scene_reporter.SceneReporter.report_events.Given as goal
 
 -- the events before this place were reported
