@@ -42,23 +42,17 @@ fault_line it = program_name it.program ++ (codes ": " ++ said_by it.program it.
 
 -- 2 where nothing was printed, 3 where a beginning of the report was
 abbrev pub status_of : Fault → ℕ
-status_of fault.Usage = 2
-status_of (fault.CannotRead file) = 2
-status_of (fault.CannotWrite file) = 2
-status_of (fault.Line n f) = 2
 status_of fault.WriteFailed = 3
 status_of fault.StoreFailed = 3
 status_of fault.OutOfMemory = 3
+status_of _ = 2
 
 -- a line of a scene is wrong, memory was refused, or this file cannot be read
 abbrev pub IsJudgeFault : List ℕ → Fault → Type 0
-IsJudgeFault file fault.Usage = ⊥
 IsJudgeFault file (fault.CannotRead f) = f.now ≡ file
-IsJudgeFault file (fault.CannotWrite f) = ⊥
 IsJudgeFault file (fault.Line n f) = ⊤
-IsJudgeFault file fault.WriteFailed = ⊥
-IsJudgeFault file fault.StoreFailed = ⊥
 IsJudgeFault file fault.OutOfMemory = ⊤
+IsJudgeFault file _ = ⊥
 
 -- the fault of a scene that could not be read
 abbrev pub fault_of_read : ReadFault → Fault

@@ -102,6 +102,7 @@ fn parse_wide_count(text: &str) -> Option<u128>
 /// ```
 /// assert_eq!(read_code("-0"), Some(0));
 /// ```
+#[tactic(auto, using(crate::proofs::lemmas::Numbers::code_by))]
 pub fn read_code(text: &str) -> Option<i32>
     ensures { result ≡ code_in text.now }
 {

@@ -8,8 +8,9 @@ ghost use Rattle.std.specs.Char.{digit_value};
 ghost use Rattle.std.specs.Option.{option_map, SomeIff};
 ghost use Rattle.scene_fields.specs.Texts.{cow_text, AddsStretch, bytes_in, escape_byte, escape_len, text_in};
 
-use super::marks::{find_byte, first_place, marks_from, without_place};
+use super::marks::find_byte;
 use super::split::split_at_byte;
+use super::unescape::unescape_in_place;
 use run_model::memory::OutOfMemory;
 use std::alloc::Global;
 use std::borrow::CowStr;
@@ -62,30 +63,12 @@ pub(crate) fn push_stretch<'a>(
 pub fn read_bytes(alloc: Global, field: &str) -> Result<Option<Vec<u8>>, OutOfMemory>
     ensures { IfOk result (λ bytes. option_map (λ v. v.items) bytes ≡ bytes_in field.now) }
 {
-    let field = field.as_bytes();
     let mut bytes = Vec::with_capacity(alloc, field.len())?;
-    let mut start = 0;
-    let mut from = 0;
-    while from < field.len() {
-        let mut marks = marks_from(b'\\', field, from);
-        while marks != 0 {
-            let place = first_place(marks);
-            marks = without_place(marks, place);
-            let escape = from + place;
-            // The second backslash of an escape begins none.
-            if escape < start {
-                continue;
-            }
-            bytes.extend_from_slice(&field[start..escape])?;
-            let Some((byte, len)) = escape_at(&field[escape + 1..], u8::MAX) else {
-                return Ok(None);
-            };
-            bytes.push(byte)?;
-            start = escape + 1 + len;
-        }
-        from += 32;
-    }
-    bytes.extend_from_slice(&field[start..])?;
+    bytes.extend_from_slice(field.as_bytes())?;
+    let Some(len) = unescape_in_place(bytes.as_mut_slice()) else {
+        return Ok(None);
+    };
+    bytes.truncate(len);
     Ok(Some(bytes))
 }
 
