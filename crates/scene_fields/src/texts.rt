@@ -52,11 +52,11 @@ pub(crate) fn push_stretch<'a>(
     ensures { IfOk result (λ after. MatchOption after (escape_byte 127 escape.now ≡ None) (AddsStretch (string_bytes text.old) plain.now escape.now (string_bytes text.new))) }
 {
     text.push_str(plain)?;
-    let Some((byte, after)) = read_escape(escape, ASCII) else {
+    let Some((byte, len)) = escape_at(escape.as_bytes(), ASCII) else {
         return Ok(None);
     };
     text.push(char::from(byte))?;
-    Ok(Some(after))
+    Ok(Some(&escape[len..]))
 }
 
 /// Reads the bytes that a test wrote. `None` means a bad field.
@@ -70,14 +70,6 @@ pub fn read_bytes(alloc: Global, field: &str) -> Result<Option<Vec<u8>>, OutOfMe
     };
     bytes.truncate(len);
     Ok(Some(bytes))
-}
-
-// Reads what an escape gives, without its backslash, each byte by digits at most `most`; and what follows the escape.
-fn read_escape(escape: &str, most: u8) -> Option<(u8, &str)>
-    ensures { MatchOption result (escape_byte most escape.now ≡ None) (λ x. (escape_byte most escape.now ≡ Some x.0) × (x.1.now ≡ drop (escape_len escape.now) escape.now)) }
-{
-    let (byte, len) = escape_at(escape.as_bytes(), most)?;
-    Some((byte, &escape[len..]))
 }
 
 /// The byte that an escape gives, and how many bytes the escape has behind its backslash, with which `escape` does not begin. The digits of

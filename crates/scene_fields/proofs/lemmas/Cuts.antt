@@ -1,12 +1,16 @@
 -- Where a text is cut at a byte (for `first_line`, `split_at_byte`, `split_fields`, `read_owned`).
-use Rattle.std.proofs.Common.{◌≡◌, ℕ, zero, suc, ◌+◌, ◌<◌, ◌≤◌, List, [], ◌∷◌, ◌++◌, Bool, true, false, length, get_or, take, drop, refl, ap, sym, ◌∙◌, ◌==◌, Option, None, Some, subst, arith, inl, inr, add-one}
-use Rattle.std.proofs.Math.Seq.{drop-cons}
+use Rattle.std.proofs.Common.{◌≡◌, ℕ, zero, suc, ◌+◌, ◌-◌, ◌<◌, ◌≤◌, List, [], ◌∷◌, ◌++◌, Bool, true, false, length, length-drop, get_or, take, drop, refl, ap, sym, ◌∙◌, ◌==◌, Option, None, Some, subst, arith, inl, inr, add-one}
+use Rattle.std.proofs.Math.Seq.{drop-cons, take-length}
 use Rattle.std.proofs.lemmas.List.{take-append-drop}
 use Rattle.std.proofs.lemmas.Bool.{cases_Bool}
 use Rattle.std.proofs.lemmas.Bool.Decides.{nat_tests}
 use Rattle.memchr.specs.Find.{IsFirstByte, is_byte, Nowhere, NoneBefore, Passes}
 use Rattle.std.specs.Option.{is_some}
 use Rattle.scene_fields.specs.Split.{Lacks, split_on, cut}
+
+-- the part of a list from a place to its end
+pub rest_is : {X : Type 0} (t : List X) (from : ℕ) → take (length t - from) (drop from t) ≡ drop from t
+rest_is t from = ap (λ n. take n (drop from t)) (sym (length-drop from t)) ∙ take-length (drop from t)
 
 is_false : (x : Bool) → ¬ (x ≡ true) → x ≡ false
 is_false x h = elim (cases_Bool x) [ inl p ↦ absurd (h p) | inr p ↦ p ]

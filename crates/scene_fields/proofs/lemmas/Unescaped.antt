@@ -1,4 +1,4 @@
--- What a text stands for, step by step (for `read_bytes`, `read_text`, `unescape_in_place`).
+-- What a text stands for, step by step (for `read_text`, `unescape_in_place`).
 use Rattle.std.proofs.Common.{◌≡◌, ℕ, zero, suc, List, [], ◌∷◌, ◌++◌, false, drop, refl, ap, sym, ◌∙◌, append_assoc, Option, Some, None, MatchOption}
 use Rattle.std.specs.Borrow.{Bor}
 use Rattle.std.specs.Option.{option_map, is_some}
@@ -56,13 +56,6 @@ module _ (most : ℕ) (whole : Option (List ℕ)) (text rest : List ℕ) (so_far
       ∙ ap (λ o. option_map (λ t. text ++ t) o) (step most b plain escape after h e a)
       ∙ map_twice text (plain ++ (b ∷ [])) (unescaped most after)
       ∙ ap (λ x. option_map (λ t. x ++ t) (unescaped most after)) (sym (append_assoc text plain (b ∷ [])))
-
-  pub read_plain_next : (plain after : List ℕ) → rest ≡ plain ++ after → IsPlain plain → whole ≡ option_map (λ t. (text ++ plain) ++ t) (unescaped most after)
-  read_plain_next plain after r h =
-      so_far
-      ∙ ap (λ x. option_map (λ t. text ++ t) (unescaped most x)) r
-      ∙ ap (λ o. option_map (λ t. text ++ t) o) (plain_before most plain after h)
-      ∙ map_twice text plain (unescaped most after)
 
   pub read_bad_escape : (plain escape : List ℕ) → rest ≡ plain ++ (92 ∷ escape) → IsPlain plain → escape_byte most escape ≡ None → whole ≡ None
   read_bad_escape plain escape r h e =

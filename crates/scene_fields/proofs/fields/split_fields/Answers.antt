@@ -16,22 +16,22 @@ pub loop-tabs-preserved : goal.loop-tabs-preserved
 loop-tabs-preserved c =
     let so_far = c.loop-tabs.invariant in
     let first = c.first_place-place.ensures in
-    let later = c.without_place-tabs.ensures in
-    let tab = next_left _ _ _ _ _ so_far.left _ first.set first.below (omega arith) in
+    let tab = next_left _ _ _ _ _ _ so_far.left _ first.set first.below (omega arith) so_far.near in
     let here = so_far.left.only _ first.set in
-    let nine : get_or c.args.line.now (c.loop-from.from + c.first_place-place.result) 0 ≡ 9 = is_same _ 9 tab.1 in
-    let within : c.loop-from.from + c.first_place-place.result < length c.args.line.now = tab.0.high in
+    let nine : get_or c.args.line.now (c.loop-tabs.at + c.first_place-place.result) 0 ≡ 9 = is_same _ 9 tab.1 in
+    let within : c.loop-tabs.at + c.first_place-place.result < length c.args.line.now = tab.0.high in
     record {
-      near = omega (arith, here.0);
+      near = omega arith;
+      high = omega (arith, here.0);
       boundary = IsCharBoundary-after_ascii c.args.line.now _ c.utf8.line within (omega arith);
-      left = fewer_left _ _ _ _ _ so_far.left _ first.set first.below _ later.cleared later.kept later.no_more;
+      left = fewer_left _ _ _ _ _ _ so_far.left _ first.set _ c.places_behind-tabs.ensures.bits;
       fields = rw c.in_ok-push.ensures.items (one_more _ _ _ _ _ so_far.fields (rw c.range.ensures.value (piece_here 9 c.args.line.now c.loop-tabs.start so_far.boundary.0 _ tab.0 tab.1)));
     }
 
 pub loop-from-preserved : goal.loop-from-preserved
 loop-from-preserved c =
     let so_far = c.loop-tabs.invariant in
-    record { near = so_far.near; boundary = so_far.boundary; seen = none_left _ _ _ _ _ so_far.left c.loop-tabs-test.false; fields = so_far.fields }
+    record { near = omega (arith, so_far.near, so_far.high); boundary = so_far.boundary; seen = none_left _ _ _ _ _ _ so_far.left c.loop-tabs-test.false; fields = so_far.fields }
 
 pub returns : goal.returns
 returns c =

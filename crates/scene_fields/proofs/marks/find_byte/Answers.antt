@@ -4,9 +4,9 @@ use Rattle.scene_fields.proofs.marks.find_byte.Goals as goal
 
 pub returns-then-marks-ne0 : goal.returns-then-marks-ne0
 returns-then-marks-ne0 c =
-    let left = all_left _ _ _ _ _ (omega arith) c.loop-from.invariant (marked_alike _ _ _ _ c.block_from.ensures c.marks_of-marks.ensures) in
+    let left = all_left _ _ _ _ _ c.loop-from.invariant (marked_alike _ _ _ _ c.block_from.ensures c.marks_of-marks.ensures) in
     let first = c.first_place.ensures in
-    next_left _ _ _ _ _ left _ first.set first.below c.requires
+    next_left _ _ _ _ _ _ left _ first.set first.below c.requires (omega arith)
 
 pub loop-from-preserved : goal.loop-from-preserved
-loop-from-preserved c = none_left _ _ _ _ _ (all_left _ _ _ _ _ (omega arith) c.loop-from.invariant (marked_alike _ _ _ _ c.block_from.ensures c.marks_of-marks.ensures)) (omega (arith, c.if-marks-ne0.false))
+loop-from-preserved c = none_left _ _ _ _ _ _ (all_left _ _ _ _ _ c.loop-from.invariant (marked_alike _ _ _ _ c.block_from.ensures c.marks_of-marks.ensures)) (omega (arith, c.if-marks-ne0.false))
