@@ -26,14 +26,16 @@ program_name program.Report = codes "report"
 program_name program.Follow = codes "follow"
 program_name program.Replay = codes "replay"
 
--- the words that a program takes
-abbrev pub usage_of : Program → List ℕ
-usage_of program.Report = codes "usage: report [--color] [--counter] [--replay] [--unload] [--level L] [--store PATH] [--store-success] [--store-failure] FILE"
-usage_of program.Follow = codes "usage: follow [--color] [--counter] [--replay] [--unload] [--level L] [--store PATH] [--store-success] [--store-failure] [FILE]"
-usage_of program.Replay = codes "usage: replay [--color] [--counter] [--replay] [--unload] [--level L] [--store PATH] [--store-success] [--store-failure] DIR"
+abbrev pub operand_of : Program → List ℕ
+operand_of program.Report = codes "FILE"
+operand_of program.Follow = codes "[FILE]"
+operand_of program.Replay = codes "DIR"
 
+-- what a program says of a fault: of wrong words, the words that it takes
 abbrev pub said_by : Program → Fault → List ℕ
-said_by by fault.Usage = usage_of by
+said_by by fault.Usage =
+    codes "usage: " ++ (program_name by
+    ++ (codes " [--color] [--counter] [--replay] [--unload] [--level L] [--store PATH] [--store-success] [--store-failure] " ++ operand_of by))
 said_by by other = fault_text other
 
 -- the line on standard error

@@ -41,8 +41,11 @@ split_on-lacks b [] h = refl
 split_on-lacks b (c ∷ t) h = let e = split_on-lacks b t h.1 in rw (h.0, e) refl
 
 -- and so is one in which no such byte was found
+pub split_on-none : (b : ℕ) (t : List ℕ) → Nowhere (Passes (is_byte b) t) 0 (length t) → split_on b t ≡ t ∷ []
+split_on-none b t none = split_on-lacks b t (Lacks-from_each b t none)
+
 pub split_on-missed : (b : ℕ) (hay t : List ℕ) (found : Option ℕ) → hay ≡ t → is_some found ≡ false → IsFirstByte (is_byte b) hay found → split_on b t ≡ t ∷ []
-split_on-missed b hay t None same none missed = subst (λ u. split_on b u ≡ u ∷ []) same (split_on-lacks b hay (Lacks-from_each b hay missed))
+split_on-missed b hay t None same none missed = subst (λ u. split_on b u ≡ u ∷ []) same (split_on-none b hay missed)
 split_on-missed b hay t (Some k) same none found = cc
 
 is_itself : (b : ℕ) → (b == b) ≡ true
@@ -53,6 +56,9 @@ pub split_on-parts : (b : ℕ) (x y : List ℕ) → Lacks b x → split_on b (x 
 unfolding split_on
 split_on-parts b [] y h = rw (is_itself b) refl
 split_on-parts b (c ∷ x) y h = let e = split_on-parts b x y h.1 in rw (h.0, e) refl
+
+pub split_on-first : (b : ℕ) (t : List ℕ) (k : ℕ) → NoneBefore (Passes (is_byte b) t) 0 (length t) k → Passes (is_byte b) t k → split_on b t ≡ take k t ∷ split_on b (drop (k + 1) t)
+split_on-first b t k first here = let parts = cut_at b t k first here in ap (split_on b) parts.1 ∙ split_on-parts b _ _ parts.0
 
 -- a text without the byte is not cut
 pub cut-lacks : (b : ℕ) (t : List ℕ) → Lacks b t → None ≡ cut b t

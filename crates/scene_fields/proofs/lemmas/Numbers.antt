@@ -1,5 +1,5 @@
 -- Numbers as a test reads them (for `read_code`, `read_count`, `read_small_count`, `read_wide_count`).
-use Rattle.std.proofs.Common.{◌≡◌, ℕ, ◌<◌, ◌^◌, List, [], ◌∷◌, Bool, length, drop, cond, refl, ap, if◌then◌else◌, None, Some, Option, ℤ, pos, negsuc, arith, inl, inr}
+use Rattle.std.proofs.Common.{◌≡◌, ℕ, ◌<◌, ◌^◌, List, [], ◌∷◌, Bool, length, drop, cond, refl, ap, sym, if◌then◌else◌, None, Some, Option, ℤ, pos, negsuc, arith, inl, inr}
 use Rattle.std.specs.Bool.{Decides}
 use Rattle.std.specs.Option.{SomeIff}
 use Rattle.std.specs.Char.{digit_value}
@@ -23,9 +23,9 @@ numeral : (t : List ℕ) → Decides (is_numeral t) (IsNumeral 10 t)
 numeral t = Decides-and _ _ (Decides-ltb 0 (length t)) (digits t)
 
 -- a number that is read by what digits are is the one that the test finds
-pub number_by : (bits : ℕ) (t : List ℕ) (r : Option ℕ) → SomeIff r (IsNumeral 10 t × (digits_value 10 t < 2 ^ bits)) (digits_value 10 t) → r ≡ number_in bits t
+pub number_by : (bits most : ℕ) (t : List ℕ) (r : Option ℕ) → SomeIff r (IsNumeral 10 t × (digits_value 10 t < most)) (digits_value 10 t) → most ≡ 2 ^ bits → r ≡ number_in bits t
 unfolding number_in
-number_by bits t r h = by_test _ _ _ (Decides-and _ _ (numeral t) (Decides-ltb (digits_value 10 t) (2 ^ bits))) r h
+number_by bits most t r h is = rw (sym is) (by_test _ _ _ (Decides-and _ _ (numeral t) (Decides-ltb (digits_value 10 t) most)) r h)
 
 fits : (z : ℤ) → Decides (fits_code z) (FitsSigned w32 z)
 fits (pos n) = ((λ e. grind (arith, nat_tests, e)), (λ h. grind (arith, nat_tests, h)))

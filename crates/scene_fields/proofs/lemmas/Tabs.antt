@@ -4,7 +4,7 @@ use Rattle.std.proofs.lemmas.List.{get_or-drop, drop-drop, map-append}
 use Rattle.memchr.specs.Find.{is_byte, Nowhere, NoneBefore, Passes}
 use Rattle.std.specs.Borrow.{Bor}
 use Rattle.scene_fields.specs.Split.{split_on, field_texts}
-use Rattle.scene_fields.proofs.lemmas.Cuts.{Lacks-from_each, cut_at, split_on-lacks, split_on-parts}
+use Rattle.scene_fields.proofs.lemmas.Cuts.{split_on-first, split_on-none}
 
 module _ (b : ℕ) (t : List ℕ) (start : ℕ) (within : start ≤ length t) where
   abbrev rest : List ℕ
@@ -23,13 +23,12 @@ module _ (b : ℕ) (t : List ℕ) (start : ℕ) (within : start ≤ length t) wh
       let at : place ≡ start + (place - start) = omega (arith, first.low) in
       let room : place - start < length rest = simp length-drop (omega (arith, first.low, first.high)) in
       let here : NoneBefore (Passes (is_byte b) rest) 0 (length rest) (place - start) = record { low = omega arith; high = room; before = λ j l u p. first.before (start + j) (omega arith) (omega arith) (back j p) } in
-      let cut = cut_at b rest (place - start) here (forth (place - start) (subst (λ n. Passes (is_byte b) t n) at passes)) in
       let e : start + (place - start + 1) ≡ place + 1 = omega (arith, first.low) in
-      ap (split_on b) cut.1 ∙ split_on-parts b _ _ cut.0 ∙ ap (λ u. take (place - start) rest ∷ split_on b u) (drop-drop _ _ t ∙ ap (λ n. drop n t) e)
+      split_on-first b rest (place - start) here (forth (place - start) (subst (λ n. Passes (is_byte b) t n) at passes)) ∙ ap (λ u. take (place - start) rest ∷ split_on b u) (drop-drop _ _ t ∙ ap (λ n. drop n t) e)
 
   -- no such byte is left
   pub last_piece : Nowhere (Passes (is_byte b) t) start (length t) → split_on b rest ≡ rest ∷ []
-  last_piece none = split_on-lacks b rest (Lacks-from_each b rest (λ j l u p. none (start + j) (omega arith) (bound j u) (back j p)))
+  last_piece none = split_on-none b rest (λ j l u p. none (start + j) (omega arith) (bound j u) (back j p))
     where
       bound : (j : ℕ) → j < length rest → start + j < length t
       bound j u = let d = length-drop start t in omega (arith, d, u)

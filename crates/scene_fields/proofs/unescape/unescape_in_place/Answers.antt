@@ -42,7 +42,7 @@ loop-plain-preserved c =
       long = length-set new (to + plain) byte ∙ c.copy_within.ensures.len ∙ so_far.long;
       within = omega (arith, escaped.len.2, ap (λ u. length u) (rest_is new (from + plain + 1)), length-drop (from + plain + 1) new, length-set new (to + plain) byte);
       low = omega (arith, so_far.low);
-      read = read_escape_next 255 _ _ _ so_far.read byte _ _ _ cut.1 cut.0 gives follows ∙ ap (λ x. option_map (λ t. x ++ t) (unescaped 255 (drop (from + plain + 1 + c.in_ok-byte.len) (slice_set new (to + plain) byte)))) (sym written);
+      read = read_escape_next 255 _ _ _ so_far.read _ _ cut.1 cut.0 byte _ gives follows ∙ ap (λ x. option_map (λ t. x ++ t) (unescaped 255 (drop (from + plain + 1 + c.in_ok-byte.len) (slice_set new (to + plain) byte)))) (sym written);
     }
 
 pub returns : goal.returns
