@@ -15,50 +15,29 @@ use super::values::read_reason;
 use run_model::event::SkipCounts;
 use run_model::stats::RunStats;
 
-/// A key of a run's statistics, or of what a run skips.
-#[derive(Clone, Copy, PartialEq, Eq)]
-pub enum Key {
-    /// Tests that were to run at first.
+// A key of a run's statistics, up to `Cancel`, or of what a run skips.
+#[derive(Clone, Copy)]
+enum Key {
     Initial,
-    /// Tests that have finished.
     Finished,
-    /// Tests that passed.
     Passed,
-    /// Of those, slow ones.
     Slow,
-    /// Of those, ones that passed after earlier attempts.
     Flaky,
-    /// Of those, ones that left handles open.
     Leaky,
-    /// Tests that failed.
     Failed,
-    /// Of those, ones that left handles open.
     LeakyFailed,
-    /// Tests that could not be started.
     Exec,
-    /// Tests that timed out.
     TimedOut,
-    /// Tests that were skipped.
     Skipped,
-    /// Setup scripts that failed.
     SetupFailed,
-    /// Setup scripts that could not be started.
     SetupExec,
-    /// Setup scripts that timed out.
     SetupTimedOut,
-    /// Why the run was cancelled.
     Cancel,
-    /// Skipped tests that passed in a run before.
     Rerun,
-    /// Skipped tests that are no benchmarks.
     NonBenchmark,
-    /// Skipped tests.
     Tests,
-    /// Skipped tests that the default filter leaves out.
     Filter,
-    /// Skipped binaries.
     Binaries,
-    /// Skipped binaries that the default filter leaves out.
     BinaryFilter,
 }
 
