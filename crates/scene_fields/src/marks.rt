@@ -49,7 +49,7 @@ pub fn find_byte(byte: u8, bytes: &[u8]) -> Option<usize>
 {
     let mut from = 0;
     while from < bytes.len() {
-        let marks = marks_of(byte, block_from(bytes, from));
+        let marks = marks_from(byte, bytes, from);
         if marks != 0 {
             return Some(from + first_place(marks));
         }
