@@ -1,8 +1,8 @@
 -- Where a text is cut at a byte (for `first_line`, `split_at_byte`, `split_fields`, `read_owned`).
-use Rattle.std.proofs.Common.{◌≡◌, ℕ, zero, suc, ◌+◌, ◌-◌, ◌<◌, ◌≤◌, List, [], ◌∷◌, ◌++◌, Bool, true, false, length, length-drop, get_or, take, drop, refl, ap, sym, ◌∙◌, ◌==◌, Option, None, Some, subst, arith, inl, inr, add-one}
+use Rattle.std.proofs.Common.{◌≡◌, ℕ, zero, suc, ◌+◌, ◌-◌, ◌<◌, ◌≤◌, List, [], ◌∷◌, ◌++◌, true, false, length, length-drop, get_or, take, drop, refl, ap, sym, ◌∙◌, ◌==◌, Option, None, Some, subst, arith, add-one}
 use Rattle.std.proofs.Math.Seq.{drop-cons, take-length}
 use Rattle.std.proofs.lemmas.List.{take-append-drop}
-use Rattle.std.proofs.lemmas.Bool.{cases_Bool}
+use Rattle.std.proofs.lemmas.Bool.{false_from_ne_true}
 use Rattle.std.proofs.lemmas.Bool.Decides.{nat_tests}
 use Rattle.memchr.specs.Find.{IsFirstByte, is_byte, Nowhere, NoneBefore, Passes}
 use Rattle.std.specs.Option.{is_some}
@@ -12,19 +12,16 @@ use Rattle.scene_fields.specs.Split.{Lacks, split_on, cut}
 pub rest_is : {X : Type 0} (t : List X) (from : ℕ) → take (length t - from) (drop from t) ≡ drop from t
 rest_is t from = ap (λ n. take n (drop from t)) (sym (length-drop from t)) ∙ take-length (drop from t)
 
-is_false : (x : Bool) → ¬ (x ≡ true) → x ≡ false
-is_false x h = elim (cases_Bool x) [ inl p ↦ absurd (h p) | inr p ↦ p ]
-
 -- no place has the byte
 pub Lacks-from_each : (b : ℕ) (t : List ℕ) → Nowhere (Passes (is_byte b) t) 0 (length t) → Lacks b t
 Lacks-from_each b [] h = tt
-Lacks-from_each b (c ∷ t) h = (is_false (c == b) (h 0 (omega arith) (omega arith)), Lacks-from_each b t (λ k l m. h (suc k) (omega arith) (omega arith)))
+Lacks-from_each b (c ∷ t) h = (false_from_ne_true (c == b) (h 0 (omega arith) (omega arith)), Lacks-from_each b t (λ k l m. h (suc k) (omega arith) (omega arith)))
 
 -- none up to a place has it
 pub Lacks-take : (b : ℕ) (t : List ℕ) (n : ℕ) → n ≤ length t → Nowhere (Passes (is_byte b) t) 0 n → Lacks b (take n t)
 Lacks-take b t zero l h = tt
 Lacks-take b [] (suc n) l h = tt
-Lacks-take b (c ∷ t) (suc n) l h = (is_false (c == b) (h 0 (omega arith) (omega arith)), Lacks-take b t n (omega arith) (λ k p m. h (suc k) (omega arith) (omega arith)))
+Lacks-take b (c ∷ t) (suc n) l h = (false_from_ne_true (c == b) (h 0 (omega arith) (omega arith)), Lacks-take b t n (omega arith) (λ k p m. h (suc k) (omega arith) (omega arith)))
 
 -- the parts before and after the first place
 pub cut_at : (b : ℕ) (t : List ℕ) (k : ℕ) → NoneBefore (Passes (is_byte b) t) 0 (length t) k → Passes (is_byte b) t k → Lacks b (take k t) × (t ≡ take k t ++ (b ∷ drop (k + 1) t))

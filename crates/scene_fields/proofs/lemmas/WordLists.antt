@@ -1,6 +1,6 @@
 -- The words of a list, step by step (for `read_words`).
-use Rattle.std.proofs.Common.{◌≡◌, ◌≢◌, ℕ, zero, suc, List, [], ◌∷◌, ◌++◌, false, ◌==◌, String, Global, string_bytes, map, drop, refl, ap, sym, ◌∙◌, append_assoc, append-nil, arith, inl, inr, Option, Some, None}
-use Rattle.std.proofs.lemmas.Bool.{cases_Bool}
+use Rattle.std.proofs.Common.{◌≡◌, ◌≢◌, ℕ, zero, suc, List, [], ◌∷◌, ◌++◌, false, ◌==◌, String, Global, string_bytes, map, drop, refl, ap, sym, ◌∙◌, append_assoc, append-nil, arith, Option, Some, None}
+use Rattle.std.proofs.lemmas.Bool.{false_from_ne_true}
 use Rattle.std.proofs.lemmas.Bool.Decides.{nat_tests}
 use Rattle.std.proofs.lemmas.List.{map-append}
 use Rattle.std.specs.Borrow.{Bor}
@@ -74,7 +74,7 @@ module _ (whole : Option Words) (words : Words) (word rest : List ℕ) (so_far :
 -- a text with no separator in front
 pub no-comma : (t : List ℕ) → ((rest : List ℕ) → t ≢ 44 ∷ rest) → begins_with_comma t ≡ false
 no-comma [] h = refl
-no-comma (c ∷ t) h = elim (cases_Bool (c == 44)) [ inl p ↦ absurd (h t (ap (λ b. b ∷ t) (grind (arith, nat_tests, p)))) | inr p ↦ p ]
+no-comma (c ∷ t) h = false_from_ne_true (c == 44) (λ p. h t (ap (λ b. b ∷ t) (grind (arith, nat_tests, p))))
 
 -- a word was pushed behind others
 pub pushed : (words more : List (String Global)) (word : String Global) (t : List ℕ) → more ≡ words ++ (word ∷ []) → string_bytes word ≡ t → map string_bytes more ≡ map string_bytes words ++ t ∷ []
