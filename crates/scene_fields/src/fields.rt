@@ -163,7 +163,7 @@ impl<'a> Fields<'a> {
         let (field, left) = owned.split_first_mut()?;
         self.owned = left;
         self.number += 1;
-        Some(mem::replace(field, OwnedText::empty(alloc)).into_memory())
+        Some(field.take_memory(alloc))
     }
 
     /// The fault of the field that was taken last.
