@@ -82,9 +82,9 @@ abbrev pub pair_in : {C : Type 0} → (C → Key → List ℕ → Option C) → 
 pair_in with_value before word value = new_pair with_value before value (key_in word)
 
 -- each pair in turn, by what its key and its value say, which the first `=` parts
-unfoldable pub in_turn : {C : Type 0} → (C → Key → List ℕ → Option C) → Counted C → List (List ℕ) → Option C
-in_turn with_value before [] = Some before.0
-in_turn with_value before (t ∷ ts) = option_and_then (λ after. in_turn with_value after ts) (option_and_then (λ x. pair_in with_value before x.0 x.1) (cut 61 t))
+unfoldable pub in_turn : {S : Type 0} → (S → List ℕ → List ℕ → Option S) → S → List (List ℕ) → Option S
+in_turn pair_in before [] = Some before
+in_turn pair_in before (t ∷ ts) = option_and_then (λ after. in_turn pair_in after ts) (option_and_then (λ x. pair_in before x.0 x.1) (cut 61 t))
 
 -- the pairs of a field, which single spaces part, each key once; `-` is no pair
 abbrev pub pairs_of : List ℕ → List (List ℕ)
@@ -92,7 +92,7 @@ pairs_of t = if bytes_eq t (codes "-") then [] else split_on 32 t
 
 -- what they say after counts without any
 abbrev pub counts_in : {C : Type 0} → (C → Key → List ℕ → Option C) → C → List ℕ → Option C
-counts_in with_value none t = in_turn with_value (none, replicate 21 false) (pairs_of t)
+counts_in with_value none t = option_map (λ read. read.0) (in_turn (pair_in with_value) (none, replicate 21 false) (pairs_of t))
 
 -- the statistics with what a key says
 abbrev pub with_stat : RunStats → Key → List ℕ → Option RunStats

@@ -84,7 +84,8 @@ trait Counts: Copy {
         ensures { option_map (λ _. self.new) result ≡ with_value self.old key value.now };
 }
 
-// Reads pairs after counts without any.
+// Reads pairs after counts without any. A space is looked for only after an `=`: if one stands before it, that pair has no `=`, and the word
+// before the `=` is no key, since it has a space.
 #[inline(always)]
 fn read_pairs<C: Counts>(none: C, field: &str) -> Option<C>
     ensures { result ≡ counts_in C.with_value none field.now }
@@ -93,8 +94,8 @@ fn read_pairs<C: Counts>(none: C, field: &str) -> Option<C>
     let mut has_key = [false; KEYS];
     let mut rest = if field == "-" { None } else { Some(field) };
     while let Some(left) = rest {
-        let (pair, others) = first_piece(left, b' ');
-        let (word, value) = split_at_byte(pair, b'=')?;
+        let (word, after) = split_at_byte(left, b'=')?;
+        let (value, others) = first_piece(after, b' ');
         read_pair(&mut counts, &mut has_key, word, value)?;
         rest = others;
     }

@@ -1,19 +1,77 @@
 -- Reading pairs one after the other, as a loop does (for `read_pairs`).
-use Rattle.std.proofs.Common.{◌≡◌, List, ◌∷◌, ℕ, Option, None, Some, sym}
-use Rattle.scene_fields.specs.Counts.{Counted, in_turn, pair_in}
-use Rattle.scene_fields.specs.Split.{cut}
+use Rattle.std.proofs.Common.{◌≡◌, List, [], ◌∷◌, ◌++◌, ℕ, Bool, true, false, ◌==◌, Option, None, Some, ap, inl, inr, refl, sym, subst, ◌∙◌}
+use Rattle.std.proofs.lemmas.Bool.{cases_Bool, or_parts}
+use Rattle.std.proofs.lemmas.List.{append-nil}
+use Rattle.std.proofs.lemmas.Slice.Eq.{bytes_eq-Decides}
+use Rattle.std.specs.List.{list_any}
+use Rattle.std.specs.Option.{option_map}
+use Rattle.std.specs.Str.{bytes_eq}
+use Rattle.scene_fields.specs.Counts.{Counted, in_turn, key_word, keys, new_pair, pair_in}
+use Rattle.scene_fields.specs.Values.{of_word}
 use Rattle.scene_fields.specs.declared.counts.Key.{Key}
+use Rattle.scene_fields.specs.Split.{Lacks, split_on}
+use Rattle.scene_fields.proofs.lemmas.Cuts.{cut-lacks, cut-parts}
 
-module _ {C : Type 0} (with_value : C → Key → List ℕ → Option C) (before : Counted C) (pairs others : List (List ℕ)) (pair : List ℕ) (all : Option C) (so_far : in_turn with_value before pairs ≡ all) (is : pairs ≡ pair ∷ others) where
-  pub no_value : None ≡ cut 61 pair → None ≡ all
+abbrev has_space : List ℕ → Bool
+has_space t = list_any (λ c. c == 32) t
+
+spaced : (vs : List Key) (t : List ℕ) → list_any (λ v. has_space (key_word v)) vs ≡ false → has_space t ≡ true → of_word key_word vs t ≡ None
+spaced [] t none h = refl
+spaced (v ∷ vs) t none h =
+    let parts = or_parts (has_space (key_word v)) _ none in
+    elim (cases_Bool (bytes_eq t (key_word v))) [
+      | inl e ↦ (let same : has_space t ≡ has_space (key_word v) = ap has_space ((bytes_eq-Decides t (key_word v)).0 e) in cc parts.0)
+      | inr e ↦ rw e (spaced vs t parts.1 h)
+    ]
+
+-- a text with a space is no key
+pub no_key : {C : Type 0} (with_value : C → Key → List ℕ → Option C) (before : Counted C) (word value : List ℕ) → has_space word ≡ true → pair_in with_value before word value ≡ None
+no_key with_value before word value h = ap (new_pair with_value before value) (spaced keys word refl h)
+
+-- the first piece of a text has no `=`
+record IsBad (t : List ℕ) : Type 0 where
+  piece : List ℕ
+  others : List (List ℕ)
+  parts : split_on 32 t ≡ piece ∷ others
+  lacks : Lacks 61 piece
+
+-- nor has that of a text whose front has none, if the front has a space or is the whole
+bad_front : (w t : List ℕ) → Lacks 61 w → (has_space w ≡ false → t ≡ []) → IsBad (w ++ t)
+unfolding split_on
+bad_front [] t h end = record { piece = []; others = []; parts = rw (end refl) refl; lacks = tt }
+bad_front (c ∷ w) t h end = elim (cases_Bool (c == 32)) [
+  | inl e ↦ record { piece = []; others = split_on 32 (w ++ t); parts = rw e refl; lacks = tt }
+  | inr e ↦ (let r = bad_front w t h.1 (rw e at end) in record { piece = c ∷ r.piece; others = r.others; parts = rw (e, r.parts) refl; lacks = (h.0, r.lacks) })
+]
+
+-- what has no space belongs to the first piece
+glued : (x t piece : List ℕ) (others : List (List ℕ)) → has_space x ≡ false → split_on 32 t ≡ piece ∷ others → split_on 32 (x ++ t) ≡ (x ++ piece) ∷ others
+unfolding split_on
+glued [] t piece others h first = first
+glued (c ∷ x) t piece others h first = let n = or_parts (c == 32) (has_space x) h in let e = glued x t piece others n.1 first in rw (n.0, e) refl
+
+module _ {C : Type 0} (reads : Counted C → List ℕ → List ℕ → Option (Counted C)) (before : Counted C) (left : List ℕ) (all : Option C) (so_far : option_map (λ read. read.0) (in_turn reads before (split_on 32 left)) ≡ all) where
+  stops : IsBad left → None ≡ all
   unfolding in_turn
-  no_value none = rw (is, sym none) at so_far
+  stops bad = let none = cut-lacks 61 bad.piece bad.lacks in rw (bad.parts, sym none) at so_far
 
-  module _ (word value : List ℕ) (parts : Some (word, value) ≡ cut 61 pair) where
-    pub bad_pair : None ≡ pair_in with_value before word value → None ≡ all
-    unfolding in_turn
-    bad_pair bad = rw (is, sym parts, sym bad) at so_far
+  pub no_value : Lacks 61 left → None ≡ all
+  no_value h = stops (subst IsBad (append-nil left) (bad_front left [] h (λ none. refl)))
 
-    pub next_pair : (new : Counted C) → Some new ≡ pair_in with_value before word value → in_turn with_value new others ≡ all
+  module _ (word after value : List ℕ) (others : List (List ℕ)) (lacks : Lacks 61 word) (is : left ≡ word ++ (61 ∷ after)) (first : split_on 32 after ≡ value ∷ others) where
+    first_pair : has_space word ≡ false → split_on 32 left ≡ (word ++ (61 ∷ value)) ∷ others
+    first_pair none = ap (split_on 32) is ∙ glued word (61 ∷ after) (61 ∷ value) others none (glued (61 ∷ []) after value others refl first)
+
+    pub next_pair : (has_space word ≡ true → reads before word value ≡ None) → (new : Counted C) → Some new ≡ reads before word value → option_map (λ read. read.0) (in_turn reads new others) ≡ all
     unfolding in_turn
-    next_pair new read = rw (is, sym parts, sym read) at so_far
+    next_pair refused new h = elim (cases_Bool (has_space word)) [
+      | inl spaced ↦ (let no = refused spaced in cc)
+      | inr none ↦ rw (first_pair none, cut-parts 61 word value lacks, sym h) at so_far
+    ]
+
+    pub bad_pair : None ≡ reads before word value → None ≡ all
+    unfolding in_turn
+    bad_pair h = elim (cases_Bool (has_space word)) [
+      | inl spaced ↦ stops (subst IsBad (sym is) (bad_front word (61 ∷ after) lacks (λ none. cc)))
+      | inr none ↦ rw (first_pair none, cut-parts 61 word value lacks, sym h) at so_far
+    ]
