@@ -10,7 +10,6 @@ ghost use Rattle.scene_fields.specs.Texts.{cow_text, AddsStretch, bytes_in, esca
 
 use super::marks::find_byte;
 use super::split::split_at_byte;
-use super::unescape::unescape_in_place;
 use run_model::memory::OutOfMemory;
 use std::alloc::Global;
 use std::borrow::CowStr;
@@ -64,11 +63,16 @@ pub fn read_bytes(alloc: Global, field: &str) -> Result<Option<Vec<u8>>, OutOfMe
     ensures { IfOk result (λ bytes. option_map (λ v. v.items) bytes ≡ bytes_in field.now) }
 {
     let mut bytes = Vec::with_capacity(alloc, field.len())?;
-    bytes.extend_from_slice(field.as_bytes())?;
-    let Some(len) = unescape_in_place(bytes.as_mut_slice()) else {
-        return Ok(None);
-    };
-    bytes.truncate(len);
+    let mut rest = field.as_bytes();
+    while let Some(plain) = find_byte(b'\\', rest) {
+        bytes.extend_from_slice(&rest[..plain])?;
+        let Some((byte, len)) = escape_at(&rest[plain + 1..], u8::MAX) else {
+            return Ok(None);
+        };
+        bytes.push(byte)?;
+        rest = &rest[plain + 1 + len..];
+    }
+    bytes.extend_from_slice(rest)?;
     Ok(Some(bytes))
 }
 

@@ -1,4 +1,4 @@
--- What a text stands for, step by step (for `read_text`, `unescape_in_place`).
+-- What a text stands for, step by step (for `read_bytes`, `read_text`, `unescape_in_place`).
 use Rattle.std.proofs.Common.{◌≡◌, ℕ, zero, suc, List, [], ◌∷◌, ◌++◌, false, drop, refl, ap, sym, ◌∙◌, append_assoc, Option, Some, None, MatchOption}
 use Rattle.std.specs.Borrow.{Bor}
 use Rattle.std.specs.Option.{option_map, is_some}
