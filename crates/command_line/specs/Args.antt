@@ -18,26 +18,17 @@ texts ws = map string_bytes ws
 
 -- where records go, and what they hold
 pub record AskedStore : Type 0 where
-  -- the file, which is made or emptied
   pub file : Text
-  -- which outputs are kept
   pub config : StoreConfig
 
--- what is asked for
+-- what is asked for: `Options`, with a text for each that it borrows
 pub record Asked : Type 0 where
-  -- the report has colours
   pub should_colorize : Bool
-  -- each line of a test has a counter
   pub show_counter : Bool
-  -- the run was recorded, and is shown again
   pub is_replay : Bool
-  -- the output that the report does not show is left unread
   pub unload_skipped : Bool
-  -- from which status level on the lines of tests are shown
   pub status_level : StatusLevel
-  -- where records of finished tests go, if they are asked for
   pub store : Option AskedStore
-  -- the file that holds the scene, or the folder that holds the recorded run
   pub file : Text
 
 -- options as a value

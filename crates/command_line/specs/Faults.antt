@@ -26,14 +26,16 @@ program_name program.Report = codes "report"
 program_name program.Follow = codes "follow"
 program_name program.Replay = codes "replay"
 
--- the words that a program takes
-abbrev pub usage_of : Program → List ℕ
-usage_of program.Report = codes "usage: report [--color] [--counter] [--replay] [--unload] [--level L] [--store PATH] [--store-success] [--store-failure] FILE"
-usage_of program.Follow = codes "usage: follow [--color] [--counter] [--replay] [--unload] [--level L] [--store PATH] [--store-success] [--store-failure] [FILE]"
-usage_of program.Replay = codes "usage: replay [--color] [--counter] [--replay] [--unload] [--level L] [--store PATH] [--store-success] [--store-failure] DIR"
+abbrev pub operand_of : Program → List ℕ
+operand_of program.Report = codes "FILE"
+operand_of program.Follow = codes "[FILE]"
+operand_of program.Replay = codes "DIR"
 
+-- what a program says of a fault: of wrong words, the words that it takes
 abbrev pub said_by : Program → Fault → List ℕ
-said_by by fault.Usage = usage_of by
+said_by by fault.Usage =
+    codes "usage: " ++ (program_name by
+    ++ (codes " [--color] [--counter] [--replay] [--unload] [--level L] [--store PATH] [--store-success] [--store-failure] " ++ operand_of by))
 said_by by other = fault_text other
 
 -- the line on standard error
@@ -42,23 +44,17 @@ fault_line it = program_name it.program ++ (codes ": " ++ said_by it.program it.
 
 -- 2 where nothing was printed, 3 where a beginning of the report was
 abbrev pub status_of : Fault → ℕ
-status_of fault.Usage = 2
-status_of (fault.CannotRead file) = 2
-status_of (fault.CannotWrite file) = 2
-status_of (fault.Line n f) = 2
 status_of fault.WriteFailed = 3
 status_of fault.StoreFailed = 3
 status_of fault.OutOfMemory = 3
+status_of _ = 2
 
 -- a line of a scene is wrong, memory was refused, or this file cannot be read
 abbrev pub IsJudgeFault : List ℕ → Fault → Type 0
-IsJudgeFault file fault.Usage = ⊥
 IsJudgeFault file (fault.CannotRead f) = f.now ≡ file
-IsJudgeFault file (fault.CannotWrite f) = ⊥
 IsJudgeFault file (fault.Line n f) = ⊤
-IsJudgeFault file fault.WriteFailed = ⊥
-IsJudgeFault file fault.StoreFailed = ⊥
 IsJudgeFault file fault.OutOfMemory = ⊤
+IsJudgeFault file _ = ⊥
 
 -- the fault of a scene that could not be read
 abbrev pub fault_of_read : ReadFault → Fault

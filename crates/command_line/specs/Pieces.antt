@@ -20,10 +20,6 @@ IsBehind taken.Nothing at_hand text old new rest = (at_hand ≡ []) × (rest ≡
 
 -- this file cannot be read, or memory was refused
 abbrev pub IsUnread : List ℕ → Fault → Type 0
-IsUnread file fault.Usage = ⊥
 IsUnread file (fault.CannotRead f) = f.now ≡ file
-IsUnread file (fault.CannotWrite f) = ⊥
-IsUnread file (fault.Line n f) = ⊥
-IsUnread file fault.WriteFailed = ⊥
-IsUnread file fault.StoreFailed = ⊥
 IsUnread file fault.OutOfMemory = ⊤
+IsUnread file _ = ⊥

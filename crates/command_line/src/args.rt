@@ -2,7 +2,7 @@
 //!
 //! Options stand before the file, which is the last word whatever it looks like.
 
-ghost use Rattle.std.specs.Prelude.{◌≡◌, IfOk};
+ghost use Rattle.std.specs.Prelude.{◌≡◌, true, if◌then◌else◌, Some, None, IfOk};
 ghost use Rattle.std.specs.Option.{option_map};
 ghost use Rattle.command_line.specs.Args.{options_after, options_of, options_or_input, asked, asked_of, said, texts, with_flag, with_level, with_store, level_of};
 
@@ -94,51 +94,35 @@ struct ArgsSoFar<'a> {
 
 impl<'a> ArgsSoFar<'a> {
     // What they ask for with these words after them. No option stands twice, so few calls nest.
+    #[tactic(auto, unfolding(crate::specs::Args::options_after))]
     fn followed_by(self, words: &'a [String]) -> Option<Options<'a>>
         ensures { asked result ≡ options_after (said self.entry) (texts words.now) }
     {
-        match words {
-            [] => None,
-            [file] => self.options(file.as_str()),
-            [option, word, after @ ..] => match option.as_str() {
-                "--level" => self.with_level(word.as_str())?.followed_by(after),
-                "--store" => self.with_store(word.as_str())?.followed_by(after),
-                flag => self.with_flag(flag)?.followed_by(&words[1..]),
-            },
+        let (first, after) = words.split_first()?;
+        let Some((second, others)) = after.split_first() else {
+            return self.options(first.as_str());
+        };
+        match first.as_str() {
+            "--level" => self.with_level(second.as_str())?.followed_by(others),
+            "--store" => self.with_store(second.as_str())?.followed_by(others),
+            flag => self.with_flag(flag)?.followed_by(after),
         }
     }
 
     // These options and a flag, which is an option of one word. It is None where the flag is unknown or was there before.
-    fn with_flag(self, flag: &str) -> Option<ArgsSoFar<'a>>
+    fn with_flag(mut self, flag: &str) -> Option<ArgsSoFar<'a>>
         ensures { option_map said result ≡ with_flag (said self.entry) flag.now }
     {
         match flag {
-            "--color" if !self.color => Some(ArgsSoFar {
-                color: true,
-                ..self
-            }),
-            "--counter" if !self.counter => Some(ArgsSoFar {
-                counter: true,
-                ..self
-            }),
-            "--replay" if !self.replay => Some(ArgsSoFar {
-                replay: true,
-                ..self
-            }),
-            "--unload" if !self.unload => Some(ArgsSoFar {
-                unload: true,
-                ..self
-            }),
-            "--store-success" if !self.store_success => Some(ArgsSoFar {
-                store_success: true,
-                ..self
-            }),
-            "--store-failure" if !self.store_failure => Some(ArgsSoFar {
-                store_failure: true,
-                ..self
-            }),
-            _ => None,
+            "--color" => set_first(&mut self.color)?,
+            "--counter" => set_first(&mut self.counter)?,
+            "--replay" => set_first(&mut self.replay)?,
+            "--unload" => set_first(&mut self.unload)?,
+            "--store-success" => set_first(&mut self.store_success)?,
+            "--store-failure" => set_first(&mut self.store_failure)?,
+            _ => return None,
         }
+        Some(self)
     }
 
     // These options and the word of a status level. It is None where that is none, or a level was there before.
@@ -193,6 +177,17 @@ impl<'a> ArgsSoFar<'a> {
             file,
         })
     }
+}
+
+// Sets a flag that was not set before.
+fn set_first(flag: &mut bool) -> Option<()>
+    ensures { option_map (λ _. flag.new) result ≡ if flag.old then None else Some true }
+{
+    if *flag {
+        return None;
+    }
+    *flag = true;
+    Some(())
 }
 
 // The status level of a word.

@@ -2,7 +2,7 @@
 
 ghost use Rattle.std.specs.Prelude.{◌≡◌, Some};
 ghost use Rattle.command_line.specs.declared.fault.Fault.TheVariants.{OutOfMemory};
-ghost use Rattle.command_line.specs.Faults.{fault_by_kind, fault_line, fault_of_read, fault_text, program_name, status_of, usage_of};
+ghost use Rattle.command_line.specs.Faults.{fault_by_kind, fault_line, fault_of_read, fault_text, operand_of, program_name, status_of};
 
 use run_model::memory::OutOfMemory;
 pub use scene_fields::fault::{LineFault, ReadFault};
@@ -47,7 +47,7 @@ pub enum Fault<'a> {
     OutOfMemory,
 }
 
-impl Fault<'_> {
+impl<'a> Fault<'a> {
     /// The status that the program ends with.
     pub fn status(&self) -> u8
         ensures { result ≡ status_of self.now }
@@ -60,9 +60,7 @@ impl Fault<'_> {
             Fault::WriteFailed | Fault::StoreFailed | Fault::OutOfMemory => 3,
         }
     }
-}
 
-impl<'a> Fault<'a> {
     /// This fault, which an error of the kind led to; or that memory was refused, where the error says so.
     pub fn by_kind(self, kind: ErrorKind) -> Fault<'a>
         ensures { result ≡ fault_by_kind kind self.entry }
@@ -129,20 +127,14 @@ impl Program {
         }
     }
 
-    // The words that it takes.
-    fn usage(self) -> &'static str
-        ensures { result.now ≡ usage_of self }
+    // What it reads, as the last of the words that it takes.
+    fn operand(self) -> &'static str
+        ensures { result.now ≡ operand_of self }
     {
         match self {
-            Program::Report => {
-                "usage: report [--color] [--counter] [--replay] [--unload] [--level L] [--store PATH] [--store-success] [--store-failure] FILE"
-            }
-            Program::Follow => {
-                "usage: follow [--color] [--counter] [--replay] [--unload] [--level L] [--store PATH] [--store-success] [--store-failure] [FILE]"
-            }
-            Program::Replay => {
-                "usage: replay [--color] [--counter] [--replay] [--unload] [--level L] [--store PATH] [--store-success] [--store-failure] DIR"
-            }
+            Program::Report => "FILE",
+            Program::Follow => "[FILE]",
+            Program::Replay => "DIR",
         }
     }
 }
@@ -153,7 +145,13 @@ impl fmt::Display for FaultLine<'_> {
     fn fmt<W: fmt::Write>(&self, f: &mut Formatter<W>) -> fmt::Result {
         let name = self.program.name();
         match self.fault {
-            Fault::Usage => write!(f, "{}: {}", name, self.program.usage()),
+            Fault::Usage => {
+                let operand = self.program.operand();
+                write!(
+                    f,
+                    "{name}: usage: {name} [--color] [--counter] [--replay] [--unload] [--level L] [--store PATH] [--store-success] [--store-failure] {operand}"
+                )
+            }
             fault => write!(f, "{name}: {fault}"),
         }
     }

@@ -49,7 +49,7 @@ pub fn find_byte(byte: u8, bytes: &[u8]) -> Option<usize>
 {
     let mut from = 0;
     while from < bytes.len() {
-        let marks = marks_of(byte, block_from(bytes, from));
+        let marks = marks_from(byte, bytes, from);
         if marks != 0 {
             return Some(from + first_place(marks));
         }
@@ -77,15 +77,13 @@ pub fn first_place(mask: u64) -> usize
     mask.trailing_zeros() as usize
 }
 
-/// The mask without the bit of a place.
+/// The places behind one of them, counted from there.
 #[inline(always)]
-pub fn without_place(mask: u64, place: usize) -> u64
-    requires bound { place < 64 }
-    requires set { bit_at mask place ≡ 1 }
+pub fn places_behind(mask: u64, place: usize) -> u64
+    requires some { mask ≢ 0 }
+    requires within { place < 64 }
     ensures smaller { result < mask }
-    ensures cleared { bit_at result place ≡ 0 }
-    ensures kept { (k : ℕ) → k < 64 → k ≢ place → bit_at result k ≡ bit_at mask k }
-    ensures no_more { (k : ℕ) → bit_at result k ≡ 1 → bit_at mask k ≡ 1 }
+    ensures bits { (k : ℕ) → bit_at result k ≡ bit_at mask (place + 1 + k) }
 {
-    mask & !(1 << place)
+    mask >> place >> 1
 }
