@@ -5,14 +5,10 @@ ghost use Rattle.std.specs.Prelude.{◌≡◌, ◌++◌, ◌∷◌, [], OnErr, O
 pub mod attempts;
 pub mod binary_id;
 pub mod event;
-pub mod info_events;
 pub mod outputs;
 pub mod packed_stats;
-pub mod replay_calls;
 pub mod run_events;
-pub mod script_events;
 pub mod states;
-pub mod stress_events;
 pub mod test_events;
 
 use event::SceneEvent;

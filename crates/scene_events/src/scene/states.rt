@@ -173,11 +173,7 @@ fn copy_terminating(
 {
     let UnitTerminateMethod::Signal(signal) = &terminating.method;
     Ok(UnitTerminatingState {
-        pid: terminating.pid,
-        time_taken: terminating.time_taken,
-        reason: terminating.reason,
         method: UnitTerminateMethod::Signal(signal.copy(alloc)?),
-        waiting_duration: terminating.waiting_duration,
-        remaining: terminating.remaining,
+        ..*terminating
     })
 }
