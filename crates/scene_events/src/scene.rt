@@ -3,7 +3,6 @@
 ghost use Rattle.std.specs.Prelude.{◌≡◌, ◌++◌, ◌∷◌, [], OnErr, OnOk};
 
 pub mod attempts;
-pub mod binary_id;
 pub mod event;
 pub mod outputs;
 pub mod packed_stats;

@@ -5,7 +5,7 @@ ghost use Rattle.scene_events.specs.Scenes.{IsPushed, PushesCallOf};
 
 use super::run_events::{
     RunCancel, RunFinish, RunPause, RunStart, SceneHeader, SetupFinish, SetupStart, SlowSetup,
-    StateRequest, SubRunFinish, push_prefix_call,
+    StateRequest, SubRunFinish,
 };
 use super::test_events::{
     FailedAttempt, InfoStart, SceneTest, ScriptAnswer, SlowTest, TestAnswer, TestFinish,
@@ -176,7 +176,10 @@ impl SceneEvent {
         ensures { PushesCallOf self.now calls.old.items result calls.new.items }
     {
         match self {
-            SceneEvent::Prefix(prefix) => push_prefix_call(alloc, prefix.get(), calls),
+            SceneEvent::Prefix(prefix) => push(
+                calls,
+                ReportCall::Prefix(prefix.get().copy(alloc)?),
+            ),
             SceneEvent::Header(header) => header.get().push_call(alloc, calls),
             SceneEvent::RunStarted(start) => start.get().push_call(alloc, calls),
             SceneEvent::StressSubRunStarted(progress) => {

@@ -403,14 +403,3 @@ impl SceneHeader {
         )
     }
 }
-
-/// Pushes the unique prefix of the run's id as a `ReportCall`.
-pub fn push_prefix_call<'a>(
-    alloc: Global,
-    prefix: &ShortestRunIdPrefix,
-    calls: &mut Calls<'a>,
-) -> Result<(), OutOfMemory>
-    ensures { PushesCallOf (SceneEvent.Prefix prefix.now) calls.old.items result calls.new.items }
-{
-    push(calls, ReportCall::Prefix(prefix.copy(alloc)?))
-}

@@ -135,10 +135,13 @@ impl LiveState {
                 waiting_duration: wait.waited,
                 remaining: wait.remaining,
             },
-            LiveState::Terminating(terminating) => UnitState::Terminating(copy_terminating(
-                alloc,
-                terminating,
-            )?),
+            LiveState::Terminating(terminating) => {
+                let UnitTerminateMethod::Signal(signal) = &terminating.method;
+                UnitState::Terminating(UnitTerminatingState {
+                    method: UnitTerminateMethod::Signal(signal.copy(alloc)?),
+                    ..*terminating
+                })
+            }
         })
     }
 }
@@ -162,18 +165,4 @@ impl EndedState {
             },
         }
     }
-}
-
-// Takes memory for the name of the signal of another one.
-fn copy_terminating(
-    alloc: Global,
-    terminating: &UnitTerminatingState,
-) -> Result<UnitTerminatingState, OutOfMemory>
-    ensures { IfOk result (λ copy. copy ≡ terminating.now) }
-{
-    let UnitTerminateMethod::Signal(signal) = &terminating.method;
-    Ok(UnitTerminatingState {
-        method: UnitTerminateMethod::Signal(signal.copy(alloc)?),
-        ..*terminating
-    })
 }

@@ -7,7 +7,6 @@ ghost use Rattle.scene_events.specs.declared.scene.event.SceneEvent.{SceneEvent}
 ghost use Rattle.std.specs.Prelude.{◌≡◌, IfOk};
 
 use super::attempts::{SceneAttempt, SceneAttempts};
-use super::binary_id::SharedBinaryId;
 use super::event::{Calls, push_event, push_event_after};
 use super::outputs::SceneOutput;
 use super::packed_stats::PackedStats;
@@ -18,14 +17,16 @@ use run_model::command::CommandLine;
 use run_model::config::TestOutputDisplay;
 use run_model::event::TestEventKind;
 use run_model::info::{InfoResponse, SetupScriptInfoResponse, TestInfoResponse};
-use run_model::memory::OutOfMemory;
-use run_model::name::{TestCaseName, TestInstanceId};
+use run_model::memory::{OutOfMemory, TooManyOwners};
+use run_model::name::{RustBinaryId, TestCaseName, TestInstanceId};
 use run_model::output::{ChildExecutionOutputDescription, ChildOutputDescription, LiveSpec};
 use run_model::stats::RunStats;
 use run_model::status::RetryData;
 use run_model::stress::StressIndex;
 use run_model::time::Nanos;
 use std::alloc::Global;
+use std::marker::Model;
+use std::rc::Rc;
 
 /// A test. Its name is its own, and the id of its binary is shared.
 #[derive(Drop)]
@@ -99,6 +100,55 @@ pub struct TestFinish {
     pub success_output: TestOutputDisplay,
     /// When its output is to be shown if it failed.
     pub failure_output: TestOutputDisplay,
+}
+
+/// The id of a test's binary, which the lines of a scene share: a run has few binaries, and each line of a test names one. Contracts see
+/// its text.
+///
+/// ```
+/// let id = SharedBinaryId::new(alloc, RustBinaryId::new(alloc, "alpha")?)?;
+/// assert_eq!(id.share()?.get().as_str(), "alpha"); // no text was copied
+/// ```
+#[derive(Drop)]
+pub struct SharedBinaryId {
+    id: Rc<RustBinaryId>,
+}
+
+impl Model for SharedBinaryId {
+    ghost use Rattle.std.specs.Prelude.{List, ℕ};
+
+    ghost Value = { List ℕ };
+
+    ghost view = { λ shared. shared.id.value };
+}
+
+impl SharedBinaryId {
+    /// The id, which may be shared from now on.
+    pub fn new(alloc: Global, id: RustBinaryId) -> Result<Self, OutOfMemory>
+        ensures { IfOk result (λ shared. shared ≡ id) }
+    {
+        Ok(SharedBinaryId {
+            id: Rc::new(alloc, id)?,
+        })
+    }
+
+    /// The id.
+    #[inline(always)]
+    pub fn get(&self) -> &RustBinaryId
+        ensures { result.now ≡ self.now }
+    {
+        &self.id
+    }
+
+    /// Another owner of the same id. It allocates nothing.
+    #[inline(always)]
+    pub fn share(&self) -> Result<Self, TooManyOwners>
+        ensures { IfOk result (λ shared. shared ≡ self.now) }
+    {
+        Ok(SharedBinaryId {
+            id: self.id.clone()?,
+        })
+    }
 }
 
 impl SceneTest {

@@ -11,7 +11,7 @@ use Rattle.jiff_core.specs.Calendar.{days_in_month, IsBetween, IsDate, IsYear}
 use Rattle.jiff_core.specs.Date.{IsYmd}
 use Rattle.jiff_core.specs.declared.civil.date.Date.{Date}
 use Rattle.scene_events.specs.Moments.{day_of}
-use Rattle.scene_text.specs.Moments.{checked_day, is_day}
+use Rattle.scene_text.specs.Parts.{checked_day, is_day}
 
 at_most : (a b : ℕ) → Decides (nat_le a b) (a ≤ b)
 at_most a b = (leb-true a b, le-leb a b)

@@ -7,82 +7,53 @@ ghost use Rattle.std.specs.Prelude.{◌≡◌, ◌++◌, drop, IsTrue, IfOk};
 ghost use Rattle.scene_fields.specs.Split.{field_texts};
 ghost use Rattle.scene_fields.specs.Fields.{Gives, field};
 ghost use Rattle.scene_fields.specs.Lists.{errors_in};
-ghost use Rattle.scene_text.specs.Outputs.{after_streams, highlight_in, highlight_stream_in, output_fields, output_form_in, empty_output_fields, stream_in, TakesEmptyOutput};
+ghost use Rattle.scene_text.specs.Outputs.{after_streams, output_fields, empty_output_fields, stream_in, TakesEmptyOutput};
 ghost use Rattle.scene_fields.specs.Texts.{bytes_in};
 
+use super::Field;
+use super::parts::read_highlight;
 use bytes::{Bytes, BytesMut};
-use run_model::boxed::Boxed;
-use run_model::memory::OutOfMemory;
-use run_model::output::{
-    ChildOutputDescription, ChildSingleOutput, ErrorChain, Highlight, HighlightStream,
-};
+use run_model::output::{ChildOutputDescription, ChildSingleOutput, ErrorChain};
 use scene_events::scene::outputs::SceneOutput;
 use scene_fields::fault::LineError;
 use scene_fields::fields::Fields;
 use scene_fields::lists::read_chain;
-use scene_fields::numbers::read_count;
-use scene_fields::split::split_at_byte;
 use scene_fields::texts::read_bytes;
 use scene_fields::unescape::unescape_in_place;
 use scene_fields::values::read_absent;
 use std::alloc::Global;
-
-/// In which form an output is written.
-#[derive(Clone, Copy, PartialEq, Eq)]
-pub enum OutputForm {
-    /// Standard output and standard error, each by itself.
-    Split,
-    /// Both streams together.
-    Combined,
-    /// What was captured was left unread.
-    Unloaded,
-    /// The process could not be started.
-    StartError,
-}
-
-/// Reads the form of an output.
-pub fn read_output_form(field: &str) -> Option<OutputForm>
-    ensures { result ≡ output_form_in field.now }
-{
-    match field {
-        "split" => Some(OutputForm::Split),
-        "comb" => Some(OutputForm::Combined),
-        "unloaded" => Some(OutputForm::Unloaded),
-        "start" => Some(OutputForm::StartError),
-        _ => None,
-    }
-}
 
 /// Reads what a unit wrote.
 #[tactic(auto, unfolding(crate::specs::Outputs::output_fields))]
 pub fn read_output(alloc: Global, fields: &mut Fields<'_>) -> Result<SceneOutput, LineError>
     ensures { Gives (λ o. o) fields.old result fields.new output_fields }
 {
-    match fields.read(read_output_form)? {
-        OutputForm::Split => {
+    match fields.take()? {
+        "split" => {
             let stdout = take_stream(alloc, fields)?;
             let stderr = take_stream(alloc, fields)?;
             let output = ChildOutputDescription::Split { stdout, stderr };
             read_after_streams(alloc, fields, output)
         }
-        OutputForm::Combined => {
+        "comb" => {
             let output = take_single(alloc, fields)?;
             fields.read(read_absent)?;
             let output = ChildOutputDescription::Combined { output };
             read_after_streams(alloc, fields, output)
         }
-        OutputForm::Unloaded => {
+        "unloaded" => {
             fields.read(read_absent)?;
             fields.read(read_absent)?;
             read_after_streams(alloc, fields, ChildOutputDescription::NotLoaded)
         }
-        OutputForm::StartError => {
+        "start" => {
             let error = fields.try_read(|field| read_chain(alloc, field))?;
             fields.read(read_absent)?;
             fields.read(read_absent)?;
             fields.read(read_absent)?;
             Ok(SceneOutput::StartError(error))
         }
+        _ => Err(LineError::Fault(fields.bad_field())),
     }
 }
 
@@ -120,12 +91,10 @@ fn read_after_streams(
 ) -> Result<SceneOutput, LineError>
     ensures { Gives (λ o. o) fields.old result fields.new (after_streams output) }
 {
-    let errors = fields.try_read(|field| read_errors(alloc, field))?;
-    let highlight = fields.try_read(|field| read_highlight(alloc, field))?;
     Ok(SceneOutput::Output {
         output,
-        errors,
-        highlight,
+        errors: fields.try_read(|field| read_errors(alloc, field))?,
+        highlight: fields.try_read(|field| read_highlight(alloc, field))?,
     })
 }
 
@@ -159,7 +128,7 @@ fn take_single(alloc: Global, fields: &mut Fields<'_>) -> Result<ChildSingleOutp
 }
 
 // Decodes the bytes of one stream, or of both together, in the memory of their field.
-fn decode(alloc: Global, field: BytesMut) -> Result<Option<ChildSingleOutput>, OutOfMemory>
+fn decode(alloc: Global, field: BytesMut) -> Field<ChildSingleOutput>
     ensures { IfOk result (λ output. output ≡ bytes_in field.items) }
 {
     let mut bytes = field;
@@ -172,7 +141,7 @@ fn decode(alloc: Global, field: BytesMut) -> Result<Option<ChildSingleOutput>, O
 
 // Reads a stream's bytes, or `-` where it was not captured.
 #[tactic(auto, unfolding(scene_fields::specs::Texts::unescaped_after))]
-fn read_stream(alloc: Global, field: &str) -> Result<Option<Option<ChildSingleOutput>>, OutOfMemory>
+fn read_stream(alloc: Global, field: &str) -> Field<Option<ChildSingleOutput>>
     ensures { IfOk result (λ stream. stream ≡ stream_in field.now) }
 {
     match field {
@@ -183,7 +152,7 @@ fn read_stream(alloc: Global, field: &str) -> Result<Option<Option<ChildSingleOu
 }
 
 // Reads the bytes of one stream, or of both together.
-fn read_single(alloc: Global, field: &str) -> Result<Option<ChildSingleOutput>, OutOfMemory>
+fn read_single(alloc: Global, field: &str) -> Field<ChildSingleOutput>
     ensures { IfOk result (λ output. output ≡ bytes_in field.now) }
 {
     match read_bytes(alloc, field)? {
@@ -193,50 +162,11 @@ fn read_single(alloc: Global, field: &str) -> Result<Option<ChildSingleOutput>, 
 }
 
 // Reads what went wrong while an attempt was run, or `-`.
-fn read_errors(alloc: Global, field: &str) -> Result<Option<Option<ErrorChain>>, OutOfMemory>
+fn read_errors(alloc: Global, field: &str) -> Field<Option<ErrorChain>>
     ensures { IfOk result (λ errors. errors ≡ errors_in field.now) }
 {
     match field {
         "-" => Ok(Some(None)),
         _ => Ok(read_chain(alloc, field)?.map(Some)),
-    }
-}
-
-// Reads the part of the output to point out: its stream, the place of its first byte, and its bytes; or `-`.
-fn read_highlight(
-    alloc: Global,
-    field: &str,
-) -> Result<Option<Option<Boxed<Highlight>>>, OutOfMemory>
-    ensures { IfOk result (λ highlight. highlight ≡ highlight_in field.now) }
-{
-    let Some((stream, rest)) = split_at_byte(field, b':') else {
-        return Ok(read_absent(field).map(|()| None));
-    };
-    let Some((start, slice)) = split_at_byte(rest, b':') else {
-        return Ok(None);
-    };
-    let (Some(stream), Some(start)) = (read_highlight_stream(stream), read_count(start)) else {
-        return Ok(None);
-    };
-    let Some(slice) = read_bytes(alloc, slice)? else {
-        return Ok(None);
-    };
-    let highlight = Highlight {
-        stream,
-        start,
-        slice: Bytes::from_vec(slice)?,
-    };
-    Ok(Some(Some(Boxed::new(alloc, highlight)?)))
-}
-
-// Reads the stream that a highlight stands in.
-fn read_highlight_stream(field: &str) -> Option<HighlightStream>
-    ensures { result ≡ highlight_stream_in field.now }
-{
-    match field {
-        "out" => Some(HighlightStream::Stdout),
-        "err" => Some(HighlightStream::Stderr),
-        "comb" => Some(HighlightStream::Combined),
-        _ => None,
     }
 }
