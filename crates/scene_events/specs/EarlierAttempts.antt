@@ -4,7 +4,7 @@ use Rattle.std.specs.Option.{option_map_or}
 use Rattle.run_model.specs.Attempts.{Attempt, attempt_with_output}
 use Rattle.run_model.specs.declared.output.ChildOutputDescription.{ChildOutputDescription}
 use Rattle.scene_events.specs.SceneOutputs.{loaded}
-use Rattle.scene_events.specs.declared.scene.outputs.SceneOutput.{SceneOutput}
+use Rattle.scene_events.specs.declared.scene.units.SceneOutput.{SceneOutput}
 
 -- attempts of which the one at this place captured this, from 0; a place behind them changes nothing
 abbrev pub with_output_at : ℕ → ChildOutputDescription → List Attempt → List Attempt

@@ -1,10 +1,11 @@
--- The fields of the lines that are events: of tests, of setup scripts, of the answers of both, of the run, and of a replay.
+-- The fields of the lines that are events: of tests, of setup scripts and what both wrote, of the answers of both, of the run, and of a replay.
 use Rattle.std.specs.Option.{option_and_then, option_map}
-use Rattle.std.specs.Prelude.{ℕ, zero, suc, ◌+◌, ◌/◌, ◌^◌, List, [], ◌∷◌, ◌++◌, length, if◌then◌else◌, nat_lt, Some, Err, ◌==◌, ◌&&◌, Option, None, codes, bytes_eq}
+use Rattle.std.specs.Prelude.{ℕ, zero, suc, ◌+◌, ◌/◌, ◌^◌, List, [], ◌∷◌, ◌++◌, length, if◌then◌else◌, nat_lt, Some, Err, ◌==◌, ◌&&◌, Option, None, codes, bytes_eq, ◌≡◌, Bool, true, false, Ok}
 use Rattle.uuid.specs.Text.{parsed}
 use Rattle.run_model.specs.Attempts.{Attempt, Attempts}
 use Rattle.run_model.specs.Stats.{final_stats_of}
 use Rattle.run_model.specs.declared.output.ChildOutputDescription.{ChildOutputDescription}
+use Rattle.run_model.specs.declared.output.ChildOutputDescription.TheVariants as streams
 use Rattle.run_model.specs.declared.output.LiveSpec.{LiveSpec}
 use Rattle.run_model.specs.declared.stats.RunFinishedStats.TheVariants.{Single, Stress}
 use Rattle.run_model.specs.declared.status.FlakyResult.{FlakyResult}
@@ -13,33 +14,99 @@ use Rattle.run_names.specs.UniquePrefixes.{UniquePrefix}
 use Rattle.run_names.specs.declared.name.OwnedTestInstanceId.{OwnedTestInstanceId}
 use Rattle.run_names.specs.declared.not_seen.NotSeen.{NotSeen}
 use Rattle.run_names.specs.declared.stress.StressIndex.{StressIndex}
-use Rattle.scene_events.specs.SceneOutputs.{written}
+use Rattle.scene_events.specs.SceneOutputs.{written, no_output}
 use Rattle.scene_events.specs.declared.scene.event.SceneEvent.{SceneEvent}
 use Rattle.scene_events.specs.declared.scene.event.SceneEvent.TheVariants as event
-use Rattle.scene_events.specs.declared.scene.test_events.InfoStart.{InfoStart}
-use Rattle.scene_events.specs.declared.scene.test_events.UnitAnswer.{UnitAnswer}
 use Rattle.scene_events.specs.declared.scene.run_events.RunCancel.{RunCancel}
 use Rattle.scene_events.specs.declared.scene.run_events.RunPause.{RunPause}
+use Rattle.scene_events.specs.declared.scene.run_events.SceneScript.{SceneScript}
 use Rattle.scene_events.specs.declared.scene.run_events.StateRequest.{StateRequest}
 use Rattle.scene_events.specs.declared.scene.run_events.SubRunFinish.{SubRunFinish}
-use Rattle.scene_events.specs.declared.scene.run_events.SceneScript.{SceneScript}
+use Rattle.scene_events.specs.declared.scene.test_events.InfoStart.{InfoStart}
 use Rattle.scene_events.specs.declared.scene.test_events.SceneTest.{SceneTest}
+use Rattle.scene_events.specs.declared.scene.test_events.UnitAnswer.{UnitAnswer}
+use Rattle.scene_events.specs.declared.scene.units.SceneOutput.{SceneOutput}
+use Rattle.scene_events.specs.declared.scene.units.SceneOutput.TheVariants.{Output, StartError}
 use Rattle.scene_fields.specs.Counts.{stats_in, skips_in}
-use Rattle.scene_fields.specs.Fields.{◌>>=◌, Line, says, field}
-use Rattle.scene_fields.specs.Lists.{words_of, instances_in}
+use Rattle.scene_fields.specs.Fields.{◌>>=◌, Line, says, field, Place, next, valued}
+use Rattle.scene_fields.specs.Lists.{words_of, instances_in, chain_in, errors_in}
 use Rattle.scene_fields.specs.Numbers.{nanos_in, number_in}
 use Rattle.scene_fields.specs.Results.{result_in}
-use Rattle.scene_fields.specs.Texts.{text_in}
+use Rattle.scene_fields.specs.Texts.{text_in, bytes_in}
 use Rattle.scene_fields.specs.Values.{display_in, flag_in, flaky_in, stress_in, reason_or_none_in, absent_in}
 use Rattle.scene_fields.specs.declared.fault.LineFault.TheVariants.{WrongNumberOfFields}
-use Rattle.scene_text.specs.Outputs.{output_fields}
-use Rattle.scene_text.specs.Parts.{state_in, state_parts_in, progress_in, moment_in}
+use Rattle.scene_text.specs.Parts.{state_in, state_parts_in, progress_in, moment_in, highlight_in}
 
 -- what is made of the value of fields
 abbrev pub made : {X Y : Type 0} → (X → Y) → Line X → Line Y
 made make line = do
   x ← line
   says (make x)
+
+-- the bytes of a stream, or `-`
+abbrev pub stream_in : List ℕ → Option (Option (List ℕ))
+stream_in t = if bytes_eq t (codes "-") then Some None else option_map (λ bytes. Some bytes) (bytes_in t)
+
+-- errors and a highlight, after the streams
+unfoldable pub after_streams : ChildOutputDescription → Line SceneOutput
+after_streams output = do
+  errors ← field errors_in
+  highlight ← field highlight_in
+  says (Output output errors highlight)
+
+-- each stream by itself
+abbrev pub split_fields : Line SceneOutput
+split_fields = do
+  stdout ← field stream_in
+  stderr ← field stream_in
+  after_streams (streams.Split stdout stderr)
+
+-- both streams together
+abbrev pub combined_fields : Line SceneOutput
+combined_fields = do
+  output ← field bytes_in
+  none ← field absent_in
+  after_streams (streams.Combined output)
+
+-- what was captured was left unread
+abbrev pub unloaded_fields : Line SceneOutput
+unloaded_fields = do
+  first ← field absent_in
+  second ← field absent_in
+  after_streams streams.NotLoaded
+
+-- the process could not be started
+abbrev pub start_error_fields : Line SceneOutput
+start_error_fields = do
+  error ← field chain_in
+  second ← field absent_in
+  errors ← field absent_in
+  highlight ← field absent_in
+  says (StartError error)
+
+-- the fields after this form
+abbrev pub formed : List ℕ → Line SceneOutput
+formed form =
+    if bytes_eq form (codes "split") then split_fields
+    else (if bytes_eq form (codes "comb") then combined_fields
+    else (if bytes_eq form (codes "unloaded") then unloaded_fields
+    else (if bytes_eq form (codes "start") then start_error_fields
+    else valued None)))
+
+-- an output: its form, what that takes first and second, errors, and a highlight
+unfoldable pub output_fields : Line SceneOutput
+output_fields = do
+  form ← next
+  formed form
+
+-- both streams were captured and hold nothing, and there is nothing else
+abbrev pub empty_output_fields : List (List ℕ)
+empty_output_fields = codes "split" ∷ [] ∷ [] ∷ codes "-" ∷ codes "-" ∷ []
+
+-- the fields of such an output were taken, or none was
+abbrev pub TakesEmptyOutput : Bool → Place → Place → Type 0
+TakesEmptyOutput true old new = output_fields old ≡ Ok (no_output, new)
+TakesEmptyOutput false old new = new ≡ old
 
 -- which test it is: iteration, binary and name
 unfoldable pub test_fields : Line SceneTest
@@ -296,24 +363,22 @@ prefix_line_fields = do
   rest ← field text_in
   says (event.Prefix (record { prefix = prefix; rest = rest }))
 
--- a text, where `-` is none
-abbrev pub text_or_none_in : List ℕ → Option (Option (List ℕ))
-text_or_none_in t = if bytes_eq t (codes "-") then Some None else option_map (λ text. Some text) (text_in t)
-
 -- a text, where `-` is a bad field
 abbrev pub some_text_in : List ℕ → Option (List ℕ)
 some_text_in t = if bytes_eq t (codes "-") then None else text_in t
 
--- the rest of a prefix is there where the prefix is
-abbrev pub rest_fields : Option (List ℕ) → Line (Option UniquePrefix)
-rest_fields None = made (λ none. None) (field absent_in)
-rest_fields (Some prefix) = made (λ rest. Some (record { prefix = prefix; rest = rest })) (field some_text_in)
+-- a prefix that was taken, and the rest
+abbrev pub prefix_and_rest : List ℕ → Line (Option UniquePrefix)
+prefix_and_rest t = do
+  prefix ← valued (text_in t)
+  rest ← field some_text_in
+  says (Some (record { prefix = prefix; rest = rest }))
 
 -- a prefix and the rest, or twice `-`
 unfoldable pub unique_prefix_fields : Line (Option UniquePrefix)
 unique_prefix_fields = do
-  prefix ← field text_or_none_in
-  rest_fields prefix
+  t ← next
+  if bytes_eq t (codes "-") then made (λ none. None) (field absent_in) else prefix_and_rest t
 
 -- `header`: the run's id, its prefix and the rest, when it started, and how it ended
 unfoldable pub header_line_fields : Line SceneEvent

@@ -1,5 +1,4 @@
 pub mod EventLines
 pub mod Lines
-pub mod Outputs
 pub mod Parts
 pub mod SceneTexts

@@ -16,14 +16,14 @@ use Rattle.run_names.specs.declared.stress.StressProgress.{StressProgress}
 use Rattle.run_names.specs.declared.stress.StressProgress.TheVariants as progress
 use Rattle.run_names.specs.declared.time.Nanos.{Nanos}
 use Rattle.scene_events.specs.Moments.{Clock, Day, Moment}
-use Rattle.scene_events.specs.declared.scene.states.EndedState.{EndedState}
-use Rattle.scene_events.specs.declared.scene.states.EndedState.TheVariants as ended
-use Rattle.scene_events.specs.declared.scene.states.LiveState.{LiveState}
-use Rattle.scene_events.specs.declared.scene.states.LiveState.TheVariants as live
-use Rattle.scene_events.specs.declared.scene.states.SceneState.{SceneState}
-use Rattle.scene_events.specs.declared.scene.states.SceneState.TheVariants as scene
-use Rattle.scene_events.specs.declared.scene.states.Timing.{Timing}
-use Rattle.scene_events.specs.declared.scene.states.Wait.{Wait}
+use Rattle.scene_events.specs.declared.scene.units.EndedState.{EndedState}
+use Rattle.scene_events.specs.declared.scene.units.EndedState.TheVariants as ended
+use Rattle.scene_events.specs.declared.scene.units.LiveState.{LiveState}
+use Rattle.scene_events.specs.declared.scene.units.LiveState.TheVariants as live
+use Rattle.scene_events.specs.declared.scene.units.SceneState.{SceneState}
+use Rattle.scene_events.specs.declared.scene.units.SceneState.TheVariants as scene
+use Rattle.scene_events.specs.declared.scene.units.Timing.{Timing}
+use Rattle.scene_events.specs.declared.scene.units.Wait.{Wait}
 use Rattle.scene_fields.specs.Numbers.{code_in, nanos_in, number_in}
 use Rattle.scene_fields.specs.Results.{result_in}
 use Rattle.scene_fields.specs.Split.{cut}

@@ -2,15 +2,14 @@
 //!
 //! A scene is lines of fields separated by tabs. The first field names an event, and what follows it is read by
 //! the kind of the event. Each module knows one thing: `lines` which kinds there are, `unit_lines` what fields the events of tests
-//! and of setup scripts have, `run_lines` those of the run and the calls of a replay, `outputs` what a unit wrote, and
-//! `parts` values that stand in one field in parts.
+//! and of setup scripts have, `run_lines` those of the run and the calls of a replay, and `parts` values that stand
+//! in one field in parts.
 
 ghost use Rattle.std.specs.Prelude.{◌≡◌, ◌++◌, [], false, IfErr, OnOk, Ok};
 ghost use Rattle.scene_text.specs.SceneTexts.{LeavesLines, ReadsLines, TakesLine, fault_at, is_begun, is_begun_behind, is_passed_over, line_here, line_read_behind, no_lines, parsed_lines, text_lines, words_read_behind};
 
 mod binary_ids;
 mod lines;
-mod outputs;
 mod parts;
 mod run_lines;
 mod unit_lines;
@@ -25,7 +24,6 @@ use scene_fields::fault::{LineError, LineFault, ReadFault};
 pub use scene_fields::fields::LARGE;
 use scene_fields::fields::{Fields, split_fields};
 use scene_fields::owned_text::OwnedText;
-pub use scene_fields::split;
 use scene_fields::split::first_line;
 use std::alloc::Global;
 

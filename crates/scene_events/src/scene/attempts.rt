@@ -3,7 +3,7 @@
 ghost use Rattle.std.specs.Prelude.{◌≡◌, IfOk, OnErr, OnOk, Some};
 ghost use Rattle.scene_events.specs.SceneOutputs.{is_loaded, loaded, no_output, written};
 
-use super::outputs::SceneOutput;
+use super::units::SceneOutput;
 use run_model::boxed::Boxed;
 use run_model::memory::OutOfMemory;
 use run_model::output::{ChildExecutionOutputDescription, ChildOutputDescription, LiveSpec};
@@ -267,7 +267,7 @@ pub struct AttemptOutput {
 impl Model for AttemptOutput {
     ghost use Rattle.std.specs.Option.{unwrap_or};
     ghost use Rattle.scene_events.specs.SceneOutputs.{no_output};
-    ghost use Rattle.scene_events.specs.declared.scene.outputs.SceneOutput.{SceneOutput};
+    ghost use Rattle.scene_events.specs.declared.scene.units.SceneOutput.{SceneOutput};
 
     ghost Value = { SceneOutput };
 

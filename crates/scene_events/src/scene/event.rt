@@ -220,19 +220,7 @@ pub(super) fn push_event<'a>(
 ) -> Result<(), OutOfMemory>
     ensures { IsPushed (ReportCall.Event (record { elapsed = record { 0 = 0 }; kind = kind.entry })) calls.old.items result calls.new.items }
 {
-    push_event_after(calls, Nanos(0), kind)
-}
-
-/// Pushes an event, and how long the run had taken when it happened, in nanoseconds. Where memory is refused, the calls stay
-/// as they were.
-#[inline(always)]
-pub(super) fn push_event_after<'a>(
-    calls: &mut Calls<'a>,
-    elapsed: Nanos,
-    kind: TestEventKind<'a>,
-) -> Result<(), OutOfMemory>
-    ensures { IsPushed (ReportCall.Event (record { elapsed = elapsed; kind = kind.entry })) calls.old.items result calls.new.items }
-{
+    let elapsed = Nanos(0);
     push(calls, ReportCall::Event(TestEvent { elapsed, kind }))
 }
 

@@ -5,12 +5,12 @@ ghost use Rattle.scene_events.specs.declared.scene.event.SceneEvent.{SceneEvent}
 ghost use Rattle.std.specs.Prelude.{◌≡◌, IfOk};
 
 use super::attempts::SceneAttempt;
-use super::event::{Calls, push, push_event, push_event_after};
+use super::event::{Calls, push, push_event};
 use jiff::civil::{Date, DateTime, Time};
 use run_model::abort::DescriptionText;
 use run_model::call::ReportCall;
 use run_model::command::CommandLine;
-use run_model::event::{TestCounts, TestEventKind};
+use run_model::event::{TestCounts, TestEvent, TestEventKind};
 use run_model::level::CancelReason;
 use run_model::memory::OutOfMemory;
 use run_model::name::{
@@ -163,7 +163,8 @@ impl StateRequest {
             current_stats: self.current_stats,
             running: self.running,
         };
-        push_event_after(calls, self.elapsed, kind)
+        let elapsed = self.elapsed;
+        push(calls, ReportCall::Event(TestEvent { elapsed, kind }))
     }
 }
 
@@ -392,14 +393,12 @@ impl SceneHeader {
             Some(prefix) => Some(prefix.copy(alloc)?),
             None => None,
         };
-        push(
-            calls,
-            ReportCall::Header(ReplayHeader {
-                run_id: self.run_id,
-                unique_prefix,
-                started_at: self.started_at.date_time,
-                status: self.status.copy(alloc)?,
-            }),
-        )
+        let header = ReplayHeader {
+            run_id: self.run_id,
+            unique_prefix,
+            started_at: self.started_at.date_time,
+            status: self.status.copy(alloc)?,
+        };
+        push(calls, ReportCall::Header(header))
     }
 }

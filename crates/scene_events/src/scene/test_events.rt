@@ -7,15 +7,15 @@ ghost use Rattle.scene_events.specs.declared.scene.event.SceneEvent.{SceneEvent}
 ghost use Rattle.std.specs.Prelude.{◌≡◌, IfOk};
 
 use super::attempts::{SceneAttempt, SceneAttempts};
-use super::event::{Calls, push_event, push_event_after};
-use super::outputs::SceneOutput;
+use super::event::{Calls, push, push_event};
 use super::packed_stats::PackedStats;
 use super::run_events::SceneScript;
-use super::states::SceneState;
+use super::units::{SceneOutput, SceneState};
 use run_model::boxed::Boxed;
+use run_model::call::ReportCall;
 use run_model::command::CommandLine;
 use run_model::config::TestOutputDisplay;
-use run_model::event::TestEventKind;
+use run_model::event::{TestEvent, TestEventKind};
 use run_model::info::{InfoResponse, SetupScriptInfoResponse, TestInfoResponse};
 use run_model::memory::{OutOfMemory, TooManyOwners};
 use run_model::name::{RustBinaryId, TestCaseName, TestInstanceId};
@@ -319,7 +319,8 @@ impl InfoStart {
             total: self.total,
             run_stats: self.run_stats,
         };
-        push_event_after(calls, self.elapsed, kind)
+        let elapsed = self.elapsed;
+        push(calls, ReportCall::Event(TestEvent { elapsed, kind }))
     }
 }
 

@@ -2,7 +2,7 @@
 use Rattle.std.proofs.Common.{◌≡◌, ℕ, ◌+◌, List, ◌++◌, true, drop, Ok, refl, ap, sym, ◌∙◌, arith}
 use Rattle.scene_fields.specs.Split.{cut}
 use Rattle.scene_fields.specs.Fields.{Place}
-use Rattle.scene_text.specs.Outputs.{after_streams, output_fields, empty_output_fields, TakesEmptyOutput}
+use Rattle.scene_text.specs.EventLines.{after_streams, output_fields, empty_output_fields, TakesEmptyOutput}
 use Rattle.scene_events.specs.SceneOutputs.{no_output}
 use Rattle.scene_fields.specs.Texts.{unescaped_after}
 

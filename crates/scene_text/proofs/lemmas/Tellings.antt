@@ -59,9 +59,6 @@ wrong_told n before [] mid t more f m place h wrong =
 wrong_told n before (u ∷ us) mid t more f m place h wrong = rw h.1 (wrong_told (n + 1) h.0 us mid t more f m (omega (arith, place)) h.2 wrong)
 
 -- of one line
-one_tells : (before : ParsedLines) (t : RunLine) (after : ParsedLines) → line_read before t ≡ Ok after → AllRead before (t ∷ []) after
-one_tells before t after h = (after, h, refl)
-
 one_noted : (n : ℕ) (before : ParsedLines) (t : RunLine) (after : ParsedLines) → line_read before t ≡ Ok after → event_lines n before (t ∷ []) ≡ line_here n before after
 unfolding event_lines
 one_noted n before t after h = rw h (append-nil (line_here n before after))
@@ -115,7 +112,7 @@ module _ (old mid new : LinesRead) (front : List RunLine) (so_far : ReadsLines o
       let behind : (base : List SceneEvent) → is_begun base ≡ old.is_begun → line_read (lines_after base (parsed_lines mid.run)) (plain_line t) ≡ Ok (lines_after base (parsed_lines new.run)) =
       λ base is. read_behind base mid.is_begun (parsed_lines mid.run) t (is ∙ sym so_far.begun) ∙ ap (told_after base) one in
       record {
-        tells = λ base is. all_append (lines_after base (parsed_lines old.run)) front (lines_after base (parsed_lines mid.run)) (plain_line t ∷ []) (lines_after base (parsed_lines new.run)) (so_far.tells base is) (one_tells _ (plain_line t) _ (behind base is));
+        tells = λ base is. all_append (lines_after base (parsed_lines old.run)) front (lines_after base (parsed_lines mid.run)) (plain_line t ∷ []) (lines_after base (parsed_lines new.run)) (so_far.tells base is) (lines_after base (parsed_lines new.run), behind base is, refl);
         noted = λ base is.
             let first = event_lines old.next (lines_after base (parsed_lines old.run)) front in
             noted ∙ ap (λ ls. ls ++ line_here mid.next (parsed_lines mid.run) (parsed_lines new.run)) (so_far.noted base is)

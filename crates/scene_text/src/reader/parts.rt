@@ -19,7 +19,7 @@ use run_model::status::ExecutionResultDescription;
 use run_model::stress::{StressCount, StressProgress};
 use run_model::time::Nanos;
 use scene_events::scene::run_events::SceneMoment;
-use scene_events::scene::states::{EndedState, LiveState, SceneState, Timing, Wait};
+use scene_events::scene::units::{EndedState, LiveState, SceneState, Timing, Wait};
 use scene_fields::numbers::{read_code, read_count, read_nanos, read_small_count};
 use scene_fields::results::read_result;
 use scene_fields::split::split_at_byte;

@@ -2,7 +2,7 @@
 
 ghost use Rattle.scene_fields.specs.Fields.{Gives};
 ghost use Rattle.scene_fields.specs.Texts.{text_in};
-ghost use Rattle.scene_text.specs.EventLines.{cancel_line_fields, completed_in, end_line_fields, end_stress_line_fields, header_line_fields, input_line_fields, not_seen_fields, pause_line_fields, prefix_line_fields, run_line_fields, some_text_in, sub_end_line_fields, text_or_none_in, unique_prefix_fields};
+ghost use Rattle.scene_text.specs.EventLines.{cancel_line_fields, completed_in, end_line_fields, end_stress_line_fields, header_line_fields, input_line_fields, not_seen_fields, pause_line_fields, prefix_line_fields, run_line_fields, some_text_in, sub_end_line_fields, unique_prefix_fields};
 ghost use Rattle.std.specs.Prelude.{◌≡◌, IfOk};
 
 use super::parts::{read_moment, read_progress};
@@ -187,22 +187,14 @@ fn read_unique_prefix(
 ) -> Result<Option<ShortestRunIdPrefix>, LineError>
     ensures { Gives (λ p. p) fields.old result fields.new unique_prefix_fields }
 {
-    let Some(prefix) = fields.try_read(|field| read_text_or_none(alloc, field))? else {
+    let prefix = fields.take()?;
+    if prefix == "-" {
         fields.read(read_absent)?;
         return Ok(None);
-    };
+    }
+    let prefix = read_description(alloc, prefix)?.ok_or(fields.bad_field())?;
     let rest = fields.try_read(|field| read_some_text(alloc, field))?;
     Ok(Some(ShortestRunIdPrefix::new(alloc, prefix.as_str(), rest.as_str())?))
-}
-
-// Reads a text, or `-` where there is none.
-fn read_text_or_none(alloc: Global, field: &str) -> Field<Option<DescriptionText>>
-    ensures { IfOk result (λ text. text ≡ text_or_none_in field.now) }
-{
-    match field {
-        "-" => Ok(Some(None)),
-        _ => Ok(read_description(alloc, field)?.map(Some)),
-    }
 }
 
 // Reads a text, where `-` is a bad field.

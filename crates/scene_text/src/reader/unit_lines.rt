@@ -1,16 +1,19 @@
-//! The lines of units: of tests and of setup scripts, and what both answer when they are asked what they are doing.
+//! The lines of units: of tests and of setup scripts, what they wrote, and what both answer when they are asked what they are doing.
 
-ghost use Rattle.scene_fields.specs.Fields.{Gives, answered};
-ghost use Rattle.scene_text.specs.EventLines.{all_attempts, answer_fields, answer_script_line_fields, answer_test_line_fields, attempt_fields, attempts_behind, done_line_fields, info_line_fields, made, retry_fields, retry_line_fields, retry_start_line_fields, script_fields, setup_done_line_fields, setup_line_fields, setup_slow_line_fields, slow_line_fields, start_line_fields, test_fields};
 ghost use Rattle.scene_events.specs.declared.scene.event.SceneEvent.{SceneEvent};
-ghost use Rattle.scene_text.specs.Outputs.{output_fields};
-ghost use Rattle.std.specs.Prelude.{◌≡◌};
+ghost use Rattle.scene_fields.specs.Fields.{Gives, answered, field};
+ghost use Rattle.scene_fields.specs.Lists.{errors_in};
+ghost use Rattle.scene_fields.specs.Split.{field_texts};
+ghost use Rattle.scene_fields.specs.Texts.{bytes_in};
+ghost use Rattle.scene_text.specs.EventLines.{after_streams, all_attempts, answer_fields, answer_script_line_fields, answer_test_line_fields, attempt_fields, attempts_behind, done_line_fields, empty_output_fields, info_line_fields, made, output_fields, retry_fields, retry_line_fields, retry_start_line_fields, script_fields, setup_done_line_fields, setup_line_fields, setup_slow_line_fields, slow_line_fields, start_line_fields, stream_in, test_fields, TakesEmptyOutput};
+ghost use Rattle.std.specs.Prelude.{◌≡◌, ◌++◌, drop, IsTrue, IfOk};
 
-use super::EventResult;
 use super::binary_ids::BinaryIds;
-use super::outputs::{read_output, take_empty_output};
-use super::parts::{read_state, read_state_parts};
+use super::parts::{read_highlight, read_state, read_state_parts};
+use super::{EventResult, Field};
+use bytes::{Bytes, BytesMut};
 use run_model::boxed::Boxed;
+use run_model::output::{ChildOutputDescription, ChildSingleOutput, ErrorChain};
 use run_model::status::{FlakyResult, RetryData};
 use scene_events::scene::attempts::{AttemptOutput, SceneAttempt, SceneAttempts};
 use scene_events::scene::event::SceneEvent;
@@ -20,14 +23,19 @@ use scene_events::scene::test_events::{
     FailedAttempt, InfoStart, SceneTest, ScriptAnswer, SlowTest, TestAnswer, TestFinish,
     TestRetryStart, TestStart, UnitAnswer,
 };
+use scene_events::scene::units::SceneOutput;
 use scene_fields::counts::read_stats;
 use scene_fields::fault::{LineError, LineFault};
 use scene_fields::fields::Fields;
-use scene_fields::lists::read_command_line;
+use scene_fields::lists::{read_chain, read_command_line};
 use scene_fields::names::{read_program_name, read_script_id, read_test_name};
 use scene_fields::numbers::{read_count, read_nanos, read_small_count};
 use scene_fields::results::read_result;
-use scene_fields::values::{read_display, read_flag, read_flaky_result, read_stress_index};
+use scene_fields::texts::read_bytes;
+use scene_fields::unescape::unescape_in_place;
+use scene_fields::values::{
+    read_absent, read_display, read_flag, read_flaky_result, read_stress_index,
+};
 use std::alloc::Global;
 use std::mem;
 
@@ -131,10 +139,7 @@ pub fn read_test(
     let stress_index = fields.read(read_stress_index)?;
     Ok(SceneTest {
         stress_index,
-        binary_id: match ids.read(alloc, fields.take()?)? {
-            Some(binary_id) => binary_id,
-            None => return Err(LineError::Fault(fields.bad_field())),
-        },
+        binary_id: ids.read(alloc, fields.take()?)?.ok_or(fields.bad_field())?,
         test_name: fields.try_read(|field| read_test_name(alloc, field))?,
     })
 }
@@ -341,4 +346,146 @@ fn read_answer(alloc: Global, fields: &mut Fields<'_>) -> Result<UnitAnswer, Lin
         state: Boxed::new(alloc, state)?,
         output: Boxed::new(alloc, read_output(alloc, fields)?)?,
     })
+}
+
+/// Reads what a unit wrote.
+#[tactic(auto, unfolding(crate::specs::EventLines::output_fields))]
+pub fn read_output(alloc: Global, fields: &mut Fields<'_>) -> Result<SceneOutput, LineError>
+    ensures { Gives (λ o. o) fields.old result fields.new output_fields }
+{
+    match fields.take()? {
+        "split" => {
+            let stdout = take_stream(alloc, fields)?;
+            let stderr = take_stream(alloc, fields)?;
+            let output = ChildOutputDescription::Split { stdout, stderr };
+            read_after_streams(alloc, fields, output)
+        }
+        "comb" => {
+            let output = take_single(alloc, fields)?;
+            fields.read(read_absent)?;
+            let output = ChildOutputDescription::Combined { output };
+            read_after_streams(alloc, fields, output)
+        }
+        "unloaded" => {
+            fields.read(read_absent)?;
+            fields.read(read_absent)?;
+            read_after_streams(alloc, fields, ChildOutputDescription::NotLoaded)
+        }
+        "start" => {
+            let error = fields.try_read(|field| read_chain(alloc, field))?;
+            fields.read(read_absent)?;
+            fields.read(read_absent)?;
+            fields.read(read_absent)?;
+            Ok(SceneOutput::StartError(error))
+        }
+        _ => Err(LineError::Fault(fields.bad_field())),
+    }
+}
+
+/// Takes the five fields of an empty output, if they come next.
+pub fn take_empty_output(fields: &mut Fields<'_>) -> bool
+    ensures { TakesEmptyOutput result fields.old fields.new }
+{
+    if !is_empty_output(fields.borrowed()) {
+        return false;
+    }
+    fields.pass(5);
+    true
+}
+
+// Whether an output that holds nothing comes first.
+fn is_empty_output(fields: &[&str]) -> bool
+    ensures { IsTrue result → field_texts fields.now ≡ empty_output_fields ++ drop 5 (field_texts fields.now) }
+{
+    match fields {
+        [form, stdout, stderr, errors, highlight, ..] => {
+            stdout.is_empty()
+                && stderr.is_empty()
+                && matches!((*form, *errors, *highlight), ("split", "-", "-"))
+        }
+        _ => false,
+    }
+}
+
+// Reads the errors and the highlight that follow the streams.
+#[tactic(auto, unfolding(crate::specs::EventLines::after_streams))]
+fn read_after_streams(
+    alloc: Global,
+    fields: &mut Fields<'_>,
+    output: ChildOutputDescription,
+) -> Result<SceneOutput, LineError>
+    ensures { Gives (λ o. o) fields.old result fields.new (after_streams output) }
+{
+    Ok(SceneOutput::Output {
+        output,
+        errors: fields.try_read(|field| read_errors(alloc, field))?,
+        highlight: fields.try_read(|field| read_highlight(alloc, field))?,
+    })
+}
+
+// Takes a stream's bytes, or `-` where it was not captured.
+fn take_stream(
+    alloc: Global,
+    fields: &mut Fields<'_>,
+) -> Result<Option<ChildSingleOutput>, LineError>
+    ensures { Gives (λ stream. stream) fields.old result fields.new (field stream_in) }
+{
+    match fields.take_memory(alloc) {
+        Some(memory) => Ok(Some(decode(alloc, memory)?.ok_or(fields.bad_field())?)),
+        None => fields.try_read(|text| read_stream(alloc, text)),
+    }
+}
+
+// Takes the bytes of both streams together.
+fn take_single(alloc: Global, fields: &mut Fields<'_>) -> Result<ChildSingleOutput, LineError>
+    ensures { Gives (λ output. output) fields.old result fields.new (field bytes_in) }
+{
+    match fields.take_memory(alloc) {
+        Some(memory) => Ok(decode(alloc, memory)?.ok_or(fields.bad_field())?),
+        None => fields.try_read(|text| read_single(alloc, text)),
+    }
+}
+
+// Decodes the bytes of one stream, or of both together, in the memory of their field.
+fn decode(alloc: Global, field: BytesMut) -> Field<ChildSingleOutput>
+    ensures { IfOk result (λ output. output ≡ bytes_in field.items) }
+{
+    let mut bytes = field;
+    let Some(len) = unescape_in_place(bytes.as_mut_slice()) else {
+        return Ok(None);
+    };
+    bytes.truncate(len);
+    Ok(Some(ChildSingleOutput::new(alloc, bytes.freeze()?)?))
+}
+
+// Reads a stream's bytes, or `-` where it was not captured.
+#[tactic(auto, unfolding(scene_fields::specs::Texts::unescaped_after))]
+fn read_stream(alloc: Global, field: &str) -> Field<Option<ChildSingleOutput>>
+    ensures { IfOk result (λ stream. stream ≡ stream_in field.now) }
+{
+    match field {
+        "-" => Ok(Some(None)),
+        "" => Ok(Some(Some(ChildSingleOutput::empty()))),
+        _ => Ok(read_single(alloc, field)?.map(Some)),
+    }
+}
+
+// Reads the bytes of one stream, or of both together.
+fn read_single(alloc: Global, field: &str) -> Field<ChildSingleOutput>
+    ensures { IfOk result (λ output. output ≡ bytes_in field.now) }
+{
+    match read_bytes(alloc, field)? {
+        Some(bytes) => Ok(Some(ChildSingleOutput::new(alloc, Bytes::from_vec(bytes)?)?)),
+        None => Ok(None),
+    }
+}
+
+// Reads what went wrong while an attempt was run, or `-`.
+fn read_errors(alloc: Global, field: &str) -> Field<Option<ErrorChain>>
+    ensures { IfOk result (λ errors. errors ≡ errors_in field.now) }
+{
+    match field {
+        "-" => Ok(Some(None)),
+        _ => Ok(read_chain(alloc, field)?.map(Some)),
+    }
 }
