@@ -20,15 +20,10 @@ pub fails_first : {A B : Type 0} (e : LineError) (f : A → Line B) (read : Resu
 fails_first error.OutOfMemory f read whole is h = tt
 fails_first (error.Fault x) f read whole is h = is ∙ rw h refl
 
--- the first attempt, and then those behind it
-module _ (flaky : FlakyResult) (total : ℕ) (p : Place) where
-  pub first_and_others : all_attempts flaky total p ≡ goes_on (attempts_behind flaky total) (attempt_fields (retry_numbered total 1) p)
-  unfolding all_attempts
-  first_and_others = refl
-
-  pub first_read : (q : Place) (first : Attempt) → attempt_fields (retry_numbered total 1) p ≡ Ok (first, q) → all_attempts flaky total p ≡ attempts_behind flaky total first q
-  unfolding all_attempts
-  first_read q first h = rw h refl
+-- the first attempt was read, and those behind it are left
+pub first_read : (flaky : FlakyResult) (total : ℕ) (p q : Place) (first : Attempt) → attempt_fields (retry_numbered total 1) p ≡ Ok (first, q) → all_attempts flaky total p ≡ attempts_behind flaky total first q
+unfolding all_attempts
+first_read flaky total p q first h = rw h refl
 
 -- there are no fields for another attempt
 pub only_attempt : (flaky : FlakyResult) (total : ℕ) (first : Attempt) (p : Place) → length p.left < 8
