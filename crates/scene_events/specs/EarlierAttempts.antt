@@ -3,14 +3,8 @@ use Rattle.std.specs.Prelude.{ℕ, List, length, slice_get, slice_set, ◌==◌,
 use Rattle.std.specs.Option.{option_map_or}
 use Rattle.run_model.specs.Attempts.{Attempt, attempt_with_output}
 use Rattle.run_model.specs.declared.output.ChildOutputDescription.{ChildOutputDescription}
-use Rattle.scene_events.specs.SceneOutputs.{loaded, no_output}
-use Rattle.scene_events.specs.declared.scene.attempts.AttemptOutput.{AttemptOutput}
-use Rattle.scene_events.specs.declared.scene.attempts.AttemptOutput.TheVariants as attempt
-
--- what an attempt wrote, where this was captured
-abbrev pub loaded_by : AttemptOutput → ChildOutputDescription → AttemptOutput
-loaded_by attempt.Empty captured = attempt.Output (loaded no_output captured)
-loaded_by (attempt.Output output) captured = attempt.Output (loaded output captured)
+use Rattle.scene_events.specs.SceneOutputs.{loaded}
+use Rattle.scene_events.specs.declared.scene.units.SceneOutput.{SceneOutput}
 
 -- attempts of which the one at this place captured this, from 0; a place behind them changes nothing
 abbrev pub with_output_at : ℕ → ChildOutputDescription → List Attempt → List Attempt
@@ -19,10 +13,10 @@ with_output_at place captured attempts =
 
 pub record BeforeLast : Type 0 where
   pub attempts : List Attempt
-  pub last_output : AttemptOutput
+  pub last_output : SceneOutput
 
 -- the same where the attempt at this place captured this; the last one stands behind the others
 abbrev pub before_last_with : ℕ → ChildOutputDescription → BeforeLast → BeforeLast
 before_last_with place captured b =
-    if place == length b.attempts then record b { last_output = loaded_by b.last_output captured }
+    if place == length b.attempts then record b { last_output = loaded b.last_output captured }
     else record b { attempts = with_output_at place captured b.attempts }

@@ -7,7 +7,7 @@ use Rattle.scene_events.specs.EarlierAttempts.{with_output_at}
 use Rattle.scene_events.specs.SceneOutputs.{loaded}
 use Rattle.scene_events.specs.declared.scene.event.SceneEvent.{SceneEvent}
 use Rattle.scene_events.specs.declared.scene.event.SceneEvent.TheVariants as scene
-use Rattle.scene_events.specs.declared.scene.info_events.UnitAnswer.{UnitAnswer}
+use Rattle.scene_events.specs.declared.scene.test_events.UnitAnswer.{UnitAnswer}
 
 -- attempts of which the one at this place captured this. The first stands at 0, and a place behind the last changes nothing
 abbrev pub attempts_with : ℕ → ChildOutputDescription → Attempts LiveSpec ChildOutputDescription → Attempts LiveSpec ChildOutputDescription

@@ -6,8 +6,8 @@ use Rattle.run_model.specs.declared.output.ChildExecutionOutputDescription.TheVa
 use Rattle.run_model.specs.declared.output.ChildOutputDescription.{ChildOutputDescription}
 use Rattle.run_model.specs.declared.output.ChildOutputDescription.TheVariants.{Split}
 use Rattle.run_model.specs.declared.status.ExecutionResultDescription.{ExecutionResultDescription}
-use Rattle.scene_events.specs.declared.scene.outputs.SceneOutput.{SceneOutput}
-use Rattle.scene_events.specs.declared.scene.outputs.SceneOutput.TheVariants.{Output, StartError}
+use Rattle.scene_events.specs.declared.scene.units.SceneOutput.{SceneOutput}
+use Rattle.scene_events.specs.declared.scene.units.SceneOutput.TheVariants.{Output, StartError}
 
 -- both streams were captured, and hold nothing
 abbrev pub no_output : SceneOutput

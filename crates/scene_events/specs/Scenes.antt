@@ -21,11 +21,11 @@ use Rattle.scene_events.specs.SceneOutputs.{is_loaded, written}
 use Rattle.scene_events.specs.States.{result_of, unit_state}
 use Rattle.scene_events.specs.declared.scene.event.SceneEvent.{SceneEvent}
 use Rattle.scene_events.specs.declared.scene.event.SceneEvent.TheVariants as scene
-use Rattle.scene_events.specs.declared.scene.info_events.ScriptAnswer.{ScriptAnswer}
-use Rattle.scene_events.specs.declared.scene.info_events.TestAnswer.{TestAnswer}
-use Rattle.scene_events.specs.declared.scene.info_events.UnitAnswer.{UnitAnswer}
-use Rattle.scene_events.specs.declared.scene.replay_calls.SceneHeader.{SceneHeader}
-use Rattle.scene_events.specs.declared.scene.script_events.SceneScript.{SceneScript}
+use Rattle.scene_events.specs.declared.scene.test_events.ScriptAnswer.{ScriptAnswer}
+use Rattle.scene_events.specs.declared.scene.test_events.TestAnswer.{TestAnswer}
+use Rattle.scene_events.specs.declared.scene.test_events.UnitAnswer.{UnitAnswer}
+use Rattle.scene_events.specs.declared.scene.run_events.SceneHeader.{SceneHeader}
+use Rattle.scene_events.specs.declared.scene.run_events.SceneScript.{SceneScript}
 use Rattle.scene_events.specs.declared.scene.test_events.SceneTest.{SceneTest}
 
 -- a reporter's test has the names of a scene's
@@ -57,7 +57,7 @@ nothing_counted reason = record (planned_stats 0) { cancel_reason = reason }
 -- a reporter's event says what a scene's does
 abbrev pub SaysSame : SceneEvent → TestEventKind → Type 0
 SaysSame (scene.RunStarted e) (kind.RunStarted test_list run_id profile_name) = (test_list ≡ e.test_list) × (run_id ≡ e.run_id) × (profile_name ≡ e.profile_name)
-SaysSame (scene.StressSubRunStarted e) (kind.StressSubRunStarted progress) = progress ≡ e.progress
+SaysSame (scene.StressSubRunStarted e) (kind.StressSubRunStarted progress) = progress ≡ e
 SaysSame (scene.SetupScriptStarted e) (kind.SetupScriptStarted stress index total id program args) =
     (stress ≡ e.stress_index) × (index ≡ e.index) × (total ≡ e.total) × IsOfScript e.script id program args
 SaysSame (scene.SetupScriptSlow e) (kind.SetupScriptSlow stress id program args elapsed will_terminate) =
@@ -86,7 +86,7 @@ SaysSame (scene.RunContinued e) (kind.RunContinued scripts running) = (scripts �
 SaysSame (scene.InfoStarted e) (kind.InfoStarted total stats) = (total ≡ e.total) × (stats ≡ e.run_stats)
 SaysSame (scene.ScriptAnswered e) (kind.InfoResponse index total answer) = (index ≡ e.index) × (total ≡ e.total) × IsScriptAnswer e answer
 SaysSame (scene.TestAnswered e) (kind.InfoResponse index total answer) = (index ≡ e.index) × (total ≡ e.total) × IsTestAnswer e answer
-SaysSame (scene.InfoFinished e) (kind.InfoFinished missing) = missing ≡ e.missing
+SaysSame (scene.InfoFinished e) (kind.InfoFinished missing) = missing ≡ e
 SaysSame (scene.InputEnter e) (kind.InputEnter stats running) = (stats ≡ e.current_stats) × (running ≡ e.running)
 SaysSame (scene.StressSubRunFinished e) (kind.StressSubRunFinished progress elapsed stats) =
     (progress ≡ e.progress) × (elapsed ≡ e.sub_elapsed) × (stats ≡ e.sub_stats)

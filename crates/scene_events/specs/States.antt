@@ -3,12 +3,12 @@ use Rattle.std.specs.Prelude.{Option, Some}
 use Rattle.run_model.specs.declared.info.UnitState.{UnitState}
 use Rattle.run_model.specs.declared.info.UnitState.TheVariants as state
 use Rattle.run_model.specs.declared.status.ExecutionResultDescription.{ExecutionResultDescription}
-use Rattle.scene_events.specs.declared.scene.states.EndedState.{EndedState}
-use Rattle.scene_events.specs.declared.scene.states.EndedState.TheVariants as ended
-use Rattle.scene_events.specs.declared.scene.states.LiveState.{LiveState}
-use Rattle.scene_events.specs.declared.scene.states.LiveState.TheVariants as live
-use Rattle.scene_events.specs.declared.scene.states.SceneState.{SceneState}
-use Rattle.scene_events.specs.declared.scene.states.SceneState.TheVariants as scene
+use Rattle.scene_events.specs.declared.scene.units.EndedState.{EndedState}
+use Rattle.scene_events.specs.declared.scene.units.EndedState.TheVariants as ended
+use Rattle.scene_events.specs.declared.scene.units.LiveState.{LiveState}
+use Rattle.scene_events.specs.declared.scene.units.LiveState.TheVariants as live
+use Rattle.scene_events.specs.declared.scene.units.SceneState.{SceneState}
+use Rattle.scene_events.specs.declared.scene.units.SceneState.TheVariants as scene
 
 -- how the attempt ended, where that is known
 abbrev pub result_of : SceneState → Option ExecutionResultDescription

@@ -3,17 +3,11 @@
 ghost use Rattle.std.specs.Prelude.{◌≡◌, ◌++◌, ◌∷◌, [], OnErr, OnOk};
 
 pub mod attempts;
-pub mod binary_id;
 pub mod event;
-pub mod info_events;
-pub mod outputs;
 pub mod packed_stats;
-pub mod replay_calls;
 pub mod run_events;
-pub mod script_events;
-pub mod states;
-pub mod stress_events;
 pub mod test_events;
+pub mod units;
 
 use event::SceneEvent;
 use run_model::config::{NextestRunMode, TestOutputDisplay};

@@ -1,11 +1,4 @@
-pub mod InfoLines
+pub mod EventLines
 pub mod Lines
-pub mod Moments
-pub mod Outputs
-pub mod ReplayLines
-pub mod RunLines
+pub mod Parts
 pub mod SceneTexts
-pub mod ScriptLines
-pub mod States
-pub mod StressLines
-pub mod TestLines

@@ -3,7 +3,7 @@ use Rattle.std.specs.Prelude.{◌≡◌, ℕ, ◌+◌, List, [], ◌∷◌, ◌+
 use Rattle.std.specs.Str.{is_utf8}
 use Rattle.scene_events.specs.Configs.{unconfigured}
 use Rattle.scene_fields.specs.Split.{split_on}
-use Rattle.scene_fields.specs.Fields.{Place, exactly}
+use Rattle.scene_fields.specs.Fields.{Fails, Place, exactly}
 use Rattle.scene_text.specs.Lines.{config_line_fields, event_line_fields}
 use Rattle.scene_fields.specs.declared.fault.LineError.{LineError}
 use Rattle.scene_fields.specs.declared.fault.LineError.TheVariants as error
@@ -167,11 +167,6 @@ abbrev pub fault_at : ℕ → LineError → ReadFault
 fault_at n error.OutOfMemory = fault.OutOfMemory
 fault_at n (error.Fault f) = fault.Line n f
 
--- a line of this number has the fault, unless memory was refused
-abbrev pub IsFaultHere : ℕ → Result ParsedLines LineFault → ReadFault → Type 0
-IsFaultHere n read (fault.Line m f) = (m ≡ n) × (read ≡ Err f)
-IsFaultHere n read fault.OutOfMemory = ⊤
-
 -- each line can be read, one after the other
 abbrev pub AllRead : ParsedLines → List RunLine → ParsedLines → Type 0
 AllRead before [] after = before ≡ after
@@ -180,6 +175,11 @@ AllRead before (t ∷ ts) after = (mid : ParsedLines) × (line_read before t ≡
 -- two runs have the same
 abbrev pub IsSameRun : ParsedRun → ParsedRun → Type 0
 IsSameRun a b = (parsed_lines b ≡ parsed_lines a) × (b.lines.items ≡ a.lines.items)
+
+-- the next line was read, whose value behind those before it is this; or it is wrong, and nothing has changed
+abbrev pub TakesLine : {X : Type 0} → LinesRead → Result X LineError → LinesRead → Result ParsedLines LineFault → Type 0
+TakesLine old (Ok x) new read = (read ≡ Ok (parsed_lines new.run)) × (new.is_begun ≡ old.is_begun) × (new.next ≡ old.next)
+TakesLine old (Err e) new read = Fails e read × IsSameRun old.run new.run × (new.is_begun ≡ old.is_begun) × (new.next ≡ old.next)
 
 -- These lines were read, behind whatever events were forgotten: one after the other, and the numbers of their events are noted.
 pub record ReadsLines (old new : LinesRead) (lines : List RunLine) : Type 0 where

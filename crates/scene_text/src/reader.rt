@@ -1,39 +1,37 @@
 //! The reader of scenes.
 //!
 //! A scene is lines of fields separated by tabs. The first field names an event, and what follows it is read by
-//! the kind of the event. Each module knows one thing: `lines` which kinds there are, `test_lines`, `script_lines`,
-//! `stress_lines`, `run_lines`, `info_lines` and `replay_lines` what fields the events of tests, of setup scripts, of stress
-//! runs, of the run and of its units' answers have, and the calls of a replay, `moments` when it was, `states` what a unit is
-//! doing, and `outputs` what it wrote.
+//! the kind of the event. Each module knows one thing: `lines` which kinds there are, `unit_lines` what fields the events of tests
+//! and of setup scripts have, `run_lines` those of the run and the calls of a replay, and `parts` values that stand
+//! in one field in parts.
 
-ghost use Rattle.std.specs.Prelude.{◌≡◌, ◌++◌, [], false, IfErr, OnErr, OnOk, Ok};
-ghost use Rattle.scene_fields.specs.Fields.{Reads};
-ghost use Rattle.scene_text.specs.SceneTexts.{IsSameRun, LeavesLines, ReadsLines, fault_at, is_begun, is_begun_behind, is_passed_over, line_here, line_read_behind, no_lines, parsed_lines, text_lines, words_read_behind};
+ghost use Rattle.std.specs.Prelude.{◌≡◌, ◌++◌, [], false, IfErr, OnOk, Ok};
+ghost use Rattle.scene_text.specs.SceneTexts.{LeavesLines, ReadsLines, TakesLine, fault_at, is_begun, is_begun_behind, is_passed_over, line_here, line_read_behind, no_lines, parsed_lines, text_lines, words_read_behind};
 
 mod binary_ids;
-mod info_lines;
 mod lines;
-mod moments;
-mod outputs;
-mod replay_lines;
+mod parts;
 mod run_lines;
-mod script_lines;
-mod states;
-mod stress_lines;
-mod test_lines;
+mod unit_lines;
 
 use binary_ids::BinaryIds;
 use lines::{read_config, read_event};
 use memchr::memchr;
+use run_model::memory::OutOfMemory;
 use scene_events::scene::event::SceneEvent;
 use scene_events::scene::{ParsedRun, SceneConfig};
 use scene_fields::fault::{LineError, LineFault, ReadFault};
 pub use scene_fields::fields::LARGE;
 use scene_fields::fields::{Fields, split_fields};
 use scene_fields::owned_text::OwnedText;
-pub use scene_fields::split;
 use scene_fields::split::first_line;
 use std::alloc::Global;
+
+// What a field spells, where it spells something.
+type Field<T> = Result<Option<T>, OutOfMemory>;
+
+// The event of a line, or what is wrong with the line.
+type EventResult = Result<SceneEvent, LineError>;
 
 /// The lines of a scene that were read so far. A scene that comes in pieces is read with no more than one of them in memory.
 ///
@@ -102,15 +100,7 @@ impl LinesRead {
                 None => return Ok(()),
             };
             let (line, after) = first_line(left);
-            match read_line(
-                alloc,
-                number,
-                line,
-                &mut fields,
-                self.is_begun,
-                &mut self.binaries,
-                &mut self.run,
-            ) {
+            match self.read_line(alloc, line, &mut fields) {
                 Ok(()) => rest = after,
                 Err(error) => return Err(fault_at(number, error)),
             }
@@ -136,14 +126,7 @@ impl LinesRead {
             return self.read_more(alloc, text.as_slice());
         }
         let number = self.next;
-        match read_owned_line(
-            alloc,
-            number,
-            text,
-            self.is_begun,
-            &mut self.binaries,
-            &mut self.run,
-        ) {
+        match self.read_owned_line(alloc, text) {
             Ok(()) => {
                 self.next = number + 1;
                 Ok(())
@@ -151,94 +134,67 @@ impl LinesRead {
             Err(error) => Err(fault_at(number, error)),
         }
     }
-}
 
-// Reads the line of this number into the run, and notes the number where the line is an event. The list is for its fields.
-#[inline(always)]
-#[tactic(auto, unfolding(crate::specs::SceneTexts::parsed_line, crate::specs::SceneTexts::line_read_behind), using(scene_fields::proofs::lemmas::Utf8::utf8_passes, scene_fields::proofs::lemmas::Utf8::utf8_fails))]
-fn read_line<'a>(
-    alloc: Global,
-    number: u64,
-    line: &'a [u8],
-    fields: &mut Vec<&'a str>,
-    is_begun: bool,
-    binaries: &mut BinaryIds,
-    run: &mut ParsedRun,
-) -> Result<(), LineError>
-    ensures read { Reads (λ _. parsed_lines run.new) result (line_read_behind is_begun (parsed_lines run.old) line.now) }
-    ensures lines { OnOk result (run.new.lines.items ≡ run.old.lines.items ++ line_here number (parsed_lines run.old) (parsed_lines run.new)) }
-    ensures unread { OnErr result (IsSameRun run.old run.new) }
-{
-    if is_passed_over(line) {
-        return Ok(());
-    }
-    let Ok(line) = str::from_utf8(line) else {
-        return Err(LineError::Fault(LineFault::NotUtf8));
-    };
-    split_fields(line, fields)?;
-    read_fields(
-        alloc,
-        number,
-        Fields::new(fields.as_slice()),
-        is_begun,
-        binaries,
-        run,
-    )
-}
-
-// Reads the line of this number, which has its own memory, as `read_line` does.
-#[tactic(auto, unfolding(crate::specs::SceneTexts::parsed_line, crate::specs::SceneTexts::line_read_behind))]
-fn read_owned_line(
-    alloc: Global,
-    number: u64,
-    line: Vec<u8>,
-    is_begun: bool,
-    binaries: &mut BinaryIds,
-    run: &mut ParsedRun,
-) -> Result<(), LineError>
-    ensures read { Reads (λ _. parsed_lines run.new) result (line_read_behind is_begun (parsed_lines run.old) line.items) }
-    ensures lines { OnOk result (run.new.lines.items ≡ run.old.lines.items ++ line_here number (parsed_lines run.old) (parsed_lines run.new)) }
-    ensures unread { OnErr result (IsSameRun run.old run.new) }
-{
-    if is_passed_over(line.as_slice()) {
-        return Ok(());
-    }
-    let Some(line) = OwnedText::new(line) else {
-        return Err(LineError::Fault(LineFault::NotUtf8));
-    };
-    let mut fields = line.split_fields(alloc)?;
-    let fields = Fields::of_large_line(fields.as_mut_slice());
-    read_fields(alloc, number, fields, is_begun, binaries, run)
-}
-
-// Reads the fields of a line into the run. What is wrong leaves the run as it was.
-#[inline(always)]
-#[tactic(auto, using(std::proofs::lemmas::Bool::Decides::nat_tests))]
-fn read_fields(
-    alloc: Global,
-    number: u64,
-    fields: Fields<'_>,
-    is_begun: bool,
-    binaries: &mut BinaryIds,
-    run: &mut ParsedRun,
-) -> Result<(), LineError>
-    requires { fields.number ≡ 0 }
-    ensures read { Reads (λ _. parsed_lines run.new) result (words_read_behind is_begun (parsed_lines run.old) fields.entry.left) }
-    ensures lines { OnOk result (run.new.lines.items ≡ run.old.lines.items ++ line_here number (parsed_lines run.old) (parsed_lines run.new)) }
-    ensures unread { OnErr result (IsSameRun run.old run.new) }
-{
-    let mut fields = fields;
-    match fields.take()? {
-        "config" if is_begun_behind(is_begun, run.events.as_slice()) => Err(LineError::Fault(
-            LineFault::ConfigAfterEvent,
-        )),
-        "config" => {
-            run.config = read_config(&mut fields.exactly(2)?, run.config)?;
-            Ok(())
+    // Reads the line that follows, and notes its number where it is an event. The list is for its fields.
+    #[inline(always)]
+    #[tactic(auto, unfolding(crate::specs::SceneTexts::parsed_line, crate::specs::SceneTexts::line_read_behind), using(scene_fields::proofs::lemmas::Utf8::utf8_passes, scene_fields::proofs::lemmas::Utf8::utf8_fails))]
+    fn read_line<'a>(
+        &mut self,
+        alloc: Global,
+        line: &'a [u8],
+        fields: &mut Vec<&'a str>,
+    ) -> Result<(), LineError>
+        ensures read { TakesLine self.old result self.new (line_read_behind self.old.is_begun (parsed_lines self.old.run) line.now) }
+        ensures noted { OnOk result (self.new.run.lines.items ≡ self.old.run.lines.items ++ line_here self.old.next (parsed_lines self.old.run) (parsed_lines self.new.run)) }
+    {
+        if is_passed_over(line) {
+            return Ok(());
         }
-        word => {
-            run.push(read_event(alloc, binaries, word, fields)?, number)?;
-            Ok(())
+        let Ok(line) = str::from_utf8(line) else {
+            return Err(LineError::Fault(LineFault::NotUtf8));
+        };
+        split_fields(line, fields)?;
+        self.read_fields(alloc, Fields::new(fields.as_slice()))
+    }
+
+    // Reads the line that follows, which has its own memory, as `read_line` does.
+    #[tactic(auto, unfolding(crate::specs::SceneTexts::parsed_line, crate::specs::SceneTexts::line_read_behind))]
+    fn read_owned_line(&mut self, alloc: Global, line: Vec<u8>) -> Result<(), LineError>
+        ensures read { TakesLine self.old result self.new (line_read_behind self.old.is_begun (parsed_lines self.old.run) line.items) }
+        ensures noted { OnOk result (self.new.run.lines.items ≡ self.old.run.lines.items ++ line_here self.old.next (parsed_lines self.old.run) (parsed_lines self.new.run)) }
+    {
+        if is_passed_over(line.as_slice()) {
+            return Ok(());
+        }
+        let Some(line) = OwnedText::new(line) else {
+            return Err(LineError::Fault(LineFault::NotUtf8));
+        };
+        let mut fields = line.split_fields(alloc)?;
+        self.read_fields(alloc, Fields::of_large_line(fields.as_mut_slice()))
+    }
+
+    // Reads the fields of the line that follows. What is wrong leaves the lines as they were.
+    #[inline(always)]
+    #[tactic(auto, using(std::proofs::lemmas::Bool::Decides::nat_tests))]
+    fn read_fields(&mut self, alloc: Global, fields: Fields<'_>) -> Result<(), LineError>
+        requires { fields.number ≡ 0 }
+        ensures read { TakesLine self.old result self.new (words_read_behind self.old.is_begun (parsed_lines self.old.run) fields.entry.left) }
+        ensures noted { OnOk result (self.new.run.lines.items ≡ self.old.run.lines.items ++ line_here self.old.next (parsed_lines self.old.run) (parsed_lines self.new.run)) }
+    {
+        let mut fields = fields;
+        match fields.take()? {
+            "config" if is_begun_behind(self.is_begun, self.run.events.as_slice()) => Err(
+                LineError::Fault(LineFault::ConfigAfterEvent),
+            ),
+            "config" => {
+                self.run.config = read_config(&mut fields.exactly(2)?, self.run.config)?;
+                Ok(())
+            }
+            word => {
+                let event = read_event(alloc, &mut self.binaries, word, fields)?;
+                self.run.push(event, self.next)?;
+                Ok(())
+            }
         }
     }
 }

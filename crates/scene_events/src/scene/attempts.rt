@@ -1,15 +1,12 @@
 //! The attempts of a test in a short form: most are one attempt that wrote nothing, and a scene may hold a million.
 
-ghost use Rattle.std.specs.Prelude.{◌≡◌, IfOk, OnErr, OnOk};
-ghost use Rattle.scene_events.specs.SceneAttempts.{empty_output};
-ghost use Rattle.scene_events.specs.SceneOutputs.{loaded, no_output};
+ghost use Rattle.std.specs.Prelude.{◌≡◌, IfOk, OnErr, OnOk, Some};
+ghost use Rattle.scene_events.specs.SceneOutputs.{is_loaded, loaded, no_output, written};
 
-use super::outputs::SceneOutput;
+use super::units::SceneOutput;
 use run_model::boxed::Boxed;
 use run_model::memory::OutOfMemory;
-use run_model::output::{
-    ChildExecutionOutputDescription, ChildOutputDescription, ChildSingleOutput, LiveSpec,
-};
+use run_model::output::{ChildExecutionOutputDescription, ChildOutputDescription, LiveSpec};
 use run_model::status::{
     ExecuteStatus, ExecutionResultDescription, ExecutionStatuses, FlakyResult, RetryData,
     SetupScriptExecuteStatus,
@@ -63,15 +60,17 @@ impl Model for SceneAttempts {
 
     ghost Value = { Attempts LiveSpec ChildOutputDescription };
 
-    ghost use Rattle.scene_events.specs.SceneAttempts.{earlier_in, written_last};
+    ghost use Rattle.std.specs.Prelude.{Some};
+    ghost use Rattle.scene_events.specs.SceneAttempts.{before_last};
+    ghost use Rattle.scene_events.specs.SceneOutputs.{written};
 
     ghost view = { λ a. record {
-      earlier = earlier_in a.more;
+      earlier = (before_last a.more).attempts;
       last = record {
         time_taken = a.time_taken;
         retry_data = a.retry_data;
         result = a.result;
-        output = written_last a.result a.more;
+        output = written (Some a.result) (before_last a.more).last_output;
         is_slow = a.is_slow;
       };
       flaky_result = a.flaky_result;
@@ -90,9 +89,7 @@ impl SceneAttempts {
         last: SceneAttempt,
         flaky_result: FlakyResult,
     ) -> Result<Self, OutOfMemory>
-        ensures earlier { IfOk result (λ attempts. attempts.earlier ≡ earlier.items) }
-        ensures last { IfOk result (λ attempts. attempts.last ≡ last) }
-        ensures flaky { IfOk result (λ attempts. attempts.flaky_result ≡ flaky_result) }
+        ensures { IfOk result (λ attempts. attempts ≡ record { earlier = earlier.items; last = last; flaky_result = flaky_result }) }
     {
         let SceneAttempt {
             time_taken,
@@ -102,9 +99,9 @@ impl SceneAttempts {
             is_slow,
         } = last;
         let more = if earlier.is_empty() {
-            match output {
-                AttemptOutput::Empty => MoreAttempts::Nothing,
-                AttemptOutput::Output(output) => MoreAttempts::Output(output),
+            match output.output {
+                None => MoreAttempts::Nothing,
+                Some(output) => MoreAttempts::Output(output),
             }
         } else {
             let earlier = EarlierAttempts {
@@ -146,7 +143,15 @@ impl SceneAttempts {
         ensures loaded { OnOk result (self.new ≡ attempts_with place captured self.old) }
         ensures kept { OnErr result (self.new ≡ self.old) }
     {
-        self.more.load(alloc, place, captured)
+        match &mut self.more {
+            MoreAttempts::Earlier(earlier) => earlier.get_mut().load(alloc, place, captured)?,
+            _ if place > 0 => {}
+            MoreAttempts::Output(output) => output.get_mut().load(captured),
+            MoreAttempts::Nothing => {
+                self.more = MoreAttempts::Output(loaded_output(alloc, captured)?);
+            }
+        }
+        Ok(())
     }
 
     /// The attempts as an event has them. Copies their texts and shares the bytes of their outputs.
@@ -176,7 +181,7 @@ impl SceneAttempts {
             time_taken: self.time_taken,
             retry_data: self.retry_data,
             result: self.result.copy(alloc)?,
-            output: empty_output(self.result.copy(alloc)?),
+            output: ChildExecutionOutputDescription::silent(self.result.copy(alloc)?),
             is_slow: self.is_slow,
         })
     }
@@ -187,10 +192,12 @@ impl SceneAttempts {
         ensures { IfOk result (λ status. status ≡ self.now.last) }
     {
         let output = match &self.more {
-            MoreAttempts::Nothing => empty_output(self.result.copy(alloc)?),
+            MoreAttempts::Nothing => ChildExecutionOutputDescription::silent(
+                self.result.copy(alloc)?,
+            ),
             MoreAttempts::Output(output) => output.get().description(alloc, Some(&self.result))?,
             MoreAttempts::Earlier(earlier) => {
-                earlier.get().last_output.copy_of(alloc, &self.result)?
+                earlier.get().last_output.description(alloc, &self.result)?
             }
         };
         Ok(ExecuteStatus {
@@ -200,36 +207,6 @@ impl SceneAttempts {
             output,
             is_slow: self.is_slow,
         })
-    }
-}
-
-impl MoreAttempts {
-    ghost use Rattle.scene_events.specs.SceneAttempts.{more_with};
-
-    // Puts this in place of what the attempt at this place captured.
-    fn load(
-        &mut self,
-        alloc: Global,
-        place: usize,
-        captured: ChildOutputDescription,
-    ) -> Result<(), OutOfMemory>
-        ensures loaded { OnOk result (self.new ≡ more_with place captured self.old) }
-        ensures kept { OnErr result (self.new ≡ self.old) }
-    {
-        match self {
-            MoreAttempts::Earlier(earlier) => earlier.get_mut().load(alloc, place, captured)?,
-            MoreAttempts::Output(output) => {
-                if place == 0 {
-                    output.get_mut().load(captured);
-                }
-            }
-            MoreAttempts::Nothing => {
-                if place == 0 {
-                    *self = MoreAttempts::Output(loaded_output(alloc, captured)?);
-                }
-            }
-        }
-        Ok(())
     }
 }
 
@@ -281,54 +258,72 @@ pub struct SceneAttempt {
     is_slow: bool,
 }
 
-// What an attempt wrote.
+/// What an attempt wrote: most wrote nothing, and then it holds nothing. Contracts see it as a `SceneOutput`.
 #[derive(Drop)]
-enum AttemptOutput {
-    // Both streams were captured, and hold nothing.
-    Empty,
-    // All else.
-    Output(Boxed<SceneOutput>),
+pub struct AttemptOutput {
+    output: Option<Boxed<SceneOutput>>,
+}
+
+impl Model for AttemptOutput {
+    ghost use Rattle.std.specs.Option.{unwrap_or};
+    ghost use Rattle.scene_events.specs.SceneOutputs.{no_output};
+    ghost use Rattle.scene_events.specs.declared.scene.units.SceneOutput.{SceneOutput};
+
+    ghost Value = { SceneOutput };
+
+    ghost view = { λ o. unwrap_or o.output no_output };
 }
 
 impl AttemptOutput {
-    ghost use Rattle.scene_events.specs.EarlierAttempts.{loaded_by};
-    ghost use Rattle.scene_events.specs.SceneAttempts.{is_loaded_by, written_by};
+    /// Both streams were captured, and hold nothing.
+    pub fn empty() -> Self
+        ensures { result ≡ no_output }
+    {
+        AttemptOutput { output: None }
+    }
+
+    /// It wrote this, for which it allocates.
+    pub fn new(alloc: Global, output: SceneOutput) -> Result<Self, OutOfMemory>
+        ensures { IfOk result (λ written. written ≡ output) }
+    {
+        Ok(AttemptOutput {
+            output: Some(Boxed::new(alloc, output)?),
+        })
+    }
 
     // Whether it is there, and not left unread.
     fn is_loaded(&self) -> bool
-        ensures { result ≡ is_loaded_by self.now }
+        ensures { result ≡ is_loaded self.now }
     {
-        match self {
-            AttemptOutput::Output(output) => output.get().has_loaded_output(),
-            AttemptOutput::Empty => true,
+        match &self.output {
+            Some(output) => output.get().has_loaded_output(),
+            None => true,
         }
     }
 
     // Puts this in place of what was captured. It allocates for an attempt that held nothing.
     fn load(&mut self, alloc: Global, captured: ChildOutputDescription) -> Result<(), OutOfMemory>
-        ensures loaded { OnOk result (self.new ≡ loaded_by self.old captured) }
+        ensures loaded { OnOk result (self.new ≡ loaded self.old captured) }
         ensures kept { OnErr result (self.new ≡ self.old) }
     {
-        match self {
-            AttemptOutput::Output(output) => output.get_mut().load(captured),
-            AttemptOutput::Empty => {
-                *self = AttemptOutput::Output(loaded_output(alloc, captured)?);
-            }
+        match &mut self.output {
+            Some(output) => output.get_mut().load(captured),
+            None => self.output = Some(loaded_output(alloc, captured)?),
         }
         Ok(())
     }
 
     // What an attempt that ended so wrote, as an event has it.
-    fn copy_of(
+    fn description(
         &self,
         alloc: Global,
         outcome: &ExecutionResultDescription,
     ) -> Result<ChildExecutionOutputDescription<LiveSpec>, OutOfMemory>
-        ensures { IfOk result (λ output. output ≡ written_by outcome.now self.now) }
+        ensures { IfOk result (λ output. output ≡ written (Some outcome.now) self.now) }
     {
-        match self {
-            AttemptOutput::Output(output) => output.get().description(alloc, Some(outcome)),
-            AttemptOutput::Empty => Ok(empty_output(outcome.copy(alloc)?)),
+        match &self.output {
+            Some(output) => output.get().description(alloc, Some(outcome)),
+            None => Ok(ChildExecutionOutputDescription::silent(outcome.copy(alloc)?)),
         }
     }
 }
@@ -340,13 +335,14 @@ impl Model for SceneAttempt {
 
     ghost Value = { ExecuteStatus LiveSpec ChildOutputDescription };
 
-    ghost use Rattle.scene_events.specs.SceneAttempts.{written_by};
+    ghost use Rattle.std.specs.Prelude.{Some};
+    ghost use Rattle.scene_events.specs.SceneOutputs.{written};
 
     ghost view = { λ a. record {
       time_taken = a.time_taken;
       retry_data = a.retry_data;
       result = a.result;
-      output = written_by a.result a.output;
+      output = written (Some a.result) a.output;
       is_slow = a.is_slow;
     } };
 }
@@ -356,57 +352,30 @@ impl SceneAttempt {
     ghost use Rattle.run_model.specs.Outputs.{has_loaded_output};
     ghost use Rattle.run_model.specs.Statuses.{is_success};
     ghost use Rattle.scene_events.specs.SceneAttempts.{script_status};
-    ghost use Rattle.scene_events.specs.SceneOutputs.{written};
-    ghost use Rattle.std.specs.Prelude.{Some};
 
-    /// An attempt whose streams were both captured, and hold nothing. It allocates nothing.
-    pub fn silent(
+    /// An attempt that ended so, took so long and wrote this.
+    pub fn new(
         outcome: ExecutionResultDescription,
         time_taken: Nanos,
         retry_data: RetryData,
         is_slow: bool,
+        output: AttemptOutput,
     ) -> Self
         ensures { result ≡ record {
           time_taken = time_taken;
           retry_data = retry_data;
           result = outcome;
-          output = empty_output outcome;
+          output = written (Some outcome) output;
           is_slow = is_slow;
         } }
     {
         SceneAttempt {
             time_taken,
             result: outcome,
-            output: AttemptOutput::Empty,
+            output,
             retry_data,
             is_slow,
         }
-    }
-
-    /// An attempt with what it wrote, for which it allocates.
-    pub fn with_output(
-        alloc: Global,
-        outcome: ExecutionResultDescription,
-        time_taken: Nanos,
-        retry_data: RetryData,
-        is_slow: bool,
-        output: SceneOutput,
-    ) -> Result<Self, OutOfMemory>
-        ensures { IfOk result (λ attempt. attempt ≡ record {
-          time_taken = time_taken;
-          retry_data = retry_data;
-          result = outcome;
-          output = written (Some outcome) output;
-          is_slow = is_slow;
-        }) }
-    {
-        Ok(SceneAttempt {
-            time_taken,
-            result: outcome,
-            output: AttemptOutput::Output(Boxed::new(alloc, output)?),
-            retry_data,
-            is_slow,
-        })
     }
 
     /// Whether it succeeded.
@@ -444,7 +413,7 @@ impl SceneAttempt {
             time_taken: self.time_taken,
             retry_data: self.retry_data,
             result: self.result.copy(alloc)?,
-            output: self.output.copy_of(alloc, &self.result)?,
+            output: self.output.description(alloc, &self.result)?,
             is_slow: self.is_slow,
         })
     }
@@ -459,7 +428,7 @@ impl SceneAttempt {
         Ok(SetupScriptExecuteStatus {
             time_taken: self.time_taken,
             result: self.result.copy(alloc)?,
-            output: self.output.copy_of(alloc, &self.result)?,
+            output: self.output.description(alloc, &self.result)?,
             is_slow: self.is_slow,
         })
     }
@@ -480,20 +449,4 @@ fn loaded_output(
             highlight: None,
         },
     )
-}
-
-// The output of an attempt with this result that wrote nothing.
-#[inline(always)]
-fn empty_output(outcome: ExecutionResultDescription) -> ChildExecutionOutputDescription<LiveSpec>
-    ensures { result ≡ empty_output outcome }
-{
-    ChildExecutionOutputDescription::Output {
-        result: Some(outcome),
-        output: ChildOutputDescription::Split {
-            stdout: Some(ChildSingleOutput::empty()),
-            stderr: Some(ChildSingleOutput::empty()),
-        },
-        errors: None,
-        highlight: None,
-    }
 }

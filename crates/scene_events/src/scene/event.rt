@@ -3,13 +3,13 @@
 ghost use Rattle.std.specs.Prelude.{◌≡◌, OnErr, OnOk};
 ghost use Rattle.scene_events.specs.Scenes.{IsPushed, PushesCallOf};
 
-use super::info_events::{InfoFinish, InfoStart, ScriptAnswer, TestAnswer};
-use super::replay_calls::{SceneHeader, push_prefix_call};
-use super::run_events::{RunCancel, RunFinish, RunPause, RunStart, StateRequest};
-use super::script_events::{SetupFinish, SetupStart, SlowSetup};
-use super::stress_events::{SubRunFinish, SubRunStart};
+use super::run_events::{
+    RunCancel, RunFinish, RunPause, RunStart, SceneHeader, SetupFinish, SetupStart, SlowSetup,
+    StateRequest, SubRunFinish,
+};
 use super::test_events::{
-    FailedAttempt, SceneTest, SlowTest, TestFinish, TestRetryStart, TestStart,
+    FailedAttempt, InfoStart, SceneTest, ScriptAnswer, SlowTest, TestAnswer, TestFinish,
+    TestRetryStart, TestStart,
 };
 use run_model::boxed::Boxed;
 use run_model::call::ReportCall;
@@ -17,8 +17,12 @@ use run_model::event::{TestEvent, TestEventKind};
 use run_model::memory::OutOfMemory;
 use run_model::output::ChildOutputDescription;
 use run_model::run_id::ShortestRunIdPrefix;
+use run_model::stress::StressProgress;
 use run_model::time::Nanos;
 use std::alloc::Global;
+
+/// Calls of a reporter, in order.
+pub type Calls<'a> = Vec<ReportCall<'a>>;
 
 /// An event of a run, or another call of a reporter. What it says has memory of its own, so none takes the room of the largest kind.
 #[derive(Drop)]
@@ -29,8 +33,8 @@ pub enum SceneEvent {
     Header(Boxed<SceneHeader>),
     /// The run has started.
     RunStarted(Boxed<RunStart>),
-    /// An iteration of a stress run has started.
-    StressSubRunStarted(Boxed<SubRunStart>),
+    /// An iteration of a stress run has started, which has come so far.
+    StressSubRunStarted(Boxed<StressProgress>),
     /// A setup script has started.
     SetupScriptStarted(Boxed<SetupStart>),
     /// A setup script runs longer than it should.
@@ -63,8 +67,8 @@ pub enum SceneEvent {
     ScriptAnswered(Boxed<ScriptAnswer>),
     /// A test says what it is doing.
     TestAnswered(Boxed<TestAnswer>),
-    /// No further answers are waited for.
-    InfoFinished(InfoFinish),
+    /// No further answers are waited for. So many units have not answered.
+    InfoFinished(usize),
     /// The state of the run was asked for, by a key.
     InputEnter(Boxed<StateRequest>),
     /// An iteration of a stress run has finished.
@@ -85,8 +89,7 @@ impl SceneEvent {
     /// among those that are looked at.
     ///
     /// ```
-    /// use scene_events::scene::info_events::InfoFinish;
-    /// assert!(!SceneEvent::InfoFinished(InfoFinish { missing: 0 }).may_be_refused());
+    /// assert!(!SceneEvent::InfoFinished(0).may_be_refused());
     /// ```
     pub fn may_be_refused(&self) -> bool
         ensures { result ≡ may_be_refused self.now }
@@ -116,8 +119,7 @@ impl SceneEvent {
     ///
     /// ```
     /// use run_model::output::ChildOutputDescription;
-    /// use scene_events::scene::info_events::InfoFinish;
-    /// let mut event = SceneEvent::InfoFinished(InfoFinish { missing: 0 });
+    /// let mut event = SceneEvent::InfoFinished(0);
     /// event.load(alloc, 0, ChildOutputDescription::NotLoaded)?; // it has no output
     /// assert!(!event.may_be_refused());
     /// ```
@@ -165,24 +167,25 @@ impl SceneEvent {
     /// Pushes the call that this event is. It borrows the event's names.
     ///
     /// ```
-    /// use scene_events::scene::info_events::InfoFinish;
-    /// let finished = SceneEvent::InfoFinished(InfoFinish { missing: 1 });
+    /// let finished = SceneEvent::InfoFinished(1);
     /// let mut calls = Vec::new(alloc);
     /// finished.push_call(alloc, &mut calls)?;
     /// assert!(matches!(calls.as_slice(), [ReportCall::Event(_)]));
     /// ```
-    pub fn push_call<'a>(
-        &'a self,
-        alloc: Global,
-        calls: &mut Vec<ReportCall<'a>>,
-    ) -> Result<(), OutOfMemory>
+    pub fn push_call<'a>(&'a self, alloc: Global, calls: &mut Calls<'a>) -> Result<(), OutOfMemory>
         ensures { PushesCallOf self.now calls.old.items result calls.new.items }
     {
         match self {
-            SceneEvent::Prefix(prefix) => push_prefix_call(alloc, prefix.get(), calls),
+            SceneEvent::Prefix(prefix) => push(
+                calls,
+                ReportCall::Prefix(prefix.get().copy(alloc)?),
+            ),
             SceneEvent::Header(header) => header.get().push_call(alloc, calls),
             SceneEvent::RunStarted(start) => start.get().push_call(alloc, calls),
-            SceneEvent::StressSubRunStarted(start) => start.get().push_call(calls),
+            SceneEvent::StressSubRunStarted(progress) => {
+                let progress = *progress.get();
+                push_event(calls, TestEventKind::StressSubRunStarted { progress })
+            }
             SceneEvent::SetupScriptStarted(start) => start.get().push_call(alloc, calls),
             SceneEvent::SetupScriptSlow(slow) => slow.get().push_call(alloc, calls),
             SceneEvent::SetupScriptFinished(finish) => finish.get().push_call(alloc, calls),
@@ -199,7 +202,9 @@ impl SceneEvent {
             SceneEvent::InfoStarted(start) => start.get().push_call(calls),
             SceneEvent::ScriptAnswered(answer) => answer.get().push_call(alloc, calls),
             SceneEvent::TestAnswered(answer) => answer.get().push_call(alloc, calls),
-            SceneEvent::InfoFinished(finish) => finish.push_call(calls),
+            SceneEvent::InfoFinished(missing) => {
+                push_event(calls, TestEventKind::InfoFinished { missing: *missing })
+            }
             SceneEvent::InputEnter(request) => request.get().push_call(calls),
             SceneEvent::StressSubRunFinished(finish) => finish.get().push_call(calls),
             SceneEvent::RunFinished(finish) => finish.get().push_call(alloc, calls),
@@ -210,33 +215,18 @@ impl SceneEvent {
 /// Pushes an event that a scene does not say the time of. Where memory is refused, the calls stay as they were.
 #[inline(always)]
 pub(super) fn push_event<'a>(
-    calls: &mut Vec<ReportCall<'a>>,
+    calls: &mut Calls<'a>,
     kind: TestEventKind<'a>,
 ) -> Result<(), OutOfMemory>
     ensures { IsPushed (ReportCall.Event (record { elapsed = record { 0 = 0 }; kind = kind.entry })) calls.old.items result calls.new.items }
 {
-    push_event_after(calls, Nanos(0), kind)
-}
-
-/// Pushes an event, and how long the run had taken when it happened, in nanoseconds. Where memory is refused, the calls stay
-/// as they were.
-#[inline(always)]
-pub(super) fn push_event_after<'a>(
-    calls: &mut Vec<ReportCall<'a>>,
-    elapsed: Nanos,
-    kind: TestEventKind<'a>,
-) -> Result<(), OutOfMemory>
-    ensures { IsPushed (ReportCall.Event (record { elapsed = elapsed; kind = kind.entry })) calls.old.items result calls.new.items }
-{
+    let elapsed = Nanos(0);
     push(calls, ReportCall::Event(TestEvent { elapsed, kind }))
 }
 
 /// Pushes a call, which is built in place: it is large. Where memory is refused, the calls stay as they were.
 #[inline(always)]
-pub(super) fn push<'a>(
-    calls: &mut Vec<ReportCall<'a>>,
-    call: ReportCall<'a>,
-) -> Result<(), OutOfMemory>
+pub(super) fn push<'a>(calls: &mut Calls<'a>, call: ReportCall<'a>) -> Result<(), OutOfMemory>
     ensures { IsPushed call.entry calls.old.items result calls.new.items }
 {
     calls.push(call)?;

@@ -1,19 +1,29 @@
-//! The events of a run.
+//! The events of a run and of its setup scripts, and what a replay asks of a reporter that is no event.
 
-ghost use Rattle.std.specs.Prelude.{◌≡◌, IfOk};
 ghost use Rattle.scene_events.specs.Scenes.{PushesCallOf, nothing_counted};
 ghost use Rattle.scene_events.specs.declared.scene.event.SceneEvent.{SceneEvent};
+ghost use Rattle.std.specs.Prelude.{◌≡◌, IfOk};
 
-use super::event::{push_event, push_event_after};
+use super::attempts::SceneAttempt;
+use super::event::{Calls, push, push_event};
+use jiff::civil::{Date, DateTime, Time};
+use run_model::abort::DescriptionText;
 use run_model::call::ReportCall;
-use run_model::event::{TestCounts, TestEventKind};
+use run_model::command::CommandLine;
+use run_model::event::{TestCounts, TestEvent, TestEventKind};
 use run_model::level::CancelReason;
 use run_model::memory::OutOfMemory;
-use run_model::name::{OwnedTestInstanceId, ProfileName, RustBinaryId, TestCaseName};
+use run_model::name::{
+    OwnedTestInstanceId, ProfileName, ProgramName, RustBinaryId, ScriptId, TestCaseName,
+};
 use run_model::not_seen::{NotSeen, TestInstanceList};
+use run_model::replay::ReplayHeader;
+use run_model::run_id::ShortestRunIdPrefix;
 use run_model::stats::{RunFinishedStats, RunStats};
+use run_model::stress::{StressIndex, StressProgress};
 use run_model::time::Nanos;
 use std::alloc::Global;
+use std::marker::Model;
 use uuid::Uuid;
 
 /// A run that starts.
@@ -58,6 +68,17 @@ pub struct StateRequest {
     pub running: usize,
 }
 
+/// An iteration of a stress run that has finished.
+#[derive(Clone, Copy)]
+pub struct SubRunFinish {
+    /// How far the stress run has come.
+    pub progress: StressProgress,
+    /// How long the iteration took.
+    pub sub_elapsed: Nanos,
+    /// The counts of the iteration.
+    pub sub_stats: RunStats,
+}
+
 /// A run that has finished.
 #[derive(Drop)]
 pub struct RunFinish {
@@ -71,119 +92,111 @@ pub struct RunFinish {
 
 impl RunStart {
     /// Pushes this event as a `ReportCall`.
-    pub fn push_call<'a>(
-        &'a self,
-        alloc: Global,
-        calls: &mut Vec<ReportCall<'a>>,
-    ) -> Result<(), OutOfMemory>
+    pub fn push_call<'a>(&'a self, alloc: Global, calls: &mut Calls<'a>) -> Result<(), OutOfMemory>
         ensures { PushesCallOf (SceneEvent.RunStarted self.now) calls.old.items result calls.new.items }
     {
-        push_event(
-            calls,
-            TestEventKind::RunStarted {
-                test_list: self.test_list,
-                run_id: self.run_id,
-                profile_name: ProfileName::new(alloc, self.profile_name.as_str())?,
-            },
-        )
+        let kind = TestEventKind::RunStarted {
+            test_list: self.test_list,
+            run_id: self.run_id,
+            profile_name: ProfileName::new(alloc, self.profile_name.as_str())?,
+        };
+        push_event(calls, kind)
     }
 }
 
 impl RunCancel {
     /// Pushes the begin of a cancel as a `ReportCall`. A scene has no counts there.
-    pub fn push_cancel_call<'a>(&self, calls: &mut Vec<ReportCall<'a>>) -> Result<(), OutOfMemory>
+    pub fn push_cancel_call(&self, calls: &mut Calls<'_>) -> Result<(), OutOfMemory>
         ensures { PushesCallOf (SceneEvent.RunBeginCancel self.now) calls.old.items result calls.new.items }
     {
-        push_event(
-            calls,
-            TestEventKind::RunBeginCancel {
-                setup_scripts_running: self.setup_scripts_running,
-                current_stats: nothing_counted(self.reason),
-                running: self.running,
-            },
-        )
+        let kind = TestEventKind::RunBeginCancel {
+            setup_scripts_running: self.setup_scripts_running,
+            current_stats: nothing_counted(self.reason),
+            running: self.running,
+        };
+        push_event(calls, kind)
     }
 
     /// Pushes the begin of a kill in the same way.
-    pub fn push_kill_call<'a>(&self, calls: &mut Vec<ReportCall<'a>>) -> Result<(), OutOfMemory>
+    pub fn push_kill_call(&self, calls: &mut Calls<'_>) -> Result<(), OutOfMemory>
         ensures { PushesCallOf (SceneEvent.RunBeginKill self.now) calls.old.items result calls.new.items }
     {
-        push_event(
-            calls,
-            TestEventKind::RunBeginKill {
-                setup_scripts_running: self.setup_scripts_running,
-                current_stats: nothing_counted(self.reason),
-                running: self.running,
-            },
-        )
+        let kind = TestEventKind::RunBeginKill {
+            setup_scripts_running: self.setup_scripts_running,
+            current_stats: nothing_counted(self.reason),
+            running: self.running,
+        };
+        push_event(calls, kind)
     }
 }
 
 impl RunPause {
     /// Pushes that the run is paused as a `ReportCall`.
-    pub fn push_paused_call<'a>(&self, calls: &mut Vec<ReportCall<'a>>) -> Result<(), OutOfMemory>
+    pub fn push_paused_call(&self, calls: &mut Calls<'_>) -> Result<(), OutOfMemory>
         ensures { PushesCallOf (SceneEvent.RunPaused self.now) calls.old.items result calls.new.items }
     {
-        push_event(
-            calls,
-            TestEventKind::RunPaused {
-                setup_scripts_running: self.setup_scripts_running,
-                running: self.running,
-            },
-        )
+        let kind = TestEventKind::RunPaused {
+            setup_scripts_running: self.setup_scripts_running,
+            running: self.running,
+        };
+        push_event(calls, kind)
     }
 
     /// Pushes that the run continues as a `ReportCall`.
-    pub fn push_continued_call<'a>(
-        &self,
-        calls: &mut Vec<ReportCall<'a>>,
-    ) -> Result<(), OutOfMemory>
+    pub fn push_continued_call(&self, calls: &mut Calls<'_>) -> Result<(), OutOfMemory>
         ensures { PushesCallOf (SceneEvent.RunContinued self.now) calls.old.items result calls.new.items }
     {
-        push_event(
-            calls,
-            TestEventKind::RunContinued {
-                setup_scripts_running: self.setup_scripts_running,
-                running: self.running,
-            },
-        )
+        let kind = TestEventKind::RunContinued {
+            setup_scripts_running: self.setup_scripts_running,
+            running: self.running,
+        };
+        push_event(calls, kind)
     }
 }
 
 impl StateRequest {
     /// Pushes this event as a `ReportCall`.
-    pub fn push_call<'a>(&self, calls: &mut Vec<ReportCall<'a>>) -> Result<(), OutOfMemory>
+    pub fn push_call(&self, calls: &mut Calls<'_>) -> Result<(), OutOfMemory>
         ensures { PushesCallOf (SceneEvent.InputEnter self.now) calls.old.items result calls.new.items }
     {
         let kind = TestEventKind::InputEnter {
             current_stats: self.current_stats,
             running: self.running,
         };
-        push_event_after(calls, self.elapsed, kind)
+        let elapsed = self.elapsed;
+        push(calls, ReportCall::Event(TestEvent { elapsed, kind }))
+    }
+}
+
+impl SubRunFinish {
+    /// Pushes this event as a `ReportCall`.
+    pub fn push_call(&self, calls: &mut Calls<'_>) -> Result<(), OutOfMemory>
+        ensures { PushesCallOf (SceneEvent.StressSubRunFinished self.now) calls.old.items result calls.new.items }
+    {
+        let kind = TestEventKind::StressSubRunFinished {
+            progress: self.progress,
+            sub_elapsed: self.sub_elapsed,
+            sub_stats: self.sub_stats,
+        };
+        push_event(calls, kind)
     }
 }
 
 impl RunFinish {
     /// Pushes this event as a `ReportCall`.
-    pub fn push_call<'a>(
-        &self,
-        alloc: Global,
-        calls: &mut Vec<ReportCall<'a>>,
-    ) -> Result<(), OutOfMemory>
+    pub fn push_call(&self, alloc: Global, calls: &mut Calls<'_>) -> Result<(), OutOfMemory>
         ensures { PushesCallOf (SceneEvent.RunFinished self.now) calls.old.items result calls.new.items }
     {
         let outstanding_not_seen = match &self.outstanding_not_seen {
             Some(outstanding) => Some(copy_not_seen(alloc, outstanding)?),
             None => None,
         };
-        push_event(
-            calls,
-            TestEventKind::RunFinished {
-                elapsed: self.elapsed,
-                run_stats: self.run_stats,
-                outstanding_not_seen,
-            },
-        )
+        let kind = TestEventKind::RunFinished {
+            elapsed: self.elapsed,
+            run_stats: self.run_stats,
+            outstanding_not_seen,
+        };
+        push_event(calls, kind)
     }
 }
 
@@ -212,5 +225,180 @@ fn nothing_counted(reason: Option<CancelReason>) -> RunStats
     RunStats {
         cancel_reason: reason,
         ..RunStats::new(0)
+    }
+}
+
+/// A setup script.
+#[derive(Drop)]
+pub struct SceneScript {
+    /// Its id.
+    pub script_id: ScriptId,
+    /// The program that it runs.
+    pub program: ProgramName,
+    /// The program's arguments.
+    pub args: CommandLine,
+}
+
+/// A setup script that starts.
+#[derive(Drop)]
+pub struct SetupStart {
+    /// Which iteration of a stress run it belongs to.
+    pub stress_index: Option<StressIndex>,
+    /// Its place among the setup scripts, from 0.
+    pub index: usize,
+    /// How many setup scripts there are.
+    pub total: usize,
+    /// The script.
+    pub script: SceneScript,
+}
+
+/// A setup script that runs longer than it should.
+#[derive(Drop)]
+pub struct SlowSetup {
+    /// How long it has taken.
+    pub elapsed: Nanos,
+    /// Which iteration of a stress run it belongs to.
+    pub stress_index: Option<StressIndex>,
+    /// The script.
+    pub script: SceneScript,
+    /// Whether it is terminated for that.
+    pub will_terminate: bool,
+}
+
+/// A setup script that has finished.
+#[derive(Drop)]
+pub struct SetupFinish {
+    /// Its only attempt.
+    pub attempt: SceneAttempt,
+    /// Which iteration of a stress run it belongs to.
+    pub stress_index: Option<StressIndex>,
+    /// The script.
+    pub script: SceneScript,
+}
+
+impl SceneScript {
+    /// Copies the names, which allocates.
+    pub fn copy(&self, alloc: Global) -> Result<SceneScript, OutOfMemory>
+        ensures { IfOk result (λ copy. copy ≡ self.now) }
+    {
+        Ok(SceneScript {
+            script_id: ScriptId::new(alloc, self.script_id.as_str())?,
+            program: ProgramName::new(alloc, self.program.as_str())?,
+            args: self.args.copy()?,
+        })
+    }
+}
+
+impl SetupStart {
+    /// Pushes this event as a `ReportCall`.
+    pub fn push_call(&self, alloc: Global, calls: &mut Calls<'_>) -> Result<(), OutOfMemory>
+        ensures { PushesCallOf (SceneEvent.SetupScriptStarted self.now) calls.old.items result calls.new.items }
+    {
+        let script = self.script.copy(alloc)?;
+        let kind = TestEventKind::SetupScriptStarted {
+            stress_index: self.stress_index,
+            index: self.index,
+            total: self.total,
+            script_id: script.script_id,
+            program: script.program,
+            args: script.args,
+        };
+        push_event(calls, kind)
+    }
+}
+
+impl SlowSetup {
+    /// Pushes this event as a `ReportCall`.
+    pub fn push_call(&self, alloc: Global, calls: &mut Calls<'_>) -> Result<(), OutOfMemory>
+        ensures { PushesCallOf (SceneEvent.SetupScriptSlow self.now) calls.old.items result calls.new.items }
+    {
+        let script = self.script.copy(alloc)?;
+        let kind = TestEventKind::SetupScriptSlow {
+            stress_index: self.stress_index,
+            script_id: script.script_id,
+            program: script.program,
+            args: script.args,
+            elapsed: self.elapsed,
+            will_terminate: self.will_terminate,
+        };
+        push_event(calls, kind)
+    }
+}
+
+impl SetupFinish {
+    /// Pushes this event as a `ReportCall`.
+    pub fn push_call(&self, alloc: Global, calls: &mut Calls<'_>) -> Result<(), OutOfMemory>
+        ensures { PushesCallOf (SceneEvent.SetupScriptFinished self.now) calls.old.items result calls.new.items }
+    {
+        let script = self.script.copy(alloc)?;
+        let run_status = self.attempt.script_status(alloc)?;
+        let kind = TestEventKind::SetupScriptFinished {
+            stress_index: self.stress_index,
+            script_id: script.script_id,
+            program: script.program,
+            args: script.args,
+            run_status,
+        };
+        push_event(calls, kind)
+    }
+}
+
+/// A date with a time of day, to the second. Contracts see its parts.
+#[derive(Drop)]
+pub struct SceneMoment {
+    date_time: DateTime,
+}
+
+impl Model for SceneMoment {
+    ghost use Rattle.scene_events.specs.Moments.{Moment, moment_of};
+
+    ghost Value = { Moment };
+
+    ghost view = { λ m. moment_of m.date_time };
+}
+
+impl SceneMoment {
+    ghost use Rattle.scene_events.specs.Moments.{clock_of, day_of};
+
+    /// A time on a day.
+    pub fn new(date: Date, time: Time) -> SceneMoment
+        ensures date { result.date ≡ day_of date }
+        ensures time { result.time ≡ clock_of time }
+    {
+        SceneMoment {
+            date_time: DateTime::from_parts(date, time),
+        }
+    }
+}
+
+/// Which recorded run a replay shows.
+#[derive(Drop)]
+pub struct SceneHeader {
+    /// The run's id.
+    pub run_id: Uuid,
+    /// The part of the id that no other recorded run has, where that is known.
+    pub unique_prefix: Option<ShortestRunIdPrefix>,
+    /// When the run started.
+    pub started_at: SceneMoment,
+    /// How the run ended.
+    pub status: DescriptionText,
+}
+
+impl SceneHeader {
+    /// Pushes the header as a `ReportCall`.
+    pub fn push_call(&self, alloc: Global, calls: &mut Calls<'_>) -> Result<(), OutOfMemory>
+        ensures { PushesCallOf (SceneEvent.Header self.now) calls.old.items result calls.new.items }
+    {
+        let unique_prefix = match &self.unique_prefix {
+            Some(prefix) => Some(prefix.copy(alloc)?),
+            None => None,
+        };
+        let header = ReplayHeader {
+            run_id: self.run_id,
+            unique_prefix,
+            started_at: self.started_at.date_time,
+            status: self.status.copy(alloc)?,
+        };
+        push(calls, ReportCall::Header(header))
     }
 }

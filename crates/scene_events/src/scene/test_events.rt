@@ -1,22 +1,32 @@
-//! The events of tests.
+//! The events of tests, and what tests and setup scripts answer when they are asked what they are doing.
 
+ghost use Rattle.scene_events.specs.SceneOutputs.{written};
 ghost use Rattle.scene_events.specs.Scenes.{PushesCallOf};
+ghost use Rattle.scene_events.specs.States.{result_of};
 ghost use Rattle.scene_events.specs.declared.scene.event.SceneEvent.{SceneEvent};
+ghost use Rattle.std.specs.Prelude.{◌≡◌, IfOk};
 
 use super::attempts::{SceneAttempt, SceneAttempts};
-use super::binary_id::SharedBinaryId;
-use super::event::push_event;
+use super::event::{Calls, push, push_event};
 use super::packed_stats::PackedStats;
+use super::run_events::SceneScript;
+use super::units::{SceneOutput, SceneState};
+use run_model::boxed::Boxed;
 use run_model::call::ReportCall;
 use run_model::command::CommandLine;
 use run_model::config::TestOutputDisplay;
-use run_model::event::TestEventKind;
-use run_model::memory::OutOfMemory;
-use run_model::name::{TestCaseName, TestInstanceId};
+use run_model::event::{TestEvent, TestEventKind};
+use run_model::info::{InfoResponse, SetupScriptInfoResponse, TestInfoResponse};
+use run_model::memory::{OutOfMemory, TooManyOwners};
+use run_model::name::{RustBinaryId, TestCaseName, TestInstanceId};
+use run_model::output::{ChildExecutionOutputDescription, ChildOutputDescription, LiveSpec};
+use run_model::stats::RunStats;
 use run_model::status::RetryData;
 use run_model::stress::StressIndex;
 use run_model::time::Nanos;
 use std::alloc::Global;
+use std::marker::Model;
+use std::rc::Rc;
 
 /// A test. Its name is its own, and the id of its binary is shared.
 #[derive(Drop)]
@@ -92,23 +102,67 @@ pub struct TestFinish {
     pub failure_output: TestOutputDisplay,
 }
 
+/// The id of a test's binary, which the lines of a scene share: a run has few binaries, and each line of a test names one. Contracts see
+/// its text.
+///
+/// ```
+/// let id = SharedBinaryId::new(alloc, RustBinaryId::new(alloc, "alpha")?)?;
+/// assert_eq!(id.share()?.get().as_str(), "alpha"); // no text was copied
+/// ```
+#[derive(Drop)]
+pub struct SharedBinaryId {
+    id: Rc<RustBinaryId>,
+}
+
+impl Model for SharedBinaryId {
+    ghost use Rattle.std.specs.Prelude.{List, ℕ};
+
+    ghost Value = { List ℕ };
+
+    ghost view = { λ shared. shared.id.value };
+}
+
+impl SharedBinaryId {
+    /// The id, which may be shared from now on.
+    pub fn new(alloc: Global, id: RustBinaryId) -> Result<Self, OutOfMemory>
+        ensures { IfOk result (λ shared. shared ≡ id) }
+    {
+        Ok(SharedBinaryId {
+            id: Rc::new(alloc, id)?,
+        })
+    }
+
+    /// The id.
+    #[inline(always)]
+    pub fn get(&self) -> &RustBinaryId
+        ensures { result.now ≡ self.now }
+    {
+        &self.id
+    }
+
+    /// Another owner of the same id. It allocates nothing.
+    #[inline(always)]
+    pub fn share(&self) -> Result<Self, TooManyOwners>
+        ensures { IfOk result (λ shared. shared ≡ self.now) }
+    {
+        Ok(SharedBinaryId {
+            id: self.id.clone()?,
+        })
+    }
+}
+
 impl SceneTest {
     ghost use Rattle.scene_events.specs.Scenes.{HasNames};
 
     /// Pushes that the test is skipped as a `ReportCall`.
-    pub fn push_skipped_call<'a>(
-        &'a self,
-        calls: &mut Vec<ReportCall<'a>>,
-    ) -> Result<(), OutOfMemory>
+    pub fn push_skipped_call<'a>(&'a self, calls: &mut Calls<'a>) -> Result<(), OutOfMemory>
         ensures { PushesCallOf (SceneEvent.TestSkipped self.now) calls.old.items result calls.new.items }
     {
-        push_event(
-            calls,
-            TestEventKind::TestSkipped {
-                stress_index: self.stress_index,
-                test_instance: self.instance(),
-            },
-        )
+        let kind = TestEventKind::TestSkipped {
+            stress_index: self.stress_index,
+            test_instance: self.instance(),
+        };
+        push_event(calls, kind)
     }
 
     /// The test as an event has it. It borrows the names.
@@ -125,101 +179,216 @@ impl SceneTest {
 
 impl TestStart {
     /// Pushes this event as a `ReportCall`.
-    pub fn push_call<'a>(&'a self, calls: &mut Vec<ReportCall<'a>>) -> Result<(), OutOfMemory>
+    pub fn push_call<'a>(&'a self, calls: &mut Calls<'a>) -> Result<(), OutOfMemory>
         ensures { PushesCallOf (SceneEvent.TestStarted self.now) calls.old.items result calls.new.items }
     {
         let command_line = self.command_line.copy()?;
-        push_event(
-            calls,
-            TestEventKind::TestStarted {
-                stress_index: self.test.stress_index,
-                test_instance: self.test.instance(),
-                current_stats: self.current_stats.get(),
-                command_line,
-            },
-        )
+        let kind = TestEventKind::TestStarted {
+            stress_index: self.test.stress_index,
+            test_instance: self.test.instance(),
+            current_stats: self.current_stats.get(),
+            command_line,
+        };
+        push_event(calls, kind)
     }
 }
 
 impl TestRetryStart {
     /// Pushes this event as a `ReportCall`.
-    pub fn push_call<'a>(&'a self, calls: &mut Vec<ReportCall<'a>>) -> Result<(), OutOfMemory>
+    pub fn push_call<'a>(&'a self, calls: &mut Calls<'a>) -> Result<(), OutOfMemory>
         ensures { PushesCallOf (SceneEvent.TestRetryStarted self.now) calls.old.items result calls.new.items }
     {
         let command_line = self.command_line.copy()?;
-        push_event(
-            calls,
-            TestEventKind::TestRetryStarted {
-                stress_index: self.test.stress_index,
-                test_instance: self.test.instance(),
-                retry_data: self.retry_data,
-                command_line,
-            },
-        )
+        let kind = TestEventKind::TestRetryStarted {
+            stress_index: self.test.stress_index,
+            test_instance: self.test.instance(),
+            retry_data: self.retry_data,
+            command_line,
+        };
+        push_event(calls, kind)
     }
 }
 
 impl SlowTest {
     /// Pushes this event as a `ReportCall`.
-    pub fn push_call<'a>(&'a self, calls: &mut Vec<ReportCall<'a>>) -> Result<(), OutOfMemory>
+    pub fn push_call<'a>(&'a self, calls: &mut Calls<'a>) -> Result<(), OutOfMemory>
         ensures { PushesCallOf (SceneEvent.TestSlow self.now) calls.old.items result calls.new.items }
     {
-        push_event(
-            calls,
-            TestEventKind::TestSlow {
-                stress_index: self.test.stress_index,
-                test_instance: self.test.instance(),
-                retry_data: self.retry_data,
-                elapsed: self.elapsed,
-                will_terminate: self.will_terminate,
-            },
-        )
+        let kind = TestEventKind::TestSlow {
+            stress_index: self.test.stress_index,
+            test_instance: self.test.instance(),
+            retry_data: self.retry_data,
+            elapsed: self.elapsed,
+            will_terminate: self.will_terminate,
+        };
+        push_event(calls, kind)
     }
 }
 
 impl FailedAttempt {
     /// Pushes this event as a `ReportCall`.
-    pub fn push_call<'a>(
-        &'a self,
-        alloc: Global,
-        calls: &mut Vec<ReportCall<'a>>,
-    ) -> Result<(), OutOfMemory>
+    pub fn push_call<'a>(&'a self, alloc: Global, calls: &mut Calls<'a>) -> Result<(), OutOfMemory>
         ensures { PushesCallOf (SceneEvent.TestAttemptFailedWillRetry self.now) calls.old.items result calls.new.items }
     {
         let run_status = self.attempt.status(alloc)?;
-        push_event(
-            calls,
-            TestEventKind::TestAttemptFailedWillRetry {
-                stress_index: self.test.stress_index,
-                test_instance: self.test.instance(),
-                run_status,
-                delay_before_next_attempt: self.delay_before_next_attempt,
-                failure_output: self.failure_output,
-            },
-        )
+        let kind = TestEventKind::TestAttemptFailedWillRetry {
+            stress_index: self.test.stress_index,
+            test_instance: self.test.instance(),
+            run_status,
+            delay_before_next_attempt: self.delay_before_next_attempt,
+            failure_output: self.failure_output,
+        };
+        push_event(calls, kind)
     }
 }
 
 impl TestFinish {
     /// Pushes this event as a `ReportCall`.
-    pub fn push_call<'a>(
-        &'a self,
-        alloc: Global,
-        calls: &mut Vec<ReportCall<'a>>,
-    ) -> Result<(), OutOfMemory>
+    pub fn push_call<'a>(&'a self, alloc: Global, calls: &mut Calls<'a>) -> Result<(), OutOfMemory>
         ensures { PushesCallOf (SceneEvent.TestFinished self.now) calls.old.items result calls.new.items }
     {
         let run_statuses = self.attempts.statuses(alloc)?;
-        push_event(
-            calls,
-            TestEventKind::TestFinished {
+        let kind = TestEventKind::TestFinished {
+            stress_index: self.test.stress_index,
+            test_instance: self.test.instance(),
+            success_output: self.success_output,
+            failure_output: self.failure_output,
+            run_statuses,
+            current_stats: self.current_stats.get(),
+        };
+        push_event(calls, kind)
+    }
+}
+
+/// All units are asked what they are doing.
+#[derive(Clone, Copy)]
+pub struct InfoStart {
+    /// How long the run has taken.
+    pub elapsed: Nanos,
+    /// How many units are asked.
+    pub total: usize,
+    /// The counts of the run.
+    pub run_stats: RunStats,
+}
+
+/// A setup script says what it is doing.
+#[derive(Drop)]
+pub struct ScriptAnswer {
+    /// The place of its answer, from 0.
+    pub index: usize,
+    /// How many units were asked.
+    pub total: usize,
+    /// Which iteration of a stress run it belongs to.
+    pub stress_index: Option<StressIndex>,
+    /// The script.
+    pub script: SceneScript,
+    /// What it says.
+    pub answer: UnitAnswer,
+}
+
+/// A test says what it is doing.
+#[derive(Drop)]
+pub struct TestAnswer {
+    /// The place of its answer, from 0.
+    pub index: usize,
+    /// How many units were asked.
+    pub total: usize,
+    /// The test.
+    pub test: SceneTest,
+    /// Which attempt it is.
+    pub retry_data: RetryData,
+    /// What it says.
+    pub answer: UnitAnswer,
+}
+
+/// What a unit says. Answers are rare and large, so they have memory of their own.
+#[derive(Drop)]
+pub struct UnitAnswer {
+    /// What it is doing.
+    pub state: Boxed<SceneState>,
+    /// What it has written so far.
+    pub output: Boxed<SceneOutput>,
+}
+
+impl InfoStart {
+    /// Pushes this event as a `ReportCall`.
+    pub fn push_call(&self, calls: &mut Calls<'_>) -> Result<(), OutOfMemory>
+        ensures { PushesCallOf (SceneEvent.InfoStarted self.now) calls.old.items result calls.new.items }
+    {
+        let kind = TestEventKind::InfoStarted {
+            total: self.total,
+            run_stats: self.run_stats,
+        };
+        let elapsed = self.elapsed;
+        push(calls, ReportCall::Event(TestEvent { elapsed, kind }))
+    }
+}
+
+impl ScriptAnswer {
+    /// Pushes this event as a `ReportCall`.
+    pub fn push_call(&self, alloc: Global, calls: &mut Calls<'_>) -> Result<(), OutOfMemory>
+        ensures { PushesCallOf (SceneEvent.ScriptAnswered self.now) calls.old.items result calls.new.items }
+    {
+        let script = self.script.copy(alloc)?;
+        let state = self.answer.state.get().state(alloc)?;
+        let output = self.answer.description(alloc)?;
+        let kind = TestEventKind::InfoResponse {
+            index: self.index,
+            total: self.total,
+            response: InfoResponse::SetupScript(SetupScriptInfoResponse {
+                stress_index: self.stress_index,
+                script_id: script.script_id,
+                program: script.program,
+                args: script.args,
+                state: Boxed::new(alloc, state)?,
+                output: Boxed::new(alloc, output)?,
+            }),
+        };
+        push_event(calls, kind)
+    }
+}
+
+impl TestAnswer {
+    /// Pushes this event as a `ReportCall`.
+    pub fn push_call<'a>(&'a self, alloc: Global, calls: &mut Calls<'a>) -> Result<(), OutOfMemory>
+        ensures { PushesCallOf (SceneEvent.TestAnswered self.now) calls.old.items result calls.new.items }
+    {
+        let state = self.answer.state.get().state(alloc)?;
+        let output = self.answer.description(alloc)?;
+        let kind = TestEventKind::InfoResponse {
+            index: self.index,
+            total: self.total,
+            response: InfoResponse::Test(TestInfoResponse {
                 stress_index: self.test.stress_index,
                 test_instance: self.test.instance(),
-                success_output: self.success_output,
-                failure_output: self.failure_output,
-                run_statuses,
-                current_stats: self.current_stats.get(),
-            },
-        )
+                retry_data: self.retry_data,
+                state: Boxed::new(alloc, state)?,
+                output: Boxed::new(alloc, output)?,
+            }),
+        };
+        push_event(calls, kind)
+    }
+}
+
+impl UnitAnswer {
+    ghost use Rattle.scene_events.specs.Loads.{answer_with};
+
+    /// Puts this in place of what it has captured so far, as [`SceneOutput::load`] does.
+    pub fn load(&mut self, captured: ChildOutputDescription)
+        ensures { self.new ≡ answer_with captured self.old }
+    {
+        self.output.get_mut().load(captured);
+    }
+
+    // What it has written so far, as an event has it.
+    fn description(
+        &self,
+        alloc: Global,
+    ) -> Result<ChildExecutionOutputDescription<LiveSpec>, OutOfMemory>
+        ensures { IfOk result (λ output. output ≡ written (result_of self.now.state) self.now.output) }
+    {
+        self.output
+            .get()
+            .description(alloc, self.state.get().outcome())
     }
 }

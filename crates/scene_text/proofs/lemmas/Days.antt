@@ -1,5 +1,5 @@
 -- Days of the calendar by jiff's test of them (for `new_day`).
-use Rattle.std.proofs.Common.{◌≡◌, ◌≤◌, ◌↔◌, ℕ, ℤ, pos, negsuc, unsigned_abs, ◌&&◌, nat_lt, nat_le, true≢false, Option, Some, Result, Ok, Err, IsOk, IfOk, refl, sym, ap, ◌∙◌, arith, OkIff, is_some, None, FitsSigned, to_z, of_z}
+use Rattle.std.proofs.Common.{◌≡◌, ◌≤◌, ◌↔◌, ℕ, ℤ, pos, negsuc, unsigned_abs, ◌&&◌, nat_lt, nat_le, true≢false, Option, Some, Result, Ok, Err, IsOk, IfOk, refl, sym, ap, ◌∙◌, arith, OkIff, FitsSigned, to_z, of_z}
 use Rattle.std.specs.Bool.{Decides}
 use Rattle.std.specs.Option.{option_map}
 use Rattle.std.specs.Result.{result_ok}
@@ -11,7 +11,7 @@ use Rattle.jiff_core.specs.Calendar.{days_in_month, IsBetween, IsDate, IsYear}
 use Rattle.jiff_core.specs.Date.{IsYmd}
 use Rattle.jiff_core.specs.declared.civil.date.Date.{Date}
 use Rattle.scene_events.specs.Moments.{day_of}
-use Rattle.scene_text.specs.Moments.{checked_day, is_day}
+use Rattle.scene_text.specs.Parts.{checked_day, is_day}
 
 at_most : (a b : ℕ) → Decides (nat_le a b) (a ≤ b)
 at_most a b = (leb-true a b, le-leb a b)
@@ -22,38 +22,30 @@ counted n a =
     Decides-like _ (λ h. (omega (arith, ints, h.0), omega (arith, ints, h.1))) (λ h. (omega (arith, ints, h.0), omega (arith, ints, h.1)))
     (Decides-and (nat_lt 0 a) (nat_le a n) (Decides-ltb 0 a) (at_most a n))
 
-year_from : (y : ℤ) → unsigned_abs y ≤ 9999 → IsYear y
-year_from (pos n) h = (omega (arith, ints, h), omega (arith, ints, h))
-year_from (negsuc n) h = (omega (arith, ints, h), omega (arith, ints, h))
-
-year_to : (y : ℤ) → IsYear y → unsigned_abs y ≤ 9999
-year_to (pos n) h = omega (arith, ints, h.1)
-year_to (negsuc n) h = omega (arith, ints, h.0)
+year : (y : ℤ) → Decides (nat_le (unsigned_abs y) 9999) (IsYear y)
+year (pos n) = Decides-like _ (λ h. (omega (arith, ints, h), omega (arith, ints, h))) (λ h. omega (arith, ints, h.1)) (at_most n 9999)
+year (negsuc n) = Decides-like _ (λ h. (omega (arith, ints, h), omega (arith, ints, h))) (λ h. omega (arith, ints, h.0)) (at_most (unsigned_abs (negsuc n)) 9999)
 
 is_day_Decides : (y : ℤ) (m d : ℕ) → Decides (is_day (record { year = y; month = m; day = d })) (IsDate y (pos m) (pos d))
 is_day_Decides y m d =
     Decides-like _ (λ h. (h.0, h.1.0, h.1.1)) (λ h. (h.0, (h.1, h.2)))
-    (Decides-and _ _ (Decides-like _ (year_from y) (year_to y) (at_most (unsigned_abs y) 9999))
+    (Decides-and _ _ (year y)
     (Decides-and _ _ (counted 12 m) (counted (days_in_month y m) d)))
 
 -- what jiff makes of the numbers
 pub day_made : {E : Type 0} (r : Result Date E) (z p q y : ℤ) (m d : ℕ) → z ≡ y → p ≡ pos m → q ≡ pos d → (IsOk r ↔ IsDate z p q) → IfOk r (IsYmd z p q) → option_map day_of (result_ok r) ≡ checked_day (record { year = y; month = m; day = d })
 day_made (Ok x) z p q y m d g e f made is =
-    let year : x.year ≡ y = is.0 ∙ g in
+    let same_year : x.year ≡ y = is.0 ∙ g in
     let month : x.month ≡ m = ap unsigned_abs (is.1 ∙ e) in
     let day : x.day ≡ d = ap unsigned_abs (is.2 ∙ f) in
     let there = rw (g, e, f) at made.0 refl in
-    rw ((is_day_Decides y m d).1 there, year, month, day) refl
+    rw ((is_day_Decides y m d).1 there, same_year, month, day) refl
 day_made (Err x) z p q y m d g e f made is =
     rw (false_from_ne_true (is_day (record { year = y; month = m; day = d })) (λ t. true≢false (sym (made.1 (rw (g, e, f) ((is_day_Decides y m d).0 t)))))) refl
-
-abbrev held : Option ℤ → ℤ
-held None = pos 0
-held (Some z) = z
 
 -- a conversion to a narrower type keeps the number, if it is there
 pub kept : {E : Type 0} (w : Width) (r : Result ℤ E) (v x : ℤ) → Some x ≡ result_ok r → OkIff r (FitsSigned w v) v → to_z w (of_z w x) ≡ v
 kept w (Ok z) v x e h =
-    let same : x ≡ v = ap held e ∙ h.1 in
-    rw same (to_z-of_z w v h.0)
-kept w (Err z) v x e h = absurd (true≢false (ap is_some e))
+    let same : x ≡ z = cc in
+    rw (same, h.1) (to_z-of_z w v h.0)
+kept w (Err z) v x e h = cc

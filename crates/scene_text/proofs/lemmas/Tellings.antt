@@ -1,5 +1,5 @@
 -- Lines that tell, one after the other (for `LinesRead::read_more`, `LinesRead::read_owned`, and for the program).
-use Rattle.std.proofs.Common.{◌≡◌, ℕ, ◌+◌, Bool, List, [], ◌∷◌, ◌++◌, Result, Ok, Err, length, refl, sym, ap, ◌∙◌, subst, arith, append_assoc, append-nil}
+use Rattle.std.proofs.Common.{◌≡◌, ℕ, ◌+◌, Bool, List, [], ◌∷◌, ◌++◌, Result, Ok, Err, length, refl, sym, ap, ◌∙◌, subst, arith, append_assoc, append-nil, inl, inr, ◌⊎◌}
 use Rattle.std.specs.Prelude.{nat_lt}
 use Rattle.std.proofs.lemmas.Bool.Decides.{nat_tests}
 use Rattle.std.proofs.lemmas.List.{length-append}
@@ -8,9 +8,8 @@ use Rattle.scene_fields.specs.Fields.{Fails}
 use Rattle.scene_fields.specs.declared.fault.LineError.{LineError}
 use Rattle.scene_fields.specs.declared.fault.LineError.TheVariants as error
 use Rattle.scene_fields.specs.declared.fault.LineFault.{LineFault}
-use Rattle.scene_fields.specs.declared.fault.ReadFault.{ReadFault}
 use Rattle.scene_fields.specs.declared.fault.ReadFault.TheVariants as fault
-use Rattle.scene_text.specs.SceneTexts.{AllRead, IsFaultHere, IsNextFault, IsSameRun, LeavesLines, ParsedLine, ReadsLines, RunLine, ConfigLine, EventLine, NoEvent, ParsedLines, event_lines, fault_at, is_begun, is_begun_behind, line_here, parsed_line, line_read, line_read_behind, lines_behind, lines_before, lines_read, parsed_lines, plain_line, lines_after, lines_with, with_event, with_line}
+use Rattle.scene_text.specs.SceneTexts.{AllRead, IsNextFault, IsSameRun, LeavesLines, ParsedLine, ReadsLines, RunLine, ConfigLine, EventLine, NoEvent, ParsedLines, event_lines, fault_at, is_begun, is_begun_behind, line_here, parsed_line, line_read, line_read_behind, lines_behind, lines_before, lines_read, parsed_lines, plain_line, lines_after, lines_with, with_event}
 use Rattle.scene_text.specs.declared.reader.LinesRead.{LinesRead}
 
 -- lines tell, and others behind them
@@ -29,7 +28,21 @@ noted_append n k before (t ∷ ts) mid us place h =
     let more = noted_append (n + 1) k h.0 ts mid us (omega (arith, place)) h.2 in
     rw (h.1, more) (sym (append_assoc (line_here n before h.0) (event_lines (n + 1) h.0 ts) (event_lines k mid us)))
 
--- lines that tell one after the other
+-- either a line tells, or it is wrong
+line_cases : (r : Result ParsedLines LineFault) → ((mid : ParsedLines) × (r ≡ Ok mid)) ⊎ ((f : LineFault) × (r ≡ Err f))
+line_cases (Ok mid) = inl (mid, refl)
+line_cases (Err f) = inr (f, refl)
+
+-- lines that tell, tell one after the other
+pub all_tell : (n : ℕ) (before : ParsedLines) (ts : List RunLine) (after : ParsedLines) → lines_read n before ts ≡ Ok after → AllRead before ts after
+unfolding lines_read
+all_tell n before [] after h = cc
+all_tell n before (t ∷ ts) after h = elim (line_cases (line_read before t)) [
+  | inl x ↦ (x.0, x.1, all_tell (n + 1) x.0 ts after (rw x.1 at h))
+  | inr x ↦ (let wrong = rw x.1 at h in cc)
+]
+
+-- and the other way round
 pub all_told : (n : ℕ) (before : ParsedLines) (ts : List RunLine) (after : ParsedLines) → AllRead before ts after → lines_read n before ts ≡ Ok after
 unfolding lines_read
 all_told n before [] after h = ap Ok h
@@ -46,9 +59,6 @@ wrong_told n before [] mid t more f m place h wrong =
 wrong_told n before (u ∷ us) mid t more f m place h wrong = rw h.1 (wrong_told (n + 1) h.0 us mid t more f m (omega (arith, place)) h.2 wrong)
 
 -- of one line
-one_tells : (before : ParsedLines) (t : RunLine) (after : ParsedLines) → line_read before t ≡ Ok after → AllRead before (t ∷ []) after
-one_tells before t after h = (after, h, refl)
-
 one_noted : (n : ℕ) (before : ParsedLines) (t : RunLine) (after : ParsedLines) → line_read before t ≡ Ok after → event_lines n before (t ∷ []) ≡ line_here n before after
 unfolding event_lines
 one_noted n before t after h = rw h (append-nil (line_here n before after))
@@ -65,32 +75,22 @@ as_spelled (Ok (ConfigLine config)) = refl
 as_spelled (Ok (EventLine e)) = refl
 as_spelled (Err f) = refl
 
-abbrev is_told : ParsedLines → Result ParsedLines LineFault
-is_told x = Ok x
+-- what is read behind other events is the same
+abbrev told_after : List SceneEvent → Result ParsedLines LineFault → Result ParsedLines LineFault
+told_after base (Ok x) = Ok (lines_after base x)
+told_after base (Err f) = Err f
 
-with_after : (base : List SceneEvent) (before after : ParsedLines) (r : Result ParsedLine LineFault) → lines_with before r ≡ Ok after → lines_with (lines_after base before) r ≡ Ok (lines_after base after)
-with_after base before after (Ok NoEvent) h = cc
-with_after base before after (Ok (ConfigLine c)) h = cc
-with_after base before after (Ok (EventLine e)) h =
-    let same : with_line before (EventLine e) ≡ after = cc in
-    ap (λ es. is_told (record { config = before.config; events = es })) (append_assoc base before.events (e ∷ [])) ∙ ap (λ x. is_told (lines_after base x)) same
-with_after base before after (Err f) h = absurd (cc)
+with_after : (base : List SceneEvent) (before : ParsedLines) (r : Result ParsedLine LineFault) → lines_with (lines_after base before) r ≡ told_after base (lines_with before r)
+with_after base before (Ok NoEvent) = refl
+with_after base before (Ok (ConfigLine c)) = refl
+with_after base before (Ok (EventLine e)) = ap (λ es. told_after [] (Ok (record { config = before.config; events = es }))) (append_assoc base before.events (e ∷ []))
+with_after base before (Err f) = refl
 
-wrong_after : (base : List SceneEvent) (before : ParsedLines) (f : LineFault) (r : Result ParsedLine LineFault) → lines_with before r ≡ Err f → lines_with (lines_after base before) r ≡ Err f
-wrong_after base before f (Ok s) h = absurd (cc)
-wrong_after base before f (Err g) h = h
-
-module _ (base : List SceneEvent) (begun : Bool) (is : is_begun base ≡ begun) (before : ParsedLines) (t : List ℕ) where
-  same_before : lines_before (lines_after base before) ≡ lines_behind begun before
-  same_before = rw (begun_behind base before.events, is) refl
-
-  pub told_behind : (after : ParsedLines) → line_read_behind begun before t ≡ Ok after → line_read (lines_after base before) (plain_line t) ≡ Ok (lines_after base after)
-  unfolding line_read line_read_behind
-  told_behind after h = rw (same_before, as_spelled (parsed_line (lines_behind begun before) t)) (with_after base before after (parsed_line (lines_behind begun before) t) h)
-
-  pub wrong_behind : (f : LineFault) → line_read_behind begun before t ≡ Err f → line_read (lines_after base before) (plain_line t) ≡ Err f
-  unfolding line_read line_read_behind
-  wrong_behind f h = rw (same_before, as_spelled (parsed_line (lines_behind begun before) t)) (wrong_after base before f (parsed_line (lines_behind begun before) t) h)
+read_behind : (base : List SceneEvent) (begun : Bool) (before : ParsedLines) (t : List ℕ) → is_begun base ≡ begun → line_read (lines_after base before) (plain_line t) ≡ told_after base (line_read_behind begun before t)
+unfolding line_read line_read_behind
+read_behind base begun before t is =
+    let same : lines_before (lines_after base before) ≡ lines_behind begun before = rw (begun_behind base before.events, is) refl in
+    rw (same, as_spelled (parsed_line (lines_behind begun before) t)) (with_after base before (parsed_line (lines_behind begun before) t))
 
 -- more events are as many more behind these
 less_after : (n a b : ℕ) → nat_lt (n + a) (n + b) ≡ nat_lt a b
@@ -98,11 +98,6 @@ less_after n a b = grind (arith, nat_tests)
 
 here_after : (base : List SceneEvent) (n : ℕ) (before after : ParsedLines) → line_here n (lines_after base before) (lines_after base after) ≡ line_here n before after
 here_after base n before after = rw (length-append base before.events, length-append base after.events, less_after (length base) (length before.events) (length after.events)) refl
-
--- the fault of a line that is wrong, by its number
-pub fault_here : (n : ℕ) (error : LineError) (read : Result ParsedLines LineFault) → Fails error read → IsFaultHere n read (fault_at n error)
-fault_here n (error.Fault f) read h = (refl, h)
-fault_here n error.OutOfMemory read h = tt
 
 -- no line was read
 pub reads_none : (old : LinesRead) → ReadsLines old old []
@@ -115,9 +110,9 @@ module _ (old mid new : LinesRead) (front : List RunLine) (so_far : ReadsLines o
       new.is_begun ≡ mid.is_begun → new.next ≡ mid.next + 1 → ReadsLines old new (front ++ plain_line t ∷ [])
   reads_more one noted begun place =
       let behind : (base : List SceneEvent) → is_begun base ≡ old.is_begun → line_read (lines_after base (parsed_lines mid.run)) (plain_line t) ≡ Ok (lines_after base (parsed_lines new.run)) =
-      λ base is. told_behind base mid.is_begun (is ∙ sym so_far.begun) (parsed_lines mid.run) t (parsed_lines new.run) one in
+      λ base is. read_behind base mid.is_begun (parsed_lines mid.run) t (is ∙ sym so_far.begun) ∙ ap (told_after base) one in
       record {
-        tells = λ base is. all_append (lines_after base (parsed_lines old.run)) front (lines_after base (parsed_lines mid.run)) (plain_line t ∷ []) (lines_after base (parsed_lines new.run)) (so_far.tells base is) (one_tells _ (plain_line t) _ (behind base is));
+        tells = λ base is. all_append (lines_after base (parsed_lines old.run)) front (lines_after base (parsed_lines mid.run)) (plain_line t ∷ []) (lines_after base (parsed_lines new.run)) (so_far.tells base is) (lines_after base (parsed_lines new.run), behind base is, refl);
         noted = λ base is.
             let first = event_lines old.next (lines_after base (parsed_lines old.run)) front in
             noted ∙ ap (λ ls. ls ++ line_here mid.next (parsed_lines mid.run) (parsed_lines new.run)) (so_far.noted base is)
@@ -140,16 +135,16 @@ module _ (old mid new : LinesRead) (front : List RunLine) (so_far : ReadsLines o
       place = place ∙ so_far.place;
     }
 
-    next_fault : (rest : List RunLine) (f : ReadFault) → IsFaultHere mid.next (line_read_behind mid.is_begun (parsed_lines mid.run) t) f → (base : List SceneEvent) → is_begun base ≡ old.is_begun →
-        IsNextFault new.next (lines_after base (parsed_lines new.run)) (plain_line t ∷ rest) f
-    next_fault rest (fault.Line m f) h base is = (
-      h.0 ∙ sym place,
-      (plain_line t, rest, refl, subst (λ x. line_read (lines_after base x) (plain_line t) ≡ Err f) (sym same.0) (wrong_behind base mid.is_begun (is ∙ sym so_far.begun) (parsed_lines mid.run) t f h.1)),
+    next_fault : (rest : List RunLine) (e : LineError) → Fails e (line_read_behind mid.is_begun (parsed_lines mid.run) t) → (base : List SceneEvent) → is_begun base ≡ old.is_begun →
+        IsNextFault new.next (lines_after base (parsed_lines new.run)) (plain_line t ∷ rest) (fault_at mid.next e)
+    next_fault rest (error.Fault f) h base is = (
+      sym place,
+      (plain_line t, rest, refl, subst (λ x. line_read (lines_after base x) (plain_line t) ≡ Err f) (sym same.0) (read_behind base mid.is_begun (parsed_lines mid.run) t (is ∙ sym so_far.begun) ∙ ap (told_after base) h)),
     )
-    next_fault rest fault.OutOfMemory h base is = tt
+    next_fault rest error.OutOfMemory h base is = tt
 
-    pub leaves_here : (rest lines : List RunLine) → lines ≡ front ++ plain_line t ∷ rest → (f : ReadFault) → IsFaultHere mid.next (line_read_behind mid.is_begun (parsed_lines mid.run) t) f → LeavesLines old new lines f
-    leaves_here rest lines whole f h = record { front = front; rest = plain_line t ∷ rest; whole = whole; reads = reads_same; wrong = next_fault rest f h }
+    pub leaves_here : (rest lines : List RunLine) → lines ≡ front ++ plain_line t ∷ rest → (e : LineError) → Fails e (line_read_behind mid.is_begun (parsed_lines mid.run) t) → LeavesLines old new lines (fault_at mid.next e)
+    leaves_here rest lines whole e h = record { front = front; rest = plain_line t ∷ rest; whole = whole; reads = reads_same; wrong = next_fault rest e h }
 
 -- the first of these lines were read, and these are left
 pub record ReadsFirst (old now : LinesRead) (lines left : List RunLine) : Type 0 where

@@ -3,8 +3,9 @@
 ghost use Rattle.std.specs.Prelude.{◌≡◌, [], Some, IfOk};
 ghost use Rattle.scene_fields.specs.Texts.{text_in};
 
+use super::Field;
 use run_model::memory::OutOfMemory;
-use scene_events::scene::binary_id::SharedBinaryId;
+use scene_events::scene::test_events::SharedBinaryId;
 use scene_fields::names::read_binary_id;
 use std::alloc::Global;
 
@@ -35,11 +36,7 @@ impl BinaryIds {
     }
 
     /// Reads the id of a test's binary. It is copied where it is none of the ids that are kept, and is shared with those lines else.
-    pub fn read(
-        &mut self,
-        alloc: Global,
-        field: &str,
-    ) -> Result<Option<SharedBinaryId>, OutOfMemory>
+    pub fn read(&mut self, alloc: Global, field: &str) -> Field<SharedBinaryId>
         ensures { IfOk result (λ id. id ≡ text_in field.now) }
     {
         for known in self.known.iter() {
@@ -52,11 +49,7 @@ impl BinaryIds {
 
     // Reads an id that is not kept, and keeps it.
     #[inline(never)]
-    fn read_new(
-        &mut self,
-        alloc: Global,
-        field: &str,
-    ) -> Result<Option<SharedBinaryId>, OutOfMemory>
+    fn read_new(&mut self, alloc: Global, field: &str) -> Field<SharedBinaryId>
         ensures { IfOk result (λ id. id ≡ text_in field.now) }
     {
         let Some(id) = read_binary_id(alloc, field)? else {

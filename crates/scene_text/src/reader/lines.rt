@@ -5,14 +5,16 @@ ghost use Rattle.scene_fields.specs.Fields.{Reads, answered};
 ghost use Rattle.scene_text.specs.Lines.{config_line_fields, event_line_fields, other_event_line_fields, run_event_line_fields};
 ghost use Rattle.scene_text.specs.SceneTexts.{event_of};
 
+use super::EventResult;
 use super::binary_ids::BinaryIds;
-use super::info_lines::{read_answer_script, read_answer_test, read_info, read_info_end};
-use super::replay_lines::{read_header, read_prefix};
-use super::run_lines::{read_cancel, read_end, read_input, read_pause, read_run};
-use super::script_lines::{read_setup, read_setup_done, read_setup_slow};
-use super::stress_lines::{read_end_stress, read_sub_end, read_sub_start};
-use super::test_lines::{
-    read_done, read_retry, read_retry_start, read_skip, read_slow, read_start,
+use super::parts::read_progress;
+use super::run_lines::{
+    read_cancel, read_end, read_end_stress, read_header, read_input, read_pause, read_prefix,
+    read_run, read_sub_end,
+};
+use super::unit_lines::{
+    read_answer_script, read_answer_test, read_done, read_info, read_retry, read_retry_start,
+    read_setup, read_setup_done, read_setup_slow, read_skip, read_slow, read_start,
 };
 use run_model::boxed::Boxed;
 use scene_events::scene::SceneConfig;
@@ -29,22 +31,17 @@ use std::alloc::Global;
 /// are theirs.
 #[inline(always)]
 #[tactic(auto, unfolding(crate::specs::Lines::event_line_fields))]
-pub fn read_event(
-    alloc: Global,
-    binaries: &mut BinaryIds,
-    word: &str,
-    fields: Fields<'_>,
-) -> Result<SceneEvent, LineError>
+pub fn read_event(alloc: Global, ids: &mut BinaryIds, word: &str, fields: Fields<'_>) -> EventResult
     ensures { Reads (λ e. e) result (event_of (event_line_fields word.now fields.entry)) }
 {
     match word {
-        "done" => read_done(alloc, binaries, &mut fields.with_attempts()?),
-        "start" => read_start(alloc, binaries, &mut fields.exactly(5)?),
-        "retrystart" => read_retry_start(alloc, binaries, &mut fields.exactly(6)?),
-        "slow" => read_slow(alloc, binaries, &mut fields.exactly(7)?),
-        "retry" => read_retry(alloc, binaries, &mut fields.exactly(15)?),
-        "skip" => read_skip(alloc, binaries, &mut fields.exactly(3)?),
-        word => read_other_event(alloc, binaries, word, fields),
+        "done" => read_done(alloc, ids, &mut fields.with_attempts()?),
+        "start" => read_start(alloc, ids, &mut fields.exactly(5)?),
+        "retrystart" => read_retry_start(alloc, ids, &mut fields.exactly(6)?),
+        "slow" => read_slow(alloc, ids, &mut fields.exactly(7)?),
+        "retry" => read_retry(alloc, ids, &mut fields.exactly(15)?),
+        "skip" => read_skip(alloc, ids, &mut fields.exactly(3)?),
+        word => read_other_event(alloc, ids, word, fields),
     }
 }
 
@@ -54,10 +51,10 @@ pub fn read_event(
 #[tactic(auto, unfolding(crate::specs::Lines::other_event_line_fields))]
 fn read_other_event(
     alloc: Global,
-    binaries: &mut BinaryIds,
+    ids: &mut BinaryIds,
     word: &str,
     fields: Fields<'_>,
-) -> Result<SceneEvent, LineError>
+) -> EventResult
     ensures { Reads (λ e. e) result (event_of (other_event_line_fields word.now fields.entry)) }
 {
     match word {
@@ -68,7 +65,7 @@ fn read_other_event(
         "setupslow" => read_setup_slow(alloc, &mut fields.exactly(6)?),
         "setupdone" => read_setup_done(alloc, &mut fields.exactly(12)?),
         "answer-script" => read_answer_script(alloc, &mut fields.exactly(13)?),
-        "answer-test" => read_answer_test(alloc, binaries, &mut fields.exactly(14)?),
+        "answer-test" => read_answer_test(alloc, ids, &mut fields.exactly(14)?),
         "end" => read_end(alloc, &mut fields.exactly(4)?),
         "endstress" => read_end_stress(alloc, &mut fields.exactly(7)?),
         word => read_run_event(alloc, word, fields),
@@ -78,43 +75,25 @@ fn read_other_event(
 // Reads the fields behind a word that names an event of the run as it goes on. They hold no text, so only the event allocates.
 #[inline(never)]
 #[tactic(auto, unfolding(crate::specs::Lines::run_event_line_fields))]
-fn read_run_event(alloc: Global, word: &str, fields: Fields<'_>) -> Result<SceneEvent, LineError>
+fn read_run_event(alloc: Global, word: &str, fields: Fields<'_>) -> EventResult
     ensures { Reads (λ e. e) result (event_of (run_event_line_fields word.now fields.entry)) }
 {
     match word {
         "substart" => {
-            let start = read_sub_start(&mut fields.exactly(1)?)?;
-            Ok(SceneEvent::StressSubRunStarted(Boxed::new(alloc, start)?))
+            let progress = fields.exactly(1)?.read(read_progress)?;
+            Ok(SceneEvent::StressSubRunStarted(Boxed::new(alloc, progress)?))
         }
-        "cancel" => {
-            let cancel = read_cancel(&mut fields.exactly(3)?)?;
-            Ok(SceneEvent::RunBeginCancel(Boxed::new(alloc, cancel)?))
-        }
-        "kill" => {
-            let kill = read_cancel(&mut fields.exactly(3)?)?;
-            Ok(SceneEvent::RunBeginKill(Boxed::new(alloc, kill)?))
-        }
-        "pause" => {
-            let pause = read_pause(&mut fields.exactly(2)?)?;
-            Ok(SceneEvent::RunPaused(Boxed::new(alloc, pause)?))
-        }
-        "continue" => {
-            let pause = read_pause(&mut fields.exactly(2)?)?;
-            Ok(SceneEvent::RunContinued(Boxed::new(alloc, pause)?))
-        }
-        "info" => {
-            let start = read_info(&mut fields.exactly(3)?)?;
-            Ok(SceneEvent::InfoStarted(Boxed::new(alloc, start)?))
-        }
-        "infoend" => Ok(SceneEvent::InfoFinished(read_info_end(&mut fields.exactly(1)?)?)),
-        "input" => {
-            let request = read_input(&mut fields.exactly(3)?)?;
-            Ok(SceneEvent::InputEnter(Boxed::new(alloc, request)?))
-        }
-        "subend" => {
-            let finish = read_sub_end(&mut fields.exactly(3)?)?;
-            Ok(SceneEvent::StressSubRunFinished(Boxed::new(alloc, finish)?))
-        }
+        "cancel" => Ok(SceneEvent::RunBeginCancel(read_cancel(alloc, &mut fields.exactly(3)?)?)),
+        "kill" => Ok(SceneEvent::RunBeginKill(read_cancel(alloc, &mut fields.exactly(3)?)?)),
+        "pause" => Ok(SceneEvent::RunPaused(read_pause(alloc, &mut fields.exactly(2)?)?)),
+        "continue" => Ok(SceneEvent::RunContinued(read_pause(alloc, &mut fields.exactly(2)?)?)),
+        "info" => Ok(SceneEvent::InfoStarted(read_info(alloc, &mut fields.exactly(3)?)?)),
+        "infoend" => Ok(SceneEvent::InfoFinished(fields.exactly(1)?.read(read_count)?)),
+        "input" => Ok(SceneEvent::InputEnter(read_input(alloc, &mut fields.exactly(3)?)?)),
+        "subend" => Ok(SceneEvent::StressSubRunFinished(read_sub_end(
+            alloc,
+            &mut fields.exactly(3)?,
+        )?)),
         _ => Err(LineError::Fault(LineFault::UnknownEvent)),
     }
 }

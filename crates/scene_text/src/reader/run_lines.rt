@@ -1,107 +1,103 @@
-//! The lines of a run.
+//! The lines of a run, of the iterations of a stress run, and of a replay.
 
-ghost use Rattle.std.specs.Prelude.{◌≡◌};
-ghost use Rattle.scene_fields.specs.Fields.{Gives, answered};
-ghost use Rattle.scene_text.specs.RunLines.{cancel_line_fields, end_line_fields, input_line_fields, not_seen_fields, pause_line_fields, run_line_fields};
+ghost use Rattle.scene_fields.specs.Fields.{Gives};
+ghost use Rattle.scene_fields.specs.Texts.{text_in};
+ghost use Rattle.scene_text.specs.EventLines.{cancel_line_fields, completed_in, end_line_fields, end_stress_line_fields, header_line_fields, input_line_fields, not_seen_fields, pause_line_fields, prefix_line_fields, run_line_fields, some_text_in, sub_end_line_fields, unique_prefix_fields};
+ghost use Rattle.std.specs.Prelude.{◌≡◌, IfOk};
 
+use super::parts::{read_moment, read_progress};
+use super::{EventResult, Field};
+use run_model::abort::DescriptionText;
 use run_model::boxed::Boxed;
 use run_model::event::TestCounts;
 use run_model::not_seen::NotSeen;
-use run_model::stats::RunFinishedStats;
+use run_model::run_id::ShortestRunIdPrefix;
+use run_model::stats::{RunFinishedStats, StressRunStats};
+use run_model::stress::StressIndex;
 use scene_events::scene::event::SceneEvent;
-use scene_events::scene::run_events::{RunCancel, RunFinish, RunPause, RunStart, StateRequest};
+use scene_events::scene::run_events::{
+    RunCancel, RunFinish, RunPause, RunStart, SceneHeader, StateRequest, SubRunFinish,
+};
 use scene_fields::counts::{read_skips, read_stats};
-use scene_fields::fault::{LineError, LineFault};
+use scene_fields::fault::LineError;
 use scene_fields::fields::Fields;
 use scene_fields::lists::read_instances;
 use scene_fields::names::read_profile_name;
-use scene_fields::numbers::{read_count, read_nanos};
-use scene_fields::values::{read_reason_or_none, read_run_id};
+use scene_fields::numbers::{read_count, read_nanos, read_small_count};
+use scene_fields::texts::read_text;
+use scene_fields::values::{read_absent, read_reason_or_none, read_run_id, read_stress_index};
 use std::alloc::Global;
 
 /// Reads a `run` line: run id, profile, how many tests and binaries, and what is skipped.
-#[tactic(auto, unfolding(crate::specs::RunLines::run_line_fields))]
-pub fn read_run(alloc: Global, fields: &mut Fields<'_>) -> Result<SceneEvent, LineError>
+#[tactic(auto, unfolding(crate::specs::EventLines::run_line_fields))]
+pub fn read_run(alloc: Global, fields: &mut Fields<'_>) -> EventResult
     ensures { Gives (λ e. e) fields.old result fields.new run_line_fields }
 {
-    let run_id = fields.read(read_run_id)?;
-    let profile_name = fields.try_read(|field| read_profile_name(alloc, field))?;
-    let run_count = fields.read(read_count)?;
-    let listed_binary_count = fields.read(read_count)?;
-    let skip_counts = fields.read(read_skips)?;
     let start = RunStart {
-        run_id,
-        profile_name,
+        run_id: fields.read(read_run_id)?,
+        profile_name: fields.try_read(|field| read_profile_name(alloc, field))?,
         test_list: TestCounts {
-            run_count,
-            listed_binary_count,
-            skip_counts,
+            run_count: fields.read(read_count)?,
+            listed_binary_count: fields.read(read_count)?,
+            skip_counts: fields.read(read_skips)?,
         },
     };
     Ok(SceneEvent::RunStarted(Boxed::new(alloc, start)?))
 }
 
 /// Reads a `cancel` or `kill` line: how many setup scripts and tests run, and the reason.
-#[tactic(auto, unfolding(crate::specs::RunLines::cancel_line_fields))]
-pub fn read_cancel(fields: &mut Fields<'_>) -> Result<RunCancel, LineFault>
-    ensures { cancel_line_fields fields.old ≡ answered result fields.new }
+#[tactic(auto, unfolding(crate::specs::EventLines::cancel_line_fields))]
+pub fn read_cancel(alloc: Global, fields: &mut Fields<'_>) -> Result<Boxed<RunCancel>, LineError>
+    ensures { Gives (λ c. c) fields.old result fields.new cancel_line_fields }
 {
-    let setup_scripts_running = fields.read(read_count)?;
-    let running = fields.read(read_count)?;
-    let reason = fields.read(read_reason_or_none)?;
-    Ok(RunCancel {
-        setup_scripts_running,
-        running,
-        reason,
-    })
+    let cancel = RunCancel {
+        setup_scripts_running: fields.read(read_count)?,
+        running: fields.read(read_count)?,
+        reason: fields.read(read_reason_or_none)?,
+    };
+    Ok(Boxed::new(alloc, cancel)?)
 }
 
 /// Reads a `pause` or `continue` line: how many setup scripts and tests run.
-#[tactic(auto, unfolding(crate::specs::RunLines::pause_line_fields))]
-pub fn read_pause(fields: &mut Fields<'_>) -> Result<RunPause, LineFault>
-    ensures { pause_line_fields fields.old ≡ answered result fields.new }
+#[tactic(auto, unfolding(crate::specs::EventLines::pause_line_fields))]
+pub fn read_pause(alloc: Global, fields: &mut Fields<'_>) -> Result<Boxed<RunPause>, LineError>
+    ensures { Gives (λ p. p) fields.old result fields.new pause_line_fields }
 {
-    let setup_scripts_running = fields.read(read_count)?;
-    let running = fields.read(read_count)?;
-    Ok(RunPause {
-        setup_scripts_running,
-        running,
-    })
+    let pause = RunPause {
+        setup_scripts_running: fields.read(read_count)?,
+        running: fields.read(read_count)?,
+    };
+    Ok(Boxed::new(alloc, pause)?)
 }
 
 /// Reads an `input` line: how long the run has taken, its statistics, and how many units run.
-#[tactic(auto, unfolding(crate::specs::RunLines::input_line_fields))]
-pub fn read_input(fields: &mut Fields<'_>) -> Result<StateRequest, LineFault>
-    ensures { input_line_fields fields.old ≡ answered result fields.new }
+#[tactic(auto, unfolding(crate::specs::EventLines::input_line_fields))]
+pub fn read_input(alloc: Global, fields: &mut Fields<'_>) -> Result<Boxed<StateRequest>, LineError>
+    ensures { Gives (λ r. r) fields.old result fields.new input_line_fields }
 {
-    let elapsed = fields.read(read_nanos)?;
-    let current_stats = fields.read(read_stats)?;
-    let running = fields.read(read_count)?;
-    Ok(StateRequest {
-        elapsed,
-        current_stats,
-        running,
-    })
+    let request = StateRequest {
+        elapsed: fields.read(read_nanos)?,
+        current_stats: fields.read(read_stats)?,
+        running: fields.read(read_count)?,
+    };
+    Ok(Boxed::new(alloc, request)?)
 }
 
 /// Reads an `end` line: how long the run took, its statistics, and the tests that were not seen.
-#[tactic(auto, unfolding(crate::specs::RunLines::end_line_fields))]
-pub fn read_end(alloc: Global, fields: &mut Fields<'_>) -> Result<SceneEvent, LineError>
+#[tactic(auto, unfolding(crate::specs::EventLines::end_line_fields))]
+pub fn read_end(alloc: Global, fields: &mut Fields<'_>) -> EventResult
     ensures { Gives (λ e. e) fields.old result fields.new end_line_fields }
 {
-    let elapsed = fields.read(read_nanos)?;
-    let run_stats = fields.read(read_stats)?;
-    let outstanding_not_seen = read_not_seen(alloc, fields)?;
     let finish = RunFinish {
-        elapsed,
-        run_stats: RunFinishedStats::Single(run_stats),
-        outstanding_not_seen,
+        elapsed: fields.read(read_nanos)?,
+        run_stats: RunFinishedStats::Single(fields.read(read_stats)?),
+        outstanding_not_seen: read_not_seen(alloc, fields)?,
     };
     Ok(SceneEvent::RunFinished(Boxed::new(alloc, finish)?))
 }
 
 /// Reads how many tests were not seen, and those of them that are listed.
-#[tactic(auto, unfolding(crate::specs::RunLines::not_seen_fields))]
+#[tactic(auto, unfolding(crate::specs::EventLines::not_seen_fields))]
 pub fn read_not_seen(alloc: Global, fields: &mut Fields<'_>) -> Result<Option<NotSeen>, LineError>
     ensures { Gives (λ o. o) fields.old result fields.new not_seen_fields }
 {
@@ -114,4 +110,109 @@ pub fn read_not_seen(alloc: Global, fields: &mut Fields<'_>) -> Result<Option<No
         not_seen,
         total_not_seen,
     }))
+}
+
+/// Reads a `subend` line: how far the stress run has come, how long the iteration took, and its statistics.
+#[tactic(auto, unfolding(crate::specs::EventLines::sub_end_line_fields))]
+pub fn read_sub_end(
+    alloc: Global,
+    fields: &mut Fields<'_>,
+) -> Result<Boxed<SubRunFinish>, LineError>
+    ensures { Gives (λ f. f) fields.old result fields.new sub_end_line_fields }
+{
+    let finish = SubRunFinish {
+        progress: fields.read(read_progress)?,
+        sub_elapsed: fields.read(read_nanos)?,
+        sub_stats: fields.read(read_stats)?,
+    };
+    Ok(Boxed::new(alloc, finish)?)
+}
+
+/// Reads an `endstress` line: how long the run took, how many iterations have finished, succeeded and failed, the
+/// statistics of the last one, and the tests that were not seen.
+#[tactic(auto, unfolding(crate::specs::EventLines::end_stress_line_fields))]
+pub fn read_end_stress(alloc: Global, fields: &mut Fields<'_>) -> EventResult
+    ensures { Gives (λ e. e) fields.old result fields.new end_stress_line_fields }
+{
+    let finish = RunFinish {
+        elapsed: fields.read(read_nanos)?,
+        run_stats: RunFinishedStats::Stress(StressRunStats {
+            completed: fields.read(read_completed)?,
+            success_count: fields.read(read_small_count)?,
+            failed_count: fields.read(read_small_count)?,
+            last_final_stats: fields.read(read_stats)?.summarize_final(),
+        }),
+        outstanding_not_seen: read_not_seen(alloc, fields)?,
+    };
+    Ok(SceneEvent::RunFinished(Boxed::new(alloc, finish)?))
+}
+
+// Reads how many iterations have finished, perhaps of how many.
+fn read_completed(field: &str) -> Option<StressIndex>
+    ensures { result ≡ completed_in field.now }
+{
+    read_stress_index(field)?
+}
+
+/// Reads a `prefix` line: the part of the run's id that no other run has, and the rest.
+#[tactic(auto, unfolding(crate::specs::EventLines::prefix_line_fields))]
+pub fn read_prefix(alloc: Global, fields: &mut Fields<'_>) -> EventResult
+    ensures { Gives (λ e. e) fields.old result fields.new prefix_line_fields }
+{
+    let prefix = fields.try_read(|field| read_description(alloc, field))?;
+    let rest = fields.try_read(|field| read_description(alloc, field))?;
+    let prefix = ShortestRunIdPrefix::new(alloc, prefix.as_str(), rest.as_str())?;
+    Ok(SceneEvent::Prefix(Boxed::new(alloc, prefix)?))
+}
+
+/// Reads a `header` line: the run's id, its prefix and the rest, when it started, and how it ended.
+#[tactic(auto, unfolding(crate::specs::EventLines::header_line_fields))]
+pub fn read_header(alloc: Global, fields: &mut Fields<'_>) -> EventResult
+    ensures { Gives (λ e. e) fields.old result fields.new header_line_fields }
+{
+    let header = SceneHeader {
+        run_id: fields.read(read_run_id)?,
+        unique_prefix: read_unique_prefix(alloc, fields)?,
+        started_at: fields.read(read_moment)?,
+        status: fields.try_read(|field| read_description(alloc, field))?,
+    };
+    Ok(SceneEvent::Header(Boxed::new(alloc, header)?))
+}
+
+// Reads a prefix and the rest of the id, or twice `-`.
+#[tactic(auto, unfolding(crate::specs::EventLines::unique_prefix_fields))]
+fn read_unique_prefix(
+    alloc: Global,
+    fields: &mut Fields<'_>,
+) -> Result<Option<ShortestRunIdPrefix>, LineError>
+    ensures { Gives (λ p. p) fields.old result fields.new unique_prefix_fields }
+{
+    let prefix = fields.take()?;
+    if prefix == "-" {
+        fields.read(read_absent)?;
+        return Ok(None);
+    }
+    let prefix = read_description(alloc, prefix)?.ok_or(fields.bad_field())?;
+    let rest = fields.try_read(|field| read_some_text(alloc, field))?;
+    Ok(Some(ShortestRunIdPrefix::new(alloc, prefix.as_str(), rest.as_str())?))
+}
+
+// Reads a text, where `-` is a bad field.
+fn read_some_text(alloc: Global, field: &str) -> Field<DescriptionText>
+    ensures { IfOk result (λ text. text ≡ some_text_in field.now) }
+{
+    match field {
+        "-" => Ok(None),
+        _ => read_description(alloc, field),
+    }
+}
+
+// Reads a text.
+fn read_description(alloc: Global, field: &str) -> Field<DescriptionText>
+    ensures { IfOk result (λ text. text ≡ text_in field.now) }
+{
+    match read_text(alloc, field)? {
+        Some(text) => Ok(Some(DescriptionText::new(alloc, text.as_str())?)),
+        None => Ok(None),
+    }
 }

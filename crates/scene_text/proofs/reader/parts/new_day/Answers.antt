@@ -1,7 +1,7 @@
 use Rattle.std.proofs.Common.{◌∙◌, w8, w16, w32}
 use Rattle.std.proofs.lemmas.Int.{to_z-of_z}
 use Rattle.scene_text.proofs.lemmas.Days.{day_made, kept}
-use Rattle.scene_text.proofs.reader.moments.new_day.Goals as goal
+use Rattle.scene_text.proofs.reader.parts.new_day.Goals as goal
 
 pub returns : goal.returns
 returns c =

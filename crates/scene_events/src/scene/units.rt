@@ -1,11 +1,16 @@
-//! What units are doing, as a scene holds it: it keeps how an attempt ended beside any state.
+//! What a unit is doing, and what it wrote, as a scene holds them: how an attempt ended stands beside both, and is not held once more.
 
-ghost use Rattle.std.specs.Prelude.{◌≡◌, IfOk};
-ghost use Rattle.std.specs.Option.{option_copied};
+ghost use Rattle.scene_events.specs.SceneOutputs.{is_loaded, loaded, written};
 ghost use Rattle.scene_events.specs.States.{ended_state, live_state, result_of, unit_state};
+ghost use Rattle.std.specs.Option.{option_copied};
+ghost use Rattle.std.specs.Prelude.{◌≡◌, IfOk};
 
+use run_model::boxed::Boxed;
 use run_model::info::{UnitState, UnitTerminateMethod, UnitTerminatingState};
 use run_model::memory::OutOfMemory;
+use run_model::output::{
+    ChildExecutionOutputDescription, ChildOutputDescription, ErrorChain, Highlight, LiveSpec,
+};
 use run_model::status::ExecutionResultDescription;
 use run_model::time::Nanos;
 use std::alloc::Global;
@@ -135,10 +140,13 @@ impl LiveState {
                 waiting_duration: wait.waited,
                 remaining: wait.remaining,
             },
-            LiveState::Terminating(terminating) => UnitState::Terminating(copy_terminating(
-                alloc,
-                terminating,
-            )?),
+            LiveState::Terminating(terminating) => {
+                let UnitTerminateMethod::Signal(signal) = &terminating.method;
+                UnitState::Terminating(UnitTerminatingState {
+                    method: UnitTerminateMethod::Signal(signal.copy(alloc)?),
+                    ..*terminating
+                })
+            }
         })
     }
 }
@@ -164,20 +172,75 @@ impl EndedState {
     }
 }
 
-// Takes memory for the name of the signal of another one.
-fn copy_terminating(
-    alloc: Global,
-    terminating: &UnitTerminatingState,
-) -> Result<UnitTerminatingState, OutOfMemory>
-    ensures { IfOk result (λ copy. copy ≡ terminating.now) }
-{
-    let UnitTerminateMethod::Signal(signal) = &terminating.method;
-    Ok(UnitTerminatingState {
-        pid: terminating.pid,
-        time_taken: terminating.time_taken,
-        reason: terminating.reason,
-        method: UnitTerminateMethod::Signal(signal.copy(alloc)?),
-        waiting_duration: terminating.waiting_duration,
-        remaining: terminating.remaining,
-    })
+/// What a unit wrote, or why it could not be started.
+#[derive(Drop)]
+pub enum SceneOutput {
+    /// The process was started.
+    Output {
+        /// What it wrote.
+        output: ChildOutputDescription,
+        /// What went wrong while it was run.
+        errors: Option<ErrorChain>,
+        /// The part of the output to point out.
+        highlight: Option<Boxed<Highlight>>,
+    },
+    /// The process could not be started.
+    StartError(ErrorChain),
+}
+
+impl SceneOutput {
+    /// Whether it can be shown: it was not left unread.
+    pub fn has_loaded_output(&self) -> bool
+        ensures { result ≡ is_loaded self.now }
+    {
+        match self {
+            SceneOutput::Output { output, .. } => output.is_loaded(),
+            SceneOutput::StartError(_) => true,
+        }
+    }
+
+    /// Puts this in place of what was captured; errors and highlight stay. A unit that could not be started captured nothing, and stays
+    /// as it is.
+    pub fn load(&mut self, captured: ChildOutputDescription)
+        ensures { self.new ≡ loaded self.old captured }
+    {
+        match self {
+            SceneOutput::Output { output, .. } => *output = captured,
+            SceneOutput::StartError(_) => {}
+        }
+    }
+
+    /// The output of a unit that ended so, where it has, as an event has it. Copies the texts and shares the bytes.
+    pub fn description(
+        &self,
+        alloc: Global,
+        outcome: Option<&ExecutionResultDescription>,
+    ) -> Result<ChildExecutionOutputDescription<LiveSpec>, OutOfMemory>
+        ensures { IfOk result (λ output. output ≡ written (option_copied outcome.entry) self.now) }
+    {
+        Ok(match self {
+            SceneOutput::Output {
+                output,
+                errors,
+                highlight,
+            } => ChildExecutionOutputDescription::Output {
+                result: match outcome {
+                    Some(outcome) => Some(outcome.copy(alloc)?),
+                    None => None,
+                },
+                output: output.copy()?,
+                errors: match errors {
+                    Some(errors) => Some(errors.copy(alloc)?),
+                    None => None,
+                },
+                highlight: match highlight {
+                    Some(highlight) => Some(Boxed::new(alloc, highlight.get().copy()?)?),
+                    None => None,
+                },
+            },
+            SceneOutput::StartError(error) => {
+                ChildExecutionOutputDescription::StartError(error.copy(alloc)?)
+            }
+        })
+    }
 }

@@ -1,0 +1,390 @@
+-- The fields of the lines that are events: of tests, of setup scripts and what both wrote, of the answers of both, of the run, and of a replay.
+use Rattle.std.specs.Option.{option_and_then, option_map}
+use Rattle.std.specs.Prelude.{ℕ, zero, suc, ◌+◌, ◌/◌, ◌^◌, List, [], ◌∷◌, ◌++◌, length, if◌then◌else◌, nat_lt, Some, Err, ◌==◌, ◌&&◌, Option, None, codes, bytes_eq, ◌≡◌, Bool, true, false, Ok}
+use Rattle.uuid.specs.Text.{parsed}
+use Rattle.run_model.specs.Attempts.{Attempt, Attempts}
+use Rattle.run_model.specs.Stats.{final_stats_of}
+use Rattle.run_model.specs.declared.output.ChildOutputDescription.{ChildOutputDescription}
+use Rattle.run_model.specs.declared.output.ChildOutputDescription.TheVariants as streams
+use Rattle.run_model.specs.declared.output.LiveSpec.{LiveSpec}
+use Rattle.run_model.specs.declared.stats.RunFinishedStats.TheVariants.{Single, Stress}
+use Rattle.run_model.specs.declared.status.FlakyResult.{FlakyResult}
+use Rattle.run_model.specs.declared.status.RetryData.{RetryData}
+use Rattle.run_names.specs.UniquePrefixes.{UniquePrefix}
+use Rattle.run_names.specs.declared.name.OwnedTestInstanceId.{OwnedTestInstanceId}
+use Rattle.run_names.specs.declared.not_seen.NotSeen.{NotSeen}
+use Rattle.run_names.specs.declared.stress.StressIndex.{StressIndex}
+use Rattle.scene_events.specs.SceneOutputs.{written, no_output}
+use Rattle.scene_events.specs.declared.scene.event.SceneEvent.{SceneEvent}
+use Rattle.scene_events.specs.declared.scene.event.SceneEvent.TheVariants as event
+use Rattle.scene_events.specs.declared.scene.run_events.RunCancel.{RunCancel}
+use Rattle.scene_events.specs.declared.scene.run_events.RunPause.{RunPause}
+use Rattle.scene_events.specs.declared.scene.run_events.SceneScript.{SceneScript}
+use Rattle.scene_events.specs.declared.scene.run_events.StateRequest.{StateRequest}
+use Rattle.scene_events.specs.declared.scene.run_events.SubRunFinish.{SubRunFinish}
+use Rattle.scene_events.specs.declared.scene.test_events.InfoStart.{InfoStart}
+use Rattle.scene_events.specs.declared.scene.test_events.SceneTest.{SceneTest}
+use Rattle.scene_events.specs.declared.scene.test_events.UnitAnswer.{UnitAnswer}
+use Rattle.scene_events.specs.declared.scene.units.SceneOutput.{SceneOutput}
+use Rattle.scene_events.specs.declared.scene.units.SceneOutput.TheVariants.{Output, StartError}
+use Rattle.scene_fields.specs.Counts.{stats_in, skips_in}
+use Rattle.scene_fields.specs.Fields.{◌>>=◌, Line, says, field, Place, next, valued}
+use Rattle.scene_fields.specs.Lists.{words_of, instances_in, chain_in, errors_in}
+use Rattle.scene_fields.specs.Numbers.{nanos_in, number_in}
+use Rattle.scene_fields.specs.Results.{result_in}
+use Rattle.scene_fields.specs.Texts.{text_in, bytes_in}
+use Rattle.scene_fields.specs.Values.{display_in, flag_in, flaky_in, stress_in, reason_or_none_in, absent_in}
+use Rattle.scene_fields.specs.declared.fault.LineFault.TheVariants.{WrongNumberOfFields}
+use Rattle.scene_text.specs.Parts.{state_in, state_parts_in, progress_in, moment_in, highlight_in}
+
+-- what is made of the value of fields
+abbrev pub made : {X Y : Type 0} → (X → Y) → Line X → Line Y
+made make line = do
+  x ← line
+  says (make x)
+
+-- the bytes of a stream, or `-`
+abbrev pub stream_in : List ℕ → Option (Option (List ℕ))
+stream_in t = if bytes_eq t (codes "-") then Some None else option_map (λ bytes. Some bytes) (bytes_in t)
+
+-- errors and a highlight, after the streams
+unfoldable pub after_streams : ChildOutputDescription → Line SceneOutput
+after_streams output = do
+  errors ← field errors_in
+  highlight ← field highlight_in
+  says (Output output errors highlight)
+
+-- each stream by itself
+abbrev pub split_fields : Line SceneOutput
+split_fields = do
+  stdout ← field stream_in
+  stderr ← field stream_in
+  after_streams (streams.Split stdout stderr)
+
+-- both streams together
+abbrev pub combined_fields : Line SceneOutput
+combined_fields = do
+  output ← field bytes_in
+  none ← field absent_in
+  after_streams (streams.Combined output)
+
+-- what was captured was left unread
+abbrev pub unloaded_fields : Line SceneOutput
+unloaded_fields = do
+  first ← field absent_in
+  second ← field absent_in
+  after_streams streams.NotLoaded
+
+-- the process could not be started
+abbrev pub start_error_fields : Line SceneOutput
+start_error_fields = do
+  error ← field chain_in
+  second ← field absent_in
+  errors ← field absent_in
+  highlight ← field absent_in
+  says (StartError error)
+
+-- the fields after this form
+abbrev pub formed : List ℕ → Line SceneOutput
+formed form =
+    if bytes_eq form (codes "split") then split_fields
+    else (if bytes_eq form (codes "comb") then combined_fields
+    else (if bytes_eq form (codes "unloaded") then unloaded_fields
+    else (if bytes_eq form (codes "start") then start_error_fields
+    else valued None)))
+
+-- an output: its form, what that takes first and second, errors, and a highlight
+unfoldable pub output_fields : Line SceneOutput
+output_fields = do
+  form ← next
+  formed form
+
+-- both streams were captured and hold nothing, and there is nothing else
+abbrev pub empty_output_fields : List (List ℕ)
+empty_output_fields = codes "split" ∷ [] ∷ [] ∷ codes "-" ∷ codes "-" ∷ []
+
+-- the fields of such an output were taken, or none was
+abbrev pub TakesEmptyOutput : Bool → Place → Place → Type 0
+TakesEmptyOutput true old new = output_fields old ≡ Ok (no_output, new)
+TakesEmptyOutput false old new = new ≡ old
+
+-- which test it is: iteration, binary and name
+unfoldable pub test_fields : Line SceneTest
+test_fields = do
+  stress_index ← field stress_in
+  binary_id ← field text_in
+  test_name ← field text_in
+  says (record { stress_index = stress_index; binary_id = binary_id; test_name = test_name })
+
+-- which attempt it is, and how many there can be
+unfoldable pub retry_fields : Line RetryData
+retry_fields = do
+  attempt ← field (number_in 32)
+  total ← field (number_in 32)
+  says (record { attempt = attempt; total_attempts = total })
+
+-- an attempt: result, duration, whether it was slow, and its output
+unfoldable pub attempt_fields : RetryData → Line Attempt
+attempt_fields retry_data = do
+  result ← field result_in
+  time_taken ← field nanos_in
+  is_slow ← field flag_in
+  output ← output_fields
+  says (record { retry_data = retry_data; output = written (Some result) output; result = result; time_taken = time_taken; is_slow = is_slow })
+
+-- the attempt of this number, of so many that there can be
+abbrev pub retry_numbered : ℕ → ℕ → RetryData
+retry_numbered total number = record { attempt = number; total_attempts = total }
+
+-- the number of an attempt has 32 bits; a line has no fields for one more
+abbrev pub attempt_number : ℕ → Line ℕ
+attempt_number n = λ p. if nat_lt n (2 ^ 32) then says n p else Err WrongNumberOfFields
+
+-- so many attempts more behind these, the first of which has this number
+unfoldable pub attempts_from : FlakyResult → ℕ → ℕ → ℕ → List Attempt → Attempt → Line (Attempts LiveSpec ChildOutputDescription)
+attempts_from flaky total number zero earlier last = says (record { earlier = earlier; last = last; flaky_result = flaky })
+attempts_from flaky total number (suc more) earlier last = do
+  attempt ← attempt_number number
+  next ← attempt_fields (retry_numbered total attempt)
+  attempts_from flaky total (number + 1) more (earlier ++ last ∷ []) next
+
+-- attempts behind the first one, up to the end of the line, eight fields each
+abbrev pub attempts_behind : FlakyResult → ℕ → Attempt → Line (Attempts LiveSpec ChildOutputDescription)
+attempts_behind flaky total first p = attempts_from flaky total 2 (length p.left / 8) [] first p
+
+-- attempts up to the end of the line
+unfoldable pub all_attempts : FlakyResult → ℕ → Line (Attempts LiveSpec ChildOutputDescription)
+all_attempts flaky total = do
+  first ← attempt_fields (retry_numbered total 1)
+  attempts_behind flaky total first
+
+-- `start`: the test, statistics, and the command
+unfoldable pub start_line_fields : Line SceneEvent
+start_line_fields = do
+  test ← test_fields
+  stats ← field stats_in
+  command ← field words_of
+  says (event.TestStarted (record { test = test; current_stats = stats; command_line = command }))
+
+-- `retrystart`: the test, the attempt, and the command
+unfoldable pub retry_start_line_fields : Line SceneEvent
+retry_start_line_fields = do
+  test ← test_fields
+  retry_data ← retry_fields
+  command ← field words_of
+  says (event.TestRetryStarted (record { test = test; retry_data = retry_data; command_line = command }))
+
+-- `slow`: the test, the attempt, how long it has taken, and whether it is ended
+unfoldable pub slow_line_fields : Line SceneEvent
+slow_line_fields = do
+  test ← test_fields
+  retry_data ← retry_fields
+  elapsed ← field nanos_in
+  will_terminate ← field flag_in
+  says (event.TestSlow (record { elapsed = elapsed; test = test; retry_data = retry_data; will_terminate = will_terminate }))
+
+-- `retry`: the test, which attempt failed, how long the next one waits, when the output is shown, and the attempt
+unfoldable pub retry_line_fields : Line SceneEvent
+retry_line_fields = do
+  test ← test_fields
+  retry_data ← retry_fields
+  delay ← field nanos_in
+  on_failure ← field display_in
+  attempt ← attempt_fields retry_data
+  says (event.TestAttemptFailedWillRetry (record { attempt = attempt; delay_before_next_attempt = delay; test = test; failure_output = on_failure }))
+
+-- `done`: the test, when its output is shown, what a flaky test counts as, statistics, how many attempts
+-- there can be, and the attempts
+unfoldable pub done_line_fields : Line SceneEvent
+done_line_fields = do
+  test ← test_fields
+  on_success ← field display_in
+  on_failure ← field display_in
+  flaky ← field flaky_in
+  stats ← field stats_in
+  total ← field (number_in 32)
+  attempts ← all_attempts flaky total
+  says (event.TestFinished (record { attempts = attempts; current_stats = stats; test = test; success_output = on_success; failure_output = on_failure }))
+
+-- which script it is: its id, the program, and the program's arguments
+unfoldable pub script_fields : Line SceneScript
+script_fields = do
+  script_id ← field text_in
+  program ← field text_in
+  args ← field words_of
+  says (record { script_id = script_id; program = program; args = args })
+
+-- `setup`: the iteration, which script of how many, and the script
+unfoldable pub setup_line_fields : Line SceneEvent
+setup_line_fields = do
+  stress_index ← field stress_in
+  index ← field (number_in 64)
+  total ← field (number_in 64)
+  script ← script_fields
+  says (event.SetupScriptStarted (record { stress_index = stress_index; index = index; total = total; script = script }))
+
+-- `setupslow`: the iteration, the script, how long it has taken, and whether it is ended
+unfoldable pub setup_slow_line_fields : Line SceneEvent
+setup_slow_line_fields = do
+  stress_index ← field stress_in
+  script ← script_fields
+  elapsed ← field nanos_in
+  will_terminate ← field flag_in
+  says (event.SetupScriptSlow (record { elapsed = elapsed; stress_index = stress_index; script = script; will_terminate = will_terminate }))
+
+-- `setupdone`: the iteration, the script, and its only attempt
+unfoldable pub setup_done_line_fields : Line SceneEvent
+setup_done_line_fields = do
+  stress_index ← field stress_in
+  script ← script_fields
+  attempt ← attempt_fields (retry_numbered 1 1)
+  says (event.SetupScriptFinished (record { attempt = attempt; stress_index = stress_index; script = script }))
+
+-- `info`: how long the run has taken, how many units were asked, and statistics
+unfoldable pub info_line_fields : Line InfoStart
+info_line_fields = do
+  elapsed ← field nanos_in
+  total ← field (number_in 64)
+  stats ← field stats_in
+  says (record { elapsed = elapsed; total = total; run_stats = stats })
+
+-- what a unit is doing, how the attempt ended, and what it has written
+unfoldable pub answer_fields : Line UnitAnswer
+answer_fields = do
+  parts ← field state_parts_in
+  state ← field (state_in parts)
+  output ← output_fields
+  says (record { state = state; output = output })
+
+-- `answer-script`: which answer of how many, the iteration, the script, and its answer
+unfoldable pub answer_script_line_fields : Line SceneEvent
+answer_script_line_fields = do
+  index ← field (number_in 64)
+  total ← field (number_in 64)
+  stress_index ← field stress_in
+  script ← script_fields
+  answer ← answer_fields
+  says (event.ScriptAnswered (record { index = index; total = total; stress_index = stress_index; script = script; answer = answer }))
+
+-- `answer-test`: which answer of how many, the test, the attempt, and its answer
+unfoldable pub answer_test_line_fields : Line SceneEvent
+answer_test_line_fields = do
+  index ← field (number_in 64)
+  total ← field (number_in 64)
+  test ← test_fields
+  retry_data ← retry_fields
+  answer ← answer_fields
+  says (event.TestAnswered (record { index = index; total = total; test = test; retry_data = retry_data; answer = answer }))
+
+-- `run`: run id, profile, how many tests and binaries, and what is skipped
+unfoldable pub run_line_fields : Line SceneEvent
+run_line_fields = do
+  run_id ← field parsed
+  profile ← field text_in
+  tests ← field (number_in 64)
+  binaries ← field (number_in 64)
+  skips ← field skips_in
+  says (event.RunStarted (record { run_id = run_id; profile_name = profile; test_list = record { run_count = tests; listed_binary_count = binaries; skip_counts = skips } }))
+
+-- `cancel` and `kill`: how many setup scripts and tests run, and the reason
+unfoldable pub cancel_line_fields : Line RunCancel
+cancel_line_fields = do
+  scripts ← field (number_in 64)
+  tests ← field (number_in 64)
+  reason ← field reason_or_none_in
+  says (record { setup_scripts_running = scripts; running = tests; reason = reason })
+
+-- `pause` and `continue`: how many setup scripts and tests run
+unfoldable pub pause_line_fields : Line RunPause
+pause_line_fields = do
+  scripts ← field (number_in 64)
+  tests ← field (number_in 64)
+  says (record { setup_scripts_running = scripts; running = tests })
+
+-- `input`: how long the run has taken, statistics, and how many units run
+unfoldable pub input_line_fields : Line StateRequest
+input_line_fields = do
+  elapsed ← field nanos_in
+  stats ← field stats_in
+  running ← field (number_in 64)
+  says (record { elapsed = elapsed; current_stats = stats; running = running })
+
+-- tests that were not seen, where there are some or some are listed
+abbrev pub outstanding : ℕ → List OwnedTestInstanceId → Option NotSeen
+outstanding count listed = if count == 0 && (length listed == 0) then None else Some (record { not_seen = listed; total_not_seen = count })
+
+-- how many tests were not seen, and those of them that are listed
+unfoldable pub not_seen_fields : Line (Option NotSeen)
+not_seen_fields = do
+  count ← field (number_in 64)
+  listed ← field instances_in
+  says (outstanding count listed)
+
+-- `end`: how long it took, statistics, and the tests that were not seen
+unfoldable pub end_line_fields : Line SceneEvent
+end_line_fields = do
+  elapsed ← field nanos_in
+  stats ← field stats_in
+  not_seen ← not_seen_fields
+  says (event.RunFinished (record { elapsed = elapsed; run_stats = Single stats; outstanding_not_seen = not_seen }))
+
+-- an iteration, which must be there
+abbrev pub completed_in : List ℕ → Option StressIndex
+completed_in t = option_and_then (λ index. index) (stress_in t)
+
+-- `subend`: how far the stress run has come, how long the iteration took, and its statistics
+unfoldable pub sub_end_line_fields : Line SubRunFinish
+sub_end_line_fields = do
+  progress ← field progress_in
+  elapsed ← field nanos_in
+  stats ← field stats_in
+  says (record { progress = progress; sub_elapsed = elapsed; sub_stats = stats })
+
+-- `endstress`: how long the run took, how many iterations have finished, succeeded and failed, the statistics of the
+-- last one, and the tests that were not seen
+unfoldable pub end_stress_line_fields : Line SceneEvent
+end_stress_line_fields = do
+  elapsed ← field nanos_in
+  completed ← field completed_in
+  succeeded ← field (number_in 32)
+  failed ← field (number_in 32)
+  stats ← field stats_in
+  outstanding ← not_seen_fields
+  says (event.RunFinished (record {
+    elapsed = elapsed;
+    run_stats = Stress (record { completed = completed; success_count = succeeded; failed_count = failed; last_final_stats = final_stats_of stats });
+    outstanding_not_seen = outstanding;
+  }))
+
+-- `prefix`: the part of the run's id that no other run has, and the rest
+unfoldable pub prefix_line_fields : Line SceneEvent
+prefix_line_fields = do
+  prefix ← field text_in
+  rest ← field text_in
+  says (event.Prefix (record { prefix = prefix; rest = rest }))
+
+-- a text, where `-` is a bad field
+abbrev pub some_text_in : List ℕ → Option (List ℕ)
+some_text_in t = if bytes_eq t (codes "-") then None else text_in t
+
+-- a prefix that was taken, and the rest
+abbrev pub prefix_and_rest : List ℕ → Line (Option UniquePrefix)
+prefix_and_rest t = do
+  prefix ← valued (text_in t)
+  rest ← field some_text_in
+  says (Some (record { prefix = prefix; rest = rest }))
+
+-- a prefix and the rest, or twice `-`
+unfoldable pub unique_prefix_fields : Line (Option UniquePrefix)
+unique_prefix_fields = do
+  t ← next
+  if bytes_eq t (codes "-") then made (λ none. None) (field absent_in) else prefix_and_rest t
+
+-- `header`: the run's id, its prefix and the rest, when it started, and how it ended
+unfoldable pub header_line_fields : Line SceneEvent
+header_line_fields = do
+  run_id ← field parsed
+  unique_prefix ← unique_prefix_fields
+  started_at ← field moment_in
+  status ← field text_in
+  says (event.Header (record { run_id = run_id; unique_prefix = unique_prefix; started_at = started_at; status = status }))

@@ -1,0 +1,235 @@
+-- Values that stand in one field in parts: what a unit is doing, how far a stress run has come, moments and highlights.
+use Rattle.std.specs.Prelude.{ℕ, List, [], ◌∷◌, Bool, ◌&&◌, nat_le, nat_lt, unsigned_abs, if◌then◌else◌, Option, None, Some, codes, bytes_eq}
+use Rattle.std.specs.Option.{option_and_then, option_map}
+use Rattle.jiff_core.specs.Calendar.{days_in_month}
+use Rattle.run_model.specs.Infos.{terminate_reason_text}
+use Rattle.run_model.specs.declared.info.UnitTerminateMethod.TheVariants as method
+use Rattle.run_model.specs.declared.info.UnitTerminateReason.{UnitTerminateReason}
+use Rattle.run_model.specs.declared.info.UnitTerminateReason.TheVariants as reason
+use Rattle.run_model.specs.declared.output.Highlight.{Highlight}
+use Rattle.run_model.specs.declared.output.HighlightStream.{HighlightStream}
+use Rattle.run_model.specs.declared.output.HighlightStream.TheVariants as stream
+use Rattle.run_model.specs.declared.status.ExecutionResultDescription.{ExecutionResultDescription}
+use Rattle.run_names.specs.declared.stress.StressCount.{StressCount}
+use Rattle.run_names.specs.declared.stress.StressCount.TheVariants as count
+use Rattle.run_names.specs.declared.stress.StressProgress.{StressProgress}
+use Rattle.run_names.specs.declared.stress.StressProgress.TheVariants as progress
+use Rattle.run_names.specs.declared.time.Nanos.{Nanos}
+use Rattle.scene_events.specs.Moments.{Clock, Day, Moment}
+use Rattle.scene_events.specs.declared.scene.units.EndedState.{EndedState}
+use Rattle.scene_events.specs.declared.scene.units.EndedState.TheVariants as ended
+use Rattle.scene_events.specs.declared.scene.units.LiveState.{LiveState}
+use Rattle.scene_events.specs.declared.scene.units.LiveState.TheVariants as live
+use Rattle.scene_events.specs.declared.scene.units.SceneState.{SceneState}
+use Rattle.scene_events.specs.declared.scene.units.SceneState.TheVariants as scene
+use Rattle.scene_events.specs.declared.scene.units.Timing.{Timing}
+use Rattle.scene_events.specs.declared.scene.units.Wait.{Wait}
+use Rattle.scene_fields.specs.Numbers.{code_in, nanos_in, number_in}
+use Rattle.scene_fields.specs.Results.{result_in}
+use Rattle.scene_fields.specs.Split.{cut}
+use Rattle.scene_fields.specs.Texts.{bytes_in, text_in}
+use Rattle.scene_fields.specs.Values.{flag_in, of_word, total_in}
+use Rattle.scene_text.specs.declared.reader.parts.StateParts.{StateParts}
+use Rattle.scene_text.specs.declared.reader.parts.StateParts.TheVariants as parts
+
+-- the next step, where there is a value
+infixl 10 ◌>>=◌
+abbrev ◌>>=◌ : {A B : Type 0} → Option A → (A → Option B) → Option B
+o >>= f = option_and_then f o
+
+abbrev pub terminate_reason_in : List ℕ → Option UnitTerminateReason
+terminate_reason_in t = of_word terminate_reason_text (reason.Timeout ∷ reason.Signal ∷ reason.Interrupt ∷ []) t
+
+-- when a unit was marked as slow, or `-`
+abbrev pub slow_after_in : List ℕ → Option (Option Nanos)
+slow_after_in t = if bytes_eq t (codes "-") then Some None else option_map (λ d. Some d) (nanos_in t)
+
+-- how long something has been waited for, and how much longer it is
+unfoldable pub wait_in : List ℕ → Option Wait
+wait_in t = do
+  cut_1 ← cut 58 t
+  waited ← nanos_in cut_1.0
+  remaining ← nanos_in cut_1.1
+  Some (record { waited = waited; remaining = remaining })
+
+-- how long a process has run, and when its unit was marked as slow
+unfoldable pub timing_in : List ℕ → Option Timing
+timing_in t = do
+  cut_1 ← cut 58 t
+  time_taken ← nanos_in cut_1.0
+  slow_after ← slow_after_in cut_1.1
+  Some (record { time_taken = time_taken; slow_after = slow_after })
+
+-- `running`: the process's id, and how long it has run
+unfoldable pub running_in : List ℕ → Option LiveState
+running_in t = do
+  cut_1 ← cut 58 t
+  pid ← number_in 32 cut_1.0
+  timing ← timing_in cut_1.1
+  Some (live.Running pid timing)
+
+-- `exiting`: the same, and the wait for its handles
+unfoldable pub exiting_in : List ℕ → Option LiveState
+exiting_in t = do
+  cut_1 ← cut 58 t
+  cut_2 ← cut 58 cut_1.1
+  cut_3 ← cut 58 cut_2.1
+  pid ← number_in 32 cut_1.0
+  time_taken ← nanos_in cut_2.0
+  slow_after ← slow_after_in cut_3.0
+  wait ← wait_in cut_3.1
+  Some (live.Exiting pid (record { time_taken = time_taken; slow_after = slow_after }) wait)
+
+-- `terminating`: the process's id, how long it has run, why it is ended and by which signal, and the wait for its end
+unfoldable pub terminating_in : List ℕ → Option LiveState
+terminating_in t = do
+  cut_1 ← cut 58 t
+  cut_2 ← cut 58 cut_1.1
+  cut_3 ← cut 58 cut_2.1
+  cut_4 ← cut 58 cut_3.1
+  pid ← number_in 32 cut_1.0
+  time_taken ← nanos_in cut_2.0
+  reason ← terminate_reason_in cut_3.0
+  signal ← text_in cut_4.0
+  wait ← wait_in cut_4.1
+  Some (live.Terminating (record {
+    pid = pid;
+    time_taken = time_taken;
+    reason = reason;
+    method = method.Signal signal;
+    waiting_duration = wait.waited;
+    remaining = wait.remaining;
+  }))
+
+-- `delay`: whether the attempt before was slow, and the wait for the next one
+unfoldable pub delay_in : List ℕ → Option EndedState
+delay_in t = do
+  cut_1 ← cut 58 t
+  was_slow ← flag_in cut_1.0
+  wait ← wait_in cut_1.1
+  Some (ended.Delay was_slow wait)
+
+-- the parts after a word
+abbrev pub parts_after : List ℕ → List ℕ → Option StateParts
+parts_after word t =
+    if bytes_eq word (codes "running") then option_map parts.Live (running_in t)
+    else (if bytes_eq word (codes "exiting") then option_map parts.Live (exiting_in t)
+    else (if bytes_eq word (codes "terminating") then option_map parts.Live (terminating_in t)
+    else (if bytes_eq word (codes "exited") then option_map (λ timing. parts.Ended (ended.Exited timing)) (timing_in t)
+    else (if bytes_eq word (codes "delay") then option_map parts.Ended (delay_in t)
+    else None))))
+
+-- a state without its result: a word and its parts
+unfoldable pub state_parts_in : List ℕ → Option StateParts
+state_parts_in t = do
+  cut_1 ← cut 58 t
+  parts_after cut_1.0 cut_1.1
+
+-- a result, or `-`
+abbrev pub result_or_none_in : List ℕ → Option (Option ExecutionResultDescription)
+result_or_none_in t = if bytes_eq t (codes "-") then Some None else option_map (λ r. Some r) (result_in t)
+
+-- the state that parts and a result make: what has ended has a result
+abbrev pub state_with : StateParts → Option ExecutionResultDescription → Option SceneState
+state_with (parts.Live state) result = Some (scene.Live state result)
+state_with (parts.Ended state) None = None
+state_with (parts.Ended state) (Some result) = Some (scene.Ended state result)
+
+-- the state that the parts make with the result of the field after them
+unfoldable pub state_in : StateParts → List ℕ → Option SceneState
+state_in parts t = option_and_then (state_with parts) (result_or_none_in t)
+
+-- `inf`, or how many iterations there are to be, which is not 0
+abbrev pub stress_count_in : List ℕ → Option StressCount
+stress_count_in t = if bytes_eq t (codes "inf") then Some count.Infinite else option_map count.Count (total_in (number_in 32 t))
+
+-- of a run of so many iterations: the total, the time that was taken, and the iterations that have finished
+abbrev pub count_progress : List ℕ → List ℕ → List ℕ → Option StressProgress
+count_progress total elapsed completed = do
+  total ← stress_count_in total
+  elapsed ← nanos_in elapsed
+  completed ← number_in 32 completed
+  Some (progress.Count total elapsed completed)
+
+-- the same of a run of so much time
+abbrev pub time_progress : List ℕ → List ℕ → List ℕ → Option StressProgress
+time_progress total elapsed completed = do
+  total ← nanos_in total
+  elapsed ← nanos_in elapsed
+  completed ← number_in 32 completed
+  Some (progress.Time total elapsed completed)
+
+-- how far a stress run has come: a word and these parts
+unfoldable pub progress_in : List ℕ → Option StressProgress
+progress_in t = do
+  cut_1 ← cut 58 t
+  cut_2 ← cut 58 cut_1.1
+  cut_3 ← cut 58 cut_2.1
+  if bytes_eq cut_1.0 (codes "count") then count_progress cut_2.0 cut_3.0 cut_3.1
+      else (if bytes_eq cut_1.0 (codes "time") then time_progress cut_2.0 cut_3.0 cut_3.1 else None)
+
+abbrev pub highlight_stream_word : HighlightStream → List ℕ
+highlight_stream_word stream.Stdout = codes "out"
+highlight_stream_word stream.Stderr = codes "err"
+highlight_stream_word stream.Combined = codes "comb"
+
+abbrev pub highlight_stream_in : List ℕ → Option HighlightStream
+highlight_stream_in t = of_word highlight_stream_word (stream.Stdout ∷ stream.Stderr ∷ stream.Combined ∷ []) t
+
+-- a highlight: its stream, its place and its bytes
+abbrev pub highlight_of : List ℕ → List ℕ → Option Highlight
+highlight_of stream rest = do
+  cut_2 ← cut 58 rest
+  stream ← highlight_stream_in stream
+  start ← number_in 64 cut_2.0
+  slice ← bytes_in cut_2.1
+  Some (record { stream = stream; start = start; slice = slice })
+
+abbrev pub highlight_cut : List ℕ → Option (List ℕ × List ℕ) → Option (Option Highlight)
+highlight_cut t None = if bytes_eq t (codes "-") then Some None else None
+highlight_cut t (Some x) = option_map (λ h. Some h) (highlight_of x.0 x.1)
+
+-- a highlight, or `-`
+abbrev pub highlight_in : List ℕ → Option (Option Highlight)
+highlight_in t = highlight_cut t (cut 58 t)
+
+-- the calendar has this day, in a year from -9999 to 9999
+abbrev pub is_day : Day → Bool
+is_day d =
+    nat_le (unsigned_abs d.year) 9999
+    && ((nat_lt 0 d.month && nat_le d.month 12) && (nat_lt 0 d.day && nat_le d.day (days_in_month d.year d.month)))
+
+abbrev pub checked_day : Day → Option Day
+checked_day d = if is_day d then Some d else None
+
+-- a clock shows this time
+abbrev pub checked_clock : Clock → Option Clock
+checked_clock c = if nat_lt c.hour 24 && (nat_lt c.minute 60 && nat_lt c.second 60) then Some c else None
+
+-- a day by the texts of its numbers, of which the year may have a minus
+abbrev pub day_in : List ℕ → List ℕ → List ℕ → Option Day
+day_in year month day = do
+  year ← code_in year
+  month ← number_in 32 month
+  day ← number_in 32 day
+  checked_day (record { year = year; month = month; day = day })
+
+-- a time as three numbers with commas between them
+unfoldable pub time_in : List ℕ → Option Clock
+time_in t = do
+  cut_1 ← cut 44 t
+  cut_2 ← cut 44 cut_1.1
+  hour ← number_in 32 cut_1.0
+  minute ← number_in 32 cut_2.0
+  second ← number_in 32 cut_2.1
+  checked_clock (record { hour = hour; minute = minute; second = second })
+
+-- a date and a time as six numbers with commas between them
+unfoldable pub moment_in : List ℕ → Option Moment
+moment_in t = do
+  cut_1 ← cut 44 t
+  cut_2 ← cut 44 cut_1.1
+  cut_3 ← cut 44 cut_2.1
+  date ← day_in cut_1.0 cut_2.0 cut_3.0
+  time ← time_in cut_3.1
+  Some (record { date = date; time = time })

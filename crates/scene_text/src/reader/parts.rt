@@ -1,0 +1,360 @@
+//! Values that stand in one field in parts, with colons or commas between them: what a unit is doing, how far a stress run has come,
+//! a highlight, and a date with a time of day.
+//!
+//! What a unit is doing is a word, as `running`, and its parts. How the attempt ended stands in the next field.
+
+ghost use Rattle.scene_events.specs.Moments.{clock_of, day_of};
+ghost use Rattle.scene_text.specs.Parts.{delay_in, exiting_in, result_or_none_in, running_in, slow_after_in, state_in, state_parts_in, state_with, terminate_reason_in, terminating_in, timing_in, wait_in, checked_clock, checked_day, day_in, moment_in, time_in, highlight_in, highlight_stream_in, progress_in, stress_count_in};
+ghost use Rattle.std.specs.Option.{option_map};
+ghost use Rattle.std.specs.Prelude.{◌≡◌, IfOk};
+
+use super::Field;
+use bytes::Bytes;
+use jiff::civil::{Date, Time};
+use run_model::abort::DescriptionText;
+use run_model::boxed::Boxed;
+use run_model::info::{UnitTerminateMethod, UnitTerminateReason, UnitTerminatingState};
+use run_model::output::{Highlight, HighlightStream};
+use run_model::status::ExecutionResultDescription;
+use run_model::stress::{StressCount, StressProgress};
+use run_model::time::Nanos;
+use scene_events::scene::run_events::SceneMoment;
+use scene_events::scene::units::{EndedState, LiveState, SceneState, Timing, Wait};
+use scene_fields::numbers::{read_code, read_count, read_nanos, read_small_count};
+use scene_fields::results::read_result;
+use scene_fields::split::split_at_byte;
+use scene_fields::texts::{read_bytes, read_text};
+use scene_fields::values::{read_absent, read_flag, read_total};
+use std::alloc::Global;
+
+/// What the parts of a state say. How the attempt ended is not among them.
+#[derive(Drop)]
+pub enum StateParts {
+    /// There is a process.
+    Live(LiveState),
+    /// There is none any more.
+    Ended(EndedState),
+}
+
+/// Reads what a unit is doing, without how the attempt ended. `None` means a bad field.
+///
+/// ```
+/// let parts = read_state_parts(alloc, "running:42:1500000000:-")?; // for 1.5 s, as the process 42
+/// assert!(matches!(parts, Some(StateParts::Live(_))));
+/// ```
+#[tactic(auto, unfolding(crate::specs::Parts::state_parts_in))]
+pub fn read_state_parts(alloc: Global, field: &str) -> Field<StateParts>
+    ensures { IfOk result (λ parts. parts ≡ state_parts_in field.now) }
+{
+    let Some((word, rest)) = split_at_byte(field, b':') else {
+        return Ok(None);
+    };
+    match word {
+        "running" => Ok(read_running(rest).map(StateParts::Live)),
+        "exiting" => Ok(read_exiting(rest).map(StateParts::Live)),
+        "terminating" => Ok(read_terminating(alloc, rest)?.map(StateParts::Live)),
+        "exited" => Ok(
+            read_timing(rest)
+                .map(EndedState::Exited)
+                .map(StateParts::Ended),
+        ),
+        "delay" => Ok(read_delay(rest).map(StateParts::Ended)),
+        _ => Ok(None),
+    }
+}
+
+/// Reads the state that these parts make with the result of this field, or with `-` in its place. `None` means a bad field: what has
+/// ended has a result.
+#[tactic(auto, unfolding(crate::specs::Parts::state_in))]
+pub fn read_state(alloc: Global, parts: StateParts, field: &str) -> Field<SceneState>
+    ensures { IfOk result (λ state. state ≡ state_in parts field.now) }
+{
+    match read_result_or_none(alloc, field)? {
+        Some(outcome) => Ok(state_with(parts, outcome)),
+        None => Ok(None),
+    }
+}
+
+// Reads the parts after `running`: the process's id, and how long it has run.
+#[tactic(auto, unfolding(crate::specs::Parts::running_in))]
+fn read_running(text: &str) -> Option<LiveState>
+    ensures { result ≡ running_in text.now }
+{
+    let (pid, timing) = split_at_byte(text, b':')?;
+    Some(LiveState::Running {
+        pid: read_small_count(pid)?,
+        timing: read_timing(timing)?,
+    })
+}
+
+// Reads the parts after `exiting`: the same, and the wait for the process's handles.
+#[tactic(auto, unfolding(crate::specs::Parts::exiting_in))]
+fn read_exiting(text: &str) -> Option<LiveState>
+    ensures { result ≡ exiting_in text.now }
+{
+    let (pid, rest) = split_at_byte(text, b':')?;
+    let (time_taken, rest) = split_at_byte(rest, b':')?;
+    let (slow_after, wait) = split_at_byte(rest, b':')?;
+    Some(LiveState::Exiting {
+        pid: read_small_count(pid)?,
+        timing: Timing {
+            time_taken: read_nanos(time_taken)?,
+            slow_after: read_slow_after(slow_after)?,
+        },
+        wait: read_wait(wait)?,
+    })
+}
+
+// Reads the parts after `terminating`: the process's id, how long it has run, why it is ended and by which signal, and the wait
+// for its end. A colon in the signal's name would part it.
+#[tactic(auto, unfolding(crate::specs::Parts::terminating_in))]
+fn read_terminating(alloc: Global, text: &str) -> Field<LiveState>
+    ensures { IfOk result (λ state. state ≡ terminating_in text.now) }
+{
+    let Some((pid, rest)) = split_at_byte(text, b':') else {
+        return Ok(None);
+    };
+    let Some((time_taken, rest)) = split_at_byte(rest, b':') else {
+        return Ok(None);
+    };
+    let Some((reason, rest)) = split_at_byte(rest, b':') else {
+        return Ok(None);
+    };
+    let Some((signal, wait)) = split_at_byte(rest, b':') else {
+        return Ok(None);
+    };
+    let (Some(pid), Some(time_taken), Some(reason), Some(wait)) = (
+        read_small_count(pid),
+        read_nanos(time_taken),
+        read_terminate_reason(reason),
+        read_wait(wait),
+    ) else {
+        return Ok(None);
+    };
+    let Some(signal) = read_text(alloc, signal)? else {
+        return Ok(None);
+    };
+    Ok(Some(LiveState::Terminating(UnitTerminatingState {
+        pid,
+        time_taken,
+        reason,
+        method: UnitTerminateMethod::Signal(DescriptionText::new(alloc, signal.as_str())?),
+        waiting_duration: wait.waited,
+        remaining: wait.remaining,
+    })))
+}
+
+// Reads the parts after `delay`: whether the attempt before was slow, and the wait for the next one.
+#[tactic(auto, unfolding(crate::specs::Parts::delay_in))]
+fn read_delay(text: &str) -> Option<EndedState>
+    ensures { result ≡ delay_in text.now }
+{
+    let (was_slow, wait) = split_at_byte(text, b':')?;
+    Some(EndedState::Delay {
+        was_slow: read_flag(was_slow)?,
+        wait: read_wait(wait)?,
+    })
+}
+
+// Reads how long a process has run, and when its unit was marked as slow.
+#[tactic(auto, unfolding(crate::specs::Parts::timing_in))]
+fn read_timing(text: &str) -> Option<Timing>
+    ensures { result ≡ timing_in text.now }
+{
+    let (time_taken, slow_after) = split_at_byte(text, b':')?;
+    Some(Timing {
+        time_taken: read_nanos(time_taken)?,
+        slow_after: read_slow_after(slow_after)?,
+    })
+}
+
+// Reads how long something has been waited for, and how much longer it is.
+#[tactic(auto, unfolding(crate::specs::Parts::wait_in))]
+fn read_wait(text: &str) -> Option<Wait>
+    ensures { result ≡ wait_in text.now }
+{
+    let (waited, remaining) = split_at_byte(text, b':')?;
+    Some(Wait {
+        waited: read_nanos(waited)?,
+        remaining: read_nanos(remaining)?,
+    })
+}
+
+// Reads when a unit was marked as slow, or `-`.
+fn read_slow_after(text: &str) -> Option<Option<Nanos>>
+    ensures { result ≡ slow_after_in text.now }
+{
+    match text {
+        "-" => Some(None),
+        _ => Some(Some(read_nanos(text)?)),
+    }
+}
+
+// Reads why a process is ended.
+fn read_terminate_reason(text: &str) -> Option<UnitTerminateReason>
+    ensures { result ≡ terminate_reason_in text.now }
+{
+    match text {
+        "timeout" => Some(UnitTerminateReason::Timeout),
+        "signal" => Some(UnitTerminateReason::Signal),
+        "interrupt" => Some(UnitTerminateReason::Interrupt),
+        _ => None,
+    }
+}
+
+// Reads how an attempt ended, or `-`.
+fn read_result_or_none(alloc: Global, field: &str) -> Field<Option<ExecutionResultDescription>>
+    ensures { IfOk result (λ outcome. outcome ≡ result_or_none_in field.now) }
+{
+    match field {
+        "-" => Ok(Some(None)),
+        _ => Ok(read_result(alloc, field)?.map(Some)),
+    }
+}
+
+// The state that these parts make with a result, which what has ended has.
+fn state_with(parts: StateParts, outcome: Option<ExecutionResultDescription>) -> Option<SceneState>
+    ensures { result ≡ state_with parts outcome }
+{
+    match (parts, outcome) {
+        (StateParts::Live(state), outcome) => Some(SceneState::Live { state, outcome }),
+        (StateParts::Ended(state), Some(outcome)) => Some(SceneState::Ended { state, outcome }),
+        (StateParts::Ended(_), None) => None,
+    }
+}
+
+/// Reads how far a stress run has come, by iterations or by time: the total, the time that was taken, and the iterations that
+/// have finished. One of endless iterations has finished after 5 ns in `count:inf:5:1`.
+#[tactic(auto, unfolding(crate::specs::Parts::progress_in))]
+pub fn read_progress(field: &str) -> Option<StressProgress>
+    ensures { result ≡ progress_in field.now }
+{
+    let (word, rest) = split_at_byte(field, b':')?;
+    let (total, rest) = split_at_byte(rest, b':')?;
+    let (elapsed, completed) = split_at_byte(rest, b':')?;
+    match word {
+        "count" => Some(StressProgress::Count {
+            total: read_stress_count(total)?,
+            elapsed: read_nanos(elapsed)?,
+            completed: read_small_count(completed)?,
+        }),
+        "time" => Some(StressProgress::Time {
+            total: read_nanos(total)?,
+            elapsed: read_nanos(elapsed)?,
+            completed: read_small_count(completed)?,
+        }),
+        _ => None,
+    }
+}
+
+// Reads how many iterations there are to be.
+fn read_stress_count(text: &str) -> Option<StressCount>
+    ensures { result ≡ stress_count_in text.now }
+{
+    match text {
+        "inf" => Some(StressCount::Infinite),
+        _ => Some(StressCount::Count {
+            count: read_total(text)?,
+        }),
+    }
+}
+
+/// Reads the part of the output to point out: its stream, the place of its first byte, and its bytes; or `-`.
+pub fn read_highlight(alloc: Global, field: &str) -> Field<Option<Boxed<Highlight>>>
+    ensures { IfOk result (λ highlight. highlight ≡ highlight_in field.now) }
+{
+    let Some((stream, rest)) = split_at_byte(field, b':') else {
+        return Ok(read_absent(field).map(|()| None));
+    };
+    let Some((start, slice)) = split_at_byte(rest, b':') else {
+        return Ok(None);
+    };
+    let (Some(stream), Some(start)) = (read_highlight_stream(stream), read_count(start)) else {
+        return Ok(None);
+    };
+    let Some(slice) = read_bytes(alloc, slice)? else {
+        return Ok(None);
+    };
+    let highlight = Highlight {
+        stream,
+        start,
+        slice: Bytes::from_vec(slice)?,
+    };
+    Ok(Some(Some(Boxed::new(alloc, highlight)?)))
+}
+
+// Reads the stream that a highlight stands in.
+fn read_highlight_stream(field: &str) -> Option<HighlightStream>
+    ensures { result ≡ highlight_stream_in field.now }
+{
+    match field {
+        "out" => Some(HighlightStream::Stdout),
+        "err" => Some(HighlightStream::Stderr),
+        "comb" => Some(HighlightStream::Combined),
+        _ => None,
+    }
+}
+
+/// Reads a date with a time of day. The years go from -9999 to 9999, the hours to 23, the minutes and seconds to 59. None is a
+/// bad field.
+///
+/// ```
+/// assert!(read_moment("-5,2,28,7,5,9").is_some());
+/// assert!(read_moment("2023,2,29,7,5,9").is_none()); // there is no such day
+/// ```
+#[tactic(auto, unfolding(crate::specs::Parts::moment_in))]
+pub fn read_moment(field: &str) -> Option<SceneMoment>
+    ensures { result ≡ moment_in field.now }
+{
+    let (year, rest) = split_at_byte(field, b',')?;
+    let (month, rest) = split_at_byte(rest, b',')?;
+    let (day, time) = split_at_byte(rest, b',')?;
+    let date = read_day(year, month, day)?;
+    let time = read_time(time)?;
+    Some(SceneMoment::new(date, time))
+}
+
+// Reads a day by the texts of its numbers.
+fn read_day(year: &str, month: &str, day: &str) -> Option<Date>
+    ensures { option_map day_of result ≡ day_in year.now month.now day.now }
+{
+    new_day(
+        read_code(year)?,
+        read_small_count(month)?,
+        read_small_count(day)?,
+    )
+}
+
+// The day that has these numbers.
+fn new_day(year: i32, month: u32, day: u32) -> Option<Date>
+    ensures { option_map day_of result ≡ checked_day (record { year = year; month = month; day = day }) }
+{
+    let year = i16::try_from(year).ok()?;
+    let month = i8::try_from(month).ok()?;
+    let day = i8::try_from(day).ok()?;
+    Date::new(year, month, day).ok()
+}
+
+// Reads a time of day: hour, minute and second.
+#[tactic(auto, unfolding(crate::specs::Parts::time_in))]
+fn read_time(text: &str) -> Option<Time>
+    ensures { option_map clock_of result ≡ time_in text.now }
+{
+    let (hour, rest) = split_at_byte(text, b',')?;
+    let (minute, second) = split_at_byte(rest, b',')?;
+    new_time(
+        read_small_count(hour)?,
+        read_small_count(minute)?,
+        read_small_count(second)?,
+    )
+}
+
+// The time of day that has these numbers.
+fn new_time(hour: u32, minute: u32, second: u32) -> Option<Time>
+    ensures { option_map clock_of result ≡ checked_clock (record { hour = hour; minute = minute; second = second }) }
+{
+    let hour = i8::try_from(hour).ok()?;
+    let minute = i8::try_from(minute).ok()?;
+    let second = i8::try_from(second).ok()?;
+    Time::new(hour, minute, second, 0).ok()
+}
