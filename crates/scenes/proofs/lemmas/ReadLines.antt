@@ -8,7 +8,6 @@ use Rattle.command_line.specs.declared.fault.Fault.TheVariants as program
 use Rattle.scene_fields.specs.Split.{split_on}
 use Rattle.scene_fields.specs.declared.fault.ReadFault.TheVariants as reading
 use Rattle.scene_text.specs.SceneTexts.{LeavesLines, ReadsLines, event_lines, parsed_line, line_read, lines_read, plain_line}
-use Rattle.scene_text.proofs.lemmas.FirstFaults.{text_fault}
 use Rattle.scene_text.proofs.lemmas.Tellings.{all_told, noted_append, reads_none, wrong_told}
 use Rattle.scenes.proofs.lemmas.EventLines.{not_less}
 use Rattle.std.proofs.lemmas.Iterator.Adapters.{option_map_id}
@@ -191,8 +190,19 @@ module _ (file text : List ℕ) (read : LinesRead) (Has : ParsedLines → List R
   fault_told : (f : ReadFault) → IsNextFault read.next (parsed_lines read.run) has.left f → Stops (fault_of_read f)
   fault_told (reading.Line m g) h =
       let wrong : text_read text ≡ Err (m, g) =
-      ap (lines_read 1 no_lines) (has.whole ∙ ap (λ ls. has.lines ++ ls) h.1.2) ∙ wrong_told 1 no_lines has.lines (parsed_lines read.run) h.1.0 h.1.1 g m (h.0 ∙ has.place) has.tells h.1.3 in
-      (wrong, text_fault text m g wrong)
+      ap (lines_read 1 no_lines) (has.whole ∙ ap (λ ls. has.lines ++ ls) h.1.2) ∙ wrong_told 1 no_lines has.lines (parsed_lines read.run) h.1.0 h.1.1 g m (h.0 ∙ has.place) has.tells h.1.3 in (
+        wrong,
+        record {
+          front = has.lines;
+          line = h.1.0;
+          rest = h.1.1;
+          whole = has.whole ∙ ap (λ ls. has.lines ++ ls) h.1.2;
+          place = (let place = h.0 ∙ has.place in omega (arith, place));
+          before = parsed_lines read.run;
+          read_so_far = has.tells;
+          wrong = h.1.3;
+        },
+      )
   fault_told reading.OutOfMemory h = (tt, tt)
 
   unread_told : (f : Fault) → IsUnread file f → Stops f

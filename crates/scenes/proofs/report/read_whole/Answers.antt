@@ -1,6 +1,6 @@
 use Rattle.std.proofs.Common.{[], ◌∙◌, inl, refl}
 use Rattle.scenes.proofs.Common.{no_lines, text_lines}
-use Rattle.scene_text.proofs.lemmas.FirstFaults.{all_tell}
+use Rattle.scene_text.proofs.lemmas.Tellings.{all_tell}
 use Rattle.scenes.proofs.lemmas.ReadLines.{none_read, notes, spells, stopped_read}
 use Rattle.scenes.proofs.report.read_whole.Goals as goal
 
