@@ -88,9 +88,8 @@ impl LoadEventFault {
 /// use recorded_lines::line::RecordedLine;
 /// use recorded_outputs::outputs::RecordedOutputs;
 /// use scene_events::scene::event::SceneEvent;
-/// use scene_events::scene::info_events::InfoFinish;
 /// let line = RecordedLine::read(alloc, "answers-end\t0")?;
-/// let mut event = SceneEvent::InfoFinished(InfoFinish { missing: 0 });
+/// let mut event = SceneEvent::InfoFinished(0);
 /// let mut outputs = RecordedOutputs::new(b"passed\nfailed\n".as_slice())?;
 /// assert!(load_outputs(alloc, &decider, line.outputs.as_slice(), &mut outputs, &mut event).is_ok());
 /// assert_eq!(outputs.bytes_read(), 0); // the event has no output

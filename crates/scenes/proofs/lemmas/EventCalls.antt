@@ -24,8 +24,8 @@ use Rattle.std.proofs.lemmas.Bool.{not-false}
 use Rattle.reporter_state.specs.KeptTests.{lent}
 use Rattle.run_model.specs.declared.status.ExecutionResultDescription.{ExecutionResultDescription}
 use Rattle.run_names.specs.declared.name.TestInstanceId.{TestInstanceId}
-use Rattle.scene_events.specs.declared.scene.outputs.SceneOutput.{SceneOutput}
-use Rattle.scene_events.specs.declared.scene.outputs.SceneOutput.TheVariants.{Output, StartError}
+use Rattle.scene_events.specs.declared.scene.units.SceneOutput.{SceneOutput}
+use Rattle.scene_events.specs.declared.scene.units.SceneOutput.TheVariants.{Output, StartError}
 use Rattle.scene_events.specs.declared.scene.test_events.SceneTest.{SceneTest}
 
 -- why an event is refused whose output is needed or is not
@@ -128,7 +128,7 @@ pub judged_unmade : (d : OutputLoadDecider) (event : SceneEvent) → may_be_refu
 judged_unmade d (scene.Prefix p) off = λ n. record { call = call.Prefix p; of_event = refl; is = refl }
 judged_unmade d (scene.Header h) off = absurd (false≢true (sym off))
 judged_unmade d (scene.RunStarted e) off = judged_by d _ (kind.RunStarted e.test_list e.run_id e.profile_name) (refl, refl, refl) refl
-judged_unmade d (scene.StressSubRunStarted e) off = judged_by d _ (kind.StressSubRunStarted e.progress) refl refl
+judged_unmade d (scene.StressSubRunStarted e) off = judged_by d _ (kind.StressSubRunStarted e) refl refl
 judged_unmade d (scene.SetupScriptStarted e) off = judged_by d _ (kind.SetupScriptStarted e.stress_index e.index e.total e.script.script_id e.script.program e.script.args) (refl, refl, refl, (refl, refl, refl)) refl
 judged_unmade d (scene.SetupScriptSlow e) off = judged_by d _ (kind.SetupScriptSlow e.stress_index e.script.script_id e.script.program e.script.args e.elapsed e.will_terminate) (refl, (refl, refl, refl), refl, refl) refl
 judged_unmade d (scene.SetupScriptFinished e) off =
@@ -157,7 +157,7 @@ judged_unmade d (scene.TestAnswered e) off =
     judged_by d _
     (kind.InfoResponse e.index e.total (response.Test (record { stress_index = e.test.stress_index; test_instance = named e.test; retry_data = e.retry_data; state = unit_state e.answer.state; output = written (result_of e.answer.state) e.answer.output })))
     (refl, refl, (refl, (refl, refl), refl, (refl, refl))) (none_lacking (has_valid_output (unit_state e.answer.state)) (written (result_of e.answer.state) e.answer.output) (loaded (result_of e.answer.state) e.answer.output (not-false _ off)))
-judged_unmade d (scene.InfoFinished e) off = judged_by d _ (kind.InfoFinished e.missing) refl refl
+judged_unmade d (scene.InfoFinished e) off = judged_by d _ (kind.InfoFinished e) refl refl
 judged_unmade d (scene.InputEnter e) off = judged_by d _ (kind.InputEnter e.current_stats e.running) (refl, refl) refl
 judged_unmade d (scene.StressSubRunFinished e) off = judged_by d _ (kind.StressSubRunFinished e.progress e.sub_elapsed e.sub_stats) (refl, refl, refl) refl
 judged_unmade d (scene.RunFinished e) off = judged_by d _ (kind.RunFinished e.elapsed e.run_stats e.outstanding_not_seen) (refl, refl, refl) refl
