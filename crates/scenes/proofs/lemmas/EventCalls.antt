@@ -1,6 +1,6 @@
 -- All calls of one event are refused alike, and some need not be made to judge it (for `check_refusal`, `check_refusals`, `report_events`).
-use Rattle.std.proofs.Common.{◌≡◌, ℕ, Bool, false, not, List, [], ◌∷◌, ◌++◌, Option, None, Some, length, take, get_or, ◌+◌, ◌<◌, arith, if◌then◌else◌, refl, sym, ap, ap₂, ◌∙◌, true, ◌||◌, inl, inr, rules}
-use Rattle.scenes.proofs.Common.{all_zipped_more, AllZip, cases_Bool, ChecksEvent, common_steps, cond, false≢true, fault_at_call, first_refused, is_some, IsCallOf, length-append, nat_lt, option_map, OutputLoadDecider, OutputNotLoaded, position_or_len, refusal_by, ReportCall, RetriedSuccess, SceneEvent, slice_get, slice_get-get_or, take_more, TestEventKind, WriteEventError}
+use Rattle.std.proofs.Common.{◌≡◌, ℕ, Bool, false, not, List, [], ◌∷◌, ◌++◌, Option, None, Some, length, take, get_or, ◌+◌, ◌<◌, arith, if◌then◌else◌, refl, sym, ap, ap₂, ◌∙◌, true, ◌||◌, rules}
+use Rattle.scenes.proofs.Common.{all_zipped_more, AllZip, ChecksEvent, common_steps, cond, false≢true, fault_at_call, first_refused, is_some, IsCallOf, length-append, nat_lt, option_map, OutputLoadDecider, OutputNotLoaded, position_or_len, refusal_by, ReportCall, RetriedSuccess, SceneEvent, slice_get, slice_get-get_or, take_more, TestEventKind, WriteEventError}
 use Rattle.std.specs.Option.{option_map_or}
 use Rattle.std.proofs.lemmas.Slice.Zip.{AllZip-long}
 use Rattle.run_model.specs.Attempts.{Attempt, Written}
@@ -20,7 +20,7 @@ use Rattle.scene_events.specs.Scenes.{SaysSame, may_be_refused, nothing_counted,
 use Rattle.scene_events.specs.SceneOutputs.{written, is_loaded}
 use Rattle.scene_events.specs.States.{result_of, unit_state}
 use Rattle.scene_events.specs.declared.scene.event.SceneEvent.TheVariants as scene
-use Rattle.std.proofs.lemmas.Bool.{not-false}
+use Rattle.std.proofs.lemmas.Bool.{not-false, or_parts}
 use Rattle.reporter_state.specs.KeptTests.{lent}
 use Rattle.run_model.specs.declared.status.ExecutionResultDescription.{ExecutionResultDescription}
 use Rattle.run_names.specs.declared.name.TestInstanceId.{TestInstanceId}
@@ -100,10 +100,9 @@ none_lacking true output there = rw there refl
 none_lacking false output there = refl
 
 attempt_lacks_none : (is_needed : Bool) (attempt : Attempt) → (is_success attempt.result || not (has_loaded_output attempt.output)) ≡ false → lacking_attempt is_needed attempt ≡ None
-attempt_lacks_none is_needed attempt h = elim (cases_Bool (is_success attempt.result)) [
-  | inl y ↦ absurd (false≢true (sym (rw y at h)))
-  | inr n ↦ rw n (none_lacking is_needed attempt.output (not-false _ (rw n at h)))
-]
+attempt_lacks_none is_needed attempt h =
+    let both = or_parts (is_success attempt.result) (not (has_loaded_output attempt.output)) h in
+    rw both.0 (none_lacking is_needed attempt.output (not-false _ both.1))
 
 -- whether output is there does not depend on how its unit ended
 loaded : (result : Option ExecutionResultDescription) (output : SceneOutput) → is_loaded output ≡ true → has_loaded_output (written result output) ≡ true
@@ -114,14 +113,13 @@ loaded result (StartError error) h = refl
 abbrev named : SceneTest → TestInstanceId
 named t = record { binary_id = lent t.binary_id; test_name = lent t.test_name }
 
--- the call that says the same
-abbrev told_call : SceneEvent → TestEventKind → ReportCall
-told_call event k = call.Event (record { elapsed = record { 0 = elapsed_of event }; kind = k })
-
+-- the call that says the same is not refused
 judged_by : (d : OutputLoadDecider) (event : SceneEvent) (k : TestEventKind) → SaysSame event k → told_refusal d event ≡ None → (n : ℕ) → ChecksEvent d n event None
-judged_by d event k same none n =
-    let of_event : IsCallOf event (told_call event k) = (refl, same) in
-    record { call = told_call event k; of_event = of_event; is = sym (ap (option_map (fault_at_call n)) (refusal_of_call d event (told_call event k) of_event ∙ none)) }
+judged_by d event k same none n = record {
+  call = call.Event (record { elapsed = record { 0 = elapsed_of event }; kind = k });
+  of_event = (refl, same);
+  is = sym (ap (option_map (fault_at_call n)) (refusal_told d event k same ∙ none));
+}
 
 -- an event that needs no judging is refused by no reporter
 pub judged_unmade : (d : OutputLoadDecider) (event : SceneEvent) → may_be_refused event ≡ false → (n : ℕ) → ChecksEvent d n event None

@@ -7,22 +7,6 @@ use Rattle.scenes.proofs.lemmas.FollowedRuns.{nothing_more}
 use Rattle.scenes.proofs.lemmas.Prints.{begins_nothing}
 use Rattle.scenes.proofs.lemmas.ReadLines.{spells}
 
--- lines tell no event
-abbrev pub HasNoEvent : ParsedLines → Type 0
-HasNoEvent run = run.events ≡ []
-
--- and memory was refused behind them
-abbrev pub IsRefusedMemory : ParsedLines → Fault → Type 0
-IsRefusedMemory run f = HasNoEvent run × (f ≡ OutOfMemory)
-
-module _ (options : Options) (all : List RunLine) (read : LinesRead) (Has : ParsedLines → List RunLine → Type 0) (none : read.run.events.items ≡ []) where
-  pub head_ends : HasRead options.file.now all [] no_lines read (Ok false) Has → OfLines all HasNoEvent
-  head_ends has = record { run = parsed_lines read.run; spelled = spells options.file.now all read [] no_lines Has has; holds = none }
-
-  pub head_left : (f : Fault) → HasRead options.file.now all [] no_lines read (Err f) Has → StopsBy options all HasNoEvent IsRefusedMemory f
-  head_left f has =
-      nothing_more options all HasNoEvent IsRefusedMemory (parsed_lines read.run) none (none, refl) has.left read.next (record { front = has.lines; whole = has.whole; place = has.place ∙ omega (arith); tells = has.tells }) options.file.now f Has has.more_is
-
 -- whether there is an event
 pub is_none : (es : List SceneEvent) → (length es == 0) ≡ true → es ≡ []
 is_none [] h = refl
@@ -58,11 +42,11 @@ followed_so all (Err f) more h = tt
 
 -- what is not begun
 module _ {W T : Type 0} (m : Meaning W) (k : Meaning T) (options : Options) (all : List RunLine) (held : W × T) (nothing : m.accepts held.0 [] held.0) (also : k.accepts held.1 [] held.1) where
-  no_calls : (run : ParsedLines) → HasNoEvent run → AllZip IsCallOf run.events []
+  no_calls : (run : ParsedLines) → run.events ≡ [] → AllZip IsCallOf run.events []
   no_calls run none = subst (λ es. AllZip IsCallOf es []) (sym none) tt
 
-  begins_none : (run : ParsedLines) (f : Fault) → IsRefusedMemory run f → Begins m k options held held run f
-  begins_none run f h = begins_nothing m k options held nothing also run [] (no_calls run h.0) refl f h.1
+  begins_none : (run : ParsedLines) (f : Fault) → run.events ≡ [] → f ≡ OutOfMemory → Begins m k options held held run f
+  begins_none run f none is = begins_nothing m k options held nothing also run [] (no_calls run none) refl f is
 
   -- memory was refused before the first line
   pub nothing_stops : (P : ParsedLines → Type 0) (f : Fault) → f ≡ OutOfMemory → StopsBy options all P (Begins m k options held held) f
@@ -71,18 +55,21 @@ module _ {W T : Type 0} (m : Meaning W) (k : Meaning T) (options : Options) (all
     lines = all;
     number = 1;
     at = record { front = []; whole = refl; place = refl; tells = refl };
-    holds = inr (begins_none no_lines f (refl, is));
+    holds = inr (begins_none no_lines f refl is);
   }
 
-  module _ (delivered : m.is_delivered held.0 × k.is_delivered held.1) where
-    prints_none : (run : ParsedLines) → HasNoEvent run → Prints m k options held held run
-    prints_none run none = record { calls = []; of_run = no_calls run none; accepted = refl; printed = nothing; kept = also; delivered = delivered }
+  -- no line that was read is an event
+  module _ (delivered : m.is_delivered held.0 × k.is_delivered held.1) (read : LinesRead) (Has : ParsedLines → List RunLine → Type 0) (none : read.run.events.items ≡ []) where
+    prints_none : Prints m k options held held (parsed_lines read.run)
+    prints_none = record { calls = []; of_run = no_calls (parsed_lines read.run) none; accepted = refl; printed = nothing; kept = also; delivered = delivered }
 
-    -- no line is an event
-    pub head_told : OfLines all HasNoEvent → OfLines all (PrintsFollowed m k options held held NotEnded)
+    -- and there are no more
+    pub head_told : HasRead options.file.now all [] no_lines read (Ok false) Has → OfLines all (PrintsFollowed m k options held held NotEnded)
     unfolding run_outcome prints_none
-    head_told h = record { run = h.run; spelled = h.spelled; holds = record { printed = prints_none h.run h.holds; outcome = refl } }
+    head_told has = record { run = parsed_lines read.run; spelled = spells options.file.now all read [] no_lines Has has; holds = record { printed = prints_none; outcome = refl } }
 
-    -- a line before the first event stopped it
-    pub head_stops : (f : Fault) → StopsBy options all HasNoEvent IsRefusedMemory f → StopsBy options all (Prints m k options held held) (Begins m k options held held) f
-    head_stops f h = stops_so options all _ _ _ _ prints_none begins_none f h
+    -- or a line before the first event stopped it
+    pub head_stops : (f : Fault) → HasRead options.file.now all [] no_lines read (Err f) Has → StopsBy options all (Prints m k options held held) (Begins m k options held held) f
+    head_stops f has =
+        nothing_more options all (Prints m k options held held) (Begins m k options held held) (parsed_lines read.run) prints_none (begins_none (parsed_lines read.run) OutOfMemory none refl)
+        has.left read.next (record { front = has.lines; whole = has.whole; place = has.place ∙ omega (arith); tells = has.tells }) options.file.now f Has has.more_is

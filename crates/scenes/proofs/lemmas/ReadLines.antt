@@ -33,18 +33,12 @@ lines_joined : (front back : List ℕ) → text_lines (front ++ 10 ∷ back) ≡
 lines_joined front back = ap (map plain_line) (split_on_joined front back) ∙ map-append plain_line (split_on 10 front) (split_on 10 back)
 
 -- what is left begins with the lines of the next piece
-record IsCut (left : List RunLine) (piece : List ℕ) (remaining : Option (List ℕ)) : Type 0 where
-  pub others : List RunLine
-  pub is : left ≡ text_lines piece ++ others
-  pub rest : List ℕ
-  pub remains : remaining ≡ Some rest
-  pub are : AreLeft others rest
+abbrev IsCut : List RunLine → List ℕ → Option (List ℕ) → Type 0
+IsCut left piece remaining = (others : List RunLine) × (left ≡ text_lines piece ++ others) × AreLeftOf remaining others
 
 cut : (left : List RunLine) (rest piece : List ℕ) (remaining : Option (List ℕ)) → AreLeft left rest → IsNextPiece rest true piece remaining → IsCut left piece remaining
-cut left rest piece remaining (inl lines) (more, remains, inl feed) =
-    record { others = text_lines more; is = lines ∙ ap text_lines feed ∙ lines_joined piece more; rest = more; remains = remains; are = inl refl }
-cut left rest piece remaining (inl lines) (more, remains, inr end) =
-    record { others = []; is = lines ∙ ap text_lines end.0 ∙ sym (append-nil (text_lines piece)); rest = more; remains = remains; are = inr (refl, end.1) }
+cut left rest piece remaining (inl lines) (more, remains, inl feed) = (text_lines more, lines ∙ ap text_lines feed ∙ lines_joined piece more, (more, remains, inl refl))
+cut left rest piece remaining (inl lines) (more, remains, inr end) = ([], lines ∙ ap text_lines end.0 ∙ sym (append-nil (text_lines piece)), (more, remains, inr (refl, end.1)))
 cut left rest piece remaining (inr none) (more, remains, inl feed) = absurd (omega (arith, ap length (sym none.1 ∙ feed), length-append piece (10 ∷ more)))
 cut left rest piece remaining (inr none) (more, remains, inr end) = absurd (omega (arith, ap length (sym none.1 ∙ end.0), end.2))
 
@@ -97,13 +91,13 @@ module _ (file : List ℕ) (all front : List RunLine) (before : ParsedLines) (ol
 
     -- a piece was read
     pub piece_read : ReadsLines old new (text_lines piece) → HasRead file all front before new (Ok true) (λ run. AreLeftOf after)
-    piece_read reads = further (λ run. AreLeftOf remaining) (λ run. AreLeftOf after) has (text_lines piece) here.others here.is reads (Ok true) (here.rest, here.remains, here.are)
+    piece_read reads = further (λ run. AreLeftOf remaining) (λ run. AreLeftOf after) has (text_lines piece) here.0 here.1 reads (Ok true) here.2
 
     -- the first lines of it were read, and the next has a fault
     pub piece_left : (f : ReadFault) (fault : Fault) → fault ≡ fault_of_read f → LeavesLines old new (text_lines piece) f → HasRead file all front before new (Err fault) (λ run. AreLeftOf after)
     piece_left f fault is leaves =
-        further (λ run. AreLeftOf remaining) (λ run. AreLeftOf after) has leaves.front (leaves.rest ++ here.others) (here.is ∙ ap (λ ls. ls ++ here.others) leaves.whole ∙ append_assoc leaves.front leaves.rest here.others) leaves.reads (Err fault)
-        (inr (f, is, next_fault new.next (lines_after before.events (parsed_lines new.run)) leaves.rest here.others f (leaves.wrong before.events has.begun)))
+        further (λ run. AreLeftOf remaining) (λ run. AreLeftOf after) has leaves.front (leaves.rest ++ here.0) (here.1 ∙ ap (λ ls. ls ++ here.0) leaves.whole ∙ append_assoc leaves.front leaves.rest here.0) leaves.reads (Err fault)
+        (inr (f, is, next_fault new.next (lines_after before.events (parsed_lines new.run)) leaves.rest here.0 f (leaves.wrong before.events has.begun)))
 
   -- no line more was read
   module _ (Has Next : ParsedLines → List RunLine → Type 0) (has : HasRead file all front before old (Ok true) Has) (same : new ≡ old) where
