@@ -6,7 +6,7 @@ use Rattle.console_reporter.proofs.lemmas.Isolation.{isolated}
 use Rattle.reporter_state.specs.Unread.{is_skipped}
 use Rattle.run_model.specs.Unloaded.{unloaded_kind}
 use Rattle.run_model.specs.declared.event.TestEventKind.TheVariants as kind
-use Rattle.scenes.specs.Outcomes.{outcome_after_event}
+use Rattle.scenes.specs.Outcomes.{outcome_after_event, run_outcome}
 use Rattle.scenes.specs.Unloads.{ready_if}
 
 map-reverse : {X Y : Type 0} (f : X → Y) (xs : List X) → map f (reverse xs) ≡ reverse (map f xs)
@@ -21,6 +21,14 @@ unloaded_outcome before other = refl
 outcome_if : (unloads : Bool) (d : OutputLoadDecider) (before : RunOutcome) (call : ReportCall) → outcome_after before (ready_if unloads d call) ≡ outcome_after before call
 outcome_if true d before (Event e) = elim (cases_Bool (is_skipped d e.kind)) [ inl skipped ↦ rw skipped (unloaded_outcome before e.kind) | inr loaded ↦ rw loaded refl ]
 outcome_if unloads d before call = search rules
+
+past_outcome : (d : OutputLoadDecider) (past : List ReportCall) → run_outcome (map (unread_call d) past) ≡ run_outcome past
+unfolding run_outcome
+past_outcome d [] = refl
+past_outcome d (call ∷ past) = outcome_if true d (run_outcome (map (unread_call d) past)) call ∙ ap (λ before. outcome_after before call) (past_outcome d past)
+
+pub outcome_unread : (d : OutputLoadDecider) (calls : List ReportCall) → run_outcome (reverse (unread d calls)) ≡ run_outcome (reverse calls)
+outcome_unread d calls = ap run_outcome (sym (map-reverse (unread_call d) calls)) ∙ past_outcome d (reverse calls)
 
 -- what is the same of calls in order is the same of a past, the latest call first
 past_if : {X : Type 0} (f : List ReportCall → X) (d : OutputLoadDecider) → ((calls : List ReportCall) → f (reverse (unread d calls)) ≡ f (reverse calls)) → (unloads : Bool) (past : List ReportCall) → f (map (ready_if unloads d) past) ≡ f past
