@@ -1,5 +1,5 @@
 -- How many bytes of outputs are read (for `RecordedRun::replay`, `RecordedRun::read_next`).
-use Rattle.std.proofs.Common.{◌≡◌, ℕ, ◌+◌, ◌^◌, ◌-◌, ◌≤◌, List, [], ◌∷◌, map, min, refl, sym, ap, ◌∙◌, arith}
+use Rattle.std.proofs.Common.{◌≡◌, ℕ, ◌^◌, ◌-◌, ◌≤◌, List, [], ◌∷◌, map, refl, ap, ◌∙◌, arith}
 use Rattle.std.specs.Prelude.{Option}
 use Rattle.command_line.specs.declared.args.Options.{Options}
 use Rattle.recorded_outputs.specs.Outputs.{counted}

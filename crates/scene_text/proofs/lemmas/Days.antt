@@ -1,5 +1,5 @@
 -- Days of the calendar by jiff's test of them (for `new_day`).
-use Rattle.std.proofs.Common.{◌≡◌, ◌≤◌, ◌↔◌, ℕ, ℤ, pos, negsuc, unsigned_abs, ◌&&◌, nat_lt, nat_le, true≢false, Option, Some, Result, Ok, Err, IsOk, IfOk, refl, sym, ap, ◌∙◌, arith, OkIff, FitsSigned, to_z, of_z}
+use Rattle.std.proofs.Common.{◌≡◌, ◌≤◌, ◌↔◌, ℕ, ℤ, pos, negsuc, unsigned_abs, ◌&&◌, nat_lt, nat_le, true≢false, Some, Result, Ok, Err, IsOk, IfOk, refl, sym, ap, ◌∙◌, arith, OkIff, FitsSigned, to_z, of_z}
 use Rattle.std.specs.Bool.{Decides}
 use Rattle.std.specs.Option.{option_map}
 use Rattle.std.specs.Result.{result_ok}
