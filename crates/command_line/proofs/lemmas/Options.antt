@@ -1,8 +1,8 @@
 -- What words ask for, word by word (for `followed_by`).
-use Rattle.std.proofs.Common.{◌≡◌, ◌≢◌, List, refl, sym, false, codes, bytes_eq}
+use Rattle.std.proofs.Common.{◌≡◌, ◌≢◌, List, ◌∷◌, refl, sym, false, Some, codes, bytes_eq}
 use Rattle.std.proofs.lemmas.Bool.{false_from_ne_true}
 use Rattle.std.proofs.lemmas.Slice.Eq.{bytes_eq-Decides}
-use Rattle.command_line.specs.Args.{Said, Text, options_after}
+use Rattle.command_line.specs.Args.{Said, Text, with_flag, with_level, with_store, options_after}
 
 module _ (options made : Said) (option word : Text) (rest : List Text) where
   pub after_level : option ≡ codes "--level" → Some made ≡ with_level options word → options_after made rest ≡ options_after options (option ∷ word ∷ rest)
