@@ -1,5 +1,5 @@
 -- Texts as a scene writes them, where a backslash begins an escape.
-use Rattle.std.specs.Prelude.{◌≡◌, ℕ, zero, suc, ◌+◌, ◌*◌, List, [], ◌∷◌, ◌++◌, ◌==◌, ◌&&◌, nat_lt, nat_le, if◌then◌else◌, Option, None, Some, string_bytes, drop}
+use Rattle.std.specs.Prelude.{◌≡◌, ℕ, zero, suc, ◌+◌, ◌*◌, ◌≤◌, List, [], ◌∷◌, ◌++◌, ◌==◌, ◌&&◌, nat_lt, nat_le, if◌then◌else◌, Option, None, Some, string_bytes, drop, length, take}
 use Rattle.std.specs.Option.{option_map}
 use Rattle.std.specs.Borrow.{Bor}
 use Rattle.std.specs.Char.{digit_value}
@@ -76,3 +76,11 @@ pub record AddsStretch (old plain escape new : List ℕ) (after : Bor (List ℕ)
   pub gives : escape_byte 127 escape ≡ Some byte
   pub grown : new ≡ (old ++ plain) ++ (byte ∷ [])
   pub follows : after.now ≡ drop (escape_len escape) escape
+
+-- so many bytes from a place on, in which no escape begins, were moved down to another place, and what follows them is as it was
+pub record MovesPlain (old new : List ℕ) (from to count : ℕ) : Type 0 where
+  pub within : from + count ≤ length old
+  pub long : length new ≡ length old
+  pub plain : IsPlain (take count (drop from old))
+  pub front : take (to + count) new ≡ take to old ++ take count (drop from old)
+  pub rest : drop (from + count) new ≡ drop (from + count) old

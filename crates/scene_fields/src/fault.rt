@@ -1,7 +1,6 @@
 //! What can be wrong with a line of a scene, and why a scene could not be read.
 
 ghost use Rattle.std.specs.Prelude.{◌≡◌, Some};
-ghost use Rattle.scene_fields.specs.declared.fault.LineError.{LineError};
 ghost use Rattle.scene_fields.specs.declared.fault.ReadFault.TheVariants.{OutOfMemory};
 ghost use Rattle.scene_fields.specs.Faults.{line_fault_text, read_fault_text};
 
@@ -98,6 +97,8 @@ pub enum LineError {
 }
 
 impl From<LineFault> for LineError {
+    ghost use Rattle.scene_fields.specs.declared.fault.LineError.{LineError};
+
     ghost from_gives = { λ fault error. error ≡ LineError.Fault fault };
 
     fn from(fault: LineFault) -> LineError {
@@ -106,6 +107,8 @@ impl From<LineFault> for LineError {
 }
 
 impl From<OutOfMemory> for LineError {
+    ghost use Rattle.scene_fields.specs.declared.fault.LineError.{LineError};
+
     ghost from_gives = { λ _ error. error ≡ LineError.OutOfMemory };
 
     fn from(_refused: OutOfMemory) -> LineError {
@@ -114,6 +117,8 @@ impl From<OutOfMemory> for LineError {
 }
 
 impl<T: Drop> From<AllocFailed<T>> for LineError {
+    ghost use Rattle.scene_fields.specs.declared.fault.LineError.{LineError};
+
     ghost from_gives = { λ _ error. error ≡ LineError.OutOfMemory };
 
     fn from(_refused: AllocFailed<T>) -> LineError {

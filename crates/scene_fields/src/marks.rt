@@ -49,7 +49,7 @@ pub fn find_byte(byte: u8, bytes: &[u8]) -> Option<usize>
 {
     let mut from = 0;
     while from < bytes.len() {
-        let marks = marks_from(byte, bytes, from);
+        let marks = marks_of(byte, block_from(bytes, from));
         if marks != 0 {
             return Some(from + first_place(marks));
         }
@@ -77,13 +77,15 @@ pub fn first_place(mask: u64) -> usize
     mask.trailing_zeros() as usize
 }
 
-/// The places behind one of them, counted from there.
+/// The mask without the bit of a place.
 #[inline(always)]
-pub fn places_behind(mask: u64, place: usize) -> u64
-    requires some { mask ≢ 0 }
-    requires within { place < 64 }
+pub fn without_place(mask: u64, place: usize) -> u64
+    requires bound { place < 64 }
+    requires set { bit_at mask place ≡ 1 }
     ensures smaller { result < mask }
-    ensures bits { (k : ℕ) → bit_at result k ≡ bit_at mask (place + 1 + k) }
+    ensures cleared { bit_at result place ≡ 0 }
+    ensures kept { (k : ℕ) → k < 64 → k ≢ place → bit_at result k ≡ bit_at mask k }
+    ensures no_more { (k : ℕ) → bit_at result k ≡ 1 → bit_at mask k ≡ 1 }
 {
-    mask >> place >> 1
+    mask & !(1 << place)
 }

@@ -3,7 +3,7 @@
 //! It is a word, as `pass`, or a word and its detail after a colon, as `fail:1`. A name or a message is a text, and
 //! goes on to the end of the field.
 
-ghost use Rattle.std.specs.Prelude.{◌≡◌, Some, IfOk};
+ghost use Rattle.std.specs.Prelude.{◌≡◌, IfOk};
 ghost use Rattle.std.specs.Option.{option_map};
 ghost use Rattle.scene_fields.specs.Split.{cut};
 ghost use Rattle.scene_fields.specs.Numbers.{code_in};
@@ -51,7 +51,7 @@ fn read_plain(alloc: Global, field: &str) -> Result<Option<ExecutionResultDescri
         "leakfail" => Some(ExecutionResultDescription::Leak {
             result: LeakTimeoutResult::Fail,
         }),
-        "job" => return aborted(alloc, AbortDescription::WindowsJobObject, false),
+        "job" => Some(aborted(alloc, AbortDescription::WindowsJobObject, false)?),
         "exec" => Some(ExecutionResultDescription::ExecFail),
         "tmpass" => Some(ExecutionResultDescription::Timeout {
             result: SlowTimeoutResult::Pass,
@@ -107,7 +107,7 @@ fn read_signal(alloc: Global, text: &str) -> Result<Option<ExecutionResultDescri
         return Ok(None);
     };
     let name = Some(DescriptionText::new(alloc, name.as_str())?);
-    aborted(alloc, AbortDescription::UnixSignal { signal, name }, false)
+    Ok(Some(aborted(alloc, AbortDescription::UnixSignal { signal, name }, false)?))
 }
 
 // Reads a signal by its number alone.
@@ -122,7 +122,7 @@ fn read_nameless_signal(
         return Ok(None);
     };
     let abort = AbortDescription::UnixSignal { signal, name: None };
-    aborted(alloc, abort, leaked)
+    Ok(Some(aborted(alloc, abort, leaked)?))
 }
 
 // Reads a status of Windows by its number, and what the system says of it.
@@ -139,11 +139,11 @@ fn read_status(alloc: Global, text: &str) -> Result<Option<ExecutionResultDescri
         return Ok(None);
     };
     let message = Some(DescriptionText::new(alloc, message.as_str())?);
-    aborted(
+    Ok(Some(aborted(
         alloc,
         AbortDescription::WindowsNtStatus { code, message },
         false,
-    )
+    )?))
 }
 
 // A failure from outside.
@@ -151,12 +151,13 @@ fn aborted(
     alloc: Global,
     abort: AbortDescription,
     leaked: bool,
-) -> Result<Option<ExecutionResultDescription>, OutOfMemory>
-    ensures { IfOk result (λ outcome. outcome ≡ Some (aborted leaked abort)) }
+) -> Result<ExecutionResultDescription, OutOfMemory>
+    ensures { IfOk result (λ outcome. outcome ≡ aborted leaked abort) }
 {
-    let abort = Boxed::new(alloc, abort)?;
-    Ok(Some(ExecutionResultDescription::Fail {
-        failure: FailureDescription::Abort { abort },
+    Ok(ExecutionResultDescription::Fail {
+        failure: FailureDescription::Abort {
+            abort: Boxed::new(alloc, abort)?,
+        },
         leaked,
-    }))
+    })
 }

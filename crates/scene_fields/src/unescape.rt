@@ -1,13 +1,18 @@
 //! A text decoded in its own memory.
 //!
-//! What a text stands for is never longer than the text, so a large output is read without a second memory of its size.
+//! What a text stands for is never longer than the text, so a large output is read without a second memory of its size. It is
+//! moved by blocks: most of an output stands between escapes.
 
-ghost use Rattle.std.specs.Prelude.{◌≡◌, take};
+ghost use Rattle.std.specs.Prelude.{◌≡◌, ◌≢◌, ◌<◌, ◌≤◌, ℕ, length, slice_index, take};
 ghost use Rattle.std.specs.Option.{option_map};
-ghost use Rattle.scene_fields.specs.Texts.{bytes_in};
+ghost use Rattle.scene_fields.specs.Texts.{MovesPlain, bytes_in};
 
-use super::marks::find_byte;
+use super::marks::{block_from, first_place, marks_of};
 use super::texts::escape_at;
+use std::simd::prelude::*;
+
+/// How many bytes a block has.
+const BLOCK: usize = 32;
 
 /// Replaces a text by the bytes that it stands for. It answers how many they are: the first of what the memory then holds. `None`
 /// means a bad escape.
@@ -16,16 +21,54 @@ pub fn unescape_in_place(bytes: &mut [u8]) -> Option<usize>
 {
     let mut from = 0;
     let mut to = 0;
-    while let Some(plain) = find_byte(b'\\', &bytes[from..]) {
-        let escape = from + plain;
-        bytes.copy_within(from..escape, to);
-        let (byte, len) = escape_at(&bytes[escape + 1..], u8::MAX)?;
-        to += plain;
-        bytes[to] = byte;
-        to += 1;
-        from = escape + 1 + len;
+    while from < bytes.len() {
+        if bytes[from] == b'\\' {
+            let (byte, len) = escape_at(&bytes[from + 1..], u8::MAX)?;
+            bytes[to] = byte;
+            to += 1;
+            from += 1 + len;
+        } else {
+            let count = move_plain(bytes, from, to);
+            from += count;
+            to += count;
+        }
     }
-    let count = bytes.len() - from;
-    bytes.copy_within(from.., to);
-    Some(to + count)
+    Some(to)
+}
+
+// Moves bytes that stand before the next escape down to a place, and answers how many: all of them, or as many as a block holds.
+#[inline(always)]
+fn move_plain(bytes: &mut [u8], from: usize, to: usize) -> usize
+    requires low { to ≤ from }
+    requires within { from < length bytes.old }
+    requires begins { slice_index bytes.old from ≢ 92 }
+    ensures some { 1 ≤ result }
+    ensures moved { MovesPlain bytes.old bytes.new from to result }
+{
+    let block = block_from(bytes, from);
+    let count = plain_len(block, bytes.len() - from);
+    if from + count - to >= BLOCK {
+        // The whole block is written, since what is left to read begins where it ends, or behind that.
+        block.copy_to_slice(&mut bytes[to..]);
+        return count;
+    }
+    bytes.copy_within(from..from + count, to);
+    count
+}
+
+// How many of the first bytes of a block stand before an escape.
+#[inline(always)]
+fn plain_len(block: u8x32, most: usize) -> usize
+    ensures block { result ≤ 32 }
+    ensures most { result ≤ most }
+    ensures some { 1 ≤ most → slice_index block 0 ≢ 92 → 1 ≤ result }
+    ensures plain { (k : ℕ) → k < result → slice_index block k ≢ 92 }
+{
+    let marks = marks_of(b'\\', block);
+    let count = if marks == 0 {
+        BLOCK
+    } else {
+        first_place(marks)
+    };
+    count.min(most)
 }

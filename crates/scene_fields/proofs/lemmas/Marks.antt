@@ -1,18 +1,18 @@
--- The places of a byte in a block as the bits of its mask (for `block_from`, `find_byte`, `marks_from`, `marks_of`, `split_fields`).
-use Rattle.std.proofs.Common.{◌≡◌, ℕ, ◌+◌, ◌<◌, ◌≤◌, List, Bool, true, false, cond, length, get_or, drop, map, refl, ap, sym, ◌++◌, ◌-◌, ◌/◌, ◌%◌, ◌^◌, shr-shr, take, replicate, ◌∙◌, ◌≢◌, subst, arith, inl, inr}
+-- The places of a byte in a block as the bits of its mask (for `block_from`, `marks_from`, `marks_of`, `plain_len`, `read_bytes`, `split_fields`).
+use Rattle.std.proofs.Common.{◌≡◌, ℕ, ◌+◌, ◌<◌, ◌≤◌, List, Bool, true, false, cond, length, get_or, drop, map, refl, ap, sym, ◌++◌, ◌-◌, ◌/◌, ◌%◌, ◌^◌, shr-shr, take, replicate, ◌∙◌, length-drop, ◌≢◌, subst, arith, inl, inr}
 use Rattle.std.specs.Int.{bit_at}
 use Rattle.std.specs.Simd.Lanes.{chunk, mask_l}
 use Rattle.std.proofs.Math.ListN.{get_or-append}
-use Rattle.std.proofs.lemmas.Bool.{cases_lt}
+use Rattle.std.proofs.lemmas.Bool.{cases_lt, cases_order}
 use Rattle.std.proofs.lemmas.Bool.Decides.{nat_tests}
-use Rattle.std.proofs.Math.Seq.{get_or-append_right}
+use Rattle.std.proofs.Math.Seq.{take-length, get_or-append_right}
 use Rattle.std.proofs.lemmas.List.{get_or-drop, get_or-map, get_or_past, length-map}
 use native.Mathlib.Nat.{zero-add}
 use Rattle.std.proofs.lemmas.Simd.{bit_mask_l, get_or-chunk, get_or-replicate}
 use Rattle.std.proofs.lemmas.Nat.Bits.{bit_at-zero}
-use Rattle.memchr.specs.Find.{is_byte, Nowhere, NoneBefore, Passes}
+use Rattle.memchr.specs.Find.{is_byte, Nowhere, Passes}
 use Rattle.scene_fields.specs.Marks.{Marks}
-use Rattle.scene_fields.proofs.lemmas.Cuts.{rest_is}
+use Rattle.scene_fields.proofs.lemmas.Tabs.{IsNextPlace}
 
 -- the byte at a place, or 0
 abbrev pub get_at : List ℕ → ℕ → ℕ
@@ -74,8 +74,12 @@ marked_later b t from start s mask some end begins h = record {
 }
 
 module _ (t : List ℕ) (from : ℕ) where
+  -- the part from a place to the end
+  pub rest_is : take (length t - from) (drop from t) ≡ drop from t
+  rest_is = ap (λ n. take n (drop from t)) (sym (length-drop from t)) ∙ take-length (drop from t)
+
   rest_at : (k : ℕ) → get_or (take (length t - from) (drop from t)) k 0 ≡ get_or t (from + k) 0
-  rest_at k = ap (λ u. get_or u k 0) (rest_is t from) ∙ get_or-drop from t k 0
+  rest_at k = ap (λ u. get_or u k 0) rest_is ∙ get_or-drop from t k 0
 
   -- a whole block from a place on
   pub whole_at : (k : ℕ) → k < 32 → get_or (chunk 0 32 (take (length t - from) (drop from t))) k 0 ≡ get_or t (from + k) 0
@@ -101,51 +105,81 @@ module _ (t : List ℕ) (from : ℕ) where
             ∙ here
       ]
 
--- from at up to end, the mask has a bit for each place at which the byte stands, and it stands nowhere from start up to at
-pub record AreLeft (b : ℕ) (t : List ℕ) (start at end mask : ℕ) : Type 0 where
-  pub before : Nowhere (Passes (is_byte b) t) start at
-  pub each : (k : ℕ) → at + k < end → Passes (is_byte b) t (at + k) → bit_at mask k ≡ 1
-  pub only : (k : ℕ) → bit_at mask k ≡ 1 → (at + k < end) × Passes (is_byte b) t (at + k)
+-- where the byte stands in the block at `from`, from start on, the mask has a bit, and it stands nowhere before the block
+pub record AreKnown (b : ℕ) (t : List ℕ) (start from mask : ℕ) : Type 0 where
+  pub before : Nowhere (Passes (is_byte b) t) start from
+  pub each : (k : ℕ) → k < 32 → start ≤ from + k → Passes (is_byte b) t (from + k) → bit_at mask k ≡ 1
+  pub only : (k : ℕ) → bit_at mask k ≡ 1 → (k < 32) × Passes (is_byte b) t (from + k)
 
 -- all places of a block
-pub all_left : (b : ℕ) (t : List ℕ) (start from mask : ℕ) → Nowhere (Passes (is_byte b) t) start from → Marks b (λ k. get_or t (from + k) 0) mask → AreLeft b t start from (from + 32) mask
-all_left b t start from mask none h = record {
+pub all_known : (b : ℕ) (t : List ℕ) (start from mask : ℕ) → Nowhere (Passes (is_byte b) t) start from → Marks b (λ k. get_or t (from + k) 0) mask → AreKnown b t start from mask
+all_known b t start from mask none h = record {
   before = none;
-  each = λ k l p. h.each k (omega arith) (is_same (get_or t (from + k) 0) b p);
-  only = λ k bit. let r = h.only k bit in (omega (arith, r.0), passes_same (get_or t (from + k) 0) b r.1);
+  each = λ k l _ p. h.each k l (is_same (get_or t (from + k) 0) b p);
+  only = λ k bit. let r = h.only k bit in (r.0, passes_same (get_or t (from + k) 0) b r.1);
 }
 
-module _ (b : ℕ) (t : List ℕ) (start at end mask : ℕ) (left : AreLeft b t start at end mask) where
-  -- up to a place below which there is no bit, the byte does not stand
-  none_up_to : (place : ℕ) → place ≤ end → ((k : ℕ) → at + k < place → bit_at mask k ≡ 0) → Nowhere (Passes (is_byte b) t) start place
-  none_up_to place within clear k low high p = elim (cases_lt k at) [
-    | inl l ↦ left.before k low l p
+module _ (b : ℕ) (t : List ℕ) (start from mask : ℕ) (known : AreKnown b t start from mask) where
+  -- no bit is left: the byte does not stand in the rest of the block
+  pub none_known : mask ≡ 0 → Nowhere (Passes (is_byte b) t) start (from + 32)
+  none_known none k low high p = elim (cases_lt k from) [
+    | inl l ↦ known.before k low l p
     | inr past ↦ (
-        let is : k ≡ at + (k - at) = omega arith in
-        let set = left.each (k - at) (omega arith) (subst (λ j. Passes (is_byte b) t j) is p) in
-        let z = clear (k - at) (omega arith) in
+        let at : k ≡ from + (k - from) = omega arith in
+        let set = known.each (k - from) (omega arith) (omega arith) (subst (λ j. Passes (is_byte b) t j) at p) in
+        let z : bit_at mask (k - from) ≡ 0 = ap (λ m. bit_at m (k - from)) none ∙ bit_at-zero (k - from) in
         absurd (omega arith))
   ]
 
-  -- no bit is left
-  pub none_left : mask ≡ 0 → Nowhere (Passes (is_byte b) t) start end
-  none_left none = none_up_to end (omega arith) (λ k l. ap (λ m. bit_at m k) none ∙ bit_at-zero k)
+  module _ (place : ℕ) (set : bit_at mask place ≡ 1) (below : (k : ℕ) → k < place → bit_at mask k ≡ 0) where
+    -- the first of them, unless it stands before start, is the next place
+    pub next_known : b ≢ 0 → start ≤ from + place → IsNextPlace (is_byte b) t start (length t - start) (from + place)
+    next_known some low =
+        let here = known.only place set in
+        let inside : from + place < length t = within b t (from + place) some (is_same (get_or t (from + place) 0) b here.1) in
+        record {
+          low = low;
+          high = omega arith;
+          passes = here.1;
+          before = λ k low high p. elim (cases_lt k from) [
+            | inl l ↦ known.before k low l p
+            | inr past ↦ (
+                let at : k ≡ from + (k - from) = omega arith in
+                let there = known.each (k - from) (omega (arith, here.0)) (omega arith) (subst (λ j. Passes (is_byte b) t j) at p) in
+                let z = below (k - from) (omega arith) in
+                absurd (omega arith))
+          ];
+        }
 
-  module _ (place : ℕ) (set : bit_at mask place ≡ 1) where
-    -- the first of them is the next place
-    pub next_left : ((k : ℕ) → k < place → bit_at mask k ≡ 0) → b ≢ 0 → start ≤ at → NoneBefore (Passes (is_byte b) t) start (length t) (at + place) × Passes (is_byte b) t (at + place)
-    next_left below some low =
-        let here = left.only place set in
-        let inside : at + place < length t = within b t (at + place) some (is_same (get_or t (at + place) 0) b here.1) in
-        (record { low = omega arith; high = inside; before = none_up_to (at + place) (omega (arith, here.0)) (λ k l. below k (omega arith)) }, here.1)
-
-    -- and the others are left behind it
-    pub fewer_left : (later : ℕ) → ((k : ℕ) → bit_at later k ≡ bit_at mask (place + 1 + k)) → AreLeft b t (at + place + 1) (at + place + 1) end later
-    fewer_left later bits = record {
-      before = λ k low high p. omega arith;
-      each = λ k l p. bits k ∙ left.each (place + 1 + k) (omega arith) (subst (λ j. Passes (is_byte b) t j) (is k) p);
-      only = λ k bit. let r = left.only (place + 1 + k) (sym (bits k) ∙ bit) in (omega (arith, r.0), subst (λ j. Passes (is_byte b) t j) (sym (is k)) r.1);
+    -- and the others are known, from any later place on
+    pub fewer_known : (next later : ℕ) → start ≤ next → from + place < next → ((k : ℕ) → k < 64 → k ≢ place → bit_at later k ≡ bit_at mask k) → ((k : ℕ) → bit_at later k ≡ 1 → bit_at mask k ≡ 1)
+        → AreKnown b t next from later
+    fewer_known next later on past kept no_more = record {
+      before = λ k low high p. known.before k (omega arith) high p;
+      each = λ k l low p. kept k (omega arith) (omega arith) ∙ known.each k l (omega arith) p;
+      only = λ k bit. known.only k (no_more k bit);
     }
-      where
-        is : (k : ℕ) → at + place + 1 + k ≡ at + (place + 1 + k)
-        is k = omega arith
+
+-- the same where the mask has no bit before start
+pub record AreLeft (b : ℕ) (t : List ℕ) (start from mask : ℕ) : Type 0 where
+  pub known : AreKnown b t start from mask
+  pub ahead : (k : ℕ) → bit_at mask k ≡ 1 → start ≤ from + k
+
+-- all places of a block that begins at start or later
+pub all_left : (b : ℕ) (t : List ℕ) (start from mask : ℕ) → start ≤ from → Nowhere (Passes (is_byte b) t) start from → Marks b (λ k. get_or t (from + k) 0) mask → AreLeft b t start from mask
+all_left b t start from mask le none h = record { known = all_known b t start from mask none h; ahead = λ k bit. omega arith }
+
+-- without the first of them, the others are left behind its place
+pub fewer_left : (b : ℕ) (t : List ℕ) (start from mask : ℕ) → AreLeft b t start from mask → (place : ℕ) → bit_at mask place ≡ 1 → ((k : ℕ) → k < place → bit_at mask k ≡ 0)
+    → (later : ℕ) → bit_at later place ≡ 0 → ((k : ℕ) → k < 64 → k ≢ place → bit_at later k ≡ bit_at mask k) → ((k : ℕ) → bit_at later k ≡ 1 → bit_at mask k ≡ 1)
+    → AreLeft b t (from + place + 1) from later
+fewer_left b t start from mask left place set below later cleared kept no_more = record {
+  known = fewer_known b t start from mask left.known place set below (from + place + 1) later (omega (arith, left.ahead place set)) (omega arith) kept no_more;
+  ahead = λ k bit. elim (cases_order k place) [
+    | inl e ↦ (let z : bit_at later k ≡ 0 = ap (bit_at later) e ∙ cleared in absurd (omega arith))
+    | inr apart ↦ elim apart [
+      | inl l ↦ (let z = below k l in let o = no_more k bit in absurd (omega arith))
+      | inr g ↦ omega arith
+    ]
+  ];
+}
