@@ -86,12 +86,15 @@ impl Ord for PlacedEntry {
     }
 }
 
-// Compares as the final order does, which does not look at places.
+// Compares as the final order does, which does not look at places. Most entries that are compared are of one level.
 fn compare_order(left: &PlacedEntry, right: &PlacedEntry) -> Ordering
     ensures { result ≡ key_cmp (order_key left.now) (order_key right.now) }
 {
-    let levels = left.level.below_all().cmp(&right.level.below_all());
-    levels.then_with(|| compare_tests(&left.entry.get().test, &right.entry.get().test))
+    let (below, right_below) = (left.level.below_all(), right.level.below_all());
+    if below != right_below {
+        return below.cmp(&right_below);
+    }
+    compare_tests(&left.entry.get().test, &right.entry.get().test)
 }
 
 // Compares the iterations, then the counters, then the bytes of the binaries' ids and of the tests' names.
