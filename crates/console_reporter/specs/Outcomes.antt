@@ -38,13 +38,6 @@ abbrev pub answered_refusal : Result (Unit {0}) WriteEventError → Option Write
 answered_refusal (Ok done) = None
 answered_refusal (Err e) = refusal_in e
 
--- Of a side one text was accepted, and the error stopped the one after it.
-pub record StopsAfter {S : Type 0} (side : Side) (m : Meaning S) (old : S) (before here : Text) (e : WriteEventError) (new : S) : Type 0 where
-  -- the writer in between
-  pub mid : S
-  pub accepted : m.accepts old before mid
-  pub stopped : Stops side m mid here e new
-
 -- the text is empty or ends in a line feed
 abbrev pub IsOfLines : Text → Type 0
 IsOfLines t = (t ≡ []) ⊎ ((front : Text) × (t ≡ front ++ 10 ∷ []))

@@ -12,7 +12,7 @@ use Rattle.console_reporter.specs.Report.{past_at}
 use Rattle.console_reporter.specs.Configuration.{Configuration}
 use Rattle.run_model.specs.declared.call.ReportCall.{ReportCall}
 use Rattle.plain_text.specs.declared.write_str.WriteFault.TheVariants.{Device, Memory as RefusedMemory}
-use Rattle.console_reporter.specs.Outcomes.{IsOfConsole, Side, Stops, StopsAfter, error_for}
+use Rattle.console_reporter.specs.Outcomes.{IsOfConsole, Side, Stops, error_for}
 use Rattle.console_reporter.specs.Outcomes.Side.{Report, Records}
 use Rattle.console_reporter.specs.HeldState.{StandsAfter}
 use Rattle.console_reporter.specs.declared.imp.reporter.DisplayReporter.{DisplayReporter}
@@ -46,14 +46,14 @@ stops_device : {S : Type 0} (side : Side) (m : Meaning S) (a b : S) (t : List �
 stops_device Report m a b t h = h
 stops_device Records m a b t h = h
 
-module _ (side : Side) {S : Type 0} {m : Meaning S} (laws : WriterLaws m) (a c : S) (t u : List ℕ) (e : WriteEventError) (h : StopsAfter side m a t u e c) where
+module _ (side : Side) {S : Type 0} {m : Meaning S} (laws : WriterLaws m) (a b c : S) (t u : List ℕ) (e : WriteEventError) (accepted : m.accepts a t b) (stopped : Stops side m b u e c) where
   pub stopped_device : e ≡ error_for side Device → m.failures c ≡ successor (m.failures a)
   stopped_device is =
-      laws.device h.mid c u (stops_device side m h.mid c u (subst (λ x. Stops side m h.mid u x c) is h.stopped))
-      ∙ ap successor (laws.kept a h.mid t h.accepted).0
+      laws.device b c u (stops_device side m b c u (subst (λ x. Stops side m b u x c) is stopped))
+      ∙ ap successor (laws.kept a b t accepted).0
 
   pub stopped_known : e ≡ Failed → ⊥
-  stopped_known is = subst (λ x. Stops side m h.mid u x c) is h.stopped
+  stopped_known is = subst (λ x. Stops side m b u x c) is stopped
 
 -- a fault of the writer, as the caller of a reporter sees it
 pub stops_error : {S : Type 0} (m : Meaning S) (a b : S) (t : List ℕ) (fault : WriteFault) (e : WriteEventError) → e ≡ error_for Report fault → m.stops a t fault b → Stops Report m a t e b

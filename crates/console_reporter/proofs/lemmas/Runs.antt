@@ -2,11 +2,12 @@
 use Rattle.std.proofs.Common.{◌≡◌, ◌⊎◌, inl, inr, List, [], ◌++◌, Option, Some, None, Err, IsTrue, false, append-nil, subst, sym, ◌∙◌}
 use Rattle.std.specs.Option.{option_map_or}
 use Rattle.std.specs.Prelude.{slice_get}
-use Rattle.plain_text.specs.Writer.{Meaning, WriterLaws}
+use Rattle.plain_text.specs.Texts.{Text}
+use Rattle.plain_text.specs.Writer.{Meaning, WriterLaws, successor}
 use Rattle.reporter_state.specs.Entries.{cancel}
 use Rattle.console_reporter.specs.Accepted.{refusal_at}
 use Rattle.console_reporter.specs.Configuration.{Configuration, settings_of}
-use Rattle.console_reporter.specs.Outcomes.{StopsAfter}
+use Rattle.console_reporter.specs.Outcomes.{Stops}
 use Rattle.console_reporter.specs.Outcomes.Side.{Report, Records}
 use Rattle.console_reporter.specs.Report.{past_at, report, text_at}
 use Rattle.console_reporter.specs.OptionalStore.{store_accepts, store_may_refuse, store_meaning}
@@ -16,10 +17,11 @@ use Rattle.console_reporter.specs.Telling.{IsSameReporter, MayGrowFor, Promises,
 use Rattle.run_model.specs.declared.call.ReportCall.{ReportCall}
 use Rattle.reporter_state.specs.Refusals.{refusal_in}
 use Rattle.reporter_state.specs.declared.faults.RunFault.{RunFault}
-use Rattle.reporter_state.specs.declared.faults.WriteEventError.TheVariants.{Memory}
+use Rattle.reporter_state.specs.declared.faults.WriteEventError.TheVariants.{Failed, Io, Memory, StoreIo}
 use Rattle.console_reporter.specs.declared.imp.reporter.DisplayReporter.{DisplayReporter}
 use Rattle.console_reporter.specs.declared.imp.store.Store.{Store}
-use Rattle.console_reporter.proofs.lemmas.Stores.{same-store-after, store-laws, store-nothing}
+use Rattle.console_reporter.proofs.lemmas.Calls.{stopped_device, stopped_known}
+use Rattle.console_reporter.proofs.lemmas.Stores.{absent_stop, same-store-after, stopped_there, store-laws, store-nothing}
 
 pub same-after : {W S : Type 0} {a b c : DisplayReporter W S} → IsSameReporter a b → IsSameReporter b c → IsSameReporter a c
 same-after p q = record { writer = q.writer ∙ p.writer; store = same-store-after _ _ _ p.store q.store; settings = q.settings ∙ p.settings }
@@ -56,16 +58,35 @@ module _ {W S : Type 0} {m : Meaning W} {n : Meaning S} (laws : WriterLaws m) (s
     pub run_refusal : refusal_at config calls stop.position ≡ refusal_in stop.fault
     run_refusal = sym (h.2.refused config _ (h.1.stands config stands))
 
-    pub run_stopped : StopsAfter Report m old.writer.now (report config (past_at calls stop.position)) (text_at config calls stop.position) stop.fault new.writer.now
-    run_stopped = record { mid = h.0.writer.now; accepted = h.1.accepted config stands; stopped = h.2.err.stopped config _ (h.1.stands config stands) }
+    -- the text of the calls before, and of this one
+    abbrev before : Text
+    before = report config (past_at calls stop.position)
 
-    pub records_stopped : StopsAfter Records (store_meaning n) old.store (stored config.store (past_at calls stop.position)) (stored_at config.store calls stop.position) stop.fault new.store
-    records_stopped = record { mid = h.0.store; accepted = h.1.stored config stands; stopped = h.2.err.store_stopped config _ (h.1.stands config stands) }
+    abbrev here : Text
+    here = text_at config calls stop.position
 
-    text_first : store_accepts n old.store (stored config.store (past_at calls stop.position)) new.store
-        ⊎ m.accepts old.writer.now (report config (past_at calls stop.position) ++ text_at config calls stop.position) new.writer.now
+    pub run_stopped : (mid : W) × m.accepts old.writer.now before mid × Stops Report m mid here stop.fault new.writer.now
+    run_stopped = (h.0.writer.now, h.1.accepted config stands, h.2.err.stopped config _ (h.1.stands config stands))
+
+    pub run_failed : stop.fault ≡ Io → m.failures new.writer.now ≡ successor (m.failures old.writer.now)
+    run_failed = let s = run_stopped in stopped_device Report laws old.writer.now s.0 new.writer.now before here stop.fault s.1 s.2
+
+    pub run_known : stop.fault ≡ Failed → ⊥
+    run_known = let s = run_stopped in stopped_known Report laws old.writer.now s.0 new.writer.now before here stop.fault s.1 s.2
+
+    -- their records
+    abbrev stored_before : Text
+    stored_before = stored config.store (past_at calls stop.position)
+
+    abbrev stored_here : Text
+    stored_here = stored_at config.store calls stop.position
+
+    records_stopped : Stops Records (store_meaning n) h.0.store stored_here stop.fault new.store
+    records_stopped = h.2.err.store_stopped config _ (h.1.stands config stands)
+
+    text_first : store_accepts n old.store stored_before new.store ⊎ m.accepts old.writer.now (before ++ here) new.writer.now
     text_first = elim (h.2.err.order config _ (h.1.stands config stands)) [
-      | inl same ↦ inl (subst (λ s. store_accepts n old.store (stored config.store (past_at calls stop.position)) s) (sym same) (h.1.stored config stands))
+      | inl same ↦ inl (subst (λ s. store_accepts n old.store stored_before s) (sym same) (h.1.stored config stands))
       | inr told ↦ inr (laws.joins _ _ _ _ _ (h.1.accepted config stands) told)
     ]
 
@@ -77,14 +98,29 @@ module _ {W S : Type 0} {m : Meaning W} {n : Meaning S} (laws : WriterLaws m) (s
     ]
 
     -- with a store
-    pub text_first_there : {a b : Store S} → old.store ≡ Some a → new.store ≡ Some b → n.accepts a.writer.now (stored config.store (past_at calls stop.position)) b.writer.now
-        ⊎ m.accepts old.writer.now (report config (past_at calls stop.position) ++ text_at config calls stop.position) new.writer.now
+    pub records_there : {a b : Store S} → old.store ≡ Some a → new.store ≡ Some b → (mid : S) × n.accepts a.writer.now stored_before mid × Stops Records n mid stored_here stop.fault b.writer.now
+    records_there {a} {b} old_is new_is =
+        stopped_there n a b h.0.store stored_before stored_here stop.fault
+        (subst (λ x. store_accepts n x stored_before h.0.store) old_is (h.1.stored config stands))
+        (subst (λ x. Stops Records (store_meaning n) h.0.store stored_here stop.fault x) new_is records_stopped)
+
+    pub records_failed : {a b : Store S} → old.store ≡ Some a → new.store ≡ Some b → stop.fault ≡ StoreIo → n.failures b.writer.now ≡ successor (n.failures a.writer.now)
+    records_failed {a} {b} old_is new_is = let s = records_there old_is new_is in stopped_device Records store_laws a.writer.now s.0 b.writer.now stored_before stored_here stop.fault s.1 s.2
+
+    pub text_first_there : {a b : Store S} → old.store ≡ Some a → new.store ≡ Some b → n.accepts a.writer.now stored_before b.writer.now ⊎ m.accepts old.writer.now (before ++ here) new.writer.now
     text_first_there old_is new_is = let s = text_first in rw (old_is, new_is) at s
 
     pub memory_there : {a : Store S} → old.store ≡ Some a → stop.fault ≡ Memory → m.may_refuse old.writer.now ⊎ MayGrowAt config calls stop.position ⊎ n.may_refuse a.writer.now
     memory_there old_is is = let s = memory is in rw old_is at s
 
-    -- without one, by the writer that the reporter began with
+    -- without one
+    pub no_store_fails : old.store ≡ None → stop.fault ≡ StoreIo → ⊥
+    no_store_fails none is =
+        absent_stop n h.0.store stored_before stored_here new.store
+        (subst (λ x. store_accepts n x stored_before h.0.store) none (h.1.stored config stands))
+        (subst (λ x. Stops Records (store_meaning n) h.0.store stored_here x new.store) is records_stopped)
+
+    -- by the writer that the reporter began with
     pub memory_alone : {w : W} → old.writer.now ≡ w → old.store ≡ None → stop.fault ≡ Memory → m.may_refuse w ⊎ MayGrowAt config calls stop.position
     memory_alone same none is = elim (memory is) [
       | inl w ↦ inl (subst m.may_refuse same w)

@@ -1,9 +1,9 @@
 -- A store that may be absent obeys the laws of writers (for `DisplayReporter::make_calls`, `run_report_with_store`).
-use Rattle.std.proofs.Common.{◌≡◌, ℕ, List, [], ◌++◌, Option, None, Some, refl, ap, subst, ◌∙◌, inl, inr}
+use Rattle.std.proofs.Common.{◌≡◌, ℕ, List, [], ◌++◌, Option, None, Some, refl, ap, ◌∙◌, inl, inr}
 use Rattle.std.specs.Io.KnownBytes.{Appends}
 use Rattle.plain_text.specs.Writer.{AppendsFront, Meaning, WriterLaws, successor}
 use Rattle.plain_text.specs.declared.write_str.WriteFault.TheVariants.{Device, Memory as RefusedMemory}
-use Rattle.console_reporter.specs.Outcomes.{Stops, StopsAfter}
+use Rattle.console_reporter.specs.Outcomes.{Stops}
 use Rattle.console_reporter.specs.Outcomes.Side.{Records}
 use Rattle.console_reporter.specs.HeldState.{StandsAfter}
 use Rattle.console_reporter.specs.Configuration.{Configuration}
@@ -121,22 +121,12 @@ module _ {S : Type 0} (m : Meaning S) where
   stops_there a b t Memory (inr h) = inr (record { front = h.front; rest = h.rest; whole = h.whole; accepted = h.accepted })
   stops_there a b t Failed h = h
 
-  stopped_mid : (a b : Store S) (mid : Option (Store S)) (t u : List ℕ) (e : WriteEventError) → store_accepts m (Some a) t mid → Stops Records (store_meaning m) mid u e (Some b) → StopsAfter Records m a.writer.now t u e b.writer.now
-  stopped_mid a b None t u e before stopped = absurd before
-  stopped_mid a b (Some x) t u e before stopped = record { mid = x.writer.now; accepted = before; stopped = stops_there x b u e stopped }
-
-  pub stopped_there : {old new : Option (Store S)} {a b : Store S} {t u : List ℕ} {e : WriteEventError} → old ≡ Some a → new ≡ Some b → StopsAfter Records (store_meaning m) old t u e new → StopsAfter Records m a.writer.now t u e b.writer.now
-  stopped_there {old} {new} {a} {b} {t} {u} {e} old_is new_is h =
-      let s = subst (λ x. StopsAfter Records (store_meaning m) x t u e new) old_is h in
-      let z = subst (λ x. StopsAfter Records (store_meaning m) (Some a) t u e x) new_is s in
-      stopped_mid a b z.mid t u e z.accepted z.stopped
+  pub stopped_there : (a b : Store S) (mid : Option (Store S)) (t u : List ℕ) (e : WriteEventError) → store_accepts m (Some a) t mid → Stops Records (store_meaning m) mid u e (Some b)
+      → (there : S) × m.accepts a.writer.now t there × Stops Records m there u e b.writer.now
+  stopped_there a b None t u e before stopped = absurd before
+  stopped_there a b (Some x) t u e before stopped = (x.writer.now, before, stops_there x b u e stopped)
 
   -- where there is no store, none fails
-  absent_mid : (mid : Option (Store S)) (t u : List ℕ) (new : Option (Store S)) → store_accepts m None t mid → Stops Records (store_meaning m) mid u StoreIo new → ⊥
-  absent_mid None t u new before stopped = stopped
-  absent_mid (Some x) t u new before stopped = before
-
-  pub absent_stop : {old new : Option (Store S)} {t u : List ℕ} {e : WriteEventError} → old ≡ None → StopsAfter Records (store_meaning m) old t u e new → e ≡ StoreIo → ⊥
-  absent_stop {old} {new} {t} {u} {e} none h is =
-      let s = subst (λ x. StopsAfter Records (store_meaning m) x t u e new) none h in
-      absent_mid s.mid t u new s.accepted (subst (λ x. Stops Records (store_meaning m) s.mid u x new) is s.stopped)
+  pub absent_stop : (mid : Option (Store S)) (t u : List ℕ) (new : Option (Store S)) → store_accepts m None t mid → Stops Records (store_meaning m) mid u StoreIo new → ⊥
+  absent_stop None t u new before stopped = stopped
+  absent_stop (Some x) t u new before stopped = before

@@ -10,7 +10,7 @@ ghost use Rattle.console_reporter.specs.ColourLaw.{ColourLaw, IsSameStoredInColo
 ghost use Rattle.console_reporter.specs.Configuration.{Configuration, configured, configured_with_store};
 ghost use Rattle.console_reporter.specs.OrderIndependence.{IsOrderIndependent};
 ghost use Rattle.reporter_state.specs.Refusals.{refusal_in};
-ghost use Rattle.console_reporter.specs.Outcomes.{StopsAfter};
+ghost use Rattle.console_reporter.specs.Outcomes.{Stops};
 ghost use Rattle.console_reporter.specs.Outcomes.Side.{Report, Records};
 ghost use Rattle.console_reporter.specs.PlainLaw.{PlainLaw};
 ghost use Rattle.console_reporter.specs.Report.{past_at, report, text, text_at, report_texts};
@@ -65,7 +65,8 @@ pub fn run_report<W: WriteStr>(
     ensures refused { let config = configured builder use_unicode is_terminal is_ci display_empty_outputs in
         IfErr result (λ stop. refusal_at config calls.now stop.position ≡ refusal_in stop.fault) }
     ensures err { let config = configured builder use_unicode is_terminal is_ci display_empty_outputs in
-        IfErr result (λ stop. StopsAfter Report W.meaning writer.old (report config (past_at calls.now stop.position)) (text_at config calls.now stop.position) stop.fault writer.new) }
+        IfErr result (λ stop. (mid : W) × W.meaning.accepts writer.old (report config (past_at calls.now stop.position)) mid
+        × Stops Report W.meaning mid (text_at config calls.now stop.position) stop.fault writer.new) }
     ensures no_failure { OnOk result (W.meaning.failures writer.new ≡ W.meaning.failures writer.old) }
     ensures io { IfErr result (λ stop. stop.fault ≡ WriteEventError.Io → W.meaning.failures writer.new ≡ successor (W.meaning.failures writer.old)) }
     ensures memory { let config = configured builder use_unicode is_terminal is_ci display_empty_outputs in
@@ -139,8 +140,10 @@ pub fn run_report_with_store<W: WriteStr, S: WriteStr>(
     ensures refused { let config = configured_with_store store builder use_unicode is_terminal is_ci display_empty_outputs in
         IfErr result (λ stop. refusal_at config calls.now stop.position ≡ refusal_in stop.fault) }
     ensures err { let config = configured_with_store store builder use_unicode is_terminal is_ci display_empty_outputs in
-        IfErr result (λ stop. StopsAfter Report W.meaning writer.old (report config (past_at calls.now stop.position)) (text_at config calls.now stop.position) stop.fault writer.new) }
-    ensures store_err { IfErr result (λ stop. StopsAfter Records S.meaning store_writer.old (stored (Some store) (past_at calls.now stop.position)) (stored_at (Some store) calls.now stop.position) stop.fault store_writer.new) }
+        IfErr result (λ stop. (mid : W) × W.meaning.accepts writer.old (report config (past_at calls.now stop.position)) mid
+        × Stops Report W.meaning mid (text_at config calls.now stop.position) stop.fault writer.new) }
+    ensures store_err { IfErr result (λ stop. (mid : S) × S.meaning.accepts store_writer.old (stored (Some store) (past_at calls.now stop.position)) mid
+        × Stops Records S.meaning mid (stored_at (Some store) calls.now stop.position) stop.fault store_writer.new) }
     ensures text_first { let config = configured_with_store store builder use_unicode is_terminal is_ci display_empty_outputs in
         IfErr result (λ stop. S.meaning.accepts store_writer.old (stored (Some store) (past_at calls.now stop.position)) store_writer.new
         ⊎ W.meaning.accepts writer.old (report config (past_at calls.now stop.position) ++ text_at config calls.now stop.position) writer.new) }

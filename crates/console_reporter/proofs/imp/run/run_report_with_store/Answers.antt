@@ -2,12 +2,10 @@ use Rattle.std.proofs.Common.{take, rules}
 use Rattle.console_reporter.specs.Accepted.{AreAccepted}
 use Rattle.console_reporter.specs.Configuration.{configured_with_store}
 use Rattle.std.proofs.lemmas.Result.{on_ok_weaker, IfErr-weaker}
-use Rattle.console_reporter.specs.Outcomes.Side.{Report, Records}
-use Rattle.console_reporter.proofs.lemmas.Calls.{err_here, ok_here, stopped_device, stopped_known}
+use Rattle.console_reporter.proofs.lemmas.Calls.{err_here, ok_here}
 use Rattle.console_reporter.proofs.lemmas.Independence.{order_independent, stats_independent}
 use Rattle.console_reporter.proofs.lemmas.ReportColourPairs.{colour_holds, plain_holds}
-use Rattle.console_reporter.proofs.lemmas.Runs.{memory_there, records_stopped, run_refusal, run_stopped, stored_there, text_first_there}
-use Rattle.console_reporter.proofs.lemmas.Stores.{stopped_there}
+use Rattle.console_reporter.proofs.lemmas.Runs.{memory_there, records_failed, records_there, run_failed, run_known, run_refusal, run_stopped, stored_there, text_first_there}
 use Rattle.console_reporter.proofs.imp.run.run_report_with_store.Goals as goal
 
 pub returns-in-Some-clause-accepted : goal.returns-in-Some-clause-accepted
@@ -36,8 +34,7 @@ returns-in-Some-clause-err g c =
 pub returns-in-Some-clause-store_err : goal.returns-in-Some-clause-store_err
 returns-in-Some-clause-store_err g c =
     let built = c.build_with_store-reporter.ensures in
-    let h = IfErr-weaker _ _ _ (λ stop h. stopped_there g.S.WriteStr.meaning built.store c.in-Some.is
-    (records_stopped g.met.W.WriteStr.laws g.met.S.WriteStr.laws _ c.args.calls.now built.stands stop h)) c.make_calls-outcome.ensures.err in
+    let h = IfErr-weaker _ _ _ (λ stop h. records_there g.met.W.WriteStr.laws g.met.S.WriteStr.laws _ c.args.calls.now built.stands stop h built.store c.in-Some.is) c.make_calls-outcome.ensures.err in
     search rules
 
 pub returns-in-Some-clause-text_first : goal.returns-in-Some-clause-text_first
@@ -59,13 +56,19 @@ pub returns-in-Some-clause-no_failure : goal.returns-in-Some-clause-no_failure
 returns-in-Some-clause-no_failure g c = on_ok_weaker _ (λ h. (g.met.W.WriteStr.laws.kept _ _ _ h).0) (returns-in-Some-clause-ok g c)
 
 pub returns-in-Some-clause-io : goal.returns-in-Some-clause-io
-returns-in-Some-clause-io g c = IfErr-weaker _ _ _ (λ stop h. stopped_device Report g.met.W.WriteStr.laws _ _ _ _ _ h) (returns-in-Some-clause-err g c)
+returns-in-Some-clause-io g c =
+    let h = IfErr-weaker _ _ _ (run_failed g.met.W.WriteStr.laws g.met.S.WriteStr.laws _ c.args.calls.now c.build_with_store-reporter.ensures.stands) c.make_calls-outcome.ensures.err in
+    search rules
 
 pub returns-in-Some-clause-store_io : goal.returns-in-Some-clause-store_io
-returns-in-Some-clause-store_io g c = IfErr-weaker _ _ _ (λ stop h. stopped_device Records g.met.S.WriteStr.laws _ _ _ _ _ h) (returns-in-Some-clause-store_err g c)
+returns-in-Some-clause-store_io g c =
+    let built = c.build_with_store-reporter.ensures in
+    let h = IfErr-weaker _ _ _ (λ stop h. records_failed g.met.W.WriteStr.laws g.met.S.WriteStr.laws _ c.args.calls.now built.stands stop h built.store c.in-Some.is) c.make_calls-outcome.ensures.err in
+    search rules
 
 pub returns-in-Some-clause-known : goal.returns-in-Some-clause-known
-returns-in-Some-clause-known g c = IfErr-weaker _ _ _ (λ stop h. stopped_known Report g.met.W.WriteStr.laws _ _ _ _ _ h) (returns-in-Some-clause-err g c)
+returns-in-Some-clause-known g c =
+    IfErr-weaker _ _ _ (run_known g.met.W.WriteStr.laws g.met.S.WriteStr.laws _ c.args.calls.now c.build_with_store-reporter.ensures.stands) c.make_calls-outcome.ensures.err
 
 pub returns-in-Some-clause-colour : goal.returns-in-Some-clause-colour
 returns-in-Some-clause-colour g c = colour_holds (configured_with_store c.args.store c.args.builder c.args.use_unicode c.args.is_terminal c.args.is_ci c.args.display_empty_outputs) c.args.calls.now
