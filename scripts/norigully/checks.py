@@ -50,7 +50,7 @@ def words_of(file, name):
 def line_words():
     """The words of all kinds of line: `config`, and those of the rows of lines that tell an event, as in `(codes "run",
     exactly 5 ..)`."""
-    text = (CRATES / "scene_text/specs/Lines.antt").read_text()
+    text = (CRATES / "scene_text/specs/EventLines.antt").read_text()
     return {"config", *re.findall(r'^ +(?:∷ )?\(codes "(.*?)", ', text, re.M)}
 
 

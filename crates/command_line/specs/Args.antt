@@ -1,6 +1,6 @@
 -- What the words of a command line ask for.
-use Rattle.std.specs.Prelude.{ℕ, List, [], ◌∷◌, ◌++◌, map, Bool, true, false, not, ◌&&◌, ◌||◌, if◌then◌else◌, Option, None, Some, is_some, unwrap_or, String, string_bytes, codes, bytes_eq}
-use Rattle.std.specs.Option.{option_map, option_and_then}
+use Rattle.std.specs.Prelude.{ℕ, List, [], ◌∷◌, ◌++◌, map, Bool, true, false, not, ◌&&◌, ◌||◌, if◌then◌else◌, Option, None, Some, is_none, is_some, unwrap_or, String, string_bytes, codes, bytes_eq}
+use Rattle.std.specs.Option.{option_map, option_and_then, option_or}
 use Rattle.std.specs.declared.alloc.Global.{Global}
 use Rattle.run_names.specs.declared.level.StatusLevel.{StatusLevel}
 use Rattle.run_names.specs.declared.level.StatusLevel.TheVariants as status
@@ -31,58 +31,26 @@ pub record Asked : Type 0 where
   pub store : Option AskedStore
   pub file : Text
 
--- options as a value
-pub record Said : Type 0 where
-  pub color : Bool
-  pub counter : Bool
-  pub replay : Bool
-  pub unload : Bool
-  pub level : Option StatusLevel
-  pub store : Option Text
-  pub store_success : Bool
-  pub store_failure : Bool
-
--- the options that were read so far, as a value
-abbrev pub said : ArgsSoFar → Said
-said given = record {
-  color = given.color;
-  counter = given.counter;
-  replay = given.replay;
-  unload = given.unload;
-  level = given.level;
-  store = option_map (λ path. path.now) given.store;
-  store_success = given.store_success;
-  store_failure = given.store_failure;
-}
-
--- the records that options ask for
-abbrev pub asked_store : Said → Text → AskedStore
-asked_store options path = record { file = path; config = record { store_success_output = options.store_success; store_failure_output = options.store_failure } }
-
--- some output is to be kept, and there are no records
-abbrev pub lacks_store : Said → Bool
-lacks_store options = not (is_some options.store) && (options.store_success || options.store_failure)
-
--- what these options ask for of a file, if they are used rightly
-abbrev pub asked_of : Said → Text → Option Asked
-asked_of options file =
-    if lacks_store options then None
+-- what these options ask for of a file and of records, if they are used rightly: without records no output is kept
+abbrev pub asked_of : ArgsSoFar → Option Text → Text → Option Asked
+asked_of options store file =
+    if is_none store && (options.store_success || options.store_failure) then None
     else Some (record {
       should_colorize = options.color;
       show_counter = options.counter;
       is_replay = options.replay;
       unload_skipped = options.unload;
       status_level = unwrap_or options.level status.Pass;
-      store = option_map (asked_store options) options.store;
+      store = option_map (λ path. record { file = path; config = record { store_success_output = options.store_success; store_failure_output = options.store_failure } }) store;
       file = file;
     })
 
 -- no option
-abbrev pub nothing_said : Said
-nothing_said = record { color = false; counter = false; replay = false; unload = false; level = None; store = None; store_success = false; store_failure = false }
+abbrev pub nothing_said : ArgsSoFar
+nothing_said = record { color = false; counter = false; replay = false; unload = false; level = None; store_success = false; store_failure = false }
 
 -- these options and a flag, if it is one and was not there before
-abbrev pub with_flag : Said → Text → Option Said
+abbrev pub with_flag : ArgsSoFar → Text → Option ArgsSoFar
 with_flag options flag =
     if bytes_eq flag (codes "--color") && not options.color then Some (record options { color = true })
     else (if bytes_eq flag (codes "--counter") && not options.counter then Some (record options { counter = true })
@@ -106,36 +74,28 @@ level_of word =
     else None)))))))
 
 -- these options and the word of a status level, if it is one and no level was there before
-abbrev pub with_level : Said → Text → Option Said
+abbrev pub with_level : ArgsSoFar → Text → Option ArgsSoFar
 with_level options word =
     if is_some options.level then None
     else option_map (λ level. record options { level = Some level }) (level_of word)
 
--- these options and where records go, if that was not given before
-abbrev pub with_store : Said → Text → Option Said
-with_store options path = if is_some options.store then None else Some (record options { store = Some path })
-
--- what words ask for after these options, if they are used rightly: the last one is the file, a level follows `--level`, and the file
--- of the records follows `--store`
-unfoldable pub options_after : Said → List Text → Option Asked
-options_after options [] = None
-options_after options (file ∷ []) = asked_of options file
-options_after options (option ∷ word ∷ rest) =
-    if bytes_eq option (codes "--level") then option_and_then (λ more. options_after more rest) (with_level options word)
-    else (if bytes_eq option (codes "--store") then option_and_then (λ more. options_after more rest) (with_store options word)
-    else option_and_then (λ more. options_after more (word ∷ rest)) (with_flag options option))
+-- what words ask for after these options and where records go, if they are used rightly: the last one is the file, a level follows
+-- `--level`, and the file of the records follows `--store`
+unfoldable pub options_after : ArgsSoFar → Option Text → List Text → Option Asked
+options_after options store [] = None
+options_after options store (file ∷ []) = asked_of options store file
+options_after options store (option ∷ word ∷ rest) =
+    if bytes_eq option (codes "--level") then option_and_then (λ more. options_after more store rest) (with_level options word)
+    else (if bytes_eq option (codes "--store") then (if is_some store then None else options_after options (Some word) rest)
+    else option_and_then (λ more. options_after more store (word ∷ rest)) (with_flag options option))
 
 -- what these words ask for, if they are used rightly
 abbrev pub options_of : List Text → Option Asked
-options_of words = options_after nothing_said words
+options_of words = options_after nothing_said None words
 
 -- the same where standard input is the file `-`, and is read if no file is named
-abbrev pub or_else : Option Asked → Option Asked → Option Asked
-or_else None other = other
-or_else (Some asked) other = Some asked
-
 abbrev pub options_or_input : List Text → Option Asked
-options_or_input words = or_else (options_of (words ++ codes "-" ∷ [])) (options_of words)
+options_or_input words = option_or (options_of (words ++ codes "-" ∷ [])) (options_of words)
 
 -- the records that the program took them to ask for
 abbrev pub store_asked_for : StoreOptions → AskedStore

@@ -1,10 +1,11 @@
 -- The message of a fault, and the status that the program ends with.
-use Rattle.std.specs.Prelude.{◌≡◌, ℕ, List, ◌++◌, codes, decimal, ⊤}
+use Rattle.std.specs.Prelude.{ℕ, List, ◌++◌, codes, decimal, ⊤}
 use Rattle.std.specs.declared.io.ErrorKind.{ErrorKind}
 use Rattle.std.specs.declared.io.ErrorKind.TheVariants as kind
 use Rattle.scene_fields.specs.Faults.{line_fault_text}
 use Rattle.scene_fields.specs.declared.fault.ReadFault.{ReadFault}
 use Rattle.scene_fields.specs.declared.fault.ReadFault.TheVariants as read
+use Rattle.command_line.specs.Pieces.{IsUnread}
 use Rattle.command_line.specs.declared.fault.Fault.{Fault}
 use Rattle.command_line.specs.declared.fault.Fault.TheVariants as fault
 use Rattle.command_line.specs.declared.fault.FaultLine.{FaultLine}
@@ -21,26 +22,22 @@ fault_text fault.WriteFailed = codes "write failed"
 fault_text fault.StoreFailed = codes "store write failed"
 fault_text fault.OutOfMemory = codes "out of memory"
 
-abbrev pub program_name : Program → List ℕ
-program_name program.Report = codes "report"
-program_name program.Follow = codes "follow"
-program_name program.Replay = codes "replay"
-
-abbrev pub operand_of : Program → List ℕ
-operand_of program.Report = codes "FILE"
-operand_of program.Follow = codes "[FILE]"
-operand_of program.Replay = codes "DIR"
+-- the name of a program, and what it reads, as the last of the words that it takes
+abbrev pub program_words : Program → List ℕ × List ℕ
+program_words program.Report = (codes "report", codes "FILE")
+program_words program.Follow = (codes "follow", codes "[FILE]")
+program_words program.Replay = (codes "replay", codes "DIR")
 
 -- what a program says of a fault: of wrong words, the words that it takes
 abbrev pub said_by : Program → Fault → List ℕ
 said_by by fault.Usage =
-    codes "usage: " ++ (program_name by
-    ++ (codes " [--color] [--counter] [--replay] [--unload] [--level L] [--store PATH] [--store-success] [--store-failure] " ++ operand_of by))
+    codes "usage: " ++ ((program_words by).0
+    ++ (codes " [--color] [--counter] [--replay] [--unload] [--level L] [--store PATH] [--store-success] [--store-failure] " ++ (program_words by).1))
 said_by by other = fault_text other
 
 -- the line on standard error
 abbrev pub fault_line : FaultLine → List ℕ
-fault_line it = program_name it.program ++ (codes ": " ++ said_by it.program it.fault)
+fault_line it = (program_words it.program).0 ++ (codes ": " ++ said_by it.program it.fault)
 
 -- 2 where nothing was printed, 3 where a beginning of the report was
 abbrev pub status_of : Fault → ℕ
@@ -51,10 +48,8 @@ status_of _ = 2
 
 -- a line of a scene is wrong, memory was refused, or this file cannot be read
 abbrev pub IsJudgeFault : List ℕ → Fault → Type 0
-IsJudgeFault file (fault.CannotRead f) = f.now ≡ file
 IsJudgeFault file (fault.Line n f) = ⊤
-IsJudgeFault file fault.OutOfMemory = ⊤
-IsJudgeFault file _ = ⊥
+IsJudgeFault file other = IsUnread file other
 
 -- the fault of a scene that could not be read
 abbrev pub fault_of_read : ReadFault → Fault

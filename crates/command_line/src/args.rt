@@ -4,7 +4,7 @@
 
 ghost use Rattle.std.specs.Prelude.{◌≡◌, true, if◌then◌else◌, Some, None, IfOk};
 ghost use Rattle.std.specs.Option.{option_map};
-ghost use Rattle.command_line.specs.Args.{options_after, options_of, options_or_input, asked, asked_of, said, texts, with_flag, with_level, with_store, level_of};
+ghost use Rattle.command_line.specs.Args.{options_after, options_of, options_or_input, asked, asked_of, texts, with_flag, with_level, level_of};
 
 use run_model::level::StatusLevel;
 use run_model::memory::OutOfMemory;
@@ -54,7 +54,7 @@ pub struct StoreOptions<'a> {
 pub fn words(words: &[String]) -> Option<Options<'_>>
     ensures { asked result ≡ options_of (texts words.now) }
 {
-    ArgsSoFar::default().followed_by(words)
+    ArgsSoFar::default().followed_by(None, words)
 }
 
 /// The same for a program that reads standard input, which is the file `-`, where no file is named: that word is pushed, and counts
@@ -73,45 +73,44 @@ pub fn words_or_input<'a>(
 {
     let input = String::from_str(alloc, "-")?;
     given.push(input)?;
-    match words(given.as_slice()) {
-        Some(options) => Ok(Some(options)),
-        None => Ok(words(&given[..given.len() - 1])),
-    }
+    Ok(words(given.as_slice()).or(words(&given[..given.len() - 1])))
 }
 
-// The options that were read so far.
+// The options that were read so far, but for where records go.
 #[derive(Clone, Copy, Default)]
-struct ArgsSoFar<'a> {
+struct ArgsSoFar {
     color: bool,
     counter: bool,
     replay: bool,
     unload: bool,
     level: Option<StatusLevel>,
-    store: Option<&'a str>,
     store_success: bool,
     store_failure: bool,
 }
 
-impl<'a> ArgsSoFar<'a> {
-    // What they ask for with these words after them. No option stands twice, so few calls nest.
+impl ArgsSoFar {
+    // What they ask for with records that go there, and these words after them. No option stands twice, so few calls nest.
     #[tactic(auto, unfolding(crate::specs::Args::options_after))]
-    fn followed_by(self, words: &'a [String]) -> Option<Options<'a>>
-        ensures { asked result ≡ options_after (said self.entry) (texts words.now) }
+    fn followed_by<'a>(self, store: Option<&'a str>, words: &'a [String]) -> Option<Options<'a>>
+        ensures { asked result ≡ options_after self (option_map (λ path. path.now) store.entry) (texts words.now) }
     {
         let (first, after) = words.split_first()?;
         let Some((second, others)) = after.split_first() else {
-            return self.options(first.as_str());
+            return self.options(store, first.as_str());
         };
         match first.as_str() {
-            "--level" => self.with_level(second.as_str())?.followed_by(others),
-            "--store" => self.with_store(second.as_str())?.followed_by(others),
-            flag => self.with_flag(flag)?.followed_by(after),
+            "--level" => self.with_level(second.as_str())?.followed_by(store, others),
+            "--store" => match store {
+                Some(_) => None,
+                None => self.followed_by(Some(second.as_str()), others),
+            },
+            flag => self.with_flag(flag)?.followed_by(store, after),
         }
     }
 
     // These options and a flag, which is an option of one word. It is None where the flag is unknown or was there before.
-    fn with_flag(mut self, flag: &str) -> Option<ArgsSoFar<'a>>
-        ensures { option_map said result ≡ with_flag (said self.entry) flag.now }
+    fn with_flag(mut self, flag: &str) -> Option<ArgsSoFar>
+        ensures { result ≡ with_flag self flag.now }
     {
         match flag {
             "--color" => set_first(&mut self.color)?,
@@ -126,8 +125,8 @@ impl<'a> ArgsSoFar<'a> {
     }
 
     // These options and the word of a status level. It is None where that is none, or a level was there before.
-    fn with_level(self, word: &str) -> Option<ArgsSoFar<'a>>
-        ensures { option_map said result ≡ with_level (said self.entry) word.now }
+    fn with_level(self, word: &str) -> Option<ArgsSoFar>
+        ensures { result ≡ with_level self word.now }
     {
         if self.level.is_some() {
             return None;
@@ -139,24 +138,11 @@ impl<'a> ArgsSoFar<'a> {
         })
     }
 
-    // These options and where records go. It is None where that was said before.
-    fn with_store(self, path: &'a str) -> Option<ArgsSoFar<'a>>
-        ensures { option_map said result ≡ with_store (said self.entry) path.now }
+    // What they ask for of a file and of records. It is None where outputs are to be kept, and no records.
+    fn options<'a>(self, store: Option<&'a str>, file: &'a str) -> Option<Options<'a>>
+        ensures { asked result ≡ asked_of self (option_map (λ path. path.now) store.entry) file.now }
     {
-        match self.store {
-            Some(_) => None,
-            None => Some(ArgsSoFar {
-                store: Some(path),
-                ..self
-            }),
-        }
-    }
-
-    // What they ask for of a file. It is None where outputs are to be kept, and no records.
-    fn options(self, file: &'a str) -> Option<Options<'a>>
-        ensures { asked result ≡ asked_of (said self.entry) file.now }
-    {
-        let store = match self.store {
+        let store = match store {
             Some(path) => Some(StoreOptions {
                 file: path,
                 config: StoreConfig {

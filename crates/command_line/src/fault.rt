@@ -2,7 +2,7 @@
 
 ghost use Rattle.std.specs.Prelude.{◌≡◌, Some};
 ghost use Rattle.command_line.specs.declared.fault.Fault.TheVariants.{OutOfMemory};
-ghost use Rattle.command_line.specs.Faults.{fault_by_kind, fault_line, fault_of_read, fault_text, operand_of, program_name, status_of};
+ghost use Rattle.command_line.specs.Faults.{fault_by_kind, fault_line, fault_of_read, fault_text, program_words, status_of};
 
 use run_model::memory::OutOfMemory;
 pub use scene_fields::fault::{LineFault, ReadFault};
@@ -116,25 +116,14 @@ pub enum Program {
 }
 
 impl Program {
-    // Its name.
-    fn name(self) -> &'static str
-        ensures { result.now ≡ program_name self }
+    // Its name, and what it reads, as the last of the words that it takes.
+    fn words(self) -> (&'static str, &'static str)
+        ensures { (result.0.now, result.1.now) ≡ program_words self }
     {
         match self {
-            Program::Report => "report",
-            Program::Follow => "follow",
-            Program::Replay => "replay",
-        }
-    }
-
-    // What it reads, as the last of the words that it takes.
-    fn operand(self) -> &'static str
-        ensures { result.now ≡ operand_of self }
-    {
-        match self {
-            Program::Report => "FILE",
-            Program::Follow => "[FILE]",
-            Program::Replay => "DIR",
+            Program::Report => ("report", "FILE"),
+            Program::Follow => ("follow", "[FILE]"),
+            Program::Replay => ("replay", "DIR"),
         }
     }
 }
@@ -143,15 +132,12 @@ impl fmt::Display for FaultLine<'_> {
     ghost output = { λ line. Some (fault_line line) };
 
     fn fmt<W: fmt::Write>(&self, f: &mut Formatter<W>) -> fmt::Result {
-        let name = self.program.name();
+        let (name, operand) = self.program.words();
         match self.fault {
-            Fault::Usage => {
-                let operand = self.program.operand();
-                write!(
-                    f,
-                    "{name}: usage: {name} [--color] [--counter] [--replay] [--unload] [--level L] [--store PATH] [--store-success] [--store-failure] {operand}"
-                )
-            }
+            Fault::Usage => write!(
+                f,
+                "{name}: usage: {name} [--color] [--counter] [--replay] [--unload] [--level L] [--store PATH] [--store-success] [--store-failure] {operand}"
+            ),
             fault => write!(f, "{name}: {fault}"),
         }
     }

@@ -1,4 +1,2 @@
 pub mod Attempts
-pub mod Days
-pub mod EmptyOutputs
 pub mod Tellings

@@ -1,5 +1,5 @@
--- The fields of the lines that are events: of tests, of setup scripts and what both wrote, of the answers of both, of the run, and of a replay.
-use Rattle.std.specs.Option.{option_and_then, option_map}
+-- The kinds of line that a scene has: the word that each begins with, how many fields follow it, and what they spell.
+use Rattle.std.specs.Option.{option_flatten, option_map}
 use Rattle.std.specs.Prelude.{ℕ, zero, suc, ◌+◌, ◌/◌, ◌^◌, List, [], ◌∷◌, ◌++◌, length, if◌then◌else◌, nat_lt, Some, Err, ◌==◌, ◌&&◌, Option, None, codes, bytes_eq, ◌≡◌, Bool, true, false, Ok}
 use Rattle.uuid.specs.Text.{parsed}
 use Rattle.run_model.specs.Attempts.{Attempt, Attempts}
@@ -11,30 +11,28 @@ use Rattle.run_model.specs.declared.stats.RunFinishedStats.TheVariants.{Single, 
 use Rattle.run_model.specs.declared.status.FlakyResult.{FlakyResult}
 use Rattle.run_model.specs.declared.status.RetryData.{RetryData}
 use Rattle.run_names.specs.UniquePrefixes.{UniquePrefix}
-use Rattle.run_names.specs.declared.name.OwnedTestInstanceId.{OwnedTestInstanceId}
 use Rattle.run_names.specs.declared.not_seen.NotSeen.{NotSeen}
-use Rattle.run_names.specs.declared.stress.StressIndex.{StressIndex}
 use Rattle.scene_events.specs.SceneOutputs.{written, no_output}
+use Rattle.scene_events.specs.declared.scene.SceneConfig.{SceneConfig}
 use Rattle.scene_events.specs.declared.scene.event.SceneEvent.{SceneEvent}
 use Rattle.scene_events.specs.declared.scene.event.SceneEvent.TheVariants as event
 use Rattle.scene_events.specs.declared.scene.run_events.RunCancel.{RunCancel}
 use Rattle.scene_events.specs.declared.scene.run_events.RunPause.{RunPause}
 use Rattle.scene_events.specs.declared.scene.run_events.SceneScript.{SceneScript}
-use Rattle.scene_events.specs.declared.scene.run_events.StateRequest.{StateRequest}
-use Rattle.scene_events.specs.declared.scene.run_events.SubRunFinish.{SubRunFinish}
-use Rattle.scene_events.specs.declared.scene.test_events.InfoStart.{InfoStart}
 use Rattle.scene_events.specs.declared.scene.test_events.SceneTest.{SceneTest}
 use Rattle.scene_events.specs.declared.scene.test_events.UnitAnswer.{UnitAnswer}
 use Rattle.scene_events.specs.declared.scene.units.SceneOutput.{SceneOutput}
 use Rattle.scene_events.specs.declared.scene.units.SceneOutput.TheVariants.{Output, StartError}
 use Rattle.scene_fields.specs.Counts.{stats_in, skips_in}
-use Rattle.scene_fields.specs.Fields.{◌>>=◌, Line, says, field, Place, next, valued}
+use Rattle.scene_fields.specs.Fields.{◌>>=◌, Line, says, exactly, field, Place, next, valued, with_attempts}
 use Rattle.scene_fields.specs.Lists.{words_of, instances_in, chain_in, errors_in}
 use Rattle.scene_fields.specs.Numbers.{nanos_in, number_in}
 use Rattle.scene_fields.specs.Results.{result_in}
 use Rattle.scene_fields.specs.Texts.{text_in, bytes_in}
-use Rattle.scene_fields.specs.Values.{display_in, flag_in, flaky_in, stress_in, reason_or_none_in, absent_in}
-use Rattle.scene_fields.specs.declared.fault.LineFault.TheVariants.{WrongNumberOfFields}
+use Rattle.scene_fields.specs.Values.{absent_in, config_key_in, display_in, final_level_in, flag_in, flaky_in, mode_in, reason_or_none_in, stress_in}
+use Rattle.scene_fields.specs.declared.fault.LineFault.TheVariants.{UnknownEvent, WrongNumberOfFields}
+use Rattle.scene_fields.specs.declared.values.ConfigKey.{ConfigKey}
+use Rattle.scene_fields.specs.declared.values.ConfigKey.TheVariants as key
 use Rattle.scene_text.specs.Parts.{state_in, state_parts_in, progress_in, moment_in, highlight_in}
 
 -- what is made of the value of fields
@@ -42,6 +40,11 @@ abbrev pub made : {X Y : Type 0} → (X → Y) → Line X → Line Y
 made make line = do
   x ← line
   says (make x)
+
+-- the value of the fields behind a word, by the first of these rows that has it, or else so
+abbrev pub by_row : {X : Type 0} → Line X → List (List ℕ × Line X) → List ℕ → Line X
+by_row otherwise [] word = otherwise
+by_row otherwise (row ∷ rows) word = if bytes_eq word row.0 then row.1 else by_row otherwise rows word
 
 -- the bytes of a stream, or `-`
 abbrev pub stream_in : List ℕ → Option (Option (List ℕ))
@@ -84,20 +87,11 @@ start_error_fields = do
   highlight ← field absent_in
   says (StartError error)
 
--- the fields after this form
-abbrev pub formed : List ℕ → Line SceneOutput
-formed form =
-    if bytes_eq form (codes "split") then split_fields
-    else (if bytes_eq form (codes "comb") then combined_fields
-    else (if bytes_eq form (codes "unloaded") then unloaded_fields
-    else (if bytes_eq form (codes "start") then start_error_fields
-    else valued None)))
-
 -- an output: its form, what that takes first and second, errors, and a highlight
 unfoldable pub output_fields : Line SceneOutput
 output_fields = do
   form ← next
-  formed form
+  by_row (valued None) ((codes "split", split_fields) ∷ (codes "comb", combined_fields) ∷ (codes "unloaded", unloaded_fields) ∷ (codes "start", start_error_fields) ∷ []) form
 
 -- both streams were captured and hold nothing, and there is nothing else
 abbrev pub empty_output_fields : List (List ℕ)
@@ -159,7 +153,7 @@ all_attempts flaky total = do
   attempts_behind flaky total first
 
 -- `start`: the test, statistics, and the command
-unfoldable pub start_line_fields : Line SceneEvent
+abbrev pub start_line_fields : Line SceneEvent
 start_line_fields = do
   test ← test_fields
   stats ← field stats_in
@@ -167,7 +161,7 @@ start_line_fields = do
   says (event.TestStarted (record { test = test; current_stats = stats; command_line = command }))
 
 -- `retrystart`: the test, the attempt, and the command
-unfoldable pub retry_start_line_fields : Line SceneEvent
+abbrev pub retry_start_line_fields : Line SceneEvent
 retry_start_line_fields = do
   test ← test_fields
   retry_data ← retry_fields
@@ -175,7 +169,7 @@ retry_start_line_fields = do
   says (event.TestRetryStarted (record { test = test; retry_data = retry_data; command_line = command }))
 
 -- `slow`: the test, the attempt, how long it has taken, and whether it is ended
-unfoldable pub slow_line_fields : Line SceneEvent
+abbrev pub slow_line_fields : Line SceneEvent
 slow_line_fields = do
   test ← test_fields
   retry_data ← retry_fields
@@ -184,7 +178,7 @@ slow_line_fields = do
   says (event.TestSlow (record { elapsed = elapsed; test = test; retry_data = retry_data; will_terminate = will_terminate }))
 
 -- `retry`: the test, which attempt failed, how long the next one waits, when the output is shown, and the attempt
-unfoldable pub retry_line_fields : Line SceneEvent
+abbrev pub retry_line_fields : Line SceneEvent
 retry_line_fields = do
   test ← test_fields
   retry_data ← retry_fields
@@ -195,7 +189,7 @@ retry_line_fields = do
 
 -- `done`: the test, when its output is shown, what a flaky test counts as, statistics, how many attempts
 -- there can be, and the attempts
-unfoldable pub done_line_fields : Line SceneEvent
+abbrev pub done_line_fields : Line SceneEvent
 done_line_fields = do
   test ← test_fields
   on_success ← field display_in
@@ -215,7 +209,7 @@ script_fields = do
   says (record { script_id = script_id; program = program; args = args })
 
 -- `setup`: the iteration, which script of how many, and the script
-unfoldable pub setup_line_fields : Line SceneEvent
+abbrev pub setup_line_fields : Line SceneEvent
 setup_line_fields = do
   stress_index ← field stress_in
   index ← field (number_in 64)
@@ -224,7 +218,7 @@ setup_line_fields = do
   says (event.SetupScriptStarted (record { stress_index = stress_index; index = index; total = total; script = script }))
 
 -- `setupslow`: the iteration, the script, how long it has taken, and whether it is ended
-unfoldable pub setup_slow_line_fields : Line SceneEvent
+abbrev pub setup_slow_line_fields : Line SceneEvent
 setup_slow_line_fields = do
   stress_index ← field stress_in
   script ← script_fields
@@ -233,7 +227,7 @@ setup_slow_line_fields = do
   says (event.SetupScriptSlow (record { elapsed = elapsed; stress_index = stress_index; script = script; will_terminate = will_terminate }))
 
 -- `setupdone`: the iteration, the script, and its only attempt
-unfoldable pub setup_done_line_fields : Line SceneEvent
+abbrev pub setup_done_line_fields : Line SceneEvent
 setup_done_line_fields = do
   stress_index ← field stress_in
   script ← script_fields
@@ -241,12 +235,12 @@ setup_done_line_fields = do
   says (event.SetupScriptFinished (record { attempt = attempt; stress_index = stress_index; script = script }))
 
 -- `info`: how long the run has taken, how many units were asked, and statistics
-unfoldable pub info_line_fields : Line InfoStart
+abbrev pub info_line_fields : Line SceneEvent
 info_line_fields = do
   elapsed ← field nanos_in
   total ← field (number_in 64)
   stats ← field stats_in
-  says (record { elapsed = elapsed; total = total; run_stats = stats })
+  says (event.InfoStarted (record { elapsed = elapsed; total = total; run_stats = stats }))
 
 -- what a unit is doing, how the attempt ended, and what it has written
 unfoldable pub answer_fields : Line UnitAnswer
@@ -257,7 +251,7 @@ answer_fields = do
   says (record { state = state; output = output })
 
 -- `answer-script`: which answer of how many, the iteration, the script, and its answer
-unfoldable pub answer_script_line_fields : Line SceneEvent
+abbrev pub answer_script_line_fields : Line SceneEvent
 answer_script_line_fields = do
   index ← field (number_in 64)
   total ← field (number_in 64)
@@ -267,7 +261,7 @@ answer_script_line_fields = do
   says (event.ScriptAnswered (record { index = index; total = total; stress_index = stress_index; script = script; answer = answer }))
 
 -- `answer-test`: which answer of how many, the test, the attempt, and its answer
-unfoldable pub answer_test_line_fields : Line SceneEvent
+abbrev pub answer_test_line_fields : Line SceneEvent
 answer_test_line_fields = do
   index ← field (number_in 64)
   total ← field (number_in 64)
@@ -277,7 +271,7 @@ answer_test_line_fields = do
   says (event.TestAnswered (record { index = index; total = total; test = test; retry_data = retry_data; answer = answer }))
 
 -- `run`: run id, profile, how many tests and binaries, and what is skipped
-unfoldable pub run_line_fields : Line SceneEvent
+abbrev pub run_line_fields : Line SceneEvent
 run_line_fields = do
   run_id ← field parsed
   profile ← field text_in
@@ -287,7 +281,7 @@ run_line_fields = do
   says (event.RunStarted (record { run_id = run_id; profile_name = profile; test_list = record { run_count = tests; listed_binary_count = binaries; skip_counts = skips } }))
 
 -- `cancel` and `kill`: how many setup scripts and tests run, and the reason
-unfoldable pub cancel_line_fields : Line RunCancel
+abbrev pub cancel_line_fields : Line RunCancel
 cancel_line_fields = do
   scripts ← field (number_in 64)
   tests ← field (number_in 64)
@@ -295,57 +289,49 @@ cancel_line_fields = do
   says (record { setup_scripts_running = scripts; running = tests; reason = reason })
 
 -- `pause` and `continue`: how many setup scripts and tests run
-unfoldable pub pause_line_fields : Line RunPause
+abbrev pub pause_line_fields : Line RunPause
 pause_line_fields = do
   scripts ← field (number_in 64)
   tests ← field (number_in 64)
   says (record { setup_scripts_running = scripts; running = tests })
 
 -- `input`: how long the run has taken, statistics, and how many units run
-unfoldable pub input_line_fields : Line StateRequest
+abbrev pub input_line_fields : Line SceneEvent
 input_line_fields = do
   elapsed ← field nanos_in
   stats ← field stats_in
   running ← field (number_in 64)
-  says (record { elapsed = elapsed; current_stats = stats; running = running })
+  says (event.InputEnter (record { elapsed = elapsed; current_stats = stats; running = running }))
 
--- tests that were not seen, where there are some or some are listed
-abbrev pub outstanding : ℕ → List OwnedTestInstanceId → Option NotSeen
-outstanding count listed = if count == 0 && (length listed == 0) then None else Some (record { not_seen = listed; total_not_seen = count })
-
--- how many tests were not seen, and those of them that are listed
-unfoldable pub not_seen_fields : Line (Option NotSeen)
+-- how many tests were not seen, and those of them that are listed; where some were, or some are listed
+abbrev pub not_seen_fields : Line (Option NotSeen)
 not_seen_fields = do
   count ← field (number_in 64)
   listed ← field instances_in
-  says (outstanding count listed)
+  says (if count == 0 && (length listed == 0) then None else Some (record { not_seen = listed; total_not_seen = count }))
 
 -- `end`: how long it took, statistics, and the tests that were not seen
-unfoldable pub end_line_fields : Line SceneEvent
+abbrev pub end_line_fields : Line SceneEvent
 end_line_fields = do
   elapsed ← field nanos_in
   stats ← field stats_in
   not_seen ← not_seen_fields
   says (event.RunFinished (record { elapsed = elapsed; run_stats = Single stats; outstanding_not_seen = not_seen }))
 
--- an iteration, which must be there
-abbrev pub completed_in : List ℕ → Option StressIndex
-completed_in t = option_and_then (λ index. index) (stress_in t)
-
 -- `subend`: how far the stress run has come, how long the iteration took, and its statistics
-unfoldable pub sub_end_line_fields : Line SubRunFinish
+abbrev pub sub_end_line_fields : Line SceneEvent
 sub_end_line_fields = do
   progress ← field progress_in
   elapsed ← field nanos_in
   stats ← field stats_in
-  says (record { progress = progress; sub_elapsed = elapsed; sub_stats = stats })
+  says (event.StressSubRunFinished (record { progress = progress; sub_elapsed = elapsed; sub_stats = stats }))
 
 -- `endstress`: how long the run took, how many iterations have finished, succeeded and failed, the statistics of the
 -- last one, and the tests that were not seen
-unfoldable pub end_stress_line_fields : Line SceneEvent
+abbrev pub end_stress_line_fields : Line SceneEvent
 end_stress_line_fields = do
   elapsed ← field nanos_in
-  completed ← field completed_in
+  completed ← field (λ t. option_flatten (stress_in t))
   succeeded ← field (number_in 32)
   failed ← field (number_in 32)
   stats ← field stats_in
@@ -357,7 +343,7 @@ end_stress_line_fields = do
   }))
 
 -- `prefix`: the part of the run's id that no other run has, and the rest
-unfoldable pub prefix_line_fields : Line SceneEvent
+abbrev pub prefix_line_fields : Line SceneEvent
 prefix_line_fields = do
   prefix ← field text_in
   rest ← field text_in
@@ -367,24 +353,87 @@ prefix_line_fields = do
 abbrev pub some_text_in : List ℕ → Option (List ℕ)
 some_text_in t = if bytes_eq t (codes "-") then None else text_in t
 
--- a prefix that was taken, and the rest
-abbrev pub prefix_and_rest : List ℕ → Line (Option UniquePrefix)
-prefix_and_rest t = do
-  prefix ← valued (text_in t)
-  rest ← field some_text_in
-  says (Some (record { prefix = prefix; rest = rest }))
-
 -- a prefix and the rest, or twice `-`
-unfoldable pub unique_prefix_fields : Line (Option UniquePrefix)
+abbrev pub unique_prefix_fields : Line (Option UniquePrefix)
 unique_prefix_fields = do
   t ← next
-  if bytes_eq t (codes "-") then made (λ none. None) (field absent_in) else prefix_and_rest t
+  if bytes_eq t (codes "-") then made (λ none. None) (field absent_in)
+      else do
+        prefix ← valued (text_in t)
+        rest ← field some_text_in
+        says (Some (record { prefix = prefix; rest = rest }))
 
 -- `header`: the run's id, its prefix and the rest, when it started, and how it ended
-unfoldable pub header_line_fields : Line SceneEvent
+abbrev pub header_line_fields : Line SceneEvent
 header_line_fields = do
   run_id ← field parsed
   unique_prefix ← unique_prefix_fields
   started_at ← field moment_in
   status ← field text_in
   says (event.Header (record { run_id = run_id; unique_prefix = unique_prefix; started_at = started_at; status = status }))
+
+-- no line has this word
+abbrev pub unknown : Line SceneEvent
+unknown p = Err UnknownEvent
+
+-- each kind of line that is an event of the run as it goes on: its word, and what follows it
+unfoldable pub run_event_rows : List (List ℕ × Line SceneEvent)
+run_event_rows =
+    (codes "substart", exactly 1 (made event.StressSubRunStarted (field progress_in)))
+    ∷ (codes "cancel", exactly 3 (made event.RunBeginCancel cancel_line_fields))
+    ∷ (codes "kill", exactly 3 (made event.RunBeginKill cancel_line_fields))
+    ∷ (codes "pause", exactly 2 (made event.RunPaused pause_line_fields))
+    ∷ (codes "continue", exactly 2 (made event.RunContinued pause_line_fields))
+    ∷ (codes "info", exactly 3 info_line_fields)
+    ∷ (codes "infoend", exactly 1 (made event.InfoFinished (field (number_in 64))))
+    ∷ (codes "input", exactly 3 input_line_fields)
+    ∷ (codes "subend", exactly 3 sub_end_line_fields)
+    ∷ []
+
+-- and each that is no event of a test
+unfoldable pub other_event_rows : List (List ℕ × Line SceneEvent)
+other_event_rows =
+    (codes "prefix", exactly 2 prefix_line_fields)
+    ∷ (codes "header", exactly 5 header_line_fields)
+    ∷ (codes "run", exactly 5 run_line_fields)
+    ∷ (codes "setup", exactly 6 setup_line_fields)
+    ∷ (codes "setupslow", exactly 6 setup_slow_line_fields)
+    ∷ (codes "setupdone", exactly 12 setup_done_line_fields)
+    ∷ (codes "answer-script", exactly 13 answer_script_line_fields)
+    ∷ (codes "answer-test", exactly 14 answer_test_line_fields)
+    ∷ (codes "end", exactly 4 end_line_fields)
+    ∷ (codes "endstress", exactly 7 end_stress_line_fields)
+    ∷ run_event_rows
+
+-- and each that is an event
+unfoldable pub event_rows : List (List ℕ × Line SceneEvent)
+event_rows =
+    (codes "done", with_attempts done_line_fields)
+    ∷ (codes "start", exactly 5 start_line_fields)
+    ∷ (codes "retrystart", exactly 6 retry_start_line_fields)
+    ∷ (codes "slow", exactly 7 slow_line_fields)
+    ∷ (codes "retry", exactly 15 retry_line_fields)
+    ∷ (codes "skip", exactly 3 (made event.TestSkipped test_fields))
+    ∷ other_event_rows
+
+-- the event of the fields behind a word
+abbrev pub event_line_fields : List ℕ → Line SceneEvent
+event_line_fields word = by_row unknown event_rows word
+
+-- `config`: a key and its value
+abbrev pub set_field : SceneConfig → ConfigKey → Line SceneConfig
+set_field config key.Final = made (λ level. record config { final_status_level = level }) (field final_level_in)
+set_field config key.Runs = made (λ count. record config { run_count = count }) (field (number_in 64))
+set_field config key.Bench = made (λ mode. record config { mode = mode }) (field mode_in)
+set_field config key.Success = made (λ display. record config { success_output = Some display }) (field display_in)
+set_field config key.Failure = made (λ display. record config { failure_output = Some display }) (field display_in)
+set_field config key.NoCapture = made (λ flag. record config { no_capture = flag }) (field flag_in)
+set_field config key.Verbose = made (λ flag. record config { verbose = flag }) (field flag_in)
+set_field config key.NoIndent = made (λ flag. record config { no_output_indent = flag }) (field flag_in)
+set_field config key.Unicode = made (λ flag. record config { use_unicode = flag }) (field flag_in)
+set_field config key.Empty = made (λ flag. record config { display_empty_outputs = flag }) (field flag_in)
+
+unfoldable pub config_line_fields : SceneConfig → Line SceneConfig
+config_line_fields config = do
+  key ← field config_key_in
+  set_field config key

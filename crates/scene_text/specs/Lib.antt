@@ -1,4 +1,3 @@
 pub mod EventLines
-pub mod Lines
 pub mod Parts
 pub mod SceneTexts

@@ -1,5 +1,6 @@
 -- Values that stand in one field in parts: what a unit is doing, how far a stress run has come, moments and highlights.
 use Rattle.std.specs.Prelude.{ℕ, List, [], ◌∷◌, Bool, ◌&&◌, nat_le, nat_lt, unsigned_abs, if◌then◌else◌, Option, None, Some, codes, bytes_eq}
+use Rattle.std.specs.Int.{is_in_range}
 use Rattle.std.specs.Option.{option_and_then, option_map}
 use Rattle.jiff_core.specs.Calendar.{days_in_month}
 use Rattle.run_model.specs.Infos.{terminate_reason_text}
@@ -143,30 +144,21 @@ state_in parts t = option_and_then (state_with parts) (result_or_none_in t)
 abbrev pub stress_count_in : List ℕ → Option StressCount
 stress_count_in t = if bytes_eq t (codes "inf") then Some count.Infinite else option_map count.Count (total_in (number_in 32 t))
 
--- of a run of so many iterations: the total, the time that was taken, and the iterations that have finished
-abbrev pub count_progress : List ℕ → List ℕ → List ℕ → Option StressProgress
-count_progress total elapsed completed = do
-  total ← stress_count_in total
-  elapsed ← nanos_in elapsed
-  completed ← number_in 32 completed
-  Some (progress.Count total elapsed completed)
+-- of a run by this word: so many iterations, or so much time, in all
+abbrev pub progress_of : List ℕ → List ℕ → Nanos → ℕ → Option StressProgress
+progress_of word total elapsed completed =
+    if bytes_eq word (codes "count") then option_map (λ count. progress.Count count elapsed completed) (stress_count_in total)
+    else (if bytes_eq word (codes "time") then option_map (λ time. progress.Time time elapsed completed) (nanos_in total) else None)
 
--- the same of a run of so much time
-abbrev pub time_progress : List ℕ → List ℕ → List ℕ → Option StressProgress
-time_progress total elapsed completed = do
-  total ← nanos_in total
-  elapsed ← nanos_in elapsed
-  completed ← number_in 32 completed
-  Some (progress.Time total elapsed completed)
-
--- how far a stress run has come: a word and these parts
-unfoldable pub progress_in : List ℕ → Option StressProgress
+-- how far a stress run has come: a word, the total, the time that was taken, and the iterations that have finished
+abbrev pub progress_in : List ℕ → Option StressProgress
 progress_in t = do
   cut_1 ← cut 58 t
   cut_2 ← cut 58 cut_1.1
   cut_3 ← cut 58 cut_2.1
-  if bytes_eq cut_1.0 (codes "count") then count_progress cut_2.0 cut_3.0 cut_3.1
-      else (if bytes_eq cut_1.0 (codes "time") then time_progress cut_2.0 cut_3.0 cut_3.1 else None)
+  elapsed ← nanos_in cut_3.0
+  completed ← number_in 32 cut_3.1
+  progress_of cut_1.0 cut_2.0 elapsed completed
 
 abbrev pub highlight_stream_word : HighlightStream → List ℕ
 highlight_stream_word stream.Stdout = codes "out"
@@ -177,27 +169,22 @@ abbrev pub highlight_stream_in : List ℕ → Option HighlightStream
 highlight_stream_in t = of_word highlight_stream_word (stream.Stdout ∷ stream.Stderr ∷ stream.Combined ∷ []) t
 
 -- a highlight: its stream, its place and its bytes
-abbrev pub highlight_of : List ℕ → List ℕ → Option Highlight
-highlight_of stream rest = do
-  cut_2 ← cut 58 rest
-  stream ← highlight_stream_in stream
+abbrev pub highlight_of : List ℕ → Option Highlight
+highlight_of t = do
+  cut_1 ← cut 58 t
+  cut_2 ← cut 58 cut_1.1
+  stream ← highlight_stream_in cut_1.0
   start ← number_in 64 cut_2.0
   slice ← bytes_in cut_2.1
   Some (record { stream = stream; start = start; slice = slice })
 
-abbrev pub highlight_cut : List ℕ → Option (List ℕ × List ℕ) → Option (Option Highlight)
-highlight_cut t None = if bytes_eq t (codes "-") then Some None else None
-highlight_cut t (Some x) = option_map (λ h. Some h) (highlight_of x.0 x.1)
-
--- a highlight, or `-`
+-- the same, or `-`
 abbrev pub highlight_in : List ℕ → Option (Option Highlight)
-highlight_in t = highlight_cut t (cut 58 t)
+highlight_in t = if bytes_eq t (codes "-") then Some None else option_map (λ h. Some h) (highlight_of t)
 
 -- the calendar has this day, in a year from -9999 to 9999
 abbrev pub is_day : Day → Bool
-is_day d =
-    nat_le (unsigned_abs d.year) 9999
-    && ((nat_lt 0 d.month && nat_le d.month 12) && (nat_lt 0 d.day && nat_le d.day (days_in_month d.year d.month)))
+is_day d = nat_le (unsigned_abs d.year) 9999 && (is_in_range 1 12 d.month && is_in_range 1 (days_in_month d.year d.month) d.day)
 
 abbrev pub checked_day : Day → Option Day
 checked_day d = if is_day d then Some d else None
@@ -206,30 +193,20 @@ checked_day d = if is_day d then Some d else None
 abbrev pub checked_clock : Clock → Option Clock
 checked_clock c = if nat_lt c.hour 24 && (nat_lt c.minute 60 && nat_lt c.second 60) then Some c else None
 
--- a day by the texts of its numbers, of which the year may have a minus
-abbrev pub day_in : List ℕ → List ℕ → List ℕ → Option Day
-day_in year month day = do
-  year ← code_in year
-  month ← number_in 32 month
-  day ← number_in 32 day
-  checked_day (record { year = year; month = month; day = day })
-
--- a time as three numbers with commas between them
-unfoldable pub time_in : List ℕ → Option Clock
-time_in t = do
-  cut_1 ← cut 44 t
-  cut_2 ← cut 44 cut_1.1
-  hour ← number_in 32 cut_1.0
-  minute ← number_in 32 cut_2.0
-  second ← number_in 32 cut_2.1
-  checked_clock (record { hour = hour; minute = minute; second = second })
-
--- a date and a time as six numbers with commas between them
-unfoldable pub moment_in : List ℕ → Option Moment
+-- a date and a time as six numbers with commas between them, of which the year may have a minus
+abbrev pub moment_in : List ℕ → Option Moment
 moment_in t = do
   cut_1 ← cut 44 t
   cut_2 ← cut 44 cut_1.1
   cut_3 ← cut 44 cut_2.1
-  date ← day_in cut_1.0 cut_2.0 cut_3.0
-  time ← time_in cut_3.1
+  cut_4 ← cut 44 cut_3.1
+  cut_5 ← cut 44 cut_4.1
+  year ← code_in cut_1.0
+  month ← number_in 32 cut_2.0
+  day ← number_in 32 cut_3.0
+  date ← checked_day (record { year = year; month = month; day = day })
+  hour ← number_in 32 cut_4.0
+  minute ← number_in 32 cut_5.0
+  second ← number_in 32 cut_5.1
+  time ← checked_clock (record { hour = hour; minute = minute; second = second })
   Some (record { date = date; time = time })

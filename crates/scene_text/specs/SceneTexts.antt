@@ -1,10 +1,11 @@
 -- The scene that a text spells, or its first fault.
-use Rattle.std.specs.Prelude.{◌≡◌, ℕ, ◌+◌, List, [], ◌∷◌, ◌++◌, Bool, true, false, ◌==◌, map, nat_lt, bytes_eq, codes, if◌then◌else◌, Result, Ok, Err, length, ⊤}
+use Rattle.std.specs.Prelude.{◌≡◌, ℕ, ◌+◌, List, [], ◌∷◌, ◌++◌, Bool, true, false, ◌==◌, ◌||◌, map, nat_lt, bytes_eq, codes, if◌then◌else◌, Result, Ok, Err, length, ⊤}
+use Rattle.std.specs.Result.{result_map_both}
 use Rattle.std.specs.Str.{is_utf8}
 use Rattle.scene_events.specs.Configs.{unconfigured}
 use Rattle.scene_fields.specs.Split.{split_on}
 use Rattle.scene_fields.specs.Fields.{Fails, Place, exactly}
-use Rattle.scene_text.specs.Lines.{config_line_fields, event_line_fields}
+use Rattle.scene_text.specs.EventLines.{config_line_fields, event_line_fields}
 use Rattle.scene_fields.specs.declared.fault.LineError.{LineError}
 use Rattle.scene_fields.specs.declared.fault.LineError.TheVariants as error
 use Rattle.scene_fields.specs.declared.fault.LineFault.{LineFault}
@@ -46,23 +47,16 @@ pub data ParsedLine : Type 0 where
   ConfigLine : SceneConfig → ParsedLine
   EventLine : SceneEvent → ParsedLine
 
--- the configuration that a line makes
-abbrev pub config_line : Result (SceneConfig × Place) LineFault → Result ParsedLine LineFault
-config_line (Ok x) = Ok (ConfigLine x.0)
-config_line (Err f) = Err f
-
 -- the event of some fields, wherever they end
 abbrev pub event_of : Result (SceneEvent × Place) LineFault → Result SceneEvent LineFault
-event_of (Ok x) = Ok x.0
-event_of (Err f) = Err f
+event_of read = result_map_both (λ x. x.0) (λ f. f) read
 
 abbrev pub event_line : Result SceneEvent LineFault → Result ParsedLine LineFault
-event_line (Ok e) = Ok (EventLine e)
-event_line (Err f) = Err f
+event_line read = result_map_both EventLine (λ f. f) read
 
 -- a line that configures the run, which may not stand behind an event
 abbrev pub parsed_config : LinesBefore → Place → Result ParsedLine LineFault
-parsed_config before fields = if before.is_begun then Err ConfigAfterEvent else config_line (exactly 2 (config_line_fields before.config) fields)
+parsed_config before fields = if before.is_begun then Err ConfigAfterEvent else result_map_both (λ x. ConfigLine x.0) (λ f. f) (exactly 2 (config_line_fields before.config) fields)
 
 abbrev pub parsed_word : LinesBefore → List ℕ → Place → Result ParsedLine LineFault
 parsed_word before word fields = if bytes_eq word (codes "config") then parsed_config before fields else event_line (event_of (event_line_fields word fields))
@@ -89,8 +83,7 @@ with_line before (ConfigLine config) = record before { config = config }
 with_line before (EventLine e) = record before { events = before.events ++ e ∷ [] }
 
 abbrev pub lines_with : ParsedLines → Result ParsedLine LineFault → Result ParsedLines LineFault
-lines_with before (Ok s) = Ok (with_line before s)
-lines_with before (Err f) = Err f
+lines_with before read = result_map_both (with_line before) (λ f. f) read
 
 -- a line of a run: its text, and what is made of the event that it spells, or its fault
 pub record RunLine : Type 0 where
@@ -121,17 +114,11 @@ line_read before line = lines_with before (line_value (lines_before before) line
 
 -- the same where an event may stand before all these lines
 abbrev pub is_begun_behind : Bool → List SceneEvent → Bool
-is_begun_behind true es = true
-is_begun_behind false es = is_begun es
+is_begun_behind begun es = begun || is_begun es
 
-abbrev pub lines_behind : Bool → ParsedLines → LinesBefore
-lines_behind begun before = record { config = before.config; is_begun = is_begun_behind begun before.events }
-
-abbrev pub words_read_behind : Bool → ParsedLines → List (List ℕ) → Result ParsedLines LineFault
-words_read_behind begun before words = lines_with before (parsed_words (lines_behind begun before) words)
-
-unfoldable pub line_read_behind : Bool → ParsedLines → List ℕ → Result ParsedLines LineFault
-line_read_behind begun before t = lines_with before (parsed_line (lines_behind begun before) t)
+-- what the reading of the next line needs
+abbrev pub before_next : LinesRead → LinesBefore
+before_next read = record { config = read.run.config; is_begun = is_begun_behind read.is_begun read.run.events.items }
 
 -- the lines behind these events
 abbrev pub lines_after : List SceneEvent → ParsedLines → ParsedLines
@@ -172,14 +159,15 @@ abbrev pub AllRead : ParsedLines → List RunLine → ParsedLines → Type 0
 AllRead before [] after = before ≡ after
 AllRead before (t ∷ ts) after = (mid : ParsedLines) × (line_read before t ≡ Ok mid) × AllRead mid ts after
 
--- two runs have the same
-abbrev pub IsSameRun : ParsedRun → ParsedRun → Type 0
-IsSameRun a b = (parsed_lines b ≡ parsed_lines a) × (b.lines.items ≡ a.lines.items)
+-- the number of the next line is noted, where that is an event
+abbrev pub NotesLine : LinesRead → LinesRead → Type 0
+NotesLine old new = new.run.lines.items ≡ old.run.lines.items ++ line_here old.next (parsed_lines old.run) (parsed_lines new.run)
 
--- the next line was read, whose value behind those before it is this; or it is wrong, and nothing has changed
-abbrev pub TakesLine : {X : Type 0} → LinesRead → Result X LineError → LinesRead → Result ParsedLines LineFault → Type 0
-TakesLine old (Ok x) new read = (read ≡ Ok (parsed_lines new.run)) × (new.is_begun ≡ old.is_begun) × (new.next ≡ old.next)
-TakesLine old (Err e) new read = Fails e read × IsSameRun old.run new.run × (new.is_begun ≡ old.is_begun) × (new.next ≡ old.next)
+-- the next line was read, whose value this is; or it is wrong, and nothing has changed
+abbrev pub TakesLine : {X : Type 0} → LinesRead → Result X LineError → LinesRead → Result ParsedLine LineFault → Type 0
+TakesLine old (Ok x) new value = (lines_with (parsed_lines old.run) value ≡ Ok (parsed_lines new.run)) × (new.is_begun ≡ old.is_begun) × (new.next ≡ old.next)
+TakesLine old (Err e) new value =
+    Fails e value × (parsed_lines new.run ≡ parsed_lines old.run) × (new.run.lines.items ≡ old.run.lines.items) × (new.is_begun ≡ old.is_begun) × (new.next ≡ old.next)
 
 -- These lines were read, behind whatever events were forgotten: one after the other, and the numbers of their events are noted.
 pub record ReadsLines (old new : LinesRead) (lines : List RunLine) : Type 0 where

@@ -6,7 +6,7 @@
 //! in one field in parts.
 
 ghost use Rattle.std.specs.Prelude.{◌≡◌, ◌++◌, [], false, IfErr, OnOk, Ok};
-ghost use Rattle.scene_text.specs.SceneTexts.{LeavesLines, ReadsLines, TakesLine, fault_at, is_begun, is_begun_behind, is_passed_over, line_here, line_read_behind, no_lines, parsed_lines, text_lines, words_read_behind};
+ghost use Rattle.scene_text.specs.SceneTexts.{LeavesLines, NotesLine, ReadsLines, TakesLine, before_next, fault_at, is_begun_behind, is_passed_over, no_lines, parsed_line, parsed_lines, parsed_words, text_lines};
 
 mod binary_ids;
 mod lines;
@@ -30,8 +30,11 @@ use std::alloc::Global;
 // What a field spells, where it spells something.
 type Field<T> = Result<Option<T>, OutOfMemory>;
 
-// The event of a line, or what is wrong with the line.
-type EventResult = Result<SceneEvent, LineError>;
+// What fields spell, or what is wrong with their line.
+type Line<T> = Result<T, LineError>;
+
+// The event of a line.
+type EventResult = Line<SceneEvent>;
 
 /// The lines of a scene that were read so far. A scene that comes in pieces is read with no more than one of them in memory.
 ///
@@ -137,15 +140,15 @@ impl LinesRead {
 
     // Reads the line that follows, and notes its number where it is an event. The list is for its fields.
     #[inline(always)]
-    #[tactic(auto, unfolding(crate::specs::SceneTexts::parsed_line, crate::specs::SceneTexts::line_read_behind), using(scene_fields::proofs::lemmas::Utf8::utf8_passes, scene_fields::proofs::lemmas::Utf8::utf8_fails))]
+    #[tactic(auto, unfolding(crate::specs::SceneTexts::parsed_line), using(scene_fields::proofs::lemmas::Utf8::utf8_passes, scene_fields::proofs::lemmas::Utf8::utf8_fails))]
     fn read_line<'a>(
         &mut self,
         alloc: Global,
         line: &'a [u8],
         fields: &mut Vec<&'a str>,
     ) -> Result<(), LineError>
-        ensures read { TakesLine self.old result self.new (line_read_behind self.old.is_begun (parsed_lines self.old.run) line.now) }
-        ensures noted { OnOk result (self.new.run.lines.items ≡ self.old.run.lines.items ++ line_here self.old.next (parsed_lines self.old.run) (parsed_lines self.new.run)) }
+        ensures read { TakesLine self.old result self.new (parsed_line (before_next self.old) line.now) }
+        ensures noted { OnOk result (NotesLine self.old self.new) }
     {
         if is_passed_over(line) {
             return Ok(());
@@ -158,10 +161,10 @@ impl LinesRead {
     }
 
     // Reads the line that follows, which has its own memory, as `read_line` does.
-    #[tactic(auto, unfolding(crate::specs::SceneTexts::parsed_line, crate::specs::SceneTexts::line_read_behind))]
+    #[tactic(auto, unfolding(crate::specs::SceneTexts::parsed_line))]
     fn read_owned_line(&mut self, alloc: Global, line: Vec<u8>) -> Result<(), LineError>
-        ensures read { TakesLine self.old result self.new (line_read_behind self.old.is_begun (parsed_lines self.old.run) line.items) }
-        ensures noted { OnOk result (self.new.run.lines.items ≡ self.old.run.lines.items ++ line_here self.old.next (parsed_lines self.old.run) (parsed_lines self.new.run)) }
+        ensures read { TakesLine self.old result self.new (parsed_line (before_next self.old) line.items) }
+        ensures noted { OnOk result (NotesLine self.old self.new) }
     {
         if is_passed_over(line.as_slice()) {
             return Ok(());
@@ -178,8 +181,8 @@ impl LinesRead {
     #[tactic(auto, using(std::proofs::lemmas::Bool::Decides::nat_tests))]
     fn read_fields(&mut self, alloc: Global, fields: Fields<'_>) -> Result<(), LineError>
         requires { fields.number ≡ 0 }
-        ensures read { TakesLine self.old result self.new (words_read_behind self.old.is_begun (parsed_lines self.old.run) fields.entry.left) }
-        ensures noted { OnOk result (self.new.run.lines.items ≡ self.old.run.lines.items ++ line_here self.old.next (parsed_lines self.old.run) (parsed_lines self.new.run)) }
+        ensures read { TakesLine self.old result self.new (parsed_words (before_next self.old) fields.entry.left) }
+        ensures noted { OnOk result (NotesLine self.old self.new) }
     {
         let mut fields = fields;
         match fields.take()? {

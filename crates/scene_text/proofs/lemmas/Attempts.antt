@@ -1,37 +1,24 @@
--- Reading attempts one after the other, as a loop does (for `read_attempts`, `read_more_attempts`).
-use Rattle.std.proofs.Common.{◌≡◌, ℕ, suc, ◌-◌, ◌+◌, ◌/◌, ◌^◌, ◌≤◌, ◌<◌, List, [], ◌∷◌, ◌++◌, true, false, Result, Ok, Err, nat_lt, length, refl, sym, ◌∙◌, arith}
+-- Reading attempts one after the other, as a loop does (for `read_more_attempts`).
+use Rattle.std.proofs.Common.{◌≡◌, ℕ, suc, ◌-◌, ◌+◌, ◌^◌, ◌≤◌, ◌<◌, List, [], ◌∷◌, ◌++◌, true, false, Result, Ok, Err, nat_lt, refl, sym, ◌∙◌, arith}
 use Rattle.std.proofs.lemmas.Bool.Decides.{nat_tests}
 use Rattle.run_model.specs.Attempts.{Attempt, Attempts}
 use Rattle.run_model.specs.declared.output.ChildOutputDescription.{ChildOutputDescription}
 use Rattle.run_model.specs.declared.output.LiveSpec.{LiveSpec}
 use Rattle.run_model.specs.declared.status.FlakyResult.{FlakyResult}
 use Rattle.scene_fields.specs.Fields.{Line, Place, Fails, goes_on}
-use Rattle.scene_text.specs.EventLines.{all_attempts, attempt_fields, attempts_behind, attempts_from, retry_numbered}
+use Rattle.scene_text.specs.EventLines.{attempt_fields, attempts_from, retry_numbered}
 use Rattle.scene_fields.specs.declared.fault.LineError.{LineError}
 use Rattle.scene_fields.specs.declared.fault.LineError.TheVariants as error
 use Rattle.scene_fields.specs.declared.fault.LineFault.{LineFault}
 use Rattle.scene_fields.specs.declared.fault.LineFault.TheVariants.{WrongNumberOfFields}
-
-abbrev Answer : Type 0
-Answer = Result (Attempts LiveSpec ChildOutputDescription × Place) LineFault
 
 -- a fault of what is read first is that of all
 pub fails_first : {A B : Type 0} (e : LineError) (f : A → Line B) (read : Result (A × Place) LineFault) (whole : Result (B × Place) LineFault) → whole ≡ goes_on f read → Fails e read → Fails e whole
 fails_first error.OutOfMemory f read whole is h = tt
 fails_first (error.Fault x) f read whole is h = is ∙ rw h refl
 
--- the first attempt was read, and those behind it are left
-pub first_read : (flaky : FlakyResult) (total : ℕ) (p q : Place) (first : Attempt) → attempt_fields (retry_numbered total 1) p ≡ Ok (first, q) → all_attempts flaky total p ≡ attempts_behind flaky total first q
-unfolding all_attempts
-first_read flaky total p q first h = rw h refl
-
--- there are no fields for another attempt
-pub only_attempt : (flaky : FlakyResult) (total : ℕ) (first : Attempt) (p : Place) → length p.left < 8
-    → attempts_behind flaky total first p ≡ Ok (record { earlier = []; last = first; flaky_result = flaky }, p)
-unfolding attempts_from
-only_attempt flaky total first p few = let none : length p.left / 8 ≡ 0 = omega arith in rw none refl
-
-module _ (flaky : FlakyResult) (total number end : ℕ) (earlier : List Attempt) (last : Attempt) (p : Place) (whole : Answer)
+-- so many attempts more, behind those so far, are all
+module _ (flaky : FlakyResult) (total number end : ℕ) (earlier : List Attempt) (last : Attempt) (p : Place) (whole : Result (Attempts LiveSpec ChildOutputDescription × Place) LineFault)
     (so_far : attempts_from flaky total number (end - number) earlier last p ≡ whole) where
   pub next_attempt : number < end → number < 2 ^ 32
       → whole ≡ goes_on (attempts_from flaky total (number + 1) (end - (number + 1)) (earlier ++ last ∷ [])) (attempt_fields (retry_numbered total number) p)

@@ -1,6 +1,7 @@
 -- Lines that tell, one after the other (for `LinesRead::read_more`, `LinesRead::read_owned`, and for the program).
-use Rattle.std.proofs.Common.{◌≡◌, ℕ, ◌+◌, Bool, List, [], ◌∷◌, ◌++◌, Result, Ok, Err, length, refl, sym, ap, ◌∙◌, subst, arith, append_assoc, append-nil, inl, inr, ◌⊎◌}
+use Rattle.std.proofs.Common.{◌≡◌, ℕ, ◌+◌, List, [], ◌∷◌, ◌++◌, Result, Ok, Err, length, refl, sym, ap, ◌∙◌, subst, arith, append_assoc, append-nil, inl, inr, ◌⊎◌}
 use Rattle.std.specs.Prelude.{nat_lt}
+use Rattle.std.specs.Result.{result_map_both}
 use Rattle.std.proofs.lemmas.Bool.Decides.{nat_tests}
 use Rattle.std.proofs.lemmas.List.{length-append}
 use Rattle.scene_events.specs.declared.scene.event.SceneEvent.{SceneEvent}
@@ -8,8 +9,9 @@ use Rattle.scene_fields.specs.Fields.{Fails}
 use Rattle.scene_fields.specs.declared.fault.LineError.{LineError}
 use Rattle.scene_fields.specs.declared.fault.LineError.TheVariants as error
 use Rattle.scene_fields.specs.declared.fault.LineFault.{LineFault}
+use Rattle.scene_fields.specs.declared.fault.ReadFault.{ReadFault}
 use Rattle.scene_fields.specs.declared.fault.ReadFault.TheVariants as fault
-use Rattle.scene_text.specs.SceneTexts.{AllRead, IsNextFault, IsSameRun, LeavesLines, ParsedLine, ReadsLines, RunLine, ConfigLine, EventLine, NoEvent, ParsedLines, event_lines, fault_at, is_begun, is_begun_behind, line_here, parsed_line, line_read, line_read_behind, lines_behind, lines_before, lines_read, parsed_lines, plain_line, lines_after, lines_with, with_event}
+use Rattle.scene_text.specs.SceneTexts.{AllRead, IsNextFault, LeavesLines, NotesLine, ParsedLine, ReadsLines, RunLine, ConfigLine, EventLine, NoEvent, ParsedLines, before_next, event_lines, fault_at, is_begun, is_begun_behind, line_here, parsed_line, line_read, lines_before, lines_read, parsed_lines, plain_line, lines_after, lines_with, with_event}
 use Rattle.scene_text.specs.declared.reader.LinesRead.{LinesRead}
 
 -- lines tell, and others behind them
@@ -58,39 +60,26 @@ wrong_told n before [] mid t more f m place h wrong =
     rw (here, first) refl
 wrong_told n before (u ∷ us) mid t more f m place h wrong = rw h.1 (wrong_told (n + 1) h.0 us mid t more f m (omega (arith, place)) h.2 wrong)
 
--- of one line
-one_noted : (n : ℕ) (before : ParsedLines) (t : RunLine) (after : ParsedLines) → line_read before t ≡ Ok after → event_lines n before (t ∷ []) ≡ line_here n before after
-unfolding event_lines
-one_noted n before t after h = rw h (append-nil (line_here n before after))
-
 -- what a line says behind other events it says behind these too
 pub begun_behind : (base es : List SceneEvent) → is_begun (base ++ es) ≡ is_begun_behind (is_begun base) es
 begun_behind [] es = refl
 begun_behind (b ∷ bs) es = refl
 
--- of a scene's line nothing else is made
-pub as_spelled : (r : Result ParsedLine LineFault) → with_event (λ e. Ok e) r ≡ r
-as_spelled (Ok NoEvent) = refl
-as_spelled (Ok (ConfigLine config)) = refl
-as_spelled (Ok (EventLine e)) = refl
-as_spelled (Err f) = refl
-
--- what is read behind other events is the same
+-- what a scene's line makes of the lines before it, it makes of them behind other events too
 abbrev told_after : List SceneEvent → Result ParsedLines LineFault → Result ParsedLines LineFault
-told_after base (Ok x) = Ok (lines_after base x)
-told_after base (Err f) = Err f
+told_after base read = result_map_both (lines_after base) (λ f. f) read
 
-with_after : (base : List SceneEvent) (before : ParsedLines) (r : Result ParsedLine LineFault) → lines_with (lines_after base before) r ≡ told_after base (lines_with before r)
+with_after : (base : List SceneEvent) (before : ParsedLines) (r : Result ParsedLine LineFault) → lines_with (lines_after base before) (with_event (λ e. Ok e) r) ≡ told_after base (lines_with before r)
 with_after base before (Ok NoEvent) = refl
 with_after base before (Ok (ConfigLine c)) = refl
 with_after base before (Ok (EventLine e)) = ap (λ es. told_after [] (Ok (record { config = before.config; events = es }))) (append_assoc base before.events (e ∷ []))
 with_after base before (Err f) = refl
 
-read_behind : (base : List SceneEvent) (begun : Bool) (before : ParsedLines) (t : List ℕ) → is_begun base ≡ begun → line_read (lines_after base before) (plain_line t) ≡ told_after base (line_read_behind begun before t)
-unfolding line_read line_read_behind
-read_behind base begun before t is =
-    let same : lines_before (lines_after base before) ≡ lines_behind begun before = rw (begun_behind base before.events, is) refl in
-    rw (same, as_spelled (parsed_line (lines_behind begun before) t)) (with_after base before (parsed_line (lines_behind begun before) t))
+read_behind : (base : List SceneEvent) (old : LinesRead) (t : List ℕ) → is_begun base ≡ old.is_begun → line_read (lines_after base (parsed_lines old.run)) (plain_line t) ≡ told_after base (lines_with (parsed_lines old.run) (parsed_line (before_next old) t))
+unfolding line_read
+read_behind base old t is =
+    let same : lines_before (lines_after base (parsed_lines old.run)) ≡ before_next old = rw (begun_behind base old.run.events.items, is) refl in
+    rw same (with_after base (parsed_lines old.run) (parsed_line (before_next old) t))
 
 -- more events are as many more behind these
 less_after : (n a b : ℕ) → nat_lt (n + a) (n + b) ≡ nat_lt a b
@@ -99,63 +88,65 @@ less_after n a b = grind (arith, nat_tests)
 here_after : (base : List SceneEvent) (n : ℕ) (before after : ParsedLines) → line_here n (lines_after base before) (lines_after base after) ≡ line_here n before after
 here_after base n before after = rw (length-append base before.events, length-append base after.events, less_after (length base) (length before.events) (length after.events)) refl
 
--- no line was read
-pub reads_none : (old : LinesRead) → ReadsLines old old []
-unfolding event_lines
-reads_none old = record { tells = λ base is. refl; noted = λ base is. sym (append-nil old.run.lines.items); begun = refl; place = omega (arith) }
+-- no line was read, and nothing has changed
+module _ (old new : LinesRead) (run : parsed_lines new.run ≡ parsed_lines old.run) (lines : new.run.lines.items ≡ old.run.lines.items) (begun : new.is_begun ≡ old.is_begun) (place : new.next ≡ old.next) where
+  reads_same : ReadsLines old new []
+  unfolding event_lines
+  reads_same = record { tells = λ base is. ap (lines_after base) (sym run); noted = λ base is. lines ∙ sym (append-nil old.run.lines.items); begun = begun; place = omega (arith, place) }
 
--- one line more was read
-module _ (old mid new : LinesRead) (front : List RunLine) (so_far : ReadsLines old mid front) (t : List ℕ) where
-  pub reads_more : line_read_behind mid.is_begun (parsed_lines mid.run) t ≡ Ok (parsed_lines new.run) → new.run.lines.items ≡ mid.run.lines.items ++ line_here mid.next (parsed_lines mid.run) (parsed_lines new.run) →
-      new.is_begun ≡ mid.is_begun → new.next ≡ mid.next + 1 → ReadsLines old new (front ++ plain_line t ∷ [])
-  reads_more one noted begun place =
-      let behind : (base : List SceneEvent) → is_begun base ≡ old.is_begun → line_read (lines_after base (parsed_lines mid.run)) (plain_line t) ≡ Ok (lines_after base (parsed_lines new.run)) =
-      λ base is. read_behind base mid.is_begun (parsed_lines mid.run) t (is ∙ sym so_far.begun) ∙ ap (told_after base) one in
+  -- the next one is wrong
+  module _ (t : List ℕ) (rest : List RunLine) where
+    next_fault : (e : LineError) → Fails e (parsed_line (before_next old) t) → (base : List SceneEvent) → is_begun base ≡ old.is_begun → IsNextFault new.next (lines_after base (parsed_lines new.run)) (plain_line t ∷ rest) (fault_at old.next e)
+    next_fault (error.Fault f) wrong base is = (
+      sym place,
+      (plain_line t, rest, refl, subst (λ x. line_read (lines_after base x) (plain_line t) ≡ Err f) (sym run) (read_behind base old t is ∙ ap (λ r. told_after base (lines_with (parsed_lines old.run) r)) wrong)),
+    )
+    next_fault error.OutOfMemory wrong base is = tt
+
+    pub leaves_here : (e : LineError) → Fails e (parsed_line (before_next old) t) → LeavesLines old new (plain_line t ∷ rest) (fault_at old.next e)
+    leaves_here e wrong = record { front = []; rest = plain_line t ∷ rest; whole = refl; reads = reads_same; wrong = next_fault e wrong }
+
+pub reads_none : (old : LinesRead) → ReadsLines old old []
+reads_none old = reads_same old old refl refl refl refl
+
+-- what is read of the lines that are left, and where a fault leaves them, is that of all lines
+pub record ReadsOn (first now : LinesRead) (lines left : List RunLine) : Type 0 where
+  pub reads : (new : LinesRead) → ReadsLines now new left → ReadsLines first new lines
+  pub leaves : (new : LinesRead) (f : ReadFault) → LeavesLines now new left f → LeavesLines first new lines f
+
+-- one line was read
+module _ (old mid : LinesRead) (t : List ℕ) (one : lines_with (parsed_lines old.run) (parsed_line (before_next old) t) ≡ Ok (parsed_lines mid.run)) (noted : NotesLine old mid)
+    (begun : mid.is_begun ≡ old.is_begun) (place : mid.next ≡ old.next + 1) where
+  -- and others after it
+  pub reads_more : (new : LinesRead) (ts : List RunLine) → ReadsLines mid new ts → ReadsLines old new (plain_line t ∷ ts)
+  unfolding event_lines
+  reads_more new ts more =
+      let behind : (base : List SceneEvent) → is_begun base ≡ old.is_begun → line_read (lines_after base (parsed_lines old.run)) (plain_line t) ≡ Ok (lines_after base (parsed_lines mid.run)) =
+      λ base is. read_behind base old t is ∙ ap (told_after base) one in
       record {
-        tells = λ base is. all_append (lines_after base (parsed_lines old.run)) front (lines_after base (parsed_lines mid.run)) (plain_line t ∷ []) (lines_after base (parsed_lines new.run)) (so_far.tells base is) (lines_after base (parsed_lines new.run), behind base is, refl);
+        tells = λ base is. (lines_after base (parsed_lines mid.run), behind base is, more.tells base (is ∙ sym begun));
         noted = λ base is.
-            let first = event_lines old.next (lines_after base (parsed_lines old.run)) front in
-            noted ∙ ap (λ ls. ls ++ line_here mid.next (parsed_lines mid.run) (parsed_lines new.run)) (so_far.noted base is)
-            ∙ append_assoc old.run.lines.items first (line_here mid.next (parsed_lines mid.run) (parsed_lines new.run))
-            ∙ ap (λ ls. old.run.lines.items ++ ls) (
-            ap (λ ls. first ++ ls) (sym (one_noted mid.next _ (plain_line t) _ (behind base is) ∙ here_after base mid.next (parsed_lines mid.run) (parsed_lines new.run)))
-            ∙ sym (noted_append old.next mid.next (lines_after base (parsed_lines old.run)) front (lines_after base (parsed_lines mid.run)) (plain_line t ∷ []) so_far.place (so_far.tells base is))
-            );
-        begun = begun ∙ so_far.begun;
-        place = (let size = length-append front (plain_line t ∷ []) in omega (arith, place, so_far.place, size));
+            let others = event_lines (old.next + 1) (lines_after base (parsed_lines mid.run)) ts in
+            let here = line_here old.next (parsed_lines old.run) (parsed_lines mid.run) in
+            rw (behind base is, here_after base old.next (parsed_lines old.run) (parsed_lines mid.run))
+            ((rw place at more.noted base (is ∙ sym begun)) ∙ ap (λ ls. ls ++ others) noted ∙ append_assoc old.run.lines.items here others);
+        begun = more.begun ∙ begun;
+        place = omega (arith, place, more.place);
       }
 
-  -- or it is wrong
-  module _ (same : IsSameRun mid.run new.run) (begun : new.is_begun ≡ mid.is_begun) (place : new.next ≡ mid.next) where
-    reads_same : ReadsLines old new front
-    reads_same = record {
-      tells = λ base is. subst (λ x. AllRead (lines_after base (parsed_lines old.run)) front (lines_after base x)) (sym same.0) (so_far.tells base is);
-      noted = λ base is. same.1 ∙ so_far.noted base is;
-      begun = begun ∙ so_far.begun;
-      place = place ∙ so_far.place;
-    }
+  -- or the first of them, and these are left
+  pub leaves_more : (new : LinesRead) (ts : List RunLine) (f : ReadFault) → LeavesLines mid new ts f → LeavesLines old new (plain_line t ∷ ts) f
+  leaves_more new ts f left = record {
+    front = plain_line t ∷ left.front;
+    rest = left.rest;
+    whole = ap (λ ls. plain_line t ∷ ls) left.whole;
+    reads = reads_more new left.front left.reads;
+    wrong = λ base is. left.wrong base (is ∙ sym begun);
+  }
 
-    next_fault : (rest : List RunLine) (e : LineError) → Fails e (line_read_behind mid.is_begun (parsed_lines mid.run) t) → (base : List SceneEvent) → is_begun base ≡ old.is_begun →
-        IsNextFault new.next (lines_after base (parsed_lines new.run)) (plain_line t ∷ rest) (fault_at mid.next e)
-    next_fault rest (error.Fault f) h base is = (
-      sym place,
-      (plain_line t, rest, refl, subst (λ x. line_read (lines_after base x) (plain_line t) ≡ Err f) (sym same.0) (read_behind base mid.is_begun (parsed_lines mid.run) t (is ∙ sym so_far.begun) ∙ ap (told_after base) h)),
-    )
-    next_fault rest error.OutOfMemory h base is = tt
-
-    pub leaves_here : (rest lines : List RunLine) → lines ≡ front ++ plain_line t ∷ rest → (e : LineError) → Fails e (line_read_behind mid.is_begun (parsed_lines mid.run) t) → LeavesLines old new lines (fault_at mid.next e)
-    leaves_here rest lines whole e h = record { front = front; rest = plain_line t ∷ rest; whole = whole; reads = reads_same; wrong = next_fault rest e h }
-
--- the first of these lines were read, and these are left
-pub record ReadsFirst (old now : LinesRead) (lines left : List RunLine) : Type 0 where
-  pub front : List RunLine
-  pub whole : lines ≡ front ++ left
-  pub reads : ReadsLines old now front
-
--- no line is left
-pub reads_all : (old now : LinesRead) (lines : List RunLine) → ReadsFirst old now lines [] → ReadsLines old now lines
-reads_all old now lines r = subst (ReadsLines old now) (sym (r.whole ∙ append-nil r.front)) r.reads
+  pub reads_on : (first : LinesRead) (lines ts : List RunLine) → ReadsOn first old lines (plain_line t ∷ ts) → ReadsOn first mid lines ts
+  reads_on first lines ts on = record { reads = λ new r. on.reads new (reads_more new ts r); leaves = λ new f r. on.leaves new f (leaves_more new ts f r) }
 
 -- memory is refused before the next
-pub leaves_refused : (old now : LinesRead) (lines left : List RunLine) → ReadsFirst old now lines left → LeavesLines old now lines fault.OutOfMemory
-leaves_refused old now lines left r = record { front = r.front; rest = left; whole = r.whole; reads = r.reads; wrong = λ base is. tt }
+pub leaves_refused : (old : LinesRead) (lines : List RunLine) → LeavesLines old old lines fault.OutOfMemory
+leaves_refused old lines = record { front = []; rest = lines; whole = refl; reads = reads_none old; wrong = λ base is. tt }

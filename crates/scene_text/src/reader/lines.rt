@@ -2,7 +2,7 @@
 
 ghost use Rattle.std.specs.Prelude.{◌≡◌};
 ghost use Rattle.scene_fields.specs.Fields.{Reads, answered};
-ghost use Rattle.scene_text.specs.Lines.{config_line_fields, event_line_fields, other_event_line_fields, run_event_line_fields};
+ghost use Rattle.scene_text.specs.EventLines.{by_row, config_line_fields, event_line_fields, other_event_rows, run_event_rows, unknown};
 ghost use Rattle.scene_text.specs.SceneTexts.{event_of};
 
 use super::EventResult;
@@ -30,7 +30,7 @@ use std::alloc::Global;
 /// Reads the fields behind a word, which names the kind of event. The words of tests come first, since most lines
 /// are theirs.
 #[inline(always)]
-#[tactic(auto, unfolding(crate::specs::Lines::event_line_fields))]
+#[tactic(auto, unfolding(crate::specs::EventLines::event_rows))]
 pub fn read_event(alloc: Global, ids: &mut BinaryIds, word: &str, fields: Fields<'_>) -> EventResult
     ensures { Reads (λ e. e) result (event_of (event_line_fields word.now fields.entry)) }
 {
@@ -48,14 +48,14 @@ pub fn read_event(alloc: Global, ids: &mut BinaryIds, word: &str, fields: Fields
 // Reads the fields behind a word that names no event of a test. Not inlined: the compiler zeroes all locals of a function at its entry,
 // used or not.
 #[inline(never)]
-#[tactic(auto, unfolding(crate::specs::Lines::other_event_line_fields))]
+#[tactic(auto, unfolding(crate::specs::EventLines::other_event_rows))]
 fn read_other_event(
     alloc: Global,
     ids: &mut BinaryIds,
     word: &str,
     fields: Fields<'_>,
 ) -> EventResult
-    ensures { Reads (λ e. e) result (event_of (other_event_line_fields word.now fields.entry)) }
+    ensures { Reads (λ e. e) result (event_of (by_row unknown other_event_rows word.now fields.entry)) }
 {
     match word {
         "prefix" => read_prefix(alloc, &mut fields.exactly(2)?),
@@ -74,9 +74,9 @@ fn read_other_event(
 
 // Reads the fields behind a word that names an event of the run as it goes on. They hold no text, so only the event allocates.
 #[inline(never)]
-#[tactic(auto, unfolding(crate::specs::Lines::run_event_line_fields))]
+#[tactic(auto, unfolding(crate::specs::EventLines::run_event_rows))]
 fn read_run_event(alloc: Global, word: &str, fields: Fields<'_>) -> EventResult
-    ensures { Reads (λ e. e) result (event_of (run_event_line_fields word.now fields.entry)) }
+    ensures { Reads (λ e. e) result (event_of (by_row unknown run_event_rows word.now fields.entry)) }
 {
     match word {
         "substart" => {
@@ -87,19 +87,16 @@ fn read_run_event(alloc: Global, word: &str, fields: Fields<'_>) -> EventResult
         "kill" => Ok(SceneEvent::RunBeginKill(read_cancel(alloc, &mut fields.exactly(3)?)?)),
         "pause" => Ok(SceneEvent::RunPaused(read_pause(alloc, &mut fields.exactly(2)?)?)),
         "continue" => Ok(SceneEvent::RunContinued(read_pause(alloc, &mut fields.exactly(2)?)?)),
-        "info" => Ok(SceneEvent::InfoStarted(read_info(alloc, &mut fields.exactly(3)?)?)),
+        "info" => read_info(alloc, &mut fields.exactly(3)?),
         "infoend" => Ok(SceneEvent::InfoFinished(fields.exactly(1)?.read(read_count)?)),
-        "input" => Ok(SceneEvent::InputEnter(read_input(alloc, &mut fields.exactly(3)?)?)),
-        "subend" => Ok(SceneEvent::StressSubRunFinished(read_sub_end(
-            alloc,
-            &mut fields.exactly(3)?,
-        )?)),
+        "input" => read_input(alloc, &mut fields.exactly(3)?),
+        "subend" => read_sub_end(alloc, &mut fields.exactly(3)?),
         _ => Err(LineError::Fault(LineFault::UnknownEvent)),
     }
 }
 
 /// Reads a `config` line: a key and its value. The last line of a key counts.
-#[tactic(auto, unfolding(crate::specs::Lines::config_line_fields))]
+#[tactic(auto, unfolding(crate::specs::EventLines::config_line_fields))]
 pub fn read_config(fields: &mut Fields<'_>, config: SceneConfig) -> Result<SceneConfig, LineFault>
     ensures { config_line_fields config fields.old ≡ answered result fields.new }
 {

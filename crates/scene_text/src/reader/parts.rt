@@ -4,7 +4,7 @@
 //! What a unit is doing is a word, as `running`, and its parts. How the attempt ended stands in the next field.
 
 ghost use Rattle.scene_events.specs.Moments.{clock_of, day_of};
-ghost use Rattle.scene_text.specs.Parts.{delay_in, exiting_in, result_or_none_in, running_in, slow_after_in, state_in, state_parts_in, state_with, terminate_reason_in, terminating_in, timing_in, wait_in, checked_clock, checked_day, day_in, moment_in, time_in, highlight_in, highlight_stream_in, progress_in, stress_count_in};
+ghost use Rattle.scene_text.specs.Parts.{delay_in, exiting_in, result_or_none_in, running_in, slow_after_in, state_in, state_parts_in, state_with, terminate_reason_in, terminating_in, timing_in, wait_in, checked_clock, checked_day, moment_in, highlight_in, highlight_stream_in, progress_in, stress_count_in};
 ghost use Rattle.std.specs.Option.{option_map};
 ghost use Rattle.std.specs.Prelude.{◌≡◌, IfOk};
 
@@ -24,7 +24,7 @@ use scene_fields::numbers::{read_code, read_count, read_nanos, read_small_count}
 use scene_fields::results::read_result;
 use scene_fields::split::split_at_byte;
 use scene_fields::texts::{read_bytes, read_text};
-use scene_fields::values::{read_absent, read_flag, read_total};
+use scene_fields::values::{read_flag, read_total};
 use std::alloc::Global;
 
 /// What the parts of a state say. How the attempt ended is not among them.
@@ -225,23 +225,24 @@ fn state_with(parts: StateParts, outcome: Option<ExecutionResultDescription>) ->
 
 /// Reads how far a stress run has come, by iterations or by time: the total, the time that was taken, and the iterations that
 /// have finished. One of endless iterations has finished after 5 ns in `count:inf:5:1`.
-#[tactic(auto, unfolding(crate::specs::Parts::progress_in))]
 pub fn read_progress(field: &str) -> Option<StressProgress>
     ensures { result ≡ progress_in field.now }
 {
     let (word, rest) = split_at_byte(field, b':')?;
     let (total, rest) = split_at_byte(rest, b':')?;
     let (elapsed, completed) = split_at_byte(rest, b':')?;
+    let elapsed = read_nanos(elapsed)?;
+    let completed = read_small_count(completed)?;
     match word {
         "count" => Some(StressProgress::Count {
             total: read_stress_count(total)?,
-            elapsed: read_nanos(elapsed)?,
-            completed: read_small_count(completed)?,
+            elapsed,
+            completed,
         }),
         "time" => Some(StressProgress::Time {
             total: read_nanos(total)?,
-            elapsed: read_nanos(elapsed)?,
-            completed: read_small_count(completed)?,
+            elapsed,
+            completed,
         }),
         _ => None,
     }
@@ -263,8 +264,11 @@ fn read_stress_count(text: &str) -> Option<StressCount>
 pub fn read_highlight(alloc: Global, field: &str) -> Field<Option<Boxed<Highlight>>>
     ensures { IfOk result (λ highlight. highlight ≡ highlight_in field.now) }
 {
+    if field == "-" {
+        return Ok(Some(None));
+    }
     let Some((stream, rest)) = split_at_byte(field, b':') else {
-        return Ok(read_absent(field).map(|()| None));
+        return Ok(None);
     };
     let Some((start, slice)) = split_at_byte(rest, b':') else {
         return Ok(None);
@@ -302,27 +306,25 @@ fn read_highlight_stream(field: &str) -> Option<HighlightStream>
 /// assert!(read_moment("-5,2,28,7,5,9").is_some());
 /// assert!(read_moment("2023,2,29,7,5,9").is_none()); // there is no such day
 /// ```
-#[tactic(auto, unfolding(crate::specs::Parts::moment_in))]
 pub fn read_moment(field: &str) -> Option<SceneMoment>
     ensures { result ≡ moment_in field.now }
 {
     let (year, rest) = split_at_byte(field, b',')?;
     let (month, rest) = split_at_byte(rest, b',')?;
-    let (day, time) = split_at_byte(rest, b',')?;
-    let date = read_day(year, month, day)?;
-    let time = read_time(time)?;
-    Some(SceneMoment::new(date, time))
-}
-
-// Reads a day by the texts of its numbers.
-fn read_day(year: &str, month: &str, day: &str) -> Option<Date>
-    ensures { option_map day_of result ≡ day_in year.now month.now day.now }
-{
-    new_day(
+    let (day, rest) = split_at_byte(rest, b',')?;
+    let (hour, rest) = split_at_byte(rest, b',')?;
+    let (minute, second) = split_at_byte(rest, b',')?;
+    let date = new_day(
         read_code(year)?,
         read_small_count(month)?,
         read_small_count(day)?,
-    )
+    )?;
+    let time = new_time(
+        read_small_count(hour)?,
+        read_small_count(minute)?,
+        read_small_count(second)?,
+    )?;
+    Some(SceneMoment::new(date, time))
 }
 
 // The day that has these numbers.
@@ -333,20 +335,6 @@ fn new_day(year: i32, month: u32, day: u32) -> Option<Date>
     let month = i8::try_from(month).ok()?;
     let day = i8::try_from(day).ok()?;
     Date::new(year, month, day).ok()
-}
-
-// Reads a time of day: hour, minute and second.
-#[tactic(auto, unfolding(crate::specs::Parts::time_in))]
-fn read_time(text: &str) -> Option<Time>
-    ensures { option_map clock_of result ≡ time_in text.now }
-{
-    let (hour, rest) = split_at_byte(text, b',')?;
-    let (minute, second) = split_at_byte(rest, b',')?;
-    new_time(
-        read_small_count(hour)?,
-        read_small_count(minute)?,
-        read_small_count(second)?,
-    )
 }
 
 // The time of day that has these numbers.

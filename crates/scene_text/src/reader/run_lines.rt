@@ -2,18 +2,17 @@
 
 ghost use Rattle.scene_fields.specs.Fields.{Gives};
 ghost use Rattle.scene_fields.specs.Texts.{text_in};
-ghost use Rattle.scene_text.specs.EventLines.{cancel_line_fields, completed_in, end_line_fields, end_stress_line_fields, header_line_fields, input_line_fields, not_seen_fields, pause_line_fields, prefix_line_fields, run_line_fields, some_text_in, sub_end_line_fields, unique_prefix_fields};
+ghost use Rattle.scene_text.specs.EventLines.{cancel_line_fields, end_line_fields, end_stress_line_fields, header_line_fields, input_line_fields, not_seen_fields, pause_line_fields, prefix_line_fields, run_line_fields, some_text_in, sub_end_line_fields, unique_prefix_fields};
 ghost use Rattle.std.specs.Prelude.{◌≡◌, IfOk};
 
 use super::parts::{read_moment, read_progress};
-use super::{EventResult, Field};
+use super::{EventResult, Field, Line};
 use run_model::abort::DescriptionText;
 use run_model::boxed::Boxed;
 use run_model::event::TestCounts;
 use run_model::not_seen::NotSeen;
 use run_model::run_id::ShortestRunIdPrefix;
 use run_model::stats::{RunFinishedStats, StressRunStats};
-use run_model::stress::StressIndex;
 use scene_events::scene::event::SceneEvent;
 use scene_events::scene::run_events::{
     RunCancel, RunFinish, RunPause, RunStart, SceneHeader, StateRequest, SubRunFinish,
@@ -29,7 +28,6 @@ use scene_fields::values::{read_absent, read_reason_or_none, read_run_id, read_s
 use std::alloc::Global;
 
 /// Reads a `run` line: run id, profile, how many tests and binaries, and what is skipped.
-#[tactic(auto, unfolding(crate::specs::EventLines::run_line_fields))]
 pub fn read_run(alloc: Global, fields: &mut Fields<'_>) -> EventResult
     ensures { Gives (λ e. e) fields.old result fields.new run_line_fields }
 {
@@ -46,8 +44,7 @@ pub fn read_run(alloc: Global, fields: &mut Fields<'_>) -> EventResult
 }
 
 /// Reads a `cancel` or `kill` line: how many setup scripts and tests run, and the reason.
-#[tactic(auto, unfolding(crate::specs::EventLines::cancel_line_fields))]
-pub fn read_cancel(alloc: Global, fields: &mut Fields<'_>) -> Result<Boxed<RunCancel>, LineError>
+pub fn read_cancel(alloc: Global, fields: &mut Fields<'_>) -> Line<Boxed<RunCancel>>
     ensures { Gives (λ c. c) fields.old result fields.new cancel_line_fields }
 {
     let cancel = RunCancel {
@@ -59,8 +56,7 @@ pub fn read_cancel(alloc: Global, fields: &mut Fields<'_>) -> Result<Boxed<RunCa
 }
 
 /// Reads a `pause` or `continue` line: how many setup scripts and tests run.
-#[tactic(auto, unfolding(crate::specs::EventLines::pause_line_fields))]
-pub fn read_pause(alloc: Global, fields: &mut Fields<'_>) -> Result<Boxed<RunPause>, LineError>
+pub fn read_pause(alloc: Global, fields: &mut Fields<'_>) -> Line<Boxed<RunPause>>
     ensures { Gives (λ p. p) fields.old result fields.new pause_line_fields }
 {
     let pause = RunPause {
@@ -71,20 +67,18 @@ pub fn read_pause(alloc: Global, fields: &mut Fields<'_>) -> Result<Boxed<RunPau
 }
 
 /// Reads an `input` line: how long the run has taken, its statistics, and how many units run.
-#[tactic(auto, unfolding(crate::specs::EventLines::input_line_fields))]
-pub fn read_input(alloc: Global, fields: &mut Fields<'_>) -> Result<Boxed<StateRequest>, LineError>
-    ensures { Gives (λ r. r) fields.old result fields.new input_line_fields }
+pub fn read_input(alloc: Global, fields: &mut Fields<'_>) -> EventResult
+    ensures { Gives (λ e. e) fields.old result fields.new input_line_fields }
 {
     let request = StateRequest {
         elapsed: fields.read(read_nanos)?,
         current_stats: fields.read(read_stats)?,
         running: fields.read(read_count)?,
     };
-    Ok(Boxed::new(alloc, request)?)
+    Ok(SceneEvent::InputEnter(Boxed::new(alloc, request)?))
 }
 
 /// Reads an `end` line: how long the run took, its statistics, and the tests that were not seen.
-#[tactic(auto, unfolding(crate::specs::EventLines::end_line_fields))]
 pub fn read_end(alloc: Global, fields: &mut Fields<'_>) -> EventResult
     ensures { Gives (λ e. e) fields.old result fields.new end_line_fields }
 {
@@ -97,8 +91,7 @@ pub fn read_end(alloc: Global, fields: &mut Fields<'_>) -> EventResult
 }
 
 /// Reads how many tests were not seen, and those of them that are listed.
-#[tactic(auto, unfolding(crate::specs::EventLines::not_seen_fields))]
-pub fn read_not_seen(alloc: Global, fields: &mut Fields<'_>) -> Result<Option<NotSeen>, LineError>
+pub fn read_not_seen(alloc: Global, fields: &mut Fields<'_>) -> Line<Option<NotSeen>>
     ensures { Gives (λ o. o) fields.old result fields.new not_seen_fields }
 {
     let total_not_seen = fields.read(read_count)?;
@@ -113,31 +106,26 @@ pub fn read_not_seen(alloc: Global, fields: &mut Fields<'_>) -> Result<Option<No
 }
 
 /// Reads a `subend` line: how far the stress run has come, how long the iteration took, and its statistics.
-#[tactic(auto, unfolding(crate::specs::EventLines::sub_end_line_fields))]
-pub fn read_sub_end(
-    alloc: Global,
-    fields: &mut Fields<'_>,
-) -> Result<Boxed<SubRunFinish>, LineError>
-    ensures { Gives (λ f. f) fields.old result fields.new sub_end_line_fields }
+pub fn read_sub_end(alloc: Global, fields: &mut Fields<'_>) -> EventResult
+    ensures { Gives (λ e. e) fields.old result fields.new sub_end_line_fields }
 {
     let finish = SubRunFinish {
         progress: fields.read(read_progress)?,
         sub_elapsed: fields.read(read_nanos)?,
         sub_stats: fields.read(read_stats)?,
     };
-    Ok(Boxed::new(alloc, finish)?)
+    Ok(SceneEvent::StressSubRunFinished(Boxed::new(alloc, finish)?))
 }
 
 /// Reads an `endstress` line: how long the run took, how many iterations have finished, succeeded and failed, the
 /// statistics of the last one, and the tests that were not seen.
-#[tactic(auto, unfolding(crate::specs::EventLines::end_stress_line_fields))]
 pub fn read_end_stress(alloc: Global, fields: &mut Fields<'_>) -> EventResult
     ensures { Gives (λ e. e) fields.old result fields.new end_stress_line_fields }
 {
     let finish = RunFinish {
         elapsed: fields.read(read_nanos)?,
         run_stats: RunFinishedStats::Stress(StressRunStats {
-            completed: fields.read(read_completed)?,
+            completed: fields.read(|field| read_stress_index(field).flatten())?,
             success_count: fields.read(read_small_count)?,
             failed_count: fields.read(read_small_count)?,
             last_final_stats: fields.read(read_stats)?.summarize_final(),
@@ -147,15 +135,7 @@ pub fn read_end_stress(alloc: Global, fields: &mut Fields<'_>) -> EventResult
     Ok(SceneEvent::RunFinished(Boxed::new(alloc, finish)?))
 }
 
-// Reads how many iterations have finished, perhaps of how many.
-fn read_completed(field: &str) -> Option<StressIndex>
-    ensures { result ≡ completed_in field.now }
-{
-    read_stress_index(field)?
-}
-
 /// Reads a `prefix` line: the part of the run's id that no other run has, and the rest.
-#[tactic(auto, unfolding(crate::specs::EventLines::prefix_line_fields))]
 pub fn read_prefix(alloc: Global, fields: &mut Fields<'_>) -> EventResult
     ensures { Gives (λ e. e) fields.old result fields.new prefix_line_fields }
 {
@@ -166,7 +146,6 @@ pub fn read_prefix(alloc: Global, fields: &mut Fields<'_>) -> EventResult
 }
 
 /// Reads a `header` line: the run's id, its prefix and the rest, when it started, and how it ended.
-#[tactic(auto, unfolding(crate::specs::EventLines::header_line_fields))]
 pub fn read_header(alloc: Global, fields: &mut Fields<'_>) -> EventResult
     ensures { Gives (λ e. e) fields.old result fields.new header_line_fields }
 {
@@ -180,11 +159,7 @@ pub fn read_header(alloc: Global, fields: &mut Fields<'_>) -> EventResult
 }
 
 // Reads a prefix and the rest of the id, or twice `-`.
-#[tactic(auto, unfolding(crate::specs::EventLines::unique_prefix_fields))]
-fn read_unique_prefix(
-    alloc: Global,
-    fields: &mut Fields<'_>,
-) -> Result<Option<ShortestRunIdPrefix>, LineError>
+fn read_unique_prefix(alloc: Global, fields: &mut Fields<'_>) -> Line<Option<ShortestRunIdPrefix>>
     ensures { Gives (λ p. p) fields.old result fields.new unique_prefix_fields }
 {
     let prefix = fields.take()?;

@@ -10,7 +10,7 @@ ghost use Rattle.std.specs.Prelude.{◌≡◌, ◌++◌, drop, IsTrue, IfOk};
 
 use super::binary_ids::BinaryIds;
 use super::parts::{read_highlight, read_state, read_state_parts};
-use super::{EventResult, Field};
+use super::{EventResult, Field, Line};
 use bytes::{Bytes, BytesMut};
 use run_model::boxed::Boxed;
 use run_model::output::{ChildOutputDescription, ChildSingleOutput, ErrorChain};
@@ -40,7 +40,6 @@ use std::alloc::Global;
 use std::mem;
 
 /// Reads a `start` line: the test, the statistics, and the command.
-#[tactic(auto, unfolding(crate::specs::EventLines::start_line_fields))]
 pub fn read_start(alloc: Global, ids: &mut BinaryIds, fields: &mut Fields<'_>) -> EventResult
     ensures { Gives (λ e. e) fields.old result fields.new start_line_fields }
 {
@@ -53,7 +52,6 @@ pub fn read_start(alloc: Global, ids: &mut BinaryIds, fields: &mut Fields<'_>) -
 }
 
 /// Reads a `retrystart` line: the test, the attempt, and the command.
-#[tactic(auto, unfolding(crate::specs::EventLines::retry_start_line_fields))]
 pub fn read_retry_start(alloc: Global, ids: &mut BinaryIds, fields: &mut Fields<'_>) -> EventResult
     ensures { Gives (λ e. e) fields.old result fields.new retry_start_line_fields }
 {
@@ -66,7 +64,6 @@ pub fn read_retry_start(alloc: Global, ids: &mut BinaryIds, fields: &mut Fields<
 }
 
 /// Reads a `slow` line: the test, the attempt, how long it has taken, and whether it is ended.
-#[tactic(auto, unfolding(crate::specs::EventLines::slow_line_fields))]
 pub fn read_slow(alloc: Global, ids: &mut BinaryIds, fields: &mut Fields<'_>) -> EventResult
     ensures { Gives (λ e. e) fields.old result fields.new slow_line_fields }
 {
@@ -81,7 +78,6 @@ pub fn read_slow(alloc: Global, ids: &mut BinaryIds, fields: &mut Fields<'_>) ->
 
 /// Reads a `retry` line: the test, which attempt failed, how long the next one waits, when the output is shown, and the
 /// attempt.
-#[tactic(auto, unfolding(crate::specs::EventLines::retry_line_fields))]
 pub fn read_retry(alloc: Global, ids: &mut BinaryIds, fields: &mut Fields<'_>) -> EventResult
     ensures { Gives (λ e. e) fields.old result fields.new retry_line_fields }
 {
@@ -98,7 +94,6 @@ pub fn read_retry(alloc: Global, ids: &mut BinaryIds, fields: &mut Fields<'_>) -
 
 /// Reads a `done` line: the test, when the output of a success and of a failure is shown, what a
 /// flaky test counts as, the statistics, how many attempts there can be, and the attempts.
-#[tactic(auto, unfolding(crate::specs::EventLines::done_line_fields))]
 pub fn read_done(alloc: Global, ids: &mut BinaryIds, fields: &mut Fields<'_>) -> EventResult
     ensures { Gives (λ e. e) fields.old result fields.new done_line_fields }
 {
@@ -129,11 +124,7 @@ pub fn read_skip(alloc: Global, ids: &mut BinaryIds, fields: &mut Fields<'_>) ->
 /// Reads which test it is: stress index, binary id and name.
 #[inline(always)]
 #[tactic(auto, unfolding(crate::specs::EventLines::test_fields))]
-pub fn read_test(
-    alloc: Global,
-    ids: &mut BinaryIds,
-    fields: &mut Fields<'_>,
-) -> Result<SceneTest, LineError>
+pub fn read_test(alloc: Global, ids: &mut BinaryIds, fields: &mut Fields<'_>) -> Line<SceneTest>
     ensures { Gives (λ t. t) fields.old result fields.new test_fields }
 {
     let stress_index = fields.read(read_stress_index)?;
@@ -162,7 +153,7 @@ fn read_attempts(
     fields: &mut Fields<'_>,
     flaky_result: FlakyResult,
     total_attempts: u32,
-) -> Result<SceneAttempts, LineError>
+) -> Line<SceneAttempts>
     ensures { Gives (λ s. s) fields.old result fields.new (all_attempts flaky_result total_attempts) }
 {
     let first = RetryData {
@@ -185,7 +176,7 @@ fn read_more_attempts(
     flaky_result: FlakyResult,
     total_attempts: u32,
     first: SceneAttempt,
-) -> Result<SceneAttempts, LineError>
+) -> Line<SceneAttempts>
     ensures { Gives (λ s. s) fields.old result fields.new (attempts_behind flaky_result total_attempts first) }
 {
     let mut last = first;
@@ -210,7 +201,7 @@ pub fn read_attempt(
     alloc: Global,
     fields: &mut Fields<'_>,
     retry_data: RetryData,
-) -> Result<SceneAttempt, LineError>
+) -> Line<SceneAttempt>
     ensures { Gives (λ s. s) fields.old result fields.new (attempt_fields retry_data) }
 {
     let outcome = fields.try_read(|field| read_result(alloc, field))?;
@@ -221,7 +212,7 @@ pub fn read_attempt(
 }
 
 // Reads what an attempt wrote. Most wrote nothing, and then it allocates nothing.
-fn read_attempt_output(alloc: Global, fields: &mut Fields<'_>) -> Result<AttemptOutput, LineError>
+fn read_attempt_output(alloc: Global, fields: &mut Fields<'_>) -> Line<AttemptOutput>
     ensures { Gives (λ o. o) fields.old result fields.new output_fields }
 {
     if take_empty_output(fields) {
@@ -232,7 +223,7 @@ fn read_attempt_output(alloc: Global, fields: &mut Fields<'_>) -> Result<Attempt
 
 // Reads what an attempt wrote that wrote something. It stands by itself, as `read_more_attempts` does.
 #[inline(never)]
-fn read_written_output(alloc: Global, fields: &mut Fields<'_>) -> Result<AttemptOutput, LineError>
+fn read_written_output(alloc: Global, fields: &mut Fields<'_>) -> Line<AttemptOutput>
     ensures { Gives (λ o. o) fields.old result fields.new output_fields }
 {
     let output = read_output(alloc, fields)?;
@@ -240,7 +231,6 @@ fn read_written_output(alloc: Global, fields: &mut Fields<'_>) -> Result<Attempt
 }
 
 /// Reads a `setup` line: the iteration, which script it is of how many, and the script.
-#[tactic(auto, unfolding(crate::specs::EventLines::setup_line_fields))]
 pub fn read_setup(alloc: Global, fields: &mut Fields<'_>) -> EventResult
     ensures { Gives (λ e. e) fields.old result fields.new setup_line_fields }
 {
@@ -254,7 +244,6 @@ pub fn read_setup(alloc: Global, fields: &mut Fields<'_>) -> EventResult
 }
 
 /// Reads a `setupslow` line: the iteration, the script, how long it has taken, and whether it is ended.
-#[tactic(auto, unfolding(crate::specs::EventLines::setup_slow_line_fields))]
 pub fn read_setup_slow(alloc: Global, fields: &mut Fields<'_>) -> EventResult
     ensures { Gives (λ e. e) fields.old result fields.new setup_slow_line_fields }
 {
@@ -268,7 +257,6 @@ pub fn read_setup_slow(alloc: Global, fields: &mut Fields<'_>) -> EventResult
 }
 
 /// Reads a `setupdone` line: the iteration, the script, and its only attempt.
-#[tactic(auto, unfolding(crate::specs::EventLines::setup_done_line_fields))]
 pub fn read_setup_done(alloc: Global, fields: &mut Fields<'_>) -> EventResult
     ensures { Gives (λ e. e) fields.old result fields.new setup_done_line_fields }
 {
@@ -282,7 +270,7 @@ pub fn read_setup_done(alloc: Global, fields: &mut Fields<'_>) -> EventResult
 
 /// Reads which script it is: its id, the program, and the program's arguments.
 #[tactic(auto, unfolding(crate::specs::EventLines::script_fields))]
-pub fn read_script(alloc: Global, fields: &mut Fields<'_>) -> Result<SceneScript, LineError>
+pub fn read_script(alloc: Global, fields: &mut Fields<'_>) -> Line<SceneScript>
     ensures { Gives (λ s. s) fields.old result fields.new script_fields }
 {
     Ok(SceneScript {
@@ -293,20 +281,18 @@ pub fn read_script(alloc: Global, fields: &mut Fields<'_>) -> Result<SceneScript
 }
 
 /// Reads an `info` line: how long the run has taken, how many units were asked, and its statistics.
-#[tactic(auto, unfolding(crate::specs::EventLines::info_line_fields))]
-pub fn read_info(alloc: Global, fields: &mut Fields<'_>) -> Result<Boxed<InfoStart>, LineError>
-    ensures { Gives (λ s. s) fields.old result fields.new info_line_fields }
+pub fn read_info(alloc: Global, fields: &mut Fields<'_>) -> EventResult
+    ensures { Gives (λ e. e) fields.old result fields.new info_line_fields }
 {
     let start = InfoStart {
         elapsed: fields.read(read_nanos)?,
         total: fields.read(read_count)?,
         run_stats: fields.read(read_stats)?,
     };
-    Ok(Boxed::new(alloc, start)?)
+    Ok(SceneEvent::InfoStarted(Boxed::new(alloc, start)?))
 }
 
 /// Reads an `answer-script` line: which answer it is of how many, the iteration, the script, and its answer.
-#[tactic(auto, unfolding(crate::specs::EventLines::answer_script_line_fields))]
 pub fn read_answer_script(alloc: Global, fields: &mut Fields<'_>) -> EventResult
     ensures { Gives (λ e. e) fields.old result fields.new answer_script_line_fields }
 {
@@ -321,7 +307,6 @@ pub fn read_answer_script(alloc: Global, fields: &mut Fields<'_>) -> EventResult
 }
 
 /// Reads an `answer-test` line: which answer it is of how many, the test, the attempt, and its answer.
-#[tactic(auto, unfolding(crate::specs::EventLines::answer_test_line_fields))]
 pub fn read_answer_test(alloc: Global, ids: &mut BinaryIds, fields: &mut Fields<'_>) -> EventResult
     ensures { Gives (λ e. e) fields.old result fields.new answer_test_line_fields }
 {
@@ -337,7 +322,7 @@ pub fn read_answer_test(alloc: Global, ids: &mut BinaryIds, fields: &mut Fields<
 
 // Reads what a unit is doing, how the attempt ended, and what it has written so far.
 #[tactic(auto, unfolding(crate::specs::EventLines::answer_fields))]
-fn read_answer(alloc: Global, fields: &mut Fields<'_>) -> Result<UnitAnswer, LineError>
+fn read_answer(alloc: Global, fields: &mut Fields<'_>) -> Line<UnitAnswer>
     ensures { Gives (λ a. a) fields.old result fields.new answer_fields }
 {
     let parts = fields.try_read(|field| read_state_parts(alloc, field))?;
@@ -350,7 +335,7 @@ fn read_answer(alloc: Global, fields: &mut Fields<'_>) -> Result<UnitAnswer, Lin
 
 /// Reads what a unit wrote.
 #[tactic(auto, unfolding(crate::specs::EventLines::output_fields))]
-pub fn read_output(alloc: Global, fields: &mut Fields<'_>) -> Result<SceneOutput, LineError>
+pub fn read_output(alloc: Global, fields: &mut Fields<'_>) -> Line<SceneOutput>
     ensures { Gives (λ o. o) fields.old result fields.new output_fields }
 {
     match fields.take()? {
@@ -413,7 +398,7 @@ fn read_after_streams(
     alloc: Global,
     fields: &mut Fields<'_>,
     output: ChildOutputDescription,
-) -> Result<SceneOutput, LineError>
+) -> Line<SceneOutput>
     ensures { Gives (λ o. o) fields.old result fields.new (after_streams output) }
 {
     Ok(SceneOutput::Output {
@@ -424,10 +409,7 @@ fn read_after_streams(
 }
 
 // Takes a stream's bytes, or `-` where it was not captured.
-fn take_stream(
-    alloc: Global,
-    fields: &mut Fields<'_>,
-) -> Result<Option<ChildSingleOutput>, LineError>
+fn take_stream(alloc: Global, fields: &mut Fields<'_>) -> Line<Option<ChildSingleOutput>>
     ensures { Gives (λ stream. stream) fields.old result fields.new (field stream_in) }
 {
     match fields.take_memory(alloc) {
@@ -437,7 +419,7 @@ fn take_stream(
 }
 
 // Takes the bytes of both streams together.
-fn take_single(alloc: Global, fields: &mut Fields<'_>) -> Result<ChildSingleOutput, LineError>
+fn take_single(alloc: Global, fields: &mut Fields<'_>) -> Line<ChildSingleOutput>
     ensures { Gives (λ output. output) fields.old result fields.new (field bytes_in) }
 {
     match fields.take_memory(alloc) {

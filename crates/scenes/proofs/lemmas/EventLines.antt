@@ -5,7 +5,7 @@ use Rattle.scenes.proofs.Common.{AllRead, EventLine, is_begun, length-append, li
 use Rattle.std.proofs.lemmas.List.{append_cancel_left}
 use Rattle.scene_text.specs.SceneTexts.{ConfigLine, NoEvent, event_lines, is_passed_over, line_read, LinesBefore, event_of, parsed_line, event_line, with_event, parsed_words, parsed_config}
 use Rattle.std.proofs.lemmas.Bool.{cond_both}
-use Rattle.scene_text.specs.Lines.{event_line_fields}
+use Rattle.scene_text.specs.EventLines.{event_line_fields}
 use Rattle.scene_fields.specs.Fields.{Place}
 use Rattle.std.specs.Str.{is_utf8}
 use Rattle.scene_fields.specs.declared.fault.LineFault.TheVariants.{NotUtf8}

@@ -1,34 +1,27 @@
-use Rattle.std.proofs.Common.{◌≡◌, [], ◌∷◌, ◌++◌, ◌∙◌, ap, append_assoc, map, refl, sym}
+use Rattle.std.proofs.Common.{◌≡◌, ◌+◌, ◌∷◌, ap, map, refl}
 use Rattle.scene_fields.specs.Split.{pieces_left}
 use Rattle.scene_text.specs.SceneTexts.{plain_line, text_lines}
-use Rattle.scene_text.proofs.lemmas.Tellings.{leaves_here, leaves_refused, reads_all, reads_more, reads_none}
+use Rattle.scene_text.proofs.lemmas.Tellings.{leaves_here, leaves_refused, reads_none, reads_on}
 use Rattle.scene_text.proofs.reader.LinesRead.read_more.Goals as goal
 
 pub loop-number-init : goal.loop-number-init
-loop-number-init c = record { number = refl; reads = record { front = []; whole = refl; reads = reads_none c.args.self.now } }
+loop-number-init c = record { number = refl; on = record { reads = λ new r. r; leaves = λ new f r. r } }
 
 pub returns-in-None-clause-read : goal.returns-in-None-clause-read
-returns-in-None-clause-read c = reads_all _ _ _ (rw c.in-None.is at c.loop-number.invariant.reads)
+returns-in-None-clause-read c = (rw c.in-None.is at c.loop-number.invariant.on).reads _ (reads_none _)
 
 pub returns-in-Err-clause-left : goal.returns-in-Err-clause-left
 returns-in-Err-clause-left c =
+    let h = c.in-Err.ensures.read in
     let cut : text_lines c.in-Some.left.now ≡ plain_line c.first_line.result.0.now ∷ map plain_line (pieces_left 10 c.first_line.result.1) = ap (map plain_line) c.first_line.ensures.lines in
-    let first = rw c.in-Some.is at c.loop-number.invariant.reads in
-    rw (c.fault_at.ensures, ← c.loop-number.invariant.number)
-    (leaves_here _ _ _ first.front first.reads c.first_line.result.0.now c.in-Err.ensures.read.1 c.in-Err.ensures.read.2 c.in-Err.ensures.read.3 _ _ (first.whole ∙ ap (λ ls. first.front ++ ls) cut) c.in-Err.error c.in-Err.ensures.read.0)
+    (rw (c.in-Some.is, cut) at c.loop-number.invariant.on).leaves _ _ (rw (c.fault_at.ensures, ← c.loop-number.invariant.number) (leaves_here _ _ h.1 h.2 h.3 h.4 _ _ c.in-Err.error h.0))
 
 pub loop-number-preserved : goal.loop-number-preserved
 loop-number-preserved c =
+    let h = c.in-Ok.ensures.read in
     let cut : text_lines c.in-Some.left.now ≡ plain_line c.first_line.result.0.now ∷ map plain_line (pieces_left 10 c.first_line.result.1) = ap (map plain_line) c.first_line.ensures.lines in
-    let first = rw c.in-Some.is at c.loop-number.invariant.reads in
-    record {
-      number = refl;
-      reads = record {
-        front = first.front ++ plain_line c.first_line.result.0.now ∷ [];
-        whole = first.whole ∙ ap (λ ls. first.front ++ ls) cut ∙ sym (append_assoc first.front (plain_line c.first_line.result.0.now ∷ []) (map plain_line (pieces_left 10 c.first_line.result.1)));
-        reads = reads_more _ _ _ first.front first.reads c.first_line.result.0.now c.in-Ok.ensures.read.0 c.in-Ok.ensures.noted c.in-Ok.ensures.read.1 (rw c.loop-number.invariant.number refl);
-      };
-    }
+    let place : c.loop-number.number + 1 ≡ c.loop-number.self.next + 1 = rw c.loop-number.invariant.number refl in
+    record { number = refl; on = reads_on c.loop-number.self _ _ h.0 c.in-Ok.ensures.noted h.1 place _ _ _ (rw (c.in-Some.is, cut) at c.loop-number.invariant.on) }
 
 pub returns-clause-left : goal.returns-clause-left
-returns-clause-left c = leaves_refused _ _ _ _ c.loop-number.invariant.reads
+returns-clause-left c = c.loop-number.invariant.on.leaves _ _ (leaves_refused _ _)

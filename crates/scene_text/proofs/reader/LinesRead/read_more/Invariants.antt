@@ -1,12 +1,8 @@
 use Rattle.std.proofs.Common.{◌≡◌, map}
 use Rattle.scene_fields.specs.Split.{pieces_left}
 use Rattle.scene_text.specs.SceneTexts.{plain_line, text_lines}
-use Rattle.scene_text.proofs.lemmas.Tellings.{ReadsFirst}
+use Rattle.scene_text.proofs.lemmas.Tellings.{ReadsOn}
 use Rattle.scene_text.proofs.reader.LinesRead.read_more.Given as goal
 
--- the first lines were read, and what is left is left
 abbrev pub invariant-loop-number : goal.invariant-loop-number
-invariant-loop-number l = record {
-  number : l.self.next ≡ l.number;
-  reads : ReadsFirst l.initial.self l.self (text_lines l.text) (map plain_line (pieces_left 10 l.rest));
-}
+invariant-loop-number l = record { number : l.self.next ≡ l.number; on : ReadsOn l.initial.self l.self (text_lines l.text) (map plain_line (pieces_left 10 l.rest)) }

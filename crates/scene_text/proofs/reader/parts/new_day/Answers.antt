@@ -1,11 +1,56 @@
-use Rattle.std.proofs.Common.{◌∙◌, w8, w16, w32}
-use Rattle.std.proofs.lemmas.Int.{to_z-of_z}
-use Rattle.scene_text.proofs.lemmas.Days.{day_made, kept}
+use Rattle.std.proofs.Common.{◌≡◌, ◌≤◌, ◌↔◌, ℕ, ℤ, pos, negsuc, unsigned_abs, nat_le, true≢false, Some, Result, Ok, Err, IsOk, IfOk, refl, sym, ap, ◌∙◌, arith, OkIff, FitsSigned, to_z, of_z, w8, w16, w32}
+use Rattle.std.specs.Bool.{Decides}
+use Rattle.std.specs.Int.{is_in_range}
+use Rattle.std.specs.Option.{option_map}
+use Rattle.std.specs.Result.{result_ok}
+use Rattle.std.proofs.lemmas.Bool.{le-leb, leb-true, false_from_ne_true}
+use Rattle.std.proofs.lemmas.Bool.Decides.{Decides-and, Decides-like}
+use Rattle.std.proofs.lemmas.Int.{ints, to_z-of_z}
+use mir.Syntax.{Width}
+use Rattle.jiff_core.specs.Calendar.{days_in_month, IsBetween, IsDate, IsYear}
+use Rattle.jiff_core.specs.Date.{IsYmd}
+use Rattle.jiff_core.specs.declared.civil.date.Date.{Date}
+use Rattle.scene_events.specs.Moments.{Day, day_of}
+use Rattle.scene_text.specs.Parts.{checked_day, is_day}
 use Rattle.scene_text.proofs.reader.parts.new_day.Goals as goal
+
+at_most : (a b : ℕ) → Decides (nat_le a b) (a ≤ b)
+at_most a b = (leb-true a b, le-leb a b)
+
+counted : (n a : ℕ) → Decides (is_in_range 1 n a) (IsBetween (pos 1) (pos n) (pos a))
+counted n a =
+    Decides-like _ (λ h. (omega (arith, ints, h.0), omega (arith, ints, h.1))) (λ h. (omega (arith, ints, h.0), omega (arith, ints, h.1)))
+    (Decides-and (nat_le 1 a) (nat_le a n) (at_most 1 a) (at_most a n))
+
+year : (y : ℤ) → Decides (nat_le (unsigned_abs y) 9999) (IsYear y)
+year (pos n) = Decides-like _ (λ h. (omega (arith, ints, h), omega (arith, ints, h))) (λ h. omega (arith, ints, h.1)) (at_most n 9999)
+year (negsuc n) = Decides-like _ (λ h. (omega (arith, ints, h), omega (arith, ints, h))) (λ h. omega (arith, ints, h.0)) (at_most (unsigned_abs (negsuc n)) 9999)
+
+is_day_Decides : (d : Day) → Decides (is_day d) (IsDate d.year (pos d.month) (pos d.day))
+is_day_Decides d =
+    Decides-like _ (λ h. (h.0, h.1.0, h.1.1)) (λ h. (h.0, (h.1, h.2)))
+    (Decides-and _ _ (year d.year) (Decides-and _ _ (counted 12 d.month) (counted (days_in_month d.year d.month) d.day)))
+
+-- what jiff makes of the numbers
+day_made : {E : Type 0} (r : Result Date E) (z p q : ℤ) (d : Day) → z ≡ d.year → p ≡ pos d.month → q ≡ pos d.day → (IsOk r ↔ IsDate z p q) → IfOk r (IsYmd z p q) → option_map day_of (result_ok r) ≡ checked_day d
+day_made (Ok x) z p q d g e f made is =
+    let same_year : x.year ≡ d.year = is.0 ∙ g in
+    let month : x.month ≡ d.month = ap unsigned_abs (is.1 ∙ e) in
+    let day : x.day ≡ d.day = ap unsigned_abs (is.2 ∙ f) in
+    rw ((is_day_Decides d).1 (rw (g, e, f) at made.0 refl), same_year, month, day) refl
+day_made (Err x) z p q d g e f made is =
+    rw (false_from_ne_true (is_day d) (λ t. true≢false (sym (made.1 (rw (g, e, f) ((is_day_Decides d).0 t)))))) refl
+
+-- a conversion to a narrower type keeps the number, if it is there
+kept : {E : Type 0} (w : Width) (r : Result ℤ E) (v x : ℤ) → Some x ≡ result_ok r → OkIff r (FitsSigned w v) v → to_z w (of_z w x) ≡ v
+kept w (Ok z) v x e h =
+    let same : x ≡ z = cc in
+    rw (same, h.1) (to_z-of_z w v h.0)
+kept w (Err z) v x e h = cc
 
 pub returns : goal.returns
 returns c =
     let year = kept w16 c.try_from.result _ c.in_ok-year.year c.in_ok-year.ensures.value c.try_from.ensures ∙ to_z-of_z w32 c.args.year c.ranges.year in
     let month = kept w8 c.try_from-2.result _ c.in_ok-month.month c.in_ok-month.ensures.value c.try_from-2.ensures in
     let day = kept w8 c.try_from-3.result _ c.in_ok-day.day c.in_ok-day.ensures.value c.try_from-3.ensures in
-    rw c.ok-4.ensures.value (day_made c.new.result _ _ _ c.args.year c.args.month c.args.day year month day c.new.ensures.succeeds c.new.ensures.value)
+    rw c.ok-4.ensures.value (day_made c.new.result _ _ _ (record { year = c.args.year; month = c.args.month; day = c.args.day }) year month day c.new.ensures.succeeds c.new.ensures.value)

@@ -1,12 +1,14 @@
-use Rattle.std.proofs.Common.{◌∙◌, arith, subst, sym}
-use Rattle.scene_fields.specs.Fields.{Reads}
-use Rattle.scene_text.proofs.lemmas.Attempts.{first_read, only_attempt}
+use Rattle.std.proofs.Common.{◌≡◌, ◌/◌, Ok, ap, arith, length, sym}
+use Rattle.scene_text.specs.EventLines.{all_attempts, attempts_from}
 use Rattle.scene_text.proofs.reader.unit_lines.read_attempts.Goals as goal
 
 pub returns-then-len-lt8 : goal.returns-then-len-lt8
+unfolding all_attempts attempts_from
 returns-then-len-lt8 c =
+    let none : length c.read_attempt.new.fields.left / 8 ≡ 0 = omega (arith, c.len.ensures, c.if-len-lt8.true) in
     let made = rw c.new.ensures.items at c.in_ok-with_last.ensures in
-    rw made (first_read _ _ _ _ _ c.in_ok-first.ensures ∙ only_attempt _ _ _ _ (omega (arith, c.len.ensures, c.if-len-lt8.true)))
+    rw (c.in_ok-first.ensures, none) (ap (λ a. Ok (a, c.read_attempt.new.fields)) (sym made))
 
 pub returns : goal.returns
-returns c = subst (Reads _ c.read_more_attempts.result) (sym (first_read _ _ _ _ _ c.in_ok-first.ensures)) c.read_more_attempts.ensures
+unfolding all_attempts
+returns c = rw c.in_ok-first.ensures c.read_more_attempts.ensures
