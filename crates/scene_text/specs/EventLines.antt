@@ -19,14 +19,13 @@ use Rattle.scene_events.specs.declared.scene.event.SceneEvent.{SceneEvent}
 use Rattle.scene_events.specs.declared.scene.event.SceneEvent.TheVariants as event
 use Rattle.scene_events.specs.declared.scene.run_events.RunCancel.{RunCancel}
 use Rattle.scene_events.specs.declared.scene.run_events.RunPause.{RunPause}
-use Rattle.scene_events.specs.declared.scene.run_events.SceneScript.{SceneScript}
+use Rattle.scene_events.specs.declared.scene.unit_events.SceneScript.{SceneScript}
 use Rattle.scene_events.specs.declared.scene.run_events.StateRequest.{StateRequest}
 use Rattle.scene_events.specs.declared.scene.run_events.SubRunFinish.{SubRunFinish}
-use Rattle.scene_events.specs.declared.scene.test_events.InfoStart.{InfoStart}
-use Rattle.scene_events.specs.declared.scene.test_events.SceneTest.{SceneTest}
-use Rattle.scene_events.specs.declared.scene.test_events.UnitAnswer.{UnitAnswer}
-use Rattle.scene_events.specs.declared.scene.units.SceneOutput.{SceneOutput}
-use Rattle.scene_events.specs.declared.scene.units.SceneOutput.TheVariants.{Output, StartError}
+use Rattle.scene_events.specs.declared.scene.unit_events.SceneTest.{SceneTest}
+use Rattle.scene_events.specs.declared.scene.unit_events.UnitAnswer.{UnitAnswer}
+use Rattle.scene_events.specs.declared.scene.outputs.SceneOutput.{SceneOutput}
+use Rattle.scene_events.specs.declared.scene.outputs.SceneOutput.TheVariants.{Output, StartError}
 use Rattle.scene_fields.specs.Counts.{stats_in, skips_in}
 use Rattle.scene_fields.specs.Fields.{◌>>=◌, Line, says, field, Place, next, valued}
 use Rattle.scene_fields.specs.Lists.{words_of, instances_in, chain_in, errors_in}
@@ -35,7 +34,7 @@ use Rattle.scene_fields.specs.Results.{result_in}
 use Rattle.scene_fields.specs.Texts.{text_in, bytes_in}
 use Rattle.scene_fields.specs.Values.{display_in, flag_in, flaky_in, stress_in, reason_or_none_in, absent_in}
 use Rattle.scene_fields.specs.declared.fault.LineFault.TheVariants.{WrongNumberOfFields}
-use Rattle.scene_text.specs.Parts.{state_in, state_parts_in, progress_in, moment_in, highlight_in}
+use Rattle.scene_text.specs.Parts.{state_in, state_with, result_or_none_in, progress_in, moment_in, highlight_in}
 
 -- what is made of the value of fields
 abbrev pub made : {X Y : Type 0} → (X → Y) → Line X → Line Y
@@ -241,20 +240,21 @@ setup_done_line_fields = do
   says (event.SetupScriptFinished (record { attempt = attempt; stress_index = stress_index; script = script }))
 
 -- `info`: how long the run has taken, how many units were asked, and statistics
-unfoldable pub info_line_fields : Line InfoStart
+unfoldable pub info_line_fields : Line StateRequest
 info_line_fields = do
   elapsed ← field nanos_in
   total ← field (number_in 64)
   stats ← field stats_in
-  says (record { elapsed = elapsed; total = total; run_stats = stats })
+  says (record { elapsed = elapsed; current_stats = stats; running = total })
 
 -- what a unit is doing, how the attempt ended, and what it has written
 unfoldable pub answer_fields : Line UnitAnswer
 answer_fields = do
-  parts ← field state_parts_in
-  state ← field (state_in parts)
+  begun ← field state_in
+  result ← field result_or_none_in
+  state ← valued (state_with result begun)
   output ← output_fields
-  says (record { state = state; output = output })
+  says (record { state = state; output = written result output })
 
 -- `answer-script`: which answer of how many, the iteration, the script, and its answer
 unfoldable pub answer_script_line_fields : Line SceneEvent
