@@ -1,9 +1,7 @@
 pub mod Configs
-pub mod EarlierAttempts
 pub mod Loads
 pub mod Moments
 pub mod PackedStats
 pub mod SceneAttempts
 pub mod SceneOutputs
 pub mod Scenes
-pub mod States

@@ -1,13 +1,12 @@
 -- What an event says once captured output is put into it.
 use Rattle.std.specs.Prelude.{ℕ, length, ◌==◌, if◌then◌else◌}
-use Rattle.run_model.specs.Attempts.{Attempts, attempt_with_output}
+use Rattle.run_model.specs.Attempts.{Attempts, attempt_with_output, execution_with_output}
 use Rattle.run_model.specs.declared.output.ChildOutputDescription.{ChildOutputDescription}
 use Rattle.run_model.specs.declared.output.LiveSpec.{LiveSpec}
-use Rattle.scene_events.specs.EarlierAttempts.{with_output_at}
-use Rattle.scene_events.specs.SceneOutputs.{loaded}
+use Rattle.scene_events.specs.SceneOutputs.{with_output_at}
 use Rattle.scene_events.specs.declared.scene.event.SceneEvent.{SceneEvent}
 use Rattle.scene_events.specs.declared.scene.event.SceneEvent.TheVariants as scene
-use Rattle.scene_events.specs.declared.scene.test_events.UnitAnswer.{UnitAnswer}
+use Rattle.scene_events.specs.declared.scene.unit_events.UnitAnswer.{UnitAnswer}
 
 -- attempts of which the one at this place captured this. The first stands at 0, and a place behind the last changes nothing
 abbrev pub attempts_with : ℕ → ChildOutputDescription → Attempts LiveSpec ChildOutputDescription → Attempts LiveSpec ChildOutputDescription
@@ -17,7 +16,7 @@ attempts_with place captured a =
 
 -- an answer of a unit that captured this so far
 abbrev pub answer_with : ChildOutputDescription → UnitAnswer → UnitAnswer
-answer_with captured answer = record answer { output = loaded answer.output captured }
+answer_with captured answer = record answer { output = execution_with_output answer.output captured }
 
 -- an event with only one output, which was captured so
 abbrev pub event_with_only : ChildOutputDescription → SceneEvent → SceneEvent

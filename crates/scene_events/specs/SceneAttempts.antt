@@ -1,13 +1,18 @@
 -- What the short form of attempts stands for, and the attempt of a setup script.
-use Rattle.std.specs.Prelude.{[]}
+use Rattle.std.specs.Prelude.{[], Some}
 use Rattle.run_model.specs.Attempts.{Attempt}
 use Rattle.run_model.specs.declared.output.ChildOutputDescription.{ChildOutputDescription}
 use Rattle.run_model.specs.declared.output.LiveSpec.{LiveSpec}
 use Rattle.run_model.specs.declared.status.SetupScriptExecuteStatus.{SetupScriptExecuteStatus}
-use Rattle.scene_events.specs.EarlierAttempts.{BeforeLast}
-use Rattle.scene_events.specs.SceneOutputs.{no_output}
+use Rattle.scene_events.specs.SceneOutputs.{BeforeLast, no_output, written}
+use Rattle.scene_events.specs.declared.scene.attempts.EndedAttempt.{EndedAttempt}
 use Rattle.scene_events.specs.declared.scene.attempts.MoreAttempts.{MoreAttempts}
 use Rattle.scene_events.specs.declared.scene.attempts.MoreAttempts.TheVariants as more
+use Rattle.scene_events.specs.declared.scene.outputs.SceneOutput.{SceneOutput}
+
+-- an attempt that ended so and wrote this
+abbrev pub attempt_of : EndedAttempt → SceneOutput → Attempt
+attempt_of e output = record { time_taken = e.time_taken; retry_data = e.retry_data; result = e.result; output = written (Some e.result) output; is_slow = e.is_slow }
 
 -- what the last attempt wrote, and those before it, which most tests lack
 abbrev pub before_last : MoreAttempts → BeforeLast

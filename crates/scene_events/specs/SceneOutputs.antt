@@ -1,13 +1,14 @@
--- What a unit wrote, as a scene holds it and as an event says it.
-use Rattle.std.specs.Prelude.{[], Bool, Option, None, Some}
-use Rattle.run_model.specs.Attempts.{Written}
+-- What a unit wrote, as a scene holds it and as an event says it, and what the attempts of a test wrote that stand before the last one.
+use Rattle.std.specs.Prelude.{ℕ, List, [], length, slice_get, slice_set, Bool, ◌==◌, if◌then◌else◌, Option, None, Some}
+use Rattle.std.specs.Option.{option_map_or}
+use Rattle.run_model.specs.Attempts.{Attempt, Written, attempt_with_output}
 use Rattle.run_model.specs.Outputs.{has_loaded_output}
 use Rattle.run_model.specs.declared.output.ChildExecutionOutputDescription.TheVariants as described
 use Rattle.run_model.specs.declared.output.ChildOutputDescription.{ChildOutputDescription}
 use Rattle.run_model.specs.declared.output.ChildOutputDescription.TheVariants.{Split}
 use Rattle.run_model.specs.declared.status.ExecutionResultDescription.{ExecutionResultDescription}
-use Rattle.scene_events.specs.declared.scene.units.SceneOutput.{SceneOutput}
-use Rattle.scene_events.specs.declared.scene.units.SceneOutput.TheVariants.{Output, StartError}
+use Rattle.scene_events.specs.declared.scene.outputs.SceneOutput.{SceneOutput}
+use Rattle.scene_events.specs.declared.scene.outputs.SceneOutput.TheVariants.{Output, StartError}
 
 -- both streams were captured, and hold nothing
 abbrev pub no_output : SceneOutput
@@ -26,3 +27,19 @@ is_loaded output = has_loaded_output (written None output)
 abbrev pub loaded : SceneOutput → ChildOutputDescription → SceneOutput
 loaded (Output output errors highlight) captured = Output captured errors highlight
 loaded (StartError error) captured = StartError error
+
+-- attempts of which the one at this place captured this, from 0; a place behind them changes nothing
+abbrev pub with_output_at : ℕ → ChildOutputDescription → List Attempt → List Attempt
+with_output_at place captured attempts =
+    option_map_or (λ attempt. slice_set attempts place (attempt_with_output attempt captured)) (slice_get attempts place) attempts
+
+-- the attempts of a test before the last one, and what that one wrote
+pub record BeforeLast : Type 0 where
+  pub attempts : List Attempt
+  pub last_output : SceneOutput
+
+-- the same where the attempt at this place captured this; the last one stands behind the others
+abbrev pub before_last_with : ℕ → ChildOutputDescription → BeforeLast → BeforeLast
+before_last_with place captured b =
+    if place == length b.attempts then record b { last_output = loaded b.last_output captured }
+    else record b { attempts = with_output_at place captured b.attempts }

@@ -5,9 +5,7 @@ use Rattle.run_model.specs.Stats.{planned_stats}
 use Rattle.run_model.specs.Statuses.{is_success}
 use Rattle.run_model.specs.declared.event.TestEventKind.{TestEventKind}
 use Rattle.run_model.specs.declared.event.TestEventKind.TheVariants as kind
-use Rattle.run_model.specs.declared.info.InfoResponse.{InfoResponse}
 use Rattle.run_model.specs.declared.info.InfoResponse.TheVariants as response
-use Rattle.run_model.specs.declared.info.UnitState.{UnitState}
 use Rattle.run_names.specs.declared.level.CancelReason.{CancelReason}
 use Rattle.run_names.specs.declared.name.TestInstanceId.{TestInstanceId}
 use Rattle.run_model.specs.declared.replay.ReplayHeader.{ReplayHeader}
@@ -16,17 +14,11 @@ use Rattle.run_model.specs.declared.call.ReportCall.{ReportCall}
 use Rattle.run_model.specs.declared.call.ReportCall.TheVariants as call
 use Rattle.scene_events.specs.Moments.{moment_of}
 use Rattle.scene_events.specs.SceneAttempts.{script_status}
-use Rattle.run_model.specs.Attempts.{Written}
-use Rattle.scene_events.specs.SceneOutputs.{is_loaded, written}
-use Rattle.scene_events.specs.States.{result_of, unit_state}
 use Rattle.scene_events.specs.declared.scene.event.SceneEvent.{SceneEvent}
 use Rattle.scene_events.specs.declared.scene.event.SceneEvent.TheVariants as scene
-use Rattle.scene_events.specs.declared.scene.test_events.ScriptAnswer.{ScriptAnswer}
-use Rattle.scene_events.specs.declared.scene.test_events.TestAnswer.{TestAnswer}
-use Rattle.scene_events.specs.declared.scene.test_events.UnitAnswer.{UnitAnswer}
 use Rattle.scene_events.specs.declared.scene.run_events.SceneHeader.{SceneHeader}
-use Rattle.scene_events.specs.declared.scene.run_events.SceneScript.{SceneScript}
-use Rattle.scene_events.specs.declared.scene.test_events.SceneTest.{SceneTest}
+use Rattle.scene_events.specs.declared.scene.unit_events.SceneScript.{SceneScript}
+use Rattle.scene_events.specs.declared.scene.unit_events.SceneTest.{SceneTest}
 
 -- a reporter's test has the names of a scene's
 abbrev pub HasNames : SceneTest → TestInstanceId → Type 0
@@ -35,20 +27,6 @@ HasNames test instance = (instance.binary_id.now ≡ test.binary_id) × (instanc
 -- a reporter's event has the script of a scene's
 abbrev pub IsOfScript : SceneScript → List ℕ → List ℕ → List (List ℕ) → Type 0
 IsOfScript script id program args = (id ≡ script.script_id) × (program ≡ script.program) × (args ≡ script.args)
-
--- a reporter's answer has the state and the output of a scene's
-abbrev pub HasAnswer : UnitAnswer → UnitState → Written → Type 0
-HasAnswer answer state output = (state ≡ unit_state answer.state) × (output ≡ written (result_of answer.state) answer.output)
-
--- a reporter's answer is that of a scene's setup script, or of a scene's test
-abbrev pub IsScriptAnswer : ScriptAnswer → InfoResponse → Type 0
-IsScriptAnswer e (response.SetupScript r) = (r.stress_index ≡ e.stress_index) × IsOfScript e.script r.script_id r.program r.args × HasAnswer e.answer r.state r.output
-IsScriptAnswer e (response.Test r) = ⊥
-
-abbrev pub IsTestAnswer : TestAnswer → InfoResponse → Type 0
-IsTestAnswer e (response.SetupScript r) = ⊥
-IsTestAnswer e (response.Test r) =
-    (r.stress_index ≡ e.test.stress_index) × HasNames e.test r.test_instance × (r.retry_data ≡ e.retry_data) × HasAnswer e.answer r.state r.output
 
 -- statistics that count nothing, with this reason
 abbrev pub nothing_counted : Option CancelReason → RunStats
@@ -83,9 +61,13 @@ SaysSame (scene.RunBeginKill e) (kind.RunBeginKill scripts stats running) =
     (scripts ≡ e.setup_scripts_running) × (running ≡ e.running) × (stats ≡ nothing_counted e.reason)
 SaysSame (scene.RunPaused e) (kind.RunPaused scripts running) = (scripts ≡ e.setup_scripts_running) × (running ≡ e.running)
 SaysSame (scene.RunContinued e) (kind.RunContinued scripts running) = (scripts ≡ e.setup_scripts_running) × (running ≡ e.running)
-SaysSame (scene.InfoStarted e) (kind.InfoStarted total stats) = (total ≡ e.total) × (stats ≡ e.run_stats)
-SaysSame (scene.ScriptAnswered e) (kind.InfoResponse index total answer) = (index ≡ e.index) × (total ≡ e.total) × IsScriptAnswer e answer
-SaysSame (scene.TestAnswered e) (kind.InfoResponse index total answer) = (index ≡ e.index) × (total ≡ e.total) × IsTestAnswer e answer
+SaysSame (scene.InfoStarted e) (kind.InfoStarted total stats) = (total ≡ e.running) × (stats ≡ e.current_stats)
+SaysSame (scene.ScriptAnswered e) (kind.InfoResponse index total (response.SetupScript r)) =
+    (index ≡ e.index) × (total ≡ e.total) × (r.stress_index ≡ e.stress_index) × IsOfScript e.script r.script_id r.program r.args
+    × (r.state ≡ e.answer.state) × (r.output ≡ e.answer.output)
+SaysSame (scene.TestAnswered e) (kind.InfoResponse index total (response.Test r)) =
+    (index ≡ e.index) × (total ≡ e.total) × (r.stress_index ≡ e.test.stress_index) × HasNames e.test r.test_instance
+    × (r.retry_data ≡ e.retry_data) × (r.state ≡ e.answer.state) × (r.output ≡ e.answer.output)
 SaysSame (scene.InfoFinished e) (kind.InfoFinished missing) = missing ≡ e
 SaysSame (scene.InputEnter e) (kind.InputEnter stats running) = (stats ≡ e.current_stats) × (running ≡ e.running)
 SaysSame (scene.StressSubRunFinished e) (kind.StressSubRunFinished progress elapsed stats) =
@@ -120,8 +102,8 @@ abbrev pub may_be_refused : SceneEvent → Bool
 may_be_refused (scene.TestFinished e) = not (has_loaded_output e.attempts.last.output)
 may_be_refused (scene.TestAttemptFailedWillRetry e) = is_success e.attempt.result || not (has_loaded_output e.attempt.output)
 may_be_refused (scene.SetupScriptFinished e) = not (has_loaded_output e.attempt.output)
-may_be_refused (scene.ScriptAnswered e) = not (is_loaded e.answer.output)
-may_be_refused (scene.TestAnswered e) = not (is_loaded e.answer.output)
+may_be_refused (scene.ScriptAnswered e) = not (has_loaded_output e.answer.output)
+may_be_refused (scene.TestAnswered e) = not (has_loaded_output e.answer.output)
 may_be_refused (scene.Header header) = true
 may_be_refused other = false
 

@@ -4,10 +4,10 @@ ghost use Rattle.std.specs.Prelude.{◌≡◌, ◌++◌, ◌∷◌, [], OnErr, O
 
 pub mod attempts;
 pub mod event;
+pub mod outputs;
 pub mod packed_stats;
 pub mod run_events;
-pub mod test_events;
-pub mod units;
+pub mod unit_events;
 
 use event::SceneEvent;
 use run_model::config::{NextestRunMode, TestOutputDisplay};

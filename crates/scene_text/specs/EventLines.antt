@@ -18,11 +18,11 @@ use Rattle.scene_events.specs.declared.scene.event.SceneEvent.{SceneEvent}
 use Rattle.scene_events.specs.declared.scene.event.SceneEvent.TheVariants as event
 use Rattle.scene_events.specs.declared.scene.run_events.RunCancel.{RunCancel}
 use Rattle.scene_events.specs.declared.scene.run_events.RunPause.{RunPause}
-use Rattle.scene_events.specs.declared.scene.run_events.SceneScript.{SceneScript}
-use Rattle.scene_events.specs.declared.scene.test_events.SceneTest.{SceneTest}
-use Rattle.scene_events.specs.declared.scene.test_events.UnitAnswer.{UnitAnswer}
-use Rattle.scene_events.specs.declared.scene.units.SceneOutput.{SceneOutput}
-use Rattle.scene_events.specs.declared.scene.units.SceneOutput.TheVariants.{Output, StartError}
+use Rattle.scene_events.specs.declared.scene.unit_events.SceneScript.{SceneScript}
+use Rattle.scene_events.specs.declared.scene.unit_events.SceneTest.{SceneTest}
+use Rattle.scene_events.specs.declared.scene.unit_events.UnitAnswer.{UnitAnswer}
+use Rattle.scene_events.specs.declared.scene.outputs.SceneOutput.{SceneOutput}
+use Rattle.scene_events.specs.declared.scene.outputs.SceneOutput.TheVariants.{Output, StartError}
 use Rattle.scene_fields.specs.Counts.{stats_in, skips_in}
 use Rattle.scene_fields.specs.Fields.{◌>>=◌, Line, says, exactly, field, Place, next, valued, with_attempts}
 use Rattle.scene_fields.specs.Lists.{words_of, instances_in, chain_in, errors_in}
@@ -33,7 +33,7 @@ use Rattle.scene_fields.specs.Values.{absent_in, config_key_in, display_in, fina
 use Rattle.scene_fields.specs.declared.fault.LineFault.TheVariants.{UnknownEvent, WrongNumberOfFields}
 use Rattle.scene_fields.specs.declared.values.ConfigKey.{ConfigKey}
 use Rattle.scene_fields.specs.declared.values.ConfigKey.TheVariants as key
-use Rattle.scene_text.specs.Parts.{state_in, state_parts_in, progress_in, moment_in, highlight_in}
+use Rattle.scene_text.specs.Parts.{state_in, state_with, result_or_none_in, progress_in, moment_in, highlight_in}
 
 -- what is made of the value of fields
 abbrev pub made : {X Y : Type 0} → (X → Y) → Line X → Line Y
@@ -240,15 +240,16 @@ info_line_fields = do
   elapsed ← field nanos_in
   total ← field (number_in 64)
   stats ← field stats_in
-  says (event.InfoStarted (record { elapsed = elapsed; total = total; run_stats = stats }))
+  says (event.InfoStarted (record { elapsed = elapsed; current_stats = stats; running = total }))
 
 -- what a unit is doing, how the attempt ended, and what it has written
 unfoldable pub answer_fields : Line UnitAnswer
 answer_fields = do
-  parts ← field state_parts_in
-  state ← field (state_in parts)
+  begun ← field state_in
+  result ← field result_or_none_in
+  state ← valued (state_with result begun)
   output ← output_fields
-  says (record { state = state; output = output })
+  says (record { state = state; output = written result output })
 
 -- `answer-script`: which answer of how many, the iteration, the script, and its answer
 abbrev pub answer_script_line_fields : Line SceneEvent

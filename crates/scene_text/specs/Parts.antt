@@ -4,6 +4,8 @@ use Rattle.std.specs.Int.{is_in_range}
 use Rattle.std.specs.Option.{option_and_then, option_map}
 use Rattle.jiff_core.specs.Calendar.{days_in_month}
 use Rattle.run_model.specs.Infos.{terminate_reason_text}
+use Rattle.run_model.specs.declared.info.UnitState.{UnitState}
+use Rattle.run_model.specs.declared.info.UnitState.TheVariants as state
 use Rattle.run_model.specs.declared.info.UnitTerminateMethod.TheVariants as method
 use Rattle.run_model.specs.declared.info.UnitTerminateReason.{UnitTerminateReason}
 use Rattle.run_model.specs.declared.info.UnitTerminateReason.TheVariants as reason
@@ -11,27 +13,18 @@ use Rattle.run_model.specs.declared.output.Highlight.{Highlight}
 use Rattle.run_model.specs.declared.output.HighlightStream.{HighlightStream}
 use Rattle.run_model.specs.declared.output.HighlightStream.TheVariants as stream
 use Rattle.run_model.specs.declared.status.ExecutionResultDescription.{ExecutionResultDescription}
+use Rattle.run_model.specs.declared.status.ExecutionResultDescription.TheVariants.{Pass}
 use Rattle.run_names.specs.declared.stress.StressCount.{StressCount}
 use Rattle.run_names.specs.declared.stress.StressCount.TheVariants as count
 use Rattle.run_names.specs.declared.stress.StressProgress.{StressProgress}
 use Rattle.run_names.specs.declared.stress.StressProgress.TheVariants as progress
 use Rattle.run_names.specs.declared.time.Nanos.{Nanos}
 use Rattle.scene_events.specs.Moments.{Clock, Day, Moment}
-use Rattle.scene_events.specs.declared.scene.units.EndedState.{EndedState}
-use Rattle.scene_events.specs.declared.scene.units.EndedState.TheVariants as ended
-use Rattle.scene_events.specs.declared.scene.units.LiveState.{LiveState}
-use Rattle.scene_events.specs.declared.scene.units.LiveState.TheVariants as live
-use Rattle.scene_events.specs.declared.scene.units.SceneState.{SceneState}
-use Rattle.scene_events.specs.declared.scene.units.SceneState.TheVariants as scene
-use Rattle.scene_events.specs.declared.scene.units.Timing.{Timing}
-use Rattle.scene_events.specs.declared.scene.units.Wait.{Wait}
 use Rattle.scene_fields.specs.Numbers.{code_in, nanos_in, number_in}
 use Rattle.scene_fields.specs.Results.{result_in}
 use Rattle.scene_fields.specs.Split.{cut}
 use Rattle.scene_fields.specs.Texts.{bytes_in, text_in}
 use Rattle.scene_fields.specs.Values.{flag_in, of_word, total_in}
-use Rattle.scene_text.specs.declared.reader.parts.StateParts.{StateParts}
-use Rattle.scene_text.specs.declared.reader.parts.StateParts.TheVariants as parts
 
 -- the next step, where there is a value
 infixl 10 ◌>>=◌
@@ -46,31 +39,31 @@ abbrev pub slow_after_in : List ℕ → Option (Option Nanos)
 slow_after_in t = if bytes_eq t (codes "-") then Some None else option_map (λ d. Some d) (nanos_in t)
 
 -- how long something has been waited for, and how much longer it is
-unfoldable pub wait_in : List ℕ → Option Wait
+unfoldable pub wait_in : List ℕ → Option (Nanos × Nanos)
 wait_in t = do
   cut_1 ← cut 58 t
   waited ← nanos_in cut_1.0
   remaining ← nanos_in cut_1.1
-  Some (record { waited = waited; remaining = remaining })
+  Some (waited, remaining)
 
 -- how long a process has run, and when its unit was marked as slow
-unfoldable pub timing_in : List ℕ → Option Timing
+unfoldable pub timing_in : List ℕ → Option (Nanos × Option Nanos)
 timing_in t = do
   cut_1 ← cut 58 t
   time_taken ← nanos_in cut_1.0
   slow_after ← slow_after_in cut_1.1
-  Some (record { time_taken = time_taken; slow_after = slow_after })
+  Some (time_taken, slow_after)
 
 -- `running`: the process's id, and how long it has run
-unfoldable pub running_in : List ℕ → Option LiveState
+unfoldable pub running_in : List ℕ → Option UnitState
 running_in t = do
   cut_1 ← cut 58 t
   pid ← number_in 32 cut_1.0
   timing ← timing_in cut_1.1
-  Some (live.Running pid timing)
+  Some (state.Running pid timing.0 timing.1)
 
 -- `exiting`: the same, and the wait for its handles
-unfoldable pub exiting_in : List ℕ → Option LiveState
+unfoldable pub exiting_in : List ℕ → Option UnitState
 exiting_in t = do
   cut_1 ← cut 58 t
   cut_2 ← cut 58 cut_1.1
@@ -79,10 +72,10 @@ exiting_in t = do
   time_taken ← nanos_in cut_2.0
   slow_after ← slow_after_in cut_3.0
   wait ← wait_in cut_3.1
-  Some (live.Exiting pid (record { time_taken = time_taken; slow_after = slow_after }) wait)
+  Some (state.Exiting pid time_taken slow_after None wait.0 wait.1)
 
 -- `terminating`: the process's id, how long it has run, why it is ended and by which signal, and the wait for its end
-unfoldable pub terminating_in : List ℕ → Option LiveState
+unfoldable pub terminating_in : List ℕ → Option UnitState
 terminating_in t = do
   cut_1 ← cut 58 t
   cut_2 ← cut 58 cut_1.1
@@ -93,52 +86,53 @@ terminating_in t = do
   reason ← terminate_reason_in cut_3.0
   signal ← text_in cut_4.0
   wait ← wait_in cut_4.1
-  Some (live.Terminating (record {
+  Some (state.Terminating (record {
     pid = pid;
     time_taken = time_taken;
     reason = reason;
     method = method.Signal signal;
-    waiting_duration = wait.waited;
-    remaining = wait.remaining;
+    waiting_duration = wait.0;
+    remaining = wait.1;
   }))
 
+-- `exited`: how long the process ran
+abbrev pub exited_in : List ℕ → Option UnitState
+exited_in t = option_map (λ timing. state.Exited Pass timing.0 timing.1) (timing_in t)
+
 -- `delay`: whether the attempt before was slow, and the wait for the next one
-unfoldable pub delay_in : List ℕ → Option EndedState
+unfoldable pub delay_in : List ℕ → Option UnitState
 delay_in t = do
   cut_1 ← cut 58 t
   was_slow ← flag_in cut_1.0
   wait ← wait_in cut_1.1
-  Some (ended.Delay was_slow wait)
+  Some (state.DelayBeforeNextAttempt Pass was_slow wait.0 wait.1)
 
--- the parts after a word
-abbrev pub parts_after : List ℕ → List ℕ → Option StateParts
-parts_after word t =
-    if bytes_eq word (codes "running") then option_map parts.Live (running_in t)
-    else (if bytes_eq word (codes "exiting") then option_map parts.Live (exiting_in t)
-    else (if bytes_eq word (codes "terminating") then option_map parts.Live (terminating_in t)
-    else (if bytes_eq word (codes "exited") then option_map (λ timing. parts.Ended (ended.Exited timing)) (timing_in t)
-    else (if bytes_eq word (codes "delay") then option_map parts.Ended (delay_in t)
+-- the state that a word and the parts after it say
+abbrev pub worded_state : List ℕ → List ℕ → Option UnitState
+worded_state word t =
+    if bytes_eq word (codes "running") then running_in t
+    else (if bytes_eq word (codes "exiting") then exiting_in t
+    else (if bytes_eq word (codes "terminating") then terminating_in t
+    else (if bytes_eq word (codes "exited") then exited_in t
+    else (if bytes_eq word (codes "delay") then delay_in t
     else None))))
 
--- a state without its result: a word and its parts
-unfoldable pub state_parts_in : List ℕ → Option StateParts
-state_parts_in t = do
+-- a state whose result stands in the next field: until then it has passed, where it has ended
+unfoldable pub state_in : List ℕ → Option UnitState
+state_in t = do
   cut_1 ← cut 58 t
-  parts_after cut_1.0 cut_1.1
+  worded_state cut_1.0 cut_1.1
 
 -- a result, or `-`
 abbrev pub result_or_none_in : List ℕ → Option (Option ExecutionResultDescription)
 result_or_none_in t = if bytes_eq t (codes "-") then Some None else option_map (λ r. Some r) (result_in t)
 
--- the state that parts and a result make: what has ended has a result
-abbrev pub state_with : StateParts → Option ExecutionResultDescription → Option SceneState
-state_with (parts.Live state) result = Some (scene.Live state result)
-state_with (parts.Ended state) None = None
-state_with (parts.Ended state) (Some result) = Some (scene.Ended state result)
-
--- the state that the parts make with the result of the field after them
-unfoldable pub state_in : StateParts → List ℕ → Option SceneState
-state_in parts t = option_and_then (state_with parts) (result_or_none_in t)
+-- a state with its result, which what has ended has
+abbrev pub state_with : Option ExecutionResultDescription → UnitState → Option UnitState
+state_with result (state.Exiting pid taken slow_after other waited remaining) = Some (state.Exiting pid taken slow_after result waited remaining)
+state_with result (state.Exited other taken slow_after) = option_map (λ r. state.Exited r taken slow_after) result
+state_with result (state.DelayBeforeNextAttempt other was_slow waited remaining) = option_map (λ r. state.DelayBeforeNextAttempt r was_slow waited remaining) result
+state_with result live = Some live
 
 -- `inf`, or how many iterations there are to be, which is not 0
 abbrev pub stress_count_in : List ℕ → Option StressCount

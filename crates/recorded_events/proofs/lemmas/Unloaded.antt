@@ -10,7 +10,7 @@ use Rattle.run_model.specs.Unloaded.{unloaded_attempt, unloaded_attempts, unload
 use Rattle.run_model.specs.declared.output.ChildExecutionOutputDescription.TheVariants.{Output, StartError}
 use Rattle.run_model.specs.declared.output.ChildOutputDescription.{ChildOutputDescription}
 use Rattle.run_model.specs.declared.output.LiveSpec.{LiveSpec}
-use Rattle.scene_events.specs.EarlierAttempts.{with_output_at}
+use Rattle.scene_events.specs.SceneOutputs.{with_output_at}
 use Rattle.scene_events.specs.Loads.{attempts_with}
 use Rattle.scene_events.specs.SceneAttempts.{script_status}
 

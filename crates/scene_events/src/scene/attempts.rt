@@ -1,9 +1,11 @@
 //! The attempts of a test in a short form: most are one attempt that wrote nothing, and a scene may hold a million.
 
-ghost use Rattle.std.specs.Prelude.{◌≡◌, IfOk, OnErr, OnOk, Some};
-ghost use Rattle.scene_events.specs.SceneOutputs.{is_loaded, loaded, no_output, written};
+ghost use Rattle.std.specs.Option.{option_copied, unwrap_or};
+ghost use Rattle.std.specs.Prelude.{◌≡◌, IfOk, OnErr, OnOk};
+ghost use Rattle.scene_events.specs.SceneAttempts.{attempt_of, before_last};
+ghost use Rattle.scene_events.specs.SceneOutputs.{no_output};
 
-use super::units::SceneOutput;
+use super::outputs::{AttemptOutput, SceneOutput};
 use run_model::boxed::Boxed;
 use run_model::memory::OutOfMemory;
 use run_model::output::{ChildExecutionOutputDescription, ChildOutputDescription, LiveSpec};
@@ -18,10 +20,19 @@ use std::marker::Model;
 /// The attempts of a test, in order. There is at least one. Contracts see them as a reporter's.
 #[derive(Drop)]
 pub struct SceneAttempts {
-    // The last one, but for what it wrote.
+    last: EndedAttempt,
+    more: MoreAttempts,
+}
+
+// A scene may hold a million.
+const _: () = prove!(size_of::<SceneAttempts>() == 80);
+
+// How an attempt ended. What a success counts as after other attempts stands here too, where there is room; only that of the last one
+// says anything.
+#[derive(Drop)]
+struct EndedAttempt {
     time_taken: Nanos,
     result: ExecutionResultDescription,
-    more: MoreAttempts,
     retry_data: RetryData,
     is_slow: bool,
     flaky_result: FlakyResult,
@@ -46,7 +57,7 @@ struct EarlierAttempts {
 }
 
 impl Model for EarlierAttempts {
-    ghost use Rattle.scene_events.specs.EarlierAttempts.{BeforeLast};
+    ghost use Rattle.scene_events.specs.SceneOutputs.{BeforeLast};
 
     ghost Value = { BeforeLast };
 
@@ -60,20 +71,12 @@ impl Model for SceneAttempts {
 
     ghost Value = { Attempts LiveSpec ChildOutputDescription };
 
-    ghost use Rattle.std.specs.Prelude.{Some};
-    ghost use Rattle.scene_events.specs.SceneAttempts.{before_last};
-    ghost use Rattle.scene_events.specs.SceneOutputs.{written};
+    ghost use Rattle.scene_events.specs.SceneAttempts.{attempt_of, before_last};
 
     ghost view = { λ a. record {
       earlier = (before_last a.more).attempts;
-      last = record {
-        time_taken = a.time_taken;
-        retry_data = a.retry_data;
-        result = a.result;
-        output = written (Some a.result) (before_last a.more).last_output;
-        is_slow = a.is_slow;
-      };
-      flaky_result = a.flaky_result;
+      last = attempt_of a.last (before_last a.more).last_output;
+      flaky_result = a.last.flaky_result;
     } };
 }
 
@@ -91,13 +94,7 @@ impl SceneAttempts {
     ) -> Result<Self, OutOfMemory>
         ensures { IfOk result (λ attempts. attempts ≡ record { earlier = earlier.items; last = last; flaky_result = flaky_result }) }
     {
-        let SceneAttempt {
-            time_taken,
-            result,
-            output,
-            retry_data,
-            is_slow,
-        } = last;
+        let output = last.output;
         let more = if earlier.is_empty() {
             match output.output {
                 None => MoreAttempts::Nothing,
@@ -110,25 +107,18 @@ impl SceneAttempts {
             };
             MoreAttempts::Earlier(Boxed::new(alloc, earlier)?)
         };
-        Ok(SceneAttempts {
-            time_taken,
-            result,
-            more,
-            retry_data,
-            is_slow,
+        let last = EndedAttempt {
             flaky_result,
-        })
+            ..last.ended
+        };
+        Ok(SceneAttempts { last, more })
     }
 
     /// Whether what the last attempt wrote is there, and not left unread.
     pub fn has_loaded_output(&self) -> bool
         ensures { result ≡ has_loaded_output self.now.last.output }
     {
-        match &self.more {
-            MoreAttempts::Nothing => true,
-            MoreAttempts::Output(output) => output.get().has_loaded_output(),
-            MoreAttempts::Earlier(earlier) => earlier.get().last_output.is_loaded(),
-        }
+        self.more.last_output().is_none_or(SceneOutput::is_loaded)
     }
 
     /// Puts this in place of what the attempt at this place captured, where the first stands at 0; errors and highlight stay. An attempt that
@@ -148,7 +138,7 @@ impl SceneAttempts {
             _ if place > 0 => {}
             MoreAttempts::Output(output) => output.get_mut().load(captured),
             MoreAttempts::Nothing => {
-                self.more = MoreAttempts::Output(loaded_output(alloc, captured)?);
+                self.more = MoreAttempts::Output(Boxed::new(alloc, SceneOutput::of(captured))?);
             }
         }
         Ok(())
@@ -159,24 +149,41 @@ impl SceneAttempts {
         ensures { IfOk result (λ statuses. statuses ≡ self.now) }
     {
         let earlier = match &self.more {
-            MoreAttempts::Earlier(earlier) => statuses_of(
-                alloc,
-                earlier.get().attempts.as_slice(),
-            )?,
+            MoreAttempts::Earlier(more) => statuses_of(alloc, more.get().attempts.as_slice())?,
             _ => Vec::new(alloc),
         };
-        let last = self.last_status(alloc)?;
-        Ok(ExecutionStatuses::with_last(earlier, last, self.flaky_result))
+        let last = self.last.status(alloc, self.more.last_output())?;
+        Ok(ExecutionStatuses::with_last(earlier, last, self.last.flaky_result))
     }
+}
 
-    // The last attempt as `ExecuteStatus`. Most wrote nothing; those are built here.
-    #[inline(never)]
-    fn last_status(&self, alloc: Global) -> Result<ExecuteStatus<LiveSpec>, OutOfMemory>
-        ensures { IfOk result (λ status. status ≡ self.now.last) }
+impl MoreAttempts {
+    // What the last attempt wrote, unless that is nothing.
+    #[inline(always)]
+    fn last_output(&self) -> Option<&SceneOutput>
+        ensures { unwrap_or (option_copied result) no_output ≡ (before_last self.now).last_output }
     {
-        let MoreAttempts::Nothing = &self.more else {
-            return self.status_with_output(alloc);
-        };
+        match self {
+            MoreAttempts::Nothing => None,
+            MoreAttempts::Output(output) => Some(output.get()),
+            MoreAttempts::Earlier(earlier) => earlier.get().last_output.get(),
+        }
+    }
+}
+
+impl EndedAttempt {
+    // The attempt that wrote this, or nothing, as an event has it. Most wrote nothing; those are built here.
+    #[inline(never)]
+    fn status(
+        &self,
+        alloc: Global,
+        output: Option<&SceneOutput>,
+    ) -> Result<ExecuteStatus<LiveSpec>, OutOfMemory>
+        ensures { IfOk result (λ status. status ≡ attempt_of self.now (unwrap_or (option_copied output.entry) no_output)) }
+    {
+        if let Some(output) = output {
+            return self.status_with(alloc, output);
+        }
         Ok(ExecuteStatus {
             time_taken: self.time_taken,
             retry_data: self.retry_data,
@@ -188,30 +195,25 @@ impl SceneAttempts {
 
     // The same of one that wrote something.
     #[inline(never)]
-    fn status_with_output(&self, alloc: Global) -> Result<ExecuteStatus<LiveSpec>, OutOfMemory>
-        ensures { IfOk result (λ status. status ≡ self.now.last) }
+    fn status_with(
+        &self,
+        alloc: Global,
+        output: &SceneOutput,
+    ) -> Result<ExecuteStatus<LiveSpec>, OutOfMemory>
+        ensures { IfOk result (λ status. status ≡ attempt_of self.now output.now) }
     {
-        let output = match &self.more {
-            MoreAttempts::Nothing => ChildExecutionOutputDescription::silent(
-                self.result.copy(alloc)?,
-            ),
-            MoreAttempts::Output(output) => output.get().description(alloc, Some(&self.result))?,
-            MoreAttempts::Earlier(earlier) => {
-                earlier.get().last_output.description(alloc, &self.result)?
-            }
-        };
         Ok(ExecuteStatus {
             time_taken: self.time_taken,
             retry_data: self.retry_data,
             result: self.result.copy(alloc)?,
-            output,
+            output: output.description(alloc, Some(self.result.copy(alloc)?))?,
             is_slow: self.is_slow,
         })
     }
 }
 
 impl EarlierAttempts {
-    ghost use Rattle.scene_events.specs.EarlierAttempts.{before_last_with};
+    ghost use Rattle.scene_events.specs.SceneOutputs.{before_last_with};
 
     // The same, where the last attempt stands behind the earlier ones.
     fn load(
@@ -251,100 +253,18 @@ fn statuses_of(
 /// An attempt of a test. Contracts see it as a reporter's.
 #[derive(Drop)]
 pub struct SceneAttempt {
-    time_taken: Nanos,
-    result: ExecutionResultDescription,
+    ended: EndedAttempt,
     output: AttemptOutput,
-    retry_data: RetryData,
-    is_slow: bool,
-}
-
-/// What an attempt wrote: most wrote nothing, and then it holds nothing. Contracts see it as a `SceneOutput`.
-#[derive(Drop)]
-pub struct AttemptOutput {
-    output: Option<Boxed<SceneOutput>>,
-}
-
-impl Model for AttemptOutput {
-    ghost use Rattle.std.specs.Option.{unwrap_or};
-    ghost use Rattle.scene_events.specs.SceneOutputs.{no_output};
-    ghost use Rattle.scene_events.specs.declared.scene.units.SceneOutput.{SceneOutput};
-
-    ghost Value = { SceneOutput };
-
-    ghost view = { λ o. unwrap_or o.output no_output };
-}
-
-impl AttemptOutput {
-    /// Both streams were captured, and hold nothing.
-    pub fn empty() -> Self
-        ensures { result ≡ no_output }
-    {
-        AttemptOutput { output: None }
-    }
-
-    /// It wrote this, for which it allocates.
-    pub fn new(alloc: Global, output: SceneOutput) -> Result<Self, OutOfMemory>
-        ensures { IfOk result (λ written. written ≡ output) }
-    {
-        Ok(AttemptOutput {
-            output: Some(Boxed::new(alloc, output)?),
-        })
-    }
-
-    // Whether it is there, and not left unread.
-    fn is_loaded(&self) -> bool
-        ensures { result ≡ is_loaded self.now }
-    {
-        match &self.output {
-            Some(output) => output.get().has_loaded_output(),
-            None => true,
-        }
-    }
-
-    // Puts this in place of what was captured. It allocates for an attempt that held nothing.
-    fn load(&mut self, alloc: Global, captured: ChildOutputDescription) -> Result<(), OutOfMemory>
-        ensures loaded { OnOk result (self.new ≡ loaded self.old captured) }
-        ensures kept { OnErr result (self.new ≡ self.old) }
-    {
-        match &mut self.output {
-            Some(output) => output.get_mut().load(captured),
-            None => self.output = Some(loaded_output(alloc, captured)?),
-        }
-        Ok(())
-    }
-
-    // What an attempt that ended so wrote, as an event has it.
-    fn description(
-        &self,
-        alloc: Global,
-        outcome: &ExecutionResultDescription,
-    ) -> Result<ChildExecutionOutputDescription<LiveSpec>, OutOfMemory>
-        ensures { IfOk result (λ output. output ≡ written (Some outcome.now) self.now) }
-    {
-        match &self.output {
-            Some(output) => output.get().description(alloc, Some(outcome)),
-            None => Ok(ChildExecutionOutputDescription::silent(outcome.copy(alloc)?)),
-        }
-    }
 }
 
 impl Model for SceneAttempt {
-    ghost use Rattle.run_model.specs.declared.output.ChildOutputDescription.{ChildOutputDescription};
-    ghost use Rattle.run_model.specs.declared.output.LiveSpec.{LiveSpec};
-    ghost use Rattle.run_model.specs.declared.status.ExecuteStatus.{ExecuteStatus};
+    ghost use Rattle.run_model.specs.Attempts.{Attempt};
 
-    ghost Value = { ExecuteStatus LiveSpec ChildOutputDescription };
+    ghost Value = { Attempt };
 
-    ghost use Rattle.std.specs.Prelude.{Some};
-    ghost use Rattle.scene_events.specs.SceneOutputs.{written};
+    ghost use Rattle.scene_events.specs.SceneAttempts.{attempt_of};
 
-    ghost view = { λ a. record {
-      time_taken = a.time_taken;
-      retry_data = a.retry_data;
-      result = a.result;
-      output = written (Some a.result) a.output;
-      is_slow = a.is_slow;
-    } };
+    ghost view = { λ a. attempt_of a.ended a.output };
 }
 
 impl SceneAttempt {
@@ -352,6 +272,8 @@ impl SceneAttempt {
     ghost use Rattle.run_model.specs.Outputs.{has_loaded_output};
     ghost use Rattle.run_model.specs.Statuses.{is_success};
     ghost use Rattle.scene_events.specs.SceneAttempts.{script_status};
+    ghost use Rattle.scene_events.specs.SceneOutputs.{written};
+    ghost use Rattle.std.specs.Prelude.{Some};
 
     /// An attempt that ended so, took so long and wrote this.
     pub fn new(
@@ -370,11 +292,14 @@ impl SceneAttempt {
         } }
     {
         SceneAttempt {
-            time_taken,
-            result: outcome,
+            ended: EndedAttempt {
+                time_taken,
+                result: outcome,
+                retry_data,
+                is_slow,
+                flaky_result: FlakyResult::Pass,
+            },
             output,
-            retry_data,
-            is_slow,
         }
     }
 
@@ -382,14 +307,14 @@ impl SceneAttempt {
     pub fn is_success(&self) -> bool
         ensures { result ≡ is_success self.now.result }
     {
-        self.result.is_success()
+        self.ended.result.is_success()
     }
 
     /// Whether what it wrote is there, and not left unread.
     pub fn has_loaded_output(&self) -> bool
         ensures { result ≡ has_loaded_output self.now.output }
     {
-        self.output.is_loaded()
+        self.output.get().is_none_or(SceneOutput::is_loaded)
     }
 
     /// Puts this in place of what it captured; errors and highlight stay. An attempt that could not be started stays as it is. It
@@ -409,13 +334,7 @@ impl SceneAttempt {
     pub fn status(&self, alloc: Global) -> Result<ExecuteStatus<LiveSpec>, OutOfMemory>
         ensures { IfOk result (λ status. status ≡ self.now) }
     {
-        Ok(ExecuteStatus {
-            time_taken: self.time_taken,
-            retry_data: self.retry_data,
-            result: self.result.copy(alloc)?,
-            output: self.output.description(alloc, &self.result)?,
-            is_slow: self.is_slow,
-        })
+        self.ended.status(alloc, self.output.get())
     }
 
     /// The attempt of a setup script as an event has it. Copies its texts and shares the bytes of its output.
@@ -425,28 +344,12 @@ impl SceneAttempt {
     ) -> Result<SetupScriptExecuteStatus<LiveSpec>, OutOfMemory>
         ensures { IfOk result (λ status. status ≡ script_status self.now) }
     {
+        let status = self.status(alloc)?;
         Ok(SetupScriptExecuteStatus {
-            time_taken: self.time_taken,
-            result: self.result.copy(alloc)?,
-            output: self.output.description(alloc, &self.result)?,
-            is_slow: self.is_slow,
+            time_taken: status.time_taken,
+            result: status.result,
+            output: status.output,
+            is_slow: status.is_slow,
         })
     }
-}
-
-// The output of an attempt that wrote this, of which nothing else is known.
-fn loaded_output(
-    alloc: Global,
-    captured: ChildOutputDescription,
-) -> Result<Boxed<SceneOutput>, OutOfMemory>
-    ensures { IfOk result (λ output. output ≡ loaded no_output captured) }
-{
-    Boxed::new(
-        alloc,
-        SceneOutput::Output {
-            output: captured,
-            errors: None,
-            highlight: None,
-        },
-    )
 }

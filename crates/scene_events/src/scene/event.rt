@@ -4,12 +4,11 @@ ghost use Rattle.std.specs.Prelude.{◌≡◌, OnErr, OnOk};
 ghost use Rattle.scene_events.specs.Scenes.{IsPushed, PushesCallOf};
 
 use super::run_events::{
-    RunCancel, RunFinish, RunPause, RunStart, SceneHeader, SetupFinish, SetupStart, SlowSetup,
-    StateRequest, SubRunFinish,
+    RunCancel, RunFinish, RunPause, RunStart, SceneHeader, StateRequest, SubRunFinish,
 };
-use super::test_events::{
-    FailedAttempt, InfoStart, SceneTest, ScriptAnswer, SlowTest, TestAnswer, TestFinish,
-    TestRetryStart, TestStart,
+use super::unit_events::{
+    FailedAttempt, SceneTest, ScriptAnswer, SetupFinish, SetupStart, SlowSetup, SlowTest,
+    TestAnswer, TestFinish, TestRetryStart, TestStart,
 };
 use run_model::boxed::Boxed;
 use run_model::call::ReportCall;
@@ -62,7 +61,7 @@ pub enum SceneEvent {
     /// The run goes on after it was stopped.
     RunContinued(Boxed<RunPause>),
     /// All units are asked what they are doing.
-    InfoStarted(Boxed<InfoStart>),
+    InfoStarted(Boxed<StateRequest>),
     /// A setup script says what it is doing.
     ScriptAnswered(Boxed<ScriptAnswer>),
     /// A test says what it is doing.
@@ -81,7 +80,7 @@ pub enum SceneEvent {
 const _: () = prove!(size_of::<SceneEvent>() == 16);
 
 impl SceneEvent {
-    ghost use Rattle.scene_events.specs.Loads.{event_with, event_with_only};
+    ghost use Rattle.scene_events.specs.Loads.{event_with};
     ghost use Rattle.scene_events.specs.Scenes.{may_be_refused};
 
     /// Whether its call has to be looked at to know whether a reporter refuses it: output of it was left unread, or an attempt that
@@ -101,12 +100,8 @@ impl SceneEvent {
                 attempt.is_success() || !attempt.has_loaded_output()
             }
             SceneEvent::SetupScriptFinished(finish) => !finish.get().attempt.has_loaded_output(),
-            SceneEvent::ScriptAnswered(answer) => {
-                !answer.get().answer.output.get().has_loaded_output()
-            }
-            SceneEvent::TestAnswered(answer) => {
-                !answer.get().answer.output.get().has_loaded_output()
-            }
+            SceneEvent::ScriptAnswered(unit) => !unit.get().answer.output.get().has_loaded_output(),
+            SceneEvent::TestAnswered(unit) => !unit.get().answer.output.get().has_loaded_output(),
             SceneEvent::Header(_) => true,
             _ => false,
         }
@@ -138,18 +133,6 @@ impl SceneEvent {
         if place > 0 {
             return Ok(());
         }
-        self.load_only(alloc, captured)
-    }
-
-    // The same of an event with only one output.
-    fn load_only(
-        &mut self,
-        alloc: Global,
-        captured: ChildOutputDescription,
-    ) -> Result<(), OutOfMemory>
-        ensures loaded { OnOk result (self.new ≡ event_with_only captured self.old) }
-        ensures kept { OnErr result (self.new ≡ self.old) }
-    {
         match self {
             SceneEvent::TestAttemptFailedWillRetry(failed) => {
                 failed.get_mut().attempt.load(alloc, captured)?;
@@ -199,13 +182,13 @@ impl SceneEvent {
             SceneEvent::RunBeginKill(cancel) => cancel.get().push_kill_call(calls),
             SceneEvent::RunPaused(pause) => pause.get().push_paused_call(calls),
             SceneEvent::RunContinued(pause) => pause.get().push_continued_call(calls),
-            SceneEvent::InfoStarted(start) => start.get().push_call(calls),
+            SceneEvent::InfoStarted(request) => request.get().push_info_call(calls),
             SceneEvent::ScriptAnswered(answer) => answer.get().push_call(alloc, calls),
             SceneEvent::TestAnswered(answer) => answer.get().push_call(alloc, calls),
             SceneEvent::InfoFinished(missing) => {
                 push_event(calls, TestEventKind::InfoFinished { missing: *missing })
             }
-            SceneEvent::InputEnter(request) => request.get().push_call(calls),
+            SceneEvent::InputEnter(request) => request.get().push_input_call(calls),
             SceneEvent::StressSubRunFinished(finish) => finish.get().push_call(calls),
             SceneEvent::RunFinished(finish) => finish.get().push_call(alloc, calls),
         }

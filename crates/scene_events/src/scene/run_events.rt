@@ -1,26 +1,22 @@
-//! The events of a run and of its setup scripts, and what a replay asks of a reporter that is no event.
+//! The events of a run, and what a replay asks of a reporter that is no event.
 
 ghost use Rattle.scene_events.specs.Scenes.{PushesCallOf, nothing_counted};
 ghost use Rattle.scene_events.specs.declared.scene.event.SceneEvent.{SceneEvent};
 ghost use Rattle.std.specs.Prelude.{◌≡◌, IfOk};
 
-use super::attempts::SceneAttempt;
 use super::event::{Calls, push, push_event};
 use jiff::civil::{Date, DateTime, Time};
 use run_model::abort::DescriptionText;
 use run_model::call::ReportCall;
-use run_model::command::CommandLine;
 use run_model::event::{TestCounts, TestEvent, TestEventKind};
 use run_model::level::CancelReason;
 use run_model::memory::OutOfMemory;
-use run_model::name::{
-    OwnedTestInstanceId, ProfileName, ProgramName, RustBinaryId, ScriptId, TestCaseName,
-};
+use run_model::name::{OwnedTestInstanceId, ProfileName, RustBinaryId, TestCaseName};
 use run_model::not_seen::{NotSeen, TestInstanceList};
 use run_model::replay::ReplayHeader;
 use run_model::run_id::ShortestRunIdPrefix;
 use run_model::stats::{RunFinishedStats, RunStats};
-use run_model::stress::{StressIndex, StressProgress};
+use run_model::stress::StressProgress;
 use run_model::time::Nanos;
 use std::alloc::Global;
 use std::marker::Model;
@@ -57,7 +53,7 @@ pub struct RunPause {
     pub running: usize,
 }
 
-/// A request for the state of a run.
+/// A request for the state of a run, or for what each of its units is doing.
 #[derive(Clone, Copy)]
 pub struct StateRequest {
     /// How long the run has taken.
@@ -155,8 +151,20 @@ impl RunPause {
 }
 
 impl StateRequest {
-    /// Pushes this event as a `ReportCall`.
-    pub fn push_call(&self, calls: &mut Calls<'_>) -> Result<(), OutOfMemory>
+    /// Pushes that all units are asked what they are doing as a `ReportCall`.
+    pub fn push_info_call(&self, calls: &mut Calls<'_>) -> Result<(), OutOfMemory>
+        ensures { PushesCallOf (SceneEvent.InfoStarted self.now) calls.old.items result calls.new.items }
+    {
+        let kind = TestEventKind::InfoStarted {
+            total: self.running,
+            run_stats: self.current_stats,
+        };
+        let elapsed = self.elapsed;
+        push(calls, ReportCall::Event(TestEvent { elapsed, kind }))
+    }
+
+    /// Pushes that the state of the run is asked for as a `ReportCall`.
+    pub fn push_input_call(&self, calls: &mut Calls<'_>) -> Result<(), OutOfMemory>
         ensures { PushesCallOf (SceneEvent.InputEnter self.now) calls.old.items result calls.new.items }
     {
         let kind = TestEventKind::InputEnter {
@@ -187,14 +195,11 @@ impl RunFinish {
     pub fn push_call(&self, alloc: Global, calls: &mut Calls<'_>) -> Result<(), OutOfMemory>
         ensures { PushesCallOf (SceneEvent.RunFinished self.now) calls.old.items result calls.new.items }
     {
-        let outstanding_not_seen = match &self.outstanding_not_seen {
-            Some(outstanding) => Some(copy_not_seen(alloc, outstanding)?),
-            None => None,
-        };
+        let outstanding = self.outstanding_not_seen.as_ref();
         let kind = TestEventKind::RunFinished {
             elapsed: self.elapsed,
             run_stats: self.run_stats,
-            outstanding_not_seen,
+            outstanding_not_seen: outstanding.map(|it| copy_not_seen(alloc, it)).transpose()?,
         };
         push_event(calls, kind)
     }
@@ -225,121 +230,6 @@ fn nothing_counted(reason: Option<CancelReason>) -> RunStats
     RunStats {
         cancel_reason: reason,
         ..RunStats::new(0)
-    }
-}
-
-/// A setup script.
-#[derive(Drop)]
-pub struct SceneScript {
-    /// Its id.
-    pub script_id: ScriptId,
-    /// The program that it runs.
-    pub program: ProgramName,
-    /// The program's arguments.
-    pub args: CommandLine,
-}
-
-/// A setup script that starts.
-#[derive(Drop)]
-pub struct SetupStart {
-    /// Which iteration of a stress run it belongs to.
-    pub stress_index: Option<StressIndex>,
-    /// Its place among the setup scripts, from 0.
-    pub index: usize,
-    /// How many setup scripts there are.
-    pub total: usize,
-    /// The script.
-    pub script: SceneScript,
-}
-
-/// A setup script that runs longer than it should.
-#[derive(Drop)]
-pub struct SlowSetup {
-    /// How long it has taken.
-    pub elapsed: Nanos,
-    /// Which iteration of a stress run it belongs to.
-    pub stress_index: Option<StressIndex>,
-    /// The script.
-    pub script: SceneScript,
-    /// Whether it is terminated for that.
-    pub will_terminate: bool,
-}
-
-/// A setup script that has finished.
-#[derive(Drop)]
-pub struct SetupFinish {
-    /// Its only attempt.
-    pub attempt: SceneAttempt,
-    /// Which iteration of a stress run it belongs to.
-    pub stress_index: Option<StressIndex>,
-    /// The script.
-    pub script: SceneScript,
-}
-
-impl SceneScript {
-    /// Copies the names, which allocates.
-    pub fn copy(&self, alloc: Global) -> Result<SceneScript, OutOfMemory>
-        ensures { IfOk result (λ copy. copy ≡ self.now) }
-    {
-        Ok(SceneScript {
-            script_id: ScriptId::new(alloc, self.script_id.as_str())?,
-            program: ProgramName::new(alloc, self.program.as_str())?,
-            args: self.args.copy()?,
-        })
-    }
-}
-
-impl SetupStart {
-    /// Pushes this event as a `ReportCall`.
-    pub fn push_call(&self, alloc: Global, calls: &mut Calls<'_>) -> Result<(), OutOfMemory>
-        ensures { PushesCallOf (SceneEvent.SetupScriptStarted self.now) calls.old.items result calls.new.items }
-    {
-        let script = self.script.copy(alloc)?;
-        let kind = TestEventKind::SetupScriptStarted {
-            stress_index: self.stress_index,
-            index: self.index,
-            total: self.total,
-            script_id: script.script_id,
-            program: script.program,
-            args: script.args,
-        };
-        push_event(calls, kind)
-    }
-}
-
-impl SlowSetup {
-    /// Pushes this event as a `ReportCall`.
-    pub fn push_call(&self, alloc: Global, calls: &mut Calls<'_>) -> Result<(), OutOfMemory>
-        ensures { PushesCallOf (SceneEvent.SetupScriptSlow self.now) calls.old.items result calls.new.items }
-    {
-        let script = self.script.copy(alloc)?;
-        let kind = TestEventKind::SetupScriptSlow {
-            stress_index: self.stress_index,
-            script_id: script.script_id,
-            program: script.program,
-            args: script.args,
-            elapsed: self.elapsed,
-            will_terminate: self.will_terminate,
-        };
-        push_event(calls, kind)
-    }
-}
-
-impl SetupFinish {
-    /// Pushes this event as a `ReportCall`.
-    pub fn push_call(&self, alloc: Global, calls: &mut Calls<'_>) -> Result<(), OutOfMemory>
-        ensures { PushesCallOf (SceneEvent.SetupScriptFinished self.now) calls.old.items result calls.new.items }
-    {
-        let script = self.script.copy(alloc)?;
-        let run_status = self.attempt.script_status(alloc)?;
-        let kind = TestEventKind::SetupScriptFinished {
-            stress_index: self.stress_index,
-            script_id: script.script_id,
-            program: script.program,
-            args: script.args,
-            run_status,
-        };
-        push_event(calls, kind)
     }
 }
 
@@ -389,13 +279,10 @@ impl SceneHeader {
     pub fn push_call(&self, alloc: Global, calls: &mut Calls<'_>) -> Result<(), OutOfMemory>
         ensures { PushesCallOf (SceneEvent.Header self.now) calls.old.items result calls.new.items }
     {
-        let unique_prefix = match &self.unique_prefix {
-            Some(prefix) => Some(prefix.copy(alloc)?),
-            None => None,
-        };
+        let prefix = self.unique_prefix.as_ref();
         let header = ReplayHeader {
             run_id: self.run_id,
-            unique_prefix,
+            unique_prefix: prefix.map(|prefix| prefix.copy(alloc)).transpose()?,
             started_at: self.started_at.date_time,
             status: self.status.copy(alloc)?,
         };

@@ -5,7 +5,7 @@ ghost use Rattle.scene_fields.specs.Texts.{text_in};
 
 use super::Field;
 use run_model::memory::OutOfMemory;
-use scene_events::scene::test_events::SharedBinaryId;
+use scene_events::scene::unit_events::SharedBinaryId;
 use scene_fields::names::read_binary_id;
 use std::alloc::Global;
 

@@ -4,7 +4,7 @@
 //! What a unit is doing is a word, as `running`, and its parts. How the attempt ended stands in the next field.
 
 ghost use Rattle.scene_events.specs.Moments.{clock_of, day_of};
-ghost use Rattle.scene_text.specs.Parts.{delay_in, exiting_in, result_or_none_in, running_in, slow_after_in, state_in, state_parts_in, state_with, terminate_reason_in, terminating_in, timing_in, wait_in, checked_clock, checked_day, moment_in, highlight_in, highlight_stream_in, progress_in, stress_count_in};
+ghost use Rattle.scene_text.specs.Parts.{delay_in, exited_in, exiting_in, result_or_none_in, running_in, slow_after_in, state_in, state_with, terminate_reason_in, terminating_in, timing_in, wait_in, checked_clock, checked_day, moment_in, highlight_in, highlight_stream_in, progress_in, stress_count_in};
 ghost use Rattle.std.specs.Option.{option_map};
 ghost use Rattle.std.specs.Prelude.{◌≡◌, IfOk};
 
@@ -13,13 +13,13 @@ use bytes::Bytes;
 use jiff::civil::{Date, Time};
 use run_model::abort::DescriptionText;
 use run_model::boxed::Boxed;
-use run_model::info::{UnitTerminateMethod, UnitTerminateReason, UnitTerminatingState};
+use run_model::info::{UnitState, UnitTerminateMethod, UnitTerminateReason, UnitTerminatingState};
+use run_model::memory::OutOfMemory;
 use run_model::output::{Highlight, HighlightStream};
 use run_model::status::ExecutionResultDescription;
 use run_model::stress::{StressCount, StressProgress};
 use run_model::time::Nanos;
 use scene_events::scene::run_events::SceneMoment;
-use scene_events::scene::units::{EndedState, LiveState, SceneState, Timing, Wait};
 use scene_fields::numbers::{read_code, read_count, read_nanos, read_small_count};
 use scene_fields::results::read_result;
 use scene_fields::split::split_at_byte;
@@ -27,88 +27,67 @@ use scene_fields::texts::{read_bytes, read_text};
 use scene_fields::values::{read_flag, read_total};
 use std::alloc::Global;
 
-/// What the parts of a state say. How the attempt ended is not among them.
-#[derive(Drop)]
-pub enum StateParts {
-    /// There is a process.
-    Live(LiveState),
-    /// There is none any more.
-    Ended(EndedState),
-}
-
-/// Reads what a unit is doing, without how the attempt ended. `None` means a bad field.
+/// Reads what a unit is doing. How its attempt ended stands in the next field: until `state_with` it has passed, where it has ended. `None`
+/// means a bad field.
 ///
 /// ```
-/// let parts = read_state_parts(alloc, "running:42:1500000000:-")?; // for 1.5 s, as the process 42
-/// assert!(matches!(parts, Some(StateParts::Live(_))));
+/// let state = read_state(alloc, "running:42:1500000000:-")?; // for 1.5 s, as the process 42
+/// assert!(matches!(state, Some(UnitState::Running { .. })));
 /// ```
-#[tactic(auto, unfolding(crate::specs::Parts::state_parts_in))]
-pub fn read_state_parts(alloc: Global, field: &str) -> Field<StateParts>
-    ensures { IfOk result (λ parts. parts ≡ state_parts_in field.now) }
+#[tactic(auto, unfolding(crate::specs::Parts::state_in))]
+pub fn read_state(alloc: Global, field: &str) -> Field<UnitState>
+    ensures { IfOk result (λ state. state ≡ state_in field.now) }
 {
     let Some((word, rest)) = split_at_byte(field, b':') else {
         return Ok(None);
     };
     match word {
-        "running" => Ok(read_running(rest).map(StateParts::Live)),
-        "exiting" => Ok(read_exiting(rest).map(StateParts::Live)),
-        "terminating" => Ok(read_terminating(alloc, rest)?.map(StateParts::Live)),
-        "exited" => Ok(
-            read_timing(rest)
-                .map(EndedState::Exited)
-                .map(StateParts::Ended),
-        ),
-        "delay" => Ok(read_delay(rest).map(StateParts::Ended)),
+        "running" => Ok(read_running(rest)),
+        "exiting" => Ok(read_exiting(rest)),
+        "terminating" => read_terminating(alloc, rest),
+        "exited" => Ok(read_exited(rest)),
+        "delay" => Ok(read_delay(rest)),
         _ => Ok(None),
-    }
-}
-
-/// Reads the state that these parts make with the result of this field, or with `-` in its place. `None` means a bad field: what has
-/// ended has a result.
-#[tactic(auto, unfolding(crate::specs::Parts::state_in))]
-pub fn read_state(alloc: Global, parts: StateParts, field: &str) -> Field<SceneState>
-    ensures { IfOk result (λ state. state ≡ state_in parts field.now) }
-{
-    match read_result_or_none(alloc, field)? {
-        Some(outcome) => Ok(state_with(parts, outcome)),
-        None => Ok(None),
     }
 }
 
 // Reads the parts after `running`: the process's id, and how long it has run.
 #[tactic(auto, unfolding(crate::specs::Parts::running_in))]
-fn read_running(text: &str) -> Option<LiveState>
+fn read_running(text: &str) -> Option<UnitState>
     ensures { result ≡ running_in text.now }
 {
     let (pid, timing) = split_at_byte(text, b':')?;
-    Some(LiveState::Running {
+    let (time_taken, slow_after) = read_timing(timing)?;
+    Some(UnitState::Running {
         pid: read_small_count(pid)?,
-        timing: read_timing(timing)?,
+        time_taken,
+        slow_after,
     })
 }
 
 // Reads the parts after `exiting`: the same, and the wait for the process's handles.
 #[tactic(auto, unfolding(crate::specs::Parts::exiting_in))]
-fn read_exiting(text: &str) -> Option<LiveState>
+fn read_exiting(text: &str) -> Option<UnitState>
     ensures { result ≡ exiting_in text.now }
 {
     let (pid, rest) = split_at_byte(text, b':')?;
     let (time_taken, rest) = split_at_byte(rest, b':')?;
     let (slow_after, wait) = split_at_byte(rest, b':')?;
-    Some(LiveState::Exiting {
+    let (waiting_duration, remaining) = read_wait(wait)?;
+    Some(UnitState::Exiting {
         pid: read_small_count(pid)?,
-        timing: Timing {
-            time_taken: read_nanos(time_taken)?,
-            slow_after: read_slow_after(slow_after)?,
-        },
-        wait: read_wait(wait)?,
+        time_taken: read_nanos(time_taken)?,
+        slow_after: read_slow_after(slow_after)?,
+        tentative_result: None,
+        waiting_duration,
+        remaining,
     })
 }
 
 // Reads the parts after `terminating`: the process's id, how long it has run, why it is ended and by which signal, and the wait
 // for its end. A colon in the signal's name would part it.
 #[tactic(auto, unfolding(crate::specs::Parts::terminating_in))]
-fn read_terminating(alloc: Global, text: &str) -> Field<LiveState>
+fn read_terminating(alloc: Global, text: &str) -> Field<UnitState>
     ensures { IfOk result (λ state. state ≡ terminating_in text.now) }
 {
     let Some((pid, rest)) = split_at_byte(text, b':') else {
@@ -123,7 +102,7 @@ fn read_terminating(alloc: Global, text: &str) -> Field<LiveState>
     let Some((signal, wait)) = split_at_byte(rest, b':') else {
         return Ok(None);
     };
-    let (Some(pid), Some(time_taken), Some(reason), Some(wait)) = (
+    let (Some(pid), Some(time_taken), Some(reason), Some((waiting_duration, remaining))) = (
         read_small_count(pid),
         read_nanos(time_taken),
         read_terminate_reason(reason),
@@ -134,50 +113,105 @@ fn read_terminating(alloc: Global, text: &str) -> Field<LiveState>
     let Some(signal) = read_text(alloc, signal)? else {
         return Ok(None);
     };
-    Ok(Some(LiveState::Terminating(UnitTerminatingState {
+    Ok(Some(UnitState::Terminating(UnitTerminatingState {
         pid,
         time_taken,
         reason,
         method: UnitTerminateMethod::Signal(DescriptionText::new(alloc, signal.as_str())?),
-        waiting_duration: wait.waited,
-        remaining: wait.remaining,
+        waiting_duration,
+        remaining,
     })))
+}
+
+// Reads the parts after `exited`: how long the process ran.
+fn read_exited(text: &str) -> Option<UnitState>
+    ensures { result ≡ exited_in text.now }
+{
+    let (time_taken, slow_after) = read_timing(text)?;
+    Some(UnitState::Exited {
+        result: ExecutionResultDescription::Pass,
+        time_taken,
+        slow_after,
+    })
 }
 
 // Reads the parts after `delay`: whether the attempt before was slow, and the wait for the next one.
 #[tactic(auto, unfolding(crate::specs::Parts::delay_in))]
-fn read_delay(text: &str) -> Option<EndedState>
+fn read_delay(text: &str) -> Option<UnitState>
     ensures { result ≡ delay_in text.now }
 {
-    let (was_slow, wait) = split_at_byte(text, b':')?;
-    Some(EndedState::Delay {
-        was_slow: read_flag(was_slow)?,
-        wait: read_wait(wait)?,
+    let (previous_slow, wait) = split_at_byte(text, b':')?;
+    let (waiting_duration, remaining) = read_wait(wait)?;
+    Some(UnitState::DelayBeforeNextAttempt {
+        previous_result: ExecutionResultDescription::Pass,
+        previous_slow: read_flag(previous_slow)?,
+        waiting_duration,
+        remaining,
     })
+}
+
+/// The state with the result of the field behind it, which what has ended has.
+pub fn state_with(
+    state: UnitState,
+    outcome: Option<ExecutionResultDescription>,
+) -> Option<UnitState>
+    ensures { result ≡ state_with outcome state }
+{
+    let mut state = state;
+    match &mut state {
+        UnitState::Exiting {
+            tentative_result,
+            ..
+        } => *tentative_result = outcome,
+        UnitState::Exited { result, .. } => *result = outcome?,
+        UnitState::DelayBeforeNextAttempt {
+            previous_result,
+            ..
+        } => *previous_result = outcome?,
+        UnitState::Running { .. } | UnitState::Terminating(_) => {}
+    }
+    Some(state)
+}
+
+/// Reads how an attempt ended, or `-`.
+pub fn read_result_or_none(alloc: Global, field: &str) -> Field<Option<ExecutionResultDescription>>
+    ensures { IfOk result (λ outcome. outcome ≡ result_or_none_in field.now) }
+{
+    match field {
+        "-" => Ok(Some(None)),
+        _ => Ok(read_result(alloc, field)?.map(Some)),
+    }
+}
+
+/// Copies how an attempt ended, if that is known.
+pub fn copy_outcome(
+    alloc: Global,
+    outcome: &Option<ExecutionResultDescription>,
+) -> Result<Option<ExecutionResultDescription>, OutOfMemory>
+    ensures { IfOk result (λ copy. copy ≡ outcome.now) }
+{
+    match outcome {
+        Some(outcome) => Ok(Some(outcome.copy(alloc)?)),
+        None => Ok(None),
+    }
 }
 
 // Reads how long a process has run, and when its unit was marked as slow.
 #[tactic(auto, unfolding(crate::specs::Parts::timing_in))]
-fn read_timing(text: &str) -> Option<Timing>
+fn read_timing(text: &str) -> Option<(Nanos, Option<Nanos>)>
     ensures { result ≡ timing_in text.now }
 {
     let (time_taken, slow_after) = split_at_byte(text, b':')?;
-    Some(Timing {
-        time_taken: read_nanos(time_taken)?,
-        slow_after: read_slow_after(slow_after)?,
-    })
+    Some((read_nanos(time_taken)?, read_slow_after(slow_after)?))
 }
 
 // Reads how long something has been waited for, and how much longer it is.
 #[tactic(auto, unfolding(crate::specs::Parts::wait_in))]
-fn read_wait(text: &str) -> Option<Wait>
+fn read_wait(text: &str) -> Option<(Nanos, Nanos)>
     ensures { result ≡ wait_in text.now }
 {
     let (waited, remaining) = split_at_byte(text, b':')?;
-    Some(Wait {
-        waited: read_nanos(waited)?,
-        remaining: read_nanos(remaining)?,
-    })
+    Some((read_nanos(waited)?, read_nanos(remaining)?))
 }
 
 // Reads when a unit was marked as slow, or `-`.
@@ -199,27 +233,6 @@ fn read_terminate_reason(text: &str) -> Option<UnitTerminateReason>
         "signal" => Some(UnitTerminateReason::Signal),
         "interrupt" => Some(UnitTerminateReason::Interrupt),
         _ => None,
-    }
-}
-
-// Reads how an attempt ended, or `-`.
-fn read_result_or_none(alloc: Global, field: &str) -> Field<Option<ExecutionResultDescription>>
-    ensures { IfOk result (λ outcome. outcome ≡ result_or_none_in field.now) }
-{
-    match field {
-        "-" => Ok(Some(None)),
-        _ => Ok(read_result(alloc, field)?.map(Some)),
-    }
-}
-
-// The state that these parts make with a result, which what has ended has.
-fn state_with(parts: StateParts, outcome: Option<ExecutionResultDescription>) -> Option<SceneState>
-    ensures { result ≡ state_with parts outcome }
-{
-    match (parts, outcome) {
-        (StateParts::Live(state), outcome) => Some(SceneState::Live { state, outcome }),
-        (StateParts::Ended(state), Some(outcome)) => Some(SceneState::Ended { state, outcome }),
-        (StateParts::Ended(_), None) => None,
     }
 }
 

@@ -9,21 +9,21 @@ ghost use Rattle.scene_text.specs.EventLines.{after_streams, all_attempts, answe
 ghost use Rattle.std.specs.Prelude.{◌≡◌, ◌++◌, drop, IsTrue, IfOk};
 
 use super::binary_ids::BinaryIds;
-use super::parts::{read_highlight, read_state, read_state_parts};
+use super::parts::{copy_outcome, read_highlight, read_result_or_none, read_state, state_with};
 use super::{EventResult, Field, Line};
 use bytes::{Bytes, BytesMut};
 use run_model::boxed::Boxed;
 use run_model::output::{ChildOutputDescription, ChildSingleOutput, ErrorChain};
 use run_model::status::{FlakyResult, RetryData};
-use scene_events::scene::attempts::{AttemptOutput, SceneAttempt, SceneAttempts};
+use scene_events::scene::attempts::{SceneAttempt, SceneAttempts};
 use scene_events::scene::event::SceneEvent;
+use scene_events::scene::outputs::{AttemptOutput, SceneOutput};
 use scene_events::scene::packed_stats::PackedStats;
-use scene_events::scene::run_events::{SceneScript, SetupFinish, SetupStart, SlowSetup};
-use scene_events::scene::test_events::{
-    FailedAttempt, InfoStart, SceneTest, ScriptAnswer, SlowTest, TestAnswer, TestFinish,
-    TestRetryStart, TestStart, UnitAnswer,
+use scene_events::scene::run_events::StateRequest;
+use scene_events::scene::unit_events::{
+    FailedAttempt, SceneScript, SceneTest, ScriptAnswer, SetupFinish, SetupStart, SlowSetup,
+    SlowTest, TestAnswer, TestFinish, TestRetryStart, TestStart, UnitAnswer,
 };
-use scene_events::scene::units::SceneOutput;
 use scene_fields::counts::read_stats;
 use scene_fields::fault::{LineError, LineFault};
 use scene_fields::fields::Fields;
@@ -284,12 +284,12 @@ pub fn read_script(alloc: Global, fields: &mut Fields<'_>) -> Line<SceneScript>
 pub fn read_info(alloc: Global, fields: &mut Fields<'_>) -> EventResult
     ensures { Gives (λ e. e) fields.old result fields.new info_line_fields }
 {
-    let start = InfoStart {
+    let request = StateRequest {
         elapsed: fields.read(read_nanos)?,
-        total: fields.read(read_count)?,
-        run_stats: fields.read(read_stats)?,
+        running: fields.read(read_count)?,
+        current_stats: fields.read(read_stats)?,
     };
-    Ok(SceneEvent::InfoStarted(Boxed::new(alloc, start)?))
+    Ok(SceneEvent::InfoStarted(Boxed::new(alloc, request)?))
 }
 
 /// Reads an `answer-script` line: which answer it is of how many, the iteration, the script, and its answer.
@@ -325,11 +325,14 @@ pub fn read_answer_test(alloc: Global, ids: &mut BinaryIds, fields: &mut Fields<
 fn read_answer(alloc: Global, fields: &mut Fields<'_>) -> Line<UnitAnswer>
     ensures { Gives (λ a. a) fields.old result fields.new answer_fields }
 {
-    let parts = fields.try_read(|field| read_state_parts(alloc, field))?;
-    let state = fields.try_read(|field| read_state(alloc, parts, field))?;
+    let begun = fields.try_read(|field| read_state(alloc, field))?;
+    let outcome = fields.try_read(|field| read_result_or_none(alloc, field))?;
+    let copy = copy_outcome(alloc, &outcome)?;
+    let state = state_with(begun, copy).ok_or(fields.bad_field())?;
+    let output = read_output(alloc, fields)?.description(alloc, outcome)?;
     Ok(UnitAnswer {
         state: Boxed::new(alloc, state)?,
-        output: Boxed::new(alloc, read_output(alloc, fields)?)?,
+        output: Boxed::new(alloc, output)?,
     })
 }
 

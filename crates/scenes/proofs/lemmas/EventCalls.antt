@@ -17,16 +17,11 @@ use Rattle.reporter_state.specs.Loads.{loads_attempt, loads_finish, loads_script
 use Rattle.reporter_state.specs.Refusals.{event_refusal}
 use Rattle.scene_events.specs.SceneAttempts.{script_status}
 use Rattle.scene_events.specs.Scenes.{SaysSame, may_be_refused, nothing_counted, elapsed_of}
-use Rattle.scene_events.specs.SceneOutputs.{written, is_loaded}
-use Rattle.scene_events.specs.States.{result_of, unit_state}
 use Rattle.scene_events.specs.declared.scene.event.SceneEvent.TheVariants as scene
 use Rattle.std.proofs.lemmas.Bool.{not-false, or_parts}
 use Rattle.reporter_state.specs.KeptTests.{lent}
-use Rattle.run_model.specs.declared.status.ExecutionResultDescription.{ExecutionResultDescription}
 use Rattle.run_names.specs.declared.name.TestInstanceId.{TestInstanceId}
-use Rattle.scene_events.specs.declared.scene.units.SceneOutput.{SceneOutput}
-use Rattle.scene_events.specs.declared.scene.units.SceneOutput.TheVariants.{Output, StartError}
-use Rattle.scene_events.specs.declared.scene.test_events.SceneTest.{SceneTest}
+use Rattle.scene_events.specs.declared.scene.unit_events.SceneTest.{SceneTest}
 
 -- why an event is refused whose output is needed or is not
 abbrev pub lacking : Bool → Written → Option WriteEventError
@@ -44,8 +39,8 @@ abbrev pub told_refusal : OutputLoadDecider → SceneEvent → Option WriteEvent
 told_refusal d (scene.SetupScriptFinished e) = lacking_script (script_status e.attempt)
 told_refusal d (scene.TestAttemptFailedWillRetry e) = lacking_attempt (loads_attempt d e.failure_output) e.attempt
 told_refusal d (scene.TestFinished e) = lacking (loads_finish d e.success_output e.failure_output (summary_of e.attempts)) e.attempts.last.output
-told_refusal d (scene.ScriptAnswered e) = lacking (has_valid_output (unit_state e.answer.state)) (written (result_of e.answer.state) e.answer.output)
-told_refusal d (scene.TestAnswered e) = lacking (has_valid_output (unit_state e.answer.state)) (written (result_of e.answer.state) e.answer.output)
+told_refusal d (scene.ScriptAnswered e) = lacking (has_valid_output e.answer.state) e.answer.output
+told_refusal d (scene.TestAnswered e) = lacking (has_valid_output e.answer.state) e.answer.output
 told_refusal d other = None
 
 refusal_told : (d : OutputLoadDecider) (event : SceneEvent) (k : TestEventKind) → SaysSame event k → event_refusal d k ≡ told_refusal d event
@@ -53,8 +48,8 @@ refusal_told d (scene.SetupScriptFinished e) (kind.SetupScriptFinished stress id
 refusal_told d (scene.TestAttemptFailedWillRetry e) (kind.TestAttemptFailedWillRetry stress test status delay failure) h =
     ap₂ (λ display attempt. lacking_attempt (loads_attempt d display) attempt) h.4 h.2
 refusal_told d (scene.TestFinished e) (kind.TestFinished stress test success failure statuses stats) h = rw (h.2, h.3, h.4) refl
-refusal_told d (scene.ScriptAnswered e) (kind.InfoResponse index total (response.SetupScript r)) h = ap₂ (λ state output. lacking (has_valid_output state) output) h.2.2.0 h.2.2.1
-refusal_told d (scene.TestAnswered e) (kind.InfoResponse index total (response.Test r)) h = ap₂ (λ state output. lacking (has_valid_output state) output) h.2.3.0 h.2.3.1
+refusal_told d (scene.ScriptAnswered e) (kind.InfoResponse index total (response.SetupScript r)) h = ap₂ (λ state output. lacking (has_valid_output state) output) h.4 h.5
+refusal_told d (scene.TestAnswered e) (kind.InfoResponse index total (response.Test r)) h = ap₂ (λ state output. lacking (has_valid_output state) output) h.5 h.6
 refusal_told d event other h = search rules
 
 pub refusal_of_call : (d : OutputLoadDecider) (event : SceneEvent) (c : ReportCall) → IsCallOf event c → refusal_by d c ≡ told_refusal d event
@@ -104,11 +99,6 @@ attempt_lacks_none is_needed attempt h =
     let both = or_parts (is_success attempt.result) (not (has_loaded_output attempt.output)) h in
     rw both.0 (none_lacking is_needed attempt.output (not-false _ both.1))
 
--- whether output is there does not depend on how its unit ended
-loaded : (result : Option ExecutionResultDescription) (output : SceneOutput) → is_loaded output ≡ true → has_loaded_output (written result output) ≡ true
-loaded result (Output output errors highlight) h = h
-loaded result (StartError error) h = refl
-
 -- a test as a call names it
 abbrev named : SceneTest → TestInstanceId
 named t = record { binary_id = lent t.binary_id; test_name = lent t.test_name }
@@ -146,15 +136,15 @@ judged_unmade d (scene.RunBeginCancel e) off = judged_by d _ (kind.RunBeginCance
 judged_unmade d (scene.RunBeginKill e) off = judged_by d _ (kind.RunBeginKill e.setup_scripts_running (nothing_counted e.reason) e.running) (refl, refl, refl) refl
 judged_unmade d (scene.RunPaused e) off = judged_by d _ (kind.RunPaused e.setup_scripts_running e.running) (refl, refl) refl
 judged_unmade d (scene.RunContinued e) off = judged_by d _ (kind.RunContinued e.setup_scripts_running e.running) (refl, refl) refl
-judged_unmade d (scene.InfoStarted e) off = judged_by d _ (kind.InfoStarted e.total e.run_stats) (refl, refl) refl
+judged_unmade d (scene.InfoStarted e) off = judged_by d _ (kind.InfoStarted e.running e.current_stats) (refl, refl) refl
 judged_unmade d (scene.ScriptAnswered e) off =
     judged_by d _
-    (kind.InfoResponse e.index e.total (response.SetupScript (record { stress_index = e.stress_index; script_id = e.script.script_id; program = e.script.program; args = e.script.args; state = unit_state e.answer.state; output = written (result_of e.answer.state) e.answer.output })))
-    (refl, refl, (refl, (refl, refl, refl), (refl, refl))) (none_lacking (has_valid_output (unit_state e.answer.state)) (written (result_of e.answer.state) e.answer.output) (loaded (result_of e.answer.state) e.answer.output (not-false _ off)))
+    (kind.InfoResponse e.index e.total (response.SetupScript (record { stress_index = e.stress_index; script_id = e.script.script_id; program = e.script.program; args = e.script.args; state = e.answer.state; output = e.answer.output })))
+    (refl, refl, refl, (refl, refl, refl), refl, refl) (none_lacking (has_valid_output e.answer.state) e.answer.output (not-false _ off))
 judged_unmade d (scene.TestAnswered e) off =
     judged_by d _
-    (kind.InfoResponse e.index e.total (response.Test (record { stress_index = e.test.stress_index; test_instance = named e.test; retry_data = e.retry_data; state = unit_state e.answer.state; output = written (result_of e.answer.state) e.answer.output })))
-    (refl, refl, (refl, (refl, refl), refl, (refl, refl))) (none_lacking (has_valid_output (unit_state e.answer.state)) (written (result_of e.answer.state) e.answer.output) (loaded (result_of e.answer.state) e.answer.output (not-false _ off)))
+    (kind.InfoResponse e.index e.total (response.Test (record { stress_index = e.test.stress_index; test_instance = named e.test; retry_data = e.retry_data; state = e.answer.state; output = e.answer.output })))
+    (refl, refl, refl, (refl, refl), refl, refl, refl) (none_lacking (has_valid_output e.answer.state) e.answer.output (not-false _ off))
 judged_unmade d (scene.InfoFinished e) off = judged_by d _ (kind.InfoFinished e) refl refl
 judged_unmade d (scene.InputEnter e) off = judged_by d _ (kind.InputEnter e.current_stats e.running) (refl, refl) refl
 judged_unmade d (scene.StressSubRunFinished e) off = judged_by d _ (kind.StressSubRunFinished e.progress e.sub_elapsed e.sub_stats) (refl, refl, refl) refl

@@ -1,26 +1,23 @@
-//! The events of tests, and what tests and setup scripts answer when they are asked what they are doing.
+//! The events of units, which are tests and setup scripts, and what both answer when they are asked what they are doing.
 
-ghost use Rattle.scene_events.specs.SceneOutputs.{written};
 ghost use Rattle.scene_events.specs.Scenes.{PushesCallOf};
-ghost use Rattle.scene_events.specs.States.{result_of};
 ghost use Rattle.scene_events.specs.declared.scene.event.SceneEvent.{SceneEvent};
 ghost use Rattle.std.specs.Prelude.{◌≡◌, IfOk};
 
 use super::attempts::{SceneAttempt, SceneAttempts};
-use super::event::{Calls, push, push_event};
+use super::event::{Calls, push_event};
 use super::packed_stats::PackedStats;
-use super::run_events::SceneScript;
-use super::units::{SceneOutput, SceneState};
 use run_model::boxed::Boxed;
-use run_model::call::ReportCall;
 use run_model::command::CommandLine;
 use run_model::config::TestOutputDisplay;
-use run_model::event::{TestEvent, TestEventKind};
-use run_model::info::{InfoResponse, SetupScriptInfoResponse, TestInfoResponse};
+use run_model::event::TestEventKind;
+use run_model::info::{
+    InfoResponse, SetupScriptInfoResponse, TestInfoResponse, UnitState, UnitTerminateMethod,
+    UnitTerminatingState,
+};
 use run_model::memory::{OutOfMemory, TooManyOwners};
-use run_model::name::{RustBinaryId, TestCaseName, TestInstanceId};
+use run_model::name::{ProgramName, RustBinaryId, ScriptId, TestCaseName, TestInstanceId};
 use run_model::output::{ChildExecutionOutputDescription, ChildOutputDescription, LiveSpec};
-use run_model::stats::RunStats;
 use run_model::status::RetryData;
 use run_model::stress::StressIndex;
 use run_model::time::Nanos;
@@ -198,12 +195,11 @@ impl TestRetryStart {
     pub fn push_call<'a>(&'a self, calls: &mut Calls<'a>) -> Result<(), OutOfMemory>
         ensures { PushesCallOf (SceneEvent.TestRetryStarted self.now) calls.old.items result calls.new.items }
     {
-        let command_line = self.command_line.copy()?;
         let kind = TestEventKind::TestRetryStarted {
             stress_index: self.test.stress_index,
             test_instance: self.test.instance(),
             retry_data: self.retry_data,
-            command_line,
+            command_line: self.command_line.copy()?,
         };
         push_event(calls, kind)
     }
@@ -230,11 +226,10 @@ impl FailedAttempt {
     pub fn push_call<'a>(&'a self, alloc: Global, calls: &mut Calls<'a>) -> Result<(), OutOfMemory>
         ensures { PushesCallOf (SceneEvent.TestAttemptFailedWillRetry self.now) calls.old.items result calls.new.items }
     {
-        let run_status = self.attempt.status(alloc)?;
         let kind = TestEventKind::TestAttemptFailedWillRetry {
             stress_index: self.test.stress_index,
             test_instance: self.test.instance(),
-            run_status,
+            run_status: self.attempt.status(alloc)?,
             delay_before_next_attempt: self.delay_before_next_attempt,
             failure_output: self.failure_output,
         };
@@ -260,15 +255,118 @@ impl TestFinish {
     }
 }
 
-/// All units are asked what they are doing.
-#[derive(Clone, Copy)]
-pub struct InfoStart {
-    /// How long the run has taken.
-    pub elapsed: Nanos,
-    /// How many units are asked.
+/// A setup script.
+#[derive(Drop)]
+pub struct SceneScript {
+    /// Its id.
+    pub script_id: ScriptId,
+    /// The program that it runs.
+    pub program: ProgramName,
+    /// The program's arguments.
+    pub args: CommandLine,
+}
+
+/// A setup script that starts.
+#[derive(Drop)]
+pub struct SetupStart {
+    /// Which iteration of a stress run it belongs to.
+    pub stress_index: Option<StressIndex>,
+    /// Its place among the setup scripts, from 0.
+    pub index: usize,
+    /// How many setup scripts there are.
     pub total: usize,
-    /// The counts of the run.
-    pub run_stats: RunStats,
+    /// The script.
+    pub script: SceneScript,
+}
+
+/// A setup script that runs longer than it should.
+#[derive(Drop)]
+pub struct SlowSetup {
+    /// How long it has taken.
+    pub elapsed: Nanos,
+    /// Which iteration of a stress run it belongs to.
+    pub stress_index: Option<StressIndex>,
+    /// The script.
+    pub script: SceneScript,
+    /// Whether it is terminated for that.
+    pub will_terminate: bool,
+}
+
+/// A setup script that has finished.
+#[derive(Drop)]
+pub struct SetupFinish {
+    /// Its only attempt.
+    pub attempt: SceneAttempt,
+    /// Which iteration of a stress run it belongs to.
+    pub stress_index: Option<StressIndex>,
+    /// The script.
+    pub script: SceneScript,
+}
+
+impl SceneScript {
+    /// Copies the names, which allocates.
+    pub fn copy(&self, alloc: Global) -> Result<SceneScript, OutOfMemory>
+        ensures { IfOk result (λ copy. copy ≡ self.now) }
+    {
+        Ok(SceneScript {
+            script_id: ScriptId::new(alloc, self.script_id.as_str())?,
+            program: ProgramName::new(alloc, self.program.as_str())?,
+            args: self.args.copy()?,
+        })
+    }
+}
+
+impl SetupStart {
+    /// Pushes this event as a `ReportCall`.
+    pub fn push_call(&self, alloc: Global, calls: &mut Calls<'_>) -> Result<(), OutOfMemory>
+        ensures { PushesCallOf (SceneEvent.SetupScriptStarted self.now) calls.old.items result calls.new.items }
+    {
+        let script = self.script.copy(alloc)?;
+        let kind = TestEventKind::SetupScriptStarted {
+            stress_index: self.stress_index,
+            index: self.index,
+            total: self.total,
+            script_id: script.script_id,
+            program: script.program,
+            args: script.args,
+        };
+        push_event(calls, kind)
+    }
+}
+
+impl SlowSetup {
+    /// Pushes this event as a `ReportCall`.
+    pub fn push_call(&self, alloc: Global, calls: &mut Calls<'_>) -> Result<(), OutOfMemory>
+        ensures { PushesCallOf (SceneEvent.SetupScriptSlow self.now) calls.old.items result calls.new.items }
+    {
+        let script = self.script.copy(alloc)?;
+        let kind = TestEventKind::SetupScriptSlow {
+            stress_index: self.stress_index,
+            script_id: script.script_id,
+            program: script.program,
+            args: script.args,
+            elapsed: self.elapsed,
+            will_terminate: self.will_terminate,
+        };
+        push_event(calls, kind)
+    }
+}
+
+impl SetupFinish {
+    /// Pushes this event as a `ReportCall`.
+    pub fn push_call(&self, alloc: Global, calls: &mut Calls<'_>) -> Result<(), OutOfMemory>
+        ensures { PushesCallOf (SceneEvent.SetupScriptFinished self.now) calls.old.items result calls.new.items }
+    {
+        let script = self.script.copy(alloc)?;
+        let kind = TestEventKind::SetupScriptFinished {
+            stress_index: self.stress_index,
+            script_id: script.script_id,
+            program: script.program,
+            args: script.args,
+            run_status: self.attempt.script_status(alloc)?,
+        };
+        push_event(calls, kind)
+    }
 }
 
 /// A setup script says what it is doing.
@@ -305,23 +403,9 @@ pub struct TestAnswer {
 #[derive(Drop)]
 pub struct UnitAnswer {
     /// What it is doing.
-    pub state: Boxed<SceneState>,
+    pub state: Boxed<UnitState>,
     /// What it has written so far.
-    pub output: Boxed<SceneOutput>,
-}
-
-impl InfoStart {
-    /// Pushes this event as a `ReportCall`.
-    pub fn push_call(&self, calls: &mut Calls<'_>) -> Result<(), OutOfMemory>
-        ensures { PushesCallOf (SceneEvent.InfoStarted self.now) calls.old.items result calls.new.items }
-    {
-        let kind = TestEventKind::InfoStarted {
-            total: self.total,
-            run_stats: self.run_stats,
-        };
-        let elapsed = self.elapsed;
-        push(calls, ReportCall::Event(TestEvent { elapsed, kind }))
-    }
+    pub output: Boxed<ChildExecutionOutputDescription<LiveSpec>>,
 }
 
 impl ScriptAnswer {
@@ -330,8 +414,7 @@ impl ScriptAnswer {
         ensures { PushesCallOf (SceneEvent.ScriptAnswered self.now) calls.old.items result calls.new.items }
     {
         let script = self.script.copy(alloc)?;
-        let state = self.answer.state.get().state(alloc)?;
-        let output = self.answer.description(alloc)?;
+        let answer = self.answer.copy(alloc)?;
         let kind = TestEventKind::InfoResponse {
             index: self.index,
             total: self.total,
@@ -340,8 +423,8 @@ impl ScriptAnswer {
                 script_id: script.script_id,
                 program: script.program,
                 args: script.args,
-                state: Boxed::new(alloc, state)?,
-                output: Boxed::new(alloc, output)?,
+                state: answer.state,
+                output: answer.output,
             }),
         };
         push_event(calls, kind)
@@ -353,8 +436,7 @@ impl TestAnswer {
     pub fn push_call<'a>(&'a self, alloc: Global, calls: &mut Calls<'a>) -> Result<(), OutOfMemory>
         ensures { PushesCallOf (SceneEvent.TestAnswered self.now) calls.old.items result calls.new.items }
     {
-        let state = self.answer.state.get().state(alloc)?;
-        let output = self.answer.description(alloc)?;
+        let answer = self.answer.copy(alloc)?;
         let kind = TestEventKind::InfoResponse {
             index: self.index,
             total: self.total,
@@ -362,8 +444,8 @@ impl TestAnswer {
                 stress_index: self.test.stress_index,
                 test_instance: self.test.instance(),
                 retry_data: self.retry_data,
-                state: Boxed::new(alloc, state)?,
-                output: Boxed::new(alloc, output)?,
+                state: answer.state,
+                output: answer.output,
             }),
         };
         push_event(calls, kind)
@@ -373,22 +455,85 @@ impl TestAnswer {
 impl UnitAnswer {
     ghost use Rattle.scene_events.specs.Loads.{answer_with};
 
-    /// Puts this in place of what it has captured so far, as [`SceneOutput::load`] does.
+    /// Puts this in place of what it has captured so far; errors and highlight stay. A unit that could not be started captured nothing, and
+    /// stays as it is.
     pub fn load(&mut self, captured: ChildOutputDescription)
         ensures { self.new ≡ answer_with captured self.old }
     {
-        self.output.get_mut().load(captured);
+        if let ChildExecutionOutputDescription::Output { output, .. } = self.output.get_mut() {
+            *output = captured;
+        }
     }
 
-    // What it has written so far, as an event has it.
-    fn description(
-        &self,
-        alloc: Global,
-    ) -> Result<ChildExecutionOutputDescription<LiveSpec>, OutOfMemory>
-        ensures { IfOk result (λ output. output ≡ written (result_of self.now.state) self.now.output) }
+    // Copies the texts, which allocates, and shares the bytes.
+    fn copy(&self, alloc: Global) -> Result<UnitAnswer, OutOfMemory>
+        ensures { IfOk result (λ copy. copy ≡ self.now) }
     {
-        self.output
-            .get()
-            .description(alloc, self.state.get().outcome())
+        Ok(UnitAnswer {
+            state: Boxed::new(alloc, copy_state(alloc, self.state.get())?)?,
+            output: Boxed::new(alloc, self.output.get().copy(alloc)?)?,
+        })
     }
+}
+
+// Copies the texts of a state, which allocates.
+fn copy_state(alloc: Global, state: &UnitState) -> Result<UnitState, OutOfMemory>
+    ensures { IfOk result (λ copy. copy ≡ state.now) }
+{
+    Ok(match state {
+        UnitState::Running {
+            pid,
+            time_taken,
+            slow_after,
+        } => UnitState::Running {
+            pid: *pid,
+            time_taken: *time_taken,
+            slow_after: *slow_after,
+        },
+        UnitState::Exiting {
+            pid,
+            time_taken,
+            slow_after,
+            tentative_result,
+            waiting_duration,
+            remaining,
+        } => UnitState::Exiting {
+            pid: *pid,
+            time_taken: *time_taken,
+            slow_after: *slow_after,
+            tentative_result: tentative_result
+                .as_ref()
+                .map(|it| it.copy(alloc))
+                .transpose()?,
+            waiting_duration: *waiting_duration,
+            remaining: *remaining,
+        },
+        UnitState::Terminating(terminating) => {
+            let UnitTerminateMethod::Signal(signal) = &terminating.method;
+            UnitState::Terminating(UnitTerminatingState {
+                method: UnitTerminateMethod::Signal(signal.copy(alloc)?),
+                ..*terminating
+            })
+        }
+        UnitState::Exited {
+            result,
+            time_taken,
+            slow_after,
+        } => UnitState::Exited {
+            result: result.copy(alloc)?,
+            time_taken: *time_taken,
+            slow_after: *slow_after,
+        },
+        UnitState::DelayBeforeNextAttempt {
+            previous_result,
+            previous_slow,
+            waiting_duration,
+            remaining,
+        } => UnitState::DelayBeforeNextAttempt {
+            previous_result: previous_result.copy(alloc)?,
+            previous_slow: *previous_slow,
+            waiting_duration: *waiting_duration,
+            remaining: *remaining,
+        },
+    })
 }
