@@ -1,8 +1,6 @@
 -- Lists of words, with `\,` between them.
-use Rattle.std.specs.Prelude.{String, string_bytes, ℕ, zero, suc, List, [], ◌∷◌, ◌++◌, Bool, false, ◌==◌, if◌then◌else◌, Option, None, Some, codes, bytes_eq}
+use Rattle.std.specs.Prelude.{ℕ, zero, suc, List, [], ◌∷◌, ◌++◌, Bool, false, ◌==◌, if◌then◌else◌, Option, None, Some, codes, bytes_eq}
 use Rattle.std.specs.Option.{option_map, option_and_then}
-use Rattle.std.specs.Borrow.{Bor}
-use Rattle.std.specs.declared.alloc.Global.{Global}
 use Rattle.run_names.specs.ErrorChains.{MessageAndCauses}
 use Rattle.run_names.specs.declared.name.OwnedTestInstanceId.{OwnedTestInstanceId}
 use Rattle.scene_fields.specs.Texts.{escape_byte, escape_len}
@@ -41,16 +39,6 @@ list_words t = words_after 0 t
 abbrev pub words_of : List ℕ → Option Words
 words_of t = if bytes_eq t (codes "-") then Some [] else list_words t
 
--- the words of a list, where there is one
-abbrev pub more_words : Option (Bor (List ℕ)) → Option Words
-more_words None = Some []
-more_words (Some list) = list_words list.now
-
--- a word, and the words of the list that follows it
-abbrev pub words_from : Option (String Global × Option (Bor (List ℕ))) → Option Words
-words_from None = None
-words_from (Some x) = option_map (λ ws. string_bytes x.0 ∷ ws) (more_words x.1)
-
 -- an error and its causes, as the list of them
 abbrev pub chain_of : Option Words → Option MessageAndCauses
 chain_of None = None
@@ -75,11 +63,6 @@ abbrev pub instances_of : Words → Option Instances
 instances_of [] = Some []
 instances_of (id ∷ []) = None
 instances_of (id ∷ name ∷ ws) = option_map (λ others. instance id name ∷ others) (instances_of ws)
-
--- a test, and the tests of the list that follows it
-abbrev pub instances_from : Option (OwnedTestInstanceId × Option (Bor (List ℕ))) → Option Instances
-instances_from None = None
-instances_from (Some x) = option_map (λ others. x.0 ∷ others) (option_and_then instances_of (more_words x.1))
 
 -- the tests whose ids and names are the words of a list
 abbrev pub instances_in : List ℕ → Option Instances

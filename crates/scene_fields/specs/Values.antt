@@ -109,16 +109,12 @@ abbrev pub total_in : Option ℕ → Option NonZeroU32
 total_in None = None
 total_in (Some n) = non_zero n
 
-abbrev pub iteration : Option ℕ → Option (Option StressIndex)
-iteration None = None
-iteration (Some n) = Some (Some (record { current = n; total = None }))
-
 abbrev pub iteration_of : Option ℕ → Option NonZeroU32 → Option (Option StressIndex)
 iteration_of (Some n) (Some m) = Some (Some (record { current = n; total = Some m }))
 iteration_of n m = None
 
 abbrev pub stress_cut : List ℕ → Option (List ℕ × List ℕ) → Option (Option StressIndex)
-stress_cut t None = if bytes_eq t (codes "-") then Some None else iteration (number_in 32 t)
+stress_cut t None = if bytes_eq t (codes "-") then Some None else option_map (λ n. Some (record { current = n; total = None })) (number_in 32 t)
 stress_cut t (Some x) = iteration_of (number_in 32 x.0) (total_in (number_in 32 x.1))
 
 -- an iteration as its number, perhaps with a slash and how many there are, which is not 0; or `-`

@@ -3,11 +3,11 @@
 //! Single spaces part the pairs, as in `passed=2 failed=1`, and each key stands there once. What has no pair is 0, and `-`
 //! stands for no pair at all. Each function answers None for a bad field.
 
-ghost use Rattle.std.specs.Prelude.{◌≡◌, ℕ, List, true, Option, None};
+ghost use Rattle.std.specs.Prelude.{◌≡◌, ℕ, List, Option};
 ghost use Rattle.std.specs.Option.{option_map};
-ghost use Rattle.scene_fields.specs.Split.{split_on};
 ghost use Rattle.scene_fields.specs.Numbers.{number_in};
-ghost use Rattle.scene_fields.specs.Counts.{has_space, in_turn, no_skips, no_stats, skips_in, skips_key_in, skips_no_space, skips_pair, stats_in, stats_key_in, stats_no_space, stats_pair, with_skip, with_stat};
+ghost use Rattle.scene_fields.specs.Counts.{counts_in, key_in, pair_in, skips_in, stats_in, with_skip, with_stat};
+ghost use Rattle.scene_fields.specs.declared.counts.Key.{Key};
 
 use super::numbers::read_count;
 use super::split::{first_piece, split_at_byte};
@@ -15,158 +15,110 @@ use super::values::read_reason;
 use run_model::event::SkipCounts;
 use run_model::stats::RunStats;
 
-// What pairs say, read one after the other.
-trait Accumulator {
-    // What is known after one pair more, if that is a good one.
-    ghost pair_in: { Self → List ℕ → List ℕ → Option Self };
-
-    // Reads one pair more.
-    fn read_pair(&mut self, word: &str, value: &str) -> Option<()>
-        ensures { option_map (λ _. self.new) result ≡ pair_in self.old word.now value.now };
-
-    // No key has a space in it.
-    ghost no_space: { (before : Self) (word value : List ℕ) → has_space word ≡ true → pair_in before word value ≡ None };
-}
-
-// Reads pairs with single spaces between them. A space is looked for only after an `=`: if one stands before it, that pair has no `=`, and
-// the word before the `=` is no key, since it has a space. Inlined, so that no call is made for a pair.
-#[inline(always)]
-fn read_pairs<R: Accumulator>(pairs: &str, read: &mut R) -> Option<()>
-    ensures { option_map (λ _. read.new) result ≡ in_turn R.pair_in read.old (split_on 32 pairs.now) }
-{
-    let mut rest = Some(pairs);
-    while let Some(left) = rest {
-        let (word, after) = split_at_byte(left, b'=')?;
-        let (value, others) = first_piece(after, b' ');
-        read.read_pair(word, value)?;
-        rest = others;
-    }
-    Some(())
-}
-
-/// A key of a run's statistics.
-#[derive(Clone, Copy, PartialEq, Eq)]
-pub enum StatsKey {
-    /// Tests that were to run at first.
+// A key of a run's statistics, up to `Cancel`, or of what a run skips.
+#[derive(Clone, Copy)]
+enum Key {
     Initial,
-    /// Tests that have finished.
     Finished,
-    /// Tests that passed.
     Passed,
-    /// Of those, slow ones.
     Slow,
-    /// Of those, ones that passed after earlier attempts.
     Flaky,
-    /// Of those, ones that left handles open.
     Leaky,
-    /// Tests that failed.
     Failed,
-    /// Of those, ones that left handles open.
     LeakyFailed,
-    /// Tests that could not be started.
     Exec,
-    /// Tests that timed out.
     TimedOut,
-    /// Tests that were skipped.
     Skipped,
-    /// Setup scripts that failed.
     SetupFailed,
-    /// Setup scripts that could not be started.
     SetupExec,
-    /// Setup scripts that timed out.
     SetupTimedOut,
-    /// Why the run was cancelled.
     Cancel,
+    Rerun,
+    NonBenchmark,
+    Tests,
+    Filter,
+    Binaries,
+    BinaryFilter,
 }
 
 // How many keys there are.
-const STATS_KEYS: usize = 15;
+const KEYS: usize = 21;
 
 // Reads the key of a word.
-fn read_stats_key(word: &str) -> Option<StatsKey>
-    ensures { result ≡ stats_key_in word.now }
+fn read_key(word: &str) -> Option<Key>
+    ensures { result ≡ key_in word.now }
 {
     match word {
-        "initial" => Some(StatsKey::Initial),
-        "finished" => Some(StatsKey::Finished),
-        "passed" => Some(StatsKey::Passed),
-        "slow" => Some(StatsKey::Slow),
-        "flaky" => Some(StatsKey::Flaky),
-        "leaky" => Some(StatsKey::Leaky),
-        "failed" => Some(StatsKey::Failed),
-        "leakyfailed" => Some(StatsKey::LeakyFailed),
-        "exec" => Some(StatsKey::Exec),
-        "timedout" => Some(StatsKey::TimedOut),
-        "skipped" => Some(StatsKey::Skipped),
-        "setupfailed" => Some(StatsKey::SetupFailed),
-        "setupexec" => Some(StatsKey::SetupExec),
-        "setuptimedout" => Some(StatsKey::SetupTimedOut),
-        "cancel" => Some(StatsKey::Cancel),
+        "initial" => Some(Key::Initial),
+        "finished" => Some(Key::Finished),
+        "passed" => Some(Key::Passed),
+        "slow" => Some(Key::Slow),
+        "flaky" => Some(Key::Flaky),
+        "leaky" => Some(Key::Leaky),
+        "failed" => Some(Key::Failed),
+        "leakyfailed" => Some(Key::LeakyFailed),
+        "exec" => Some(Key::Exec),
+        "timedout" => Some(Key::TimedOut),
+        "skipped" => Some(Key::Skipped),
+        "setupfailed" => Some(Key::SetupFailed),
+        "setupexec" => Some(Key::SetupExec),
+        "setuptimedout" => Some(Key::SetupTimedOut),
+        "cancel" => Some(Key::Cancel),
+        "rerun" => Some(Key::Rerun),
+        "nonbench" => Some(Key::NonBenchmark),
+        "tests" => Some(Key::Tests),
+        "filter" => Some(Key::Filter),
+        "binaries" => Some(Key::Binaries),
+        "binfilter" => Some(Key::BinaryFilter),
         _ => None,
     }
 }
 
-// The statistics by the pairs that were read so far, and which keys those have.
-#[derive(Clone, Copy)]
-struct StatsRead {
-    stats: RunStats,
-    has_key: [bool; STATS_KEYS],
+// What pairs may count.
+trait Counts: Copy {
+    // These counts with what a key says.
+    ghost with_value: { Self → Key → List ℕ → Option Self };
+
+    // Sets what a key counts. None is a bad value, or a key of other counts.
+    fn set(&mut self, key: Key, value: &str) -> Option<()>
+        ensures { option_map (λ _. self.new) result ≡ with_value self.old key value.now };
 }
 
-impl StatsRead {
-    // Before any pair.
-    fn new() -> StatsRead
-        ensures { result ≡ no_stats }
-    {
-        StatsRead {
-            stats: RunStats::new(0),
-            has_key: [false; STATS_KEYS],
-        }
-    }
-}
-
-impl Accumulator for StatsRead {
-    ghost pair_in = { stats_pair };
-
-    // The key must be a new one.
-    #[inline(always)]
-    fn read_pair(&mut self, word: &str, value: &str) -> Option<()> {
-        let key = read_stats_key(word)?;
-        let place = key as usize;
-        if self.has_key[place] {
-            return None;
-        }
-        self.has_key[place] = true;
-        set_stat(&mut self.stats, key, value)
-    }
-
-    ghost no_space = { stats_no_space };
-}
-
-// Sets what the key counts.
-fn set_stat(stats: &mut RunStats, key: StatsKey, value: &str) -> Option<()>
-    ensures { option_map (λ _. stats.new) result ≡ with_stat stats.old key value.now }
+// Reads pairs after counts without any. A space is looked for only after an `=`: if one stands before it, that pair has no `=`, and the word
+// before the `=` is no key, since it has a space.
+#[inline(always)]
+fn read_pairs<C: Counts>(none: C, field: &str) -> Option<C>
+    ensures { result ≡ counts_in C.with_value none field.now }
 {
-    match key {
-        StatsKey::Initial => set_count(&mut stats.initial_run_count, value),
-        StatsKey::Finished => set_count(&mut stats.finished_count, value),
-        StatsKey::Passed => set_count(&mut stats.passed, value),
-        StatsKey::Slow => set_count(&mut stats.passed_slow, value),
-        StatsKey::Flaky => set_count(&mut stats.flaky, value),
-        StatsKey::Leaky => set_count(&mut stats.leaky, value),
-        StatsKey::Failed => set_count(&mut stats.failed, value),
-        StatsKey::LeakyFailed => set_count(&mut stats.leaky_failed, value),
-        StatsKey::Exec => set_count(&mut stats.exec_failed, value),
-        StatsKey::TimedOut => set_count(&mut stats.timed_out, value),
-        StatsKey::Skipped => set_count(&mut stats.skipped, value),
-        StatsKey::SetupFailed => set_count(&mut stats.setup_scripts_failed, value),
-        StatsKey::SetupExec => set_count(&mut stats.setup_scripts_exec_failed, value),
-        StatsKey::SetupTimedOut => set_count(&mut stats.setup_scripts_timed_out, value),
-        StatsKey::Cancel => {
-            stats.cancel_reason = Some(read_reason(value)?);
-            Some(())
-        }
+    let mut counts = none;
+    let mut has_key = [false; KEYS];
+    let mut rest = if field == "-" { None } else { Some(field) };
+    while let Some(left) = rest {
+        let (word, after) = split_at_byte(left, b'=')?;
+        let (value, others) = first_piece(after, b' ');
+        read_pair(&mut counts, &mut has_key, word, value)?;
+        rest = others;
     }
+    Some(counts)
+}
+
+// Reads one pair more, whose key must be a new one. Inlined, so that no call is made for a pair.
+#[inline(always)]
+fn read_pair<C: Counts>(
+    counts: &mut C,
+    has_key: &mut [bool; KEYS],
+    word: &str,
+    value: &str,
+) -> Option<()>
+    ensures { option_map (λ _. (counts.new, has_key.new)) result ≡ pair_in C.with_value (counts.old, has_key.old) word.now value.now }
+{
+    let key = read_key(word)?;
+    let place = key as usize;
+    if has_key[place] {
+        return None;
+    }
+    has_key[place] = true;
+    counts.set(key, value)
 }
 
 // Sets one count.
@@ -175,6 +127,50 @@ fn set_count(count: &mut usize, value: &str) -> Option<()>
 {
     *count = read_count(value)?;
     Some(())
+}
+
+impl Counts for RunStats {
+    ghost with_value = { with_stat };
+
+    fn set(&mut self, key: Key, value: &str) -> Option<()> {
+        match key {
+            Key::Initial => set_count(&mut self.initial_run_count, value),
+            Key::Finished => set_count(&mut self.finished_count, value),
+            Key::Passed => set_count(&mut self.passed, value),
+            Key::Slow => set_count(&mut self.passed_slow, value),
+            Key::Flaky => set_count(&mut self.flaky, value),
+            Key::Leaky => set_count(&mut self.leaky, value),
+            Key::Failed => set_count(&mut self.failed, value),
+            Key::LeakyFailed => set_count(&mut self.leaky_failed, value),
+            Key::Exec => set_count(&mut self.exec_failed, value),
+            Key::TimedOut => set_count(&mut self.timed_out, value),
+            Key::Skipped => set_count(&mut self.skipped, value),
+            Key::SetupFailed => set_count(&mut self.setup_scripts_failed, value),
+            Key::SetupExec => set_count(&mut self.setup_scripts_exec_failed, value),
+            Key::SetupTimedOut => set_count(&mut self.setup_scripts_timed_out, value),
+            Key::Cancel => {
+                self.cancel_reason = Some(read_reason(value)?);
+                Some(())
+            }
+            _ => None,
+        }
+    }
+}
+
+impl Counts for SkipCounts {
+    ghost with_value = { with_skip };
+
+    fn set(&mut self, key: Key, value: &str) -> Option<()> {
+        match key {
+            Key::Rerun => set_count(&mut self.skipped_tests_rerun, value),
+            Key::NonBenchmark => set_count(&mut self.skipped_tests_non_benchmark, value),
+            Key::Tests => set_count(&mut self.skipped_tests, value),
+            Key::Filter => set_count(&mut self.skipped_tests_default_filter, value),
+            Key::Binaries => set_count(&mut self.skipped_binaries, value),
+            Key::BinaryFilter => set_count(&mut self.skipped_binaries_default_filter, value),
+            _ => None,
+        }
+    }
 }
 
 /// Reads the statistics of a run.
@@ -188,98 +184,7 @@ fn set_count(count: &mut usize, value: &str) -> Option<()>
 pub fn read_stats(field: &str) -> Option<RunStats>
     ensures { result ≡ stats_in field.now }
 {
-    let mut read = StatsRead::new();
-    if field == "-" {
-        return Some(read.stats);
-    }
-    read_pairs(field, &mut read)?;
-    Some(read.stats)
-}
-
-/// A key of what a run skips.
-#[derive(Clone, Copy, PartialEq, Eq)]
-pub enum SkipsKey {
-    /// Tests that passed in a run before.
-    Rerun,
-    /// Tests that are no benchmarks.
-    NonBenchmark,
-    /// Tests.
-    Tests,
-    /// Tests that the default filter leaves out.
-    Filter,
-    /// Binaries.
-    Binaries,
-    /// Binaries that the default filter leaves out.
-    BinaryFilter,
-}
-
-// How many keys there are.
-const SKIPS_KEYS: usize = 6;
-
-// Reads the key of a word.
-fn read_skips_key(word: &str) -> Option<SkipsKey>
-    ensures { result ≡ skips_key_in word.now }
-{
-    match word {
-        "rerun" => Some(SkipsKey::Rerun),
-        "nonbench" => Some(SkipsKey::NonBenchmark),
-        "tests" => Some(SkipsKey::Tests),
-        "filter" => Some(SkipsKey::Filter),
-        "binaries" => Some(SkipsKey::Binaries),
-        "binfilter" => Some(SkipsKey::BinaryFilter),
-        _ => None,
-    }
-}
-
-// What is skipped by the pairs that were read so far, and which keys those have.
-#[derive(Clone, Copy)]
-struct SkipsRead {
-    counts: SkipCounts,
-    has_key: [bool; SKIPS_KEYS],
-}
-
-impl SkipsRead {
-    // Before any pair.
-    fn new() -> SkipsRead
-        ensures { result ≡ no_skips }
-    {
-        SkipsRead {
-            counts: SkipCounts::default(),
-            has_key: [false; SKIPS_KEYS],
-        }
-    }
-}
-
-impl Accumulator for SkipsRead {
-    ghost pair_in = { skips_pair };
-
-    // The key must be a new one.
-    #[inline(always)]
-    fn read_pair(&mut self, word: &str, value: &str) -> Option<()> {
-        let key = read_skips_key(word)?;
-        let place = key as usize;
-        if self.has_key[place] {
-            return None;
-        }
-        self.has_key[place] = true;
-        set_skip(&mut self.counts, key, value)
-    }
-
-    ghost no_space = { skips_no_space };
-}
-
-// Sets what the key counts.
-fn set_skip(counts: &mut SkipCounts, key: SkipsKey, value: &str) -> Option<()>
-    ensures { option_map (λ _. counts.new) result ≡ with_skip counts.old key value.now }
-{
-    match key {
-        SkipsKey::Rerun => set_count(&mut counts.skipped_tests_rerun, value),
-        SkipsKey::NonBenchmark => set_count(&mut counts.skipped_tests_non_benchmark, value),
-        SkipsKey::Tests => set_count(&mut counts.skipped_tests, value),
-        SkipsKey::Filter => set_count(&mut counts.skipped_tests_default_filter, value),
-        SkipsKey::Binaries => set_count(&mut counts.skipped_binaries, value),
-        SkipsKey::BinaryFilter => set_count(&mut counts.skipped_binaries_default_filter, value),
-    }
+    read_pairs(RunStats::new(0), field)
 }
 
 /// Reads what a run skips.
@@ -293,10 +198,5 @@ fn set_skip(counts: &mut SkipCounts, key: SkipsKey, value: &str) -> Option<()>
 pub fn read_skips(field: &str) -> Option<SkipCounts>
     ensures { result ≡ skips_in field.now }
 {
-    let mut read = SkipsRead::new();
-    if field == "-" {
-        return Some(read.counts);
-    }
-    read_pairs(field, &mut read)?;
-    Some(read.counts)
+    read_pairs(SkipCounts::default(), field)
 }

@@ -12,6 +12,7 @@ use memchr::memchr;
 use run_model::memory::OutOfMemory;
 use std::alloc::Global;
 use std::marker::Model;
+use std::mem;
 
 /// A text in memory of its own. Contracts see its bytes.
 #[derive(Drop)]
@@ -42,15 +43,6 @@ impl OwnedText {
         }
     }
 
-    /// No text, for which nothing is allocated.
-    pub fn empty(alloc: Global) -> OwnedText
-        ensures { length result ≡ 0 }
-    {
-        OwnedText {
-            memory: BytesMut::new(alloc),
-        }
-    }
-
     /// How many bytes it has.
     pub fn len(&self) -> usize
         ensures { result ≡ length self.now }
@@ -68,12 +60,11 @@ impl OwnedText {
         }
     }
 
-    /// Its memory.
-    pub fn into_memory(self) -> BytesMut
-        ensures { result.items ≡ self }
+    /// Takes its memory, and leaves no text, for which nothing is allocated.
+    pub fn take_memory(&mut self, alloc: Global) -> BytesMut
+        ensures { result.items ≡ self.old }
     {
-        let OwnedText { memory } = self;
-        memory
+        mem::replace(&mut self.memory, BytesMut::new(alloc))
     }
 
     /// Splits a line into its fields, which tabs separate. It copies nothing.

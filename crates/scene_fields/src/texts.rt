@@ -3,12 +3,12 @@
 //! A backslash begins an escape: `\n`, `\t`, `\r`, `\e`, `\\`, and `\x` with two hexadecimal digits, which gives a byte. In
 //! a text that byte is at most 7f; in the bytes that a test wrote it is any.
 
-ghost use Rattle.std.specs.Prelude.{◌≡◌, ◌≤◌, ◌<◌, ◌-◌, ◌+◌, ◌*◌, ◌==◌, Some, None, drop, length, slice_index, string_bytes, IfOk, IfSome, MatchOption};
+ghost use Rattle.std.specs.Prelude.{◌≡◌, ◌≤◌, ◌<◌, ◌-◌, ◌+◌, ◌*◌, ◌==◌, Some, None, length, slice_index, string_bytes, IfOk, IfSome, MatchOption};
 ghost use Rattle.std.specs.Char.{digit_value};
 ghost use Rattle.std.specs.Option.{option_map, SomeIff};
 ghost use Rattle.scene_fields.specs.Texts.{cow_text, AddsStretch, bytes_in, escape_byte, escape_len, text_in};
 
-use super::marks::{find_byte, first_place, marks_from, without_place};
+use super::marks::find_byte;
 use super::split::split_at_byte;
 use run_model::memory::OutOfMemory;
 use std::alloc::Global;
@@ -27,7 +27,7 @@ const ASCII: u8 = 0x7f;
 pub fn read_text(alloc: Global, field: &str) -> Result<Option<CowStr<'_, Global>>, OutOfMemory>
     ensures { IfOk result (λ text. option_map cow_text text ≡ text_in field.now) }
 {
-    if find_byte(b'\\', field.as_bytes()).is_none() {
+    if find_byte(b'\\', field.as_bytes(), 0).is_none() {
         return Ok(Some(CowStr::Borrowed(field)));
     }
     let mut text = String::with_capacity(alloc, field.len())?;
@@ -51,11 +51,11 @@ pub(crate) fn push_stretch<'a>(
     ensures { IfOk result (λ after. MatchOption after (escape_byte 127 escape.now ≡ None) (AddsStretch (string_bytes text.old) plain.now escape.now (string_bytes text.new))) }
 {
     text.push_str(plain)?;
-    let Some((byte, after)) = read_escape(escape, ASCII) else {
+    let Some((byte, len)) = escape_at(escape.as_bytes(), ASCII) else {
         return Ok(None);
     };
     text.push(char::from(byte))?;
-    Ok(Some(after))
+    Ok(Some(&escape[len..]))
 }
 
 /// Reads the bytes that a test wrote. `None` means a bad field.
@@ -65,36 +65,16 @@ pub fn read_bytes(alloc: Global, field: &str) -> Result<Option<Vec<u8>>, OutOfMe
     let field = field.as_bytes();
     let mut bytes = Vec::with_capacity(alloc, field.len())?;
     let mut start = 0;
-    let mut from = 0;
-    while from < field.len() {
-        let mut marks = marks_from(b'\\', field, from);
-        while marks != 0 {
-            let place = first_place(marks);
-            marks = without_place(marks, place);
-            let escape = from + place;
-            // The second backslash of an escape begins none.
-            if escape < start {
-                continue;
-            }
-            bytes.extend_from_slice(&field[start..escape])?;
-            let Some((byte, len)) = escape_at(&field[escape + 1..], u8::MAX) else {
-                return Ok(None);
-            };
-            bytes.push(byte)?;
-            start = escape + 1 + len;
-        }
-        from += 32;
+    while let Some(escape) = find_byte(b'\\', field, start) {
+        bytes.extend_from_slice(&field[start..escape])?;
+        let Some((byte, len)) = escape_at(&field[escape + 1..], u8::MAX) else {
+            return Ok(None);
+        };
+        bytes.push(byte)?;
+        start = escape + 1 + len;
     }
     bytes.extend_from_slice(&field[start..])?;
     Ok(Some(bytes))
-}
-
-// Reads what an escape gives, without its backslash, each byte by digits at most `most`; and what follows the escape.
-fn read_escape(escape: &str, most: u8) -> Option<(u8, &str)>
-    ensures { MatchOption result (escape_byte most escape.now ≡ None) (λ x. (escape_byte most escape.now ≡ Some x.0) × (x.1.now ≡ drop (escape_len escape.now) escape.now)) }
-{
-    let (byte, len) = escape_at(escape.as_bytes(), most)?;
-    Some((byte, &escape[len..]))
 }
 
 /// The byte that an escape gives, and how many bytes the escape has behind its backslash, with which `escape` does not begin. The digits of

@@ -25,7 +25,7 @@ unfolding unescaped_after
 plain_before most [] t h = map_nothing (unescaped most t)
 plain_before most (c ∷ p) t h = let e = plain_before most p t h.1 in rw h.0 (ap (λ o. option_map (λ u. c ∷ u) o) e ∙ map_twice (c ∷ []) p (unescaped most t))
 
-plain_alone : (most : ℕ) (p : List ℕ) → IsPlain p → unescaped most p ≡ Some p
+pub plain_alone : (most : ℕ) (p : List ℕ) → IsPlain p → unescaped most p ≡ Some p
 unfolding unescaped_after
 plain_alone most [] h = refl
 plain_alone most (c ∷ p) h = let e = plain_alone most p h.1 in rw h.0 (ap (λ o. option_map (λ u. c ∷ u) o) e)
@@ -35,40 +35,20 @@ escape_first : (most : ℕ) (t : List ℕ) → unescaped most (92 ∷ t) ≡ pre
 unfolding unescaped_after
 escape_first most t = ap (λ o. prepended (escape_byte most t) o) (skipped most (escape_len t) t)
 
--- a step over plain text and an escape
-step : (most b : ℕ) (plain escape after : List ℕ) → IsPlain plain → escape_byte most escape ≡ Some b → after ≡ drop (escape_len escape) escape → unescaped most (plain ++ (92 ∷ escape)) ≡ option_map (λ t. (plain ++ (b ∷ [])) ++ t) (unescaped most after)
-step most b plain escape after h e a =
-    plain_before most plain (92 ∷ escape) h
-    ∙ ap (λ o. option_map (λ t. plain ++ t) o) (escape_first most escape ∙ rw (e, a) refl)
-    ∙ map_twice plain (b ∷ []) (unescaped most after)
-
-stop : (most : ℕ) (plain escape : List ℕ) → IsPlain plain → escape_byte most escape ≡ None → unescaped most (plain ++ (92 ∷ escape)) ≡ None
-stop most plain escape h e =
-    let f : unescaped most (92 ∷ escape) ≡ None = escape_first most escape ∙ ap (λ b. prepended b (unescaped most (drop (escape_len escape) escape))) e in
-    plain_before most plain (92 ∷ escape) h ∙ ap (λ o. option_map (λ t. plain ++ t) o) f
-
 -- text was read, and the rest is still to come
 module _ (most : ℕ) (whole : Option (List ℕ)) (text rest : List ℕ) (so_far : whole ≡ option_map (λ t. text ++ t) (unescaped most rest)) where
-  pub read_escape_next : (b : ℕ) (plain escape after : List ℕ) → rest ≡ plain ++ (92 ∷ escape) → IsPlain plain → escape_byte most escape ≡ Some b → after ≡ drop (escape_len escape) escape → whole ≡ option_map (λ t. ((text ++ plain) ++ (b ∷ [])) ++ t) (unescaped most after)
-  read_escape_next b plain escape after r h e a =
-      so_far
-      ∙ ap (λ x. option_map (λ t. text ++ t) (unescaped most x)) r
-      ∙ ap (λ o. option_map (λ t. text ++ t) o) (step most b plain escape after h e a)
-      ∙ map_twice text (plain ++ (b ∷ [])) (unescaped most after)
-      ∙ ap (λ x. option_map (λ t. x ++ t) (unescaped most after)) (sym (append_assoc text plain (b ∷ [])))
-
   pub read_plain_next : (plain after : List ℕ) → rest ≡ plain ++ after → IsPlain plain → whole ≡ option_map (λ t. (text ++ plain) ++ t) (unescaped most after)
-  read_plain_next plain after r h =
-      so_far
-      ∙ ap (λ x. option_map (λ t. text ++ t) (unescaped most x)) r
-      ∙ ap (λ o. option_map (λ t. text ++ t) o) (plain_before most plain after h)
-      ∙ map_twice text plain (unescaped most after)
+  read_plain_next plain after r h = so_far ∙ ap (λ o. option_map (λ t. text ++ t) o) (ap (unescaped most) r ∙ plain_before most plain after h) ∙ map_twice text plain _
 
-  pub read_bad_escape : (plain escape : List ℕ) → rest ≡ plain ++ (92 ∷ escape) → IsPlain plain → escape_byte most escape ≡ None → whole ≡ None
-  read_bad_escape plain escape r h e =
-      so_far
-      ∙ ap (λ x. option_map (λ t. text ++ t) (unescaped most x)) r
-      ∙ ap (λ o. option_map (λ t. text ++ t) o) (stop most plain escape h e)
+  module _ (plain escape : List ℕ) (r : rest ≡ plain ++ (92 ∷ escape)) (h : IsPlain plain) where
+    at_escape : whole ≡ option_map (λ t. (text ++ plain) ++ t) (prepended (escape_byte most escape) (unescaped most (drop (escape_len escape) escape)))
+    at_escape = read_plain_next plain (92 ∷ escape) r h ∙ ap (λ o. option_map (λ t. (text ++ plain) ++ t) o) (escape_first most escape)
+
+    pub read_bad_escape : escape_byte most escape ≡ None → whole ≡ None
+    read_bad_escape e = at_escape ∙ ap (λ b. option_map (λ t. (text ++ plain) ++ t) (prepended b (unescaped most (drop (escape_len escape) escape)))) e
+
+    pub read_escape_next : (b : ℕ) (after : List ℕ) → escape_byte most escape ≡ Some b → after ≡ drop (escape_len escape) escape → whole ≡ option_map (λ t. ((text ++ plain) ++ (b ∷ [])) ++ t) (unescaped most after)
+    read_escape_next b after e a = at_escape ∙ rw (e, sym a) (map_twice (text ++ plain) (b ∷ []) (unescaped most after))
 
   pub read_to_end : IsPlain rest → whole ≡ Some (text ++ rest)
   read_to_end h = so_far ∙ ap (λ o. option_map (λ t. text ++ t) o) (plain_alone most rest h)
@@ -76,12 +56,8 @@ module _ (most : ℕ) (whole : Option (List ℕ)) (text rest : List ℕ) (so_far
 -- the same of a stretch of a text
 pub read_stretch : (whole : Option (List ℕ)) (text rest : List ℕ) → whole ≡ option_map (λ t. text ++ t) (unescaped 127 rest) → (plain escape new : List ℕ) (after : Bor (List ℕ)) → rest ≡ plain ++ (92 ∷ escape) → IsPlain plain → AddsStretch text plain escape new after → whole ≡ option_map (λ t. new ++ t) (unescaped 127 after.now)
 read_stretch whole text rest so_far plain escape new after r h f =
-    read_escape_next 127 whole text rest so_far f.byte plain escape after.now r h f.gives f.follows
+    read_escape_next 127 whole text rest so_far plain escape r h f.byte after.now f.gives f.follows
     ∙ ap (λ x. option_map (λ t. x ++ t) (unescaped 127 after.now)) (sym f.grown)
-
--- a text with no escape
-pub plain_text : (most : ℕ) (t : List ℕ) → IsPlain t → Some t ≡ unescaped most t
-plain_text most t h = sym (plain_alone most t h)
 
 -- the answer of a search that found nothing
 pub of_none : {X P : Type 0} (Q : X → Type 0) (r : Option X) → is_some r ≡ false → MatchOption r P Q → P
