@@ -3,11 +3,11 @@
 //! Single spaces part the pairs, as in `passed=2 failed=1`, and each key stands there once. What has no pair is 0, and `-`
 //! stands for no pair at all. Each function answers None for a bad field.
 
-ghost use Rattle.std.specs.Prelude.{◌≡◌, ℕ, List, Option};
+ghost use Rattle.std.specs.Prelude.{◌≡◌, ◌<◌, false, ℕ, List, Option, IfSome};
+ghost use Rattle.std.specs.List.{list_any};
 ghost use Rattle.std.specs.Option.{option_map};
 ghost use Rattle.scene_fields.specs.Numbers.{number_in};
-ghost use Rattle.scene_fields.specs.Counts.{counts_in, key_in, pair_in, skips_in, stats_in, with_skip, with_stat};
-ghost use Rattle.scene_fields.specs.declared.counts.Key.{Key};
+ghost use Rattle.scene_fields.specs.Counts.{Row, counts_in, has_space, pair_in, row_in, skips_in, skips_no_space, skips_rows, stats_in, stats_no_space, stats_rows};
 
 use super::numbers::read_count;
 use super::split::{first_piece, split_at_byte};
@@ -15,80 +15,28 @@ use super::values::read_reason;
 use run_model::event::SkipCounts;
 use run_model::stats::RunStats;
 
-// A key of a run's statistics, up to `Cancel`, or of what a run skips.
-#[derive(Clone, Copy)]
-enum Key {
-    Initial,
-    Finished,
-    Passed,
-    Slow,
-    Flaky,
-    Leaky,
-    Failed,
-    LeakyFailed,
-    Exec,
-    TimedOut,
-    Skipped,
-    SetupFailed,
-    SetupExec,
-    SetupTimedOut,
-    Cancel,
-    Rerun,
-    NonBenchmark,
-    Tests,
-    Filter,
-    Binaries,
-    BinaryFilter,
-}
-
-// How many keys there are.
-const KEYS: usize = 21;
-
-// Reads the key of a word.
-fn read_key(word: &str) -> Option<Key>
-    ensures { result ≡ key_in word.now }
-{
-    match word {
-        "initial" => Some(Key::Initial),
-        "finished" => Some(Key::Finished),
-        "passed" => Some(Key::Passed),
-        "slow" => Some(Key::Slow),
-        "flaky" => Some(Key::Flaky),
-        "leaky" => Some(Key::Leaky),
-        "failed" => Some(Key::Failed),
-        "leakyfailed" => Some(Key::LeakyFailed),
-        "exec" => Some(Key::Exec),
-        "timedout" => Some(Key::TimedOut),
-        "skipped" => Some(Key::Skipped),
-        "setupfailed" => Some(Key::SetupFailed),
-        "setupexec" => Some(Key::SetupExec),
-        "setuptimedout" => Some(Key::SetupTimedOut),
-        "cancel" => Some(Key::Cancel),
-        "rerun" => Some(Key::Rerun),
-        "nonbench" => Some(Key::NonBenchmark),
-        "tests" => Some(Key::Tests),
-        "filter" => Some(Key::Filter),
-        "binaries" => Some(Key::Binaries),
-        "binfilter" => Some(Key::BinaryFilter),
-        _ => None,
-    }
-}
+// How many keys some counts have at most.
+const KEYS: usize = 15;
 
 // What pairs may count.
 trait Counts: Copy {
-    // These counts with what a key says.
-    ghost with_value: { Self → Key → List ℕ → Option Self };
+    // What the key of each row says after these counts.
+    ghost rows: { Self → List (Row Self) };
 
-    // Sets what a key counts. None is a bad value, or a key of other counts.
-    fn set(&mut self, key: Key, value: &str) -> Option<()>
-        ensures { option_map (λ _. self.new) result ≡ with_value self.old key value.now };
+    // Sets what a key counts, and answers in which row the key stands. None is a bad value, or no key.
+    fn set(&mut self, word: &str, value: &str) -> Option<usize>
+        ensures set { option_map (λ place. (place, self.new)) result ≡ row_in 0 (rows self.old) word.now value.now }
+        ensures place { IfSome result (λ place. place < 15) };
+
+    // No key has a space in it.
+    ghost no_space: { (before : Self) → list_any (λ row. has_space row.0) (rows before) ≡ false };
 }
 
 // Reads pairs after counts without any. A space is looked for only after an `=`: if one stands before it, that pair has no `=`, and the word
 // before the `=` is no key, since it has a space.
 #[inline(always)]
 fn read_pairs<C: Counts>(none: C, field: &str) -> Option<C>
-    ensures { result ≡ counts_in C.with_value none field.now }
+    ensures { result ≡ counts_in C.rows none field.now }
 {
     let mut counts = none;
     let mut has_key = [false; KEYS];
@@ -110,67 +58,71 @@ fn read_pair<C: Counts>(
     word: &str,
     value: &str,
 ) -> Option<()>
-    ensures { option_map (λ _. (counts.new, has_key.new)) result ≡ pair_in C.with_value (counts.old, has_key.old) word.now value.now }
+    ensures { option_map (λ _. (counts.new, has_key.new)) result ≡ pair_in C.rows (counts.old, has_key.old) word.now value.now }
 {
-    let key = read_key(word)?;
-    let place = key as usize;
+    let place = counts.set(word, value)?;
     if has_key[place] {
         return None;
     }
     has_key[place] = true;
-    counts.set(key, value)
-}
-
-// Sets one count.
-fn set_count(count: &mut usize, value: &str) -> Option<()>
-    ensures { option_map (λ _. count.new) result ≡ number_in 64 value.now }
-{
-    *count = read_count(value)?;
     Some(())
 }
 
-impl Counts for RunStats {
-    ghost with_value = { with_stat };
+// Sets one count, whose key stands in this row.
+fn set_count(count: &mut usize, value: &str, place: usize) -> Option<usize>
+    ensures set { option_map (λ _. count.new) result ≡ number_in 64 value.now }
+    ensures place { IfSome result (λ row. row ≡ place) }
+{
+    *count = read_count(value)?;
+    Some(place)
+}
 
-    fn set(&mut self, key: Key, value: &str) -> Option<()> {
-        match key {
-            Key::Initial => set_count(&mut self.initial_run_count, value),
-            Key::Finished => set_count(&mut self.finished_count, value),
-            Key::Passed => set_count(&mut self.passed, value),
-            Key::Slow => set_count(&mut self.passed_slow, value),
-            Key::Flaky => set_count(&mut self.flaky, value),
-            Key::Leaky => set_count(&mut self.leaky, value),
-            Key::Failed => set_count(&mut self.failed, value),
-            Key::LeakyFailed => set_count(&mut self.leaky_failed, value),
-            Key::Exec => set_count(&mut self.exec_failed, value),
-            Key::TimedOut => set_count(&mut self.timed_out, value),
-            Key::Skipped => set_count(&mut self.skipped, value),
-            Key::SetupFailed => set_count(&mut self.setup_scripts_failed, value),
-            Key::SetupExec => set_count(&mut self.setup_scripts_exec_failed, value),
-            Key::SetupTimedOut => set_count(&mut self.setup_scripts_timed_out, value),
-            Key::Cancel => {
+impl Counts for RunStats {
+    ghost rows = { stats_rows };
+
+    fn set(&mut self, word: &str, value: &str) -> Option<usize> {
+        match word {
+            "initial" => set_count(&mut self.initial_run_count, value, 0),
+            "finished" => set_count(&mut self.finished_count, value, 1),
+            "passed" => set_count(&mut self.passed, value, 2),
+            "slow" => set_count(&mut self.passed_slow, value, 3),
+            "flaky" => set_count(&mut self.flaky, value, 4),
+            "leaky" => set_count(&mut self.leaky, value, 5),
+            "failed" => set_count(&mut self.failed, value, 6),
+            "leakyfailed" => set_count(&mut self.leaky_failed, value, 7),
+            "exec" => set_count(&mut self.exec_failed, value, 8),
+            "timedout" => set_count(&mut self.timed_out, value, 9),
+            "skipped" => set_count(&mut self.skipped, value, 10),
+            "setupfailed" => set_count(&mut self.setup_scripts_failed, value, 11),
+            "setupexec" => set_count(&mut self.setup_scripts_exec_failed, value, 12),
+            "setuptimedout" => set_count(&mut self.setup_scripts_timed_out, value, 13),
+            "cancel" => {
                 self.cancel_reason = Some(read_reason(value)?);
-                Some(())
+                Some(14)
             }
             _ => None,
         }
     }
+
+    ghost no_space = { stats_no_space };
 }
 
 impl Counts for SkipCounts {
-    ghost with_value = { with_skip };
+    ghost rows = { skips_rows };
 
-    fn set(&mut self, key: Key, value: &str) -> Option<()> {
-        match key {
-            Key::Rerun => set_count(&mut self.skipped_tests_rerun, value),
-            Key::NonBenchmark => set_count(&mut self.skipped_tests_non_benchmark, value),
-            Key::Tests => set_count(&mut self.skipped_tests, value),
-            Key::Filter => set_count(&mut self.skipped_tests_default_filter, value),
-            Key::Binaries => set_count(&mut self.skipped_binaries, value),
-            Key::BinaryFilter => set_count(&mut self.skipped_binaries_default_filter, value),
+    fn set(&mut self, word: &str, value: &str) -> Option<usize> {
+        match word {
+            "rerun" => set_count(&mut self.skipped_tests_rerun, value, 0),
+            "nonbench" => set_count(&mut self.skipped_tests_non_benchmark, value, 1),
+            "tests" => set_count(&mut self.skipped_tests, value, 2),
+            "filter" => set_count(&mut self.skipped_tests_default_filter, value, 3),
+            "binaries" => set_count(&mut self.skipped_binaries, value, 4),
+            "binfilter" => set_count(&mut self.skipped_binaries_default_filter, value, 5),
             _ => None,
         }
     }
+
+    ghost no_space = { skips_no_space };
 }
 
 /// Reads the statistics of a run.

@@ -34,7 +34,7 @@ pub fn split_fields<'a>(line: &'a str, fields: &mut Vec<&'a str>) -> Result<(), 
             fields.push(&line[start..tab])?;
             start = tab + 1;
             at = start;
-            tabs = places_behind(tabs, place);
+            tabs = places_behind(tabs, place, 1);
         }
         from += 32;
     }

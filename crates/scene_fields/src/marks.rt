@@ -5,7 +5,7 @@
 
 ghost use Rattle.std.specs.Prelude.{◌≡◌, ◌≢◌, ◌++◌, ◌+◌, ◌-◌, ◌/◌, ◌^◌, ◌<◌, ◌≤◌, drop, length, min, replicate, take};
 ghost use Rattle.std.specs.Int.{trailing_zeros, w64};
-ghost use Rattle.memchr.specs.Find.{IsFirst, Passes, is_byte};
+ghost use Rattle.memchr.specs.Find.{IsFirstByte, is_byte};
 ghost use Rattle.scene_fields.specs.Marks.{marks, marks_between};
 
 use std::simd::prelude::*;
@@ -41,14 +41,14 @@ pub fn block_from(bytes: &[u8], from: usize) -> u8x32
     u8x32::from_array(block)
 }
 
-/// Where the first of these bytes stands from a place on, in bytes from 0. It is for names, of which most have no such byte, for the front of a
-/// text and for escapes, which stand close together: it looks at 32 bytes at once, and a call of memchr costs more than that.
+/// Where the first of these bytes stands, in bytes from 0. It is for names, of which most have no such byte, and for the front of a text: it
+/// looks at 32 bytes at once, and a call of memchr costs more than that.
 #[inline(always)]
-pub fn find_byte(byte: u8, bytes: &[u8], start: usize) -> Option<usize>
+pub fn find_byte(byte: u8, bytes: &[u8]) -> Option<usize>
     requires { byte ≢ 0 }
-    ensures { IsFirst (Passes (is_byte byte) bytes.now) start (length bytes.now) result }
+    ensures { IsFirstByte (is_byte byte) bytes.now result }
 {
-    let mut from = start;
+    let mut from = 0;
     while from < bytes.len() {
         let marks = marks_from(byte, bytes, from);
         if marks != 0 {
@@ -77,13 +77,15 @@ pub fn first_place(mask: u64) -> usize
     mask.trailing_zeros() as usize
 }
 
-/// The places behind one of them, counted from there.
+/// The places behind one of them, without the first so many, counted from there.
 #[inline(always)]
-pub fn places_behind(mask: u64, place: usize) -> u64
+pub fn places_behind(mask: u64, place: usize, count: usize) -> u64
     requires some { mask ≢ 0 }
     requires within { place < 64 }
+    requires on { 1 ≤ count }
+    requires few { count < 64 }
     ensures smaller { result < mask }
-    ensures behind { result ≡ mask / 2 ^ (place + 1) }
+    ensures behind { result ≡ mask / 2 ^ (place + count) }
 {
-    mask >> place >> 1
+    mask >> place >> count
 }

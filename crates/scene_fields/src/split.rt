@@ -23,7 +23,7 @@ fn first_place(byte: u8, text: &[u8]) -> Option<usize>
     }
     // zeros fill a block behind the text
     if byte != 0 {
-        if let Some(place) = find_byte(byte, &text[..NEAR], 0) {
+        if let Some(place) = find_byte(byte, &text[..NEAR]) {
             return Some(place);
         }
     }

@@ -8,7 +8,7 @@ ghost use Rattle.std.specs.Char.{digit_value};
 ghost use Rattle.std.specs.Option.{option_map, SomeIff};
 ghost use Rattle.scene_fields.specs.Texts.{cow_text, AddsStretch, bytes_in, escape_byte, escape_len, text_in};
 
-use super::marks::find_byte;
+use super::marks::{find_byte, first_place, marks_from, places_behind};
 use super::split::split_at_byte;
 use run_model::memory::OutOfMemory;
 use std::alloc::Global;
@@ -27,7 +27,7 @@ const ASCII: u8 = 0x7f;
 pub fn read_text(alloc: Global, field: &str) -> Result<Option<CowStr<'_, Global>>, OutOfMemory>
     ensures { IfOk result (λ text. option_map cow_text text ≡ text_in field.now) }
 {
-    if find_byte(b'\\', field.as_bytes(), 0).is_none() {
+    if find_byte(b'\\', field.as_bytes()).is_none() {
         return Ok(Some(CowStr::Borrowed(field)));
     }
     let mut text = String::with_capacity(alloc, field.len())?;
@@ -65,13 +65,24 @@ pub fn read_bytes(alloc: Global, field: &str) -> Result<Option<Vec<u8>>, OutOfMe
     let field = field.as_bytes();
     let mut bytes = Vec::with_capacity(alloc, field.len())?;
     let mut start = 0;
-    while let Some(escape) = find_byte(b'\\', field, start) {
-        bytes.extend_from_slice(&field[start..escape])?;
-        let Some((byte, len)) = escape_at(&field[escape + 1..], u8::MAX) else {
-            return Ok(None);
-        };
-        bytes.push(byte)?;
-        start = escape + 1 + len;
+    let mut from = 0;
+    while from < field.len() {
+        let mut marks = marks_from(b'\\', field, from);
+        let mut at = from;
+        while marks != 0 {
+            let place = first_place(marks);
+            let escape = at + place;
+            bytes.extend_from_slice(&field[start..escape])?;
+            let Some((byte, len)) = escape_at(&field[escape + 1..], u8::MAX) else {
+                return Ok(None);
+            };
+            bytes.push(byte)?;
+            // The second backslash of an escape begins none.
+            marks = places_behind(marks, place, 1 + len);
+            start = escape + 1 + len;
+            at = start;
+        }
+        from = start.max(from + 32);
     }
     bytes.extend_from_slice(&field[start..])?;
     Ok(Some(bytes))
@@ -82,7 +93,7 @@ pub fn read_bytes(alloc: Global, field: &str) -> Result<Option<Vec<u8>>, OutOfMe
 #[inline(always)]
 pub(crate) fn escape_at(escape: &[u8], most: u8) -> Option<(u8, usize)>
     ensures byte { option_map (λ x. x.0) result ≡ escape_byte most escape.now }
-    ensures len { IfSome result (λ x. (x.1 ≡ escape_len escape.now) × (1 ≤ x.1) × (x.1 ≤ length escape.now) × (slice_index escape.now (x.1 - 1) < 128)) }
+    ensures len { IfSome result (λ x. (x.1 ≡ escape_len escape.now) × (1 ≤ x.1) × (x.1 ≤ 3) × (x.1 ≤ length escape.now) × (slice_index escape.now (x.1 - 1) < 128)) }
 {
     match escape {
         [b'n', ..] => Some((b'\n', 1)),

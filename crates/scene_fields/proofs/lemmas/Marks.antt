@@ -4,10 +4,9 @@ use native.Mathlib.Nat.{div-one, div-div-eq-div-mul, mul_comm, pow-suc, zero-div
 use Rattle.std.specs.Int.{trailing_zeros}
 use Rattle.std.specs.List.{prefix_len}
 use Rattle.std.specs.Simd.Lanes.{chunk, mask_l}
-use Rattle.std.proofs.Math.Seq.{take-length}
 use Rattle.std.proofs.lemmas.Bool.{cases_Bool, cases_lt, not-true, true≢false}
 use Rattle.std.proofs.lemmas.Bool.Decides.{nat_tests}
-use Rattle.std.proofs.lemmas.List.{drop-drop, drop-map, drop-take, length-drop, take_all}
+use Rattle.std.proofs.lemmas.List.{drop-drop, drop-map, drop-take, drop_all, length-drop, length-take, take_all}
 use Rattle.std.proofs.lemmas.List.Sums.{prefix_len-le-length, prefix_len_passes}
 use Rattle.std.proofs.lemmas.Simd.{leading_from_mask_l, length-chunk, run_in_chunk_fails, run_in_chunk_stops, trailing_mask_l}
 use Rattle.memchr.specs.Find.{is_byte, Nowhere, NoneBefore, Passes}
@@ -48,13 +47,18 @@ later (m ∷ ms) (suc s) =
     ∙ ap (λ n. n / 2 ^ s) (half m (mask_l ms))
     ∙ later ms s
 
-pub marks-later : (b : ℕ) (t : List ℕ) (at end s : ℕ) → at + s ≤ end → marks_between b t at end / 2 ^ s ≡ marks_between b t (at + s) end
-marks-later b t at end s le =
-    let long : end - at ≡ s + (end - (at + s)) = omega arith in
-    later (map (is_byte b) (chunk at (end - at) t)) s
-    ∙ ap mask_l (drop-map (is_byte b) s (chunk at (end - at) t))
-    ∙ ap (λ n. marks b (drop s (take n (drop at t)))) long
-    ∙ ap (marks b) (drop-take s (end - (at + s)) (drop at t) ∙ ap (take (end - (at + s))) (drop-drop s at t))
+pub marks-later : (b : ℕ) (t : List ℕ) (at end s : ℕ) → marks_between b t at end / 2 ^ s ≡ marks_between b t (at + s) end
+marks-later b t at end s = later (map (is_byte b) (chunk at (end - at) t)) s ∙ ap mask_l (drop-map (is_byte b) s (chunk at (end - at) t)) ∙ ap (marks b) part
+  where
+    part : drop s (chunk at (end - at) t) ≡ chunk (at + s) (end - (at + s)) t
+    part = elim (cases_lt s (end - at)) [
+      | inl l ↦ (
+          let long : end - at ≡ s + (end - (at + s)) = omega arith in
+          ap (λ n. drop s (take n (drop at t))) long ∙ drop-take s (end - (at + s)) (drop at t) ∙ ap (take (end - (at + s))) (drop-drop s at t))
+      | inr past ↦ (
+          let none : 0 ≡ end - (at + s) = omega arith in
+          drop_all s (chunk at (end - at) t) (omega (arith, length-take (end - at) (drop at t))) ∙ ap (λ n. take n (drop (at + s) t)) none)
+    ]
 
 -- the first byte of a text that has it
 stops : (p : ℕ → Bool) (t : List ℕ) → mask_l (map p t) ≢ 0 → prefix_len (λ c. not (p c)) t < length t
@@ -76,7 +80,7 @@ some_before b (c ∷ t) some other = let e : (c == b) ≡ false = grind (arith, 
 
 -- from at up to end, the mask has a bit for each place at which the byte stands, and it stands nowhere from start up to at
 pub record AreLeft (b : ℕ) (t : List ℕ) (start at end mask : ℕ) : Type 0 where
-  pub low : at ≤ end
+  pub low : at ≤ length t
   pub few : end ≤ at + 32
   pub high : end ≤ length t
   pub before : Nowhere (Passes (is_byte b) t) start at
@@ -120,13 +124,13 @@ module _ (b : ℕ) (t : List ℕ) (start at end mask : ℕ) (left : AreLeft b t 
     next_left low = (record { low = omega arith; high = omega (arith, inside, room); before = none_up_to place counted }, run_in_chunk_stops (is_byte b) t at (end - at) place 0 room counted inside)
 
     -- and the others are left behind it
-    pub fewer_left : (rest : ℕ) → rest ≡ mask / 2 ^ (place + 1) → AreLeft b t (at + place + 1) (at + place + 1) end rest
-    fewer_left rest behind =
-        let next : at + (place + 1) ≡ at + place + 1 = omega arith in
+    pub fewer_left : (count rest : ℕ) → at + place + count ≤ length t → rest ≡ mask / 2 ^ (place + count) → AreLeft b t (at + place + count) (at + place + count) end rest
+    fewer_left count rest within behind =
+        let next : at + (place + count) ≡ at + place + count = omega arith in
         record {
-          low = omega (arith, inside);
+          low = within;
           few = omega (arith, left.few);
           high = left.high;
           before = λ k low high p. omega arith;
-          bits = behind ∙ ap (λ m. m / 2 ^ (place + 1)) left.bits ∙ marks-later b t at end (place + 1) (omega (arith, inside)) ∙ ap (λ k. marks_between b t k end) next;
+          bits = behind ∙ ap (λ m. m / 2 ^ (place + count)) left.bits ∙ marks-later b t at end (place + count) ∙ ap (λ k. marks_between b t k end) next;
         }

@@ -1,32 +1,27 @@
 -- Reading pairs one after the other, as a loop does (for `read_pairs`).
-use Rattle.std.proofs.Common.{◌≡◌, List, [], ◌∷◌, ◌++◌, ℕ, Bool, true, false, ◌==◌, Option, None, Some, ap, inl, inr, refl, sym, subst, ◌∙◌}
+use Rattle.std.proofs.Common.{◌≡◌, List, [], ◌∷◌, ◌++◌, ◌+◌, ℕ, Bool, true, false, ◌==◌, Option, None, Some, ap, inl, inr, refl, sym, subst, ◌∙◌}
 use Rattle.std.proofs.lemmas.Bool.{cases_Bool, or_parts}
 use Rattle.std.proofs.lemmas.List.{append-nil}
 use Rattle.std.proofs.lemmas.Slice.Eq.{bytes_eq-Decides}
 use Rattle.std.specs.List.{list_any}
 use Rattle.std.specs.Option.{option_map}
 use Rattle.std.specs.Str.{bytes_eq}
-use Rattle.scene_fields.specs.Counts.{Counted, in_turn, key_word, keys, new_pair, pair_in}
-use Rattle.scene_fields.specs.Values.{of_word}
-use Rattle.scene_fields.specs.declared.counts.Key.{Key}
+use Rattle.scene_fields.specs.Counts.{Counted, Row, has_space, in_turn, new_pair, pair_in, row_in}
 use Rattle.scene_fields.specs.Split.{Lacks, split_on}
 use Rattle.scene_fields.proofs.lemmas.Cuts.{cut-lacks, cut-parts}
 
-abbrev has_space : List ℕ → Bool
-has_space t = list_any (λ c. c == 32) t
-
-spaced : (vs : List Key) (t : List ℕ) → list_any (λ v. has_space (key_word v)) vs ≡ false → has_space t ≡ true → of_word key_word vs t ≡ None
-spaced [] t none h = refl
-spaced (v ∷ vs) t none h =
-    let parts = or_parts (has_space (key_word v)) _ none in
-    elim (cases_Bool (bytes_eq t (key_word v))) [
-      | inl e ↦ (let same : has_space t ≡ has_space (key_word v) = ap has_space ((bytes_eq-Decides t (key_word v)).0 e) in cc parts.0)
-      | inr e ↦ rw e (spaced vs t parts.1 h)
+no_row : {C : Type 0} (place : ℕ) (rows : List (Row C)) (word value : List ℕ) → list_any (λ row. has_space row.0) rows ≡ false → has_space word ≡ true → row_in place rows word value ≡ None
+no_row place [] word value none h = refl
+no_row place (row ∷ rows) word value none h =
+    let parts = or_parts (has_space row.0) _ none in
+    elim (cases_Bool (bytes_eq word row.0)) [
+      | inl e ↦ (let same : has_space word ≡ has_space row.0 = ap has_space ((bytes_eq-Decides word row.0).0 e) in cc parts.0)
+      | inr e ↦ rw e (no_row (place + 1) rows word value parts.1 h)
     ]
 
 -- a text with a space is no key
-pub no_key : {C : Type 0} (with_value : C → Key → List ℕ → Option C) (before : Counted C) (word value : List ℕ) → has_space word ≡ true → pair_in with_value before word value ≡ None
-no_key with_value before word value h = ap (new_pair with_value before value) (spaced keys word refl h)
+pub no_key : {C : Type 0} (rows : C → List (Row C)) (before : Counted C) (word value : List ℕ) → list_any (λ row. has_space row.0) (rows before.0) ≡ false → has_space word ≡ true → pair_in rows before word value ≡ None
+no_key rows before word value none h = ap (new_pair before.1) (no_row 0 (rows before.0) word value none h)
 
 -- the first piece of a text has no `=`
 record IsBad (t : List ℕ) : Type 0 where

@@ -20,6 +20,7 @@ decreases-loop-from l = length l.line - l.from
 abbrev pub invariant-loop-tabs : goal.invariant-loop-tabs
 invariant-loop-tabs l = record {
   near : l.start ≤ l.at;
+  high : l.at ≤ l.from + 32;
   boundary : IsCharBoundary l.line l.start;
   left : AreLeft 9 l.line l.start l.at (min (l.from + 32) (length l.line)) l.tabs;
   fields : field_texts l.fields.items ++ split_on 9 (drop l.start l.line) ≡ split_on 9 l.line;

@@ -1,15 +1,15 @@
-use Rattle.std.proofs.Common.{◌≡◌, ◌++◌, length, map, string_bytes}
+use Rattle.std.proofs.Common.{◌≡◌, ◌++◌, ◌∷◌, length, map, string_bytes}
 use Rattle.std.specs.Option.{option_map}
 use denote.Text.{Utf8}
 use denote.Shadow.{shadow}
-use Rattle.scene_fields.specs.Lists.{glued, list_words}
+use Rattle.scene_fields.specs.Lists.{list_words}
 use Rattle.scene_fields.proofs.lists.read_words.Given as goal
 
 -- the words so far, and then what was read of the next one before the first word of what is left, are all
 abbrev pub invariant-loop-plain : goal.invariant-loop-plain
 invariant-loop-plain l = record {
   valid : shadow (Utf8 l.rest);
-  read : list_words l.fn.field ≡ option_map (λ ws. map string_bytes l.words.items ++ ws) (glued (string_bytes l.word) (list_words l.rest));
+  read : option_map (λ ws. ws.0 ∷ ws.1) (list_words l.fn.field) ≡ option_map (λ ws. map string_bytes l.words.items ++ (string_bytes l.word ++ ws.0) ∷ ws.1) (list_words l.rest);
 }
 
 abbrev pub decreases-loop-plain : goal.decreases-loop-plain

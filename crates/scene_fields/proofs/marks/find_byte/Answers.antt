@@ -4,13 +4,13 @@ use Rattle.scene_fields.proofs.marks.find_byte.Goals as goal
 
 pub returns-then-marks-ne0 : goal.returns-then-marks-ne0
 returns-then-marks-ne0 c =
-    let left = all_left _ _ _ _ _ c.loop-from-test.true c.loop-from.invariant.seen c.marks_from-marks.ensures in
-    next_left _ _ _ _ _ _ left _ c.if-marks-ne0.true c.first_place.ensures.first c.loop-from.invariant.low
+    let left = all_left _ _ _ _ _ c.loop-from-test.true c.loop-from.invariant c.marks_from-marks.ensures in
+    next_left _ _ _ _ _ _ left _ c.if-marks-ne0.true c.first_place.ensures.first (omega arith)
 
 pub loop-from-preserved : goal.loop-from-preserved
 loop-from-preserved c =
-    let left = all_left _ _ _ _ _ c.loop-from-test.true c.loop-from.invariant.seen c.marks_from-marks.ensures in
-    record { low = omega (arith, c.loop-from.invariant.low); seen = λ k low high p. none_left _ _ _ _ _ _ left (omega (arith, c.if-marks-ne0.false)) k low (omega arith) p }
+    let left = all_left _ _ _ _ _ c.loop-from-test.true c.loop-from.invariant c.marks_from-marks.ensures in
+    λ k low high p. none_left _ _ _ _ _ _ left (omega (arith, c.if-marks-ne0.false)) k low (omega arith) p
 
 pub returns : goal.returns
-returns c = λ k low high p. c.loop-from.invariant.seen k low (omega arith) p
+returns c = λ k low high p. c.loop-from.invariant k low (omega arith) p

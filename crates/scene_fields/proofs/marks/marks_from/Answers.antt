@@ -16,6 +16,6 @@ returns c =
     let at : start + s ≡ c.args.from = omega arith in
     let end : length t ≡ min (c.args.from + 32) (length t) = omega arith in
     ap (λ m. m / 2 ^ s) (c.marks_of-2.ensures ∙ ap (λ n. marks b (take n (drop start t))) size)
-    ∙ marks-later b t start (length t) s (omega arith)
+    ∙ marks-later b t start (length t) s
     ∙ ap (λ k. marks_between b t k (length t)) at
     ∙ ap (marks_between b t c.args.from) end

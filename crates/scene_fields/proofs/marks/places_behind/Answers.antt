@@ -1,12 +1,17 @@
-use Rattle.std.proofs.Common.{◌/◌, ◌^◌, ap, sym, ◌∙◌, add-one, arith}
-use native.Mathlib.Nat.{div-div-eq-div-mul, pow-suc}
-use Rattle.std.proofs.lemmas.Nat.{shr_le}
+use Rattle.std.proofs.Common.{◌≡◌, ℕ, ◌+◌, ◌/◌, ◌^◌, ap, sym, ◌∙◌, arith}
+use native.Mathlib.Nat.{div-div-eq-div-mul, div-lt_self}
+use Rattle.std.proofs.lemmas.Nat.{pow-add}
+use Rattle.std.proofs.Math.Pow.{pow_mono}
 use Rattle.scene_fields.proofs.marks.places_behind.Goals as goal
 
+-- two shifts are one
+at_once : (mask place count : ℕ) → mask / 2 ^ place / 2 ^ count ≡ mask / 2 ^ (place + count)
+at_once mask place count = div-div-eq-div-mul mask (2 ^ place) (2 ^ count) ∙ ap (λ n. mask / n) (sym (pow-add 2 place count))
+
 pub returns-clause-smaller : goal.returns-clause-smaller
-returns-clause-smaller c = omega (arith, shr_le c.args.mask c.args.place, c.requires.some)
+returns-clause-smaller c =
+    let far = pow_mono {i = 1} {j = c.args.place + c.args.count} (omega arith) in
+    omega (arith, at_once c.args.mask c.args.place c.args.count, div-lt_self {n = c.args.mask} {k = 2 ^ (c.args.place + c.args.count)} (omega arith) (omega (arith, far)))
 
 pub returns-clause-behind : goal.returns-clause-behind
-returns-clause-behind c =
-    let power = ap (λ k. 2 ^ k) (add-one c.args.place) ∙ pow-suc 2 c.args.place in
-    div-div-eq-div-mul c.args.mask (2 ^ c.args.place) 2 ∙ ap (λ n. c.args.mask / n) (sym power)
+returns-clause-behind c = at_once c.args.mask c.args.place c.args.count

@@ -35,7 +35,7 @@ loop-from-preserved-then-bytes-from-eq92 c =
     let grown = ap (λ u. u ++ byte ∷ []) (append-nil (take to b)) ∙ sym (take_more_set b to byte (omega (arith, so_far.low))) in
     record {
       long = length-set b to byte ∙ so_far.long;
-      within = omega (arith, escaped.len.2, ap (λ u. length u) back, length-drop (from + 1) b, length-set b to byte);
+      within = omega (arith, escaped.len.3, ap (λ u. length u) back, length-drop (from + 1) b, length-set b to byte);
       low = omega (arith, so_far.low);
       read =
           read_escape_next 255 _ _ _ so_far.read [] _ (begins b from (omega arith) (omega arith)) tt byte _ gives after

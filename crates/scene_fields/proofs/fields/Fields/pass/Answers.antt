@@ -1,7 +1,5 @@
-use Rattle.std.proofs.Common.{◌≡◌, ◌+◌, ◌-◌, ◌++◌, ◌∙◌, List, ℕ, length, take, drop, min, ap, sym, inl, inr, arith}
-use Rattle.std.proofs.Math.Seq.{drop-append-add}
-use Rattle.std.proofs.lemmas.Bool.{cases_lt}
-use Rattle.std.proofs.lemmas.List.{drop-append-le, drop-map, drop_all, length-map}
+use Rattle.std.proofs.Common.{◌≡◌, ◌-◌, ◌++◌, ◌∙◌, List, [], ◌∷◌, ℕ, zero, suc, length, take, drop, min, ap, sym, arith}
+use Rattle.std.proofs.lemmas.List.{drop-map, length-map}
 use Rattle.std.specs.Borrow.{Bor, MutBor}
 use Rattle.scene_fields.specs.Split.{field_texts}
 use Rattle.scene_fields.specs.Fields.{Place}
@@ -10,18 +8,11 @@ use Rattle.scene_fields.proofs.fields.Fields.pass.Goals as goal
 
 -- so many items of both lists are dropped, of which these are in the first
 both : (n here : ℕ) (xs ys : List (List ℕ)) → here ≡ min n (length xs) → drop here xs ++ drop (n - here) ys ≡ drop n (xs ++ ys)
-both n here xs ys e = elim (cases_lt n (length xs)) [
-  | inl l ↦ (
-      let at : here ≡ n = omega (arith, e) in
-      let none : n - n ≡ 0 = omega arith in
-      ap (λ k. drop k xs ++ drop (n - k) ys) at ∙ ap (λ k. drop n xs ++ drop k ys) none ∙ sym (drop-append-le n xs ys (omega arith)))
-  | inr past ↦ (
-      let at : here ≡ length xs = omega (arith, e) in
-      let more : n ≡ length xs + (n - length xs) = omega arith in
-      ap (λ k. drop k xs ++ drop (n - k) ys) at
-      ∙ ap (λ u. u ++ drop (n - length xs) ys) (drop_all (length xs) xs (omega arith))
-      ∙ sym (ap (λ k. drop k (xs ++ ys)) more ∙ drop-append-add xs ys (n - length xs)))
-]
+both n zero [] ys e = let all : n - 0 ≡ n = omega arith in ap (λ k. drop k ys) all
+both n (suc here) [] ys e = absurd (omega (arith, e))
+both zero here (x ∷ xs) ys e = let none : here ≡ 0 = omega (arith, e) in ap (λ k. drop k (x ∷ xs) ++ drop (0 - k) ys) none
+both (suc n) zero (x ∷ xs) ys e = absurd (omega (arith, e))
+both (suc n) (suc here) (x ∷ xs) ys e = let less : suc n - suc here ≡ n - here = omega arith in ap (λ k. drop here xs ++ drop k ys) less ∙ both n here xs ys (omega (arith, e))
 
 pub returns-clause-left : goal.returns-clause-left
 returns-clause-left c =
