@@ -152,10 +152,7 @@ impl<'a> Fields<'a> {
             return None;
         }
         let owned = mem::take(&mut self.owned);
-        let is_large = match owned.first() {
-            Some(field) => field.len() >= LARGE,
-            None => false,
-        };
+        let is_large = matches!(owned.first(), Some(field) if field.len() >= LARGE);
         if !is_large {
             self.owned = owned;
             return None;

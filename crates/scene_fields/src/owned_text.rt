@@ -35,12 +35,10 @@ impl OwnedText {
     pub fn new(bytes: Vec<u8>) -> Option<OwnedText>
         ensures { MatchOption result (is_utf8 bytes.items ≡ false) (λ text. (text ≡ bytes.items) × (is_utf8 bytes.items ≡ true)) }
     {
-        match str::from_utf8(bytes.as_slice()) {
-            Ok(_) => Some(OwnedText {
-                memory: BytesMut::from_vec(bytes),
-            }),
-            Err(_) => None,
-        }
+        str::from_utf8(bytes.as_slice()).ok()?;
+        Some(OwnedText {
+            memory: BytesMut::from_vec(bytes),
+        })
     }
 
     /// How many bytes it has.

@@ -27,9 +27,9 @@ const ASCII: u8 = 0x7f;
 pub fn read_text(alloc: Global, field: &str) -> Result<Option<CowStr<'_, Global>>, OutOfMemory>
     ensures { IfOk result (λ text. option_map cow_text text ≡ text_in field.now) }
 {
-    if find_byte(b'\\', field.as_bytes()).is_none() {
+    let Some(_) = find_byte(b'\\', field.as_bytes()) else {
         return Ok(Some(CowStr::Borrowed(field)));
-    }
+    };
     let mut text = String::with_capacity(alloc, field.len())?;
     let mut rest = field;
     while let Some((plain, escape)) = split_at_byte(rest, b'\\') {

@@ -62,10 +62,7 @@ pub fn read_config_key(field: &str) -> Option<ConfigKey>
 pub fn read_absent(field: &str) -> Option<()>
     ensures { result ≡ absent_in field.now }
 {
-    match field {
-        "-" => Some(()),
-        _ => None,
-    }
+    (field == "-").then_some(())
 }
 
 /// Reads the id of a run, in any form that a UUID has.

@@ -12,12 +12,7 @@ use Rattle.scene_fields.specs.Split.{Lacks, split_on, cut}
 pub rest_is : {X : Type 0} (t : List X) (from : ℕ) → take (length t - from) (drop from t) ≡ drop from t
 rest_is t from = ap (λ n. take n (drop from t)) (sym (length-drop from t)) ∙ take-length (drop from t)
 
--- no place has the byte
-pub Lacks-from_each : (b : ℕ) (t : List ℕ) → Nowhere (Passes (is_byte b) t) 0 (length t) → Lacks b t
-Lacks-from_each b [] h = tt
-Lacks-from_each b (c ∷ t) h = (false_from_ne_true (c == b) (h 0 (omega arith) (omega arith)), Lacks-from_each b t (λ k l m. h (suc k) (omega arith) (omega arith)))
-
--- none up to a place has it
+-- no place up to one has the byte
 pub Lacks-take : (b : ℕ) (t : List ℕ) (n : ℕ) → n ≤ length t → Nowhere (Passes (is_byte b) t) 0 n → Lacks b (take n t)
 Lacks-take b t zero l h = tt
 Lacks-take b [] (suc n) l h = tt
@@ -25,6 +20,10 @@ Lacks-take b (c ∷ t) (suc n) l h = (false_from_ne_true (c == b) (h 0 (omega ar
 
 pub byte_at : (b : ℕ) (t : List ℕ) (k : ℕ) → Passes (is_byte b) t k → get_or t k 0 ≡ b
 byte_at b t k here = grind (arith, nat_tests, here)
+
+-- no place has it
+pub Lacks-from_each : (b : ℕ) (t : List ℕ) → Nowhere (Passes (is_byte b) t) 0 (length t) → Lacks b t
+Lacks-from_each b t h = subst (Lacks b) (take-length t) (Lacks-take b t (length t) (omega arith) h)
 
 -- the parts before and after the first place
 pub cut_at : (b : ℕ) (t : List ℕ) (k : ℕ) → NoneBefore (Passes (is_byte b) t) 0 (length t) k → Passes (is_byte b) t k → Lacks b (take k t) × (t ≡ take k t ++ (b ∷ drop (k + 1) t))

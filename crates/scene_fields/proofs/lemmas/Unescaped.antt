@@ -1,8 +1,8 @@
 -- What a text stands for, step by step (for `read_bytes`, `read_text`, `read_words`, `unescape_in_place`).
-use Rattle.std.proofs.Common.{◌≡◌, ℕ, zero, suc, List, [], ◌∷◌, ◌++◌, false, drop, refl, ap, sym, ◌∙◌, append_assoc, append-nil, Option, Some, None, MatchOption}
+use Rattle.std.proofs.Common.{◌≡◌, ℕ, zero, suc, List, [], ◌∷◌, ◌++◌, drop, refl, ap, sym, ◌∙◌, append_assoc, append-nil, Option, Some, None}
 use Rattle.std.proofs.lemmas.Iterator.Adapters.{option_map_id}
 use Rattle.std.specs.Borrow.{Bor}
-use Rattle.std.specs.Option.{option_and_then, option_map, is_some}
+use Rattle.std.specs.Option.{option_and_then, option_map}
 use Rattle.scene_fields.specs.Texts.{IsPlain, escape_byte, escape_len, unescaped_after, unescaped, AddsStretch}
 
 map_twice : {X Y Z : Type 0} (g : Y → Z) (f : X → Y) (o : Option X) → option_map g (option_map f o) ≡ option_map (λ x. g (f x)) o
@@ -75,8 +75,3 @@ read_stretch whole text rest so_far plain escape new after r h f =
 
 pub plain_alone : (most : ℕ) (p : List ℕ) → IsPlain p → unescaped most p ≡ Some p
 plain_alone most p h = read_to_end most (unescaped most p) [] p (sym (option_map_id (unescaped most p))) h
-
--- the answer of a search that found nothing
-pub of_none : {X P : Type 0} (Q : X → Type 0) (r : Option X) → is_some r ≡ false → MatchOption r P Q → P
-of_none Q None e h = h
-of_none Q (Some x) e h = cc
