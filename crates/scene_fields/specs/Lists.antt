@@ -16,7 +16,7 @@ begins_with_comma (c ∷ t) = c == 44
 abbrev pub in_first_word : List ℕ → List ℕ × Words → List ℕ × Words
 in_first_word t ws = (t ++ ws.0, ws.1)
 
--- an escape stands for a byte of the first word, and a comma ends an empty one before it
+-- `\,` puts an empty word first, and any other escape its byte in front of the first word
 abbrev pub list_escape : List ℕ → Option (List ℕ × Words → List ℕ × Words)
 list_escape t = if begins_with_comma t then Some (λ ws. ([], ws.0 ∷ ws.1)) else option_map (λ b. in_first_word (b ∷ [])) (escape_byte 127 t)
 

@@ -46,8 +46,8 @@ abbrev pub escape_len : List ℕ → ℕ
 escape_len [] = 0
 escape_len (c ∷ t) = if c == 120 then 3 else 1
 
--- what a text stands for once so many bytes are passed over. `front` puts plain bytes in front of what follows them stands for, an escape
--- changes that by what follows its backslash, and at the end stands `end`
+-- what a text stands for once so many bytes are passed over. That is `end` where the text ends; else a plain byte stands in front of what the
+-- rest stands for, and an escape says by itself what it makes of that
 unfoldable pub unescaped_after : {R : Type 0} → (List ℕ → R → R) → (List ℕ → Option (R → R)) → R → ℕ → List ℕ → Option R
 unescaped_after front escape end skip [] = Some end
 unescaped_after front escape end zero (c ∷ t) =
