@@ -1,5 +1,4 @@
 pub mod Cuts
-pub mod Displays
 pub mod Marks
 pub mod Moves
 pub mod NonZero

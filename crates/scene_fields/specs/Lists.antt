@@ -1,11 +1,9 @@
 -- Lists of words, with `\,` between them.
-use Rattle.std.specs.Prelude.{String, string_bytes, ℕ, zero, suc, List, [], ◌∷◌, ◌++◌, Bool, false, ◌==◌, if◌then◌else◌, Option, None, Some, codes, bytes_eq}
+use Rattle.std.specs.Prelude.{ℕ, List, [], ◌∷◌, ◌++◌, Bool, false, ◌==◌, if◌then◌else◌, Option, None, Some, codes, bytes_eq}
 use Rattle.std.specs.Option.{option_map, option_and_then}
-use Rattle.std.specs.Borrow.{Bor}
-use Rattle.std.specs.declared.alloc.Global.{Global}
 use Rattle.run_names.specs.ErrorChains.{MessageAndCauses}
 use Rattle.run_names.specs.declared.name.OwnedTestInstanceId.{OwnedTestInstanceId}
-use Rattle.scene_fields.specs.Texts.{escape_byte, escape_len}
+use Rattle.scene_fields.specs.Texts.{escape_byte, unescaped_after}
 
 abbrev pub Words : Type 0
 Words = List (List ℕ)
@@ -14,42 +12,21 @@ abbrev pub begins_with_comma : List ℕ → Bool
 begins_with_comma [] = false
 begins_with_comma (c ∷ t) = c == 44
 
--- a text in front of the first word
-abbrev pub glued : List ℕ → Option Words → Option Words
-glued t None = None
-glued t (Some []) = Some []
-glued t (Some (w ∷ ws)) = Some ((t ++ w) ∷ ws)
+-- bytes in front of the first word, behind which the others stand
+abbrev pub in_first_word : List ℕ → List ℕ × Words → List ℕ × Words
+in_first_word t ws = (t ++ ws.0, ws.1)
 
--- a byte in front of the first word
-abbrev pub in_first_word : Option ℕ → Option Words → Option Words
-in_first_word None ws = None
-in_first_word (Some b) ws = glued (b ∷ []) ws
+-- `\,` puts an empty word first, and any other escape its byte in front of the first word
+abbrev pub list_escape : List ℕ → Option (List ℕ × Words → List ℕ × Words)
+list_escape t = if begins_with_comma t then Some (λ ws. ([], ws.0 ∷ ws.1)) else option_map (λ b. in_first_word (b ∷ [])) (escape_byte 127 t)
 
--- the words of a list once so many bytes are passed over
-unfoldable pub words_after : ℕ → List ℕ → Option Words
-words_after skip [] = Some ([] ∷ [])
-words_after zero (c ∷ t) =
-    if c == 92 then (if begins_with_comma t then option_map (λ ws. [] ∷ ws) (words_after 1 t) else in_first_word (escape_byte 127 t) (words_after (escape_len t) t))
-    else in_first_word (Some c) (words_after 0 t)
-words_after (suc skip) (c ∷ t) = words_after skip t
-
--- the words of a list that has some, if its escapes are good ones
-abbrev pub list_words : List ℕ → Option Words
-list_words t = words_after 0 t
+-- the first word and the others of a list that has some, if its escapes are good ones
+abbrev pub list_words : List ℕ → Option (List ℕ × Words)
+list_words t = unescaped_after in_first_word list_escape ([], []) 0 t
 
 -- the words of a list, where `-` is the list of no word
 abbrev pub words_of : List ℕ → Option Words
-words_of t = if bytes_eq t (codes "-") then Some [] else list_words t
-
--- the words of a list, where there is one
-abbrev pub more_words : Option (Bor (List ℕ)) → Option Words
-more_words None = Some []
-more_words (Some list) = list_words list.now
-
--- a word, and the words of the list that follows it
-abbrev pub words_from : Option (String Global × Option (Bor (List ℕ))) → Option Words
-words_from None = None
-words_from (Some x) = option_map (λ ws. string_bytes x.0 ∷ ws) (more_words x.1)
+words_of t = if bytes_eq t (codes "-") then Some [] else option_map (λ ws. ws.0 ∷ ws.1) (list_words t)
 
 -- an error and its causes, as the list of them
 abbrev pub chain_of : Option Words → Option MessageAndCauses
@@ -75,11 +52,6 @@ abbrev pub instances_of : Words → Option Instances
 instances_of [] = Some []
 instances_of (id ∷ []) = None
 instances_of (id ∷ name ∷ ws) = option_map (λ others. instance id name ∷ others) (instances_of ws)
-
--- a test, and the tests of the list that follows it
-abbrev pub instances_from : Option (OwnedTestInstanceId × Option (Bor (List ℕ))) → Option Instances
-instances_from None = None
-instances_from (Some x) = option_map (λ others. x.0 ∷ others) (option_and_then instances_of (more_words x.1))
 
 -- the tests whose ids and names are the words of a list
 abbrev pub instances_in : List ℕ → Option Instances

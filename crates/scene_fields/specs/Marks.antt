@@ -1,8 +1,12 @@
--- The places of a byte among 32 bytes, as the bits of a mask.
-use Rattle.std.specs.Prelude.{◌≡◌, ℕ, ◌<◌}
-use Rattle.std.specs.Int.{bit_at}
+-- The places of a byte as the bits of a mask.
+use Rattle.std.specs.Prelude.{ℕ, ◌-◌, List, map}
+use Rattle.std.specs.Simd.Lanes.{chunk, mask_l}
+use Rattle.memchr.specs.Find.{is_byte}
 
--- of the first 32 bytes, the mask has a bit for each that is this one
-pub record Marks (byte : ℕ) (byte_at : ℕ → ℕ) (mask : ℕ) : Type 0 where
-  pub each : (k : ℕ) → k < 32 → byte_at k ≡ byte → bit_at mask k ≡ 1
-  pub only : (k : ℕ) → bit_at mask k ≡ 1 → (k < 32) × (byte_at k ≡ byte)
+-- a bit for each of these bytes, which is set where it is the one that is looked for
+abbrev pub marks : ℕ → List ℕ → ℕ
+marks b t = mask_l (map (is_byte b) t)
+
+-- the same of the part of a text from one place up to another
+abbrev pub marks_between : ℕ → List ℕ → ℕ → ℕ → ℕ
+marks_between b t at end = marks b (chunk at (end - at) t)

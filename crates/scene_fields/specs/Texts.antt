@@ -1,6 +1,6 @@
 -- Texts as a scene writes them, where a backslash begins an escape.
 use Rattle.std.specs.Prelude.{◌≡◌, ℕ, zero, suc, ◌+◌, ◌*◌, ◌≤◌, List, [], ◌∷◌, ◌++◌, ◌==◌, ◌&&◌, nat_lt, nat_le, if◌then◌else◌, Option, None, Some, string_bytes, drop, length, take}
-use Rattle.std.specs.Option.{option_map}
+use Rattle.std.specs.Option.{option_and_then, option_map}
 use Rattle.std.specs.Borrow.{Bor}
 use Rattle.std.specs.Char.{digit_value}
 use Rattle.std.specs.declared.alloc.Global.{Global}
@@ -46,22 +46,22 @@ abbrev pub escape_len : List ℕ → ℕ
 escape_len [] = 0
 escape_len (c ∷ t) = if c == 120 then 3 else 1
 
--- a byte before a text
-abbrev pub prepended : Option ℕ → Option (List ℕ) → Option (List ℕ)
-prepended None t = None
-prepended (Some c) t = option_map (λ u. c ∷ u) t
+-- what a text stands for once so many bytes are passed over. That is `end` where the text ends; else a plain byte stands in front of what the
+-- rest stands for, and an escape says by itself what it makes of that
+unfoldable pub unescaped_after : {R : Type 0} → (List ℕ → R → R) → (List ℕ → Option (R → R)) → R → ℕ → List ℕ → Option R
+unescaped_after front escape end skip [] = Some end
+unescaped_after front escape end zero (c ∷ t) =
+    if c == 92 then option_and_then (λ f. option_map f (unescaped_after front escape end (escape_len t) t)) (escape t)
+    else option_map (front (c ∷ [])) (unescaped_after front escape end 0 t)
+unescaped_after front escape end (suc skip) (c ∷ t) = unescaped_after front escape end skip t
 
--- what a text stands for once so many bytes are passed over
-unfoldable pub unescaped_after : ℕ → ℕ → List ℕ → Option (List ℕ)
-unescaped_after most skip [] = Some []
-unescaped_after most zero (c ∷ t) =
-    if c == 92 then prepended (escape_byte most t) (unescaped_after most (escape_len t) t)
-    else prepended (Some c) (unescaped_after most 0 t)
-unescaped_after most (suc skip) (c ∷ t) = unescaped_after most skip t
+-- an escape stands for its byte
+abbrev pub byte_in_front : ℕ → List ℕ → Option (List ℕ → List ℕ)
+byte_in_front most escape = option_map (λ b t. b ∷ t) (escape_byte most escape)
 
 -- what a text stands for, if its escapes are good ones
 abbrev pub unescaped : ℕ → List ℕ → Option (List ℕ)
-unescaped most t = unescaped_after most 0 t
+unescaped most t = unescaped_after (λ plain u. plain ++ u) (byte_in_front most) [] 0 t
 
 -- a text, and the bytes of a stream
 abbrev pub text_in : List ℕ → Option (List ℕ)

@@ -1,5 +1,5 @@
 -- The values of single fields of a scene.
-use Rattle.std.specs.Prelude.{ℕ, zero, suc, List, [], ◌∷◌, Bool, true, false, if◌then◌else◌, Option, None, Some, codes, bytes_eq}
+use Rattle.std.specs.Prelude.{ℕ, zero, suc, List, [], ◌∷◌, map, Bool, true, false, if◌then◌else◌, Option, None, Some, codes, bytes_eq}
 use Rattle.std.specs.Option.{option_map}
 use Rattle.std.specs.declared.num.NonZeroU32.{NonZeroU32}
 use native.Mathlib.Nat.{zero-lt-suc}
@@ -20,81 +20,65 @@ use Rattle.scene_fields.specs.Numbers.{number_in}
 use Rattle.scene_fields.specs.declared.values.ConfigKey.{ConfigKey}
 use Rattle.scene_fields.specs.declared.values.ConfigKey.TheVariants as key
 
--- the one of these values whose word it is
+-- the value whose word it is, of these words and their values
+abbrev pub named : {V : Type 0} → List (List ℕ × V) → List ℕ → Option V
+named [] t = None
+named (row ∷ rows) t = if bytes_eq t row.0 then Some row.1 else named rows t
+
+-- the same of values that have words
 abbrev pub of_word : {V : Type 0} → (V → List ℕ) → List V → List ℕ → Option V
-of_word word [] t = None
-of_word word (v ∷ vs) t = if bytes_eq t (word v) then Some v else of_word word vs t
+of_word word vs t = named (map (λ v. (word v, v)) vs) t
 
 -- `-`, where nothing may stand
 abbrev pub absent_in : List ℕ → Option (Unit {0})
 absent_in t = if bytes_eq t (codes "-") then Some tt else None
 
-abbrev pub config_key_word : ConfigKey → List ℕ
-config_key_word key.Final = codes "final"
-config_key_word key.Runs = codes "runs"
-config_key_word key.Bench = codes "bench"
-config_key_word key.Success = codes "success"
-config_key_word key.Failure = codes "failure"
-config_key_word key.NoCapture = codes "nocapture"
-config_key_word key.Verbose = codes "verbose"
-config_key_word key.NoIndent = codes "noindent"
-config_key_word key.Unicode = codes "unicode"
-config_key_word key.Empty = codes "empty"
-
 abbrev pub config_key_in : List ℕ → Option ConfigKey
-config_key_in t = of_word config_key_word (key.Final ∷ key.Runs ∷ key.Bench ∷ key.Success ∷ key.Failure ∷ key.NoCapture ∷ key.Verbose ∷ key.NoIndent ∷ key.Unicode ∷ key.Empty ∷ []) t
-
-abbrev pub flag_word : Bool → List ℕ
-flag_word false = codes "0"
-flag_word true = codes "1"
+config_key_in t =
+    named
+    ((codes "final", key.Final)
+    ∷ (codes "runs", key.Runs)
+    ∷ (codes "bench", key.Bench)
+    ∷ (codes "success", key.Success)
+    ∷ (codes "failure", key.Failure)
+    ∷ (codes "nocapture", key.NoCapture)
+    ∷ (codes "verbose", key.Verbose)
+    ∷ (codes "noindent", key.NoIndent)
+    ∷ (codes "unicode", key.Unicode)
+    ∷ (codes "empty", key.Empty) ∷ [])
+    t
 
 abbrev pub flag_in : List ℕ → Option Bool
-flag_in t = of_word flag_word (false ∷ true ∷ []) t
-
-abbrev pub flaky_word : FlakyResult → List ℕ
-flaky_word flaky.Pass = codes "pass"
-flaky_word flaky.Fail = codes "fail"
+flag_in t = named ((codes "0", false) ∷ (codes "1", true) ∷ []) t
 
 abbrev pub flaky_in : List ℕ → Option FlakyResult
-flaky_in t = of_word flaky_word (flaky.Pass ∷ flaky.Fail ∷ []) t
-
-abbrev pub mode_word : NextestRunMode → List ℕ
-mode_word mode.Test = codes "0"
-mode_word mode.Benchmark = codes "1"
+flaky_in t = named ((codes "pass", flaky.Pass) ∷ (codes "fail", flaky.Fail) ∷ []) t
 
 abbrev pub mode_in : List ℕ → Option NextestRunMode
-mode_in t = of_word mode_word (mode.Test ∷ mode.Benchmark ∷ []) t
+mode_in t = named ((codes "0", mode.Test) ∷ (codes "1", mode.Benchmark) ∷ []) t
 
 abbrev pub display_in : List ℕ → Option TestOutputDisplay
 display_in t = of_word display_name (display.Immediate ∷ display.ImmediateFinal ∷ display.Final ∷ display.Never ∷ []) t
 
-abbrev pub final_level_word : FinalStatusLevel → List ℕ
-final_level_word final.None = codes "none"
-final_level_word final.Fail = codes "fail"
-final_level_word final.Flaky = codes "flaky"
-final_level_word final.Slow = codes "slow"
-final_level_word final.Skip = codes "skip"
-final_level_word final.Leak = codes "leak"
-final_level_word final.Pass = codes "pass"
-final_level_word final.All = codes "all"
-
 abbrev pub final_level_in : List ℕ → Option FinalStatusLevel
-final_level_in t = of_word final_level_word (final.None ∷ final.Fail ∷ final.Flaky ∷ final.Slow ∷ final.Skip ∷ final.Leak ∷ final.Pass ∷ final.All ∷ []) t
-
-abbrev pub reason_word : CancelReason → List ℕ
-reason_word reason.SetupScriptFailure = codes "setup-script-failure"
-reason_word reason.TestFailure = codes "test-failure"
-reason_word reason.ReportError = codes "report-error"
-reason_word reason.GlobalTimeout = codes "global-timeout"
-reason_word reason.TestFailureImmediate = codes "test-failure-immediate"
-reason_word reason.Signal = codes "signal"
-reason_word reason.Interrupt = codes "interrupt"
-reason_word reason.SecondSignal = codes "second-signal"
+final_level_in t =
+    named
+    ((codes "none", final.None) ∷ (codes "fail", final.Fail) ∷ (codes "flaky", final.Flaky) ∷ (codes "slow", final.Slow)
+    ∷ (codes "skip", final.Skip) ∷ (codes "leak", final.Leak) ∷ (codes "pass", final.Pass) ∷ (codes "all", final.All) ∷ [])
+    t
 
 abbrev pub reason_in : List ℕ → Option CancelReason
 reason_in t =
-    of_word reason_word (reason.SetupScriptFailure ∷ reason.TestFailure ∷ reason.ReportError ∷ reason.GlobalTimeout
-    ∷ reason.TestFailureImmediate ∷ reason.Signal ∷ reason.Interrupt ∷ reason.SecondSignal ∷ []) t
+    named
+    ((codes "setup-script-failure", reason.SetupScriptFailure)
+    ∷ (codes "test-failure", reason.TestFailure)
+    ∷ (codes "report-error", reason.ReportError)
+    ∷ (codes "global-timeout", reason.GlobalTimeout)
+    ∷ (codes "test-failure-immediate", reason.TestFailureImmediate)
+    ∷ (codes "signal", reason.Signal)
+    ∷ (codes "interrupt", reason.Interrupt)
+    ∷ (codes "second-signal", reason.SecondSignal) ∷ [])
+    t
 
 -- a reason, or `-`
 abbrev pub reason_or_none_in : List ℕ → Option (Option CancelReason)
@@ -109,16 +93,12 @@ abbrev pub total_in : Option ℕ → Option NonZeroU32
 total_in None = None
 total_in (Some n) = non_zero n
 
-abbrev pub iteration : Option ℕ → Option (Option StressIndex)
-iteration None = None
-iteration (Some n) = Some (Some (record { current = n; total = None }))
-
 abbrev pub iteration_of : Option ℕ → Option NonZeroU32 → Option (Option StressIndex)
 iteration_of (Some n) (Some m) = Some (Some (record { current = n; total = Some m }))
 iteration_of n m = None
 
 abbrev pub stress_cut : List ℕ → Option (List ℕ × List ℕ) → Option (Option StressIndex)
-stress_cut t None = if bytes_eq t (codes "-") then Some None else iteration (number_in 32 t)
+stress_cut t None = if bytes_eq t (codes "-") then Some None else option_map (λ n. Some (record { current = n; total = None })) (number_in 32 t)
 stress_cut t (Some x) = iteration_of (number_in 32 x.0) (total_in (number_in 32 x.1))
 
 -- an iteration as its number, perhaps with a slash and how many there are, which is not 0; or `-`

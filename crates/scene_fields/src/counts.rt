@@ -3,11 +3,11 @@
 //! Single spaces part the pairs, as in `passed=2 failed=1`, and each key stands there once. What has no pair is 0, and `-`
 //! stands for no pair at all. Each function answers None for a bad field.
 
-ghost use Rattle.std.specs.Prelude.{◌≡◌, ℕ, List, true, Option, None};
+ghost use Rattle.std.specs.Prelude.{◌≡◌, ◌<◌, false, ℕ, List, Option, IfSome};
+ghost use Rattle.std.specs.List.{list_any};
 ghost use Rattle.std.specs.Option.{option_map};
-ghost use Rattle.scene_fields.specs.Split.{split_on};
 ghost use Rattle.scene_fields.specs.Numbers.{number_in};
-ghost use Rattle.scene_fields.specs.Counts.{has_space, in_turn, no_skips, no_stats, skips_in, skips_key_in, skips_no_space, skips_pair, stats_in, stats_key_in, stats_no_space, stats_pair, with_skip, with_stat};
+ghost use Rattle.scene_fields.specs.Counts.{Row, counts_in, has_space, pair_in, row_in, skips_in, skips_no_space, skips_rows, stats_in, stats_no_space, stats_rows};
 
 use super::numbers::read_count;
 use super::split::{first_piece, split_at_byte};
@@ -15,166 +15,114 @@ use super::values::read_reason;
 use run_model::event::SkipCounts;
 use run_model::stats::RunStats;
 
-// What pairs say, read one after the other.
-trait Accumulator {
-    // What is known after one pair more, if that is a good one.
-    ghost pair_in: { Self → List ℕ → List ℕ → Option Self };
+// How many keys some counts have at most.
+const KEYS: usize = 15;
 
-    // Reads one pair more.
-    fn read_pair(&mut self, word: &str, value: &str) -> Option<()>
-        ensures { option_map (λ _. self.new) result ≡ pair_in self.old word.now value.now };
+// What pairs may count.
+trait Counts: Copy {
+    // What the key of each row says after these counts.
+    ghost rows: { Self → List (Row Self) };
+
+    // Sets what a key counts, and answers in which row the key stands. None is a bad value, or no key.
+    fn set(&mut self, word: &str, value: &str) -> Option<usize>
+        ensures set { option_map (λ place. (place, self.new)) result ≡ row_in 0 (rows self.old) word.now value.now }
+        ensures place { IfSome result (λ place. place < 15) };
 
     // No key has a space in it.
-    ghost no_space: { (before : Self) (word value : List ℕ) → has_space word ≡ true → pair_in before word value ≡ None };
+    ghost no_space: { (before : Self) → list_any (λ row. has_space row.0) (rows before) ≡ false };
 }
 
-// Reads pairs with single spaces between them. A space is looked for only after an `=`: if one stands before it, that pair has no `=`, and
-// the word before the `=` is no key, since it has a space. Inlined, so that no call is made for a pair.
+// Reads pairs after counts without any. A space is looked for only after an `=`: if one stands before it, that pair has no `=`, and the word
+// before the `=` is no key, since it has a space.
 #[inline(always)]
-fn read_pairs<R: Accumulator>(pairs: &str, read: &mut R) -> Option<()>
-    ensures { option_map (λ _. read.new) result ≡ in_turn R.pair_in read.old (split_on 32 pairs.now) }
+fn read_pairs<C: Counts>(none: C, field: &str) -> Option<C>
+    ensures { result ≡ counts_in C.rows none field.now }
 {
-    let mut rest = Some(pairs);
+    let mut counts = none;
+    let mut has_key = [false; KEYS];
+    let mut rest = if field == "-" { None } else { Some(field) };
     while let Some(left) = rest {
         let (word, after) = split_at_byte(left, b'=')?;
         let (value, others) = first_piece(after, b' ');
-        read.read_pair(word, value)?;
+        read_pair(&mut counts, &mut has_key, word, value)?;
         rest = others;
     }
+    Some(counts)
+}
+
+// Reads one pair more, whose key must be a new one. Inlined, so that no call is made for a pair.
+#[inline(always)]
+fn read_pair<C: Counts>(
+    counts: &mut C,
+    has_key: &mut [bool; KEYS],
+    word: &str,
+    value: &str,
+) -> Option<()>
+    ensures { option_map (λ _. (counts.new, has_key.new)) result ≡ pair_in C.rows (counts.old, has_key.old) word.now value.now }
+{
+    let place = counts.set(word, value)?;
+    if has_key[place] {
+        return None;
+    }
+    has_key[place] = true;
     Some(())
 }
 
-/// A key of a run's statistics.
-#[derive(Clone, Copy, PartialEq, Eq)]
-pub enum StatsKey {
-    /// Tests that were to run at first.
-    Initial,
-    /// Tests that have finished.
-    Finished,
-    /// Tests that passed.
-    Passed,
-    /// Of those, slow ones.
-    Slow,
-    /// Of those, ones that passed after earlier attempts.
-    Flaky,
-    /// Of those, ones that left handles open.
-    Leaky,
-    /// Tests that failed.
-    Failed,
-    /// Of those, ones that left handles open.
-    LeakyFailed,
-    /// Tests that could not be started.
-    Exec,
-    /// Tests that timed out.
-    TimedOut,
-    /// Tests that were skipped.
-    Skipped,
-    /// Setup scripts that failed.
-    SetupFailed,
-    /// Setup scripts that could not be started.
-    SetupExec,
-    /// Setup scripts that timed out.
-    SetupTimedOut,
-    /// Why the run was cancelled.
-    Cancel,
-}
-
-// How many keys there are.
-const STATS_KEYS: usize = 15;
-
-// Reads the key of a word.
-fn read_stats_key(word: &str) -> Option<StatsKey>
-    ensures { result ≡ stats_key_in word.now }
+// Sets one count, whose key stands in this row.
+fn set_count(count: &mut usize, value: &str, place: usize) -> Option<usize>
+    ensures set { option_map (λ _. count.new) result ≡ number_in 64 value.now }
+    ensures place { IfSome result (λ row. row ≡ place) }
 {
-    match word {
-        "initial" => Some(StatsKey::Initial),
-        "finished" => Some(StatsKey::Finished),
-        "passed" => Some(StatsKey::Passed),
-        "slow" => Some(StatsKey::Slow),
-        "flaky" => Some(StatsKey::Flaky),
-        "leaky" => Some(StatsKey::Leaky),
-        "failed" => Some(StatsKey::Failed),
-        "leakyfailed" => Some(StatsKey::LeakyFailed),
-        "exec" => Some(StatsKey::Exec),
-        "timedout" => Some(StatsKey::TimedOut),
-        "skipped" => Some(StatsKey::Skipped),
-        "setupfailed" => Some(StatsKey::SetupFailed),
-        "setupexec" => Some(StatsKey::SetupExec),
-        "setuptimedout" => Some(StatsKey::SetupTimedOut),
-        "cancel" => Some(StatsKey::Cancel),
-        _ => None,
-    }
+    *count = read_count(value)?;
+    Some(place)
 }
 
-// The statistics by the pairs that were read so far, and which keys those have.
-#[derive(Clone, Copy)]
-struct StatsRead {
-    stats: RunStats,
-    has_key: [bool; STATS_KEYS],
-}
+impl Counts for RunStats {
+    ghost rows = { stats_rows };
 
-impl StatsRead {
-    // Before any pair.
-    fn new() -> StatsRead
-        ensures { result ≡ no_stats }
-    {
-        StatsRead {
-            stats: RunStats::new(0),
-            has_key: [false; STATS_KEYS],
+    fn set(&mut self, word: &str, value: &str) -> Option<usize> {
+        match word {
+            "initial" => set_count(&mut self.initial_run_count, value, 0),
+            "finished" => set_count(&mut self.finished_count, value, 1),
+            "passed" => set_count(&mut self.passed, value, 2),
+            "slow" => set_count(&mut self.passed_slow, value, 3),
+            "flaky" => set_count(&mut self.flaky, value, 4),
+            "leaky" => set_count(&mut self.leaky, value, 5),
+            "failed" => set_count(&mut self.failed, value, 6),
+            "leakyfailed" => set_count(&mut self.leaky_failed, value, 7),
+            "exec" => set_count(&mut self.exec_failed, value, 8),
+            "timedout" => set_count(&mut self.timed_out, value, 9),
+            "skipped" => set_count(&mut self.skipped, value, 10),
+            "setupfailed" => set_count(&mut self.setup_scripts_failed, value, 11),
+            "setupexec" => set_count(&mut self.setup_scripts_exec_failed, value, 12),
+            "setuptimedout" => set_count(&mut self.setup_scripts_timed_out, value, 13),
+            "cancel" => {
+                self.cancel_reason = Some(read_reason(value)?);
+                Some(14)
+            }
+            _ => None,
         }
-    }
-}
-
-impl Accumulator for StatsRead {
-    ghost pair_in = { stats_pair };
-
-    // The key must be a new one.
-    #[inline(always)]
-    fn read_pair(&mut self, word: &str, value: &str) -> Option<()> {
-        let key = read_stats_key(word)?;
-        let place = key as usize;
-        if self.has_key[place] {
-            return None;
-        }
-        self.has_key[place] = true;
-        set_stat(&mut self.stats, key, value)
     }
 
     ghost no_space = { stats_no_space };
 }
 
-// Sets what the key counts.
-fn set_stat(stats: &mut RunStats, key: StatsKey, value: &str) -> Option<()>
-    ensures { option_map (λ _. stats.new) result ≡ with_stat stats.old key value.now }
-{
-    match key {
-        StatsKey::Initial => set_count(&mut stats.initial_run_count, value),
-        StatsKey::Finished => set_count(&mut stats.finished_count, value),
-        StatsKey::Passed => set_count(&mut stats.passed, value),
-        StatsKey::Slow => set_count(&mut stats.passed_slow, value),
-        StatsKey::Flaky => set_count(&mut stats.flaky, value),
-        StatsKey::Leaky => set_count(&mut stats.leaky, value),
-        StatsKey::Failed => set_count(&mut stats.failed, value),
-        StatsKey::LeakyFailed => set_count(&mut stats.leaky_failed, value),
-        StatsKey::Exec => set_count(&mut stats.exec_failed, value),
-        StatsKey::TimedOut => set_count(&mut stats.timed_out, value),
-        StatsKey::Skipped => set_count(&mut stats.skipped, value),
-        StatsKey::SetupFailed => set_count(&mut stats.setup_scripts_failed, value),
-        StatsKey::SetupExec => set_count(&mut stats.setup_scripts_exec_failed, value),
-        StatsKey::SetupTimedOut => set_count(&mut stats.setup_scripts_timed_out, value),
-        StatsKey::Cancel => {
-            stats.cancel_reason = Some(read_reason(value)?);
-            Some(())
+impl Counts for SkipCounts {
+    ghost rows = { skips_rows };
+
+    fn set(&mut self, word: &str, value: &str) -> Option<usize> {
+        match word {
+            "rerun" => set_count(&mut self.skipped_tests_rerun, value, 0),
+            "nonbench" => set_count(&mut self.skipped_tests_non_benchmark, value, 1),
+            "tests" => set_count(&mut self.skipped_tests, value, 2),
+            "filter" => set_count(&mut self.skipped_tests_default_filter, value, 3),
+            "binaries" => set_count(&mut self.skipped_binaries, value, 4),
+            "binfilter" => set_count(&mut self.skipped_binaries_default_filter, value, 5),
+            _ => None,
         }
     }
-}
 
-// Sets one count.
-fn set_count(count: &mut usize, value: &str) -> Option<()>
-    ensures { option_map (λ _. count.new) result ≡ number_in 64 value.now }
-{
-    *count = read_count(value)?;
-    Some(())
+    ghost no_space = { skips_no_space };
 }
 
 /// Reads the statistics of a run.
@@ -188,98 +136,7 @@ fn set_count(count: &mut usize, value: &str) -> Option<()>
 pub fn read_stats(field: &str) -> Option<RunStats>
     ensures { result ≡ stats_in field.now }
 {
-    let mut read = StatsRead::new();
-    if field == "-" {
-        return Some(read.stats);
-    }
-    read_pairs(field, &mut read)?;
-    Some(read.stats)
-}
-
-/// A key of what a run skips.
-#[derive(Clone, Copy, PartialEq, Eq)]
-pub enum SkipsKey {
-    /// Tests that passed in a run before.
-    Rerun,
-    /// Tests that are no benchmarks.
-    NonBenchmark,
-    /// Tests.
-    Tests,
-    /// Tests that the default filter leaves out.
-    Filter,
-    /// Binaries.
-    Binaries,
-    /// Binaries that the default filter leaves out.
-    BinaryFilter,
-}
-
-// How many keys there are.
-const SKIPS_KEYS: usize = 6;
-
-// Reads the key of a word.
-fn read_skips_key(word: &str) -> Option<SkipsKey>
-    ensures { result ≡ skips_key_in word.now }
-{
-    match word {
-        "rerun" => Some(SkipsKey::Rerun),
-        "nonbench" => Some(SkipsKey::NonBenchmark),
-        "tests" => Some(SkipsKey::Tests),
-        "filter" => Some(SkipsKey::Filter),
-        "binaries" => Some(SkipsKey::Binaries),
-        "binfilter" => Some(SkipsKey::BinaryFilter),
-        _ => None,
-    }
-}
-
-// What is skipped by the pairs that were read so far, and which keys those have.
-#[derive(Clone, Copy)]
-struct SkipsRead {
-    counts: SkipCounts,
-    has_key: [bool; SKIPS_KEYS],
-}
-
-impl SkipsRead {
-    // Before any pair.
-    fn new() -> SkipsRead
-        ensures { result ≡ no_skips }
-    {
-        SkipsRead {
-            counts: SkipCounts::default(),
-            has_key: [false; SKIPS_KEYS],
-        }
-    }
-}
-
-impl Accumulator for SkipsRead {
-    ghost pair_in = { skips_pair };
-
-    // The key must be a new one.
-    #[inline(always)]
-    fn read_pair(&mut self, word: &str, value: &str) -> Option<()> {
-        let key = read_skips_key(word)?;
-        let place = key as usize;
-        if self.has_key[place] {
-            return None;
-        }
-        self.has_key[place] = true;
-        set_skip(&mut self.counts, key, value)
-    }
-
-    ghost no_space = { skips_no_space };
-}
-
-// Sets what the key counts.
-fn set_skip(counts: &mut SkipCounts, key: SkipsKey, value: &str) -> Option<()>
-    ensures { option_map (λ _. counts.new) result ≡ with_skip counts.old key value.now }
-{
-    match key {
-        SkipsKey::Rerun => set_count(&mut counts.skipped_tests_rerun, value),
-        SkipsKey::NonBenchmark => set_count(&mut counts.skipped_tests_non_benchmark, value),
-        SkipsKey::Tests => set_count(&mut counts.skipped_tests, value),
-        SkipsKey::Filter => set_count(&mut counts.skipped_tests_default_filter, value),
-        SkipsKey::Binaries => set_count(&mut counts.skipped_binaries, value),
-        SkipsKey::BinaryFilter => set_count(&mut counts.skipped_binaries_default_filter, value),
-    }
+    read_pairs(RunStats::new(0), field)
 }
 
 /// Reads what a run skips.
@@ -293,10 +150,5 @@ fn set_skip(counts: &mut SkipCounts, key: SkipsKey, value: &str) -> Option<()>
 pub fn read_skips(field: &str) -> Option<SkipCounts>
     ensures { result ≡ skips_in field.now }
 {
-    let mut read = SkipsRead::new();
-    if field == "-" {
-        return Some(read.counts);
-    }
-    read_pairs(field, &mut read)?;
-    Some(read.counts)
+    read_pairs(SkipCounts::default(), field)
 }

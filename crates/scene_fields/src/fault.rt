@@ -1,6 +1,7 @@
 //! What can be wrong with a line of a scene, and why a scene could not be read.
 
 ghost use Rattle.std.specs.Prelude.{◌≡◌, Some};
+ghost use Rattle.scene_fields.specs.declared.fault.LineError.{LineError};
 ghost use Rattle.scene_fields.specs.declared.fault.ReadFault.TheVariants.{OutOfMemory};
 ghost use Rattle.scene_fields.specs.Faults.{line_fault_text, read_fault_text};
 
@@ -97,8 +98,6 @@ pub enum LineError {
 }
 
 impl From<LineFault> for LineError {
-    ghost use Rattle.scene_fields.specs.declared.fault.LineError.{LineError};
-
     ghost from_gives = { λ fault error. error ≡ LineError.Fault fault };
 
     fn from(fault: LineFault) -> LineError {
@@ -107,8 +106,6 @@ impl From<LineFault> for LineError {
 }
 
 impl From<OutOfMemory> for LineError {
-    ghost use Rattle.scene_fields.specs.declared.fault.LineError.{LineError};
-
     ghost from_gives = { λ _ error. error ≡ LineError.OutOfMemory };
 
     fn from(_refused: OutOfMemory) -> LineError {
@@ -117,8 +114,6 @@ impl From<OutOfMemory> for LineError {
 }
 
 impl<T: Drop> From<AllocFailed<T>> for LineError {
-    ghost use Rattle.scene_fields.specs.declared.fault.LineError.{LineError};
-
     ghost from_gives = { λ _ error. error ≡ LineError.OutOfMemory };
 
     fn from(_refused: AllocFailed<T>) -> LineError {

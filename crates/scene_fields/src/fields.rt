@@ -5,7 +5,7 @@ ghost use Rattle.scene_fields.specs.Split.{split_on, field_texts};
 ghost use Rattle.scene_fields.specs.declared.fault.LineFault.{LineFault};
 ghost use Rattle.scene_fields.specs.Fields.{IsKeptWhere, Place, ReadsBy, TriesBy, answered, next, taken_text};
 
-use super::marks::{first_place, marks_from, without_place};
+use super::marks::{first_place, marks_from, places_behind};
 use super::owned_text::OwnedText;
 use crate::fault::{LineError, LineFault};
 use bytes::BytesMut;
@@ -27,12 +27,14 @@ pub fn split_fields<'a>(line: &'a str, fields: &mut Vec<&'a str>) -> Result<(), 
     let mut from = 0;
     while from < bytes.len() {
         let mut tabs = marks_from(b'\t', bytes, from);
+        let mut at = from;
         while tabs != 0 {
             let place = first_place(tabs);
-            let tab = from + place;
+            let tab = at + place;
             fields.push(&line[start..tab])?;
             start = tab + 1;
-            tabs = without_place(tabs, place);
+            at = start;
+            tabs = places_behind(tabs, place, 1);
         }
         from += 32;
     }
@@ -150,10 +152,7 @@ impl<'a> Fields<'a> {
             return None;
         }
         let owned = mem::take(&mut self.owned);
-        let is_large = match owned.first() {
-            Some(field) => field.len() >= LARGE,
-            None => false,
-        };
+        let is_large = matches!(owned.first(), Some(field) if field.len() >= LARGE);
         if !is_large {
             self.owned = owned;
             return None;
@@ -161,7 +160,7 @@ impl<'a> Fields<'a> {
         let (field, left) = owned.split_first_mut()?;
         self.owned = left;
         self.number += 1;
-        Some(mem::replace(field, OwnedText::empty(alloc)).into_memory())
+        Some(field.take_memory(alloc))
     }
 
     /// The fault of the field that was taken last.

@@ -2,9 +2,9 @@
 //!
 //! A word is a text. A comma without a backslash is part of a word, and the empty field is one empty word.
 
-ghost use Rattle.std.specs.Prelude.{◌≡◌, ◌<◌, ◌∷◌, false, length, map, string_bytes, IfOk, IfSome, MatchOption};
-ghost use Rattle.std.specs.Option.{option_and_then, option_map};
-ghost use Rattle.scene_fields.specs.Lists.{begins_with_comma, chain_in, instances_from, instances_in, instances_of, list_words, more_words, words_from, words_of};
+ghost use Rattle.std.specs.Prelude.{◌≡◌, map, string_bytes, IfOk};
+ghost use Rattle.std.specs.Option.{option_map};
+ghost use Rattle.scene_fields.specs.Lists.{chain_in, instances_in, words_of};
 
 use super::split::split_at_byte;
 use super::texts::push_stretch;
@@ -15,6 +15,7 @@ use run_model::name::{OwnedTestInstanceId, RustBinaryId, TestCaseName};
 use run_model::not_seen::TestInstanceList;
 use run_model::output::ErrorChain;
 use std::alloc::Global;
+use std::mem;
 
 /// Reads the words of a command. `None` means a bad field.
 ///
@@ -25,8 +26,7 @@ use std::alloc::Global;
 pub fn read_command_line(alloc: Global, field: &str) -> Result<Option<CommandLine>, OutOfMemory>
     ensures { IfOk result (λ command. command ≡ words_of field.now) }
 {
-    let list = if field == "-" { None } else { Some(field) };
-    match read_words(alloc, list)? {
+    match read_words(alloc, field)? {
         Some(words) => Ok(Some(CommandLine::new(alloc, words)?)),
         None => Ok(None),
     }
@@ -41,17 +41,14 @@ pub fn read_command_line(alloc: Global, field: &str) -> Result<Option<CommandLin
 pub fn read_chain(alloc: Global, field: &str) -> Result<Option<ErrorChain>, OutOfMemory>
     ensures { IfOk result (λ chain. chain ≡ chain_in field.now) }
 {
-    if field == "-" {
-        return Ok(None);
-    }
-    let Some((message, rest)) = read_word(alloc, field)? else {
+    let Some(words) = read_words(alloc, field)? else {
         return Ok(None);
     };
-    let Some(causes) = read_words(alloc, rest)? else {
+    let Some((message, causes)) = words.split_first() else {
         return Ok(None);
     };
     let message = DescriptionText::new(alloc, message.as_str())?;
-    let causes = descriptions(alloc, causes.as_slice())?;
+    let causes = descriptions(alloc, causes)?;
     Ok(Some(ErrorChain::new(alloc, message, causes)?))
 }
 
@@ -64,51 +61,22 @@ pub fn read_chain(alloc: Global, field: &str) -> Result<Option<ErrorChain>, OutO
 pub fn read_instances(alloc: Global, field: &str) -> Result<Option<TestInstanceList>, OutOfMemory>
     ensures { IfOk result (λ list. list ≡ instances_in field.now) }
 {
-    let list = if field == "-" { None } else { Some(field) };
-    read_more_instances(alloc, list)
-}
-
-// Reads the tests of a list, where there is one. None is a bad word, or an id with no name.
-fn read_more_instances(
-    alloc: Global,
-    list: Option<&str>,
-) -> Result<Option<TestInstanceList>, OutOfMemory>
-    ensures { IfOk result (λ tests. tests ≡ option_and_then instances_of (more_words list.entry)) }
-{
+    let Some(words) = read_words(alloc, field)? else {
+        return Ok(None);
+    };
     let mut instances = Vec::new(alloc);
-    let mut rest = list;
-    while let Some(left) = rest {
-        let Some((instance, after)) = read_instance(alloc, left)? else {
+    let mut rest = words.as_slice();
+    while let Some((binary_id, names)) = rest.split_first() {
+        let Some((test_name, after)) = names.split_first() else {
             return Ok(None);
         };
-        instances.push(instance)?;
+        instances.push(OwnedTestInstanceId {
+            binary_id: RustBinaryId::new(alloc, binary_id.as_str())?,
+            test_name: TestCaseName::new(alloc, test_name.as_str())?,
+        })?;
         rest = after;
     }
     Ok(Some(TestInstanceList::new(instances)))
-}
-
-// Reads the first test of a list, and the list that follows it, where one does. None is a bad word, or an id with no name.
-fn read_instance(
-    alloc: Global,
-    list: &str,
-) -> Result<Option<(OwnedTestInstanceId, Option<&str>)>, OutOfMemory>
-    ensures tests { IfOk result (λ test. option_and_then instances_of (list_words list.now) ≡ instances_from test) }
-    ensures shorter { IfOk result (λ test. IfSome test (λ x. IfSome x.1 (λ after. length after.now < length list.now))) }
-{
-    let Some((binary_id, names)) = read_word(alloc, list)? else {
-        return Ok(None);
-    };
-    let Some(names) = names else {
-        return Ok(None);
-    };
-    let Some((test_name, after)) = read_word(alloc, names)? else {
-        return Ok(None);
-    };
-    let instance = OwnedTestInstanceId {
-        binary_id: RustBinaryId::new(alloc, binary_id.as_str())?,
-        test_name: TestCaseName::new(alloc, test_name.as_str())?,
-    };
-    Ok(Some((instance, after)))
 }
 
 // The words as descriptions.
@@ -122,36 +90,22 @@ fn descriptions(alloc: Global, words: &[String]) -> Result<Vec<DescriptionText>,
     Ok(texts)
 }
 
-// Reads the words of a list, where there is one. None is a bad word.
-fn read_words(alloc: Global, list: Option<&str>) -> Result<Option<Vec<String>>, OutOfMemory>
-    ensures { IfOk result (λ words. option_map (λ v. map string_bytes v.items) words ≡ more_words list.entry) }
+// Reads the words of a list, where `-` is the list of no word. None is a bad word.
+fn read_words(alloc: Global, field: &str) -> Result<Option<Vec<String>>, OutOfMemory>
+    ensures { IfOk result (λ words. option_map (λ v. map string_bytes v.items) words ≡ words_of field.now) }
 {
     let mut words = Vec::new(alloc);
-    let mut rest = list;
-    while let Some(left) = rest {
-        let Some((word, after)) = read_word(alloc, left)? else {
-            return Ok(None);
-        };
-        words.push(word)?;
-        rest = after;
+    if field == "-" {
+        return Ok(Some(words));
     }
-    // Most lists have two or three words, and a scene may hold a million of them.
-    words.shrink_to_fit();
-    Ok(Some(words))
-}
-
-// Reads the first word of a list, and the list that follows it, where one does. None is a bad word.
-#[inline(always)]
-fn read_word(alloc: Global, list: &str) -> Result<Option<(String, Option<&str>)>, OutOfMemory>
-    ensures words { IfOk result (λ word. list_words list.now ≡ words_from word) }
-    ensures shorter { IfOk result (λ word. IfSome word (λ x. IfSome x.1 (λ after. length after.now < length list.now))) }
-{
     let mut word = String::new(alloc);
-    let mut rest = list;
+    let mut rest = field;
     while let Some((plain, escape)) = split_at_byte(rest, b'\\') {
-        if let Some(after) = after_comma(escape) {
+        if let Some(after) = escape.strip_prefix(',') {
             word.push_str(plain)?;
-            return Ok(Some((word, Some(after))));
+            words.push(mem::replace(&mut word, String::new(alloc)))?;
+            rest = after;
+            continue;
         }
         let Some(after) = push_stretch(&mut word, plain, escape)? else {
             return Ok(None);
@@ -159,23 +113,8 @@ fn read_word(alloc: Global, list: &str) -> Result<Option<(String, Option<&str>)>
         rest = after;
     }
     word.push_str(rest)?;
-    Ok(Some((word, None)))
-}
-
-// What follows a comma at the beginning of a text.
-fn after_comma(text: &str) -> Option<&str>
-    ensures { MatchOption result (begins_with_comma text.now ≡ false) (λ after. text.now ≡ 44 ∷ after.now) }
-{
-    if begins_with_comma(text.as_bytes()) {
-        Some(&text[1..])
-    } else {
-        None
-    }
-}
-
-// Whether the first byte is a comma.
-fn begins_with_comma(text: &[u8]) -> bool
-    ensures { result ≡ begins_with_comma text.now }
-{
-    matches!(text, [b',', ..])
+    words.push(word)?;
+    // Most lists have two or three words, and a scene may hold a million of them.
+    words.shrink_to_fit();
+    Ok(Some(words))
 }

@@ -3,21 +3,22 @@
 //! Tabs stand close together in a line, and escapes in an output, so that a call of memchr for each of them would mostly be its start and
 //! its end.
 
-ghost use Rattle.std.specs.Prelude.{◌≡◌, ◌≢◌, ◌+◌, ◌<◌, ◌≤◌, ℕ, length, slice_index};
-ghost use Rattle.std.specs.Int.{bit_at};
+ghost use Rattle.std.specs.Prelude.{◌≡◌, ◌≢◌, ◌++◌, ◌+◌, ◌-◌, ◌/◌, ◌^◌, ◌<◌, ◌≤◌, drop, length, min, replicate, take};
+ghost use Rattle.std.specs.Int.{trailing_zeros, w64};
 ghost use Rattle.memchr.specs.Find.{IsFirstByte, is_byte};
-ghost use Rattle.scene_fields.specs.Marks.{Marks};
+ghost use Rattle.scene_fields.specs.Marks.{marks, marks_between};
 
 use std::simd::prelude::*;
 
 /// The places of a byte among the 32 bytes from a place on, or among those that are left, each as a bit.
 #[inline(always)]
 pub fn marks_from(byte: u8, bytes: &[u8], from: usize) -> u64
-    requires { from ≤ length bytes.now }
-    ensures { Marks byte (λ k. slice_index bytes.now (from + k)) result }
+    requires within { from ≤ length bytes.now }
+    requires byte { byte ≢ 0 }
+    ensures { result ≡ marks_between byte bytes.now from (min (from + 32) (length bytes.now)) }
 {
     let left = bytes.len() - from;
-    if left >= 32 || bytes.len() < 32 || byte == 0 {
+    if left >= 32 || bytes.len() < 32 {
         return marks_of(byte, block_from(bytes, from));
     }
     // The last bytes of the text, without those that stand before the place: no byte is copied for them.
@@ -29,7 +30,7 @@ pub fn marks_from(byte: u8, bytes: &[u8], from: usize) -> u64
 #[inline(always)]
 pub fn block_from(bytes: &[u8], from: usize) -> u8x32
     requires { from ≤ length bytes.now }
-    ensures { (k : ℕ) → k < 32 → slice_index result k ≡ slice_index bytes.now (from + k) }
+    ensures { result ≡ take 32 (drop from bytes.now) ++ replicate (32 - (length bytes.now - from)) 0 }
 {
     let rest = &bytes[from..];
     if rest.len() >= 32 {
@@ -49,7 +50,7 @@ pub fn find_byte(byte: u8, bytes: &[u8]) -> Option<usize>
 {
     let mut from = 0;
     while from < bytes.len() {
-        let marks = marks_of(byte, block_from(bytes, from));
+        let marks = marks_from(byte, bytes, from);
         if marks != 0 {
             return Some(from + first_place(marks));
         }
@@ -61,7 +62,7 @@ pub fn find_byte(byte: u8, bytes: &[u8]) -> Option<usize>
 /// The places of a byte in a block, which are counted in bytes from 0: the mask has the bit of each.
 #[inline(always)]
 pub fn marks_of(byte: u8, block: u8x32) -> u64
-    ensures { Marks byte (λ k. slice_index block k) result }
+    ensures { result ≡ marks byte block }
 {
     block.simd_eq(u8x32::splat(byte)).to_bitmask()
 }
@@ -71,21 +72,20 @@ pub fn marks_of(byte: u8, block: u8x32) -> u64
 pub fn first_place(mask: u64) -> usize
     requires { mask ≢ 0 }
     ensures bound { result < 64 }
-    ensures set { bit_at mask result ≡ 1 }
-    ensures below { (k : ℕ) → k < result → bit_at mask k ≡ 0 }
+    ensures first { result ≡ trailing_zeros w64 mask }
 {
     mask.trailing_zeros() as usize
 }
 
-/// The mask without the bit of a place.
+/// The places behind one of them, without the first so many, counted from there.
 #[inline(always)]
-pub fn without_place(mask: u64, place: usize) -> u64
-    requires bound { place < 64 }
-    requires set { bit_at mask place ≡ 1 }
+pub fn places_behind(mask: u64, place: usize, count: usize) -> u64
+    requires some { mask ≢ 0 }
+    requires within { place < 64 }
+    requires on { 1 ≤ count }
+    requires few { count < 64 }
     ensures smaller { result < mask }
-    ensures cleared { bit_at result place ≡ 0 }
-    ensures kept { (k : ℕ) → k < 64 → k ≢ place → bit_at result k ≡ bit_at mask k }
-    ensures no_more { (k : ℕ) → bit_at result k ≡ 1 → bit_at mask k ≡ 1 }
+    ensures behind { result ≡ mask / 2 ^ (place + count) }
 {
-    mask & !(1 << place)
+    mask >> place >> count
 }

@@ -15,6 +15,7 @@ use run_model::time::Nanos;
 /// assert_eq!(read_count("007"), Some(7));
 /// assert_eq!(read_count("+7"), None);
 /// ```
+#[tactic(auto, using(crate::proofs::lemmas::Numbers::number_by))]
 pub fn read_count(text: &str) -> Option<usize>
     ensures { result ≡ number_in 64 text.now }
 {
@@ -54,6 +55,7 @@ fn short_number(text: &[u8]) -> Option<u64>
 }
 
 /// Reads a number of attempts or the like, which is anything that a `u32` holds.
+#[tactic(auto, using(crate::proofs::lemmas::Numbers::number_by))]
 pub fn read_small_count(text: &str) -> Option<u32>
     ensures { result ≡ number_in 32 text.now }
 {
@@ -78,6 +80,7 @@ pub fn read_nanos(text: &str) -> Option<Nanos>
 }
 
 // Reads a number of 128 bits.
+#[tactic(auto, using(crate::proofs::lemmas::Numbers::number_by))]
 fn read_wide_count(text: &str) -> Option<u128>
     ensures { result ≡ number_in 128 text.now }
 {
@@ -102,6 +105,7 @@ fn parse_wide_count(text: &str) -> Option<u128>
 /// ```
 /// assert_eq!(read_code("-0"), Some(0));
 /// ```
+#[tactic(auto, using(crate::proofs::lemmas::Numbers::code_by))]
 pub fn read_code(text: &str) -> Option<i32>
     ensures { result ≡ code_in text.now }
 {

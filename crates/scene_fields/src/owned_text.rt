@@ -12,6 +12,7 @@ use memchr::memchr;
 use run_model::memory::OutOfMemory;
 use std::alloc::Global;
 use std::marker::Model;
+use std::mem;
 
 /// A text in memory of its own. Contracts see its bytes.
 #[derive(Drop)]
@@ -34,21 +35,10 @@ impl OwnedText {
     pub fn new(bytes: Vec<u8>) -> Option<OwnedText>
         ensures { MatchOption result (is_utf8 bytes.items ≡ false) (λ text. (text ≡ bytes.items) × (is_utf8 bytes.items ≡ true)) }
     {
-        match str::from_utf8(bytes.as_slice()) {
-            Ok(_) => Some(OwnedText {
-                memory: BytesMut::from_vec(bytes),
-            }),
-            Err(_) => None,
-        }
-    }
-
-    /// No text, for which nothing is allocated.
-    pub fn empty(alloc: Global) -> OwnedText
-        ensures { length result ≡ 0 }
-    {
-        OwnedText {
-            memory: BytesMut::new(alloc),
-        }
+        str::from_utf8(bytes.as_slice()).ok()?;
+        Some(OwnedText {
+            memory: BytesMut::from_vec(bytes),
+        })
     }
 
     /// How many bytes it has.
@@ -68,12 +58,11 @@ impl OwnedText {
         }
     }
 
-    /// Its memory.
-    pub fn into_memory(self) -> BytesMut
-        ensures { result.items ≡ self }
+    /// Takes its memory, and leaves no text, for which nothing is allocated.
+    pub fn take_memory(&mut self, alloc: Global) -> BytesMut
+        ensures { result.items ≡ self.old }
     {
-        let OwnedText { memory } = self;
-        memory
+        mem::replace(&mut self.memory, BytesMut::new(alloc))
     }
 
     /// Splits a line into its fields, which tabs separate. It copies nothing.

@@ -3,7 +3,7 @@
 //! It is a word, as `pass`, or a word and its detail after a colon, as `fail:1`. A name or a message is a text, and
 //! goes on to the end of the field.
 
-ghost use Rattle.std.specs.Prelude.{◌≡◌, IfOk};
+ghost use Rattle.std.specs.Prelude.{◌≡◌, Some, IfOk};
 ghost use Rattle.std.specs.Option.{option_map};
 ghost use Rattle.scene_fields.specs.Split.{cut};
 ghost use Rattle.scene_fields.specs.Numbers.{code_in};
@@ -20,6 +20,9 @@ use run_model::status::{
 };
 use std::alloc::Global;
 
+/// What is read of a result: `None` means a bad field.
+pub type ReadResult = Result<Option<ExecutionResultDescription>, OutOfMemory>;
+
 /// Reads how an attempt ended. `None` means a bad field.
 ///
 /// ```
@@ -27,10 +30,7 @@ use std::alloc::Global;
 /// assert!(matches!(outcome, Some(ExecutionResultDescription::Fail { leaked: false, .. })));
 /// ```
 #[tactic(auto, unfolding(crate::specs::Results::result_in))]
-pub fn read_result(
-    alloc: Global,
-    field: &str,
-) -> Result<Option<ExecutionResultDescription>, OutOfMemory>
+pub fn read_result(alloc: Global, field: &str) -> ReadResult
     ensures { IfOk result (λ outcome. outcome ≡ result_in field.now) }
 {
     match split_at_byte(field, b':') {
@@ -40,7 +40,7 @@ pub fn read_result(
 }
 
 // Reads a result that is one word.
-fn read_plain(alloc: Global, field: &str) -> Result<Option<ExecutionResultDescription>, OutOfMemory>
+fn read_plain(alloc: Global, field: &str) -> ReadResult
     ensures { IfOk result (λ outcome. outcome ≡ plain_in field.now) }
 {
     Ok(match field {
@@ -51,7 +51,7 @@ fn read_plain(alloc: Global, field: &str) -> Result<Option<ExecutionResultDescri
         "leakfail" => Some(ExecutionResultDescription::Leak {
             result: LeakTimeoutResult::Fail,
         }),
-        "job" => Some(aborted(alloc, AbortDescription::WindowsJobObject, false)?),
+        "job" => return aborted(alloc, AbortDescription::WindowsJobObject, false),
         "exec" => Some(ExecutionResultDescription::ExecFail),
         "tmpass" => Some(ExecutionResultDescription::Timeout {
             result: SlowTimeoutResult::Pass,
@@ -64,11 +64,7 @@ fn read_plain(alloc: Global, field: &str) -> Result<Option<ExecutionResultDescri
 }
 
 // Reads a result whose word has something to tell of.
-fn read_told(
-    alloc: Global,
-    word: &str,
-    rest: &str,
-) -> Result<Option<ExecutionResultDescription>, OutOfMemory>
+fn read_told(alloc: Global, word: &str, rest: &str) -> ReadResult
     ensures { IfOk result (λ outcome. outcome ≡ told_in word.now rest.now) }
 {
     match word {
@@ -94,7 +90,7 @@ fn read_exit_code(code: &str, leaked: bool) -> Option<ExecutionResultDescription
 }
 
 // Reads a signal by its number, which its name may follow.
-fn read_signal(alloc: Global, text: &str) -> Result<Option<ExecutionResultDescription>, OutOfMemory>
+fn read_signal(alloc: Global, text: &str) -> ReadResult
     ensures { IfOk result (λ outcome. outcome ≡ signal_cut text.now (cut 58 text.now)) }
 {
     let Some((number, name)) = split_at_byte(text, b':') else {
@@ -107,26 +103,22 @@ fn read_signal(alloc: Global, text: &str) -> Result<Option<ExecutionResultDescri
         return Ok(None);
     };
     let name = Some(DescriptionText::new(alloc, name.as_str())?);
-    Ok(Some(aborted(alloc, AbortDescription::UnixSignal { signal, name }, false)?))
+    aborted(alloc, AbortDescription::UnixSignal { signal, name }, false)
 }
 
 // Reads a signal by its number alone.
-fn read_nameless_signal(
-    alloc: Global,
-    number: &str,
-    leaked: bool,
-) -> Result<Option<ExecutionResultDescription>, OutOfMemory>
+fn read_nameless_signal(alloc: Global, number: &str, leaked: bool) -> ReadResult
     ensures { IfOk result (λ outcome. outcome ≡ option_map (nameless_signal leaked) (code_in number.now)) }
 {
     let Some(signal) = read_code(number) else {
         return Ok(None);
     };
     let abort = AbortDescription::UnixSignal { signal, name: None };
-    Ok(Some(aborted(alloc, abort, leaked)?))
+    aborted(alloc, abort, leaked)
 }
 
 // Reads a status of Windows by its number, and what the system says of it.
-fn read_status(alloc: Global, text: &str) -> Result<Option<ExecutionResultDescription>, OutOfMemory>
+fn read_status(alloc: Global, text: &str) -> ReadResult
     ensures { IfOk result (λ outcome. outcome ≡ status_cut (cut 58 text.now)) }
 {
     let Some((number, message)) = split_at_byte(text, b':') else {
@@ -139,25 +131,20 @@ fn read_status(alloc: Global, text: &str) -> Result<Option<ExecutionResultDescri
         return Ok(None);
     };
     let message = Some(DescriptionText::new(alloc, message.as_str())?);
-    Ok(Some(aborted(
+    aborted(
         alloc,
         AbortDescription::WindowsNtStatus { code, message },
         false,
-    )?))
+    )
 }
 
 // A failure from outside.
-fn aborted(
-    alloc: Global,
-    abort: AbortDescription,
-    leaked: bool,
-) -> Result<ExecutionResultDescription, OutOfMemory>
-    ensures { IfOk result (λ outcome. outcome ≡ aborted leaked abort) }
+fn aborted(alloc: Global, abort: AbortDescription, leaked: bool) -> ReadResult
+    ensures { IfOk result (λ outcome. outcome ≡ Some (aborted leaked abort)) }
 {
-    Ok(ExecutionResultDescription::Fail {
-        failure: FailureDescription::Abort {
-            abort: Boxed::new(alloc, abort)?,
-        },
+    let abort = Boxed::new(alloc, abort)?;
+    Ok(Some(ExecutionResultDescription::Fail {
+        failure: FailureDescription::Abort { abort },
         leaked,
-    })
+    }))
 }

@@ -3,12 +3,12 @@
 //! A backslash begins an escape: `\n`, `\t`, `\r`, `\e`, `\\`, and `\x` with two hexadecimal digits, which gives a byte. In
 //! a text that byte is at most 7f; in the bytes that a test wrote it is any.
 
-ghost use Rattle.std.specs.Prelude.{◌≡◌, ◌≤◌, ◌<◌, ◌-◌, ◌+◌, ◌*◌, ◌==◌, Some, None, drop, length, slice_index, string_bytes, IfOk, IfSome, MatchOption};
+ghost use Rattle.std.specs.Prelude.{◌≡◌, ◌≤◌, ◌<◌, ◌-◌, ◌+◌, ◌*◌, ◌==◌, Some, None, length, slice_index, string_bytes, IfOk, IfSome, MatchOption};
 ghost use Rattle.std.specs.Char.{digit_value};
 ghost use Rattle.std.specs.Option.{option_map, SomeIff};
 ghost use Rattle.scene_fields.specs.Texts.{cow_text, AddsStretch, bytes_in, escape_byte, escape_len, text_in};
 
-use super::marks::{find_byte, first_place, marks_from, without_place};
+use super::marks::{find_byte, first_place, marks_from, places_behind};
 use super::split::split_at_byte;
 use run_model::memory::OutOfMemory;
 use std::alloc::Global;
@@ -27,9 +27,9 @@ const ASCII: u8 = 0x7f;
 pub fn read_text(alloc: Global, field: &str) -> Result<Option<CowStr<'_, Global>>, OutOfMemory>
     ensures { IfOk result (λ text. option_map cow_text text ≡ text_in field.now) }
 {
-    if find_byte(b'\\', field.as_bytes()).is_none() {
+    let Some(_) = find_byte(b'\\', field.as_bytes()) else {
         return Ok(Some(CowStr::Borrowed(field)));
-    }
+    };
     let mut text = String::with_capacity(alloc, field.len())?;
     let mut rest = field;
     while let Some((plain, escape)) = split_at_byte(rest, b'\\') {
@@ -51,11 +51,11 @@ pub(crate) fn push_stretch<'a>(
     ensures { IfOk result (λ after. MatchOption after (escape_byte 127 escape.now ≡ None) (AddsStretch (string_bytes text.old) plain.now escape.now (string_bytes text.new))) }
 {
     text.push_str(plain)?;
-    let Some((byte, after)) = read_escape(escape, ASCII) else {
+    let Some((byte, len)) = escape_at(escape.as_bytes(), ASCII) else {
         return Ok(None);
     };
     text.push(char::from(byte))?;
-    Ok(Some(after))
+    Ok(Some(&escape[len..]))
 }
 
 /// Reads the bytes that a test wrote. `None` means a bad field.
@@ -68,33 +68,24 @@ pub fn read_bytes(alloc: Global, field: &str) -> Result<Option<Vec<u8>>, OutOfMe
     let mut from = 0;
     while from < field.len() {
         let mut marks = marks_from(b'\\', field, from);
+        let mut at = from;
         while marks != 0 {
             let place = first_place(marks);
-            marks = without_place(marks, place);
-            let escape = from + place;
-            // The second backslash of an escape begins none.
-            if escape < start {
-                continue;
-            }
+            let escape = at + place;
             bytes.extend_from_slice(&field[start..escape])?;
             let Some((byte, len)) = escape_at(&field[escape + 1..], u8::MAX) else {
                 return Ok(None);
             };
             bytes.push(byte)?;
+            // The second backslash of an escape begins none.
+            marks = places_behind(marks, place, 1 + len);
             start = escape + 1 + len;
+            at = start;
         }
-        from += 32;
+        from = start.max(from + 32);
     }
     bytes.extend_from_slice(&field[start..])?;
     Ok(Some(bytes))
-}
-
-// Reads what an escape gives, without its backslash, each byte by digits at most `most`; and what follows the escape.
-fn read_escape(escape: &str, most: u8) -> Option<(u8, &str)>
-    ensures { MatchOption result (escape_byte most escape.now ≡ None) (λ x. (escape_byte most escape.now ≡ Some x.0) × (x.1.now ≡ drop (escape_len escape.now) escape.now)) }
-{
-    let (byte, len) = escape_at(escape.as_bytes(), most)?;
-    Some((byte, &escape[len..]))
 }
 
 /// The byte that an escape gives, and how many bytes the escape has behind its backslash, with which `escape` does not begin. The digits of
@@ -102,7 +93,7 @@ fn read_escape(escape: &str, most: u8) -> Option<(u8, &str)>
 #[inline(always)]
 pub(crate) fn escape_at(escape: &[u8], most: u8) -> Option<(u8, usize)>
     ensures byte { option_map (λ x. x.0) result ≡ escape_byte most escape.now }
-    ensures len { IfSome result (λ x. (x.1 ≡ escape_len escape.now) × (1 ≤ x.1) × (x.1 ≤ length escape.now) × (slice_index escape.now (x.1 - 1) < 128)) }
+    ensures len { IfSome result (λ x. (x.1 ≡ escape_len escape.now) × (1 ≤ x.1) × (x.1 ≤ 3) × (x.1 ≤ length escape.now) × (slice_index escape.now (x.1 - 1) < 128)) }
 {
     match escape {
         [b'n', ..] => Some((b'\n', 1)),

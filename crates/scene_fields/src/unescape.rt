@@ -5,7 +5,7 @@
 
 ghost use Rattle.std.specs.Prelude.{◌≡◌, ◌≢◌, ◌<◌, ◌≤◌, ℕ, length, slice_index, take};
 ghost use Rattle.std.specs.Option.{option_map};
-ghost use Rattle.scene_fields.specs.Texts.{MovesPlain, bytes_in};
+ghost use Rattle.scene_fields.specs.Texts.{IsPlain, MovesPlain, bytes_in};
 
 use super::marks::{block_from, first_place, marks_of};
 use super::texts::escape_at;
@@ -62,7 +62,7 @@ fn plain_len(block: u8x32, most: usize) -> usize
     ensures block { result ≤ 32 }
     ensures most { result ≤ most }
     ensures some { 1 ≤ most → slice_index block 0 ≢ 92 → 1 ≤ result }
-    ensures plain { (k : ℕ) → k < result → slice_index block k ≢ 92 }
+    ensures plain { IsPlain (take result block) }
 {
     let marks = marks_of(b'\\', block);
     let count = if marks == 0 {

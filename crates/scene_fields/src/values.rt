@@ -1,7 +1,7 @@
 //! What the fields of a scene may hold. Each function answers None for a bad field.
 
 ghost use Rattle.std.specs.Prelude.{◌≡◌};
-ghost use Rattle.scene_fields.specs.Values.{absent_in, config_key_in, display_in, final_level_in, flag_in, flaky_in, mode_in, non_zero, reason_in, reason_or_none_in, stress_in, total_in};
+ghost use Rattle.scene_fields.specs.Values.{absent_in, config_key_in, display_in, final_level_in, flag_in, flaky_in, mode_in, reason_in, reason_or_none_in, stress_in, total_in};
 ghost use Rattle.scene_fields.specs.Numbers.{number_in};
 ghost use Rattle.uuid.specs.Text.{parsed};
 
@@ -62,10 +62,7 @@ pub fn read_config_key(field: &str) -> Option<ConfigKey>
 pub fn read_absent(field: &str) -> Option<()>
     ensures { result ≡ absent_in field.now }
 {
-    match field {
-        "-" => Some(()),
-        _ => None,
-    }
+    (field == "-").then_some(())
 }
 
 /// Reads the id of a run, in any form that a UUID has.
@@ -121,7 +118,14 @@ pub fn read_final_level(field: &str) -> Option<FinalStatusLevel>
 pub fn read_display(field: &str) -> Option<TestOutputDisplay>
     ensures { result ≡ display_in field.now }
 {
-    TestOutputDisplay::from_name(field)
+    match field {
+        // What most events have comes first.
+        "never" => Some(TestOutputDisplay::Never),
+        "immediate" => Some(TestOutputDisplay::Immediate),
+        "immediate-final" => Some(TestOutputDisplay::ImmediateFinal),
+        "final" => Some(TestOutputDisplay::Final),
+        _ => None,
+    }
 }
 
 /// Reads what a success after earlier attempts counts as.
@@ -146,10 +150,8 @@ pub fn read_flaky_result(field: &str) -> Option<FlakyResult>
 pub fn read_stress_index(field: &str) -> Option<Option<StressIndex>>
     ensures { result ≡ stress_in field.now }
 {
-    if field == "-" {
-        return Some(None);
-    }
     match split_at_byte(field, b'/') {
+        None if field == "-" => Some(None),
         None => Some(Some(StressIndex {
             current: read_small_count(field)?,
             total: None,
@@ -165,14 +167,7 @@ pub fn read_stress_index(field: &str) -> Option<Option<StressIndex>>
 pub fn read_total(text: &str) -> Option<NonZeroU32>
     ensures { result ≡ total_in (number_in 32 text.now) }
 {
-    non_zero(read_small_count(text)?)
-}
-
-// The number, unless it is 0.
-fn non_zero(number: u32) -> Option<NonZeroU32>
-    ensures { result ≡ non_zero number }
-{
-    NonZeroU32::new(number)
+    NonZeroU32::new(read_small_count(text)?)
 }
 
 /// Reads why a run is cancelled.

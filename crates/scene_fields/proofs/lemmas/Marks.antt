@@ -1,185 +1,136 @@
--- The places of a byte in a block as the bits of its mask (for `block_from`, `marks_from`, `marks_of`, `plain_len`, `read_bytes`, `split_fields`).
-use Rattle.std.proofs.Common.{◌≡◌, ℕ, ◌+◌, ◌<◌, ◌≤◌, List, Bool, true, false, cond, length, get_or, drop, map, refl, ap, sym, ◌++◌, ◌-◌, ◌/◌, ◌%◌, ◌^◌, shr-shr, take, replicate, ◌∙◌, length-drop, ◌≢◌, subst, arith, inl, inr}
-use Rattle.std.specs.Int.{bit_at}
+-- The places of a byte as the bits of a mask (for `block_from`, `find_byte`, `marks_from`, `plain_len`, `split_fields`).
+use Rattle.std.proofs.Common.{◌≡◌, ◌≢◌, ℕ, zero, suc, ◌+◌, ◌-◌, ◌*◌, ◌/◌, ◌^◌, ◌<◌, ◌≤◌, ◌==◌, ◌++◌, ◌∙◌, List, [], ◌∷◌, Bool, true, false, not, cond, length, get_or, drop, take, min, map, replicate, refl, ap, sym, arith, inl, inr, w64}
+use native.Mathlib.Nat.{div-one, div-div-eq-div-mul, mul_comm, pow-suc, zero-div}
+use Rattle.std.specs.Int.{trailing_zeros}
+use Rattle.std.specs.List.{prefix_len}
 use Rattle.std.specs.Simd.Lanes.{chunk, mask_l}
-use Rattle.std.proofs.Math.ListN.{get_or-append}
-use Rattle.std.proofs.lemmas.Bool.{cases_lt, cases_order}
+use Rattle.std.proofs.lemmas.Bool.{cases_Bool, cases_lt, not-true, true≢false}
 use Rattle.std.proofs.lemmas.Bool.Decides.{nat_tests}
-use Rattle.std.proofs.Math.Seq.{take-length, get_or-append_right}
-use Rattle.std.proofs.lemmas.List.{get_or-drop, get_or-map, get_or_past, length-map}
-use native.Mathlib.Nat.{zero-add}
-use Rattle.std.proofs.lemmas.Simd.{bit_mask_l, get_or-chunk, get_or-replicate}
-use Rattle.std.proofs.lemmas.Nat.Bits.{bit_at-zero}
-use Rattle.memchr.specs.Find.{is_byte, Nowhere, Passes}
-use Rattle.scene_fields.specs.Marks.{Marks}
-use Rattle.scene_fields.proofs.lemmas.Tabs.{IsNextPlace}
+use Rattle.std.proofs.lemmas.List.{drop-drop, drop-map, drop-take, drop_all, length-drop, length-take, take_all}
+use Rattle.std.proofs.lemmas.List.Sums.{prefix_len-le-length, prefix_len_passes}
+use Rattle.std.proofs.lemmas.Simd.{leading_from_mask_l, length-chunk, run_in_chunk_fails, run_in_chunk_stops, trailing_mask_l}
+use Rattle.memchr.specs.Find.{is_byte, Nowhere, NoneBefore, Passes}
+use Rattle.scene_fields.specs.Marks.{marks, marks_between}
+use Rattle.scene_fields.specs.Split.{Lacks}
+use Rattle.scene_fields.proofs.lemmas.Cuts.{Lacks-take, rest_is}
 
--- the byte at a place, or 0
-abbrev pub get_at : List ℕ → ℕ → ℕ
-get_at t k = get_or t k 0
+-- zeros behind a text have no bit
+pub marks-padded : (b n : ℕ) (t : List ℕ) → b ≢ 0 → marks b (t ++ replicate n 0) ≡ marks b t
+marks-padded b zero [] some = refl
+marks-padded b (suc n) [] some =
+    let unset : (0 == b) ≡ false = grind (arith, nat_tests, some) in
+    omega (arith, marks-padded b n [] some, ap (λ x. cond {A = ℕ} x 1 0) unset)
+marks-padded b n (c ∷ t) some = ap (λ m. cond {A = ℕ} (c == b) 1 0 + 2 * m) (marks-padded b n t some)
 
-one_where : (b : Bool) → cond {A = ℕ} b 1 0 ≡ 1 → b ≡ true
-one_where true h = refl
-one_where false h = absurd (omega arith)
-
-pub is_same : (c b : ℕ) → is_byte b c ≡ true → c ≡ b
-is_same c b p = grind (arith, nat_tests, p)
-
-passes_same : (c b : ℕ) → c ≡ b → is_byte b c ≡ true
-passes_same c b e = grind (arith, nat_tests, e)
-
-module _ (test : ℕ → Bool) (t : List ℕ) (k : ℕ) where
-  bit_where : k < length t → bit_at (mask_l (map test t)) k ≡ cond (test (get_or t k 0)) 1 0
-  bit_where l = bit_mask_l (map test t) k ∙ ap (λ x. cond {A = ℕ} x 1 0) (get_or-map test t k 0 false l)
-
-  bit_past : length t ≤ k → bit_at (mask_l (map test t)) k ≡ 0
-  bit_past past = bit_mask_l (map test t) k ∙ ap (λ x. cond {A = ℕ} x 1 0) (get_or_past (map test t) k false (omega (arith, length-map t test)))
-
--- where a byte stands that is not 0, the text goes on
-pub within : (b : ℕ) (t : List ℕ) (k : ℕ) → b ≢ 0 → get_or t k 0 ≡ b → k < length t
-within b t k some h = elim (cases_lt k (length t)) [ inl l ↦ l | inr past ↦ absurd (omega (arith, some, get_or_past t k 0 past)) ]
-
--- the mask of a block's tests
-pub marked_by_test : (b : ℕ) (t : List ℕ) → length t ≡ 32 → Marks b (get_at t) (mask_l (map (is_byte b) t))
-marked_by_test b t long = record {
-  each = λ k l h. bit_where (is_byte b) t k (omega arith) ∙ ap (λ x. cond {A = ℕ} x 1 0) (passes_same (get_or t k 0) b h);
-  only = λ k h. elim (cases_lt k (length t)) [
-    | inl l ↦ (omega arith, is_same (get_or t k 0) b (one_where _ (sym (bit_where (is_byte b) t k l) ∙ h)))
-    | inr past ↦ absurd (omega (arith, bit_past (is_byte b) t k past))
-  ];
-}
-
--- a block that has the same bytes
-pub marked_alike : (b : ℕ) (f g : ℕ → ℕ) (mask : ℕ) → ((k : ℕ) → k < 32 → f k ≡ g k) → Marks b f mask → Marks b g mask
-marked_alike b f g mask same h = record {
-  each = λ k l e. h.each k l (same k l ∙ e);
-  only = λ k b. let r = h.only k b in (r.0, sym (same k r.0) ∙ r.1);
-}
-
--- a mask without its first bits
-bit_at_later : (mask s k : ℕ) → bit_at (mask / 2 ^ s) k ≡ bit_at mask (s + k)
-bit_at_later mask s k = ap (λ q. q % 2) (shr-shr mask s k)
-
--- the last block of a text, without what stands before a place
-pub marked_later : (b : ℕ) (t : List ℕ) (from start s mask : ℕ) → b ≢ 0 → start + 32 ≡ length t → start + s ≡ from → Marks b (λ k. get_or t (start + k) 0) mask → Marks b (λ k. get_or t (from + k) 0) (mask / 2 ^ s)
-marked_later b t from start s mask some end begins h = record {
-  each = λ k l is.
-      let inside = within b t (from + k) some is in
-      let place : start + (s + k) ≡ from + k = omega (arith, begins) in
-      bit_at_later mask s k ∙ h.each (s + k) (omega (arith, inside, end, begins)) (ap (λ j. get_or t j 0) place ∙ is);
-  only = λ k bit.
-      let place : start + (s + k) ≡ from + k = omega (arith, begins) in
-      let r = h.only (s + k) (sym (bit_at_later mask s k) ∙ bit) in
-      (omega (arith, r.0), sym (ap (λ j. get_or t j 0) place) ∙ r.1);
-}
-
-module _ (t : List ℕ) (from : ℕ) where
-  -- the part from a place to the end
-  pub rest_is : take (length t - from) (drop from t) ≡ drop from t
-  rest_is = ap (λ n. take n (drop from t)) (sym (length-drop from t)) ∙ take-length (drop from t)
-
-  rest_at : (k : ℕ) → get_or (take (length t - from) (drop from t)) k 0 ≡ get_or t (from + k) 0
-  rest_at k = ap (λ u. get_or u k 0) rest_is ∙ get_or-drop from t k 0
-
-  -- a whole block from a place on
-  pub whole_at : (k : ℕ) → k < 32 → get_or (chunk 0 32 (take (length t - from) (drop from t))) k 0 ≡ get_or t (from + k) 0
-  whole_at k l = get_or-chunk 0 32 _ k 0 l ∙ ap (λ j. get_or (take (length t - from) (drop from t)) j 0) (zero-add k) ∙ rest_at k
-
-  zero_at : (i : ℕ) → get_or (replicate {A = ℕ} 32 0) i 0 ≡ 0
-  zero_at i = elim (cases_lt i 32) [ inl l ↦ get_or-replicate 32 i 0 0 l | inr past ↦ get_or_past (replicate 32 0) i 0 past ]
-
-  abbrev zeros : List ℕ
-  zeros = drop (length (take (length t - from) (drop from t))) (replicate 32 0)
-
-  -- fewer bytes, and zeros after them
-  pub padded_at : (u : List ℕ) (k : ℕ) → u ≡ take (length t - from) (drop from t) → get_or (u ++ zeros) k 0 ≡ get_or t (from + k) 0
-  padded_at u k same =
-      let here : get_or u k 0 ≡ get_or t (from + k) 0 = ap (λ v. get_or v k 0) same ∙ rest_at k in
-      elim (cases_lt k (length u)) [
-        | inl before ↦ get_or-append u zeros 0 k before ∙ here
-        | inr past ↦
-            get_or-append_right u zeros k 0 past
-            ∙ get_or-drop (length (take (length t - from) (drop from t))) (replicate 32 0) (k - length u) 0
-            ∙ zero_at (length (take (length t - from) (drop from t)) + (k - length u))
-            ∙ sym (get_or_past u k 0 past)
-            ∙ here
-      ]
-
--- where the byte stands in the block at `from`, from start on, the mask has a bit, and it stands nowhere before the block
-pub record AreKnown (b : ℕ) (t : List ℕ) (start from mask : ℕ) : Type 0 where
-  pub before : Nowhere (Passes (is_byte b) t) start from
-  pub each : (k : ℕ) → k < 32 → start ≤ from + k → Passes (is_byte b) t (from + k) → bit_at mask k ≡ 1
-  pub only : (k : ℕ) → bit_at mask k ≡ 1 → (k < 32) × Passes (is_byte b) t (from + k)
-
--- all places of a block
-pub all_known : (b : ℕ) (t : List ℕ) (start from mask : ℕ) → Nowhere (Passes (is_byte b) t) start from → Marks b (λ k. get_or t (from + k) 0) mask → AreKnown b t start from mask
-all_known b t start from mask none h = record {
-  before = none;
-  each = λ k l _ p. h.each k l (is_same (get_or t (from + k) 0) b p);
-  only = λ k bit. let r = h.only k bit in (r.0, passes_same (get_or t (from + k) 0) b r.1);
-}
-
-module _ (b : ℕ) (t : List ℕ) (start from mask : ℕ) (known : AreKnown b t start from mask) where
-  -- no bit is left: the byte does not stand in the rest of the block
-  pub none_known : mask ≡ 0 → Nowhere (Passes (is_byte b) t) start (from + 32)
-  none_known none k low high p = elim (cases_lt k from) [
-    | inl l ↦ known.before k low l p
-    | inr past ↦ (
-        let at : k ≡ from + (k - from) = omega arith in
-        let set = known.each (k - from) (omega arith) (omega arith) (subst (λ j. Passes (is_byte b) t j) at p) in
-        let z : bit_at mask (k - from) ≡ 0 = ap (λ m. bit_at m (k - from)) none ∙ bit_at-zero (k - from) in
-        absurd (omega arith))
+module _ (b : ℕ) (t : List ℕ) (from : ℕ) (within : from ≤ length t) where
+  -- a block is cut off where the text ends
+  cut_off : take 32 (drop from t) ≡ take (min (from + 32) (length t) - from) (drop from t)
+  cut_off = elim (cases_lt (from + 32) (length t)) [
+    | inl l ↦ (let n : 32 ≡ min (from + 32) (length t) - from = omega arith in ap (λ k. take k (drop from t)) n)
+    | inr past ↦ (let n : length t - from ≡ min (from + 32) (length t) - from = omega arith in take_all 32 (drop from t) (omega (arith, length-drop from t)) ∙ sym (rest_is t from) ∙ ap (λ k. take k (drop from t)) n)
   ]
 
-  module _ (place : ℕ) (set : bit_at mask place ≡ 1) (below : (k : ℕ) → k < place → bit_at mask k ≡ 0) where
-    -- the first of them, unless it stands before start, is the next place
-    pub next_known : b ≢ 0 → start ≤ from + place → IsNextPlace (is_byte b) t start (length t - start) (from + place)
-    next_known some low =
-        let here = known.only place set in
-        let inside : from + place < length t = within b t (from + place) some (is_same (get_or t (from + place) 0) b here.1) in
-        record {
-          low = low;
-          high = omega arith;
-          passes = here.1;
-          before = λ k low high p. elim (cases_lt k from) [
-            | inl l ↦ known.before k low l p
-            | inr past ↦ (
-                let at : k ≡ from + (k - from) = omega arith in
-                let there = known.each (k - from) (omega (arith, here.0)) (omega arith) (subst (λ j. Passes (is_byte b) t j) at p) in
-                let z = below (k - from) (omega arith) in
-                absurd (omega arith))
-          ];
-        }
+  pub marks-block : (n : ℕ) → b ≢ 0 → marks b (take 32 (drop from t) ++ replicate n 0) ≡ marks_between b t from (min (from + 32) (length t))
+  marks-block n some = marks-padded b n (take 32 (drop from t)) some ∙ ap (marks b) cut_off
 
-    -- and the others are known, from any later place on
-    pub fewer_known : (next later : ℕ) → start ≤ next → from + place < next → ((k : ℕ) → k < 64 → k ≢ place → bit_at later k ≡ bit_at mask k) → ((k : ℕ) → bit_at later k ≡ 1 → bit_at mask k ≡ 1)
-        → AreKnown b t next from later
-    fewer_known next later on past kept no_more = record {
-      before = λ k low high p. known.before k (omega arith) high p;
-      each = λ k l low p. kept k (omega arith) (omega arith) ∙ known.each k l (omega arith) p;
-      only = λ k bit. known.only k (no_more k bit);
-    }
+half : (m : Bool) (n : ℕ) → (cond m 1 0 + 2 * n) / 2 ≡ n
+half true n = omega arith
+half false n = omega arith
 
--- the same where the mask has no bit before start
-pub record AreLeft (b : ℕ) (t : List ℕ) (start from mask : ℕ) : Type 0 where
-  pub known : AreKnown b t start from mask
-  pub ahead : (k : ℕ) → bit_at mask k ≡ 1 → start ≤ from + k
+-- a mask without its first bits
+later : (ms : List Bool) (s : ℕ) → mask_l ms / 2 ^ s ≡ mask_l (drop s ms)
+later ms zero = div-one (mask_l ms)
+later [] (suc s) = zero-div (2 ^ suc s)
+later (m ∷ ms) (suc s) =
+    ap (λ n. mask_l (m ∷ ms) / n) (pow-suc 2 s ∙ mul_comm (2 ^ s) 2)
+    ∙ sym (div-div-eq-div-mul (mask_l (m ∷ ms)) 2 (2 ^ s))
+    ∙ ap (λ n. n / 2 ^ s) (half m (mask_l ms))
+    ∙ later ms s
 
--- all places of a block that begins at start or later
-pub all_left : (b : ℕ) (t : List ℕ) (start from mask : ℕ) → start ≤ from → Nowhere (Passes (is_byte b) t) start from → Marks b (λ k. get_or t (from + k) 0) mask → AreLeft b t start from mask
-all_left b t start from mask le none h = record { known = all_known b t start from mask none h; ahead = λ k bit. omega arith }
-
--- without the first of them, the others are left behind its place
-pub fewer_left : (b : ℕ) (t : List ℕ) (start from mask : ℕ) → AreLeft b t start from mask → (place : ℕ) → bit_at mask place ≡ 1 → ((k : ℕ) → k < place → bit_at mask k ≡ 0)
-    → (later : ℕ) → bit_at later place ≡ 0 → ((k : ℕ) → k < 64 → k ≢ place → bit_at later k ≡ bit_at mask k) → ((k : ℕ) → bit_at later k ≡ 1 → bit_at mask k ≡ 1)
-    → AreLeft b t (from + place + 1) from later
-fewer_left b t start from mask left place set below later cleared kept no_more = record {
-  known = fewer_known b t start from mask left.known place set below (from + place + 1) later (omega (arith, left.ahead place set)) (omega arith) kept no_more;
-  ahead = λ k bit. elim (cases_order k place) [
-    | inl e ↦ (let z : bit_at later k ≡ 0 = ap (bit_at later) e ∙ cleared in absurd (omega arith))
-    | inr apart ↦ elim apart [
-      | inl l ↦ (let z = below k l in let o = no_more k bit in absurd (omega arith))
-      | inr g ↦ omega arith
+pub marks-later : (b : ℕ) (t : List ℕ) (at end s : ℕ) → marks_between b t at end / 2 ^ s ≡ marks_between b t (at + s) end
+marks-later b t at end s = later (map (is_byte b) (chunk at (end - at) t)) s ∙ ap mask_l (drop-map (is_byte b) s (chunk at (end - at) t)) ∙ ap (marks b) part
+  where
+    part : drop s (chunk at (end - at) t) ≡ chunk (at + s) (end - (at + s)) t
+    part = elim (cases_lt s (end - at)) [
+      | inl l ↦ (
+          let long : end - at ≡ s + (end - (at + s)) = omega arith in
+          ap (λ n. drop s (take n (drop at t))) long ∙ drop-take s (end - (at + s)) (drop at t) ∙ ap (take (end - (at + s))) (drop-drop s at t))
+      | inr past ↦ (
+          let none : 0 ≡ end - (at + s) = omega arith in
+          drop_all s (chunk at (end - at) t) (omega (arith, length-take (end - at) (drop at t))) ∙ ap (λ n. take n (drop (at + s) t)) none)
     ]
-  ];
+
+-- the first byte of a text that has it
+stops : (p : ℕ → Bool) (t : List ℕ) → mask_l (map p t) ≢ 0 → prefix_len (λ c. not (p c)) t < length t
+stops p [] some = absurd (some refl)
+stops p (c ∷ t) some = elim (cases_Bool (p c)) [
+  | inl e ↦ rw e (omega arith)
+  | inr e ↦ (let h = stops p t (λ z. some (rw (e, z) refl)) in rw e (omega (arith, h)))
+]
+
+-- none of these bytes stands before the first one
+pub marks-before : (b n : ℕ) (t : List ℕ) → n ≤ prefix_len (λ c. not (is_byte b c)) t → Lacks b (take n t)
+marks-before b n t few =
+    Lacks-take b t n (omega (arith, few, prefix_len-le-length (λ c. not (is_byte b c)) t))
+    (λ k low high p. true≢false (sym p ∙ not-true _ (prefix_len_passes (λ c. not (is_byte b c)) t k 0 (omega arith))))
+
+pub some_before : (b : ℕ) (t : List ℕ) → 0 < length t → get_or t 0 0 ≢ b → 1 ≤ prefix_len (λ c. not (is_byte b c)) t
+some_before b [] some other = absurd (omega arith)
+some_before b (c ∷ t) some other = let e : (c == b) ≡ false = grind (arith, nat_tests, other) in rw e (omega arith)
+
+-- from at up to end, the mask has a bit for each place at which the byte stands, and it stands nowhere from start up to at
+pub record AreLeft (b : ℕ) (t : List ℕ) (start at end mask : ℕ) : Type 0 where
+  pub low : at ≤ length t
+  pub few : end ≤ at + 32
+  pub high : end ≤ length t
+  pub before : Nowhere (Passes (is_byte b) t) start at
+  pub bits : mask ≡ marks_between b t at end
+
+-- all places of a block
+pub all_left : (b : ℕ) (t : List ℕ) (start from mask : ℕ) → from < length t → Nowhere (Passes (is_byte b) t) start (min from (length t)) → mask ≡ marks_between b t from (min (from + 32) (length t)) → AreLeft b t start from (min (from + 32) (length t)) mask
+all_left b t start from mask within none bits = record {
+  low = omega (arith, within);
+  few = omega arith;
+  high = omega arith;
+  before = λ k low high p. none k low (omega (arith, within)) p;
+  bits = bits;
 }
+
+module _ (b : ℕ) (t : List ℕ) (start at end mask : ℕ) (left : AreLeft b t start at end mask) where
+  room : at + (end - at) ≤ length t
+  room = omega (arith, left.low, left.high)
+
+  none_up_to : (r : ℕ) → r ≡ prefix_len (λ c. not (is_byte b c)) (chunk at (end - at) t) → Nowhere (Passes (is_byte b) t) start (at + r)
+  none_up_to r counted k low high p = elim (cases_lt k at) [
+    | inl l ↦ left.before k low l p
+    | inr past ↦ true≢false (sym p ∙ run_in_chunk_fails (is_byte b) t at (end - at) r 0 room counted k past high)
+  ]
+
+  -- no bit is left
+  pub none_left : mask ≡ 0 → Nowhere (Passes (is_byte b) t) start end
+  none_left none k low high p =
+      let counted = leading_from_mask_l (is_byte b) (chunk at (end - at) t) (sym left.bits ∙ none) ∙ length-chunk at (end - at) t room in
+      none_up_to (end - at) (sym counted) k low (omega (arith, high, left.low)) p
+
+  module _ (place : ℕ) (some : mask ≢ 0) (first : place ≡ trailing_zeros w64 mask) where
+    counted : place ≡ prefix_len (λ c. not (is_byte b c)) (chunk at (end - at) t)
+    counted = first ∙ ap (trailing_zeros w64) left.bits ∙ trailing_mask_l (is_byte b) 64 (chunk at (end - at) t) (omega (arith, length-chunk at (end - at) t room, left.few)) (omega (arith, some, left.bits))
+
+    pub inside : place < end - at
+    inside = omega (arith, counted, length-chunk at (end - at) t room, stops (is_byte b) (chunk at (end - at) t) (λ z. some (left.bits ∙ z)))
+
+    -- the first of them is the next place
+    pub next_left : start ≤ at → NoneBefore (Passes (is_byte b) t) start (length t) (at + place) × Passes (is_byte b) t (at + place)
+    next_left low = (record { low = omega arith; high = omega (arith, inside, room); before = none_up_to place counted }, run_in_chunk_stops (is_byte b) t at (end - at) place 0 room counted inside)
+
+    -- and the others are left behind it
+    pub fewer_left : (count rest : ℕ) → at + place + count ≤ length t → rest ≡ mask / 2 ^ (place + count) → AreLeft b t (at + place + count) (at + place + count) end rest
+    fewer_left count rest within behind =
+        let next : at + (place + count) ≡ at + place + count = omega arith in
+        record {
+          low = within;
+          few = omega (arith, left.few);
+          high = left.high;
+          before = λ k low high p. omega arith;
+          bits = behind ∙ ap (λ m. m / 2 ^ (place + count)) left.bits ∙ marks-later b t at end (place + count) ∙ ap (λ k. marks_between b t k end) next;
+        }

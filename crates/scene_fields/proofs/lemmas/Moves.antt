@@ -1,58 +1,42 @@
--- Bytes of a text that are moved down in it (for `move_plain`, `unescape_in_place`).
-use Rattle.std.proofs.Common.{◌≡◌, ◌≢◌, ℕ, ◌+◌, ◌-◌, ◌<◌, ◌≤◌, List, ◌++◌, length, get_or, take, drop, ap, sym, ◌∙◌, length-drop, arith}
-use lib.Lanes.{put_chunk}
-use lib.Seq.{paste, take-append-add}
-use Rattle.std.proofs.lemmas.List.{drop-drop, ext_get_or, get_or-drop, get_or-take, length-take-le, take-append-le}
-use Rattle.std.proofs.lemmas.List.Edits.{take-paste, drop-paste}
-use Rattle.std.proofs.lemmas.Simd.{get_or-put_chunk_above, length-put_chunk, put_chunk_is}
-use Rattle.scene_fields.specs.Split.{Lacks}
-use Rattle.scene_fields.proofs.lemmas.Cuts.{Lacks-take}
-use Rattle.scene_fields.proofs.lemmas.Marks.{is_same}
+-- Bytes of a text that are moved down in it (for `move_plain`).
+use Rattle.std.proofs.Common.{◌≡◌, ℕ, zero, suc, ◌+◌, ◌-◌, ◌≤◌, List, [], ◌∷◌, ◌++◌, length, take, drop, refl, ap, sym, subst, ◌∙◌, length-drop, replicate, arith}
+use lib.Seq.{paste, length_paste_head, take-append-add}
+use Rattle.std.proofs.lemmas.List.{drop-drop, length-take, length-take-le, take-append-le}
+use Rattle.std.proofs.lemmas.List.Edits.{drop-paste, length-paste}
+use Rattle.scene_fields.specs.Texts.{IsPlain, MovesPlain}
 
 -- lists that agree from a place on agree from any later one
-pub later_alike : (m k : ℕ) (s t : List ℕ) → m ≤ k → drop m s ≡ drop m t → drop k s ≡ drop k t
+later_alike : (m k : ℕ) (s t : List ℕ) → m ≤ k → drop m s ≡ drop m t → drop k s ≡ drop k t
 later_alike m k s t le same =
     let at : k ≡ m + (k - m) = omega arith in
     ap (λ j. drop j s) at ∙ sym (drop-drop (k - m) m s) ∙ ap (drop (k - m)) same ∙ drop-drop (k - m) m t ∙ ap (λ j. drop j t) (sym at)
 
--- of a block that was read at `from`, n bytes count
-module _ (t block : List ℕ) (from n : ℕ) (few : n ≤ 32) (within : from + n ≤ length t) (same : (k : ℕ) → k < 32 → get_or block k 0 ≡ get_or t (from + k) 0) where
-  pub block_plain : (b : ℕ) → ((k : ℕ) → k < n → get_or block k 0 ≢ b) → Lacks b (take n (drop from t))
-  block_plain b none =
-      Lacks-take b (drop from t) n (omega (arith, length-drop from t))
-      (λ k low high p. none k high (same k (omega arith) ∙ sym (get_or-drop from t k 0) ∙ is_same (get_or (drop from t) k 0) b p))
+take_fewer : (n m : ℕ) (t : List ℕ) → n ≤ m → take n (take m t) ≡ take n t
+take_fewer zero m t le = refl
+take_fewer (suc n) zero t le = absurd (omega arith)
+take_fewer (suc n) (suc m) [] le = refl
+take_fewer (suc n) (suc m) (c ∷ t) le = ap (λ u. c ∷ u) (take_fewer n m t (omega arith))
 
-  -- and it is written at `to`
-  module _ (to : ℕ) (long : length block ≡ 32) (low : to + 32 ≤ from + n) where
-    block_front : take n block ≡ take n (drop from t)
-    block_front =
-        let here : length (take n block) ≡ n = length-take-le n block (omega arith) in
-        let there : length (take n (drop from t)) ≡ n = length-take-le n (drop from t) (omega (arith, length-drop from t)) in
-        ext_get_or 0 _ _ (here ∙ sym there) (λ k l. get_or-take n block k 0 (omega arith) ∙ same k (omega arith) ∙ sym (get_or-drop from t k 0) ∙ sym (get_or-take n (drop from t) k 0 (omega arith)))
+-- of a block that was read from a place on, the first bytes are those of the text
+pub block_front : (t block : List ℕ) (from n : ℕ) → block ≡ take 32 (drop from t) ++ replicate (32 - (length t - from)) 0 → n ≤ 32 → n ≤ length t - from → take n block ≡ take n (drop from t)
+block_front t block from n is few most =
+    ap (take n) is
+    ∙ take-append-le n (take 32 (drop from t)) _ (omega (arith, few, most, length-take 32 (drop from t), length-drop from t))
+    ∙ take_fewer n 32 (drop from t) few
 
-    pub block_written : take (to + n) (put_chunk to t block) ≡ take to t ++ take n (drop from t)
-    block_written =
-        let before : length (take to t) ≡ to = length-take-le to t (omega arith) in
-        ap (take (to + n)) (put_chunk_is to t block (omega arith))
-        ∙ ap (λ j. take (j + n) (take to t ++ (block ++ drop (length block) (drop to t)))) (sym before)
-        ∙ take-append-add (take to t) (block ++ drop (length block) (drop to t)) n
-        ∙ ap (λ u. take to t ++ u) (take-append-le n block _ (omega arith) ∙ block_front)
-
-    pub block_left : drop (from + n) (put_chunk to t block) ≡ drop (from + n) t
-    block_left =
-        ext_get_or 0 _ _ (length-drop (from + n) (put_chunk to t block) ∙ ap (λ m. m - (from + n)) (length-put_chunk to t block) ∙ sym (length-drop (from + n) t))
-        (λ k l. get_or-drop (from + n) (put_chunk to t block) k 0 ∙ get_or-put_chunk_above to t block (from + n + k) 0 (omega arith) ∙ sym (get_or-drop (from + n) t k 0))
-
--- a stretch was moved
-module _ (t new : List ℕ) (from to n m : ℕ) (count : m ≡ n) (low : to ≤ from) (within : from + n ≤ length t) (pasted : new ≡ paste t to (drop from t) m) where
-  is_pasted : new ≡ paste t to (drop from t) n
-  is_pasted = pasted ∙ ap (λ k. paste t to (drop from t) k) count
-
-  room : n ≤ length (drop from t)
-  room = omega (arith, length-drop from t)
-
-  pub stretch_written : take (to + n) new ≡ take to t ++ take n (drop from t)
-  stretch_written = ap (take (to + n)) is_pasted ∙ take-paste t to (drop from t) n (omega arith) room
-
-  pub stretch_left : drop (from + n) new ≡ drop (from + n) t
-  stretch_left = later_alike (to + n) (from + n) new t (omega arith) (ap (drop (to + n)) is_pasted ∙ drop-paste t to (drop from t) n (omega arith) room)
+-- bytes were written over a text, of which the first are those from a place on, and the others stay before what follows these
+pub moved : (t s new : List ℕ) (from to n m : ℕ) → n ≤ m → m ≤ length s → to + m ≤ from + n → from + n ≤ length t → take n s ≡ take n (drop from t) → new ≡ paste t to s m → IsPlain (take n s) → MovesPlain t new from to n
+moved t s new from to n m few room low within same pasted plain =
+    let before : length (take to t) ≡ to = length-take-le to t (omega arith) in
+    record {
+      within = within;
+      long = ap (λ u. length u) pasted ∙ length-paste t to s m (omega arith) room;
+      plain = subst IsPlain same plain;
+      front =
+          ap (take (to + n)) pasted
+          ∙ take-append-le (to + n) (take to t ++ take m s) _ (omega (arith, length_paste_head t to s m (omega arith) room))
+          ∙ ap (λ k. take (k + n) (take to t ++ take m s)) (sym before)
+          ∙ take-append-add (take to t) (take m s) n
+          ∙ ap (λ u. take to t ++ u) (take_fewer n m s few ∙ same);
+      rest = later_alike (to + m) (from + n) new t low (ap (drop (to + m)) pasted ∙ drop-paste t to s m (omega arith) room);
+    }

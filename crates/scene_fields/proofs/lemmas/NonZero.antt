@@ -1,5 +1,5 @@
 -- Numbers that are not 0 (for `non_zero`).
-use Rattle.std.proofs.Common.{◌≡◌, ℕ, zero, suc, ◌<◌, Option, None, Some, MatchOption, refl, ap, arith, zero-lt-suc, subst}
+use Rattle.std.proofs.Common.{◌≡◌, ℕ, zero, suc, ◌<◌, ◌∙◌, Option, None, Some, MatchOption, refl, ap, arith, zero-lt-suc}
 use Rattle.std.specs.Int.NonZero.{non_zero_u32_get}
 use Rattle.std.specs.declared.num.NonZeroU32.{NonZeroU32}
 use Rattle.scene_fields.specs.Values.{non_zero}
@@ -11,14 +11,10 @@ below_prop n m = search props
 abbrev made : (v : ℕ) (h : 0 < v) → NonZeroU32
 made v h = record { value = v; ok = h }
 
-alike : (v w : ℕ) (h : 0 < v) (k : 0 < w) → v ≡ w → made v h ≡ made w k
-alike v w h k e = subst (λ (u : ℕ). (p : 0 < u) → made v h ≡ made u p) e (λ p. ap (λ (q : 0 < v). made v q) (below_prop 0 v h p)) k
-
-same : (n : ℕ) (x : NonZeroU32) → x.value ≡ suc n → Some x ≡ non_zero (suc n)
-same n x e = ap (λ (y : NonZeroU32). Some y) (alike x.value (suc n) x.ok (zero-lt-suc n) e)
+of_value : (v : ℕ) (h : 0 < v) → Some (made v h) ≡ non_zero v
+of_value zero h = absurd (omega arith)
+of_value (suc n) h = ap (λ (q : 0 < suc n). Some (made (suc n) q)) (below_prop 0 (suc n) h (zero-lt-suc n))
 
 pub non_zero_by : (n : ℕ) (r : Option NonZeroU32) → MatchOption r (n ≡ 0) (λ x. non_zero_u32_get x ≡ n) → r ≡ non_zero n
-non_zero_by zero None h = refl
-non_zero_by (suc n) None h = absurd (omega (arith, h))
-non_zero_by zero (Some x) h = let k = x.ok in absurd (omega (arith, h, k))
-non_zero_by (suc n) (Some x) h = same n x h
+non_zero_by n None h = rw h refl
+non_zero_by n (Some x) h = of_value x.value x.ok ∙ ap non_zero h

@@ -1,10 +1,27 @@
 -- Reading pairs one after the other, as a loop does (for `read_pairs`).
-use Rattle.std.proofs.Common.{◌≡◌, List, [], ◌∷◌, ◌++◌, ℕ, true, false, ◌==◌, Option, None, Some, ap, inl, inr, refl, sym, subst, ◌∙◌}
+use Rattle.std.proofs.Common.{◌≡◌, List, [], ◌∷◌, ◌++◌, ◌+◌, ℕ, Bool, true, false, ◌==◌, Option, None, Some, ap, inl, inr, refl, sym, subst, ◌∙◌}
 use Rattle.std.proofs.lemmas.Bool.{cases_Bool, or_parts}
 use Rattle.std.proofs.lemmas.List.{append-nil}
-use Rattle.scene_fields.specs.Counts.{has_space, in_turn}
+use Rattle.std.proofs.lemmas.Slice.Eq.{bytes_eq-Decides}
+use Rattle.std.specs.List.{list_any}
+use Rattle.std.specs.Option.{option_map}
+use Rattle.std.specs.Str.{bytes_eq}
+use Rattle.scene_fields.specs.Counts.{Counted, Row, has_space, in_turn, new_pair, pair_in, row_in}
 use Rattle.scene_fields.specs.Split.{Lacks, split_on}
 use Rattle.scene_fields.proofs.lemmas.Cuts.{cut-lacks, cut-parts}
+
+no_row : {C : Type 0} (place : ℕ) (rows : List (Row C)) (word value : List ℕ) → list_any (λ row. has_space row.0) rows ≡ false → has_space word ≡ true → row_in place rows word value ≡ None
+no_row place [] word value none h = refl
+no_row place (row ∷ rows) word value none h =
+    let parts = or_parts (has_space row.0) _ none in
+    elim (cases_Bool (bytes_eq word row.0)) [
+      | inl e ↦ (let same : has_space word ≡ has_space row.0 = ap has_space ((bytes_eq-Decides word row.0).0 e) in cc parts.0)
+      | inr e ↦ rw e (no_row (place + 1) rows word value parts.1 h)
+    ]
+
+-- a text with a space is no key
+pub no_key : {C : Type 0} (rows : C → List (Row C)) (before : Counted C) (word value : List ℕ) → list_any (λ row. has_space row.0) (rows before.0) ≡ false → has_space word ≡ true → pair_in rows before word value ≡ None
+no_key rows before word value none h = ap (new_pair before.1) (no_row 0 (rows before.0) word value none h)
 
 -- the first piece of a text has no `=`
 record IsBad (t : List ℕ) : Type 0 where
@@ -28,7 +45,7 @@ unfolding split_on
 glued [] t piece others h first = first
 glued (c ∷ x) t piece others h first = let n = or_parts (c == 32) (has_space x) h in let e = glued x t piece others n.1 first in rw (n.0, e) refl
 
-module _ {S : Type 0} (pair_in : S → List ℕ → List ℕ → Option S) (before : S) (left : List ℕ) (all : Option S) (so_far : in_turn pair_in before (split_on 32 left) ≡ all) where
+module _ {C : Type 0} (reads : Counted C → List ℕ → List ℕ → Option (Counted C)) (before : Counted C) (left : List ℕ) (all : Option C) (so_far : option_map (λ read. read.0) (in_turn reads before (split_on 32 left)) ≡ all) where
   stops : IsBad left → None ≡ all
   unfolding in_turn
   stops bad = let none = cut-lacks 61 bad.piece bad.lacks in rw (bad.parts, sym none) at so_far
@@ -40,21 +57,16 @@ module _ {S : Type 0} (pair_in : S → List ℕ → List ℕ → Option S) (befo
     first_pair : has_space word ≡ false → split_on 32 left ≡ (word ++ (61 ∷ value)) ∷ others
     first_pair none = ap (split_on 32) is ∙ glued word (61 ∷ after) (61 ∷ value) others none (glued (61 ∷ []) after value others refl first)
 
-    pub next_pair : (has_space word ≡ true → pair_in before word value ≡ None) → (new : S) → Some new ≡ pair_in before word value → in_turn pair_in new others ≡ all
+    pub next_pair : (has_space word ≡ true → reads before word value ≡ None) → (new : Counted C) → Some new ≡ reads before word value → option_map (λ read. read.0) (in_turn reads new others) ≡ all
     unfolding in_turn
     next_pair refused new h = elim (cases_Bool (has_space word)) [
       | inl spaced ↦ (let no = refused spaced in cc)
       | inr none ↦ rw (first_pair none, cut-parts 61 word value lacks, sym h) at so_far
     ]
 
-    pub bad_pair : None ≡ pair_in before word value → None ≡ all
+    pub bad_pair : None ≡ reads before word value → None ≡ all
     unfolding in_turn
     bad_pair h = elim (cases_Bool (has_space word)) [
       | inl spaced ↦ stops (subst IsBad (sym is) (bad_front word (61 ∷ after) lacks (λ none. cc)))
       | inr none ↦ rw (first_pair none, cut-parts 61 word value lacks, sym h) at so_far
     ]
-
--- no piece is left
-pub no_pair : {S : Type 0} (pair_in : S → List ℕ → List ℕ → Option S) (before : S) (pieces : List (List ℕ)) (all : Option S) → in_turn pair_in before pieces ≡ all → pieces ≡ [] → Some before ≡ all
-unfolding in_turn
-no_pair pair_in before pieces all so_far none = rw none at so_far

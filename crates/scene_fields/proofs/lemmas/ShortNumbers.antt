@@ -2,7 +2,7 @@
 use Rattle.std.proofs.Common.{◌≡◌, ℕ, ◌+◌, ◌-◌, ◌*◌, ◌^◌, ◌<◌, ◌≤◌, List, length, get_or, take, ap, ◌∙◌, subst, add-one, take_all, arith, inl, inr}
 use native.Mathlib.Nat.{pow-succ', pow-le-pow_right}
 use Rattle.std.specs.Int.{IsInRange}
-use Rattle.std.specs.Str.Parse.{AllDigits, IsNumeral, digits_value}
+use Rattle.std.specs.Str.Parse.{IsNumeral, digits_value}
 use Rattle.std.proofs.lemmas.Int.Digits.{digits_value_more}
 use Rattle.std.proofs.lemmas.Bool.{cases_lt}
 use Rattle.std.proofs.lemmas.Str.{digit_value_digit}
@@ -16,10 +16,6 @@ pub record IsNumberSoFar (t : List ℕ) (i n : ℕ) : Type 0 where
 
 by_index : IsNumeralModel (λ t. (k : ℕ) → k < length t → IsInRange 48 57 (get_or t k 0)) (digits_value 10)
 by_index = numerals_by_value (λ t. (k : ℕ) → k < length t → IsInRange 48 57 (get_or t k 0)) tells_by_index
-
--- each byte of digits is one
-pub digit_in : (t : List ℕ) → AllDigits 10 t → (k : ℕ) → k < length t → IsInRange 48 57 (get_or t k 0)
-digit_in t h = by_index.from t h
 
 module _ (t : List ℕ) (i n : ℕ) (so_far : IsNumberSoFar t i n) where
   -- nineteen digits fit 64 bits

@@ -1,17 +1,10 @@
 -- The pieces of a text between the places of a byte (for `read_bytes`, `split_fields`).
-use Rattle.std.proofs.Common.{◌≡◌, ℕ, ◌+◌, ◌-◌, ◌<◌, ◌≤◌, List, [], ◌∷◌, ◌++◌, Bool, true, ◌==◌, length, take, drop, ap, sym, ◌∙◌, subst, length-drop, append_assoc, arith}
+use Rattle.std.proofs.Common.{◌≡◌, ℕ, ◌+◌, ◌-◌, ◌<◌, ◌≤◌, List, [], ◌∷◌, ◌++◌, true, ◌==◌, length, take, drop, ap, sym, ◌∙◌, subst, length-drop, append_assoc, arith}
 use Rattle.std.proofs.lemmas.List.{get_or-drop, drop-drop, map-append}
 use Rattle.memchr.specs.Find.{is_byte, Nowhere, NoneBefore, Passes}
 use Rattle.std.specs.Borrow.{Bor}
-use Rattle.scene_fields.specs.Split.{Lacks, split_on, field_texts}
-use Rattle.scene_fields.proofs.lemmas.Cuts.{Lacks-from_each, cut_at, split_on-lacks, split_on-parts}
-
--- from place i on, the first of n places that passes the test is k
-pub record IsNextPlace (test : ℕ → Bool) (hay : List ℕ) (i n k : ℕ) : Type 0 where
-  pub low : i ≤ k
-  pub high : k < i + n
-  pub passes : Passes test hay k
-  pub before : Nowhere (Passes test hay) i k
+use Rattle.scene_fields.specs.Split.{Lacks, field_texts}
+use Rattle.scene_fields.proofs.lemmas.Cuts.{Lacks-from_each, cut_at}
 
 module _ (b : ℕ) (t : List ℕ) (start : ℕ) (within : start ≤ length t) where
   abbrev rest : List ℕ
@@ -25,17 +18,14 @@ module _ (b : ℕ) (t : List ℕ) (start : ℕ) (within : start ≤ length t) wh
   forth k p = subst (λ c. (c == b) ≡ true) (sym (get_or-drop start t k 0)) p
 
   -- the text from start on, cut at its first such byte
-  pub cut_here : (place : ℕ) → IsNextPlace (is_byte b) t start (length t - start) place → Lacks b (take (place - start) rest) × (rest ≡ take (place - start) rest ++ (b ∷ drop (place + 1) t))
-  cut_here place r =
-      let at : place ≡ start + (place - start) = omega (arith, r.low) in
-      let room : place - start < length rest = simp length-drop (omega (arith, r.low, r.high)) in
-      let first : NoneBefore (Passes (is_byte b) rest) 0 (length rest) (place - start) = record { low = omega arith; high = room; before = λ j l u p. r.before (start + j) (omega arith) (omega arith) (back j p) } in
-      let cut = cut_at b rest (place - start) first (forth (place - start) (subst (λ n. Passes (is_byte b) t n) at r.passes)) in
-      let e : start + (place - start + 1) ≡ place + 1 = omega (arith, r.low) in
+  pub cut_here : (place : ℕ) → NoneBefore (Passes (is_byte b) t) start (length t) place → Passes (is_byte b) t place → Lacks b (take (place - start) rest) × (rest ≡ take (place - start) rest ++ (b ∷ drop (place + 1) t))
+  cut_here place first passes =
+      let at : place ≡ start + (place - start) = omega (arith, first.low) in
+      let room : place - start < length rest = simp length-drop (omega (arith, first.low, first.high)) in
+      let here : NoneBefore (Passes (is_byte b) rest) 0 (length rest) (place - start) = record { low = omega arith; high = room; before = λ j l u p. first.before (start + j) (omega arith) (omega arith) (back j p) } in
+      let cut = cut_at b rest (place - start) here (forth (place - start) (subst (λ n. Passes (is_byte b) t n) at passes)) in
+      let e : start + (place - start + 1) ≡ place + 1 = omega (arith, first.low) in
       (cut.0, cut.1 ∙ ap (λ u. take (place - start) rest ++ (b ∷ u)) (drop-drop _ _ t ∙ ap (λ n. drop n t) e))
-
-  pub piece_here : (place : ℕ) → IsNextPlace (is_byte b) t start (length t - start) place → split_on b rest ≡ take (place - start) rest ∷ split_on b (drop (place + 1) t)
-  piece_here place r = let cut = cut_here place r in ap (split_on b) cut.1 ∙ split_on-parts b _ _ cut.0
 
   -- no such byte is left
   pub lacks_here : Nowhere (Passes (is_byte b) t) start (length t) → Lacks b rest
@@ -43,9 +33,6 @@ module _ (b : ℕ) (t : List ℕ) (start : ℕ) (within : start ≤ length t) wh
     where
       bound : (j : ℕ) → j < length rest → start + j < length t
       bound j u = let d = length-drop start t in omega (arith, d, u)
-
-  pub last_piece : Nowhere (Passes (is_byte b) t) start (length t) → split_on b rest ≡ rest ∷ []
-  last_piece none = split_on-lacks b rest (lacks_here none)
 
 -- one more piece was found
 module _ (front : List (Bor (List ℕ))) (piece : Bor (List ℕ)) (rest : List (List ℕ)) (whole : List (List ℕ)) where

@@ -1,89 +1,77 @@
--- What a text stands for, step by step (for `read_bytes`, `read_text`, `unescape_in_place`).
-use Rattle.std.proofs.Common.{◌≡◌, ℕ, zero, suc, List, [], ◌∷◌, ◌++◌, false, drop, refl, ap, sym, ◌∙◌, append_assoc, Option, Some, None, MatchOption}
+-- What a text stands for, step by step (for `read_bytes`, `read_text`, `read_words`, `unescape_in_place`).
+use Rattle.std.proofs.Common.{◌≡◌, ℕ, zero, suc, List, [], ◌∷◌, ◌++◌, drop, refl, ap, sym, ◌∙◌, append_assoc, append-nil, Option, Some, None}
+use Rattle.std.proofs.lemmas.Iterator.Adapters.{option_map_id}
 use Rattle.std.specs.Borrow.{Bor}
-use Rattle.std.specs.Option.{option_map, is_some}
-use Rattle.scene_fields.specs.Texts.{IsPlain, escape_byte, escape_len, prepended, unescaped_after, unescaped, AddsStretch}
+use Rattle.std.specs.Option.{option_and_then, option_map}
+use Rattle.scene_fields.specs.Texts.{IsPlain, escape_byte, escape_len, unescaped_after, unescaped, AddsStretch}
 
--- bytes are passed over
-skipped : (most k : ℕ) (t : List ℕ) → unescaped_after most k t ≡ unescaped most (drop k t)
-unfolding unescaped_after
-skipped most zero t = refl
-skipped most (suc k) [] = refl
-skipped most (suc k) (c ∷ t) = skipped most k t
+map_twice : {X Y Z : Type 0} (g : Y → Z) (f : X → Y) (o : Option X) → option_map g (option_map f o) ≡ option_map (λ x. g (f x)) o
+map_twice g f None = refl
+map_twice g f (Some x) = refl
 
-map_nothing : (o : Option (List ℕ)) → o ≡ option_map (λ t. [] ++ t) o
-map_nothing None = refl
-map_nothing (Some t) = refl
+pub alike : {X Y : Type 0} (f g : X → Y) → ((x : X) → f x ≡ g x) → (o : Option X) → option_map f o ≡ option_map g o
+alike f g same None = refl
+alike f g same (Some x) = ap (λ y. Some y) (same x)
 
-map_twice : (a b : List ℕ) (o : Option (List ℕ)) → option_map (λ t. a ++ t) (option_map (λ t. b ++ t) o) ≡ option_map (λ t. (a ++ b) ++ t) o
-map_twice a b None = refl
-map_twice a b (Some t) = ap (λ x. Some x) (sym (append_assoc a b t))
+-- a text that is decoded, whose plain bytes stand in front of the others one by one as they do together
+module _ {R : Type 0} (front : List ℕ → R → R) (escape : List ℕ → Option (R → R)) (end : R) (nothing : (r : R) → r ≡ front [] r) (more : (c : ℕ) (p : List ℕ) (r : R) → front (c ∷ []) (front p r) ≡ front (c ∷ p) r) where
+  abbrev read : List ℕ → Option R
+  read t = unescaped_after front escape end 0 t
 
--- what is plain stands for itself
-plain_before : (most : ℕ) (p t : List ℕ) → IsPlain p → unescaped most (p ++ t) ≡ option_map (λ u. p ++ u) (unescaped most t)
-unfolding unescaped_after
-plain_before most [] t h = map_nothing (unescaped most t)
-plain_before most (c ∷ p) t h = let e = plain_before most p t h.1 in rw h.0 (ap (λ o. option_map (λ u. c ∷ u) o) e ∙ map_twice (c ∷ []) p (unescaped most t))
+  -- bytes are passed over
+  skipped : (k : ℕ) (t : List ℕ) → unescaped_after front escape end k t ≡ read (drop k t)
+  unfolding unescaped_after
+  skipped zero t = refl
+  skipped (suc k) [] = refl
+  skipped (suc k) (c ∷ t) = skipped k t
 
-plain_alone : (most : ℕ) (p : List ℕ) → IsPlain p → unescaped most p ≡ Some p
-unfolding unescaped_after
-plain_alone most [] h = refl
-plain_alone most (c ∷ p) h = let e = plain_alone most p h.1 in rw h.0 (ap (λ o. option_map (λ u. c ∷ u) o) e)
+  plain_before : (p t : List ℕ) → IsPlain p → read (p ++ t) ≡ option_map (front p) (read t)
+  unfolding unescaped_after
+  plain_before [] t h = sym (option_map_id (read t)) ∙ alike (λ r. r) (front []) nothing (read t)
+  plain_before (c ∷ p) t h = let e = plain_before p t h.1 in rw h.0 (ap (option_map (front (c ∷ []))) e ∙ map_twice (front (c ∷ [])) (front p) (read t) ∙ alike _ (front (c ∷ p)) (more c p) (read t))
 
--- an escape stands for its byte
-escape_first : (most : ℕ) (t : List ℕ) → unescaped most (92 ∷ t) ≡ prepended (escape_byte most t) (unescaped most (drop (escape_len t) t))
-unfolding unescaped_after
-escape_first most t = ap (λ o. prepended (escape_byte most t) o) (skipped most (escape_len t) t)
+  -- the start of a text was read, and the rest is still to come
+  module _ {S : Type 0} (whole : Option S) (made : R → S) (rest : List ℕ) (so_far : whole ≡ option_map made (read rest)) where
+    pub plain_read : (plain after : List ℕ) → rest ≡ plain ++ after → IsPlain plain → whole ≡ option_map (λ r. made (front plain r)) (read after)
+    plain_read plain after r h = so_far ∙ ap (λ t. option_map made (read t)) r ∙ ap (option_map made) (plain_before plain after h) ∙ map_twice made (front plain) (read after)
 
--- a step over plain text and an escape
-step : (most b : ℕ) (plain escape after : List ℕ) → IsPlain plain → escape_byte most escape ≡ Some b → after ≡ drop (escape_len escape) escape → unescaped most (plain ++ (92 ∷ escape)) ≡ option_map (λ t. (plain ++ (b ∷ [])) ++ t) (unescaped most after)
-step most b plain escape after h e a =
-    plain_before most plain (92 ∷ escape) h
-    ∙ ap (λ o. option_map (λ t. plain ++ t) o) (escape_first most escape ∙ rw (e, a) refl)
-    ∙ map_twice plain (b ∷ []) (unescaped most after)
+    pub all_read : IsPlain rest → whole ≡ Some (made (front rest end))
+    unfolding unescaped_after
+    all_read h = plain_read rest [] (sym (append-nil rest)) h
 
-stop : (most : ℕ) (plain escape : List ℕ) → IsPlain plain → escape_byte most escape ≡ None → unescaped most (plain ++ (92 ∷ escape)) ≡ None
-stop most plain escape h e =
-    let f : unescaped most (92 ∷ escape) ≡ None = escape_first most escape ∙ ap (λ b. prepended b (unescaped most (drop (escape_len escape) escape))) e in
-    plain_before most plain (92 ∷ escape) h ∙ ap (λ o. option_map (λ t. plain ++ t) o) f
+    module _ (plain after : List ℕ) (r : rest ≡ plain ++ (92 ∷ after)) (h : IsPlain plain) where
+      at_escape : whole ≡ option_map (λ r. made (front plain r)) (option_and_then (λ f. option_map f (read (drop (escape_len after) after))) (escape after))
+      unfolding unescaped_after
+      at_escape = plain_read plain (92 ∷ after) r h ∙ ap (λ o. option_map (λ r. made (front plain r)) (option_and_then (λ f. option_map f o) (escape after))) (skipped (escape_len after) after)
 
--- text was read, and the rest is still to come
+      pub bad_escape : escape after ≡ None → whole ≡ None
+      bad_escape bad = rw bad at at_escape
+
+      pub escape_read : (f : R → R) (next : List ℕ) → escape after ≡ Some f → next ≡ drop (escape_len after) after → whole ≡ option_map (λ r. made (front plain (f r))) (read next)
+      escape_read f next gives follows = at_escape ∙ rw (gives, sym follows) (map_twice (λ r. made (front plain r)) f (read next))
+
+-- the same of a text and of the bytes of a stream
 module _ (most : ℕ) (whole : Option (List ℕ)) (text rest : List ℕ) (so_far : whole ≡ option_map (λ t. text ++ t) (unescaped most rest)) where
-  pub read_escape_next : (b : ℕ) (plain escape after : List ℕ) → rest ≡ plain ++ (92 ∷ escape) → IsPlain plain → escape_byte most escape ≡ Some b → after ≡ drop (escape_len escape) escape → whole ≡ option_map (λ t. ((text ++ plain) ++ (b ∷ [])) ++ t) (unescaped most after)
-  read_escape_next b plain escape after r h e a =
-      so_far
-      ∙ ap (λ x. option_map (λ t. text ++ t) (unescaped most x)) r
-      ∙ ap (λ o. option_map (λ t. text ++ t) o) (step most b plain escape after h e a)
-      ∙ map_twice text (plain ++ (b ∷ [])) (unescaped most after)
-      ∙ ap (λ x. option_map (λ t. x ++ t) (unescaped most after)) (sym (append_assoc text plain (b ∷ [])))
-
   pub read_plain_next : (plain after : List ℕ) → rest ≡ plain ++ after → IsPlain plain → whole ≡ option_map (λ t. (text ++ plain) ++ t) (unescaped most after)
-  read_plain_next plain after r h =
-      so_far
-      ∙ ap (λ x. option_map (λ t. text ++ t) (unescaped most x)) r
-      ∙ ap (λ o. option_map (λ t. text ++ t) o) (plain_before most plain after h)
-      ∙ map_twice text plain (unescaped most after)
-
-  pub read_bad_escape : (plain escape : List ℕ) → rest ≡ plain ++ (92 ∷ escape) → IsPlain plain → escape_byte most escape ≡ None → whole ≡ None
-  read_bad_escape plain escape r h e =
-      so_far
-      ∙ ap (λ x. option_map (λ t. text ++ t) (unescaped most x)) r
-      ∙ ap (λ o. option_map (λ t. text ++ t) o) (stop most plain escape h e)
+  read_plain_next plain after r h = plain_read _ _ _ (λ t. refl) (λ c p t. refl) whole _ rest so_far plain after r h ∙ alike _ _ (λ t. sym (append_assoc text plain t)) (unescaped most after)
 
   pub read_to_end : IsPlain rest → whole ≡ Some (text ++ rest)
-  read_to_end h = so_far ∙ ap (λ o. option_map (λ t. text ++ t) o) (plain_alone most rest h)
+  read_to_end h = all_read _ _ _ (λ t. refl) (λ c p t. refl) whole _ rest so_far h ∙ ap (λ t. Some (text ++ t)) (append-nil rest)
+
+  module _ (plain escape : List ℕ) (r : rest ≡ plain ++ (92 ∷ escape)) (h : IsPlain plain) where
+    pub read_bad_escape : escape_byte most escape ≡ None → whole ≡ None
+    read_bad_escape bad = bad_escape _ _ _ (λ t. refl) (λ c p t. refl) whole _ rest so_far plain escape r h (ap (option_map (λ b t. b ∷ t)) bad)
+
+    pub read_escape_next : (b : ℕ) (after : List ℕ) → escape_byte most escape ≡ Some b → after ≡ drop (escape_len escape) escape → whole ≡ option_map (λ t. ((text ++ plain) ++ (b ∷ [])) ++ t) (unescaped most after)
+    read_escape_next b after gives follows =
+        escape_read _ _ _ (λ t. refl) (λ c p t. refl) whole _ rest so_far plain escape r h (λ t. b ∷ t) after (ap (option_map (λ b t. b ∷ t)) gives) follows
+        ∙ alike _ _ (λ t. sym (append_assoc (text ++ plain) (b ∷ []) t ∙ append_assoc text plain (b ∷ t))) (unescaped most after)
 
 -- the same of a stretch of a text
 pub read_stretch : (whole : Option (List ℕ)) (text rest : List ℕ) → whole ≡ option_map (λ t. text ++ t) (unescaped 127 rest) → (plain escape new : List ℕ) (after : Bor (List ℕ)) → rest ≡ plain ++ (92 ∷ escape) → IsPlain plain → AddsStretch text plain escape new after → whole ≡ option_map (λ t. new ++ t) (unescaped 127 after.now)
 read_stretch whole text rest so_far plain escape new after r h f =
-    read_escape_next 127 whole text rest so_far f.byte plain escape after.now r h f.gives f.follows
+    read_escape_next 127 whole text rest so_far plain escape r h f.byte after.now f.gives f.follows
     ∙ ap (λ x. option_map (λ t. x ++ t) (unescaped 127 after.now)) (sym f.grown)
 
--- a text with no escape
-pub plain_text : (most : ℕ) (t : List ℕ) → IsPlain t → Some t ≡ unescaped most t
-plain_text most t h = sym (plain_alone most t h)
-
--- the answer of a search that found nothing
-pub of_none : {X P : Type 0} (Q : X → Type 0) (r : Option X) → is_some r ≡ false → MatchOption r P Q → P
-of_none Q None e h = h
-of_none Q (Some x) e h = cc
+pub plain_alone : (most : ℕ) (p : List ℕ) → IsPlain p → unescaped most p ≡ Some p
+plain_alone most p h = read_to_end most (unescaped most p) [] p (sym (option_map_id (unescaped most p))) h

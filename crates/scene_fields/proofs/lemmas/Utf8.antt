@@ -1,14 +1,14 @@
 -- The test for UTF-8, and what it tests (for `OwnedText`, `read_line`).
-use Rattle.std.proofs.Common.{◌≡◌, ℕ, ◌+◌, ◌<◌, List, true, false, get_or, length, take, drop, inl, inr}
+use Rattle.std.proofs.Common.{◌≡◌, ℕ, ◌+◌, ◌<◌, List, true, false, get_or, length, take, drop}
 use Rattle.std.specs.Str.{IsUtf8, is_utf8}
-use Rattle.std.proofs.lemmas.Bool.{cases_Bool}
+use Rattle.std.proofs.lemmas.Bool.{false_from_ne_true}
 use Rattle.std.proofs.lemmas.Str.{IsCharBoundary-after_ascii, IsCharBoundary-before_ascii, IsUtf8-drop, IsUtf8-from_is_utf8, IsUtf8-take, is_utf8-from_IsUtf8}
 
 pub utf8_passes : (t : List ℕ) → IsUtf8 t → is_utf8 t ≡ true
 utf8_passes t h = is_utf8-from_IsUtf8 t h
 
 pub utf8_fails : (t : List ℕ) → ¬ (IsUtf8 t) → is_utf8 t ≡ false
-utf8_fails t h = elim (cases_Bool (is_utf8 t)) [ inl p ↦ absurd (h (IsUtf8-from_is_utf8 t p)) | inr p ↦ p ]
+utf8_fails t h = false_from_ne_true (is_utf8 t) (λ p. h (IsUtf8-from_is_utf8 t p))
 
 -- what stands before an ASCII character of a text, and what follows it, are texts
 module _ (t : List ℕ) (at : ℕ) (valid : is_utf8 t ≡ true) (within : at < length t) (ascii : get_or t at 0 < 128) where

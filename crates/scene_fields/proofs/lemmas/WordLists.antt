@@ -1,85 +1,40 @@
--- The words of a list, step by step (for `after_comma`, `read_word`).
-use Rattle.std.proofs.Common.{◌≡◌, ℕ, zero, suc, ◌≤◌, ◌<◌, List, [], ◌∷◌, ◌++◌, true, false, length, get_or, drop, refl, ap, sym, ◌∙◌, append_assoc, append-nil, length-append, length-drop, arith, Option, Some, None}
+-- The words of a list, step by step (for `read_words`).
+use Rattle.std.proofs.Common.{◌≡◌, ◌≢◌, ℕ, List, [], ◌∷◌, ◌++◌, false, ◌==◌, String, Global, string_bytes, map, refl, ap, sym, ◌∙◌, append_assoc, append-nil, arith, Option, Some, None}
+use Rattle.std.proofs.lemmas.Bool.{false_from_ne_true}
 use Rattle.std.proofs.lemmas.Bool.Decides.{nat_tests}
+use Rattle.std.proofs.lemmas.List.{map-append}
 use Rattle.std.specs.Borrow.{Bor}
 use Rattle.std.specs.Option.{option_map}
-use Rattle.scene_fields.specs.Lists.{Words, begins_with_comma, glued, in_first_word, words_after, list_words}
-use Rattle.scene_fields.specs.Texts.{IsPlain, escape_byte, escape_len, AddsStretch}
+use Rattle.scene_fields.specs.Lists.{Words, begins_with_comma, in_first_word, list_words}
+use Rattle.scene_fields.specs.Texts.{IsPlain, escape_byte, AddsStretch}
+use Rattle.scene_fields.proofs.lemmas.Unescaped.{alike, all_read, bad_escape, escape_read}
 
-glued-nothing : (o : Option Words) → o ≡ glued [] o
-glued-nothing None = refl
-glued-nothing (Some []) = refl
-glued-nothing (Some (w ∷ ws)) = refl
+-- words were read and a part of the next, and the rest of the list is still to come
+module _ (whole : Option Words) (words : Words) (word rest : List ℕ) (so_far : whole ≡ option_map (λ ws. words ++ (word ++ ws.0) ∷ ws.1) (list_words rest)) where
+  module _ (plain escape : List ℕ) (r : rest ≡ plain ++ (92 ∷ escape)) (h : IsPlain plain) where
+    -- a separator ends the word
+    pub word-ends : (after : List ℕ) → escape ≡ 44 ∷ after → whole ≡ option_map (λ ws. (words ++ (word ++ plain) ∷ []) ++ ([] ++ ws.0) ∷ ws.1) (list_words after)
+    word-ends after e =
+        escape_read _ _ _ (λ ws. refl) (λ c p ws. refl) whole _ rest so_far plain escape r h (λ ws. ([], ws.0 ∷ ws.1)) after (rw e refl) (rw e refl)
+        ∙ alike _ _ (λ ws. simp (append-nil, append_assoc)) (list_words after)
 
-glued-twice : (a b : List ℕ) (o : Option Words) → glued a (glued b o) ≡ glued (a ++ b) o
-glued-twice a b None = refl
-glued-twice a b (Some []) = refl
-glued-twice a b (Some (w ∷ ws)) = ap (λ x. Some (x ∷ ws)) (sym (append_assoc a b w))
+    module _ (no_comma : begins_with_comma escape ≡ false) where
+      pub word-bad : escape_byte 127 escape ≡ None → whole ≡ None
+      word-bad e = bad_escape _ _ _ (λ ws. refl) (λ c p ws. refl) whole _ rest so_far plain escape r h (rw (no_comma, e) refl)
 
--- an empty first word, and then a text before it
-glued-empty : (a : List ℕ) (o : Option Words) → glued a (option_map (λ ws. [] ∷ ws) o) ≡ option_map (λ ws. a ∷ ws) o
-glued-empty a None = refl
-glued-empty a (Some ws) = ap (λ x. Some (x ∷ ws)) (append-nil a)
+      pub word-goes-on : (new : List ℕ) (after : Bor (List ℕ)) → AddsStretch word plain escape new after → whole ≡ option_map (λ ws. words ++ (new ++ ws.0) ∷ ws.1) (list_words after.now)
+      word-goes-on new after f =
+          escape_read _ _ _ (λ ws. refl) (λ c p ws. refl) whole _ rest so_far plain escape r h (in_first_word (f.byte ∷ [])) after.now (rw (no_comma, f.gives) refl) f.follows
+          ∙ alike _ _ (λ ws. ap (λ w. words ++ w ∷ ws.1) (sym (ap (λ t. t ++ ws.0) f.grown ∙ append_assoc (word ++ plain) (f.byte ∷ []) ws.0 ∙ append_assoc word plain (f.byte ∷ ws.0)))) (list_words after.now)
 
--- bytes are passed over
-skipped : (k : ℕ) (t : List ℕ) → words_after k t ≡ list_words (drop k t)
-unfolding words_after
-skipped zero t = refl
-skipped (suc k) [] = refl
-skipped (suc k) (c ∷ t) = skipped k t
+  pub word-ends-list : IsPlain rest → whole ≡ Some (words ++ (word ++ rest) ∷ [])
+  word-ends-list h = all_read _ _ _ (λ ws. refl) (λ c p ws. refl) whole _ rest so_far h ∙ ap (λ w. Some (words ++ (word ++ w) ∷ [])) (append-nil rest)
 
--- what is plain belongs to the first word
-plain-before : (p t : List ℕ) → IsPlain p → list_words (p ++ t) ≡ glued p (list_words t)
-unfolding words_after
-plain-before [] t h = glued-nothing (list_words t)
-plain-before (c ∷ p) t h = let e = plain-before p t h.1 in rw h.0 (ap (λ o. glued (c ∷ []) o) e ∙ glued-twice (c ∷ []) p (list_words t))
+-- a text with no separator in front
+pub no-comma : (t : List ℕ) → ((rest : List ℕ) → t ≢ 44 ∷ rest) → begins_with_comma t ≡ false
+no-comma [] h = refl
+no-comma (c ∷ t) h = false_from_ne_true (c == 44) (λ p. h t (ap (λ b. b ∷ t) (grind (arith, nat_tests, p))))
 
-plain-alone : (p : List ℕ) → IsPlain p → list_words p ≡ Some (p ∷ [])
-unfolding words_after
-plain-alone [] h = refl
-plain-alone (c ∷ p) h = let e = plain-alone p h.1 in rw h.0 (ap (λ o. glued (c ∷ []) o) e)
-
--- and so does what an escape stands for
-escape-first : (t : List ℕ) → begins_with_comma t ≡ false → list_words (92 ∷ t) ≡ in_first_word (escape_byte 127 t) (list_words (drop (escape_len t) t))
-unfolding words_after
-escape-first t h = rw h (ap (λ o. in_first_word (escape_byte 127 t) o) (skipped (escape_len t) t))
-
--- a separator ends the first word
-separator-first : (t : List ℕ) → list_words (92 ∷ (44 ∷ t)) ≡ option_map (λ ws. [] ∷ ws) (list_words t)
-unfolding words_after
-separator-first t = refl
-
--- a word was read, and the rest of the list is still to come
-module _ (whole : Option Words) (word rest : List ℕ) (so_far : whole ≡ glued word (list_words rest)) (plain escape : List ℕ) (r : rest ≡ plain ++ (92 ∷ escape)) (h : IsPlain plain) where
-  before : whole ≡ glued (word ++ plain) (list_words (92 ∷ escape))
-  before = so_far ∙ ap (λ t. glued word (list_words t)) r ∙ ap (λ o. glued word o) (plain-before plain (92 ∷ escape) h) ∙ glued-twice word plain (list_words (92 ∷ escape))
-
-  pub word-ends : (after : List ℕ) → escape ≡ 44 ∷ after → whole ≡ option_map (λ ws. (word ++ plain) ∷ ws) (list_words after)
-  word-ends after e = before ∙ ap (λ t. glued (word ++ plain) (list_words (92 ∷ t))) e ∙ ap (λ o. glued (word ++ plain) o) (separator-first after) ∙ glued-empty (word ++ plain) (list_words after)
-
-  module _ (no_comma : begins_with_comma escape ≡ false) where
-    pub word-bad : escape_byte 127 escape ≡ None → whole ≡ None
-    word-bad e = before ∙ ap (λ o. glued (word ++ plain) o) (escape-first escape no_comma ∙ ap (λ b. in_first_word b (list_words (drop (escape_len escape) escape))) e)
-
-    pub word-goes-on : (new : List ℕ) (after : Bor (List ℕ)) → AddsStretch word plain escape new after → whole ≡ glued new (list_words after.now)
-    word-goes-on new after f =
-        before
-        ∙ ap (λ o. glued (word ++ plain) o) (escape-first escape no_comma ∙ rw (f.gives, sym f.follows) refl)
-        ∙ glued-twice (word ++ plain) (f.byte ∷ []) (list_words after.now)
-        ∙ ap (λ t. glued t (list_words after.now)) (sym f.grown)
-
-pub word-ends-list : (whole : Option Words) (word rest : List ℕ) → whole ≡ glued word (list_words rest) → IsPlain rest → whole ≡ Some ((word ++ rest) ∷ [])
-word-ends-list whole word rest so_far h = so_far ∙ ap (λ o. glued word o) (plain-alone rest h)
-
--- what follows a stretch is no longer than what it was part of
-pub stretch-within : (old plain escape new rest : List ℕ) (after : Bor (List ℕ)) → rest ≡ plain ++ (92 ∷ escape) → AddsStretch old plain escape new after → length after.now ≤ length rest
-stretch-within old plain escape new rest after r f = rw (r, f.follows) (grind (arith, length-append, length-drop))
-
--- a text that begins with a comma
-pub comma-first : (t : List ℕ) → begins_with_comma t ≡ true → t ≡ 44 ∷ drop 1 t
-comma-first [] h = cc
-comma-first (c ∷ t) h = let e : c ≡ 44 = grind (arith, nat_tests, h) in ap (λ x. x ∷ t) e
-
-pub has-first : (t : List ℕ) → begins_with_comma t ≡ true → (0 < length t) × (get_or t 0 0 < 128)
-has-first [] h = cc
-has-first (c ∷ t) h = (omega arith, grind (arith, nat_tests, h))
+-- a word was pushed behind others
+pub pushed : (words more : List (String Global)) (word : String Global) (t : List ℕ) → more ≡ words ++ (word ∷ []) → string_bytes word ≡ t → map string_bytes more ≡ map string_bytes words ++ t ∷ []
+pushed words more word t all is = ap (map string_bytes) all ∙ map-append string_bytes words (word ∷ []) ∙ ap (λ u. map string_bytes words ++ u ∷ []) is

@@ -1,11 +1,12 @@
 use Rattle.std.proofs.Common.{◌≡◌}
-use Rattle.scene_fields.specs.Counts.{in_turn}
-use Rattle.scene_fields.specs.Split.{split_on, pieces_left, size_left}
+use Rattle.std.specs.Option.{option_map}
+use Rattle.scene_fields.specs.Counts.{counts_in, in_turn, pair_in}
+use Rattle.scene_fields.specs.Split.{pieces_left, size_left}
 use Rattle.scene_fields.proofs.counts.read_pairs.Given as goal
 
 -- the pairs that are left say, after those so far, what all say
 abbrev pub invariant-loop-rest : goal.invariant-loop-rest
-invariant-loop-rest g l = in_turn g.R.Accumulator.pair_in l.read (pieces_left 32 l.rest) ≡ in_turn g.R.Accumulator.pair_in l.fn.read (split_on 32 l.pairs)
+invariant-loop-rest g l = option_map (λ read. read.0) (in_turn (pair_in g.C.Counts.rows) (l.counts, l.has_key) (pieces_left 32 l.rest)) ≡ counts_in g.C.Counts.rows l.fn.none l.fn.field
 
 abbrev pub decreases-loop-rest : goal.decreases-loop-rest
 decreases-loop-rest g l = size_left l.rest

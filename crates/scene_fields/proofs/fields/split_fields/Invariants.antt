@@ -1,4 +1,4 @@
-use Rattle.std.proofs.Common.{◌≡◌, ◌++◌, ◌+◌, ◌-◌, ◌≤◌, drop, length}
+use Rattle.std.proofs.Common.{◌≡◌, ◌++◌, ◌+◌, ◌-◌, ◌≤◌, drop, length, min}
 use Rattle.std.specs.Str.{IsCharBoundary}
 use Rattle.memchr.specs.Find.{is_byte, Nowhere, Passes}
 use Rattle.scene_fields.specs.Split.{split_on, field_texts}
@@ -10,7 +10,7 @@ abbrev pub invariant-loop-from : goal.invariant-loop-from
 invariant-loop-from l = record {
   near : l.start ≤ l.from;
   boundary : IsCharBoundary l.line l.start;
-  seen : Nowhere (Passes (is_byte 9) l.line) l.start l.from;
+  seen : Nowhere (Passes (is_byte 9) l.line) l.start (min l.from (length l.line));
   fields : field_texts l.fields.items ++ split_on 9 (drop l.start l.line) ≡ split_on 9 l.line;
 }
 
@@ -19,9 +19,10 @@ decreases-loop-from l = length l.line - l.from
 
 abbrev pub invariant-loop-tabs : goal.invariant-loop-tabs
 invariant-loop-tabs l = record {
-  near : l.start ≤ l.from + 32;
+  near : l.start ≤ l.at;
+  high : l.at ≤ l.from + 32;
   boundary : IsCharBoundary l.line l.start;
-  left : AreLeft 9 l.line l.start l.from l.tabs;
+  left : AreLeft 9 l.line l.start l.at (min (l.from + 32) (length l.line)) l.tabs;
   fields : field_texts l.fields.items ++ split_on 9 (drop l.start l.line) ≡ split_on 9 l.line;
 }
 

@@ -1,19 +1,16 @@
 use Rattle.std.proofs.Common.{arith}
-use Rattle.scene_fields.proofs.lemmas.Marks.{all_known, marked_alike, next_known, none_known}
+use Rattle.scene_fields.proofs.lemmas.Marks.{all_left, next_left, none_left}
 use Rattle.scene_fields.proofs.marks.find_byte.Goals as goal
-
-pub loop-from-init : goal.loop-from-init
-loop-from-init c = λ k low high p. omega arith
 
 pub returns-then-marks-ne0 : goal.returns-then-marks-ne0
 returns-then-marks-ne0 c =
-    let known = all_known _ _ _ _ _ c.loop-from.invariant (marked_alike _ _ _ _ c.block_from.ensures c.marks_of-marks.ensures) in
-    let first = c.first_place.ensures in
-    let next = next_known _ _ _ _ _ known _ first.set first.below c.requires (omega arith) in
-    (record { low = omega arith; high = omega (arith, next.high); before = next.before }, next.passes)
+    let left = all_left _ _ _ _ _ c.loop-from-test.true c.loop-from.invariant c.marks_from-marks.ensures in
+    next_left _ _ _ _ _ _ left _ c.if-marks-ne0.true c.first_place.ensures.first (omega arith)
 
 pub loop-from-preserved : goal.loop-from-preserved
-loop-from-preserved c = none_known _ _ _ _ _ (all_known _ _ _ _ _ c.loop-from.invariant (marked_alike _ _ _ _ c.block_from.ensures c.marks_of-marks.ensures)) (omega (arith, c.if-marks-ne0.false))
+loop-from-preserved c =
+    let left = all_left _ _ _ _ _ c.loop-from-test.true c.loop-from.invariant c.marks_from-marks.ensures in
+    λ k low high p. none_left _ _ _ _ _ _ left (omega (arith, c.if-marks-ne0.false)) k low (omega arith) p
 
 pub returns : goal.returns
 returns c = λ k low high p. c.loop-from.invariant k low (omega arith) p

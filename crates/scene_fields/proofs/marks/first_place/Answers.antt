@@ -2,7 +2,5 @@ use Rattle.std.proofs.Common.{arith, w64}
 use Rattle.std.proofs.lemmas.Nat.Bits.{bit_at-trailing_zeros}
 use Rattle.scene_fields.proofs.marks.first_place.Goals as goal
 
-pub returns : goal.returns
-returns c =
-    let h = bit_at-trailing_zeros w64 c.args.mask (omega (arith, c.requires)) c.ranges.mask.fits in
-    record { bound = h.0; set = h.1; below = h.2 }
+pub returns-clause-bound : goal.returns-clause-bound
+returns-clause-bound c = let h = bit_at-trailing_zeros w64 c.args.mask (omega (arith, c.requires)) c.ranges.mask.fits in h.0

@@ -1,10 +1,21 @@
-use Rattle.std.proofs.Common.{◌-◌, ◌∙◌, drop, length, arith}
-use Rattle.std.proofs.lemmas.List.{get_or-drop, get_or-take}
-use Rattle.scene_fields.proofs.lemmas.Marks.{marked_alike, marked_later}
+use Rattle.std.proofs.Common.{◌≡◌, ◌+◌, ◌-◌, ◌/◌, ◌^◌, ◌∙◌, ap, arith, drop, length, min, take}
+use Rattle.scene_fields.specs.Marks.{marks, marks_between}
+use Rattle.scene_fields.proofs.lemmas.Marks.{marks-block, marks-later}
 use Rattle.scene_fields.proofs.marks.marks_from.Goals as goal
+
+pub returns-then-left-ge32 : goal.returns-then-left-ge32
+returns-then-left-ge32 c = c.marks_of.ensures ∙ ap (marks c.args.byte) c.block_from.ensures ∙ marks-block c.args.byte c.args.bytes.now c.args.from c.requires.within _ c.requires.byte
 
 pub returns : goal.returns
 returns c =
+    let b = c.args.byte in
     let t = c.args.bytes.now in
+    let s = 32 - (length t - c.args.from) in
     let start = length t - 32 in
-    marked_later c.args.byte t c.args.from start (32 - (length t - c.args.from)) _ c.if-byte-eq0.false (omega arith) (omega arith) (marked_alike _ _ _ _ (λ k l. get_or-take 32 (drop start t) k 0 l ∙ get_or-drop start t k 0) c.marks_of-2.ensures)
+    let size : 32 ≡ length t - start = omega arith in
+    let at : start + s ≡ c.args.from = omega arith in
+    let end : length t ≡ min (c.args.from + 32) (length t) = omega arith in
+    ap (λ m. m / 2 ^ s) (c.marks_of-2.ensures ∙ ap (λ n. marks b (take n (drop start t))) size)
+    ∙ marks-later b t start (length t) s
+    ∙ ap (λ k. marks_between b t k (length t)) at
+    ∙ ap (marks_between b t c.args.from) end

@@ -1,10 +1,11 @@
 use Rattle.std.proofs.Common.{◌<◌, length, arith}
 use Rattle.std.proofs.lemmas.Bool.Decides.{nat_tests}
-use Rattle.scene_fields.proofs.lemmas.ShortNumbers.{digit_in, stays_small, one_digit_more, all_digits}
+use Rattle.std.proofs.lemmas.Str.Parse.{digit_at}
+use Rattle.scene_fields.proofs.lemmas.ShortNumbers.{stays_small, one_digit_more, all_digits}
 use Rattle.scene_fields.proofs.numbers.short_number.Goals as goal
 
 pub returns-then-digit-gt9 : goal.returns-then-digit-gt9
-returns-then-digit-gt9 c h = let r = digit_in c.args.text.now h.0.1 c.loop-byte.byte-index c.loop-byte-test.true in omega arith
+returns-then-digit-gt9 c h = let r = digit_at c.args.text.now c.loop-byte.byte-index h.0.1 c.loop-byte-test.true in omega arith
 
 pub overflow_mul-number : goal.overflow_mul-number
 overflow_mul-number c = let s = stays_small _ _ _ c.loop-byte.invariant (omega arith) in omega arith

@@ -1,8 +1,8 @@
 use Rattle.std.proofs.Common.{◌≡◌, ◌<◌, length, get_or, take, arith, sym, ap, ◌∙◌}
 use Rattle.std.proofs.lemmas.Bool.Decides.{nat_tests}
 use Rattle.std.proofs.lemmas.Str.{IsCharBoundary-after_ascii}
-use Rattle.scene_fields.specs.Split.{split_on, cut}
-use Rattle.scene_fields.proofs.lemmas.Cuts.{Lacks-from_each, cut_at, split_on-lacks, split_on-parts, cut-lacks, cut-parts}
+use Rattle.scene_fields.specs.Split.{cut}
+use Rattle.scene_fields.proofs.lemmas.Cuts.{Lacks-from_each, cut_at, split_on-first, split_on-lacks, cut-lacks, cut-parts}
 use Rattle.scene_fields.proofs.split.split_at_byte.Goals as goal
 
 pub range_from-requires : goal.range_from-requires
@@ -25,6 +25,6 @@ returns c =
     record {
       parts = rw (front, c.range_from.ensures.value) parts;
       shorter = rw c.range_from.ensures.value (grind (arith, found.0));
-      split_on = rw (front, c.range_from.ensures.value) (ap (λ t. split_on c.args.byte t) parts.1 ∙ split_on-parts c.args.byte _ _ parts.0);
+      split_on = rw (front, c.range_from.ensures.value) (split_on-first c.args.byte c.args.text.now c.in-Some.at found.0 found.1);
       cut = rw (front, c.range_from.ensures.value) (sym (ap (λ t. cut c.args.byte t) parts.1 ∙ cut-parts c.args.byte _ _ parts.0));
     }

@@ -1,27 +1,25 @@
-use Rattle.std.proofs.Common.{◌≡◌, ◌<◌, ◌≤◌, ℕ, ap, ◌∙◌, arith}
-use Rattle.std.specs.Int.{bit_at}
-use Rattle.std.proofs.lemmas.Nat.Bits.{bit_at-zero}
+use Rattle.std.proofs.Common.{◌≡◌, ◌∙◌, ap, arith, not, w64}
+use Rattle.std.specs.Int.{trailing_zeros}
+use Rattle.std.specs.List.{prefix_len}
+use Rattle.std.proofs.lemmas.List.Sums.{prefix_len-le-length}
+use Rattle.std.proofs.lemmas.Simd.{leading_from_mask_l, trailing_mask_l}
+use Rattle.memchr.specs.Find.{is_byte}
+use Rattle.scene_fields.proofs.lemmas.Marks.{marks-before, some_before}
 use Rattle.scene_fields.proofs.unescape.plain_len.Goals.{then-marks-eq0, else-marks-eq0}
 use Rattle.scene_fields.proofs.unescape.plain_len.Goals as goal
 
--- none of the bytes that are counted has a mark
-few : (c : goal.After-min) → c.if-marks-eq0.count ≤ 32
-few c = elim c.if-marks-eq0.branch [ then-marks-eq0 w ↦ omega (arith, w.count-is) | else-marks-eq0 w ↦ omega (arith, w.count-is, c.marks_of-marks.ensures.only _ w.first_place-count.ensures.set) ]
-
-none : (c : goal.After-min) (k : ℕ) → k < c.if-marks-eq0.count → bit_at c.marks_of-marks.result k ≡ 0
-none c k l = elim c.if-marks-eq0.branch [
-  | then-marks-eq0 w ↦ ap (λ m. bit_at m k) (omega (arith, w.if-marks-eq0)) ∙ bit_at-zero k
-  | else-marks-eq0 w ↦ w.first_place-count.ensures.below k (omega (arith, w.count-is))
+-- what is counted stands before the first escape
+counted : (c : goal.After-min) → c.if-marks-eq0.count ≡ prefix_len (λ b. not (is_byte 92 b)) c.args.block
+counted c = elim c.if-marks-eq0.branch [
+  | then-marks-eq0 w ↦ omega (arith, w.count-is, c.fits-block.0, leading_from_mask_l (is_byte 92) c.args.block (omega (arith, w.if-marks-eq0, c.marks_of-marks.ensures)))
+  | else-marks-eq0 w ↦ w.count-is ∙ w.first_place-count.ensures.first ∙ ap (trailing_zeros w64) c.marks_of-marks.ensures ∙ trailing_mask_l (is_byte 92) 64 c.args.block (omega (arith, c.fits-block.0)) (omega (arith, w.if-marks-eq0, c.marks_of-marks.ensures))
 ]
 
-counted : (c : goal.After-min) → c.min.result ≤ c.if-marks-eq0.count
-counted c = grind arith
-
 pub returns-clause-block : goal.returns-clause-block
-returns-clause-block c = omega (arith, few c, counted c)
+returns-clause-block c = omega (arith, counted c, c.fits-block.0, prefix_len-le-length (λ b. not (is_byte 92 b)) c.args.block)
+
+pub returns-clause-some : goal.returns-clause-some
+returns-clause-some c = λ most begins. omega (arith, counted c, some_before 92 c.args.block (omega (arith, c.fits-block.0)) begins)
 
 pub returns-clause-plain : goal.returns-clause-plain
-returns-clause-plain c k l same =
-    let set = c.marks_of-marks.ensures.each k (omega (arith, few c, counted c)) same in
-    let clear = none c k (omega (arith, counted c)) in
-    omega arith
+returns-clause-plain c = marks-before 92 _ c.args.block (omega (arith, counted c))

@@ -2,8 +2,7 @@ use Rattle.std.proofs.Common.{◌≡◌, ◌<◌, ◌+◌, ◌++◌, ◌∷◌, 
 use Rattle.std.specs.Option.{option_map}
 use Rattle.std.proofs.lemmas.List.{append-nil, at_drop_more, drop-drop, drop-set-lt, drop_all, take-append-drop, take_more_set}
 use Rattle.scene_fields.specs.Texts.{bytes_in, escape_byte, escape_len, unescaped}
-use Rattle.scene_fields.proofs.lemmas.Marks.{rest_is}
-use Rattle.scene_fields.proofs.lemmas.Moves.{later_alike}
+use Rattle.scene_fields.proofs.lemmas.Cuts.{rest_is}
 use Rattle.scene_fields.proofs.lemmas.Unescaped.{read_bad_escape, read_escape_next, read_plain_next, read_to_end}
 use Rattle.scene_fields.proofs.unescape.unescape_in_place.Goals as goal
 
@@ -15,9 +14,8 @@ pub returns-in_err-byte : goal.returns-in_err-byte
 returns-in_err-byte c =
     let b = c.loop-from.bytes in
     let from = c.loop-from.from in
-    let here = begins b from (omega arith) (omega arith) in
     let bad = ap (λ u. escape_byte 255 u) (sym (rest_is b (from + 1))) ∙ sym c.in_err-byte.ensures.byte in
-    let none : bytes_in c.args.bytes.now ≡ None = read_bad_escape 255 _ _ _ c.loop-from.invariant.read [] (drop (from + 1) b) here tt bad in
+    let none : bytes_in c.args.bytes.now ≡ None = read_bad_escape 255 _ _ _ c.loop-from.invariant.read [] _ (begins b from (omega arith) (omega arith)) tt bad in
     grind (arith, none)
 
 pub loop-from-preserved-then-bytes-from-eq92 : goal.loop-from-preserved-then-bytes-from-eq92
@@ -29,20 +27,19 @@ loop-from-preserved-then-bytes-from-eq92 c =
     let next = from + (1 + c.in_ok-byte.len) in
     let so_far = c.loop-from.invariant in
     let escaped = c.in_ok-byte.ensures in
-    let here = begins b from (omega arith) (omega arith) in
     let back = rest_is b (from + 1) in
     let gives = ap (λ u. escape_byte 255 u) (sym back) ∙ sym escaped.byte in
     let long : c.in_ok-byte.len ≡ escape_len (drop (from + 1) b) = escaped.len.0 ∙ ap (λ u. escape_len u) back in
     let at : next ≡ from + 1 + c.in_ok-byte.len = omega arith in
-    let kept = drop-set-lt next b to byte (omega (arith, so_far.low)) in
-    let after = kept ∙ ap (λ j. drop j b) at ∙ sym (drop-drop _ (from + 1) b) ∙ ap (λ n. drop n (drop (from + 1) b)) long in
+    let after = drop-set-lt next b to byte (omega (arith, so_far.low)) ∙ ap (λ j. drop j b) at ∙ sym (drop-drop _ (from + 1) b) ∙ ap (λ n. drop n (drop (from + 1) b)) long in
     let grown = ap (λ u. u ++ byte ∷ []) (append-nil (take to b)) ∙ sym (take_more_set b to byte (omega (arith, so_far.low))) in
     record {
       long = length-set b to byte ∙ so_far.long;
-      within = omega (arith, escaped.len.2, ap (λ u. length u) back, length-drop (from + 1) b, length-set b to byte);
+      within = omega (arith, escaped.len.3, ap (λ u. length u) back, length-drop (from + 1) b, length-set b to byte);
       low = omega (arith, so_far.low);
-      left = kept ∙ later_alike from next b _ (omega arith) so_far.left;
-      read = read_escape_next 255 _ _ _ so_far.read byte [] (drop (from + 1) b) _ here tt gives after ∙ ap (λ x. option_map (λ t. x ++ t) (unescaped 255 (drop next (slice_set b to byte)))) grown;
+      read =
+          read_escape_next 255 _ _ _ so_far.read [] _ (begins b from (omega arith) (omega arith)) tt byte _ gives after
+          ∙ ap (λ x. option_map (λ t. x ++ t) (unescaped 255 (drop next (slice_set b to byte)))) grown;
     }
 
 pub loop-from-preserved : goal.loop-from-preserved
@@ -57,7 +54,6 @@ loop-from-preserved c =
       long = moved.long ∙ so_far.long;
       within = omega (arith, moved.within, moved.long);
       low = omega (arith, so_far.low);
-      left = moved.rest ∙ later_alike from (from + count) b _ (omega arith) so_far.left;
       read = read_plain_next 255 _ _ _ so_far.read _ _ here moved.plain ∙ ap (λ x. option_map (λ t. x ++ t) (unescaped 255 (drop (from + count) c.move_plain-count.new.bytes))) (sym moved.front);
     }
 

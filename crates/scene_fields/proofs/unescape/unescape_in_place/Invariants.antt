@@ -3,13 +3,12 @@ use Rattle.std.specs.Option.{option_map}
 use Rattle.scene_fields.specs.Texts.{unescaped}
 use Rattle.scene_fields.proofs.unescape.unescape_in_place.Given as goal
 
--- what was decoded, and then what is left, is what the text stands for, and what is left is as it was
+-- what was decoded, and then what is left, is what the text stands for
 abbrev pub invariant-loop-from : goal.invariant-loop-from
 invariant-loop-from l = record {
   long : length l.bytes ≡ length l.initial.bytes;
   within : l.from ≤ length l.bytes;
   low : l.to ≤ l.from;
-  left : drop l.from l.bytes ≡ drop l.from l.initial.bytes;
   read : unescaped 255 l.initial.bytes ≡ option_map (λ t. take l.to l.bytes ++ t) (unescaped 255 (drop l.from l.bytes));
 }
 
