@@ -107,11 +107,13 @@ impl SceneAttempts {
             };
             MoreAttempts::Earlier(Boxed::new(alloc, earlier)?)
         };
-        let last = EndedAttempt {
-            flaky_result,
-            ..last.ended
-        };
-        Ok(SceneAttempts { last, more })
+        Ok(SceneAttempts {
+            last: EndedAttempt {
+                flaky_result,
+                ..last.ended
+            },
+            more,
+        })
     }
 
     /// Whether what the last attempt wrote is there, and not left unread.
