@@ -4,7 +4,6 @@ ghost use Rattle.std.specs.Prelude.{◌≡◌, [], Some, IfOk};
 ghost use Rattle.scene_fields.specs.Texts.{text_in};
 
 use super::Field;
-use run_model::memory::OutOfMemory;
 use scene_events::scene::unit_events::SharedBinaryId;
 use scene_fields::names::read_binary_id;
 use std::alloc::Global;
@@ -47,7 +46,7 @@ impl BinaryIds {
         self.read_new(alloc, field)
     }
 
-    // Reads an id that is not kept, and keeps it.
+    // Reads an id that is not kept, and keeps it, in place of all others where there is no room.
     #[inline(never)]
     fn read_new(&mut self, alloc: Global, field: &str) -> Field<SharedBinaryId>
         ensures { IfOk result (λ id. id ≡ text_in field.now) }
@@ -58,19 +57,11 @@ impl BinaryIds {
         let is_spelled = id.as_str() == field;
         let id = SharedBinaryId::new(alloc, id)?;
         if is_spelled {
-            self.keep(id.share()?)?;
+            if self.known.len() == KEPT {
+                self.known.clear();
+            }
+            self.known.push(KnownBinary { id: id.share()? })?;
         }
         Ok(Some(id))
-    }
-
-    // Keeps an id, in place of all others where there is no room.
-    fn keep(&mut self, id: SharedBinaryId) -> Result<(), OutOfMemory>
-        requires { text_in id ≡ Some id }
-    {
-        if self.known.len() == KEPT {
-            self.known.clear();
-        }
-        self.known.push(KnownBinary { id })?;
-        Ok(())
     }
 }

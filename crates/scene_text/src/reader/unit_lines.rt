@@ -195,13 +195,9 @@ fn read_more_attempts(
     Ok(SceneAttempts::with_last(alloc, earlier, last, flaky_result)?)
 }
 
-/// Reads an attempt: result, duration, whether it was slow, and its output.
+// Reads an attempt: result, duration, whether it was slow, and its output.
 #[tactic(auto, unfolding(crate::specs::EventLines::attempt_fields))]
-pub fn read_attempt(
-    alloc: Global,
-    fields: &mut Fields<'_>,
-    retry_data: RetryData,
-) -> Line<SceneAttempt>
+fn read_attempt(alloc: Global, fields: &mut Fields<'_>, retry_data: RetryData) -> Line<SceneAttempt>
     ensures { Gives (λ s. s) fields.old result fields.new (attempt_fields retry_data) }
 {
     let outcome = fields.try_read(|field| read_result(alloc, field))?;

@@ -1,10 +1,10 @@
-use Rattle.std.proofs.Common.{◌≡◌, ◌≤◌, ◌↔◌, ℕ, ℤ, pos, negsuc, unsigned_abs, nat_le, true≢false, Some, Result, Ok, Err, IsOk, IfOk, refl, sym, ap, ◌∙◌, arith, OkIff, FitsSigned, to_z, of_z, w8, w16, w32}
+use Rattle.std.proofs.Common.{◌≡◌, ◌↔◌, ℕ, ℤ, pos, negsuc, unsigned_abs, ◌&&◌, nat_le, true≢false, Some, Result, Ok, Err, IsOk, IfOk, refl, sym, ap, ◌∙◌, arith, OkIff, FitsSigned, to_z, of_z, w8, w16, w32}
 use Rattle.std.specs.Bool.{Decides}
 use Rattle.std.specs.Int.{is_in_range}
 use Rattle.std.specs.Option.{option_map}
 use Rattle.std.specs.Result.{result_ok}
-use Rattle.std.proofs.lemmas.Bool.{le-leb, leb-true, false_from_ne_true}
-use Rattle.std.proofs.lemmas.Bool.Decides.{Decides-and, Decides-like}
+use Rattle.std.proofs.lemmas.Bool.{false_from_ne_true}
+use Rattle.std.proofs.lemmas.Bool.Decides.{nat_tests}
 use Rattle.std.proofs.lemmas.Int.{ints, to_z-of_z}
 use mir.Syntax.{Width}
 use Rattle.jiff_core.specs.Calendar.{days_in_month, IsBetween, IsDate, IsYear}
@@ -14,22 +14,13 @@ use Rattle.scene_events.specs.Moments.{Day, day_of}
 use Rattle.scene_text.specs.Parts.{checked_day, is_day}
 use Rattle.scene_text.proofs.reader.parts.new_day.Goals as goal
 
-at_most : (a b : ℕ) → Decides (nat_le a b) (a ≤ b)
-at_most a b = (leb-true a b, le-leb a b)
-
-counted : (n a : ℕ) → Decides (is_in_range 1 n a) (IsBetween (pos 1) (pos n) (pos a))
-counted n a =
-    Decides-like _ (λ h. (omega (arith, ints, h.0), omega (arith, ints, h.1))) (λ h. (omega (arith, ints, h.0), omega (arith, ints, h.1)))
-    (Decides-and (nat_le 1 a) (nat_le a n) (at_most 1 a) (at_most a n))
-
-year : (y : ℤ) → Decides (nat_le (unsigned_abs y) 9999) (IsYear y)
-year (pos n) = Decides-like _ (λ h. (omega (arith, ints, h), omega (arith, ints, h))) (λ h. omega (arith, ints, h.1)) (at_most n 9999)
-year (negsuc n) = Decides-like _ (λ h. (omega (arith, ints, h), omega (arith, ints, h))) (λ h. omega (arith, ints, h.0)) (at_most (unsigned_abs (negsuc n)) 9999)
+-- of a month with so many days
+in_month : (y : ℤ) (m d days : ℕ) → Decides (nat_le (unsigned_abs y) 9999 && (is_in_range 1 12 m && is_in_range 1 days d)) (IsYear y × IsBetween (pos 1) (pos 12) (pos m) × IsBetween (pos 1) (pos days) (pos d))
+in_month (pos y) m d days = (λ h. grind (arith, ints, nat_tests, h), λ h. grind (arith, ints, nat_tests, h))
+in_month (negsuc y) m d days = (λ h. grind (arith, ints, nat_tests, h), λ h. grind (arith, ints, nat_tests, h))
 
 is_day_Decides : (d : Day) → Decides (is_day d) (IsDate d.year (pos d.month) (pos d.day))
-is_day_Decides d =
-    Decides-like _ (λ h. (h.0, h.1.0, h.1.1)) (λ h. (h.0, (h.1, h.2)))
-    (Decides-and _ _ (year d.year) (Decides-and _ _ (counted 12 d.month) (counted (days_in_month d.year d.month) d.day)))
+is_day_Decides d = in_month d.year d.month d.day (days_in_month d.year d.month)
 
 -- what jiff makes of the numbers
 day_made : {E : Type 0} (r : Result Date E) (z p q : ℤ) (d : Day) → z ≡ d.year → p ≡ pos d.month → q ≡ pos d.day → (IsOk r ↔ IsDate z p q) → IfOk r (IsYmd z p q) → option_map day_of (result_ok r) ≡ checked_day d
