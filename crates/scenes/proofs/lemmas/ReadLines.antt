@@ -1,6 +1,6 @@
 -- Lines that were read piece by piece (for `read_next`, `read_whole`, `read_head`, `follow_rest`).
 use Rattle.std.proofs.Common.{◌≡◌, ℕ, ◌+◌, Bool, true, false, List, [], ◌∷◌, ◌++◌, Option, Some, Result, Ok, Err, length, map, refl, sym, ap, ◌∙◌, subst, arith, append-nil, append_assoc, inl, inr, ◌==◌}
-use Rattle.scenes.proofs.Common.{all_append, AllRead, AreLeft, AreLeftOf, AtLine, begun_behind, cases_Bool, false≢true, Fault, fault_of_read, HasRead, is_begun, is_begun_behind, IsMore, IsNextFault, IsNextPiece, IsUnread, length-append, line_value, lines_after, lines_before, LinesRead, map-append, nat_lt, nat_tests, no_lines, parsed_lines, ParsedLine, ParsedLines, ReadFault, RunLine, text_lines, text_read, with_line}
+use Rattle.scenes.proofs.Common.{all_append, AllRead, AreLeft, AreLeftOf, AtLine, begun_behind, cases_Bool, false≢true, Fault, fault_of_read, HasRead, is_begun_behind, IsMore, IsNextFault, IsNextPiece, IsUnread, length-append, line_value, lines_after, lines_before, LinesRead, map-append, nat_lt, nat_tests, no_lines, parsed_lines, ParsedLine, ParsedLines, ReadFault, RunLine, text_lines, text_read, with_line}
 use Rattle.std.specs.List.{onto_first}
 use Rattle.command_line.specs.declared.fault.Fault.TheVariants as program
 use Rattle.scene_fields.specs.Split.{split_on}

@@ -1,5 +1,5 @@
 -- Events reported one after the other, and one that is stopped (for `SceneReporter::report_events`, `report_to`).
-use Rattle.std.proofs.Common.{◌≡◌, ℕ, suc, ◌+◌, ◌<◌, true, List, [], ◌∷◌, ◌++◌, Option, None, Some, length, take, drop, map, get_or, reverse, refl, sym, ap, ◌∙◌, subst, arith, append_assoc, inl, inr, Result, Ok, Err, IfErr, OnOk}
+use Rattle.std.proofs.Common.{◌≡◌, ℕ, suc, ◌+◌, ◌<◌, true, List, [], ◌∷◌, ◌++◌, Option, None, Some, length, take, drop, get_or, reverse, refl, sym, ap, ◌∙◌, subst, arith, append_assoc, inl, inr, Result, Ok, Err, IfErr, OnOk}
 use Rattle.std.proofs.Math.Seq.{drop-cons}
 use Rattle.scenes.proofs.Common.{all_zipped_more, AllZip, AreBegun, AreWhole, Begins, configuration_for, decider_for, EventLine, Failed, Fault, fault_at_call, first_refused, Follows, Io, is_some, IsCallOf, Line, LineFault, Meaning, option_map, Options, outcome_after, OutOfMemory, OutputLoadDecider, OutputNotLoaded, ParsedLines, Prints, Records, refusal_by, report, report_of, ReportCall, Reported, RetriedSuccess, reverse-append, Scene, scene_lines, SceneConfig, SceneEvent, SceneReporter, Stops, StopsAt, StopsAtEvent, Store, store-laws, store_for, store_meaning, stored, stored_of, stored_text, StoreFailed, StoreIo, take_more, Text, text, with_line, WriteEventError, WriteFailed, WriterLaws, writers}
 use Rattle.std.proofs.lemmas.List.{length-take-le, take-append-drop}
