@@ -19,7 +19,7 @@ pub use Rattle.plain_text.specs.TextBuffer.{BufferAccepts, buffer_meaning}
 pub use Rattle.plain_text.specs.Texts.{Text}
 pub use Rattle.plain_text.specs.Writer.{Meaning, WriterLaws}
 pub use Rattle.plain_text.specs.declared.write_str.text_buffer.TextBuffer.{TextBuffer}
-pub use Rattle.reporter_state.specs.Refusals.{first_refused, refusal_by, refusal_in}
+pub use Rattle.reporter_state.specs.Refusals.{first_refused, refusal_by}
 pub use Rattle.reporter_state.specs.Unread.{unread, unread_call}
 pub use Rattle.reporter_state.specs.declared.decider.OutputLoadDecider.{OutputLoadDecider}
 pub use Rattle.reporter_state.specs.declared.faults.WriteEventError.{WriteEventError}
@@ -36,15 +36,15 @@ pub use Rattle.scene_text.proofs.lemmas.Tellings.{all_append, begun_behind}
 pub use Rattle.scene_text.specs.SceneTexts.{AllRead, EventLine, IsNextFault, ParsedLine, ParsedLines, RunLine, is_begun, is_begun_behind, line_value, lines_after, lines_before, lines_with, no_lines, parsed_lines, text_lines, text_read, with_line}
 pub use Rattle.scene_text.specs.declared.reader.LinesRead.{LinesRead}
 pub use Rattle.scenes.specs.Deferred.{DeliversRest}
-pub use Rattle.scenes.specs.Follow.{KeepsUp, StopsBy}
-pub use Rattle.scenes.specs.Judged.{ChecksEvent, IsSceneRefused}
+pub use Rattle.scenes.specs.Follow.{Ends, KeepsUp, StopsBy}
+pub use Rattle.scenes.specs.Judged.{ChecksEvent, IsSceneRefused, Refuses}
 pub use Rattle.scenes.specs.Outcomes.{outcome_after}
-pub use Rattle.scenes.specs.ParsedScenes.{OfLines, scene_lines}
-pub use Rattle.scenes.specs.Prints.{Begins, Begun, Prints, PrintsFollowed, device}
+pub use Rattle.scenes.specs.ParsedScenes.{scene_lines}
+pub use Rattle.scenes.specs.Prints.{AreBegun, AreWhole, Begins, Begun, HasBeginning, HasFirstCalls, OfCalls, Prints, PrintsFollowed, Reported, device}
 pub use Rattle.scenes.specs.Read.{AreLeft, AreLeftOf, AtLine, HasRead, IsMore}
 pub use Rattle.scenes.specs.Reports.{AreCallsOf, configuration_for, fault_at_call, report_of, store_for, stored_of}
-pub use Rattle.scenes.specs.SceneReporter.{AnswersError, Follows, IsStart, LeavesEvent, ReportsEvent, StopsAtEvent, writers}
-pub use Rattle.scenes.specs.Unloads.{AreReadyCallsOf, decider_for, ready}
+pub use Rattle.scenes.specs.SceneReporter.{Follows, StopsAt, StopsAtEvent, writers}
+pub use Rattle.scenes.specs.Unloads.{AreReadyCallsOf, decider_for, unloaded_for}
 pub use Rattle.scenes.specs.declared.outcome.RunOutcome.{RunOutcome}
 pub use Rattle.scenes.specs.declared.scene.Scene.{Scene}
 pub use Rattle.scenes.specs.declared.scene_reporter.SceneReporter.{SceneReporter}
@@ -52,10 +52,9 @@ pub use Rattle.std.proofs.KnownBytes.{Appends-nil}
 pub use Rattle.std.proofs.lemmas.Bool.{cases_Bool, false≢true}
 pub use Rattle.std.proofs.lemmas.Bool.Decides.{nat_tests}
 pub use Rattle.std.proofs.lemmas.Grind.{common_steps}
-pub use Rattle.std.proofs.lemmas.List.{length-append, map-append, reverse-append, reverse-reverse, take_all, take_more}
-pub use Rattle.std.proofs.lemmas.Option.{slice_get-get_or}
+pub use Rattle.std.proofs.lemmas.List.{length-append, map-append, reverse-append, take_all, take_more}
 pub use Rattle.std.proofs.lemmas.Slice.Zip.{all_zipped_more}
 pub use Rattle.std.specs.Io.Buffered.{reader_remaining}
-pub use Rattle.std.specs.List.{AllZip, position_or_len, slice_get}
-pub use Rattle.std.specs.Option.{is_some, option_and_then, option_map}
+pub use Rattle.std.specs.List.{AllZip, position_or_len}
+pub use Rattle.std.specs.Option.{is_some, option_map}
 pub use Rattle.std.specs.Prelude.{cond, nat_lt}

@@ -3,8 +3,6 @@ pub mod Devices
 pub mod EventCalls
 pub mod EventLines
 pub mod FollowedRuns
-pub mod Heads
-pub mod Judged
 pub mod Prints
 pub mod ReadLines
 pub mod ReadyCalls

@@ -1,19 +1,20 @@
 -- Scenes that are judged: each line by itself, and then whether the scene's reporter would refuse an event.
-use Rattle.std.specs.Prelude.{◌≡◌, ◌⊎◌, ℕ, List, get_or, Option, None, Some, Result, Ok, Err, ⊤}
+use Rattle.std.specs.Prelude.{◌≡◌, ◌⊎◌, ℕ, List, ◌∷◌, ◌++◌, get_or, length, Option, None, Some, Result, Ok, Err}
 use Rattle.std.specs.Option.{option_map}
-use Rattle.reporter_state.specs.Refusals.{first_refused, refusal_at_by, refusal_by}
+use Rattle.reporter_state.specs.Refusals.{first_refused, refusal_by}
 use Rattle.reporter_state.specs.declared.decider.OutputLoadDecider.{OutputLoadDecider}
 use Rattle.run_model.specs.declared.call.ReportCall.{ReportCall}
 use Rattle.scenes.specs.Reports.{AreCallsOf, fault_at_call}
 use Rattle.scene_text.specs.SceneTexts.{event_lines, no_lines, text_lines, text_read}
 use Rattle.scene_events.specs.Scenes.{IsCallOf}
+use Rattle.scene_events.specs.declared.scene.SceneConfig.{SceneConfig}
 use Rattle.scene_events.specs.declared.scene.event.SceneEvent.{SceneEvent}
 use Rattle.scenes.specs.Unloads.{decider_for}
 use Rattle.command_line.specs.Faults.{IsJudgeFault}
 use Rattle.command_line.specs.declared.fault.Fault.{Fault}
 use Rattle.command_line.specs.declared.fault.Fault.TheVariants as fault
 use Rattle.scene_fields.specs.declared.fault.LineFault.{LineFault}
-use Rattle.scenes.specs.ParsedScenes.{IsReadFault, IsSceneRead, scene_lines}
+use Rattle.scenes.specs.ParsedScenes.{IsFaultOf, IsSceneRead, scene_lines}
 use Rattle.scenes.specs.declared.scene.Scene.{Scene}
 use Rattle.command_line.specs.declared.args.Options.{Options}
 
@@ -34,24 +35,29 @@ pub record ChecksEvent (d : OutputLoadDecider) (n : ℕ) (event : SceneEvent) (f
   pub of_event : IsCallOf event call
   pub is : fault ≡ option_map (fault_at_call n) (refusal_by d call)
 
+-- a reporter of a run that is reported so refuses the call, and this is why
+abbrev pub Refuses : Options → SceneConfig → ReportCall → LineFault → Type 0
+Refuses options config call f = (n : ℕ) → option_map (fault_at_call n) (refusal_by (decider_for options config) call) ≡ Some (fault.Line n f)
+
+-- it refuses the call of the event
+pub record RefusesEvent (options : Options) (config : SceneConfig) (event : SceneEvent) (f : LineFault) : Type 0 where
+  pub call : ReportCall
+  pub of_event : IsCallOf event call
+  pub refused : Refuses options config call f
+
 -- the line is that of the first call of the scene that is refused, and its fault is why
 pub record IsRefusedLine (options : Options) (scene : Scene) (n : ℕ) (f : LineFault) : Type 0 where
-  pub calls : List ReportCall
-  pub of_scene : AreCallsOf scene calls
-  pub place : ℕ
-  pub refused : first_refused (decider_for options scene.config) calls ≡ Some place
-  pub number : n ≡ get_or scene.lines.items place 0
-  pub says : option_map (fault_at_call n) (refusal_at_by (decider_for options scene.config) calls place) ≡ Some (fault.Line n f)
+  pub front : List ReportCall
+  pub call : ReportCall
+  pub rest : List ReportCall
+  pub of_scene : AreCallsOf scene (front ++ call ∷ rest)
+  pub accepted : first_refused (decider_for options scene.config) front ≡ None
+  pub refused : Refuses options scene.config call f
+  pub number : n ≡ get_or scene.lines.items (length front) 0
 
 -- the fault is that the first refused call of the scene has, unless memory was refused
 abbrev pub IsSceneRefused : Options → Scene → Fault → Type 0
-IsSceneRefused options scene fault.Usage = ⊥
-IsSceneRefused options scene (fault.CannotRead file) = ⊥
-IsSceneRefused options scene (fault.CannotWrite file) = ⊥
-IsSceneRefused options scene (fault.Line n f) = IsRefusedLine options scene n f
-IsSceneRefused options scene fault.WriteFailed = ⊥
-IsSceneRefused options scene fault.StoreFailed = ⊥
-IsSceneRefused options scene fault.OutOfMemory = ⊤
+IsSceneRefused options scene = IsFaultOf ⊥ (IsRefusedLine options scene)
 
 -- the text spells a scene that has a refused call, and the fault is that call's
 pub record IsRefusedText (options : Options) (text : List ℕ) (fault : Fault) : Type 0 where
@@ -64,10 +70,6 @@ pub record IsRefusedText (options : Options) (text : List ℕ) (fault : Fault) :
 abbrev pub IsJudged : Options → Result Scene Fault → List ℕ → Type 0
 IsJudged options (Ok scene) text = IsSceneRead (Ok scene) (text_read text)
 IsJudged options (Err fault) text = IsSceneRead (Err fault) (text_read text) ⊎ IsRefusedText options text fault
-
--- the fault is the first one of the text, or that of a refused call; or the file cannot be read, or memory was refused
-abbrev pub IsJudgedFault : Options → List ℕ → Fault → Type 0
-IsJudgedFault options text fault = IsReadFault text fault ⊎ IsRefusedText options text fault
 
 -- the fault is the text's own, or that it was not read whole, and nothing was written
 pub record IsRejected {W S : Type 0} (options : Options) (text : List ℕ) (fault : Fault) (old new : W × S) : Type 0 where

@@ -15,26 +15,21 @@ run_of scene = record { config = scene.config; events = scene.events; lines = sc
 abbrev pub scene_lines : Scene → ParsedLines
 scene_lines scene = parsed_lines (run_of scene)
 
+-- a line is wrong in the way that is named; or memory was refused; or a file cannot be read, where that may be
+abbrev pub IsFaultOf : Type 0 → (ℕ → LineFault → Type 0) → Fault → Type 0
+IsFaultOf MayBeUnread IsWrong (fault.CannotRead file) = MayBeUnread
+IsFaultOf MayBeUnread IsWrong (fault.Line n f) = IsWrong n f
+IsFaultOf MayBeUnread IsWrong fault.OutOfMemory = ⊤
+IsFaultOf MayBeUnread IsWrong other = ⊥
+
 -- the scene is that of the lines that were read, or the fault is theirs; or the file cannot be read, or memory was refused
 abbrev pub IsSceneRead : Result Scene Fault → Result ParsedLines (ℕ × LineFault) → Type 0
 IsSceneRead (Ok scene) read = read ≡ Ok (scene_lines scene)
-IsSceneRead (Err fault.Usage) read = ⊥
-IsSceneRead (Err (fault.CannotRead file)) read = ⊤
-IsSceneRead (Err (fault.CannotWrite file)) read = ⊥
-IsSceneRead (Err (fault.Line n f)) read = read ≡ Err (n, f)
-IsSceneRead (Err fault.WriteFailed) read = ⊥
-IsSceneRead (Err fault.StoreFailed) read = ⊥
-IsSceneRead (Err fault.OutOfMemory) read = ⊤
+IsSceneRead (Err fault) read = IsFaultOf ⊤ (λ n f. read ≡ Err (n, f)) fault
 
 -- the fault is the first one of the text; or the file cannot be read, or memory was refused
 abbrev pub IsReadFault : List ℕ → Fault → Type 0
-IsReadFault text fault.Usage = ⊥
-IsReadFault text (fault.CannotRead file) = ⊤
-IsReadFault text (fault.CannotWrite file) = ⊥
-IsReadFault text (fault.Line n f) = IsFirstFault (text_lines text) n f
-IsReadFault text fault.WriteFailed = ⊥
-IsReadFault text fault.StoreFailed = ⊥
-IsReadFault text fault.OutOfMemory = ⊤
+IsReadFault text = IsFaultOf ⊤ (IsFirstFault (text_lines text))
 
 -- P holds of the run that these lines are
 pub record OfLines (lines : List RunLine) (P : ParsedLines → Type 0) : Type 0 where

@@ -1,5 +1,5 @@
 -- What two writers have of the report of a run and of what is stored of it: all of both, or a beginning of each.
-use Rattle.std.specs.Prelude.{◌≡◌, ◌⊎◌, ℕ, List, ◌++◌, true, reverse, Option, None, ⊤}
+use Rattle.std.specs.Prelude.{◌≡◌, ◌⊎◌, ℕ, List, ◌++◌, true, reverse, Option, None, Result, IfErr, OnOk, ⊤}
 use Rattle.std.specs.Io.KnownBytes.{Appends}
 use Rattle.std.specs.List.{AllZip}
 use Rattle.std.specs.Option.{is_some}
@@ -10,6 +10,7 @@ use Rattle.console_reporter.specs.Outcomes.{HasFront}
 use Rattle.reporter_state.specs.Refusals.{first_refused}
 use Rattle.run_model.specs.declared.call.ReportCall.{ReportCall}
 use Rattle.scene_events.specs.Scenes.{IsCallOf}
+use Rattle.scene_events.specs.declared.scene.SceneConfig.{SceneConfig}
 use Rattle.scene_text.specs.SceneTexts.{ParsedLines}
 use Rattle.scenes.specs.Outcomes.{run_outcome}
 use Rattle.scenes.specs.Reports.{report_of, store_for, stored_of}
@@ -43,34 +44,49 @@ pub record HasFirstCalls {S : Type 0} (m : Meaning S) (texts : List ReportCall �
   pub accepted : m.accepts old (texts first) new
   pub delivered : m.is_delivered new
 
+-- What a writer has of these calls at a fault, which may be of its own device or of the other's: of all their texts a beginning, and at a
+-- fault of the other's device the whole texts of the first calls.
+pub record HasBeginning {S : Type 0} (m : Meaning S) (texts : List ReportCall → Text) (OfOwn OfOther : Type 0) (calls : List ReportCall) (old new : S) : Type 0 where
+  pub begun : Begun m OfOwn old (texts calls) new
+  pub whole : OfOther → HasFirstCalls m texts calls old new
+
 -- a report stops by a fault of its device, of the store's where there is one, or for want of memory
 abbrev pub IsStop : Options → Fault → Type 0
 IsStop options fault = (fault ≡ WriteFailed) ⊎ (fault ≡ OutOfMemory) ⊎ ((fault ≡ StoreFailed) × (is_some (store_for options) ≡ true))
 
+-- a run has these calls, which are all accepted, and P holds of them
+pub record OfCalls (options : Options) (run : ParsedLines) (P : List ReportCall → Type 0) : Type 0 where
+  pub calls : List ReportCall
+  pub of_run : AllZip IsCallOf run.events calls
+  pub accepted : first_refused (decider_for options run.config) calls ≡ None
+  pub holds : P calls
+
 -- What the first of two writers has of a run's report, and the second of what is stored of it, which is nothing without a store.
 module _ {W T : Type 0} (m : Meaning W) (k : Meaning T) (options : Options) (old new : W × T) where
-  -- The calls of the run are all accepted, and both have it whole.
-  pub record Prints (run : ParsedLines) : Type 0 where
-    pub calls : List ReportCall
-    pub of_run : AllZip IsCallOf run.events calls
-    pub accepted : first_refused (decider_for options run.config) calls ≡ None
-    pub printed : m.accepts old.0 (report_of options run.config calls) new.0
+  -- of these calls both have it whole
+  pub record AreWhole (config : SceneConfig) (calls : List ReportCall) : Type 0 where
+    pub printed : m.accepts old.0 (report_of options config calls) new.0
     pub kept : k.accepts old.1 (stored_of options calls) new.1
     pub delivered : m.is_delivered new.0 × k.is_delivered new.1
 
-  -- the same, and this is how the run stands
-  pub record PrintsFollowed (come_to : RunOutcome) (run : ParsedLines) : Type 0 where
-    pub printed : Prints run
-    pub outcome : come_to ≡ run_outcome (reverse printed.calls)
-
-  -- The calls of the run are all accepted. This fault stopped the report, and each has a beginning: at a fault of the second writer the first
-  -- one has the whole texts of the first calls, and at a fault of the first the second has their whole records.
-  pub record Begins (run : ParsedLines) (fault : Fault) : Type 0 where
-    pub calls : List ReportCall
-    pub of_run : AllZip IsCallOf run.events calls
-    pub accepted : first_refused (decider_for options run.config) calls ≡ None
+  -- this fault stopped the report of these calls, and each has a beginning
+  pub record AreBegun (config : SceneConfig) (fault : Fault) (calls : List ReportCall) : Type 0 where
     pub stopped : IsStop options fault
-    pub begun : Begun m (fault ≡ WriteFailed) old.0 (report_of options run.config calls) new.0
-    pub kept : Begun k (fault ≡ StoreFailed) old.1 (stored_of options calls) new.1
-    pub whole_text : fault ≡ StoreFailed → HasFirstCalls m (report_of options run.config) calls old.0 new.0
-    pub whole_records : fault ≡ WriteFailed → HasFirstCalls k (stored_of options) calls old.1 new.1
+    pub printed : HasBeginning m (report_of options config) (fault ≡ WriteFailed) (fault ≡ StoreFailed) calls old.0 new.0
+    pub kept : HasBeginning k (stored_of options) (fault ≡ StoreFailed) (fault ≡ WriteFailed) calls old.1 new.1
+
+  -- both have the report of the run whole
+  abbrev pub Prints : ParsedLines → Type 0
+  Prints run = OfCalls options run (AreWhole run.config)
+
+  -- the same, and this is how the run stands
+  abbrev pub PrintsFollowed : RunOutcome → ParsedLines → Type 0
+  PrintsFollowed come_to run = OfCalls options run (λ calls. AreWhole run.config calls × (come_to ≡ run_outcome (reverse calls)))
+
+  -- this fault stopped it, and each has a beginning
+  abbrev pub Begins : ParsedLines → Fault → Type 0
+  Begins run fault = OfCalls options run (AreBegun run.config fault)
+
+  -- how the report of the run ends
+  abbrev pub Reported : ParsedLines → Result (Unit {0}) Fault → Type 0
+  Reported run result = OnOk result (Prints run) × IfErr result (Begins run)

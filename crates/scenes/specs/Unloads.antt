@@ -21,13 +21,9 @@ decider_for options config = decider_of (configuration_for options config)
 abbrev pub ready_if : Bool → OutputLoadDecider → ReportCall → ReportCall
 ready_if unloads d call = if unloads then unread_call d call else call
 
--- a call as the scene's reporter gets it: where that is asked for, with the output left unread that no report shows
-abbrev pub ready : Options → SceneConfig → ReportCall → ReportCall
-ready options config = ready_if options.unload_skipped (decider_for options config)
-
--- the calls of the scene, or the same with the output left unread that the decider skips
-abbrev pub unloaded_for : Options → Scene → List ReportCall → List ReportCall
-unloaded_for options scene made = if options.unload_skipped then unread (decider_for options scene.config) made else made
+-- calls as the scene's reporter gets them: where that is asked for, with the output left unread that the decider skips
+abbrev pub unloaded_for : Options → SceneConfig → List ReportCall → List ReportCall
+unloaded_for options config made = if options.unload_skipped then unread (decider_for options config) made else made
 
 -- the call is one of the event, or the same with its output left unread, where that is asked for and the decider skips it
 pub record IsReadyCall (options : Options) (d : OutputLoadDecider) (event : SceneEvent) (call : ReportCall) : Type 0 where
@@ -39,5 +35,5 @@ pub record IsReadyCall (options : Options) (d : OutputLoadDecider) (event : Scen
 pub record AreReadyCallsOf (options : Options) (scene : Scene) (calls : List ReportCall) : Type 0 where
   pub made : List ReportCall
   pub of_scene : AreCallsOf scene made
-  pub ready : calls ≡ unloaded_for options scene made
+  pub ready : calls ≡ unloaded_for options scene.config made
   pub isolated : IsIsolated (decider_for options scene.config) made calls

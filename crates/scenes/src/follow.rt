@@ -7,15 +7,15 @@ ghost use Rattle.std.specs.Prelude.{◌≡◌, ℕ, List, [], true, Option, None
 ghost use Rattle.console_reporter.specs.OptionalStore.{IsSameStore, config_of, store_delivered, store_meaning};
 ghost use Rattle.console_reporter.specs.Telling.{IsSameReporter};
 ghost use Rattle.scene_text.specs.SceneTexts.{ParsedLines, RunLine, is_begun, no_lines, text_lines};
-ghost use Rattle.scenes.specs.Follow.{StopsBy};
+ghost use Rattle.scenes.specs.Follow.{Ends, StopsBy};
 ghost use Rattle.scenes.specs.ParsedScenes.{OfLines, OfText};
 ghost use Rattle.scenes.specs.Prints.{Begins, Prints, PrintsFollowed, device};
 ghost use Rattle.scenes.specs.Read.{HasRead};
 ghost use Rattle.scenes.specs.Reports.{store_for};
-ghost use Rattle.scenes.specs.SceneReporter.{IsStart, writers};
+ghost use Rattle.scenes.specs.SceneReporter.{Follows, writers};
 
 pub use crate::outcome::RunOutcome;
-use crate::read::{RunSource, SceneSource};
+use crate::read::{RunSource, SceneSource, read_lines};
 use crate::reporter::builder_of;
 use crate::scene_reporter::SceneReporter;
 use command_line::args::Options;
@@ -26,30 +26,6 @@ use run_model::memory::OutOfMemory;
 use scene_text::reader::LinesRead;
 use std::alloc::{AllocError, Global};
 use std::io::{Read, Write};
-
-// Reads until there is an event, or the lines end. It answers whether there may be more.
-fn read_head<'a, L: RunSource>(
-    alloc: Global,
-    file: &'a str,
-    source: &mut L,
-    read: &mut LinesRead,
-) -> Result<bool, Fault<'a>>
-    ensures read { (total : ℕ) (all front : List RunLine) (before : ParsedLines) → HasRead file.now all front before read.old (Ok true) (L.left total source.old)
-        → HasRead file.now all front before read.new result (L.left total source.new) }
-    ensures event { IfOk result (λ may_go_on. may_go_on ≡ true → is_begun read.new.run.events.items ≡ true) }
-{
-    for _turn in 0..u64::MAX {
-        match source.read_next(alloc, file, read) {
-            Ok(true) => {}
-            Ok(false) => return Ok(false),
-            Err(fault) => return Err(fault),
-        }
-        if !read.run.events.is_empty() {
-            return Ok(true);
-        }
-    }
-    Err(Fault::CannotRead { file })
-}
 
 /// Follows the lines of a reader: those that it has at hand are read, the text of each event is written and delivered, and then the next are
 /// read. Its records go to a second device, if the options ask for them. Both devices are given back.
@@ -112,16 +88,12 @@ pub fn follow_source<'a, L: RunSource, W: Write, S: Write>(
     };
     let store = Store::new(&mut records, store.config);
     let (outcome, lent, store) = follow_to(alloc, options, source, &mut out, Some(store));
-    match store {
-        Some(store) => {
-            let Store {
-                writer: store_writer,
-                config: _,
-            } = store;
-            give_back(lent, store_writer);
-        }
-        None => unreachable!(),
-    }
+    let Some(store) = store else { unreachable!() };
+    let Store {
+        writer: store_writer,
+        config: _,
+    } = store;
+    give_back(lent, store_writer);
     let (writer, _pending) = out.into_inner();
     let (store_writer, _unstored) = records.into_inner();
     (outcome, writer, store_writer)
@@ -144,32 +116,19 @@ fn follow_to<'a, 'w, L: RunSource, W: WriteStr, S: WriteStr>(
     requires store_delivered { store_delivered S.meaning store }
     ensures same_reference { result.1.ghost_name ≡ writer.entry.ghost_name }
     ensures same_store { IsSameStore store.entry result.2 }
-    ensures ok { (total : ℕ) (all : List RunLine) → L.left total source.old no_lines all
-        → IfOk result.0 (λ come_to. OfLines all (PrintsFollowed W.meaning (store_meaning S.meaning) options.now (writer.old, store.entry) (result.1.now, result.2) come_to)) }
-    ensures rest { (total : ℕ) (all : List RunLine) → L.left total source.old no_lines all → OnOk result.0 (OfLines all (λ run. L.left total source.new run [])) }
-    ensures err { (total : ℕ) (all : List RunLine) → L.left total source.old no_lines all
-        → IfErr result.0 (StopsBy options.now all (Prints W.meaning (store_meaning S.meaning) options.now (writer.old, store.entry) (result.1.now, result.2)) (Begins W.meaning (store_meaning S.meaning) options.now (writer.old, store.entry) (result.1.now, result.2))) }
+    ensures ends { (total : ℕ) (all : List RunLine) → L.left total source.old no_lines all
+        → Ends W.meaning (store_meaning S.meaning) options.now all (writer.old, store.entry) (result.1.now, result.2) (λ run. L.left total source.new run []) result.0 }
 {
     let mut read = LinesRead::new(alloc);
-    let more = read_head(alloc, options.file, source, &mut read);
-    if read.run.events.is_empty() {
-        match more {
-            Ok(_) => return (Ok(RunOutcome::NotEnded), writer, store),
-            Err(fault) => return (Err(fault), writer, store),
-        }
-    }
+    let more = read_lines(alloc, options.file, source, &mut read, true);
     let builder = match builder_of(alloc, options, &read.run.config) {
         Ok(builder) => builder,
         Err(fault) => return (Err(fault), writer, store),
     };
     let mut reporter = SceneReporter::build(alloc, builder, &read.run.config, writer, store);
     let followed = follow_lines(alloc, options, source, &mut read, more, &mut reporter);
-    let SceneReporter { outcome, reporter } = reporter;
-    let (writer, store) = reporter.into_parts();
-    match followed {
-        Ok(()) => (Ok(outcome), writer, store),
-        Err(fault) => (Err(fault), writer, store),
-    }
+    let (writer, store) = reporter.reporter.into_parts();
+    (followed, writer, store)
 }
 
 // Reports the events that were read, and follows the lines that are left, if there may be more.
@@ -180,14 +139,11 @@ fn follow_lines<'a, L: RunSource, W: WriteStr, S: WriteStr>(
     read: &mut LinesRead,
     more: Result<bool, Fault<'a>>,
     reporter: &mut SceneReporter<'_, W, S>,
-) -> Result<(), Fault<'a>>
+) -> Result<RunOutcome, Fault<'a>>
     ensures same { IsSameReporter reporter.old.reporter reporter.new.reporter }
-    ensures ok { OnOk result ((total : ℕ) (all : List RunLine) → HasRead options.now.file.now all [] no_lines read.old more.entry (L.left total source.old) → is_begun read.old.run.events.items ≡ true
-        → IsStart W.meaning S.meaning options.now read.old.run.config reporter.old → OfLines all (PrintsFollowed W.meaning (store_meaning S.meaning) options.now (writers reporter.old) (writers reporter.new) reporter.new.outcome)) }
-    ensures rest { OnOk result ((total : ℕ) (all : List RunLine) → HasRead options.now.file.now all [] no_lines read.old more.entry (L.left total source.old) → is_begun read.old.run.events.items ≡ true
-        → IsStart W.meaning S.meaning options.now read.old.run.config reporter.old → OfLines all (λ run. L.left total source.new run [])) }
-    ensures err { IfErr result (λ fault. (total : ℕ) (all : List RunLine) → HasRead options.now.file.now all [] no_lines read.old more.entry (L.left total source.old) → is_begun read.old.run.events.items ≡ true
-        → IsStart W.meaning S.meaning options.now read.old.run.config reporter.old → StopsBy options.now all (Prints W.meaning (store_meaning S.meaning) options.now (writers reporter.old) (writers reporter.new)) (Begins W.meaning (store_meaning S.meaning) options.now (writers reporter.old) (writers reporter.new)) fault) }
+    ensures ends { (total : ℕ) (all : List RunLine) → HasRead options.now.file.now all [] no_lines read.old more.entry (L.left total source.old) → (more.entry ≡ Ok true → is_begun read.old.run.events.items ≡ true)
+        → Follows W.meaning S.meaning options.now reporter.old reporter.old (record { config = read.old.run.config; events = [] })
+        → Ends W.meaning (store_meaning S.meaning) options.now all (writers reporter.old) (writers reporter.new) (λ run. L.left total source.new run []) result }
 {
     let mut more = more;
     for _turn in 0..u64::MAX {
@@ -198,7 +154,7 @@ fn follow_lines<'a, L: RunSource, W: WriteStr, S: WriteStr>(
         }
         match more {
             Ok(true) => more = source.read_next(alloc, options.file, read),
-            Ok(false) => return Ok(()),
+            Ok(false) => return Ok(reporter.outcome),
             Err(fault) => return Err(fault),
         }
     }

@@ -3,7 +3,7 @@
 ghost use Rattle.std.specs.Prelude.{◌≡◌, ℕ, List, [], Ok, true, IfErr, IfOk, OnOk};
 ghost use Rattle.std.specs.Io.Buffered.{reader_remaining};
 ghost use Rattle.command_line.specs.Faults.{IsJudgeFault};
-ghost use Rattle.scene_text.specs.SceneTexts.{LeavesLines, ParsedLines, ReadsLines, RunLine, text_lines};
+ghost use Rattle.scene_text.specs.SceneTexts.{LeavesLines, ParsedLines, ReadsLines, RunLine, is_begun, text_lines};
 ghost use Rattle.scenes.specs.Read.{AreLeftOf, HasRead};
 
 use command_line::fault::Fault;
@@ -88,4 +88,30 @@ fn read_piece(alloc: Global, piece: &mut Vec<u8>, read: &mut LinesRead) -> Resul
         return read.read_more(alloc, piece.as_slice());
     }
     read.read_owned(alloc, mem::replace(piece, Vec::new(alloc)))
+}
+
+/// Reads the lines of a source to their end, or to the first event where that is asked for. It answers whether there may be more.
+pub(crate) fn read_lines<'a, L: RunSource>(
+    alloc: Global,
+    file: &'a str,
+    source: &mut L,
+    read: &mut LinesRead,
+    to_event: bool,
+) -> Result<bool, Fault<'a>>
+    ensures read { (total : ℕ) (all front : List RunLine) (before : ParsedLines) → HasRead file.now all front before read.old (Ok true) (L.left total source.old)
+        → HasRead file.now all front before read.new result (L.left total source.new) }
+    ensures event { result ≡ Ok true → (to_event ≡ true) × (is_begun read.new.run.events.items ≡ true) }
+    ensures fault { IfErr result (IsJudgeFault file.now) }
+{
+    for _turn in 0..u64::MAX {
+        match source.read_next(alloc, file, read) {
+            Ok(true) => {}
+            Ok(false) => return Ok(false),
+            Err(fault) => return Err(fault),
+        }
+        if to_event && !read.run.events.is_empty() {
+            return Ok(true);
+        }
+    }
+    Err(Fault::CannotRead { file })
 }

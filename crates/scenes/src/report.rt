@@ -7,14 +7,14 @@ ghost use Rattle.std.specs.Prelude.{◌≡◌, ◌⊎◌, ℕ, List, [], Option,
 ghost use Rattle.command_line.specs.declared.fault.Fault.{Fault};
 ghost use Rattle.command_line.specs.Faults.{IsJudgeFault};
 ghost use Rattle.console_reporter.specs.OptionalStore.{IsSameStore, config_of, store_delivered, store_meaning};
-ghost use Rattle.scenes.specs.Judged.{IsJudged, IsJudgedFault, IsRejected, IsSceneAccepted, IsSceneRefused, ChecksEvent};
-ghost use Rattle.scenes.specs.Prints.{Begins, Prints, device};
+ghost use Rattle.scenes.specs.Judged.{IsJudged, IsRefusedText, IsRejected, IsSceneAccepted, IsSceneRefused, ChecksEvent};
+ghost use Rattle.scenes.specs.Prints.{Begins, Prints, Reported, device};
 ghost use Rattle.scenes.specs.Reports.{store_for};
 ghost use Rattle.scene_text.specs.SceneTexts.{AllRead, event_lines, no_lines, text_lines, text_read};
 ghost use Rattle.scenes.specs.ParsedScenes.{IsReadFault, IsSceneRead, OfText, scene_lines};
 
 use crate::deferred::{Deferred, deliver_rest};
-use crate::read::{RunSource, SceneSource};
+use crate::read::{SceneSource, read_lines};
 use crate::reporter::{builder_of, decider_of, fault_at_call};
 use crate::scene::Scene;
 use crate::scene::event::SceneEvent;
@@ -57,7 +57,7 @@ pub fn judge<'a, R: Read + Drop>(
     ensures fault { IfErr result (IsJudgeFault options.now.file.now) }
     // Where the reader's bytes are known: what `read_whole` says of them.
     ensures scene { (bytes : List ℕ) → R.remaining reader ≡ Some bytes → IfOk result (λ scene. AllRead no_lines (text_lines bytes) (scene_lines scene)) }
-    ensures first_fault { (bytes : List ℕ) → R.remaining reader ≡ Some bytes → IfErr result (IsJudgedFault options.now bytes) }
+    ensures first_fault { (bytes : List ℕ) → R.remaining reader ≡ Some bytes → IfErr result (λ fault. IsReadFault bytes fault ⊎ IsRefusedText options.now bytes fault) }
     ensures answer { (bytes : List ℕ) → R.remaining reader ≡ Some bytes → IsJudged options.now result bytes }
     // No event of the scene is refused.
     ensures accepted { IfOk result (IsSceneAccepted options.now) }
@@ -87,20 +87,14 @@ pub fn read_whole<'a, R: Read + Drop>(
         Err(OutOfMemory) => return Err(Fault::OutOfMemory),
     };
     let mut read = LinesRead::new(alloc);
-    for _turn in 0..u64::MAX {
-        match source.read_next(alloc, options.file, &mut read) {
-            Ok(true) => {}
-            Ok(false) => {
-                return Ok(Scene {
-                    config: read.run.config,
-                    events: read.run.events,
-                    lines: read.run.lines,
-                });
-            }
-            Err(fault) => return Err(fault),
-        }
+    match read_lines(alloc, options.file, &mut source, &mut read, false) {
+        Ok(_) => Ok(Scene {
+            config: read.run.config,
+            events: read.run.events,
+            lines: read.run.lines,
+        }),
+        Err(fault) => Err(fault),
     }
-    Err(Fault::CannotRead { file: options.file })
 }
 
 /// Checks that the reporter refuses no event of a scene. Only what was checked can be reported.
@@ -246,16 +240,12 @@ pub fn report_accepted<W: Write, S: Write>(
     };
     let store = Store::new(&mut records, store.config);
     let (outcome, lent, store) = report_to(alloc, options, scene, &mut out, Some(store));
-    match store {
-        Some(store) => {
-            let Store {
-                writer: store_writer,
-                config: _,
-            } = store;
-            give_back(lent, store_writer);
-        }
-        None => unreachable!(),
-    }
+    let Some(store) = store else { unreachable!() };
+    let Store {
+        writer: store_writer,
+        config: _,
+    } = store;
+    give_back(lent, store_writer);
     let (writer, _pending) = out.into_inner();
     let (store_writer, _unstored) = records.into_inner();
     (outcome, writer, store_writer)
@@ -276,8 +266,7 @@ fn report_to<'w, W: WriteStr, S: WriteStr>(
     requires accepted { IsSceneAccepted options.now scene.now }
     ensures same_reference { result.1.ghost_name ≡ writer.entry.ghost_name }
     ensures same_store { IsSameStore store.entry result.2 }
-    ensures ok { OnOk result.0 (Prints W.meaning (store_meaning S.meaning) options.now (writer.old, store.entry) (result.1.now, result.2) (scene_lines scene.now)) }
-    ensures err { IfErr result.0 (Begins W.meaning (store_meaning S.meaning) options.now (writer.old, store.entry) (result.1.now, result.2) (scene_lines scene.now)) }
+    ensures ends { Reported W.meaning (store_meaning S.meaning) options.now (writer.old, store.entry) (result.1.now, result.2) (scene_lines scene.now) result.0 }
 {
     let builder = match builder_of(alloc, options, &scene.config) {
         Ok(builder) => builder,

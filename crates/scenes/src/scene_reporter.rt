@@ -3,10 +3,10 @@
 ghost use Rattle.std.specs.Prelude.{◌≡◌, ◌++◌, List, [], IfOk, IfErr, OnOk};
 ghost use Rattle.console_reporter.specs.HeldState.{HasFailed};
 ghost use Rattle.console_reporter.specs.OptionalStore.{config_of, store_delivered};
-ghost use Rattle.console_reporter.specs.Telling.{AreDelivered, IsSameReporter};
+ghost use Rattle.console_reporter.specs.Telling.{IsSameReporter};
 ghost use Rattle.scene_events.specs.Scenes.{IsCallOf};
 ghost use Rattle.scenes.specs.Reports.{builder_for, store_for};
-ghost use Rattle.scenes.specs.SceneReporter.{Follows, IsStart, LeavesEvent, StopsAtEvent, ReportsEvent, writers};
+ghost use Rattle.scenes.specs.SceneReporter.{Follows, StopsAtEvent, writers};
 ghost use Rattle.scenes.specs.Unloads.{IsReadyCall};
 
 use crate::outcome::RunOutcome;
@@ -41,7 +41,7 @@ impl<'a, W: WriteStr, S: WriteStr> SceneReporter<'a, W, S> {
         ensures same_reference { result.reporter.writer.ghost_name ≡ writer.entry.ghost_name }
         ensures writers { writers result ≡ (writer.old, store.entry) }
         ensures start { (options : Options) → builder ≡ builder_for options config.now → config_of store.entry ≡ store_for options
-            → W.meaning.is_delivered writer.old → store_delivered S.meaning store.entry → IsStart W.meaning S.meaning options config.now result }
+            → W.meaning.is_delivered writer.old → store_delivered S.meaning store.entry → Follows W.meaning S.meaning options result result (record { config = config.now; events = [] }) }
     {
         let reporter = builder.build_in(alloc, writer, store, surroundings_of(config));
         SceneReporter {
@@ -64,53 +64,22 @@ impl<'a, W: WriteStr, S: WriteStr> SceneReporter<'a, W, S> {
         ensures reported { OnOk result ((config : SceneConfig) (start : SceneReporter W S) (base : List SceneEvent) → Follows W.meaning S.meaning options.now start self.old (record { config = config; events = base })
             → Follows W.meaning S.meaning options.now start self.new (record { config = config; events = base ++ events.now })) }
         ensures left { IfErr result (λ fault. (config : SceneConfig) (start : SceneReporter W S) (base : List SceneEvent) → Follows W.meaning S.meaning options.now start self.old (record { config = config; events = base })
-            → StopsAtEvent W.meaning S.meaning options.now config events.now lines.now base fault start self.new) }
+            → StopsAtEvent W.meaning S.meaning options.now start self.new config events.now lines.now base fault) }
         // Once its reporter has failed, it stays as it is, and no event is answered by Ok.
         ensures failed { HasFailed self.old.reporter → (self.new ≡ self.old) × OnOk result (events.now ≡ []) }
     {
         let decider = self.reporter.output_load_decider();
         let mut buffer = Vec::new(alloc);
         for place in 0..events.len() {
-            let number = line_at(lines, place);
-            match self.report_event(
-                alloc,
-                options,
-                &decider,
-                number,
-                &events[place],
-                &mut buffer,
-            ) {
-                Ok(()) => {}
-                Err(fault) => return Err(fault),
+            let Ok(call) = ready_call(alloc, options, &decider, &events[place], &mut buffer) else {
+                return Err(Fault::OutOfMemory);
+            };
+            match self.reporter.make_call(alloc, call) {
+                Ok(()) => self.outcome = self.outcome.after(call),
+                Err(error) => return Err(fault_at_call(line_at(lines, place), error)),
             }
         }
         Ok(())
-    }
-
-    // Reports the event of the line of this number. Its call is made in the buffer.
-    fn report_event<'e>(
-        &mut self,
-        alloc: Global,
-        options: &Options<'_>,
-        decider: &OutputLoadDecider,
-        number: u64,
-        event: &'e SceneEvent,
-        buffer: &mut Vec<ReportCall<'e>>,
-    ) -> Result<(), Fault<'static>>
-        ensures same { IsSameReporter self.old.reporter self.new.reporter }
-        ensures reported { OnOk result (ReportsEvent W.meaning S.meaning options.now decider.now event.now self.old self.new) }
-        ensures delivered { AreDelivered W.meaning S.meaning self.old.reporter → OnOk result (AreDelivered W.meaning S.meaning self.new.reporter) }
-        ensures left { IfErr result (λ fault. LeavesEvent W.meaning S.meaning options.now decider.now number event.now fault self.old self.new) }
-        ensures failed { HasFailed self.old.reporter → (self.new ≡ self.old) × OnOk result ⊥ }
-    {
-        let call = ready_call(alloc, options, decider, event, buffer)?;
-        match self.reporter.make_call(alloc, call) {
-            Ok(()) => {
-                self.outcome = self.outcome.after(call);
-                Ok(())
-            }
-            Err(error) => Err(fault_at_call(number, error)),
-        }
     }
 }
 

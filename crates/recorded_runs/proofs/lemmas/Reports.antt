@@ -61,23 +61,25 @@ module _ (options : Options) (all : List ℕ) (run inline : ParsedLines) (are : 
 
   prints_inline : (come_to : RunOutcome) (old new : Option (List ℕ) × Option (List ℕ)) → PrintsFollowed device device options old new come_to run → PrintsFollowed device device options old new come_to inline
   prints_inline come_to old new prints =
-      let printed = prints.printed in
-      let has = has_calls all d run.events inline.events printed.calls are.events printed.of_run in
+      let printed = prints.holds.0 in
+      let has = has_calls all d run.events inline.events prints.calls are.events prints.of_run in
       let left = isolated d has.inline in
-      let right = isolated d printed.calls in
+      let right = isolated d prints.calls in
       let config = configuration_for options run.config in
-      let same_report : report_of options run.config has.inline ≡ report_of options run.config printed.calls = sym (left.1 config refl) ∙ ap (λ calls. report_of options run.config calls) has.same ∙ right.1 config refl in
-      let same_record : stored_of options has.inline ≡ stored_of options printed.calls = sym (left.3 config refl) ∙ ap (λ calls. stored_of options calls) has.same ∙ right.3 config refl in
+      let same_report : report_of options run.config has.inline ≡ report_of options run.config prints.calls = sym (left.1 config refl) ∙ ap (λ calls. report_of options run.config calls) has.same ∙ right.1 config refl in
+      let same_record : stored_of options has.inline ≡ stored_of options prints.calls = sym (left.3 config refl) ∙ ap (λ calls. stored_of options calls) has.same ∙ right.3 config refl in
       subst (λ c. PrintsFollowed device device options old new come_to (record { config = c; events = inline.events })) (sym are.config) (record {
-        printed = record {
-          calls = has.inline;
-          of_run = has.of_events;
-          accepted = sym left.5 ∙ ap (λ calls. first_refused d calls) has.same ∙ right.5 ∙ printed.accepted;
-          printed = subst (λ text. Appends old.0 new.0 text) (sym same_report) printed.printed;
-          kept = subst (λ text. Appends old.1 new.1 text) (sym same_record) printed.kept;
-          delivered = printed.delivered;
-        };
-        outcome = prints.outcome ∙ sym (outcome_unread d printed.calls) ∙ ap (λ calls. run_outcome (reverse calls)) (sym has.same) ∙ outcome_unread d has.inline;
+        calls = has.inline;
+        of_run = has.of_events;
+        accepted = sym left.5 ∙ ap (λ calls. first_refused d calls) has.same ∙ right.5 ∙ prints.accepted;
+        holds = (
+          record {
+            printed = subst (λ text. Appends old.0 new.0 text) (sym same_report) printed.printed;
+            kept = subst (λ text. Appends old.1 new.1 text) (sym same_record) printed.kept;
+            delivered = printed.delivered;
+          },
+          prints.holds.1 ∙ sym (outcome_unread d prints.calls) ∙ ap (λ calls. run_outcome (reverse calls)) (sym has.same) ∙ outcome_unread d has.inline,
+        );
       })
 
 -- a run that was replayed

@@ -1,13 +1,12 @@
 -- What devices hold of a report that was written to buffers (for `report_accepted`, `follow_source`).
 use Rattle.std.proofs.Common.{◌≡◌, ℕ, List, [], ◌∷◌, ◌++◌, reverse, Option, None, Some, refl, sym, ap, ◌∙◌, subst, append-nil, inl, inr}
-use Rattle.std.specs.Prelude.{⊤}
 use Rattle.std.specs.Io.KnownBytes.{Appends, append_known}
-use Rattle.scenes.proofs.Common.{Appends-nil, Begins, Begun, buffer_meaning, device, Event, Fault, Header, IsSameStore, Meaning, Options, ParsedLines, Prefix, Prints, PrintsFollowed, report_of, ReportCall, RunLine, RunOutcome, SceneConfig, StopsBy, Store, store_for, store_meaning, stored, stored_of, Text, TextBuffer}
+use Rattle.scenes.proofs.Common.{Appends-nil, AreBegun, AreWhole, Begun, buffer_meaning, BufferAccepts, device, Event, false≢true, Fault, HasBeginning, Header, is_some, IsSameStore, Meaning, Options, Prefix, report_of, ReportCall, SceneConfig, Store, store_for, store_meaning, stored, stored_of, StoreFailed, Text, TextBuffer}
 use Rattle.plain_text.specs.TextBuffer.{GrowsWithin, Holds}
 use Rattle.plain_text.specs.Writer.{AppendsFront}
 use Rattle.plain_text.proofs.lemmas.Deliveries.{accepted_delivers, begins_of, stopped_begins}
-use Rattle.store_text.specs.declared.config.StoreConfig.{StoreConfig}
-use Rattle.scenes.proofs.lemmas.Heads.{stops_so}
+use Rattle.scenes.specs.Prints.{IsStop}
+use Rattle.scenes.proofs.lemmas.Prints.{memory_no_store, write_no_store}
 
 -- known bytes that stay, and grow by a beginning where they are known
 known_front : (old new : Option (List ℕ)) (text : Text) → Holds old new → ((xs ys : List ℕ) → old ≡ Some xs → new ≡ Some ys → GrowsWithin xs ys text) → AppendsFront old new text
@@ -22,97 +21,80 @@ delivered_appends (Some xs) None x y t e f h = absurd h
 delivered_appends (Some xs) (Some ys) x y t e f h =
     sym (append-nil ys) ∙ ap (λ z. ys ++ z) (sym f) ∙ h ∙ ap (λ z. (xs ++ z) ++ t) e ∙ ap (λ z. z ++ t) (append-nil xs)
 
--- Of texts that a writer accepts, its device holds them once they are delivered, and a beginning where a beginning was accepted.
-pub record HoldsTexts {W : Type 0} (m : Meaning W) (texts : List ReportCall → Text) (old new : W) (before after : Option (List ℕ)) : Type 0 where
-  pub whole : (calls : List ReportCall) → m.accepts old (texts calls) new → m.is_delivered new → Appends before after (texts calls)
-  pub begun : (calls : List ReportCall) → Begun m ⊤ old (texts calls) new → AppendsFront before after (texts calls)
-
--- a buffer's device does
+-- a buffer's device holds the texts that the buffer has accepted once they are delivered, and a beginning where a beginning was accepted
 module _ {W : Type 0} (contents : W → Option (List ℕ)) (a b : TextBuffer W) (none : a.pending ≡ []) where
-  begun_here : (t : Text) → Begun (buffer_meaning contents) ⊤ a t b → AppendsFront (contents a.writer) (contents b.writer) t
-  begun_here t (inl h) = known_front (contents a.writer) (contents b.writer) t h.1.holds (λ xs ys before after. stopped_begins contents a b xs ys t before after _ none h.1)
-  begun_here t (inr (inl h)) = known_front (contents a.writer) (contents b.writer) t h.holds (λ xs ys before after. stopped_begins contents a b xs ys t before after _ none h)
-  begun_here t (inr (inr h)) = known_front (contents a.writer) (contents b.writer) t h.accepted.holds (λ xs ys before after.
+  pub whole_here : (t : Text) → BufferAccepts contents a t b → b.pending ≡ [] → Appends (contents a.writer) (contents b.writer) t
+  whole_here t accepted delivered = delivered_appends (contents a.writer) (contents b.writer) a.pending b.pending t none delivered accepted.grown
+
+  pub begun_here : (F : Type 0) (t : Text) → Begun (buffer_meaning contents) F a t b → AppendsFront (contents a.writer) (contents b.writer) t
+  begun_here F t (inl h) = known_front (contents a.writer) (contents b.writer) t h.1.holds (λ xs ys before after. stopped_begins contents a b xs ys t before after _ none h.1)
+  begun_here F t (inr (inl h)) = known_front (contents a.writer) (contents b.writer) t h.holds (λ xs ys before after. stopped_begins contents a b xs ys t before after _ none h)
+  begun_here F t (inr (inr h)) = known_front (contents a.writer) (contents b.writer) t h.accepted.holds (λ xs ys before after.
       begins_of xs a.pending ys b.pending t none (record { front = h.front; rest = h.rest; whole = h.whole; delivers = accepted_delivers contents a b xs ys h.front before after h.accepted }))
 
-  pub buffer_holds : (texts : List ReportCall → Text) (old new : W) → a.writer ≡ old → new ≡ b.writer → HoldsTexts (buffer_meaning contents) texts a b (contents old) (contents new)
-  buffer_holds texts old new old_is new_is =
-      let here : HoldsTexts (buffer_meaning contents) texts a b (contents a.writer) (contents b.writer) = record {
-        whole = λ calls accepted delivered. delivered_appends (contents a.writer) (contents b.writer) a.pending b.pending (texts calls) none delivered accepted.grown;
-        begun = λ calls h. begun_here (texts calls) h;
-      } in
-      subst (λ w. HoldsTexts (buffer_meaning contents) texts a b (contents w) (contents new)) old_is
-      (subst (λ w. HoldsTexts (buffer_meaning contents) texts a b (contents a.writer) (contents w)) (sym new_is) here)
+  beginning_here : (texts : List ReportCall → Text) (F G : Type 0) (calls : List ReportCall) → HasBeginning (buffer_meaning contents) texts F G calls a b → HasBeginning device texts F G calls (contents a.writer) (contents b.writer)
+  beginning_here texts F G calls h = record {
+    begun = inr (inl (begun_here F (texts calls) h.begun));
+    whole = λ other. let w = h.whole other in record { first = w.first; rest = w.rest; is = w.is; accepted = whole_here (texts w.first) w.accepted w.delivered; delivered = tt };
+  }
 
--- nothing is stored without a store
+-- a store that is there has what its writer has
+begun_there : {S : Type 0} (n : Meaning S) (F : Type 0) (c d : Store S) (t : Text) → Begun (store_meaning n) F (Some c) t (Some d) → Begun n F c.writer.now t d.writer.now
+begun_there n F c d t (inl h) = inl h
+begun_there n F c d t (inr (inl h)) = inr (inl h)
+begun_there n F c d t (inr (inr h)) = inr (inr (record { front = h.front; rest = h.rest; whole = h.whole; accepted = h.accepted }))
+
+beginning_there : {S : Type 0} (n : Meaning S) (c d : Store S) (texts : List ReportCall → Text) (F G : Type 0) (calls : List ReportCall) → HasBeginning (store_meaning n) texts F G calls (Some c) (Some d) → HasBeginning n texts F G calls c.writer.now d.writer.now
+beginning_there n c d texts F G calls h = record {
+  begun = begun_there n F c d (texts calls) h.begun;
+  whole = λ other. let w = h.whole other in record { first = w.first; rest = w.rest; is = w.is; accepted = w.accepted; delivered = w.delivered };
+}
+
+-- two devices hold what two buffers have, of which the second is a store's
+module _ {W S : Type 0} (options : Options) (contents : W → Option (List ℕ)) (stored_in : S → Option (List ℕ)) (a b : TextBuffer W) (c d : Store (TextBuffer S)) (none : a.pending ≡ []) (empty : c.writer.now.pending ≡ []) (config : SceneConfig) where
+  pub both_whole : (calls : List ReportCall) → AreWhole (buffer_meaning contents) (store_meaning (buffer_meaning stored_in)) options (a, Some c) (b, Some d) config calls →
+      AreWhole device device options (contents a.writer, stored_in c.writer.now.writer) (contents b.writer, stored_in d.writer.now.writer) config calls
+  both_whole calls h = record {
+    printed = whole_here contents a b none (report_of options config calls) h.printed h.delivered.0;
+    kept = whole_here stored_in c.writer.now d.writer.now empty (stored_of options calls) h.kept h.delivered.1;
+    delivered = (tt, tt);
+  }
+
+  pub both_begun : (f : Fault) (calls : List ReportCall) → AreBegun (buffer_meaning contents) (store_meaning (buffer_meaning stored_in)) options (a, Some c) (b, Some d) config f calls →
+      AreBegun device device options (contents a.writer, stored_in c.writer.now.writer) (contents b.writer, stored_in d.writer.now.writer) config f calls
+  both_begun f calls h = record {
+    stopped = h.stopped;
+    printed = beginning_here contents a b none (report_of options config) _ _ calls h.printed;
+    kept = beginning_here stored_in c.writer.now d.writer.now empty (stored_of options) _ _ calls (beginning_there (buffer_meaning stored_in) c d (stored_of options) _ _ calls h.kept);
+  }
+
+-- a store that was handed on and came back
+pub same_there : {S : Type 0} (a b : Store S) (x : Option (Store S)) → x ≡ Some b → IsSameStore (Some a) x → b.writer.ghost_name ≡ a.writer.ghost_name
+same_there a b x is h = (subst (λ y. IsSameStore (Some a) y) is h).0
+
+-- nothing is stored without a store, and none fails
 no_record : (past : List ReportCall) → stored None past ≡ []
 no_record [] = refl
 no_record (Event e ∷ past) = append-nil _ ∙ no_record past
 no_record (Header h ∷ past) = append-nil _ ∙ no_record past
 no_record (Prefix p ∷ past) = append-nil _ ∙ no_record past
 
-nothing_stored : (store : Option StoreConfig) (past : List ReportCall) → store ≡ None → stored store past ≡ []
-nothing_stored store past none = rw none (no_record past)
+no_store_stop : (options : Options) → store_for options ≡ None → (f : Fault) → IsStop options f → f ≡ StoreFailed → ⊥
+no_store_stop options off f (inl is) failed = write_no_store (sym is ∙ failed)
+no_store_stop options off f (inr (inl is)) failed = memory_no_store (sym is ∙ failed)
+no_store_stop options off f (inr (inr h)) failed = false≢true (ap is_some (sym off) ∙ h.1)
 
--- without a store a device stays as it is
-pub no_store_holds : {S : Type 0} (options : Options) (n : Meaning S) (y : Option (Store S)) → store_for options ≡ None → (held : Option (List ℕ)) → HoldsTexts (store_meaning n) (stored_of options) None y held held
-no_store_holds options n y off held = record {
-  whole = λ calls accepted delivered. subst (λ t. Appends held held t) (sym (nothing_stored (store_for options) (reverse calls) off)) (Appends-nil held);
-  begun = λ calls h. record { front = []; rest = stored_of options calls; whole = refl; grown = Appends-nil held };
-}
+-- so one device holds the report, and the other stays as it is
+module _ (options : Options) (off : store_for options ≡ None) (before after held : Option (List ℕ)) (config : SceneConfig) (calls : List ReportCall) where
+  keeps_none : Appends held held (stored_of options calls)
+  keeps_none = subst (λ t. Appends held held t) (sym (ap (λ store. stored store (reverse calls)) off ∙ no_record (reverse calls))) (Appends-nil held)
 
--- a store that is there has accepted what its writer has
-begun_there : {S : Type 0} (n : Meaning S) (c d : Store S) (t : Text) → Begun (store_meaning n) ⊤ (Some c) t (Some d) → Begun n ⊤ c.writer.now t d.writer.now
-begun_there n c d t (inl h) = inl h
-begun_there n c d t (inr (inl h)) = inr (inl h)
-begun_there n c d t (inr (inr h)) = inr (inr (record { front = h.front; rest = h.rest; whole = h.whole; accepted = h.accepted }))
+  pub alone_whole : Appends before after (report_of options config calls) → AreWhole device device options (before, held) (after, held) config calls
+  alone_whole printed = record { printed = printed; kept = keeps_none; delivered = (tt, tt) }
 
-pub store_holds : {S : Type 0} (options : Options) (contents : S → Option (List ℕ)) (c d : Store (TextBuffer S)) (y : Option (Store (TextBuffer S))) → c.writer.now.pending ≡ [] → y ≡ Some d → (old new : S) → c.writer.now.writer ≡ old →
-    new ≡ d.writer.now.writer → HoldsTexts (store_meaning (buffer_meaning contents)) (stored_of options) (Some c) y (contents old) (contents new)
-store_holds options contents c d y none is old new old_is new_is =
-    let here = buffer_holds contents c.writer.now d.writer.now none (stored_of options) old new old_is new_is in
-    subst (λ z. HoldsTexts (store_meaning (buffer_meaning contents)) (stored_of options) (Some c) z (contents old) (contents new)) (sym is) (record {
-      whole = here.whole;
-      begun = λ calls h. here.begun calls (begun_there (buffer_meaning contents) c d (stored_of options calls) h);
-    })
-
--- a store that was handed on and came back
-pub same_there : {S : Type 0} (a b : Store S) (x : Option (Store S)) → x ≡ Some b → IsSameStore (Some a) x → b.writer.ghost_name ≡ a.writer.ghost_name
-same_there a b x is h = (subst (λ y. IsSameStore (Some a) y) is h).0
-
--- whichever fault it was
-however : {S F : Type 0} {m : Meaning S} {old new : S} {text : Text} → Begun m F old text new → Begun m ⊤ old text new
-however (inl h) = inl (tt, h.1)
-however (inr h) = inr h
-
--- what two devices hold of what their writers have
-module _ {W T : Type 0} (m : Meaning W) (k : Meaning T) (options : Options) (old new : W × T) (before after : Option (List ℕ) × Option (List ℕ))
-    (first : (config : SceneConfig) → HoldsTexts m (report_of options config) old.0 new.0 before.0 after.0) (second : HoldsTexts k (stored_of options) old.1 new.1 before.1 after.1) where
-  pub prints_there : (run : ParsedLines) → Prints m k options old new run → Prints device device options before after run
-  prints_there run h = record {
-    calls = h.calls;
-    of_run = h.of_run;
-    accepted = h.accepted;
-    printed = (first run.config).whole h.calls h.printed h.delivered.0;
-    kept = second.whole h.calls h.kept h.delivered.1;
-    delivered = (tt, tt);
+  pub alone_begun : (f : Fault) → IsStop options f → AppendsFront before after (report_of options config calls) → AreBegun device device options (before, held) (after, held) config f calls
+  alone_begun f stopped front = record {
+    stopped = stopped;
+    printed = record { begun = inr (inl front); whole = λ failed. absurd (no_store_stop options off f stopped failed) };
+    kept = record { begun = inr (inr (record { front = stored_of options calls; rest = []; whole = sym (append-nil _); accepted = keeps_none })); whole = λ failed. record { first = calls; rest = []; is = sym (append-nil calls); accepted = keeps_none; delivered = tt } };
   }
-
-  pub followed_there : (come_to : RunOutcome) (run : ParsedLines) → PrintsFollowed m k options old new come_to run → PrintsFollowed device device options before after come_to run
-  unfolding prints_there
-  followed_there come_to run h = record { printed = prints_there run h.printed; outcome = h.outcome }
-
-  pub begins_there : (run : ParsedLines) (f : Fault) → Begins m k options old new run f → Begins device device options before after run f
-  begins_there run f h = record {
-    calls = h.calls;
-    of_run = h.of_run;
-    accepted = h.accepted;
-    stopped = h.stopped;
-    begun = inr (inl ((first run.config).begun h.calls (however h.begun)));
-    kept = inr (inl (second.begun h.calls (however h.kept)));
-    whole_text = λ is. (let w = h.whole_text is in record { first = w.first; rest = w.rest; is = w.is; accepted = (first run.config).whole w.first w.accepted w.delivered; delivered = tt });
-    whole_records = λ is. (let w = h.whole_records is in record { first = w.first; rest = w.rest; is = w.is; accepted = second.whole w.first w.accepted w.delivered; delivered = tt });
-  }
-
-  pub stops_there : (all : List RunLine) (f : Fault) → StopsBy options all (Prints m k options old new) (Begins m k options old new) f → StopsBy options all (Prints device device options before after) (Begins device device options before after) f
-  stops_there all f h = stops_so options all _ _ _ _ prints_there begins_there f h

@@ -1,6 +1,7 @@
 -- All calls of one event are refused alike, and some need not be made to judge it (for `check_refusal`, `check_refusals`, `report_events`).
-use Rattle.std.proofs.Common.{◌≡◌, ℕ, Bool, false, not, List, [], ◌∷◌, ◌++◌, Option, None, Some, length, take, get_or, ◌+◌, ◌<◌, arith, if◌then◌else◌, refl, sym, ap, ap₂, ◌∙◌, true, ◌||◌, rules}
-use Rattle.scenes.proofs.Common.{all_zipped_more, AllZip, ChecksEvent, common_steps, cond, false≢true, fault_at_call, first_refused, is_some, IsCallOf, length-append, nat_lt, option_map, OutputLoadDecider, OutputNotLoaded, position_or_len, refusal_by, ReportCall, RetriedSuccess, SceneEvent, slice_get, slice_get-get_or, take_more, TestEventKind, WriteEventError}
+use Rattle.std.proofs.Common.{◌≡◌, ℕ, Bool, false, not, List, [], ◌∷◌, ◌++◌, Option, None, Some, length, take, get_or, ◌+◌, ◌<◌, if◌then◌else◌, refl, sym, ap, ap₂, ◌∙◌, true, ◌||◌, rules}
+use Rattle.scenes.proofs.Common.{all_zipped_more, AllZip, ChecksEvent, cond, false≢true, fault_at_call, first_refused, is_some, IsCallOf, nat_lt, option_map, OutputLoadDecider, OutputNotLoaded, position_or_len, refusal_by, ReportCall, RetriedSuccess, SceneEvent, take_more, TestEventKind, WriteEventError}
+use Rattle.std.specs.List.{position}
 use Rattle.std.specs.Option.{option_map_or}
 use Rattle.std.proofs.lemmas.Slice.Zip.{AllZip-long}
 use Rattle.run_model.specs.Attempts.{Attempt, Written}
@@ -63,16 +64,12 @@ first_told d [] [] h = refl
 first_told d (e ∷ es) (c ∷ calls) h = ap₂ (λ o n. cond (not (is_some o)) (1 + n) 0) (refusal_of_call d e c h.0) (first_told d es calls h.1)
 first_told d es calls h = absurd h
 
-pub same_first : (d : OutputLoadDecider) (es : List SceneEvent) (a b : List ReportCall) → AllZip IsCallOf es a → AllZip IsCallOf es b → first_refused d a ≡ first_refused d b
-same_first d es a b h k =
-    ap₂ (λ (n long : ℕ). cond (nat_lt n long) (Some n) None) (first_told d es a h ∙ sym (first_told d es b k)) (AllZip-long IsCallOf es a h ∙ sym (AllZip-long IsCallOf es b k))
+pub first_of : (d : OutputLoadDecider) (es : List SceneEvent) (calls : List ReportCall) → AllZip IsCallOf es calls → first_refused d calls ≡ position (λ e. is_some (told_refusal d e)) es
+first_of d es calls h = ap₂ (λ (n long : ℕ). cond (nat_lt n long) (Some n) None) (first_told d es calls h) (AllZip-long IsCallOf es calls h)
 
 -- one more element of each of two lists
 pub AllZip-more : {A B : Type 0} (R : A → B → Type 0) (xs : List A) (ys : List B) (i : ℕ) (x : A) (y : B) → i < length xs → x ≡ get_or xs i x → AllZip R (take i xs) ys → R x y → AllZip R (take (i + 1) xs) (ys ++ y ∷ [])
 AllZip-more R xs ys i x y l e h r = rw (take_more xs i x l, ← e) (all_zipped_more R (take i xs) ys x y h r)
-
-pub zip_long : (es : List SceneEvent) (calls : List ReportCall) (i : ℕ) → i < length es → AllZip IsCallOf (take i es) calls → length calls ≡ i
-zip_long es calls i within h = AllZip-long IsCallOf (take i es) calls h ∙ grind (arith, common_steps, within)
 
 -- the calls of the first events and those of the others
 pub zip_both : (es fs : List SceneEvent) (calls more : List ReportCall) → AllZip IsCallOf es calls → AllZip IsCallOf fs more → AllZip IsCallOf (es ++ fs) (calls ++ more)
@@ -80,14 +77,10 @@ zip_both [] fs [] more h k = k
 zip_both (e ∷ es) fs (x ∷ calls) more h k = (h.0, zip_both es fs calls more h.1 k)
 zip_both es fs calls more h k = absurd h
 
--- the call behind others, and those before it
-pub last_there : (calls : List ReportCall) (c : ReportCall) → slice_get (calls ++ c ∷ []) (length calls) ≡ Some c
-last_there [] c = refl
-last_there (x ∷ calls) c = last_there calls c
-
-pub same_there : (calls : List ReportCall) (c : ReportCall) (i : ℕ) → i < length calls → slice_get (calls ++ c ∷ []) i ≡ slice_get calls i
-same_there calls c i within =
-    slice_get-get_or (calls ++ c ∷ []) i c (omega (arith, length-append calls (c ∷ []), within)) ∙ ap (λ (x : ReportCall). Some x) (grind (arith, common_steps, within)) ∙ sym (slice_get-get_or calls i c within)
+pub zip_after : (es fs : List SceneEvent) (calls : List ReportCall) → AllZip IsCallOf (es ++ fs) calls → (more : List ReportCall) × AllZip IsCallOf fs more
+zip_after [] fs calls h = (calls, h)
+zip_after (e ∷ es) fs [] h = absurd h
+zip_after (e ∷ es) fs (c ∷ calls) h = zip_after es fs calls h.1
 
 -- of output that is there nothing is lacking
 none_lacking : (is_needed : Bool) (output : Written) → has_loaded_output output ≡ true → lacking is_needed output ≡ None

@@ -1,12 +1,13 @@
 -- Which line says an event of those that lines tell, and that a line behind an event makes no configuration (for `follow_lines`).
-use Rattle.std.proofs.Common.{bytes_eq, codes, if◌then◌else◌, ◌≡◌, ◌⊎◌, ℕ, ◌+◌, true, false, List, [], ◌∷◌, ◌++◌, Result, Ok, Err, length, get_or, refl, sym, ap, ◌∙◌, arith, append-nil, append_assoc, inl, inr}
+use Rattle.std.proofs.Common.{bytes_eq, codes, if◌then◌else◌, ◌≡◌, ◌⊎◌, ℕ, ◌+◌, true, List, [], ◌∷◌, ◌++◌, Result, Ok, Err, length, get_or, refl, sym, ap, ◌∙◌, subst, arith, append-nil, append_assoc, inl, inr}
 use native.Mathlib.Numerals.{unary_clauses}
-use Rattle.scenes.proofs.Common.{AllRead, EventLine, is_begun, length-append, line_value, LineFault, lines_before, lines_with, nat_lt, nat_tests, ParsedLine, ParsedLines, RunLine, SceneConfig, SceneEvent, with_line}
+use Rattle.scenes.proofs.Common.{AllRead, AtLine, EventLine, is_begun, length-append, line_value, LineFault, lines_before, lines_with, nat_lt, nat_tests, ParsedLine, ParsedLines, RunLine, SceneConfig, SceneEvent, with_line}
 use Rattle.std.proofs.lemmas.List.{append_cancel_left}
 use Rattle.scene_text.specs.SceneTexts.{ConfigLine, NoEvent, event_lines, is_passed_over, line_read, LinesBefore, event_of, parsed_line, event_line, with_event, parsed_words, parsed_config}
 use Rattle.std.proofs.lemmas.Bool.{cond_both}
 use Rattle.scene_text.specs.EventLines.{event_line_fields}
 use Rattle.scene_fields.specs.Fields.{Place}
+use Rattle.scenes.proofs.lemmas.ReadLines.{at_more, not_less}
 use Rattle.std.specs.Str.{is_utf8}
 use Rattle.scene_fields.specs.declared.fault.LineFault.TheVariants.{NotUtf8}
 use Rattle.scene_fields.specs.Split.{split_on}
@@ -48,23 +49,6 @@ begun_by : (es : List SceneEvent) (e : SceneEvent) → is_begun (es ++ e ∷ [])
 begun_by [] e = refl
 begun_by (x ∷ es) e = refl
 
-with_none : (before after : ParsedLines) (r : Said) → SaysNone r → lines_with before r ≡ Ok after → is_begun before.events ≡ true → (after.config ≡ before.config) × (is_begun after.events ≡ true)
-with_none before after (Ok (EventLine e)) none h begun = (let same : with_line before (EventLine e) ≡ after = cc in rw (← same) (refl, begun_by before.events e))
-with_none before after (Ok (ConfigLine c)) none h begun = absurd none
-with_none before after (Ok NoEvent) none h begun = (let same : before ≡ after = cc in rw (← same) (refl, begun))
-with_none before after (Err f) none h begun = absurd (cc)
-
-one_kept : (before after : ParsedLines) (t : RunLine) → is_begun before.events ≡ true → line_read before t ≡ Ok after → (after.config ≡ before.config) × (is_begun after.events ≡ true)
-unfolding line_read
-one_kept before after t begun h =
-    let none : SaysNone (line_value (lines_before before) t) = rw begun (with_none_made (t.made (behind before.config)) (parsed_line (behind before.config) t.text) (says_none before.config t.text)) in
-    with_none before after (line_value (lines_before before) t) none h begun
-
--- lines behind an event keep the configuration
-pub config_kept : (before : ParsedLines) (ts : List RunLine) (after : ParsedLines) → is_begun before.events ≡ true → AllRead before ts after → after.config ≡ before.config
-config_kept before [] after begun h = ap (λ x. x.config) (sym h)
-config_kept before (t ∷ ts) after begun h = (let one = one_kept before h.0 t begun h.1 in config_kept h.0 ts after one.1 h.2 ∙ one.0)
-
 -- a line says an event
 record ReadsOne (before after : ParsedLines) (t : RunLine) : Type 0 where
   pub event : SceneEvent
@@ -72,15 +56,31 @@ record ReadsOne (before after : ParsedLines) (t : RunLine) : Type 0 where
   pub events : after.events ≡ before.events ++ event ∷ []
   pub config : after.config ≡ before.config
 
-with_cases : (before after : ParsedLines) (t : RunLine) (r : Result ParsedLine LineFault) → line_value (lines_before before) t ≡ r → lines_with before r ≡ Ok after → (after.events ≡ before.events) ⊎ ReadsOne before after t
-with_cases before after t (Ok (EventLine e)) says h = (let same : with_line before (EventLine e) ≡ after = cc in inr (rw (← same) (record { event = e; says = says; events = refl; config = refl })))
-with_cases before after t (Ok s) says h = (let same : with_line before s ≡ after = cc in inl (rw (← same) refl))
-with_cases before after t (Err f) says h = absurd (cc)
+-- what a line does that tells: it leaves the events as they are, and behind an event the configuration, or it says an event
+abbrev Does : ParsedLines → ParsedLines → RunLine → Type 0
+Does before after t = ((after.events ≡ before.events) × (is_begun before.events ≡ true → after.config ≡ before.config)) ⊎ ReadsOne before after t
 
--- what a line does that tells: it says an event, or leaves the events as they are
-cases : (before after : ParsedLines) (t : RunLine) → line_read before t ≡ Ok after → (after.events ≡ before.events) ⊎ ReadsOne before after t
+with_cases : (before after : ParsedLines) (t : RunLine) (r : Said) → line_value (lines_before before) t ≡ r → (is_begun before.events ≡ true → SaysNone r) → lines_with before r ≡ Ok after → Does before after t
+with_cases before after t (Ok (EventLine e)) says none h = (let same : with_line before (EventLine e) ≡ after = cc in inr (rw (← same) (record { event = e; says = says; events = refl; config = refl })))
+with_cases before after t (Ok (ConfigLine c)) says none h = (let same : with_line before (ConfigLine c) ≡ after = cc in inl (rw (← same) (refl, λ begun. absurd (none begun))))
+with_cases before after t (Ok NoEvent) says none h = (let same : before ≡ after = cc in inl (rw (← same) (refl, λ begun. refl)))
+with_cases before after t (Err f) says none h = absurd (cc)
+
+cases : (before after : ParsedLines) (t : RunLine) → line_read before t ≡ Ok after → Does before after t
 unfolding line_read
-cases before after t h = with_cases before after t (line_value (lines_before before) t) refl h
+cases before after t h =
+    with_cases before after t (line_value (lines_before before) t) refl (λ begun. rw begun (with_none_made (t.made (behind before.config)) (parsed_line (behind before.config) t.text) (says_none before.config t.text))) h
+
+one_kept : (before after : ParsedLines) (t : RunLine) → is_begun before.events ≡ true → line_read before t ≡ Ok after → (after.config ≡ before.config) × (is_begun after.events ≡ true)
+one_kept before after t begun h = elim (cases before after t h) [
+  | inl same ↦ (same.1 begun, ap is_begun same.0 ∙ begun)
+  | inr one ↦ (one.config, ap is_begun one.events ∙ begun_by before.events one.event)
+]
+
+-- lines behind an event keep the configuration
+pub config_kept : (before : ParsedLines) (ts : List RunLine) (after : ParsedLines) → is_begun before.events ≡ true → AllRead before ts after → after.config ≡ before.config
+config_kept before [] after begun h = ap (λ x. x.config) (sym h)
+config_kept before (t ∷ ts) after begun h = (let one = one_kept before h.0 t begun h.1 in config_kept h.0 ts after one.1 h.2 ∙ one.0)
 
 -- lines tell further events
 grown : (before : ParsedLines) (ts : List RunLine) (after : ParsedLines) → AllRead before ts after → (more : List SceneEvent) × (after.events ≡ before.events ++ more)
@@ -88,12 +88,9 @@ grown before [] after h = ([], ap (λ x. x.events) (sym h) ∙ sym (append-nil b
 grown before (t ∷ ts) after h =
     let next = grown h.0 ts after h.2 in
     elim (cases before h.0 t h.1) [
-      | inl same ↦ (next.0, next.1 ∙ ap (λ es. es ++ next.0) same)
+      | inl same ↦ (next.0, next.1 ∙ ap (λ es. es ++ next.0) same.0)
       | inr one ↦ (one.event ∷ next.0, next.1 ∙ ap (λ es. es ++ next.0) one.events ∙ append_assoc before.events (one.event ∷ []) next.0)
     ]
-
-pub not_less : (n : ℕ) → nat_lt n n ≡ false
-not_less n = grind (arith, nat_tests)
 
 -- a line notes its number where it says an event
 notes_none : (n : ℕ) (before mid : ParsedLines) (t : RunLine) (ts : List RunLine) → line_read before t ≡ Ok mid → mid.events ≡ before.events → event_lines n before (t ∷ ts) ≡ event_lines (n + 1) mid ts
@@ -106,64 +103,48 @@ notes_one n before mid t ts h one =
     let less : nat_lt (length before.events) (length mid.events) ≡ true = grind (arith, nat_tests, ap length one.events, length-append before.events (one.event ∷ [])) in
     rw (h, less) refl
 
--- the line that says the event behind these, and its number among those of events
-pub record HasEventAt (n : ℕ) (before : ParsedLines) (lines : List RunLine) (after : ParsedLines) (front : List SceneEvent) (e : SceneEvent) : Type 0 where
-  pub skipped : List RunLine
+-- the next line behind a run says the event, and has this number
+pub record HasEventAt (all : List RunLine) (run : ParsedLines) (number : ℕ) (e : SceneEvent) : Type 0 where
   pub t : RunLine
   pub more : List RunLine
-  pub whole : lines ≡ skipped ++ t ∷ more
-  pub mid : ParsedLines
-  pub tells : AllRead before skipped mid
-  pub events : mid.events ≡ before.events ++ front
-  pub config : mid.config ≡ after.config
-  pub says : line_value (lines_before mid) t ≡ Ok (EventLine e)
-  pub number : get_or (event_lines n before lines) (length front) 0 ≡ n + length skipped
+  pub at : AtLine all run (t ∷ more) number
+  pub says : line_value (lines_before run) t ≡ Ok (EventLine e)
 
--- it stands in the lines behind the first
-later : (n : ℕ) (before mid : ParsedLines) (t : RunLine) (ts : List RunLine) (after : ParsedLines) (parsed_lines : line_read before t ≡ Ok mid) (front inner : List SceneEvent) (e : SceneEvent) (k : HasEventAt (n + 1) mid ts after inner e) →
-    mid.events ++ inner ≡ before.events ++ front → get_or (event_lines n before (t ∷ ts)) (length front) 0 ≡ get_or (event_lines (n + 1) mid ts) (length inner) 0 → HasEventAt n before (t ∷ ts) after front e
-later n before mid t ts after parsed_lines front inner e k events number = record {
-  skipped = t ∷ k.skipped;
-  t = k.t;
-  more = k.more;
-  whole = ap (λ ls. t ∷ ls) k.whole;
-  mid = k.mid;
-  tells = (mid, parsed_lines, k.tells);
-  events = k.events ∙ events;
-  config = k.config;
-  says = k.says;
-  number = number ∙ k.number ∙ omega (arith);
-}
+-- of lines that tell these events, and then e
+module _ (all left : List RunLine) (after : ParsedLines) (events : List SceneEvent) (e : SceneEvent) (rest : List SceneEvent) (is : after.events ≡ events ++ e ∷ rest) (number : ℕ) where
+  abbrev Found : Type 0
+  Found = HasEventAt all (record { config = after.config; events = events }) number e
 
-said_here : (n : ℕ) (before mid : ParsedLines) (t : RunLine) (ts : List RunLine) (after : ParsedLines) → line_read before t ≡ Ok mid → AllRead mid ts after → (one : ReadsOne before mid t) → ((front : List SceneEvent) (e : SceneEvent) (rest : List SceneEvent) → after.events ≡ mid.events ++ (front ++ e ∷ rest) → HasEventAt (n + 1) mid ts after front e) → (front : List SceneEvent) (e : SceneEvent) (rest next : List SceneEvent) →
-    after.events ≡ mid.events ++ next → one.event ∷ next ≡ front ++ e ∷ rest → HasEventAt n before (t ∷ ts) after front e
-said_here n before mid t ts after parsed_lines tells one behind [] e rest next events both = record {
-  skipped = [];
-  t = t;
-  more = ts;
-  whole = refl;
-  mid = before;
-  tells = refl;
-  events = sym (append-nil before.events);
-  config = sym (config_kept mid ts after (ap is_begun one.events ∙ begun_by before.events one.event) tells ∙ one.config);
-  says = (let same : one.event ≡ e = cc in one.says ∙ ap (λ x. Ok (EventLine x)) same);
-  number = ap (λ ls. get_or ls 0 0) (notes_one n before mid t ts parsed_lines one) ∙ omega (arith);
-}
-said_here n before mid t ts after parsed_lines tells one behind (f ∷ fs) e rest next events both =
-    let grows : mid.events ++ fs ≡ before.events ++ f ∷ fs = (let same : one.event ≡ f = cc in ap (λ es. es ++ fs) one.events ∙ append_assoc before.events (one.event ∷ []) fs ∙ ap (λ x. before.events ++ x ∷ fs) same) in
-    let left : next ≡ fs ++ e ∷ rest = cc in
-    later n before mid t ts after parsed_lines (f ∷ fs) fs e (behind fs e rest (events ∙ ap (λ es. mid.events ++ es) left)) grows (ap (λ ls. get_or ls (length (f ∷ fs)) 0) (notes_one n before mid t ts parsed_lines one) ∙ simp unary_clauses refl)
+  -- the first is an event: it is e, or one of those before
+  one_found : (n : ℕ) (before mid : ParsedLines) (t : RunLine) (ts : List RunLine) → AtLine all before (t ∷ (ts ++ left)) n → line_read before t ≡ Ok mid → AllRead mid ts after → (one : ReadsOne before mid t) →
+      ((front : List SceneEvent) → events ≡ mid.events ++ front → get_or (event_lines (n + 1) mid ts) (length front) 0 ≡ number → Found) → (front next : List SceneEvent) → events ≡ before.events ++ front → one.event ∷ next ≡ front ++ e ∷ rest →
+      get_or (event_lines n before (t ∷ ts)) (length front) 0 ≡ number → Found
+  one_found n before mid t ts at reads tells one found [] next here both numbered =
+      let kept = config_kept mid ts after (ap is_begun one.events ∙ begun_by before.events one.event) tells ∙ one.config in
+      let run_is : before ≡ record { config = after.config; events = events } = rw (kept, here, append-nil before.events) refl in
+      let number_is : n ≡ number = sym (ap (λ ls. get_or ls 0 0) (notes_one n before mid t ts reads one)) ∙ numbered in
+      let same : one.event ≡ e = cc in
+      record {
+        t = t;
+        more = ts ++ left;
+        at = subst (λ r. AtLine all r (t ∷ (ts ++ left)) number) run_is (subst (AtLine all before (t ∷ (ts ++ left))) number_is at);
+        says = subst (λ r. line_value (lines_before r) t ≡ Ok (EventLine e)) run_is (one.says ∙ ap (λ x. Ok (EventLine x)) same);
+      }
+  one_found n before mid t ts at reads tells one found (f ∷ fs) next here both numbered =
+      let same : f ≡ one.event = cc in
+      let grows : before.events ++ f ∷ fs ≡ mid.events ++ fs = ap (λ x. before.events ++ x ∷ fs) same ∙ sym (append_assoc before.events (one.event ∷ []) fs) ∙ ap (λ es. es ++ fs) (sym one.events) in
+      let later : get_or (event_lines n before (t ∷ ts)) (length (f ∷ fs)) 0 ≡ get_or (event_lines (n + 1) mid ts) (length fs) 0 = ap (λ ls. get_or ls (length (f ∷ fs)) 0) (notes_one n before mid t ts reads one) ∙ simp unary_clauses refl in
+      found fs (here ∙ grows) (sym later ∙ numbered)
 
-pub event_at : (n : ℕ) (before : ParsedLines) (lines : List RunLine) (after : ParsedLines) → AllRead before lines after → (front : List SceneEvent) (e : SceneEvent) (rest : List SceneEvent) → after.events ≡ before.events ++ (front ++ e ∷ rest) →
-    HasEventAt n before lines after front e
-event_at n before [] after h front e rest is =
-    absurd (omega (arith, ap length (ap (λ x. x.events) h ∙ is), length-append before.events (front ++ e ∷ rest), length-append front (e ∷ rest)))
-event_at n before (t ∷ ts) after h front e rest is = elim (cases before h.0 t h.1) [
-  | inl same ↦
-      later n before h.0 t ts after h.1 front front e (event_at (n + 1) h.0 ts after h.2 front e rest (is ∙ ap (λ es. es ++ (front ++ e ∷ rest)) (sym same))) (ap (λ es. es ++ front) same)
-      (ap (λ ls. get_or ls (length front) 0) (notes_none n before h.0 t ts h.1 same))
-  | inr one ↦
-      let next = grown h.0 ts after h.2 in
-      let both = append_cancel_left before.events (one.event ∷ next.0) (front ++ e ∷ rest) (sym (append_assoc before.events (one.event ∷ []) next.0) ∙ ap (λ es. es ++ next.0) (sym one.events) ∙ sym next.1 ∙ is) in
-      said_here n before h.0 t ts after h.1 h.2 one (λ front e rest is. event_at (n + 1) h.0 ts after h.2 front e rest is) front e rest next.0 next.1 both
-]
+  pub event_at : (n : ℕ) (before : ParsedLines) (lines : List RunLine) → AtLine all before (lines ++ left) n → AllRead before lines after → (front : List SceneEvent) → events ≡ before.events ++ front → get_or (event_lines n before lines) (length front) 0 ≡ number → Found
+  event_at n before [] at h front here numbered = absurd (omega (arith, ap length (ap (λ x. x.events) h ∙ is), ap length here, length-append before.events front, length-append events (e ∷ rest)))
+  event_at n before (t ∷ ts) at h front here numbered =
+      let next_at = at_more all before t (ts ++ left) n h.0 at h.1 in
+      elim (cases before h.0 t h.1) [
+        | inl same ↦ event_at (n + 1) h.0 ts next_at h.2 front (here ∙ ap (λ es. es ++ front) (sym same.0)) (sym (ap (λ ls. get_or ls (length front) 0) (notes_none n before h.0 t ts h.1 same.0)) ∙ numbered)
+        | inr one ↦
+            let next = grown h.0 ts after h.2 in
+            let both = append_cancel_left before.events (one.event ∷ next.0) (front ++ e ∷ rest)
+            (sym (append_assoc before.events (one.event ∷ []) next.0) ∙ ap (λ es. es ++ next.0) (sym one.events) ∙ sym next.1 ∙ is ∙ ap (λ es. es ++ e ∷ rest) here ∙ append_assoc before.events front (e ∷ rest)) in
+            one_found n before h.0 t ts at h.1 h.2 one (λ front here numbered. event_at (n + 1) h.0 ts next_at h.2 front here numbered) front next.0 here both numbered
+      ]

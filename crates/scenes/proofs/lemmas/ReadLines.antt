@@ -1,16 +1,12 @@
 -- Lines that were read piece by piece (for `read_next`, `read_whole`, `read_head`, `follow_rest`).
 use Rattle.std.proofs.Common.{◌≡◌, ℕ, ◌+◌, Bool, true, false, List, [], ◌∷◌, ◌++◌, Option, Some, Result, Ok, Err, length, map, refl, sym, ap, ◌∙◌, subst, arith, append-nil, append_assoc, inl, inr, ◌==◌}
-use Rattle.scenes.proofs.Common.{all_append, AllRead, AreLeft, AreLeftOf, AtLine, begun_behind, cases_Bool, Fault, fault_of_read, HasRead, is_begun, is_begun_behind, IsMore, IsNextFault, IsNextPiece, IsUnread, length-append, line_value, lines_after, lines_before, LinesRead, map-append, no_lines, OfLines, parsed_lines, ParsedLine, ParsedLines, reader_remaining, ReadFault, RunLine, text_lines, text_read, with_line}
-use Rattle.std.specs.Io.Buffered.{reader_buffer, reader_capacity, reader_inner}
+use Rattle.scenes.proofs.Common.{all_append, AllRead, AreLeft, AreLeftOf, AtLine, begun_behind, cases_Bool, false≢true, Fault, fault_of_read, HasRead, is_begun_behind, IsMore, IsNextFault, IsNextPiece, IsUnread, length-append, line_value, lines_after, lines_before, LinesRead, map-append, nat_lt, nat_tests, no_lines, parsed_lines, ParsedLine, ParsedLines, ReadFault, RunLine, text_lines, text_read, with_line}
 use Rattle.std.specs.List.{onto_first}
-use Rattle.std.specs.declared.io.buffered.BufReader.{BufReader}
 use Rattle.command_line.specs.declared.fault.Fault.TheVariants as program
 use Rattle.scene_fields.specs.Split.{split_on}
 use Rattle.scene_fields.specs.declared.fault.ReadFault.TheVariants as reading
 use Rattle.scene_text.specs.SceneTexts.{LeavesLines, ReadsLines, event_lines, parsed_line, line_read, lines_read, plain_line}
 use Rattle.scene_text.proofs.lemmas.Tellings.{all_told, noted_append, reads_none, wrong_told}
-use Rattle.scenes.proofs.lemmas.EventLines.{not_less}
-use Rattle.std.proofs.lemmas.Iterator.Adapters.{option_map_id}
 use Rattle.std.proofs.lemmas.List.Splits.{length-slice_split}
 use Rattle.scenes.specs.ParsedScenes.{IsReadFault, IsSceneRead}
 
@@ -41,11 +37,6 @@ cut left rest piece remaining (inl lines) (more, remains, inl feed) = (text_line
 cut left rest piece remaining (inl lines) (more, remains, inr end) = ([], lines ∙ ap text_lines end.0 ∙ sym (append-nil (text_lines piece)), (more, remains, inr (refl, end.1)))
 cut left rest piece remaining (inr none) (more, remains, inl feed) = absurd (omega (arith, ap length (sym none.1 ∙ feed), length-append piece (10 ∷ more)))
 cut left rest piece remaining (inr none) (more, remains, inr end) = absurd (omega (arith, ap length (sym none.1 ∙ end.0), end.2))
-
--- what a new reader has is what its inner one has
-pub new_reader : {T A : Type 0} (remaining : T → Option (List ℕ)) (r : BufReader T A) (inner : T) (size : ℕ) → reader_inner r ≡ inner → reader_buffer r ≡ [] → reader_capacity r ≡ size → (size == 0) ≡ false →
-    reader_remaining remaining r ≡ remaining inner
-new_reader remaining r inner size is empty sized some = rw (sized, some, empty, is) (option_map_id (remaining inner))
 
 -- none of the lines that a source has was read
 pub none_read : (file : List ℕ) (all : List RunLine) (read : LinesRead) (Has : ParsedLines → List RunLine → Type 0) → parsed_lines read.run ≡ no_lines → read.run.lines.items ≡ [] → read.is_begun ≡ false → read.next ≡ 1 → Has no_lines all →
@@ -149,11 +140,19 @@ module _ (file : List ℕ) (all front : List RunLine) (before : ParsedLines) (ol
       more_is = subst (λ n. IsMore file more (lines_after read_told.events (parsed_lines new.run)) has.left n Has) (sym next) (subst (λ r. IsMore file more r has.left old.next Has) all_forgotten has.more_is);
     }
 
+pub not_less : (n : ℕ) → nat_lt n n ≡ false
+not_less n = grind (arith, nat_tests)
+
 -- where no line is left but an empty one, that tells nothing
 last_tells : (n : ℕ) (run : ParsedLines) (left : List RunLine) → AreLeft left [] → AllRead run left run × (event_lines n run left ≡ [])
 unfolding event_lines line_read parsed_line split_on
 last_tells n run left (inl last) = rw (last, not_less (length run.events)) ((run, refl, refl), refl)
 last_tells n run left (inr none) = rw none.0 (refl, refl)
+
+-- where no more is said to come, the lines end
+pub to_end : {P : Type 0} (r : Result Bool Fault) (more : Bool) (Q : Result Bool Fault → Type 0) → r ≡ Ok more → (r ≡ Ok true → (false ≡ true) × P) → Q r → Q (Ok false)
+to_end r true Q is none h = absurd (false≢true (none is).0)
+to_end r false Q is none h = subst Q is h
 
 -- lines that were read from the first on
 module _ (file : List ℕ) (all : List RunLine) (read : LinesRead) where
@@ -166,10 +165,6 @@ module _ (file : List ℕ) (all : List RunLine) (read : LinesRead) where
     spells =
         let behind = all_append before has.lines after has.left after has.tells (last_tells read.next after has.left has.more_is.0).0 in
         ap (lines_read 1 no_lines) has.whole ∙ all_told 1 no_lines (front ++ (has.lines ++ has.left)) after (all_append no_lines front before (has.lines ++ has.left) after has.forgotten behind)
-
-    -- and none is left
-    pub none_after : OfLines all (λ run. Has run [])
-    none_after = record { run = after; spelled = spells; holds = has.more_is.1 }
 
   pub notes : (Has : ParsedLines → List RunLine → Type 0) → HasRead file all [] no_lines read (Ok false) Has → read.run.lines.items ≡ event_lines 1 no_lines all
   notes Has has =

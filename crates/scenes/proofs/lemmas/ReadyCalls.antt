@@ -1,17 +1,13 @@
 -- Calls of which the output that no report shows is left unread have the same report (for `SceneReporter::report_events` and replays).
-use Rattle.std.proofs.Common.{rules, ◌≡◌, Bool, true, false, List, [], ◌∷◌, ◌++◌, map, reverse, refl, sym, ap, ◌∙◌, inl, inr}
-use Rattle.scenes.proofs.Common.{cases_Bool, configuration_for, decider_for, Event, map-append, Options, outcome_after, OutputLoadDecider, ready, refusal_by, report, ReportCall, reverse-append, reverse-reverse, RunOutcome, SceneConfig, stored, TestEventKind, unread, unread_call}
-use Rattle.std.proofs.lemmas.List.{map-id}
+use Rattle.std.proofs.Common.{rules, if◌then◌else◌, ◌≡◌, Bool, true, false, List, [], ◌∷◌, ◌++◌, reverse, refl, ap, ◌∙◌, inl, inr}
+use mathlib.Core.List.{reverse_aux}
+use Rattle.scenes.proofs.Common.{cases_Bool, configuration_for, decider_for, Event, map-append, Options, outcome_after, OutputLoadDecider, refusal_by, report_of, ReportCall, RunOutcome, SceneConfig, stored_of, TestEventKind, unloaded_for, unread, unread_call}
 use Rattle.console_reporter.proofs.lemmas.Isolation.{isolated}
 use Rattle.reporter_state.specs.Unread.{is_skipped}
 use Rattle.run_model.specs.Unloaded.{unloaded_kind}
 use Rattle.run_model.specs.declared.event.TestEventKind.TheVariants as kind
 use Rattle.scenes.specs.Outcomes.{outcome_after_event, run_outcome}
 use Rattle.scenes.specs.Unloads.{ready_if}
-
-map-reverse : {X Y : Type 0} (f : X → Y) (xs : List X) → map f (reverse xs) ≡ reverse (map f xs)
-map-reverse f [] = refl
-map-reverse f (x ∷ xs) = ap (map f) (reverse-append (x ∷ []) xs) ∙ map-append f (reverse xs) (x ∷ []) ∙ ap (λ ys. ys ++ f x ∷ []) (map-reverse f xs) ∙ sym (reverse-append (f x ∷ []) (map f xs))
 
 -- what a run has come to does not depend on output
 unloaded_outcome : (before : RunOutcome) (k : TestEventKind) → outcome_after_event before (unloaded_kind k) ≡ outcome_after_event before k
@@ -22,19 +18,22 @@ outcome_if : (unloads : Bool) (d : OutputLoadDecider) (before : RunOutcome) (cal
 outcome_if true d before (Event e) = elim (cases_Bool (is_skipped d e.kind)) [ inl skipped ↦ rw skipped (unloaded_outcome before e.kind) | inr loaded ↦ rw loaded refl ]
 outcome_if unloads d before call = search rules
 
-past_outcome : (d : OutputLoadDecider) (past : List ReportCall) → run_outcome (map (unread_call d) past) ≡ run_outcome past
+outcome_behind : (d : OutputLoadDecider) (calls past other : List ReportCall) → run_outcome other ≡ run_outcome past → run_outcome (reverse_aux (unread d calls) other) ≡ run_outcome (reverse_aux calls past)
 unfolding run_outcome
-past_outcome d [] = refl
-past_outcome d (call ∷ past) = outcome_if true d (run_outcome (map (unread_call d) past)) call ∙ ap (λ before. outcome_after before call) (past_outcome d past)
+outcome_behind d [] past other same = same
+outcome_behind d (call ∷ calls) past other same = outcome_behind d calls (call ∷ past) (unread_call d call ∷ other) (outcome_if true d (run_outcome other) call ∙ ap (λ before. outcome_after before call) same)
 
 pub outcome_unread : (d : OutputLoadDecider) (calls : List ReportCall) → run_outcome (reverse (unread d calls)) ≡ run_outcome (reverse calls)
-outcome_unread d calls = ap run_outcome (sym (map-reverse (unread_call d) calls)) ∙ past_outcome d (reverse calls)
+outcome_unread d calls = outcome_behind d calls [] [] refl
 
--- what is the same of calls in order is the same of a past, the latest call first
-past_if : {X : Type 0} (f : List ReportCall → X) (d : OutputLoadDecider) → ((calls : List ReportCall) → f (reverse (unread d calls)) ≡ f (reverse calls)) → (unloads : Bool) (past : List ReportCall) → f (map (ready_if unloads d) past) ≡ f past
-past_if f d same true past =
-    ap f (sym (ap reverse (map-reverse (unread_call d) past) ∙ reverse-reverse (map (unread_call d) past))) ∙ same (reverse past) ∙ ap f (reverse-reverse past)
-past_if f d same false past = ap f (map-id past)
+-- what is the same of unread calls is the same of those that the reporter gets
+same_if : {X : Type 0} (f : List ReportCall → X) (unloads : Bool) (d : OutputLoadDecider) (calls : List ReportCall) → f (unread d calls) ≡ f calls → f (if unloads then unread d calls else calls) ≡ f calls
+same_if f true d calls same = same
+same_if f false d calls same = refl
+
+more_if : (unloads : Bool) (d : OutputLoadDecider) (calls : List ReportCall) (call : ReportCall) → (if unloads then unread d (calls ++ call ∷ []) else calls ++ call ∷ []) ≡ (if unloads then unread d calls else calls) ++ ready_if unloads d call ∷ []
+more_if true d calls call = map-append (unread_call d) calls (call ∷ [])
+more_if false d calls call = refl
 
 refusal_if : (unloads : Bool) (d : OutputLoadDecider) (call : ReportCall) → refusal_by d (ready_if unloads d call) ≡ refusal_by d call
 refusal_if true d call = (isolated d (call ∷ [])).6 0
@@ -42,14 +41,23 @@ refusal_if false d call = refl
 
 -- where the options ask for it
 module _ (options : Options) (scene : SceneConfig) where
-  pub report_ready : (past : List ReportCall) → report (configuration_for options scene) (map (ready options scene) past) ≡ report (configuration_for options scene) past
-  report_ready = past_if (report (configuration_for options scene)) (decider_for options scene) (λ calls. (isolated _ calls).1 (configuration_for options scene) refl) options.unload_skipped
+  abbrev d : OutputLoadDecider
+  d = decider_for options scene
 
-  pub stored_ready : (past : List ReportCall) → stored (configuration_for options scene).store (map (ready options scene) past) ≡ stored (configuration_for options scene).store past
-  stored_ready = past_if (stored (configuration_for options scene).store) (decider_for options scene) (λ calls. (isolated _ calls).3 (configuration_for options scene) refl) options.unload_skipped
+  pub report_ready : (calls : List ReportCall) → report_of options scene (unloaded_for options scene calls) ≡ report_of options scene calls
+  report_ready calls = same_if (report_of options scene) options.unload_skipped d calls ((isolated d calls).1 (configuration_for options scene) refl)
 
-  pub refusal_ready : (call : ReportCall) → refusal_by (decider_for options scene) (ready options scene call) ≡ refusal_by (decider_for options scene) call
-  refusal_ready = refusal_if options.unload_skipped (decider_for options scene)
+  pub stored_ready : (calls : List ReportCall) → stored_of options (unloaded_for options scene calls) ≡ stored_of options calls
+  stored_ready calls = same_if (stored_of options) options.unload_skipped d calls ((isolated d calls).3 (configuration_for options scene) refl)
 
-  pub outcome_ready : (before : RunOutcome) (call : ReportCall) → outcome_after before (ready options scene call) ≡ outcome_after before call
-  outcome_ready = outcome_if options.unload_skipped (decider_for options scene)
+  pub none_ready : unloaded_for options scene [] ≡ []
+  none_ready = same_if (λ calls. calls) options.unload_skipped d [] refl
+
+  pub more_ready : (calls : List ReportCall) (call : ReportCall) → unloaded_for options scene (calls ++ call ∷ []) ≡ unloaded_for options scene calls ++ ready_if options.unload_skipped d call ∷ []
+  more_ready = more_if options.unload_skipped d
+
+  pub refusal_ready : (call : ReportCall) → refusal_by d (ready_if options.unload_skipped d call) ≡ refusal_by d call
+  refusal_ready = refusal_if options.unload_skipped d
+
+  pub outcome_ready : (before : RunOutcome) (call : ReportCall) → outcome_after before (ready_if options.unload_skipped d call) ≡ outcome_after before call
+  outcome_ready = outcome_if options.unload_skipped d

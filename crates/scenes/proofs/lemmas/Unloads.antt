@@ -1,6 +1,7 @@
 -- Calls of which output is left unread make the same report (for `Scene::calls`).
-use Rattle.std.proofs.Common.{◌≡◌, List, true, false, refl, ◌∙◌}
+use Rattle.std.proofs.Common.{◌≡◌, List, true, false, refl, sym, subst, ◌∙◌}
 use Rattle.scenes.proofs.Common.{AreCallsOf, AreReadyCallsOf, decider_for, IsIsolated, Options, ReportCall, Scene, unread}
+use Rattle.console_reporter.proofs.lemmas.Isolation.{isolated}
 
 module _ (options : Options) (scene : Scene) where
   -- nothing is left unread
@@ -13,6 +14,5 @@ module _ (options : Options) (scene : Scene) where
   }
 
   -- what is skipped is left unread
-  pub ready_unread : (made calls : List ReportCall) → options.unload_skipped ≡ true → AreCallsOf scene made → calls ≡ unread (decider_for options scene.config) made → IsIsolated (decider_for options scene.config) made calls
-      → AreReadyCallsOf options scene calls
-  ready_unread made calls on of_scene left isolated = record { made = made; of_scene = of_scene; ready = left ∙ rw on refl; isolated = isolated }
+  pub ready_unread : (made calls : List ReportCall) → options.unload_skipped ≡ true → AreCallsOf scene made → calls ≡ unread (decider_for options scene.config) made → AreReadyCallsOf options scene calls
+  ready_unread made calls on of_scene left = record { made = made; of_scene = of_scene; ready = left ∙ rw on refl; isolated = subst (IsIsolated (decider_for options scene.config) made) (sym left) (isolated (decider_for options scene.config) made) }

@@ -1,7 +1,7 @@
-use Rattle.std.proofs.Common.{rules, ◌≡◌, ◌++◌, length, take, drop, ap, sym, subst, ◌∙◌, true}
+use Rattle.std.proofs.Common.{rules, ◌≡◌, ◌++◌, length, take, drop, ap, sym, subst, ◌∙◌}
 use Rattle.std.proofs.Math.Seq.{take-append_seam}
 use Rattle.std.proofs.lemmas.List.{length-map}
-use Rattle.scenes.proofs.Common.{AreCallsOf, AreReadyCallsOf, decider_for, IsIsolated, unread, unread_call}
+use Rattle.scenes.proofs.Common.{AreReadyCallsOf, decider_for, unread, unread_call}
 use Rattle.scenes.proofs.lemmas.Unloads.{ready_unread}
 use Rattle.scenes.proofs.scene.Scene.calls.Goals as goal
 
@@ -10,14 +10,9 @@ returns-clause-calls c =
     let left = c.unload_skipped.new.calls in
     let made = c.in_ok-calls.calls.items in
     let decider = decider_for c.args.options.now c.args.self.now.config in
-    let on : c.args.options.now.unload_skipped ≡ true = search rules in
-    let of_scene : AreCallsOf c.args.self.now made = search rules in
     let unread_left : left ≡ unread decider made = search rules in
-    let parsed_lines : IsIsolated c.in_ok-decider.decider c.as_mut_slice.result.now left = c.unload_skipped.ensures.isolation in
-    let isolated : IsIsolated decider made left =
-    subst (λ d. IsIsolated d made left) c.in_ok-decider.ensures.ok (subst (λ calls. IsIsolated c.in_ok-decider.decider calls left) c.as_mut_slice.ensures.value parsed_lines) in
     let size : c.in_ok-calls.calls.len ≡ length made = search rules in
     let same : length left ≡ length made = ap length unread_left ∙ length-map made (unread_call decider) in
     let whole : take c.in_ok-calls.calls.len (left ++ drop (length left) made) ≡ left =
     ap (λ n. take n (left ++ drop (length left) made)) (size ∙ sym same) ∙ take-append_seam left (drop (length left) made) in
-    subst (AreReadyCallsOf c.args.options.now c.args.self.now) (sym whole) (ready_unread c.args.options.now c.args.self.now made left on of_scene unread_left isolated)
+    subst (AreReadyCallsOf c.args.options.now c.args.self.now) (sym whole) (ready_unread c.args.options.now c.args.self.now made left (search rules) (search rules) unread_left)
