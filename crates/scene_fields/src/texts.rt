@@ -8,8 +8,9 @@ ghost use Rattle.std.specs.Char.{digit_value};
 ghost use Rattle.std.specs.Option.{option_map, SomeIff};
 ghost use Rattle.scene_fields.specs.Texts.{cow_text, AddsStretch, bytes_in, escape_byte, escape_len, text_in};
 
-use super::marks::{find_byte, first_place, marks_from, places_behind};
+use super::marks::find_byte;
 use super::split::split_at_byte;
+use super::unescape::unescape_in_place;
 use run_model::memory::OutOfMemory;
 use std::alloc::Global;
 use std::borrow::CowStr;
@@ -58,33 +59,15 @@ pub(crate) fn push_stretch<'a>(
     Ok(Some(&escape[len..]))
 }
 
-/// Reads the bytes that a test wrote. `None` means a bad field.
+/// Reads the bytes that a test wrote. They are decoded in the memory of their copy. `None` means a bad field.
 pub fn read_bytes(alloc: Global, field: &str) -> Result<Option<Vec<u8>>, OutOfMemory>
     ensures { IfOk result (λ bytes. option_map (λ v. v.items) bytes ≡ bytes_in field.now) }
 {
-    let field = field.as_bytes();
-    let mut bytes = Vec::with_capacity(alloc, field.len())?;
-    let mut start = 0;
-    let mut from = 0;
-    while from < field.len() {
-        let mut marks = marks_from(b'\\', field, from);
-        let mut at = from;
-        while marks != 0 {
-            let place = first_place(marks);
-            let escape = at + place;
-            bytes.extend_from_slice(&field[start..escape])?;
-            let Some((byte, len)) = escape_at(&field[escape + 1..], u8::MAX) else {
-                return Ok(None);
-            };
-            bytes.push(byte)?;
-            // The second backslash of an escape begins none.
-            marks = places_behind(marks, place, 1 + len);
-            start = escape + 1 + len;
-            at = start;
-        }
-        from = start.max(from + 32);
-    }
-    bytes.extend_from_slice(&field[start..])?;
+    let mut bytes = Vec::from_slice(alloc, field.as_bytes())?;
+    let Some(len) = unescape_in_place(bytes.as_mut_slice()) else {
+        return Ok(None);
+    };
+    bytes.truncate(len);
     Ok(Some(bytes))
 }
 

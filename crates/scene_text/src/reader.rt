@@ -1,18 +1,16 @@
 //! The reader of scenes.
 //!
 //! A scene is lines of fields separated by tabs. The first field names an event, and what follows it is read by
-//! the kind of the event. Each module knows one thing: `lines` which kinds there are, `unit_lines` what fields the events of tests
-//! and of setup scripts have, `run_lines` those of the run and the calls of a replay, and `parts` values that stand
-//! in one field in parts.
+//! the kind of the event. Each module knows one thing: `lines` which kinds there are, `event_lines` what fields each has, and
+//! `parts` values that stand in one field in parts.
 
 ghost use Rattle.std.specs.Prelude.{◌≡◌, ◌++◌, [], false, IfErr, OnOk, Ok};
 ghost use Rattle.scene_text.specs.SceneTexts.{LeavesLines, NotesLine, ReadsLines, TakesLine, before_next, fault_at, is_begun_behind, is_passed_over, no_lines, parsed_line, parsed_lines, parsed_words, text_lines};
 
 mod binary_ids;
+mod event_lines;
 mod lines;
 mod parts;
-mod run_lines;
-mod unit_lines;
 
 use binary_ids::BinaryIds;
 use lines::{read_config, read_event};

@@ -36,14 +36,14 @@ pub use Rattle.scene_text.proofs.lemmas.Tellings.{all_append, begun_behind}
 pub use Rattle.scene_text.specs.SceneTexts.{AllRead, EventLine, IsNextFault, ParsedLine, ParsedLines, RunLine, is_begun, is_begun_behind, line_value, lines_after, lines_before, lines_with, no_lines, parsed_lines, text_lines, text_read, with_line}
 pub use Rattle.scene_text.specs.declared.reader.LinesRead.{LinesRead}
 pub use Rattle.scenes.specs.Deferred.{DeliversRest}
-pub use Rattle.scenes.specs.Follow.{Ends, KeepsUp, StopsBy}
+pub use Rattle.scenes.specs.Follow.{Followed, KeepsUp, StopsBy}
 pub use Rattle.scenes.specs.Judged.{ChecksEvent, IsSceneRefused, Refuses}
 pub use Rattle.scenes.specs.Outcomes.{outcome_after}
 pub use Rattle.scenes.specs.ParsedScenes.{scene_lines}
-pub use Rattle.scenes.specs.Prints.{AreBegun, AreWhole, Begins, Begun, HasBeginning, HasFirstCalls, OfCalls, Prints, PrintsFollowed, Reported, device}
+pub use Rattle.scenes.specs.Prints.{AreWhole, Begins, HasBeginning, HasFirstCalls, OfCalls, Prints, PrintsFollowed, Reported, device}
 pub use Rattle.scenes.specs.Read.{AreLeft, AreLeftOf, AtLine, HasRead, IsMore}
 pub use Rattle.scenes.specs.Reports.{AreCallsOf, configuration_for, fault_at_call, report_of, store_for, stored_of}
-pub use Rattle.scenes.specs.SceneReporter.{Follows, StopsAt, StopsAtEvent, writers}
+pub use Rattle.scenes.specs.SceneReporter.{Follows, StopsAtEvent, writers}
 pub use Rattle.scenes.specs.Unloads.{AreReadyCallsOf, decider_for, unloaded_for}
 pub use Rattle.scenes.specs.declared.outcome.RunOutcome.{RunOutcome}
 pub use Rattle.scenes.specs.declared.scene.Scene.{Scene}

@@ -37,8 +37,8 @@ pub record StopsBy (options : Options) (all : List RunLine) (P : ParsedLines →
   pub holds : (P run × (IsWrongLine options run lines number fault ⊎ ((file : Bor (List ℕ)) × (fault ≡ CannotRead file)))) ⊎ Q run fault
 
 -- How lines that are followed end: all were reported, the run stands so, and IsDone holds of it; or a fault stopped them.
-abbrev pub Ends : {W T : Type 0} → Meaning W → Meaning T → Options → List RunLine → W × T → W × T → (ParsedLines → Type 0) → Result RunOutcome Fault → Type 0
-Ends m k options all old new IsDone result =
+abbrev pub Followed : {W T : Type 0} → Meaning W → Meaning T → Options → List RunLine → W × T → W × T → (ParsedLines → Type 0) → Result RunOutcome Fault → Type 0
+Followed m k options all old new IsDone result =
     IfOk result (λ come_to. OfLines all (PrintsFollowed m k options old new come_to))
     × OnOk result (OfLines all IsDone)
     × IfErr result (StopsBy options all (Prints m k options old new) (Begins m k options old new))

@@ -32,10 +32,6 @@ device = record {
   failures = λ held. 0;
 }
 
--- A beginning of the text was accepted: its device failed, where that may be; or memory was refused; or the fault was another's.
-abbrev pub Begun : {S : Type 0} → Meaning S → Type 0 → S → Text → S → Type 0
-Begun m may_fail old text new = (may_fail × m.stops old text Device new) ⊎ m.stops old text Memory new ⊎ HasFront m old text new
-
 -- of the first of these calls, and of no more, a writer accepted the texts, and delivered them
 pub record HasFirstCalls {S : Type 0} (m : Meaning S) (texts : List ReportCall → Text) (calls : List ReportCall) (old new : S) : Type 0 where
   pub first : List ReportCall
@@ -44,10 +40,10 @@ pub record HasFirstCalls {S : Type 0} (m : Meaning S) (texts : List ReportCall �
   pub accepted : m.accepts old (texts first) new
   pub delivered : m.is_delivered new
 
--- What a writer has of these calls at a fault, which may be of its own device or of the other's: of all their texts a beginning, and at a
--- fault of the other's device the whole texts of the first calls.
+-- What a writer has of these calls at a fault, which may be of its own device or of the other's: of all their texts a beginning, since its
+-- device failed, or memory was refused, or the fault was another's; and at a fault of the other's device the whole texts of the first calls.
 pub record HasBeginning {S : Type 0} (m : Meaning S) (texts : List ReportCall → Text) (OfOwn OfOther : Type 0) (calls : List ReportCall) (old new : S) : Type 0 where
-  pub begun : Begun m OfOwn old (texts calls) new
+  pub begun : (OfOwn × m.stops old (texts calls) Device new) ⊎ m.stops old (texts calls) Memory new ⊎ HasFront m old (texts calls) new
   pub whole : OfOther → HasFirstCalls m texts calls old new
 
 -- a report stops by a fault of its device, of the store's where there is one, or for want of memory
@@ -69,12 +65,6 @@ module _ {W T : Type 0} (m : Meaning W) (k : Meaning T) (options : Options) (old
     pub kept : k.accepts old.1 (stored_of options calls) new.1
     pub delivered : m.is_delivered new.0 × k.is_delivered new.1
 
-  -- this fault stopped the report of these calls, and each has a beginning
-  pub record AreBegun (config : SceneConfig) (fault : Fault) (calls : List ReportCall) : Type 0 where
-    pub stopped : IsStop options fault
-    pub printed : HasBeginning m (report_of options config) (fault ≡ WriteFailed) (fault ≡ StoreFailed) calls old.0 new.0
-    pub kept : HasBeginning k (stored_of options) (fault ≡ StoreFailed) (fault ≡ WriteFailed) calls old.1 new.1
-
   -- both have the report of the run whole
   abbrev pub Prints : ParsedLines → Type 0
   Prints run = OfCalls options run (AreWhole run.config)
@@ -85,7 +75,9 @@ module _ {W T : Type 0} (m : Meaning W) (k : Meaning T) (options : Options) (old
 
   -- this fault stopped it, and each has a beginning
   abbrev pub Begins : ParsedLines → Fault → Type 0
-  Begins run fault = OfCalls options run (AreBegun run.config fault)
+  Begins run fault = OfCalls options run (λ calls. IsStop options fault
+      × HasBeginning m (report_of options run.config) (fault ≡ WriteFailed) (fault ≡ StoreFailed) calls old.0 new.0
+      × HasBeginning k (stored_of options) (fault ≡ StoreFailed) (fault ≡ WriteFailed) calls old.1 new.1)
 
   -- how the report of the run ends
   abbrev pub Reported : ParsedLines → Result (Unit {0}) Fault → Type 0

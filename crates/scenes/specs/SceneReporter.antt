@@ -7,7 +7,7 @@ use Rattle.console_reporter.specs.declared.imp.store.Store.{Store}
 use Rattle.scene_events.specs.declared.scene.SceneConfig.{SceneConfig}
 use Rattle.scene_events.specs.declared.scene.event.SceneEvent.{SceneEvent}
 use Rattle.scene_fields.specs.declared.fault.LineFault.{LineFault}
-use Rattle.scene_text.specs.SceneTexts.{EventLine, ParsedLines, with_line}
+use Rattle.scene_text.specs.SceneTexts.{ParsedLines}
 use Rattle.scenes.specs.Judged.{RefusesEvent}
 use Rattle.scenes.specs.Prints.{Begins, Prints, PrintsFollowed}
 use Rattle.scenes.specs.Reports.{configuration_for}
@@ -27,17 +27,14 @@ module _ {W S : Type 0} (m : Meaning W) (n : Meaning S) (options : Options) (sta
     pub reported : PrintsFollowed m (store_meaning n) options (writers start) (writers now) now.outcome run
     pub stands : StandsAfter (configuration_for options run.config) (reverse (unloaded_for options run.config reported.calls)) now.reporter
 
-  -- Behind a run that was reported this fault stopped the next event: before it was begun, or in the midst of it, or it is refused.
-  abbrev pub StopsAt : ParsedLines → ℕ → SceneEvent → Fault → Type 0
-  StopsAt run number event fault =
-      Begins m (store_meaning n) options (writers start) (writers now) run fault
-      ⊎ Begins m (store_meaning n) options (writers start) (writers now) (with_line run (EventLine event)) fault
-      ⊎ (Prints m (store_meaning n) options (writers start) (writers now) run × ((f : LineFault) × (fault ≡ Line number f) × RefusesEvent options run.config event f))
-
-  -- the first of these events were reported, and the next was stopped; the lines of all are these
+  -- The first of these events were reported, and the fault stopped the next one: before it was begun, or in the midst of it, or it is refused.
+  -- The lines of all are these.
   pub record StopsAtEvent (config : SceneConfig) (events : List SceneEvent) (lines : List ℕ) (base : List SceneEvent) (fault : Fault) : Type 0 where
     pub front : List SceneEvent
     pub event : SceneEvent
     pub rest : List SceneEvent
     pub whole : events ≡ front ++ event ∷ rest
-    pub stops : StopsAt (record { config = config; events = base ++ front }) (get_or lines (length front) 0) event fault
+    pub stops : Begins m (store_meaning n) options (writers start) (writers now) (record { config = config; events = base ++ front }) fault
+        ⊎ Begins m (store_meaning n) options (writers start) (writers now) (record { config = config; events = (base ++ front) ++ event ∷ [] }) fault
+        ⊎ (Prints m (store_meaning n) options (writers start) (writers now) (record { config = config; events = base ++ front })
+            × ((f : LineFault) × (fault ≡ Line (get_or lines (length front) 0) f) × RefusesEvent options config event f))

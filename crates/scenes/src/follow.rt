@@ -7,7 +7,7 @@ ghost use Rattle.std.specs.Prelude.{◌≡◌, ℕ, List, [], true, Option, None
 ghost use Rattle.console_reporter.specs.OptionalStore.{IsSameStore, config_of, store_delivered, store_meaning};
 ghost use Rattle.console_reporter.specs.Telling.{IsSameReporter};
 ghost use Rattle.scene_text.specs.SceneTexts.{ParsedLines, RunLine, is_begun, no_lines, text_lines};
-ghost use Rattle.scenes.specs.Follow.{Ends, StopsBy};
+ghost use Rattle.scenes.specs.Follow.{Followed, StopsBy};
 ghost use Rattle.scenes.specs.ParsedScenes.{OfLines, OfText};
 ghost use Rattle.scenes.specs.Prints.{Begins, Prints, PrintsFollowed, device};
 ghost use Rattle.scenes.specs.Read.{HasRead};
@@ -117,7 +117,7 @@ fn follow_to<'a, 'w, L: RunSource, W: WriteStr, S: WriteStr>(
     ensures same_reference { result.1.ghost_name ≡ writer.entry.ghost_name }
     ensures same_store { IsSameStore store.entry result.2 }
     ensures ends { (total : ℕ) (all : List RunLine) → L.left total source.old no_lines all
-        → Ends W.meaning (store_meaning S.meaning) options.now all (writer.old, store.entry) (result.1.now, result.2) (λ run. L.left total source.new run []) result.0 }
+        → Followed W.meaning (store_meaning S.meaning) options.now all (writer.old, store.entry) (result.1.now, result.2) (λ run. L.left total source.new run []) result.0 }
 {
     let mut read = LinesRead::new(alloc);
     let more = read_lines(alloc, options.file, source, &mut read, true);
@@ -143,7 +143,7 @@ fn follow_lines<'a, L: RunSource, W: WriteStr, S: WriteStr>(
     ensures same { IsSameReporter reporter.old.reporter reporter.new.reporter }
     ensures ends { (total : ℕ) (all : List RunLine) → HasRead options.now.file.now all [] no_lines read.old more.entry (L.left total source.old) → (more.entry ≡ Ok true → is_begun read.old.run.events.items ≡ true)
         → Follows W.meaning S.meaning options.now reporter.old reporter.old (record { config = read.old.run.config; events = [] })
-        → Ends W.meaning (store_meaning S.meaning) options.now all (writers reporter.old) (writers reporter.new) (λ run. L.left total source.new run []) result }
+        → Followed W.meaning (store_meaning S.meaning) options.now all (writers reporter.old) (writers reporter.new) (λ run. L.left total source.new run []) result }
 {
     let mut more = more;
     for _turn in 0..u64::MAX {

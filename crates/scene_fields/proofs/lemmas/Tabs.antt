@@ -1,4 +1,4 @@
--- The pieces of a text between the places of a byte (for `read_bytes`, `split_fields`).
+-- The pieces of a text between the places of a byte (for `split_fields`).
 use Rattle.std.proofs.Common.{◌≡◌, ℕ, ◌+◌, ◌-◌, ◌<◌, ◌≤◌, List, [], ◌∷◌, ◌++◌, true, ◌==◌, length, take, drop, ap, sym, ◌∙◌, subst, length-drop, append_assoc, arith}
 use Rattle.std.proofs.lemmas.List.{get_or-drop, drop-drop, map-append}
 use Rattle.memchr.specs.Find.{is_byte, Nowhere, NoneBefore, Passes}

@@ -1,4 +1,4 @@
--- What a text stands for, step by step (for `read_bytes`, `read_text`, `read_words`, `unescape_in_place`).
+-- What a text stands for, step by step (for `read_text`, `read_words`, `unescape_in_place`).
 use Rattle.std.proofs.Common.{◌≡◌, ℕ, zero, suc, List, [], ◌∷◌, ◌++◌, drop, refl, ap, sym, ◌∙◌, append_assoc, append-nil, Option, Some, None}
 use Rattle.std.proofs.lemmas.Iterator.Adapters.{option_map_id}
 use Rattle.std.specs.Borrow.{Bor}

@@ -7,15 +7,13 @@ ghost use Rattle.scene_text.specs.SceneTexts.{event_of};
 
 use super::EventResult;
 use super::binary_ids::BinaryIds;
+use super::event_lines::{
+    read_answer_script, read_answer_test, read_cancel, read_done, read_end, read_end_stress,
+    read_header, read_info, read_input, read_pause, read_prefix, read_retry, read_retry_start,
+    read_run, read_setup, read_setup_done, read_setup_slow, read_skip, read_slow, read_start,
+    read_sub_end,
+};
 use super::parts::read_progress;
-use super::run_lines::{
-    read_cancel, read_end, read_end_stress, read_header, read_input, read_pause, read_prefix,
-    read_run, read_sub_end,
-};
-use super::unit_lines::{
-    read_answer_script, read_answer_test, read_done, read_info, read_retry, read_retry_start,
-    read_setup, read_setup_done, read_setup_slow, read_skip, read_slow, read_start,
-};
 use run_model::boxed::Boxed;
 use scene_events::scene::SceneConfig;
 use scene_events::scene::event::SceneEvent;

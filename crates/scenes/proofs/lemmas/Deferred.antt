@@ -1,13 +1,13 @@
 -- A report whose delivery was put off, and its rest delivered (for `report_accepted`).
 use Rattle.std.proofs.Common.{◌≡◌, ℕ, List, [], Option, None, Some, Result, Ok, Err, IfErr, OnOk, sym, ap, ◌∙◌, subst, append-nil, inl, inr}
-use Rattle.scenes.proofs.Common.{Begun, buffer_meaning, BufferAccepts, DeliversRest, device, Fault, IsSameStore, Meaning, Options, ParsedLines, Reported, Store, store_for, store_meaning, Text, TextBuffer, WriteFailed}
+use Rattle.scenes.proofs.Common.{buffer_meaning, BufferAccepts, DeliversRest, device, Fault, IsSameStore, Meaning, Options, ParsedLines, Reported, Store, store_for, store_meaning, Text, TextBuffer, WriteFailed}
 use Rattle.plain_text.specs.TextBuffer.{BufferStops, buffer_laws}
 use Rattle.plain_text.specs.Writer.{AppendsFront}
 use Rattle.plain_text.specs.declared.write_str.WriteFault.TheVariants.{Device, Memory}
 use Rattle.scenes.specs.Deferred.{deferred_meaning}
 use Rattle.scenes.specs.declared.deferred.Deferred.{Deferred}
 use Rattle.scenes.proofs.lemmas.Devices.{alone_begun, alone_whole, begun_here, whole_here}
-use Rattle.scenes.proofs.lemmas.Prints.{calls_so}
+use Rattle.scenes.proofs.lemmas.Prints.{Begun, calls_so}
 
 abbrev is_fault : Fault → Result (Unit {0}) Fault
 is_fault f = Err f
@@ -54,6 +54,6 @@ module _ {W : Type 0} (contents : W → Option (List ℕ)) (a b : Deferred (Text
     delivered None same (Ok done) (Err f) report ok (inr h) = (tt, calls_so (λ calls p. alone_begun options off _ _ held run.config calls f (inl h.1) (front _ (rest_lost _ p.printed h.2))) report.0)
     delivered None same (Err g) (Err f) report ok (inl h) =
         let is : f ≡ g = same_fault f g (sym h.0) in
-        rw is (tt, calls_so (λ calls p. alone_begun options off _ _ held run.config calls g p.stopped (begun_here contents a.writer c none _ _ (rest_begun (g ≡ WriteFailed) _ p.printed.begun (λ failed. h.1 (is ∙ failed)) h.2))) report.1)
+        rw is (tt, calls_so (λ calls p. alone_begun options off _ _ held run.config calls g p.0 (begun_here contents a.writer c none _ _ (rest_begun (g ≡ WriteFailed) _ p.1.begun (λ failed. h.1 (is ∙ failed)) h.2))) report.1)
     delivered None same (Err g) (Err f) report ok (inr h) =
-        (tt, calls_so (λ calls p. alone_begun options off _ _ held run.config calls f (inl h.1) (front _ (begun_lost (g ≡ WriteFailed) _ p.printed.begun (λ failed. h.0 (ap is_fault failed)) h.2))) report.1)
+        (tt, calls_so (λ calls p. alone_begun options off _ _ held run.config calls f (inl h.1) (front _ (begun_lost (g ≡ WriteFailed) _ p.1.begun (λ failed. h.0 (ap is_fault failed)) h.2))) report.1)

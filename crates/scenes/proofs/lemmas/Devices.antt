@@ -1,12 +1,12 @@
 -- What devices hold of a report that was written to buffers (for `report_accepted`, `follow_source`).
 use Rattle.std.proofs.Common.{◌≡◌, ℕ, List, [], ◌∷◌, ◌++◌, reverse, Option, None, Some, refl, sym, ap, ◌∙◌, subst, append-nil, inl, inr}
 use Rattle.std.specs.Io.KnownBytes.{Appends, append_known}
-use Rattle.scenes.proofs.Common.{Appends-nil, AreBegun, AreWhole, Begun, buffer_meaning, BufferAccepts, device, Event, false≢true, Fault, HasBeginning, Header, is_some, IsSameStore, Meaning, Options, Prefix, report_of, ReportCall, SceneConfig, Store, store_for, store_meaning, stored, stored_of, StoreFailed, Text, TextBuffer}
+use Rattle.scenes.proofs.Common.{Appends-nil, AreWhole, Begins, buffer_meaning, BufferAccepts, device, Event, false≢true, Fault, HasBeginning, Header, is_some, IsSameStore, Meaning, Options, ParsedLines, Prefix, report_of, ReportCall, SceneConfig, Store, store_for, store_meaning, stored, stored_of, StoreFailed, Text, TextBuffer, WriteFailed}
 use Rattle.plain_text.specs.TextBuffer.{GrowsWithin, Holds}
 use Rattle.plain_text.specs.Writer.{AppendsFront}
 use Rattle.plain_text.proofs.lemmas.Deliveries.{accepted_delivers, begins_of, stopped_begins}
 use Rattle.scenes.specs.Prints.{IsStop}
-use Rattle.scenes.proofs.lemmas.Prints.{memory_no_store, write_no_store}
+use Rattle.scenes.proofs.lemmas.Prints.{Begun, calls_so, memory_no_store, write_no_store}
 
 -- known bytes that stay, and grow by a beginning where they are known
 known_front : (old new : Option (List ℕ)) (text : Text) → Holds old new → ((xs ys : List ℕ) → old ≡ Some xs → new ≡ Some ys → GrowsWithin xs ys text) → AppendsFront old new text
@@ -51,22 +51,22 @@ beginning_there n c d texts F G calls h = record {
 }
 
 -- two devices hold what two buffers have, of which the second is a store's
-module _ {W S : Type 0} (options : Options) (contents : W → Option (List ℕ)) (stored_in : S → Option (List ℕ)) (a b : TextBuffer W) (c d : Store (TextBuffer S)) (none : a.pending ≡ []) (empty : c.writer.now.pending ≡ []) (config : SceneConfig) where
-  pub both_whole : (calls : List ReportCall) → AreWhole (buffer_meaning contents) (store_meaning (buffer_meaning stored_in)) options (a, Some c) (b, Some d) config calls →
+module _ {W S : Type 0} (options : Options) (contents : W → Option (List ℕ)) (stored_in : S → Option (List ℕ)) (a b : TextBuffer W) (c d : Store (TextBuffer S)) (none : a.pending ≡ []) (empty : c.writer.now.pending ≡ []) where
+  pub both_whole : (config : SceneConfig) (calls : List ReportCall) → AreWhole (buffer_meaning contents) (store_meaning (buffer_meaning stored_in)) options (a, Some c) (b, Some d) config calls →
       AreWhole device device options (contents a.writer, stored_in c.writer.now.writer) (contents b.writer, stored_in d.writer.now.writer) config calls
-  both_whole calls h = record {
+  both_whole config calls h = record {
     printed = whole_here contents a b none (report_of options config calls) h.printed h.delivered.0;
     kept = whole_here stored_in c.writer.now d.writer.now empty (stored_of options calls) h.kept h.delivered.1;
     delivered = (tt, tt);
   }
 
-  pub both_begun : (f : Fault) (calls : List ReportCall) → AreBegun (buffer_meaning contents) (store_meaning (buffer_meaning stored_in)) options (a, Some c) (b, Some d) config f calls →
-      AreBegun device device options (contents a.writer, stored_in c.writer.now.writer) (contents b.writer, stored_in d.writer.now.writer) config f calls
-  both_begun f calls h = record {
-    stopped = h.stopped;
-    printed = beginning_here contents a b none (report_of options config) _ _ calls h.printed;
-    kept = beginning_here stored_in c.writer.now d.writer.now empty (stored_of options) _ _ calls (beginning_there (buffer_meaning stored_in) c d (stored_of options) _ _ calls h.kept);
-  }
+  pub both_begun : (run : ParsedLines) (f : Fault) → Begins (buffer_meaning contents) (store_meaning (buffer_meaning stored_in)) options (a, Some c) (b, Some d) run f →
+      Begins device device options (contents a.writer, stored_in c.writer.now.writer) (contents b.writer, stored_in d.writer.now.writer) run f
+  both_begun run f = calls_so (λ calls h. (
+    h.0,
+    beginning_here contents a b none (report_of options run.config) _ _ calls h.1,
+    beginning_here stored_in c.writer.now d.writer.now empty (stored_of options) _ _ calls (beginning_there (buffer_meaning stored_in) c d (stored_of options) _ _ calls h.2),
+  ))
 
 -- a store that was handed on and came back
 pub same_there : {S : Type 0} (a b : Store S) (x : Option (Store S)) → x ≡ Some b → IsSameStore (Some a) x → b.writer.ghost_name ≡ a.writer.ghost_name
@@ -92,9 +92,10 @@ module _ (options : Options) (off : store_for options ≡ None) (before after he
   pub alone_whole : Appends before after (report_of options config calls) → AreWhole device device options (before, held) (after, held) config calls
   alone_whole printed = record { printed = printed; kept = keeps_none; delivered = (tt, tt) }
 
-  pub alone_begun : (f : Fault) → IsStop options f → AppendsFront before after (report_of options config calls) → AreBegun device device options (before, held) (after, held) config f calls
-  alone_begun f stopped front = record {
-    stopped = stopped;
-    printed = record { begun = inr (inl front); whole = λ failed. absurd (no_store_stop options off f stopped failed) };
-    kept = record { begun = inr (inr (record { front = stored_of options calls; rest = []; whole = sym (append-nil _); accepted = keeps_none })); whole = λ failed. record { first = calls; rest = []; is = sym (append-nil calls); accepted = keeps_none; delivered = tt } };
-  }
+  pub alone_begun : (f : Fault) → IsStop options f → AppendsFront before after (report_of options config calls) →
+      IsStop options f × HasBeginning device (report_of options config) (f ≡ WriteFailed) (f ≡ StoreFailed) calls before after × HasBeginning device (stored_of options) (f ≡ StoreFailed) (f ≡ WriteFailed) calls held held
+  alone_begun f stopped front = (
+    stopped,
+    record { begun = inr (inl front); whole = λ failed. absurd (no_store_stop options off f stopped failed) },
+    record { begun = inr (inr (record { front = stored_of options calls; rest = []; whole = sym (append-nil _); accepted = keeps_none })); whole = λ failed. record { first = calls; rest = []; is = sym (append-nil calls); accepted = keeps_none; delivered = tt } },
+  )

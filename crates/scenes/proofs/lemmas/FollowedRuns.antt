@@ -1,12 +1,13 @@
 -- What is read of lines that are followed is reported, or left (for `follow_lines`, `follow_to`, `follow_source`).
 use Rattle.std.proofs.Common.{◌≡◌, ℕ, ◌+◌, Bool, true, false, List, [], ◌∷◌, ◌++◌, Result, Ok, Err, length, get_or, refl, sym, ap, ◌∙◌, subst, arith, append_assoc, inl, inr}
 use Rattle.std.specs.Borrow.{Bor}
-use Rattle.scenes.proofs.Common.{all_append, AreBegun, AreWhole, AtLine, Begins, begun_behind, Ends, EventLine, Fault, fault_of_read, Follows, HasRead, is_begun, is_begun_behind, IsMore, IsNextFault, IsUnread, KeepsUp, length-append, Line, line_value, LineFault, lines_after, lines_before, lines_with, LinesRead, Meaning, no_lines, Options, OutOfMemory, parsed_lines, ParsedLine, ParsedLines, Prints, ReadFault, ReportCall, RunLine, RunOutcome, SceneConfig, SceneEvent, SceneReporter, StopsAt, StopsAtEvent, StopsBy, store-laws, store_meaning, with_line, WriterLaws, writers}
+use Rattle.scenes.proofs.Common.{all_append, AreWhole, AtLine, Begins, begun_behind, Followed, EventLine, Fault, fault_of_read, Follows, HasRead, is_begun, is_begun_behind, IsMore, IsNextFault, IsUnread, KeepsUp, length-append, Line, line_value, LineFault, lines_after, lines_before, lines_with, LinesRead, Meaning, no_lines, Options, OutOfMemory, parsed_lines, ParsedLine, ParsedLines, Prints, ReadFault, ReportCall, RunLine, RunOutcome, SceneConfig, SceneEvent, SceneReporter, StopsAtEvent, StopsBy, store-laws, store_meaning, with_line, WriterLaws, writers}
 use Rattle.command_line.specs.declared.fault.Fault.TheVariants.{CannotRead}
 use Rattle.scene_fields.specs.declared.fault.ReadFault.TheVariants as read
 use Rattle.scene_text.specs.SceneTexts.{line_read}
 use Rattle.scenes.proofs.lemmas.EventLines.{config_kept, event_at}
 use Rattle.scenes.proofs.lemmas.Prints.{begins_no_more, calls_so, memory_no_device, memory_no_store, prints_only}
+use Rattle.scenes.proofs.lemmas.SceneReporters.{StopsAt}
 use Rattle.scenes.proofs.lemmas.ReadLines.{at_more, forgets, line_reads, spells}
 
 wrong_with : (before : ParsedLines) (f : LineFault) (r : Result ParsedLine LineFault) → lines_with before r ≡ Err f → r ≡ Err f
@@ -50,11 +51,11 @@ nothing_stops m k options all held nothing also P f is = rw is (record {
     calls = [];
     of_run = tt;
     accepted = refl;
-    holds = record {
-      stopped = inr (inl refl);
-      printed = record { begun = inr (inr (record { front = []; rest = _; whole = refl; accepted = nothing })); whole = λ is. absurd (memory_no_store is) };
-      kept = record { begun = inr (inr (record { front = []; rest = _; whole = refl; accepted = also })); whole = λ is. absurd (memory_no_device is) };
-    };
+    holds = (
+      inr (inl refl),
+      record { begun = inr (inr (record { front = []; rest = _; whole = refl; accepted = nothing })); whole = λ is. absurd (memory_no_store is) },
+      record { begun = inr (inr (record { front = []; rest = _; whole = refl; accepted = also })); whole = λ is. absurd (memory_no_device is) },
+    );
   });
 })
 
@@ -139,7 +140,7 @@ module _ {W S : Type 0} {m : Meaning W} {n : Meaning S} (laws : WriterLaws m) (o
       prints = prints_only reported.reported
 
       -- and the lines end there
-      pub reported_all : more ≡ Ok false → Ends m (store_meaning n) options all (writers start) (writers next) (λ r. Has r []) (Ok next.outcome)
+      pub reported_all : more ≡ Ok false → Followed m (store_meaning n) options all (writers start) (writers next) (λ r. Has r []) (Ok next.outcome)
       reported_all last =
           let has = subst (λ r. HasRead options.file.now all k.front k.before read r Has) last k.has in
           let spelled = spells options.file.now all read k.front k.before Has has in
@@ -169,12 +170,12 @@ module _ {W S : Type 0} {m : Meaning W} {n : Meaning S} (laws : WriterLaws m) (o
       forgotten goes_on = subst (λ r. HasRead options.file.now all (k.front ++ k.has.lines) run new r Has) goes_on (forgets options.file.now all k.front k.before read new more Has k.has config events lines begun next)
 
 -- what holds of two writers holds of others that have what these have
-pub ends_so : {W T W' T' : Type 0} {m : Meaning W} {k : Meaning T} {m' : Meaning W'} {k' : Meaning T'} (options : Options) (all : List RunLine) {old new : W × T} {old' new' : W' × T'} (IsDone : ParsedLines → Type 0) →
+pub followed_so : {W T W' T' : Type 0} {m : Meaning W} {k : Meaning T} {m' : Meaning W'} {k' : Meaning T'} (options : Options) (all : List RunLine) {old new : W × T} {old' new' : W' × T'} (IsDone : ParsedLines → Type 0) →
     ((config : SceneConfig) (calls : List ReportCall) → AreWhole m k options old new config calls → AreWhole m' k' options old' new' config calls) →
-    ((config : SceneConfig) (f : Fault) (calls : List ReportCall) → AreBegun m k options old new config f calls → AreBegun m' k' options old' new' config f calls) →
-    (r : Result RunOutcome Fault) → Ends m k options all old new IsDone r → Ends m' k' options all old' new' IsDone r
-ends_so options all IsDone whole begun (Ok come_to) h = (record { run = h.0.run; spelled = h.0.spelled; holds = calls_so (λ calls p. (whole h.0.run.config calls p.0, p.1)) h.0.holds }, h.1, tt)
-ends_so options all IsDone whole begun (Err f) h =
+    ((run : ParsedLines) (f : Fault) → Begins m k options old new run f → Begins m' k' options old' new' run f) →
+    (r : Result RunOutcome Fault) → Followed m k options all old new IsDone r → Followed m' k' options all old' new' IsDone r
+followed_so options all IsDone whole begun (Ok come_to) h = (record { run = h.0.run; spelled = h.0.spelled; holds = calls_so (λ calls p. (whole h.0.run.config calls p.0, p.1)) h.0.holds }, h.1, tt)
+followed_so options all IsDone whole begun (Err f) h =
     let s = h.2 in (
       tt,
       tt,
@@ -185,7 +186,7 @@ ends_so options all IsDone whole begun (Err f) h =
         at = s.at;
         holds = elim s.holds [
           | inl p ↦ inl (calls_so (whole s.run.config) p.0, p.1)
-          | inr q ↦ inr (calls_so (begun s.run.config f) q)
+          | inr q ↦ inr (begun s.run f q)
         ];
       },
     )

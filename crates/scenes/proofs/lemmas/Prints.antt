@@ -1,9 +1,13 @@
 -- What two writers have of a report that stopped, and of a longer one (for `SceneReporter::report_events`, `report_to`, `follow_to`).
 use Rattle.std.proofs.Common.{◌≡◌, List, [], ◌∷◌, ◌++◌, reverse, refl, sym, ap, ap₂, ◌∙◌, subst, append-nil, append_assoc, ◌⊎◌, None, Result, Ok, Err, inl, inr}
-use Rattle.scenes.proofs.Common.{AllZip, AreBegun, AreWhole, Begins, Begun, configuration_for, decider_for, Fault, first_refused, HasBeginning, HasFirstCalls, IsCallOf, Meaning, OfCalls, Options, OutOfMemory, ParsedLines, Prints, PrintsFollowed, report, ReportCall, Reported, reverse-append, RunOutcome, SceneConfig, SceneEvent, store_for, stored, stored_text, StoreFailed, Text, text, WriteFailed, WriterLaws}
+use Rattle.scenes.proofs.Common.{AllZip, AreWhole, Begins, configuration_for, decider_for, Fault, first_refused, HasBeginning, HasFirstCalls, IsCallOf, Meaning, OfCalls, Options, OutOfMemory, ParsedLines, Prints, PrintsFollowed, report, ReportCall, Reported, reverse-append, RunOutcome, SceneConfig, SceneEvent, store_for, stored, stored_text, StoreFailed, Text, text, WriteFailed, WriterLaws}
 use Rattle.plain_text.specs.declared.write_str.WriteFault.TheVariants.{Device, Memory as RefusedMemory}
 use Rattle.console_reporter.specs.Outcomes.{HasFront}
 use Rattle.scenes.proofs.lemmas.EventCalls.{zip_both}
+
+-- of a text a beginning was accepted, as `HasBeginning` says it
+abbrev pub Begun : {S : Type 0} → Meaning S → Type 0 → S → Text → S → Type 0
+Begun m OfOwn old text new = (OfOwn × m.stops old text Device new) ⊎ m.stops old text RefusedMemory new ⊎ HasFront m old text new
 
 -- refused memory is no fault of a device, and a fault of one device is none of the other
 pub memory_no_store : OutOfMemory ≡ StoreFailed → ⊥
@@ -96,11 +100,11 @@ module _ (whole : List ReportCall → Text) (part : List ReportCall → ReportCa
 module _ {W T : Type 0} {m : Meaning W} {k : Meaning T} (laws : WriterLaws m) (others : WriterLaws k) (options : Options) (old new : W × T) where
   -- memory was refused before anything more was written
   pub begins_no_more : (run : ParsedLines) → Prints m k options old new run → Begins m k options old new run OutOfMemory
-  begins_no_more run = calls_so (λ calls h. record {
-    stopped = inr (inl refl);
-    printed = whole_texts laws _ _ _ calls _ _ h.printed (λ is. h.delivered.0);
-    kept = whole_texts others _ _ _ calls _ _ h.kept (λ is. h.delivered.1);
-  })
+  begins_no_more run = calls_so (λ calls h. (
+    inr (inl refl),
+    whole_texts laws _ _ _ calls _ _ h.printed (λ is. h.delivered.0),
+    whole_texts others _ _ _ calls _ _ h.kept (λ is. h.delivered.1),
+  ))
 
   -- what stopped the report of a run stopped that of a longer one whose calls are all accepted
   pub begins_longer : (config : SceneConfig) (es fs : List SceneEvent) (f : Fault) → Begins m k options old new (record { config = config; events = es }) f → (more : List ReportCall) → AllZip IsCallOf fs more →
@@ -113,17 +117,13 @@ module _ {W T : Type 0} {m : Meaning W} {k : Meaning T} (laws : WriterLaws m) (o
         calls = h.calls ++ more;
         of_run = of_all;
         accepted = accepted (h.calls ++ more) of_all;
-        holds = record {
-          stopped = h.holds.stopped;
-          printed = longer_texts laws _ _ _ h.calls more t.rest t.is _ _ h.holds.printed;
-          kept = longer_texts others _ _ _ h.calls more s.rest s.is _ _ h.holds.kept;
-        };
+        holds = (h.holds.0, longer_texts laws _ _ _ h.calls more t.rest t.is _ _ h.holds.1, longer_texts others _ _ _ h.calls more s.rest s.is _ _ h.holds.2);
       }
 
 -- how a report ends by two writers it ends by others that have what these have
 pub reported_so : {W T W' T' : Type 0} {m : Meaning W} {k : Meaning T} {m' : Meaning W'} {k' : Meaning T'} {options : Options} {old new : W × T} {old' new' : W' × T'} (run : ParsedLines) →
     ((calls : List ReportCall) → AreWhole m k options old new run.config calls → AreWhole m' k' options old' new' run.config calls) →
-    ((f : Fault) (calls : List ReportCall) → AreBegun m k options old new run.config f calls → AreBegun m' k' options old' new' run.config f calls) →
+    ((f : Fault) → Begins m k options old new run f → Begins m' k' options old' new' run f) →
     (r : Result (Unit {0}) Fault) → Reported m k options old new run r → Reported m' k' options old' new' run r
 reported_so run whole begun (Ok done) h = (calls_so whole h.0, tt)
-reported_so run whole begun (Err f) h = (tt, calls_so (begun f) h.1)
+reported_so run whole begun (Err f) h = (tt, begun f h.1)

@@ -1,15 +1,15 @@
 use Rattle.std.proofs.Common.{◌≡◌, ◌∙◌, [], ℕ, List, None, Some, ap, refl, rules, subst, sym}
-use Rattle.scenes.proofs.Common.{Appends-nil, Begins, buffer_meaning, device, Ends, no_lines, OutOfMemory, Prints, RunLine, StopsBy, store_for, store_meaning}
+use Rattle.scenes.proofs.Common.{Appends-nil, Begins, buffer_meaning, device, Followed, no_lines, OutOfMemory, Prints, RunLine, StopsBy, store_for, store_meaning}
 use Rattle.scenes.proofs.lemmas.Devices.{alone_begun, alone_whole, begun_here, both_begun, both_whole, same_there, whole_here}
-use Rattle.scenes.proofs.lemmas.FollowedRuns.{ends_so, nothing_stops}
-use Rattle.scenes.proofs.lemmas.Prints.{moved, pair}
+use Rattle.scenes.proofs.lemmas.FollowedRuns.{followed_so, nothing_stops}
+use Rattle.scenes.proofs.lemmas.Prints.{calls_so, moved, pair}
 use Rattle.scenes.proofs.follow.follow_source.Given as given
 use Rattle.scenes.proofs.follow.follow_source.Goals as goal
 use Rattle.scenes.proofs.follow.follow_source.Goals.{After-into_inner-writer, After-into_inner-store_writer}
 
 -- without a store
 alone : (g : given.Over) (c : After-into_inner-writer g) (total : ℕ) (all : List RunLine) → g.L.RunSource.left total c.args.source.now no_lines all →
-    Ends device device c.args.options.now all (g.W.Write.contents c.args.writer, g.S.Write.contents c.args.store_writer) (g.W.Write.contents c.into_inner-writer.result.0, g.S.Write.contents c.args.store_writer)
+    Followed device device c.args.options.now all (g.W.Write.contents c.args.writer, g.S.Write.contents c.args.store_writer) (g.W.Write.contents c.into_inner-writer.result.0, g.S.Write.contents c.args.store_writer)
     (λ run. g.L.RunSource.left total c.follow_to-lent.new.source run []) c.follow_to-lent.result.0
 alone g c total all known =
     let options = c.args.options.now in
@@ -17,13 +17,13 @@ alone g c total all known =
     let out = c.in-Ok.ensures.ok in
     let made = c.follow_to-lent in
     let off : store_for options ≡ None = search rules in
-    moved (λ old new. Ends device device options all old new (λ run. g.L.RunSource.left total made.new.source run []) made.result.0) (pair (ap g.W.Write.contents out.0) refl) (pair (ap g.W.Write.contents (search rules)) refl)
-    (ends_so options all _ (λ config calls h. alone_whole options off _ _ held config calls (whole_here g.W.Write.contents c.in-Ok.out made.result.1.now out.1 _ h.printed h.delivered.0))
-    (λ config f calls h. alone_begun options off _ _ held config calls f h.stopped (begun_here g.W.Write.contents c.in-Ok.out made.result.1.now out.1 _ _ h.printed.begun)) made.result.0 (made.ensures.ends total all known))
+    moved (λ old new. Followed device device options all old new (λ run. g.L.RunSource.left total made.new.source run []) made.result.0) (pair (ap g.W.Write.contents out.0) refl) (pair (ap g.W.Write.contents (search rules)) refl)
+    (followed_so options all _ (λ config calls h. alone_whole options off _ _ held config calls (whole_here g.W.Write.contents c.in-Ok.out made.result.1.now out.1 _ h.printed h.delivered.0))
+    (λ run f. calls_so (λ calls h. alone_begun options off _ _ held run.config calls f h.0 (begun_here g.W.Write.contents c.in-Ok.out made.result.1.now out.1 _ _ h.1.begun))) made.result.0 (made.ensures.ends total all known))
 
 -- with one
 both : (g : given.Over) (c : After-into_inner-store_writer g) (total : ℕ) (all : List RunLine) → g.L.RunSource.left total c.args.source.now no_lines all →
-    Ends device device c.args.options.now all (g.W.Write.contents c.args.writer, g.S.Write.contents c.args.store_writer) (g.W.Write.contents c.into_inner-writer-2.result.0, g.S.Write.contents c.into_inner-store_writer.result.0)
+    Followed device device c.args.options.now all (g.W.Write.contents c.args.writer, g.S.Write.contents c.args.store_writer) (g.W.Write.contents c.into_inner-writer-2.result.0, g.S.Write.contents c.into_inner-store_writer.result.0)
     (λ run. g.L.RunSource.left total c.follow_to-lent-2.new.source run []) c.follow_to-lent-2.result.0
 both g c total all known =
     let options = c.args.options.now in
@@ -33,11 +33,11 @@ both g c total all known =
     let made = c.follow_to-lent-2 in
     let names = same_there store.result c.in-Some-store.store made.result.2 c.in-Some-store.is made.ensures.same_store ∙ ap (λ s. s.writer.ghost_name) store.ensures in
     let empty = ap (λ s. s.writer.now.pending) store.ensures ∙ records.1 in
-    moved (λ old new. Ends device device options all old new (λ run. g.L.RunSource.left total made.new.source run []) made.result.0)
+    moved (λ old new. Followed device device options all old new (λ run. g.L.RunSource.left total made.new.source run []) made.result.0)
     (pair (ap g.W.Write.contents out.0) (ap g.S.Write.contents (ap (λ s. s.writer.now.writer) store.ensures ∙ records.0))) (pair (ap g.W.Write.contents (search rules)) (ap g.S.Write.contents (search rules)))
-    (ends_so options all _ (both_whole options g.W.Write.contents g.S.Write.contents c.in-Ok.out made.result.1.now store.result c.in-Some-store.store out.1 empty)
+    (followed_so options all _ (both_whole options g.W.Write.contents g.S.Write.contents c.in-Ok.out made.result.1.now store.result c.in-Some-store.store out.1 empty)
     (both_begun options g.W.Write.contents g.S.Write.contents c.in-Ok.out made.result.1.now store.result c.in-Some-store.store out.1 empty) made.result.0
-    (subst (λ y. Ends (buffer_meaning g.W.Write.contents) (store_meaning (buffer_meaning g.S.Write.contents)) options all (c.in-Ok.out, Some store.result) (made.result.1.now, y) (λ run. g.L.RunSource.left total made.new.source run []) made.result.0) c.in-Some-store.is (made.ensures.ends total all known)))
+    (subst (λ y. Followed (buffer_meaning g.W.Write.contents) (store_meaning (buffer_meaning g.S.Write.contents)) options all (c.in-Ok.out, Some store.result) (made.result.1.now, y) (λ run. g.L.RunSource.left total made.new.source run []) made.result.0) c.in-Some-store.is (made.ensures.ends total all known)))
 
 pub returns-in-Err-clause-err : goal.returns-in-Err-clause-err
 returns-in-Err-clause-err g c = λ total all known.

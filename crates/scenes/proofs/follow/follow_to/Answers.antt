@@ -1,5 +1,5 @@
 use Rattle.std.proofs.Common.{[], ap, sym}
-use Rattle.scenes.proofs.Common.{Ends, store-laws, store_meaning}
+use Rattle.scenes.proofs.Common.{Followed, store-laws, store_meaning}
 use Rattle.scenes.proofs.lemmas.FollowedRuns.{nothing_stops}
 use Rattle.scenes.proofs.lemmas.Prints.{moved, pair}
 use Rattle.scenes.proofs.lemmas.ReadLines.{none_read}
@@ -14,7 +14,7 @@ returns-clause-ends g c = λ total all known.
     let made = c.build-reporter in
     let parts = c.into_parts-writer.ensures in
     let first = none_read c.args.options.now.file.now all c.new-read.result _ c.new-read.ensures.read c.new-read.ensures.lines c.new-read.ensures.begun c.new-read.ensures.next known in
-    moved (λ old new. Ends g.W.WriteStr.meaning (store_meaning g.S.WriteStr.meaning) c.args.options.now all old new (λ run. g.L.RunSource.left total c.follow_lines-followed.new.source run []) c.follow_lines-followed.result)
+    moved (λ old new. Followed g.W.WriteStr.meaning (store_meaning g.S.WriteStr.meaning) c.args.options.now all old new (λ run. g.L.RunSource.left total c.follow_lines-followed.new.source run []) c.follow_lines-followed.result)
     made.ensures.writers (pair (ap (λ w. w.now) (sym parts.writer)) (sym parts.store))
     (c.follow_lines-followed.ensures.ends total all (c.read_lines-more.ensures.read total all _ _ first) (λ is. (c.read_lines-more.ensures.event is).1)
     (made.ensures.start c.args.options.now c.in-Ok.ensures.ok c.requires.store_asked c.requires.delivered c.requires.store_delivered))

@@ -36,7 +36,7 @@ both g c =
     moved (λ old new. Reported device device options old new run made.result.0)
     (pair (ap g.W.Write.contents out.0) (ap g.S.Write.contents (ap (λ s. s.writer.now.writer) store.ensures ∙ records.0))) (pair (ap g.W.Write.contents (search rules)) (ap g.S.Write.contents (search rules)))
     (reported_so run (both_whole options g.W.Write.contents g.S.Write.contents c.in-Ok.out made.result.1.now store.result c.in-Some-store.store out.1 empty run.config)
-    (both_begun options g.W.Write.contents g.S.Write.contents c.in-Ok.out made.result.1.now store.result c.in-Some-store.store out.1 empty run.config) made.result.0
+    (both_begun options g.W.Write.contents g.S.Write.contents c.in-Ok.out made.result.1.now store.result c.in-Some-store.store out.1 empty run) made.result.0
     (subst (λ y. Reported (buffer_meaning g.W.Write.contents) (store_meaning (buffer_meaning g.S.Write.contents)) options (c.in-Ok.out, Some store.result) (made.result.1.now, y) run made.result.0) c.in-Some-store.is made.ensures.ends))
 
 pub returns-in_default-clause-ok : goal.returns-in_default-clause-ok

@@ -1,6 +1,6 @@
 use Rattle.std.proofs.Common.{◌≡◌, ◌-◌, ◌/◌, [], length}
 use Rattle.scene_text.specs.EventLines.{attempts_from}
-use Rattle.scene_text.proofs.reader.unit_lines.read_more_attempts.Given as goal
+use Rattle.scene_text.proofs.reader.event_lines.read_more_attempts.Given as goal
 
 -- the attempts that are left, behind those so far, make all
 abbrev pub invariant-loop-number : goal.invariant-loop-number

@@ -4,7 +4,7 @@ use Rattle.scene_fields.specs.Fields.{Place}
 use Rattle.scene_fields.specs.Split.{cut}
 use Rattle.scene_fields.specs.Texts.{unescaped_after}
 use Rattle.scene_text.specs.EventLines.{after_streams, output_fields, empty_output_fields, TakesEmptyOutput}
-use Rattle.scene_text.proofs.reader.unit_lines.take_empty_output.Goals as goal
+use Rattle.scene_text.proofs.reader.event_lines.take_empty_output.Goals as goal
 
 place_by : (p : Place) (n : ℕ) (left : List (List ℕ)) → n ≡ p.number → left ≡ p.left → ◌≡◌ {A = Place} (record { number = n; left = left }) p
 place_by p n left e f = rw (e, f) refl

@@ -1,6 +1,6 @@
 use Rattle.std.proofs.Common.{◌≡◌, ◌/◌, Ok, ap, arith, length, sym}
 use Rattle.scene_text.specs.EventLines.{all_attempts, attempts_from}
-use Rattle.scene_text.proofs.reader.unit_lines.read_attempts.Goals as goal
+use Rattle.scene_text.proofs.reader.event_lines.read_attempts.Goals as goal
 
 pub returns-then-len-lt8 : goal.returns-then-len-lt8
 unfolding all_attempts attempts_from

@@ -1,40 +1,52 @@
-//! The lines of units: of tests and of setup scripts, what they wrote, and what both answer when they are asked what they are doing.
+//! The lines of events: of tests and of setup scripts, what they wrote, and what both answer when they are asked what they are doing; and of the
+//! run, of the iterations of a stress run, and of a replay.
 
 ghost use Rattle.scene_events.specs.declared.scene.event.SceneEvent.{SceneEvent};
-ghost use Rattle.scene_fields.specs.Fields.{Gives, answered, field};
+ghost use Rattle.scene_fields.specs.Fields.{answered, field, Gives};
 ghost use Rattle.scene_fields.specs.Lists.{errors_in};
 ghost use Rattle.scene_fields.specs.Split.{field_texts};
-ghost use Rattle.scene_fields.specs.Texts.{bytes_in};
-ghost use Rattle.scene_text.specs.EventLines.{after_streams, all_attempts, answer_fields, answer_script_line_fields, answer_test_line_fields, attempt_fields, attempts_behind, done_line_fields, empty_output_fields, info_line_fields, made, output_fields, retry_fields, retry_line_fields, retry_start_line_fields, script_fields, setup_done_line_fields, setup_line_fields, setup_slow_line_fields, slow_line_fields, start_line_fields, stream_in, test_fields, TakesEmptyOutput};
-ghost use Rattle.std.specs.Prelude.{◌≡◌, ◌++◌, drop, IsTrue, IfOk};
+ghost use Rattle.scene_fields.specs.Texts.{bytes_in, text_in};
+ghost use Rattle.scene_text.specs.EventLines.{after_streams, all_attempts, answer_fields, answer_script_line_fields, answer_test_line_fields, attempt_fields, attempts_behind, cancel_line_fields, done_line_fields, empty_output_fields, end_line_fields, end_stress_line_fields, header_line_fields, info_line_fields, input_line_fields, made, not_seen_fields, output_fields, pause_line_fields, prefix_line_fields, retry_fields, retry_line_fields, retry_start_line_fields, run_line_fields, script_fields, setup_done_line_fields, setup_line_fields, setup_slow_line_fields, slow_line_fields, some_text_in, start_line_fields, stream_in, sub_end_line_fields, TakesEmptyOutput, test_fields, unique_prefix_fields};
+ghost use Rattle.std.specs.Prelude.{drop, IfOk, IsTrue, ◌++◌, ◌≡◌};
 
 use super::binary_ids::BinaryIds;
-use super::parts::{copy_outcome, read_highlight, read_result_or_none, read_state, state_with};
+use super::parts::{
+    copy_outcome, read_highlight, read_moment, read_progress, read_result_or_none, read_state,
+    state_with,
+};
 use super::{EventResult, Field, Line};
 use bytes::{Bytes, BytesMut};
+use run_model::abort::DescriptionText;
 use run_model::boxed::Boxed;
+use run_model::event::TestCounts;
+use run_model::not_seen::NotSeen;
 use run_model::output::{ChildOutputDescription, ChildSingleOutput, ErrorChain};
+use run_model::run_id::ShortestRunIdPrefix;
+use run_model::stats::{RunFinishedStats, StressRunStats};
 use run_model::status::{FlakyResult, RetryData};
 use scene_events::scene::attempts::{SceneAttempt, SceneAttempts};
 use scene_events::scene::event::SceneEvent;
 use scene_events::scene::outputs::{AttemptOutput, SceneOutput};
 use scene_events::scene::packed_stats::PackedStats;
-use scene_events::scene::run_events::StateRequest;
+use scene_events::scene::run_events::{
+    RunCancel, RunFinish, RunPause, RunStart, SceneHeader, StateRequest, SubRunFinish,
+};
 use scene_events::scene::unit_events::{
     FailedAttempt, SceneScript, SceneTest, ScriptAnswer, SetupFinish, SetupStart, SlowSetup,
     SlowTest, TestAnswer, TestFinish, TestRetryStart, TestStart, UnitAnswer,
 };
-use scene_fields::counts::read_stats;
+use scene_fields::counts::{read_skips, read_stats};
 use scene_fields::fault::{LineError, LineFault};
 use scene_fields::fields::Fields;
-use scene_fields::lists::{read_chain, read_command_line};
-use scene_fields::names::{read_program_name, read_script_id, read_test_name};
+use scene_fields::lists::{read_chain, read_command_line, read_instances};
+use scene_fields::names::{read_profile_name, read_program_name, read_script_id, read_test_name};
 use scene_fields::numbers::{read_count, read_nanos, read_small_count};
 use scene_fields::results::read_result;
-use scene_fields::texts::read_bytes;
+use scene_fields::texts::{read_bytes, read_text};
 use scene_fields::unescape::unescape_in_place;
 use scene_fields::values::{
-    read_absent, read_display, read_flag, read_flaky_result, read_stress_index,
+    read_absent, read_display, read_flag, read_flaky_result, read_reason_or_none, read_run_id,
+    read_stress_index,
 };
 use std::alloc::Global;
 use std::mem;
@@ -468,5 +480,170 @@ fn read_errors(alloc: Global, field: &str) -> Field<Option<ErrorChain>>
     match field {
         "-" => Ok(Some(None)),
         _ => Ok(read_chain(alloc, field)?.map(Some)),
+    }
+}
+
+/// Reads a `run` line: run id, profile, how many tests and binaries, and what is skipped.
+pub fn read_run(alloc: Global, fields: &mut Fields<'_>) -> EventResult
+    ensures { Gives (λ e. e) fields.old result fields.new run_line_fields }
+{
+    let start = RunStart {
+        run_id: fields.read(read_run_id)?,
+        profile_name: fields.try_read(|field| read_profile_name(alloc, field))?,
+        test_list: TestCounts {
+            run_count: fields.read(read_count)?,
+            listed_binary_count: fields.read(read_count)?,
+            skip_counts: fields.read(read_skips)?,
+        },
+    };
+    Ok(SceneEvent::RunStarted(Boxed::new(alloc, start)?))
+}
+
+/// Reads a `cancel` or `kill` line: how many setup scripts and tests run, and the reason.
+pub fn read_cancel(alloc: Global, fields: &mut Fields<'_>) -> Line<Boxed<RunCancel>>
+    ensures { Gives (λ c. c) fields.old result fields.new cancel_line_fields }
+{
+    let cancel = RunCancel {
+        setup_scripts_running: fields.read(read_count)?,
+        running: fields.read(read_count)?,
+        reason: fields.read(read_reason_or_none)?,
+    };
+    Ok(Boxed::new(alloc, cancel)?)
+}
+
+/// Reads a `pause` or `continue` line: how many setup scripts and tests run.
+pub fn read_pause(alloc: Global, fields: &mut Fields<'_>) -> Line<Boxed<RunPause>>
+    ensures { Gives (λ p. p) fields.old result fields.new pause_line_fields }
+{
+    let pause = RunPause {
+        setup_scripts_running: fields.read(read_count)?,
+        running: fields.read(read_count)?,
+    };
+    Ok(Boxed::new(alloc, pause)?)
+}
+
+/// Reads an `input` line: how long the run has taken, its statistics, and how many units run.
+pub fn read_input(alloc: Global, fields: &mut Fields<'_>) -> EventResult
+    ensures { Gives (λ e. e) fields.old result fields.new input_line_fields }
+{
+    let request = StateRequest {
+        elapsed: fields.read(read_nanos)?,
+        current_stats: fields.read(read_stats)?,
+        running: fields.read(read_count)?,
+    };
+    Ok(SceneEvent::InputEnter(Boxed::new(alloc, request)?))
+}
+
+/// Reads an `end` line: how long the run took, its statistics, and the tests that were not seen.
+pub fn read_end(alloc: Global, fields: &mut Fields<'_>) -> EventResult
+    ensures { Gives (λ e. e) fields.old result fields.new end_line_fields }
+{
+    let finish = RunFinish {
+        elapsed: fields.read(read_nanos)?,
+        run_stats: RunFinishedStats::Single(fields.read(read_stats)?),
+        outstanding_not_seen: read_not_seen(alloc, fields)?,
+    };
+    Ok(SceneEvent::RunFinished(Boxed::new(alloc, finish)?))
+}
+
+/// Reads how many tests were not seen, and those of them that are listed.
+pub fn read_not_seen(alloc: Global, fields: &mut Fields<'_>) -> Line<Option<NotSeen>>
+    ensures { Gives (λ o. o) fields.old result fields.new not_seen_fields }
+{
+    let total_not_seen = fields.read(read_count)?;
+    let not_seen = fields.try_read(|field| read_instances(alloc, field))?;
+    if total_not_seen == 0 && not_seen.as_slice().is_empty() {
+        return Ok(None);
+    }
+    Ok(Some(NotSeen {
+        not_seen,
+        total_not_seen,
+    }))
+}
+
+/// Reads a `subend` line: how far the stress run has come, how long the iteration took, and its statistics.
+pub fn read_sub_end(alloc: Global, fields: &mut Fields<'_>) -> EventResult
+    ensures { Gives (λ e. e) fields.old result fields.new sub_end_line_fields }
+{
+    let finish = SubRunFinish {
+        progress: fields.read(read_progress)?,
+        sub_elapsed: fields.read(read_nanos)?,
+        sub_stats: fields.read(read_stats)?,
+    };
+    Ok(SceneEvent::StressSubRunFinished(Boxed::new(alloc, finish)?))
+}
+
+/// Reads an `endstress` line: how long the run took, how many iterations have finished, succeeded and failed, the
+/// statistics of the last one, and the tests that were not seen.
+pub fn read_end_stress(alloc: Global, fields: &mut Fields<'_>) -> EventResult
+    ensures { Gives (λ e. e) fields.old result fields.new end_stress_line_fields }
+{
+    let finish = RunFinish {
+        elapsed: fields.read(read_nanos)?,
+        run_stats: RunFinishedStats::Stress(StressRunStats {
+            completed: fields.read(|field| read_stress_index(field).flatten())?,
+            success_count: fields.read(read_small_count)?,
+            failed_count: fields.read(read_small_count)?,
+            last_final_stats: fields.read(read_stats)?.summarize_final(),
+        }),
+        outstanding_not_seen: read_not_seen(alloc, fields)?,
+    };
+    Ok(SceneEvent::RunFinished(Boxed::new(alloc, finish)?))
+}
+
+/// Reads a `prefix` line: the part of the run's id that no other run has, and the rest.
+pub fn read_prefix(alloc: Global, fields: &mut Fields<'_>) -> EventResult
+    ensures { Gives (λ e. e) fields.old result fields.new prefix_line_fields }
+{
+    let prefix = fields.try_read(|field| read_description(alloc, field))?;
+    let rest = fields.try_read(|field| read_description(alloc, field))?;
+    let prefix = ShortestRunIdPrefix::new(alloc, prefix.as_str(), rest.as_str())?;
+    Ok(SceneEvent::Prefix(Boxed::new(alloc, prefix)?))
+}
+
+/// Reads a `header` line: the run's id, its prefix and the rest, when it started, and how it ended.
+pub fn read_header(alloc: Global, fields: &mut Fields<'_>) -> EventResult
+    ensures { Gives (λ e. e) fields.old result fields.new header_line_fields }
+{
+    let header = SceneHeader {
+        run_id: fields.read(read_run_id)?,
+        unique_prefix: read_unique_prefix(alloc, fields)?,
+        started_at: fields.read(read_moment)?,
+        status: fields.try_read(|field| read_description(alloc, field))?,
+    };
+    Ok(SceneEvent::Header(Boxed::new(alloc, header)?))
+}
+
+// Reads a prefix and the rest of the id, or twice `-`.
+fn read_unique_prefix(alloc: Global, fields: &mut Fields<'_>) -> Line<Option<ShortestRunIdPrefix>>
+    ensures { Gives (λ p. p) fields.old result fields.new unique_prefix_fields }
+{
+    let prefix = fields.take()?;
+    if prefix == "-" {
+        fields.read(read_absent)?; // nor is there a rest
+        return Ok(None);
+    }
+    let prefix = read_description(alloc, prefix)?.ok_or(fields.bad_field())?;
+    let rest = fields.try_read(|field| read_some_text(alloc, field))?;
+    Ok(Some(ShortestRunIdPrefix::new(alloc, prefix.as_str(), rest.as_str())?))
+}
+
+// Reads a text, where `-` is a bad field.
+fn read_some_text(alloc: Global, field: &str) -> Field<DescriptionText>
+    ensures { IfOk result (λ text. text ≡ some_text_in field.now) }
+{
+    match field {
+        "-" => Ok(None),
+        _ => read_description(alloc, field),
+    }
+}
+
+// Reads a text.
+fn read_description(alloc: Global, field: &str) -> Field<DescriptionText>
+    ensures { IfOk result (λ text. text ≡ text_in field.now) }
+{
+    match read_text(alloc, field)? {
+        Some(text) => Ok(Some(DescriptionText::new(alloc, text.as_str())?)),
+        None => Ok(None),
     }
 }

@@ -6,7 +6,7 @@ use Rattle.scene_fields.specs.declared.fault.LineError.{LineError}
 use Rattle.scene_fields.specs.declared.fault.LineError.TheVariants as error
 use Rattle.scene_fields.specs.declared.fault.LineFault.{LineFault}
 use Rattle.scene_text.specs.EventLines.{attempts_from}
-use Rattle.scene_text.proofs.reader.unit_lines.read_more_attempts.Goals as goal
+use Rattle.scene_text.proofs.reader.event_lines.read_more_attempts.Goals as goal
 
 -- a fault of what is read first is that of all
 fails_first : {A B : Type 0} (e : LineError) (f : A → Line B) (read : Result (A × Place) LineFault) (whole : Result (B × Place) LineFault) → whole ≡ goes_on f read → Fails e read → Fails e whole
