@@ -98,9 +98,9 @@ iteration_of (Some n) (Some m) = Some (Some (record { current = n; total = Some 
 iteration_of n m = None
 
 abbrev pub stress_cut : List ℕ → Option (List ℕ × List ℕ) → Option (Option StressIndex)
-stress_cut t None = if bytes_eq t (codes "-") then Some None else option_map (λ n. Some (record { current = n; total = None })) (number_in 32 t)
+stress_cut t None = option_map (λ n. Some (record { current = n; total = None })) (number_in 32 t)
 stress_cut t (Some x) = iteration_of (number_in 32 x.0) (total_in (number_in 32 x.1))
 
 -- an iteration as its number, perhaps with a slash and how many there are, which is not 0; or `-`
 abbrev pub stress_in : List ℕ → Option (Option StressIndex)
-stress_in t = stress_cut t (cut 47 t)
+stress_in t = if bytes_eq t (codes "-") then Some None else stress_cut t (cut 47 t)

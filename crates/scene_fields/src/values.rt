@@ -150,8 +150,10 @@ pub fn read_flaky_result(field: &str) -> Option<FlakyResult>
 pub fn read_stress_index(field: &str) -> Option<Option<StressIndex>>
     ensures { result ≡ stress_in field.now }
 {
+    if field == "-" {
+        return Some(None);
+    }
     match split_at_byte(field, b'/') {
-        None if field == "-" => Some(None),
         None => Some(Some(StressIndex {
             current: read_small_count(field)?,
             total: None,
