@@ -17,7 +17,7 @@ use Rattle.scene_fields.specs.declared.fault.LineFault.TheVariants as line
 use Rattle.scene_fields.specs.declared.fault.ReadFault.{ReadFault}
 use Rattle.scene_text.specs.SceneTexts.{IsNextFault, LeavesLines, ReadsLines, RunLine, is_begun, lines_after, lines_before, parsed_line, parsed_lines}
 use Rattle.scene_text.specs.declared.reader.LinesRead.{LinesRead}
-use Rattle.scenes.specs.Unloads.{decider_for}
+use Rattle.scenes.specs.Reports.{decider_for}
 
 -- what was read of a text: its first line, which a line feed parts from what is left; or what stands behind the last line feed
 abbrev pub IsNextLine : List ℕ → Bool → List ℕ → Option (List ℕ) → Type 0

@@ -8,7 +8,7 @@ use Rattle.recorded_lines.specs.declared.line.PlacedOutput.{PlacedOutput}
 use Rattle.scene_fields.specs.Split.{split_on}
 use Rattle.scene_fields.specs.declared.fault.LineFault.{LineFault}
 use Rattle.scene_text.specs.SceneTexts.{ConfigLine, EventLine, LinesBefore, NoEvent, ParsedLine, RunLine, lines_before, no_lines, parsed_line}
-use Rattle.scenes.specs.Unloads.{decider_for}
+use Rattle.scenes.specs.Reports.{decider_for}
 
 -- options that show a recorded run
 abbrev pub replayed : Options → Options

@@ -1,11 +1,8 @@
 pub mod Deferred
 pub mod Devices
-pub mod EventCalls
-pub mod EventLines
 pub mod FollowedRuns
 pub mod Prints
 pub mod ReadLines
 pub mod ReadyCalls
 pub mod Refusals
 pub mod SceneReporters
-pub mod Unloads

@@ -4,12 +4,11 @@ use Rattle.std.specs.Option.{option_map}
 use Rattle.reporter_state.specs.Refusals.{first_refused, refusal_by}
 use Rattle.reporter_state.specs.declared.decider.OutputLoadDecider.{OutputLoadDecider}
 use Rattle.run_model.specs.declared.call.ReportCall.{ReportCall}
-use Rattle.scenes.specs.Reports.{AreCallsOf, fault_at_call}
+use Rattle.scenes.specs.Reports.{AreCallsOf, fault_at_call, decider_for}
 use Rattle.scene_text.specs.SceneTexts.{event_lines, no_lines, text_lines, text_read}
 use Rattle.scene_events.specs.Scenes.{IsCallOf}
 use Rattle.scene_events.specs.declared.scene.SceneConfig.{SceneConfig}
 use Rattle.scene_events.specs.declared.scene.event.SceneEvent.{SceneEvent}
-use Rattle.scenes.specs.Unloads.{decider_for}
 use Rattle.command_line.specs.Faults.{IsJudgeFault}
 use Rattle.command_line.specs.declared.fault.Fault.{Fault}
 use Rattle.command_line.specs.declared.fault.Fault.TheVariants as fault

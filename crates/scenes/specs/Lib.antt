@@ -7,4 +7,3 @@ pub mod Read
 pub mod Reports
 pub mod SceneReporter
 pub mod ParsedScenes
-pub mod Unloads

@@ -13,8 +13,7 @@ use Rattle.scene_events.specs.Scenes.{IsCallOf}
 use Rattle.scene_events.specs.declared.scene.SceneConfig.{SceneConfig}
 use Rattle.scene_text.specs.SceneTexts.{ParsedLines}
 use Rattle.scenes.specs.Outcomes.{run_outcome}
-use Rattle.scenes.specs.Reports.{report_of, store_for, stored_of}
-use Rattle.scenes.specs.Unloads.{decider_for}
+use Rattle.scenes.specs.Reports.{report_of, store_for, stored_of, decider_for}
 use Rattle.scenes.specs.declared.outcome.RunOutcome.{RunOutcome}
 use Rattle.command_line.specs.declared.args.Options.{Options}
 use Rattle.command_line.specs.declared.fault.Fault.{Fault}

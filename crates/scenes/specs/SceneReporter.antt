@@ -10,8 +10,7 @@ use Rattle.scene_fields.specs.declared.fault.LineFault.{LineFault}
 use Rattle.scene_text.specs.SceneTexts.{ParsedLines}
 use Rattle.scenes.specs.Judged.{RefusesEvent}
 use Rattle.scenes.specs.Prints.{Begins, Prints, PrintsFollowed}
-use Rattle.scenes.specs.Reports.{configuration_for}
-use Rattle.scenes.specs.Unloads.{unloaded_for}
+use Rattle.scenes.specs.Reports.{configuration_for, unloaded_for}
 use Rattle.command_line.specs.declared.fault.Fault.{Fault}
 use Rattle.command_line.specs.declared.fault.Fault.TheVariants.{Line}
 use Rattle.command_line.specs.declared.args.Options.{Options}
@@ -37,4 +36,4 @@ module _ {W S : Type 0} (m : Meaning W) (n : Meaning S) (options : Options) (sta
     pub stops : Begins m (store_meaning n) options (writers start) (writers now) (record { config = config; events = base ++ front }) fault
         ⊎ Begins m (store_meaning n) options (writers start) (writers now) (record { config = config; events = (base ++ front) ++ event ∷ [] }) fault
         ⊎ (Prints m (store_meaning n) options (writers start) (writers now) (record { config = config; events = base ++ front })
-            × ((f : LineFault) × (fault ≡ Line (get_or lines (length front) 0) f) × RefusesEvent options config event f))
+        × ((f : LineFault) × (fault ≡ Line (get_or lines (length front) 0) f) × RefusesEvent options config event f))

@@ -136,7 +136,7 @@ fn check_refusals(alloc: Global, options: &Options<'_>, scene: &Scene) -> Result
 
 // The fault of the line of this number, if the call of its event is refused. Where a reporter may refuse it, the call is made for this
 // alone, in this buffer.
-#[tactic(auto, using(crate::proofs::lemmas::EventCalls::judged_unmade))]
+#[tactic(auto, using(crate::proofs::lemmas::Refusals::judged_unmade))]
 fn check_refusal<'a>(
     alloc: Global,
     decider: &OutputLoadDecider,

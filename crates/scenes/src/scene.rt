@@ -3,7 +3,7 @@
 ghost use Rattle.std.specs.Prelude.{◌≡◌, IfOk, IfErr, get_or};
 ghost use Rattle.std.specs.List.{AllZip};
 ghost use Rattle.scene_events.specs.Scenes.{IsCallOf};
-ghost use Rattle.scenes.specs.Unloads.{AreReadyCallsOf};
+ghost use Rattle.scenes.specs.Reports.{AreReadyCallsOf};
 
 use crate::reporter::decider_of;
 use command_line::args::Options;
@@ -34,7 +34,7 @@ impl Scene {
 
     /// The calls that the scene makes of a reporter, in order. They borrow its names. Where the options ask for it, the output
     /// that the reporter does not show is left unread, which changes neither its report nor what it refuses.
-    #[tactic(auto, using(crate::proofs::lemmas::Unloads::ready_whole, crate::proofs::lemmas::Unloads::ready_unread))]
+    #[tactic(auto, using(crate::proofs::lemmas::ReadyCalls::ready_whole, crate::proofs::lemmas::ReadyCalls::ready_unread))]
     pub fn calls(
         &self,
         alloc: Global,

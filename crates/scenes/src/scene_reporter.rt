@@ -5,9 +5,8 @@ ghost use Rattle.console_reporter.specs.HeldState.{HasFailed};
 ghost use Rattle.console_reporter.specs.OptionalStore.{config_of, store_delivered};
 ghost use Rattle.console_reporter.specs.Telling.{IsSameReporter};
 ghost use Rattle.scene_events.specs.Scenes.{IsCallOf};
-ghost use Rattle.scenes.specs.Reports.{builder_for, store_for};
+ghost use Rattle.scenes.specs.Reports.{builder_for, store_for, IsReadyCall};
 ghost use Rattle.scenes.specs.SceneReporter.{Follows, StopsAtEvent, writers};
-ghost use Rattle.scenes.specs.Unloads.{IsReadyCall};
 
 use crate::outcome::RunOutcome;
 use crate::reporter::{fault_at_call, surroundings_of};

@@ -13,8 +13,8 @@ use Rattle.reporter_state.specs.declared.decider.OutputLoadDecider.{OutputLoadDe
 use Rattle.scene_events.specs.declared.scene.event.SceneEvent.{SceneEvent}
 use Rattle.scene_fields.specs.declared.fault.LineFault.{LineFault}
 use Rattle.scene_text.specs.SceneTexts.{ConfigLine, EventLine, NoEvent, ParsedLine, ParsedLines, is_begun, line_read, lines_before, lines_read, lines_read_after, lines_with, parsed_line, with_event, with_line}
-use Rattle.scenes.specs.Unloads.{decider_for}
-use Rattle.scenes.proofs.lemmas.EventLines.{config_kept}
+use Rattle.scenes.specs.Reports.{decider_for}
+use Rattle.scenes.proofs.lemmas.ReadLines.{config_kept}
 
 -- an event with every output in its place: it is the one that is replayed, or the decider skips that one's outputs
 abbrev pub IsInline : List ℕ → OutputLoadDecider → SceneEvent → SceneEvent → Type 0

@@ -26,7 +26,7 @@ use Rattle.scene_fields.specs.declared.fault.ReadFault.{ReadFault}
 use Rattle.scene_fields.specs.declared.fault.ReadFault.TheVariants as fault
 use Rattle.scene_text.specs.SceneTexts.{AllRead, ConfigLine, EventLine, IsNextFault, LeavesLines, LinesBefore, NoEvent, ParsedLine, ParsedLines, ReadsLines, RunLine, event_line, event_lines, is_begun, line_here, line_read, lines_after, lines_before, lines_with, parsed_line, parsed_lines, plain_line, text_lines, with_event, with_line}
 use Rattle.scene_text.specs.declared.reader.LinesRead.{LinesRead}
-use Rattle.scenes.specs.Unloads.{decider_for}
+use Rattle.scenes.specs.Reports.{decider_for}
 
 -- what holds of the value that is there
 at_some : {X : Type 0} (o : Option X) (x : X) (P : X → Type 0) → o ≡ Some x → IfSome o P → P x

@@ -20,8 +20,7 @@ use Rattle.scene_text.specs.SceneTexts.{ParsedLines, RunLine, no_lines}
 use Rattle.scenes.specs.Prints.{PrintsFollowed, device}
 use Rattle.scenes.specs.Outcomes.{run_outcome}
 use Rattle.scenes.specs.ParsedScenes.{OfLines}
-use Rattle.scenes.specs.Reports.{configuration_for, report_of, stored_of}
-use Rattle.scenes.specs.Unloads.{decider_for}
+use Rattle.scenes.specs.Reports.{configuration_for, report_of, stored_of, decider_for}
 use Rattle.scenes.specs.declared.outcome.RunOutcome.{RunOutcome}
 use Rattle.scenes.proofs.lemmas.ReadyCalls.{outcome_unread}
 

@@ -5,10 +5,9 @@ use Rattle.scenes.proofs.Common.{all_append, AreWhole, AtLine, Begins, begun_beh
 use Rattle.command_line.specs.declared.fault.Fault.TheVariants.{CannotRead}
 use Rattle.scene_fields.specs.declared.fault.ReadFault.TheVariants as read
 use Rattle.scene_text.specs.SceneTexts.{line_read}
-use Rattle.scenes.proofs.lemmas.EventLines.{config_kept, event_at}
+use Rattle.scenes.proofs.lemmas.ReadLines.{config_kept, event_at, at_more, forgets, line_reads, spells}
 use Rattle.scenes.proofs.lemmas.Prints.{begins_no_more, calls_so, memory_no_device, memory_no_store, prints_only}
 use Rattle.scenes.proofs.lemmas.SceneReporters.{StopsAt}
-use Rattle.scenes.proofs.lemmas.ReadLines.{at_more, forgets, line_reads, spells}
 
 wrong_with : (before : ParsedLines) (f : LineFault) (r : Result ParsedLine LineFault) → lines_with before r ≡ Err f → r ≡ Err f
 wrong_with before f (Ok s) h = absurd (cc)

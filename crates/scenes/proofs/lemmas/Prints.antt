@@ -3,7 +3,7 @@ use Rattle.std.proofs.Common.{◌≡◌, List, [], ◌∷◌, ◌++◌, reverse,
 use Rattle.scenes.proofs.Common.{AllZip, AreWhole, Begins, configuration_for, decider_for, Fault, first_refused, HasBeginning, HasFirstCalls, IsCallOf, Meaning, OfCalls, Options, OutOfMemory, ParsedLines, Prints, PrintsFollowed, report, ReportCall, Reported, reverse-append, RunOutcome, SceneConfig, SceneEvent, store_for, stored, stored_text, StoreFailed, Text, text, WriteFailed, WriterLaws}
 use Rattle.plain_text.specs.declared.write_str.WriteFault.TheVariants.{Device, Memory as RefusedMemory}
 use Rattle.console_reporter.specs.Outcomes.{HasFront}
-use Rattle.scenes.proofs.lemmas.EventCalls.{zip_both}
+use Rattle.scenes.proofs.lemmas.Refusals.{zip_both}
 
 -- of a text a beginning was accepted, as `HasBeginning` says it
 abbrev pub Begun : {S : Type 0} → Meaning S → Type 0 → S → Text → S → Type 0

@@ -1,13 +1,28 @@
--- Calls of which the output that no report shows is left unread have the same report (for `SceneReporter::report_events` and replays).
-use Rattle.std.proofs.Common.{rules, if◌then◌else◌, ◌≡◌, Bool, true, false, List, [], ◌∷◌, ◌++◌, reverse, refl, ap, ◌∙◌, inl, inr}
+-- Calls of which the output that no report shows is left unread have the same report (for `Scene::calls`, `SceneReporter::report_events` and
+-- replays).
+use Rattle.std.proofs.Common.{rules, if◌then◌else◌, ◌≡◌, Bool, true, false, List, [], ◌∷◌, ◌++◌, reverse, refl, ap, ◌∙◌, inl, inr, sym, subst}
 use mathlib.Core.List.{reverse_aux}
-use Rattle.scenes.proofs.Common.{cases_Bool, configuration_for, decider_for, Event, map-append, Options, outcome_after, OutputLoadDecider, refusal_by, report_of, ReportCall, RunOutcome, SceneConfig, stored_of, TestEventKind, unloaded_for, unread, unread_call}
+use Rattle.scenes.proofs.Common.{cases_Bool, configuration_for, decider_for, Event, map-append, Options, outcome_after, OutputLoadDecider, refusal_by, report_of, ReportCall, RunOutcome, SceneConfig, stored_of, TestEventKind, unloaded_for, unread, unread_call, AreCallsOf, AreReadyCallsOf, IsIsolated, Scene}
 use Rattle.console_reporter.proofs.lemmas.Isolation.{isolated}
 use Rattle.reporter_state.specs.Unread.{is_skipped}
 use Rattle.run_model.specs.Unloaded.{unloaded_kind}
 use Rattle.run_model.specs.declared.event.TestEventKind.TheVariants as kind
 use Rattle.scenes.specs.Outcomes.{outcome_after_event, run_outcome}
-use Rattle.scenes.specs.Unloads.{ready_if}
+use Rattle.scenes.specs.Reports.{ready_if}
+
+module _ (options : Options) (scene : Scene) where
+  -- nothing is left unread
+  pub ready_whole : (calls : List ReportCall) → options.unload_skipped ≡ false → AreCallsOf scene calls → AreReadyCallsOf options scene calls
+  ready_whole calls off of_scene = record {
+    made = calls;
+    of_scene = of_scene;
+    ready = rw off refl;
+    isolated = (λ config is. refl, λ config is. refl, λ config is. refl, λ config is. refl, λ accepted. accepted, refl, λ i. refl);
+  }
+
+  -- what is skipped is left unread
+  pub ready_unread : (made calls : List ReportCall) → options.unload_skipped ≡ true → AreCallsOf scene made → calls ≡ unread (decider_for options scene.config) made → AreReadyCallsOf options scene calls
+  ready_unread made calls on of_scene left = record { made = made; of_scene = of_scene; ready = left ∙ rw on refl; isolated = subst (IsIsolated (decider_for options scene.config) made) (sym left) (isolated (decider_for options scene.config) made) }
 
 -- what a run has come to does not depend on output
 unloaded_outcome : (before : RunOutcome) (k : TestEventKind) → outcome_after_event before (unloaded_kind k) ≡ outcome_after_event before k

@@ -14,10 +14,9 @@ use Rattle.scenes.specs.Judged.{IsSceneAccepted, RefusesEvent}
 use Rattle.std.specs.List.{position}
 use Rattle.scenes.specs.Outcomes.{run_outcome}
 use Rattle.scenes.specs.declared.outcome.RunOutcome.TheVariants as outcome
-use Rattle.scenes.specs.Unloads.{IsReadyCall, ready_if, unloaded_for}
-use Rattle.scenes.proofs.lemmas.EventCalls.{first_of, refusal_of_call, told_refusal, zip_after}
+use Rattle.scenes.specs.Reports.{IsReadyCall, ready_if, unloaded_for}
 use Rattle.scenes.proofs.lemmas.ReadyCalls.{more_ready, none_ready, outcome_ready, refusal_ready, report_ready, stored_ready}
-use Rattle.scenes.proofs.lemmas.Refusals.{fails_behind, none_mapped, none_more}
+use Rattle.scenes.proofs.lemmas.Refusals.{fails_behind, none_mapped, none_more, first_of, refusal_of_call, told_refusal, zip_after}
 use Rattle.scenes.proofs.lemmas.Prints.{begins_longer, begins_no_more, failed_call, memory_no_device, memory_no_store, no_call, prints_only, refused_call, whole_call, write_no_store}
 
 -- a store is there where its device failed
@@ -128,8 +127,8 @@ module _ {W S : Type 0} {m : Meaning W} {n : Meaning S} (laws : WriterLaws m) (o
     one_stopped number StoreIo promises =
         let stops = promises.err.store_stopped config past follows.stands in
         inr (inl (begun (promises.refused config past follows.stands) StoreFailed (inr (inr (refl, store_there n options now.reporter.store next.reporter.store _ follows.stands.store stops)))
-            (whole_call laws _ _ _ before r.made _ text_is _ _ _ whole.printed (promises.err.stopped config past follows.stands) (promises.err.delivered refl))
-            (failed_call (store-laws others) _ _ _ before r.made _ record_is _ _ _ whole.kept refl (λ is. write_no_store (sym is)) stops)))
+        (whole_call laws _ _ _ before r.made _ text_is _ _ _ whole.printed (promises.err.stopped config past follows.stands) (promises.err.delivered refl))
+        (failed_call (store-laws others) _ _ _ before r.made _ record_is _ _ _ whole.kept refl (λ is. write_no_store (sym is)) stops)))
 
   -- the event at this place, behind those that were reported
   module _ (config : SceneConfig) (events : List SceneEvent) (base : List SceneEvent) (place : ℕ) (now next : SceneReporter W S) (e : SceneEvent) (within : place < length events) (is : e ≡ get_or events place e)

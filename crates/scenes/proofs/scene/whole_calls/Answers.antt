@@ -1,4 +1,4 @@
-use Rattle.scenes.proofs.lemmas.EventCalls.{AllZip-more}
+use Rattle.scenes.proofs.lemmas.Refusals.{AllZip-more}
 use Rattle.scenes.proofs.Common.{IsCallOf}
 use Rattle.scenes.proofs.scene.whole_calls.Goals as goal
 
