@@ -10,7 +10,7 @@ use Rattle.recorded_outputs.specs.Outputs.{stream_at}
 use Rattle.recorded_outputs.specs.declared.reference.Reference.{Reference}
 use Rattle.reporter_state.specs.declared.decider.OutputLoadDecider.{OutputLoadDecider}
 use Rattle.scene_events.specs.declared.scene.event.SceneEvent.TheVariants as scene
-use Rattle.scene_events.specs.declared.scene.run_events.SetupFinish.{SetupFinish}
+use Rattle.scene_events.specs.declared.scene.unit_events.SetupFinish.{SetupFinish}
 use Rattle.scene_fields.specs.declared.fault.LineFault.TheVariants.{BadField}
 use Rattle.recorded_events.specs.Loads.{event_replayed, outputs_len}
 
