@@ -21,7 +21,7 @@ module _ {W S : Type 0} (options : Options) (text : List ℕ) (old new : W × S)
   unreported (fault.CannotRead file) h = tt
   unreported (fault.CannotWrite file) h = tt
   unreported (fault.Line n f) (inl h) = h.judged
-  unreported (fault.Line n f) (inr h) = absurd (line_no_stop options n f h.holds.holds.stopped)
+  unreported (fault.Line n f) (inr h) = absurd (line_no_stop options n f h.holds.holds.0)
   unreported fault.WriteFailed h = tt
   unreported fault.StoreFailed h = tt
   unreported fault.OutOfMemory h = tt
