@@ -2,70 +2,117 @@
 //! reporter's clauses for each. What drops an event or a reporter is proved in each crate that does so: the tests give reporters back as
 //! their writers, and let events go undropped.
 
-use console_reporter::imp::{DisplayReporter, DisplayReporterBuilder, ReportCall, WriteEventError};
+use console_reporter::imp::{
+    DisplayReporter, DisplayReporterBuilder, ReportCall, RunFault, WriteEventError,
+};
 use plain_text::write_str::WriteStr;
+use run_model::command::CommandLine;
 use run_model::config::TestOutputDisplay;
 use run_model::event::{TestEvent, TestEventKind};
 use run_model::level::{FinalStatusLevel, StatusLevel};
 use run_model::memory::OutOfMemory;
-use run_model::name::TestInstanceId;
-use run_model::output::LiveSpec;
+use run_model::name::{ProgramName, ScriptId, TestInstanceId};
+use run_model::output::{ChildExecutionOutputDescription, LiveSpec};
 use run_model::stats::RunStats;
-use run_model::status::{ExecuteStatus, ExecutionStatuses};
+use run_model::status::{
+    ExecuteStatus, ExecutionResultDescription, ExecutionStatuses, SetupScriptExecuteStatus,
+};
 use run_model::time::Nanos;
 use std::alloc::Global;
 use unit_report::config::{DisplayConfig, ShowProgress};
 
-/// Three tests ran: one passed, one passed at its second attempt, one failed.
-pub fn stats() -> RunStats {
-    RunStats {
-        finished_count: 3,
-        passed: 2,
-        flaky: 1,
-        failed: 1,
-        ..RunStats::new(3)
-    }
-}
-
-/// A reporter that shows a line of each test, and in the summary those that failed. It shows no output.
-pub fn line_builder(alloc: Global) -> Result<DisplayReporterBuilder, OutOfMemory> {
-    let mut builder = DisplayReporterBuilder::new(alloc, 3)?;
+/// A reporter of a run of two tests that shows a line of each from this level on, and in the summary those that failed.
+pub fn line_builder(
+    alloc: Global,
+    status_level: StatusLevel,
+) -> Result<DisplayReporterBuilder, OutOfMemory> {
+    let mut builder = DisplayReporterBuilder::new(alloc, 2)?;
     builder.display_config = DisplayConfig::with_overrides(
         ShowProgress::None,
         false,
-        StatusLevel::Pass,
+        status_level,
         FinalStatusLevel::Fail,
     );
-    builder.failure_output = Some(TestOutputDisplay::Never);
     Ok(builder)
 }
 
-/// The end of a test of one attempt.
+/// The end of a test of one attempt, whose output is shown so.
 pub fn ended<'a>(
     alloc: Global,
     test_instance: TestInstanceId<'a>,
+    display: TestOutputDisplay,
     status: ExecuteStatus<LiveSpec>,
 ) -> TestEvent<'a> {
-    TestEvent::test_finished(
-        Nanos(0),
+    finished(
         test_instance,
+        [display, display],
         ExecutionStatuses::single(alloc, status),
-        stats(),
     )
 }
 
-/// An attempt that succeeded, after which another one is said to follow: a reporter refuses it.
-pub fn retried_success<'a>(test_instance: TestInstanceId<'a>) -> TestEvent<'a> {
+/// The end of a test, with how its output is shown where it succeeded and where it failed.
+pub fn finished<'a>(
+    test_instance: TestInstanceId<'a>,
+    displays: [TestOutputDisplay; 2],
+    run_statuses: ExecutionStatuses<LiveSpec>,
+) -> TestEvent<'a> {
+    let [success_output, failure_output] = displays;
+    TestEvent {
+        elapsed: Nanos(0),
+        kind: TestEventKind::TestFinished {
+            stress_index: None,
+            test_instance,
+            success_output,
+            failure_output,
+            run_statuses,
+            current_stats: RunStats::new(2),
+        },
+    }
+}
+
+/// An attempt after which another one follows. Its output is shown at once.
+pub fn retried<'a>(
+    test_instance: TestInstanceId<'a>,
+    run_status: ExecuteStatus<LiveSpec>,
+) -> TestEvent<'a> {
     TestEvent {
         elapsed: Nanos(0),
         kind: TestEventKind::TestAttemptFailedWillRetry {
             stress_index: None,
             test_instance,
-            run_status: ExecuteStatus::passed(Nanos::from_secs(1)),
+            run_status,
             delay_before_next_attempt: Nanos(0),
             failure_output: TestOutputDisplay::Immediate,
         },
     }
+}
+
+/// An attempt that succeeded, after which another one is said to follow: a reporter refuses it.
+pub fn retried_success<'a>(test_instance: TestInstanceId<'a>) -> TestEvent<'a> {
+    retried(test_instance, ExecuteStatus::passed(Nanos::from_secs(1)))
+}
+
+/// The end of a setup script.
+pub fn script_finished<'a>(
+    alloc: Global,
+    outcome: ExecutionResultDescription,
+    output: ChildExecutionOutputDescription<LiveSpec>,
+) -> Result<TestEvent<'a>, OutOfMemory> {
+    Ok(TestEvent {
+        elapsed: Nanos(0),
+        kind: TestEventKind::SetupScriptFinished {
+            stress_index: None,
+            script_id: ScriptId::new(alloc, "s1")?,
+            program: ProgramName::new(alloc, "cmd")?,
+            args: CommandLine::from_words(alloc, &[])?,
+            run_status: SetupScriptExecuteStatus {
+                time_taken: Nanos::from_secs(1),
+                result: outcome,
+                output,
+                is_slow: false,
+            },
+        },
+    })
 }
 
 /// Hands an event to a reporter.
@@ -82,22 +129,55 @@ pub fn make_call<W: WriteStr, S: WriteStr>(
     reporter: &mut DisplayReporter<'_, W, S>,
     call: &ReportCall<'_>,
 ) -> Result<(), WriteEventError> {
-    reporter.make_call(alloc, call)
+    match call {
+        ReportCall::Event(event) => write_event(reporter, event),
+        _ => reporter.make_call(alloc, call),
+    }
 }
 
-/// Makes these calls, also those after one that failed, if none has before, and ends the report. Whether all after the first that failed
-/// answered so.
+/// What calls of a reporter answered.
+#[derive(Clone, Copy)]
+pub struct Answers {
+    /// Where the first of them failed, if one did.
+    pub outcome: Result<(), RunFault>,
+    /// Whether all after that one answered that the report has failed.
+    pub are_silent: bool,
+}
+
+impl Answers {
+    /// What a run answered, which stops at the first fault.
+    pub fn to_run(outcome: Result<(), RunFault>) -> Answers {
+        Answers {
+            outcome,
+            are_silent: true,
+        }
+    }
+
+    // One more: what the call at this place answered.
+    fn and(self, position: usize, answer: Result<(), WriteEventError>) -> Answers {
+        match (self.outcome, answer) {
+            (Ok(()), Err(fault)) => Answers {
+                outcome: Err(RunFault { position, fault }),
+                ..self
+            },
+            (Err(_), answer) => Answers {
+                are_silent: self.are_silent && answer == Err(WriteEventError::Failed),
+                ..self
+            },
+            (Ok(()), Ok(())) => self,
+        }
+    }
+}
+
+/// Makes these calls, also those after one that failed, and ends the report.
 pub fn make_calls<W: WriteStr, S: WriteStr>(
     alloc: Global,
     reporter: &mut DisplayReporter<'_, W, S>,
-    has_failed_before: bool,
     calls: &[ReportCall<'_>],
-) -> bool {
-    let (mut has_failed, mut is_silent) = (has_failed_before, true);
-    for call in calls {
-        let answer = make_call(alloc, reporter, call);
-        is_silent = is_silent && (!has_failed || answer == Err(WriteEventError::Failed));
-        has_failed = has_failed || answer.is_err();
+) -> Answers {
+    let mut answers = Answers::to_run(Ok(()));
+    for (position, call) in calls.iter().enumerate() {
+        answers = answers.and(position, make_call(alloc, reporter, call));
     }
-    is_silent && (!has_failed || reporter.finish() == Err(WriteEventError::Failed))
+    answers.and(calls.len(), reporter.finish())
 }

@@ -1,0 +1,163 @@
+//! Which outputs a replay loads: what the decider answers of recorded events, and of the events of a run that is going on, which a
+//! reporter refuses where it needs an output that was left unread.
+
+use crate::testing::{finished, line_builder, retried, script_finished};
+use console_reporter::imp::{
+    OutputLoadDecider, ReportCall, StoreConfig, Surroundings, WriteEventError,
+};
+use run_model::config::TestOutputDisplay;
+use run_model::event::TestEvent;
+use run_model::level::StatusLevel;
+use run_model::memory::OutOfMemory;
+use run_model::name::OwnedTestInstanceId;
+use run_model::output::{ChildExecutionOutputDescription, LiveSpec};
+use run_model::output_event::LoadOutput;
+use run_model::status::{
+    ExecuteStatus, ExecutionResultDescription, ExecutionStatuses, FlakyResult, LeakTimeoutResult,
+};
+use run_model::time::Nanos;
+use std::alloc::Global;
+use std::mem;
+use std::test::Fail;
+
+const LOAD: LoadOutput = LoadOutput::Load;
+
+const SKIP: LoadOutput = LoadOutput::Skip;
+
+const NEVER: TestOutputDisplay = TestOutputDisplay::Never;
+
+const IMMEDIATE: TestOutputDisplay = TestOutputDisplay::Immediate;
+
+// A store that keeps the output of tests that fail.
+const FAILURES: StoreConfig = StoreConfig {
+    store_success_output: false,
+    store_failure_output: true,
+};
+
+// What a test came to.
+#[derive(Clone, Copy)]
+enum Outcome {
+    Passed,
+    // Its second attempt passed, which counts as a failure.
+    FlakyFailed,
+    Failed,
+    ExecFailed,
+}
+
+impl Outcome {
+    fn statuses(self, alloc: Global) -> Result<ExecutionStatuses<LiveSpec>, OutOfMemory> {
+        let second = Nanos::from_secs(1);
+        match self {
+            Outcome::Passed => Ok(ExecutionStatuses::single(alloc, ExecuteStatus::passed(second))),
+            Outcome::FlakyFailed => Ok(ExecutionStatuses::with_last(
+                vec![in alloc; ExecuteStatus::failed(1, second)]?,
+                ExecuteStatus::passed(second),
+                FlakyResult::Fail,
+            )),
+            Outcome::Failed => Ok(ExecutionStatuses::single(
+                alloc,
+                ExecuteStatus::failed(1, second),
+            )),
+            Outcome::ExecFailed => Ok(ExecutionStatuses::single(
+                alloc,
+                ExecuteStatus::new(alloc, ExecutionResultDescription::ExecFail, second)?,
+            )),
+        }
+    }
+}
+
+// A setup script that left handles open has finished.
+fn leaky_script<'a>(alloc: Global, leak: LeakTimeoutResult) -> Result<TestEvent<'a>, OutOfMemory> {
+    let outcome = ExecutionResultDescription::Leak { result: leak };
+    let output = ChildExecutionOutputDescription::silent(outcome.copy(alloc)?);
+    script_finished(alloc, outcome, output)
+}
+
+// What is answered of an event's recorded form, and why a reporter refuses the event, as it is and with its output left unread.
+type Answer = (LoadOutput, [Option<WriteEventError>; 2]);
+
+// None of events that have no output.
+fn answer_of(
+    alloc: Global,
+    decider: &OutputLoadDecider,
+    event: TestEvent<'_>,
+) -> Result<Option<Answer>, OutOfMemory> {
+    let recorded = event.recorded(alloc);
+    let as_it_is = decider.refusal_of(&event);
+    let mut event = event;
+    event.unload();
+    let unread = decider.refusal_of(&event);
+    mem::forget(event);
+    let Some(kind) = recorded? else {
+        return Ok(None);
+    };
+    let answer = decider.should_load_output(&kind);
+    mem::forget(kind);
+    Ok(Some((answer, [as_it_is, unread])))
+}
+
+// The answer that a live event has as well: where its output is loaded, it is refused without.
+fn both(answer: LoadOutput) -> Option<Answer> {
+    match answer {
+        LoadOutput::Load => Some((LOAD, [None, Some(WriteEventError::OutputNotLoaded)])),
+        LoadOutput::Skip => Some((SKIP, [None, None])),
+    }
+}
+
+// Whether a reporter of this level and store has that answer.
+fn is_answered(
+    alloc: Global,
+    status_level: StatusLevel,
+    store: Option<StoreConfig>,
+    event: TestEvent<'_>,
+    want: LoadOutput,
+) -> Result<bool, OutOfMemory> {
+    let builder = line_builder(alloc, status_level)?;
+    let decider = builder.output_load_decider(Surroundings::default(), store);
+    Ok(answer_of(alloc, &decider, event)? == both(want))
+}
+
+#[test]
+fn tests_that_finished(rt: HostRuntime) -> Result<(), Fail> {
+    let test = OwnedTestInstanceId::new(rt.alloc(), "a", "t1")?;
+    let (last, both_times) = (TestOutputDisplay::Final, TestOutputDisplay::ImmediateFinal);
+    let (alone, beside_store) = (None, Some(FAILURES));
+    for (store, outcome, displays, want) in [
+        (alone, Outcome::Passed, [NEVER, IMMEDIATE], SKIP),
+        (alone, Outcome::Passed, [last, NEVER], LOAD),
+        (alone, Outcome::FlakyFailed, [NEVER, IMMEDIATE], SKIP),
+        (alone, Outcome::Failed, [NEVER, both_times], LOAD),
+        (alone, Outcome::ExecFailed, [NEVER, NEVER], SKIP),
+        (beside_store, Outcome::Passed, [NEVER, NEVER], SKIP),
+        (beside_store, Outcome::FlakyFailed, [NEVER, NEVER], SKIP),
+        (beside_store, Outcome::Failed, [NEVER, NEVER], LOAD),
+        (beside_store, Outcome::ExecFailed, [NEVER, NEVER], LOAD),
+    ] {
+        let event = finished(test.as_ref(), displays, outcome.statuses(rt.alloc())?);
+        assert!(rt; is_answered(rt.alloc(), StatusLevel::Pass, store, event, want)?);
+    }
+    Ok(())
+}
+
+#[test]
+fn attempts_that_are_retried(rt: HostRuntime) -> Result<(), Fail> {
+    let test = OwnedTestInstanceId::new(rt.alloc(), "a", "t1")?;
+    for (status_level, want) in [(StatusLevel::Fail, SKIP), (StatusLevel::Retry, LOAD)] {
+        let failed = ExecuteStatus::failed(1, Nanos::from_secs(1));
+        let event = retried(test.as_ref(), failed);
+        assert!(rt; is_answered(rt.alloc(), status_level, None, event, want)?);
+    }
+    Ok(())
+}
+
+#[test]
+fn setup_scripts(rt: HostRuntime) -> Result<(), Fail> {
+    for (leak, want) in [
+        (LeakTimeoutResult::Pass, SKIP),
+        (LeakTimeoutResult::Fail, LOAD),
+    ] {
+        let event = leaky_script(rt.alloc(), leak)?;
+        assert!(rt; is_answered(rt.alloc(), StatusLevel::Pass, None, event, want)?);
+    }
+    Ok(())
+}

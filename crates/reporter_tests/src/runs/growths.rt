@@ -1,0 +1,222 @@
+//! Runs whose memory may be refused. With ample memory every report is whole. `scripts/check-faults` runs these tests once for each
+//! growth, which is refused then: they answer that, and fail by other words where a text is no beginning of what is told.
+
+use super::{ALL_OUTPUT, Texts, Trial, begin, front_len, run_alone, run_with_store, try_runs};
+use crate::testing::{Answers, line_builder, make_call, make_calls};
+use console_reporter::imp::{DisplayReporterBuilder, ReportCall, RunFault, WriteEventError};
+use plain_text::write_str::{TextBuffer, WriteStr};
+use run_model::level::StatusLevel;
+use run_model::memory::OutOfMemory;
+use run_model::run_id::ShortestRunIdPrefix;
+use std::alloc::Global;
+use std::mem;
+use std::test::Fail;
+use test_devices::Device;
+
+// How a run is made: by one call, without a store and with one, or call by call.
+#[derive(Clone, Copy, PartialEq, Eq)]
+enum Way {
+    Alone,
+    WithStore,
+    CallByCall,
+}
+
+const WAYS: [Way; 3] = [Way::Alone, Way::WithStore, Way::CallByCall];
+
+// Bytes enough for each of the texts.
+const ROOM: usize = 1000;
+
+// Makes a run, of which the second writer is told nothing where there is no store.
+fn run_over<W: WriteStr, S: WriteStr>(
+    alloc: Global,
+    way: Way,
+    report: &mut W,
+    records: &mut S,
+    calls: &[ReportCall<'_>],
+) -> Result<Answers, OutOfMemory> {
+    match way {
+        Way::Alone => Ok(Answers::to_run(run_alone(alloc, report, calls)?)),
+        Way::WithStore => Ok(Answers::to_run(run_with_store(alloc, report, records, calls)?)),
+        Way::CallByCall => {
+            let builder = line_builder(alloc, StatusLevel::Pass)?;
+            Ok(make_each(alloc, builder, report, records, calls))
+        }
+    }
+}
+
+fn make_each<W: WriteStr, S: WriteStr>(
+    alloc: Global,
+    builder: DisplayReporterBuilder,
+    report: &mut W,
+    records: &mut S,
+    calls: &[ReportCall<'_>],
+) -> Answers {
+    let mut reporter = builder.build_with_store(
+        alloc, report, records, ALL_OUTPUT, false, false, false, false,
+    );
+    let answers = make_calls(alloc, &mut reporter, calls);
+    let _writers = reporter.into_writers();
+    answers
+}
+
+// Whether a run that was answered so leaves these texts: all, or where memory was refused a beginning of each, and of a record only
+// after the whole text of its call. Without a store there are no records.
+fn leaves(texts: Texts, answers: Answers, report: &[u8], records: Option<&[u8]>) -> bool {
+    let is_known = match answers.outcome {
+        Ok(()) => true,
+        Err(stop) => stop.fault == WriteEventError::Memory && answers.are_silent,
+    };
+    if !is_known || !reaches(report, texts.report, answers.outcome) {
+        return false;
+    }
+    let Some(records) = records else {
+        return true;
+    };
+    reaches(records, texts.records, answers.outcome)
+        && is_text_first(texts, answers.outcome, report, records)
+}
+
+// Whether these bytes are the texts of the calls that worked, and a beginning of that of the call that did not.
+fn reaches(bytes: &[u8], texts: &[&str], outcome: Result<(), RunFault>) -> bool {
+    let (least, most) = match outcome {
+        Ok(()) => (texts.len(), texts.len()),
+        Err(stop) => (stop.position, stop.position.saturating_add(1)),
+    };
+    begin(bytes, texts)
+        && bytes.len() >= front_len(texts, least)
+        && bytes.len() <= front_len(texts, most)
+}
+
+// Whether the call that failed has no byte of its record, or its whole text.
+fn is_text_first(
+    texts: Texts,
+    outcome: Result<(), RunFault>,
+    report: &[u8],
+    records: &[u8],
+) -> bool {
+    let Err(stop) = outcome else {
+        return true;
+    };
+    records.len() == front_len(texts.records, stop.position)
+        || report.len() == front_len(texts.report, stop.position.saturating_add(1))
+}
+
+// How the run ended, unless it left other texts than it may.
+fn judge(
+    texts: Texts,
+    answers: Result<Answers, OutOfMemory>,
+    report: &[u8],
+    records: Option<&[u8]>,
+) -> Result<(), Fail> {
+    let answers = answers?;
+    if !leaves(texts, answers, report, records) {
+        return Err(Fail::from("a run left other texts"));
+    }
+    answers.outcome?;
+    Ok(())
+}
+
+/// Runs the calls over two texts that grow.
+pub fn run_over_strings(alloc: Global, calls: &[ReportCall<'_>], texts: Texts) -> Result<(), Fail> {
+    for way in WAYS {
+        let (mut report, mut records) = (String::new(alloc), String::new(alloc));
+        let answers = run_over(alloc, way, &mut report, &mut records, calls);
+        let stored = (way != Way::Alone).then_some(records.as_bytes());
+        judge(texts, answers, report.as_bytes(), stored)?;
+    }
+    Ok(())
+}
+
+/// Runs the calls over two buffers, which reserve their memory before.
+pub fn run_over_buffers(alloc: Global, calls: &[ReportCall<'_>], texts: Texts) -> Result<(), Fail> {
+    for way in WAYS {
+        let mut report = buffer(alloc)?;
+        let mut records = buffer(alloc)?;
+        let answers = run_over(alloc, way, &mut report, &mut records, calls);
+        let (report, records) = (device_under(report), device_under(records));
+        let stored = (way != Way::Alone).then_some(records.taken());
+        judge(texts, answers, report.taken(), stored)?;
+    }
+    Ok(())
+}
+
+fn buffer(alloc: Global) -> Result<TextBuffer<Device>, Fail> {
+    Ok(TextBuffer::new(alloc, Device::with_room(alloc, ROOM)?)?)
+}
+
+// The device has all that was accepted, since each call delivers its text.
+fn device_under(buffer: TextBuffer<Device>) -> Device {
+    let (device, _) = buffer.into_inner();
+    device
+}
+
+/// Makes the calls after the prefix of the run's id was set.
+pub fn run_after_prefix(alloc: Global, calls: &[ReportCall<'_>], texts: Texts) -> Result<(), Fail> {
+    let prefix = ShortestRunIdPrefix::new(alloc, "0", "0000000-0000-4000-8000-000000000001")?;
+    let prefix = ReportCall::Prefix(prefix);
+    let tried = run_after(alloc, &prefix, calls, texts);
+    mem::forget(prefix);
+    tried
+}
+
+// The copy of a prefix may be refused as well. The reporter would go on with another text than its calls have, so it has failed then.
+fn run_after(
+    alloc: Global,
+    prefix: &ReportCall<'_>,
+    calls: &[ReportCall<'_>],
+    texts: Texts,
+) -> Result<(), Fail> {
+    let builder = line_builder(alloc, StatusLevel::Pass)?;
+    let (mut report, mut records) = (String::new(alloc), String::new(alloc));
+    let mut reporter = builder.build_with_store(
+        alloc,
+        &mut report,
+        &mut records,
+        ALL_OUTPUT,
+        false,
+        false,
+        false,
+        false,
+    );
+    let copied = make_call(alloc, &mut reporter, prefix);
+    let answers = make_calls(alloc, &mut reporter, calls);
+    let _writers = reporter.into_writers();
+    let Err(fault) = copied else {
+        return judge(
+            texts,
+            Ok(answers),
+            report.as_bytes(),
+            Some(records.as_bytes()),
+        );
+    };
+    let failed = Err(RunFault {
+        position: 0,
+        fault: WriteEventError::Failed,
+    });
+    if answers.outcome != failed || !report.is_empty() || !records.is_empty() {
+        return Err(Fail::from("the report went on without its prefix"));
+    }
+    let outcome = Err(RunFault { position: 0, fault });
+    let answers = Answers { outcome, ..answers };
+    judge(
+        texts,
+        Ok(answers),
+        report.as_bytes(),
+        Some(records.as_bytes()),
+    )
+}
+
+#[test]
+fn runs_over_texts_that_grow(rt: HostRuntime) -> Result<(), Fail> {
+    try_runs(rt.alloc(), Trial::Strings)
+}
+
+#[test]
+fn runs_over_buffers(rt: HostRuntime) -> Result<(), Fail> {
+    try_runs(rt.alloc(), Trial::Buffers)
+}
+
+#[test]
+fn calls_after_a_prefix_was_not_copied(rt: HostRuntime) -> Result<(), Fail> {
+    try_runs(rt.alloc(), Trial::Prefix)
+}
