@@ -408,11 +408,7 @@ fn tells_each_fault(rt: HostRuntime) -> Result<(), Fail> {
         (Fault::OutOfMemory, 3, "report: out of memory"),
     ];
     for (fault, status, line) in faults {
-        let program = Program::Report;
-        assert_eq!(rt;
-            FaultLine { program, fault }.to_string(rt.alloc())?.as_str(),
-            line
-        );
+        assert_eq!(rt; fault.to_string(rt.alloc())?.as_str(), line);
         assert_eq!(rt; fault.status(), status);
     }
     let follow = FaultLine {
@@ -446,7 +442,8 @@ fn tells_what_is_wrong_with_a_line(rt: HostRuntime) -> Result<(), Fail> {
     for (fault, line) in faults {
         let read = ReadFault::Line { line: 3, fault };
         assert_eq!(rt; read.to_string(rt.alloc())?.as_str(), line);
-        assert_eq!(rt; Fault::from(read).to_string(rt.alloc())?.as_str(), line);
+        let shown = Fault::from(read).to_string(rt.alloc())?;
+        assert_eq!(rt; shown.as_str().strip_prefix("report: "), Some(line));
     }
     assert_eq!(rt;
         ReadFault::OutOfMemory.to_string(rt.alloc())?.as_str(),
