@@ -16,7 +16,7 @@ pub use crate::imp::{
 };
 pub use bytes::Bytes;
 pub use plain_text::indenter::indented;
-pub use plain_text::write_str::{TextBuffer, WriteStr};
+pub use plain_text::write_str::{RetryInterrupted, TextBuffer, WriteStr};
 pub use run_model::abort::DescriptionText;
 pub use run_model::command::CommandLine;
 pub use run_model::config::{NextestRunMode, TestOutputDisplay};

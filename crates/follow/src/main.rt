@@ -4,6 +4,7 @@
 //! producer that died must not look like a success. What goes wrong is one line on standard error and the status.
 #![tactic(auto)]
 
+use plain_text::write_str::RetryInterrupted;
 use scenes::args::{Options, words_or_input};
 use scenes::fault::{Fault, Program};
 use scenes::follow::{RunOutcome, follow_scene};
@@ -52,11 +53,16 @@ fn follow<'a, R: Read + Drop>(
     reader: R,
 ) -> Result<RunOutcome, Fault<'a>> {
     let alloc = rt.alloc();
+    // A signal may interrupt a write, which is then made again.
+    let output = RetryInterrupted::new(io::writer(rt));
     let Some(store) = options.store else {
-        return follow_scene(alloc, options, reader, io::writer(rt), io::sink()).0;
+        return follow_scene(alloc, options, reader, output, io::sink()).0;
     };
     match File::create(rt, store.file) {
-        Ok(records) => follow_scene(alloc, options, reader, io::writer(rt), records).0,
+        Ok(file) => {
+            let records = RetryInterrupted::new(file);
+            follow_scene(alloc, options, reader, output, records).0
+        }
         Err(error) => Err(Fault::CannotWrite { file: store.file }.by_kind(error.kind())),
     }
 }

@@ -11,20 +11,25 @@ ghost use Rattle.plain_text.specs.Writer.{Meaning, WriterLaws, Puts};
 mod delivery;
 mod on_formatter;
 mod pending_bytes;
+mod retry_interrupted;
 mod text_buffer;
 
 pub use delivery::delivery_law;
 pub use on_formatter::OnFormatter;
 pub use pending_bytes::CAPACITY;
+pub use retry_interrupted::RetryInterrupted;
 use std::alloc::AllocError;
 pub use text_buffer::TextBuffer;
+use thiserror::Error;
 
 /// Why a text could not be written whole. A beginning of it was accepted.
-#[derive(Clone, Copy, Debug, PartialEq, Eq)]
+#[derive(Clone, Copy, Debug, PartialEq, Eq, Error)]
 pub enum WriteFault {
     /// The device failed.
+    #[error("the device failed")]
     Device,
     /// A growth of memory was refused.
+    #[error("out of memory")]
     Memory,
 }
 

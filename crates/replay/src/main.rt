@@ -4,6 +4,7 @@
 //! that did not end. What goes wrong is one line on standard error and the status.
 #![tactic(auto)]
 
+use plain_text::write_str::RetryInterrupted;
 use recorded_outputs::outputs::RecordedOutputs;
 use recorded_runs::run::RecordedRun;
 use scenes::args::{Options, words};
@@ -71,11 +72,13 @@ fn replay<'a>(
 ) -> Result<RunOutcome, Fault<'a>> {
     let alloc = rt.alloc();
     let mut run = RecordedRun::new(alloc, options, lines, outputs)?;
+    // A signal may interrupt a write, which is then made again.
+    let output = RetryInterrupted::new(io::writer(rt));
     let Some(store) = options.store else {
-        return run.replay(alloc, io::writer(rt), io::sink()).0;
+        return run.replay(alloc, output, io::sink()).0;
     };
     match File::create(rt, store.file) {
-        Ok(records) => run.replay(alloc, io::writer(rt), records).0,
+        Ok(records) => run.replay(alloc, output, RetryInterrupted::new(records)).0,
         Err(error) => Err(Fault::CannotWrite { file: store.file }.by_kind(error.kind())),
     }
 }

@@ -4,6 +4,7 @@
 //! status, and nothing stands on standard output unless the whole scene was accepted and PATH was made or emptied.
 #![tactic(auto)]
 
+use plain_text::write_str::RetryInterrupted;
 use scenes::args::words;
 use scenes::fault::{Fault, Program};
 use scenes::process::{arguments, tell};
@@ -40,12 +41,14 @@ fn run<'a>(rt: &HostRuntime, args: &'a [String]) -> Result<(), Fault<'a>> {
         Ok(judged) => judged,
         Err(fault) => return Err(fault),
     };
+    // A signal may interrupt a write, which is then made again.
+    let output = RetryInterrupted::new(io::writer(rt));
     let Some(store) = options.store else {
-        return report_accepted(alloc, &judged, io::writer(rt), io::sink()).0;
+        return report_accepted(alloc, &judged, output, io::sink()).0;
     };
     let records = match File::create(rt, store.file) {
         Ok(records) => records,
         Err(error) => return Err(Fault::CannotWrite { file: store.file }.by_kind(error.kind())),
     };
-    report_accepted(alloc, &judged, io::writer(rt), records).0
+    report_accepted(alloc, &judged, output, RetryInterrupted::new(records)).0
 }

@@ -7,7 +7,7 @@
 mod filter;
 
 use filter::filter;
-use plain_text::write_str::TextBuffer;
+use plain_text::write_str::{RetryInterrupted, TextBuffer};
 use std::io::ErrorKind;
 use std::{env, io};
 
@@ -19,7 +19,9 @@ fn main(rt: HostRuntime) -> io::Result<()> {
         },
         None => 1,
     };
-    match TextBuffer::new(rt.alloc(), io::writer(&rt)) {
+    // A signal may interrupt a write, which is then made again.
+    let output = RetryInterrupted::new(io::writer(&rt));
+    match TextBuffer::new(rt.alloc(), output) {
         Ok(mut out) => Ok(filter(rt.alloc(), rt.reader(), &mut out, turns)?),
         Err(_) => Err(ErrorKind::OutOfMemory.into()),
     }

@@ -19,8 +19,6 @@ pub enum Failure {
     NothingTaken,
     /// Flushes answer an error.
     FlushError,
-    /// Every other write is interrupted, from the first on, and takes no byte.
-    Interrupted,
 }
 
 /// A device for tests: it takes at most [`BYTES_AT_ONCE`] a call, and fails from a call of its on, in a chosen way.
@@ -30,7 +28,9 @@ pub struct Device {
     room: usize,
     calls_left: usize,
     failure: Failure,
-    is_interrupted: bool,
+    kind: ErrorKind,
+    interrupts: usize,
+    interrupts_left: usize,
 }
 
 impl Device {
@@ -48,7 +48,25 @@ impl Device {
             room: usize::MAX,
             calls_left: call,
             failure,
-            is_interrupted: false,
+            kind: ErrorKind::Other,
+            interrupts: 0,
+            interrupts_left: 0,
+        }
+    }
+
+    /// One that works, but whose every write and every flush is interrupted so often first.
+    ///
+    /// ```
+    /// use std::io::Write;
+    /// let mut device = Device::interrupted(alloc, 1);
+    /// assert!(device.write(b"passed").is_err());
+    /// assert_eq!(device.write(b"passed")?, 6);
+    /// ```
+    pub fn interrupted(alloc: Global, times: usize) -> Device {
+        Device {
+            interrupts: times,
+            interrupts_left: times,
+            ..Device::failing_at(alloc, usize::MAX, Failure::Error)
         }
     }
 
@@ -67,8 +85,21 @@ impl Device {
             room,
             calls_left: usize::MAX,
             failure: Failure::Error,
-            is_interrupted: false,
+            kind: ErrorKind::Other,
+            interrupts: 0,
+            interrupts_left: 0,
         })
+    }
+
+    /// The same, whose errors are of this kind. Without this they are `Other`.
+    ///
+    /// ```
+    /// use std::io::{ErrorKind, Write};
+    /// let mut device = Device::failing_at(alloc, 0, Failure::Error).with_kind(ErrorKind::BrokenPipe);
+    /// assert!(device.flush().is_err_and(|error| error.kind() == ErrorKind::BrokenPipe));
+    /// ```
+    pub fn with_kind(self, kind: ErrorKind) -> Device {
+        Device { kind, ..self }
     }
 
     /// What it took.
@@ -79,9 +110,19 @@ impl Device {
     // Counts a call, which fails where none is left.
     fn call(&mut self) -> io::Result<()> {
         if self.calls_left == 0 {
-            return Err(io::Error::from(ErrorKind::Other));
+            return Err(io::Error::from(self.kind));
         }
         self.calls_left -= 1;
+        Ok(())
+    }
+
+    // Interrupts a call, so often before one works.
+    fn interrupt(&mut self) -> io::Result<()> {
+        if self.interrupts_left > 0 {
+            self.interrupts_left -= 1;
+            return Err(io::Error::from(ErrorKind::Interrupted));
+        }
+        self.interrupts_left = self.interrupts;
         Ok(())
     }
 
@@ -90,7 +131,7 @@ impl Device {
         ensures { IfOk result (λ n. n ≤ length buf.now) }
     {
         if self.room == 0 {
-            return Err(io::Error::from(ErrorKind::Other));
+            return Err(io::Error::from(self.kind));
         }
         let (front, _) = buf.split_at(buf.len().min(BYTES_AT_ONCE).min(self.room));
         self.taken.extend_from_slice(front)?;
@@ -101,6 +142,7 @@ impl Device {
 
 impl Write for Device {
     fn write(&mut self, buf: &[u8]) -> io::Result<usize> {
+        self.interrupt()?;
         match self.failure {
             Failure::Error => self.call()?,
             Failure::NothingTaken => {
@@ -109,19 +151,14 @@ impl Write for Device {
                 }
             }
             Failure::FlushError => {}
-            Failure::Interrupted => {
-                self.is_interrupted = !self.is_interrupted;
-                if self.is_interrupted {
-                    return Err(io::Error::from(ErrorKind::Interrupted));
-                }
-            }
         }
         self.take(buf)
     }
 
     fn flush(&mut self) -> io::Result<()> {
+        self.interrupt()?;
         match self.failure {
-            Failure::NothingTaken | Failure::Interrupted => Ok(()),
+            Failure::NothingTaken => Ok(()),
             Failure::Error | Failure::FlushError => self.call(),
         }
     }

@@ -10,13 +10,13 @@ ghost use Rattle.std.specs.Io.KnownBytes.{Appends};
 use super::pending_bytes::{CAPACITY, PendingBytes};
 use super::{WriteFault, WriteStr};
 use std::alloc::{AllocError, Global};
-use std::io::{ErrorKind, Write};
+use std::io::Write;
 
 /// Gathers text and delivers it to a device, such as a file or standard output.
 ///
-/// Its accepted text is what was delivered followed by what is pending. A device fails where it answers an error other than
-/// `Interrupted`, after which the write is tried again, or takes none of the bytes that it was given; what was not delivered
-/// then stays pending.
+/// Its accepted text is what was delivered followed by what is pending. A device fails where it answers an error of any
+/// kind, or takes none of the bytes that it was given; what was not delivered then stays pending. Where signals can interrupt the
+/// device, [`RetryInterrupted`](super::RetryInterrupted) stands in front of it.
 ///
 /// ```
 /// use std::io;
@@ -136,24 +136,19 @@ impl<W: Write> WriteStr for TextBuffer<W> {
     }
 }
 
-// Writes until all is taken or a write fails, and says how many bytes were taken and whether all was. A write that was interrupted is
-// tried again, as `write_all` of Rust does.
+// Writes until all is taken or a write fails, and says how many bytes were taken and whether all was.
 fn send<W: Write>(bytes: &[u8], to: &mut W) -> (usize, bool)
     ensures bound { result.0 ≤ length bytes.now }
     ensures all { OnTrue result.1 (result.0 ≡ length bytes.now) }
     ensures bytes { Appends (W.contents to.old) (W.contents to.new) (take result.0 bytes.now) }
 {
     let mut sent = 0;
-    for _turn in 0..u64::MAX {
-        if sent == bytes.len() {
-            return (sent, true);
-        }
+    while sent < bytes.len() {
         match to.write(&bytes[sent..]) {
             Ok(0) => return (sent, false),
             Ok(n) => sent += n,
-            Err(error) if error.kind() == ErrorKind::Interrupted => continue,
             Err(_) => return (sent, false),
         }
     }
-    (sent, false)
+    (sent, true)
 }

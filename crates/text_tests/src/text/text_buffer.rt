@@ -1,27 +1,151 @@
-//! Devices that fail only where they are to hand their bytes on, or whose writes are interrupted.
+//! Devices that fail, at each of their calls and with errors of each kind, or whose calls are interrupted.
 
-use plain_text::write_str::{TextBuffer, WriteFault, WriteStr};
+use plain_text::write_str::{CAPACITY, RetryInterrupted, TextBuffer, WriteFault, WriteStr};
+use std::alloc::Global;
+use std::io::{ErrorKind, Write};
 use std::test::Fail;
-use test_devices::{Device, Failure};
+use test_devices::{BYTES_AT_ONCE, Device, Failure};
+
+const TEXT: &str = "a text of several writes";
+
+// Errors of a device, some of which mean to others that the call is to be made again, or that memory was refused.
+const KINDS: [ErrorKind; 7] = [
+    ErrorKind::Interrupted,
+    ErrorKind::WouldBlock,
+    ErrorKind::TimedOut,
+    ErrorKind::OutOfMemory,
+    ErrorKind::BrokenPipe,
+    ErrorKind::StorageFull,
+    ErrorKind::Other,
+];
+
+// Writes and flushes over a device, and says what that answered, what the device took and how many bytes are pending.
+fn deliver<W: Write + Drop>(
+    alloc: Global,
+    device: W,
+    texts: &[&str],
+) -> Result<(W, Result<(), WriteFault>, usize), Fail> {
+    let Ok(mut buffer) = TextBuffer::new(alloc, device) else {
+        return Err(Fail::from("memory was refused"));
+    };
+    let answer = write_and_flush(&mut buffer, texts);
+    let (device, pending) = buffer.into_inner();
+    Ok((device, answer, pending.len()))
+}
+
+fn write_and_flush<W: WriteStr>(w: &mut W, texts: &[&str]) -> Result<(), WriteFault> {
+    for text in texts {
+        w.write_str(text)?;
+    }
+    w.write_str_flush()
+}
 
 #[test]
-fn a_flush_that_fails_is_a_failure_of_the_device(rt: HostRuntime) -> Result<(), Fail> {
-    let device = Device::failing_at(rt.alloc(), 0, Failure::FlushError);
-    let mut buffer = TextBuffer::new(rt.alloc(), device)?;
-    assert_eq!(rt; buffer.write_str("text"), Ok(()));
-    assert_eq!(rt; buffer.write_str_flush(), Err(WriteFault::Device));
-    let (_, pending) = buffer.into_inner();
-    assert!(rt; pending.is_empty());
+fn a_write_that_fails_is_a_failure_of_the_device(rt: HostRuntime) -> Result<(), Fail> {
+    let alloc = rt.alloc();
+    for kind in KINDS {
+        for call in 0..TEXT.len().div_ceil(BYTES_AT_ONCE) {
+            for failure in [Failure::Error, Failure::NothingTaken] {
+                let device = Device::failing_at(alloc, call, failure).with_kind(kind);
+                let (device, answer, pending) = deliver(alloc, device, &[TEXT])?;
+                let taken = call * BYTES_AT_ONCE;
+                assert_eq!(rt; answer, Err(WriteFault::Device));
+                assert_eq!(rt; device.taken(), &TEXT.as_bytes()[..taken]);
+                assert_eq!(rt; pending, TEXT.len() - taken);
+            }
+        }
+    }
     Ok(())
 }
 
 #[test]
-fn a_write_that_is_interrupted_is_tried_again(rt: HostRuntime) -> Result<(), Fail> {
-    let device = Device::failing_at(rt.alloc(), 0, Failure::Interrupted);
-    let mut buffer = TextBuffer::new(rt.alloc(), device)?;
-    assert_eq!(rt; buffer.write_str("a text of several writes"), Ok(()));
+fn a_flush_that_fails_is_a_failure_of_the_device(rt: HostRuntime) -> Result<(), Fail> {
+    let alloc = rt.alloc();
+    for kind in KINDS {
+        // Also where nothing is pending, since what the device was handed before may not be flushed.
+        for text in [TEXT, ""] {
+            let device = Device::failing_at(alloc, 0, Failure::FlushError).with_kind(kind);
+            let (device, answer, pending) = deliver(alloc, device, &[text])?;
+            assert_eq!(rt; answer, Err(WriteFault::Device));
+            assert_eq!(rt; (device.taken(), pending), (text.as_bytes(), 0));
+        }
+    }
+    Ok(())
+}
+
+#[test]
+fn a_device_that_fails_once_is_written_on(rt: HostRuntime) -> Result<(), Fail> {
+    let mut buffer = TextBuffer::new(rt.alloc(), Device::interrupted(rt.alloc(), 1))?;
+    // Each write of the device is interrupted once, and so is its flush.
+    assert_eq!(rt; buffer.write_str(TEXT), Ok(()));
+    for _ in 0..TEXT.len().div_ceil(BYTES_AT_ONCE) {
+        assert_eq!(rt; buffer.write_str_flush(), Err(WriteFault::Device));
+    }
+    assert_eq!(rt; buffer.write_str_flush(), Err(WriteFault::Device));
     assert_eq!(rt; buffer.write_str_flush(), Ok(()));
     let (device, pending) = buffer.into_inner();
-    assert!(rt; pending.is_empty() && device.taken() == b"a text of several writes".as_slice());
+    assert_eq!(rt; (device.taken(), pending.len()), (TEXT.as_bytes(), 0));
+    Ok(())
+}
+
+#[test]
+fn a_call_that_is_interrupted_is_made_again(rt: HostRuntime) -> Result<(), Fail> {
+    let alloc = rt.alloc();
+    for times in [0, 1, 2, 100] {
+        let device = RetryInterrupted::new(Device::interrupted(alloc, times));
+        let (device, answer, pending) = deliver(alloc, device, &[TEXT, TEXT])?;
+        let device = device.into_inner();
+        assert_eq!(rt; (answer, pending), (Ok(()), 0));
+        assert_eq!(rt; device.taken(), [TEXT, TEXT].concat(alloc)?.as_bytes());
+    }
+    Ok(())
+}
+
+#[test]
+fn no_other_answer_of_a_device_is_changed(rt: HostRuntime) -> Result<(), Fail> {
+    let alloc = rt.alloc();
+    for kind in KINDS {
+        if kind != ErrorKind::Interrupted {
+            let device = Device::failing_at(alloc, 1, Failure::Error).with_kind(kind);
+            let mut device = RetryInterrupted::new(device);
+            assert_eq!(rt; device.write(TEXT.as_bytes()).ok(), Some(BYTES_AT_ONCE));
+            let (write, flush) = (device.write(b"text"), device.flush());
+            assert_eq!(rt; write.err().map(|error| error.kind()), Some(kind));
+            assert_eq!(rt; flush.err().map(|error| error.kind()), Some(kind));
+        }
+    }
+    let mut device = RetryInterrupted::new(Device::failing_at(alloc, 0, Failure::NothingTaken));
+    assert_eq!(rt; device.write(b"text").ok(), Some(0));
+    Ok(())
+}
+
+#[test]
+fn many_texts_and_large_ones_are_delivered(rt: HostRuntime) -> Result<(), Fail> {
+    let alloc = rt.alloc();
+    let large = "0123456789abcdef".repeat(alloc, 1 << 20)?;
+    let device = Vec::with_capacity(alloc, large.len() + 5 * CAPACITY)?;
+    let mut buffer = TextBuffer::new(alloc, device)?;
+    // Each small text is delivered by itself.
+    for _ in 0..5 * CAPACITY {
+        buffer.write_str("x")?;
+        buffer.write_str_flush()?;
+    }
+    buffer.write_str(large.as_str())?;
+    buffer.write_str_flush()?;
+    let (device, _) = buffer.into_inner();
+    let (small, rest) = device.as_slice().split_at(5 * CAPACITY);
+    assert!(rt; small.iter().all(|byte| *byte == b'x'));
+    assert!(rt; rest == large.as_bytes());
+    Ok(())
+}
+
+#[test]
+fn a_fault_has_words(rt: HostRuntime) -> Result<(), Fail> {
+    for (fault, words) in [
+        (WriteFault::Device, "the device failed"),
+        (WriteFault::Memory, "out of memory"),
+    ] {
+        assert_eq!(rt; fault.to_string(rt.alloc())?.as_str(), words);
+    }
     Ok(())
 }
