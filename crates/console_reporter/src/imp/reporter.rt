@@ -365,7 +365,8 @@ impl<'a, W: WriteStr, S: WriteStr> DisplayReporter<'a, W, S> {
         ensures accepted_before { IfErr result (λ stop. (config : Configuration) → StandsAfter config [] self.old → AreAccepted config (take stop.position calls.now)) }
         // The calls before were made, and then that at the position, or past the last of them the end, was not.
         ensures err { IfErr result (λ stop. (mid : DisplayReporter W S) × TellsRun W.meaning S.meaning self.old (past_at calls.now stop.position) mid
-            × Promises W.meaning S.meaning mid (slice_get calls.now stop.position) (Err stop.fault) self.new) }
+            × Promises W.meaning S.meaning mid (slice_get calls.now stop.position) (Err stop.fault) self.new
+            × (AreDelivered W.meaning S.meaning self.old → AreDelivered W.meaning S.meaning mid)) }
     {
         for position in 0..calls.len() {
             match self.make_call(alloc, &calls[position]) {
