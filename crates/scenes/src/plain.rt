@@ -46,7 +46,9 @@ pub(crate) fn write_calls<W: Write + Drop>(
     ensures ok { OnOk result ((last : W) × ((held : Option (List ℕ)) → AreWhole device device options.now (W.contents writer, held) (W.contents last, held) scene.now.config calls.now)) }
     ensures err { IfErr result (λ fault. (last : W) × ((held : Option (List ℕ)) → AreBegun device device options.now (W.contents writer, held) (W.contents last, held) scene.now.config fault calls.now)) }
 {
-    let builder = builder_of(alloc, options, &scene.config)?;
+    let Ok(builder) = builder_of(alloc, options, &scene.config) else {
+        return Err(Fault::OutOfMemory);
+    };
     let mut out = match TextBuffer::new(alloc, writer) {
         Ok(out) => out,
         Err(_refused) => return Err(Fault::OutOfMemory),
@@ -74,7 +76,9 @@ pub(crate) fn write_calls_and_records<W: Write + Drop, S: Write + Drop>(
     ensures ok { OnOk result ((last : W) × (store_last : S) × AreWhole device device options.now (W.contents writer, S.contents store_writer) (W.contents last, S.contents store_last) scene.now.config calls.now) }
     ensures err { IfErr result (λ fault. (last : W) × (store_last : S) × AreBegun device device options.now (W.contents writer, S.contents store_writer) (W.contents last, S.contents store_last) scene.now.config fault calls.now) }
 {
-    let builder = builder_of(alloc, options, &scene.config)?;
+    let Ok(builder) = builder_of(alloc, options, &scene.config) else {
+        return Err(Fault::OutOfMemory);
+    };
     let mut out = match TextBuffer::new(alloc, writer) {
         Ok(out) => out,
         Err(_refused) => return Err(Fault::OutOfMemory),

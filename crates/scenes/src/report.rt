@@ -198,15 +198,15 @@ pub fn write_report<W: Write + Drop, S: Write + Drop>(
     ensures err { IfErr result (λ fault. IsSceneRefused options.now scene.now fault
         ⊎ ((last : W) × (store_last : S) × Begins device device options.now (W.contents writer, S.contents store_writer) (W.contents last, S.contents store_last) (scene_lines scene.now) fault)) }
 {
-    let calls = scene.calls(alloc, options)?;
+    let all = scene.calls(alloc, options)?;
+    let calls = all.as_slice();
     let decider = decider_of(alloc, options, &scene.config)?;
-    if let Some(fault) = refused_call(&decider, scene, calls.as_slice()) {
+    if let Some(fault) = refused_call(&decider, scene, calls) {
         return Err(fault);
     }
     let Some(store) = options.store else {
-        return write_calls(alloc, options, scene, calls.as_slice(), writer);
+        return write_calls(alloc, options, scene, calls, writer);
     };
-    let calls = calls.as_slice();
     write_calls_and_records(alloc, options, scene, calls, writer, store_writer, store.config)
 }
 
