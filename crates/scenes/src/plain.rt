@@ -55,7 +55,9 @@ pub(crate) fn write_calls<W: Write + Drop>(
     };
     let unicode = scene.config.use_unicode;
     let empty = scene.config.display_empty_outputs;
-    match run_report(alloc, builder, &mut out, unicode, false, false, empty, calls) {
+    match run_report(
+        alloc, builder, &mut out, unicode, false, false, empty, calls,
+    ) {
         Ok(()) => Ok(()),
         Err(stop) => Err(fault_of_stop(scene, stop)),
     }

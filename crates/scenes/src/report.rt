@@ -207,7 +207,15 @@ pub fn write_report<W: Write + Drop, S: Write + Drop>(
     let Some(store) = options.store else {
         return write_calls(alloc, options, scene, calls, writer);
     };
-    write_calls_and_records(alloc, options, scene, calls, writer, store_writer, store.config)
+    write_calls_and_records(
+        alloc,
+        options,
+        scene,
+        calls,
+        writer,
+        store_writer,
+        store.config,
+    )
 }
 
 /// Writes the report of a scene that was judged to a device, and its records to a second one where the options ask for them, and gives

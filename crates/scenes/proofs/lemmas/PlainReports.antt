@@ -55,17 +55,17 @@ module _ (whole : List ReportCall → Text) (part : List ReportCall → ReportCa
   up_to : UpTo
   up_to = elim ((slice_get_cases calls i).1) [
     | inl h ↦ record {
-        first = take i calls ++ h.0 ∷ [];
-        rest = drop (suc i) calls;
-        is = around calls i h.0 h.1 h.3 ∙ sym (append_assoc (take i calls) (h.0 ∷ []) (drop (suc i) calls));
-        texts = ap whole (reverse-append (take i calls) (h.0 ∷ [])) ∙ one_more h.0 (past_at calls i) ∙ ap (λ o. before ++ at o) (sym h.2);
-      }
+      first = take i calls ++ h.0 ∷ [];
+      rest = drop (suc i) calls;
+      is = around calls i h.0 h.1 h.3 ∙ sym (append_assoc (take i calls) (h.0 ∷ []) (drop (suc i) calls));
+      texts = ap whole (reverse-append (take i calls) (h.0 ∷ [])) ∙ one_more h.0 (past_at calls i) ∙ ap (λ o. before ++ at o) (sym h.2);
+    }
     | inr h ↦ record {
-        first = calls;
-        rest = [];
-        is = sym (append-nil calls);
-        texts = ap (λ cs. whole (reverse cs)) (sym (take_all i calls h.0)) ∙ sym (append-nil before) ∙ ap (λ o. before ++ at o) (sym h.1);
-      }
+      first = calls;
+      rest = [];
+      is = sym (append-nil calls);
+      texts = ap (λ cs. whole (reverse cs)) (sym (take_all i calls h.0)) ∙ sym (append-nil before) ∙ ap (λ o. before ++ at o) (sym h.1);
+    }
   ]
 
   -- a writer that has the texts of the calls before has, where the call there was stopped,
@@ -231,7 +231,7 @@ module _ (options : Options) (scene : Scene) (calls : List ReportCall) where
         | inl h ↦
             let passes : is_refused h.0 ≡ true = sym (ap is_refused h.3) ∙ (position-Some is_refused calls i h.0 is).1 in
             let fault : option_map (fault_at_call (get_or scene.lines.items i 0)) (refusal_by d h.0) ≡ None =
-                sym (ap (λ o. option_map (fault_at_call (get_or scene.lines.items i 0)) (option_and_then (refusal_by d) o)) h.2) ∙ sym (ap (option_and_then (λ k. option_map (fault_at_call (get_or scene.lines.items k 0)) (refusal_at_by d calls k))) is) ∙ none in
+            sym (ap (λ o. option_map (fault_at_call (get_or scene.lines.items i 0)) (option_and_then (refusal_by d) o)) h.2) ∙ sym (ap (option_and_then (λ k. option_map (fault_at_call (get_or scene.lines.items k 0)) (refusal_at_by d calls k))) is) ∙ none in
             absurd (false≢true (sym (mapped_none (get_or scene.lines.items i 0) (refusal_by d h.0) (sym fault)) ∙ passes))
         | inr h ↦ let inside = within_first is_refused calls i is in absurd (omega (arith, h.0, inside))
       ]
@@ -248,7 +248,7 @@ module _ (options : Options) (scene : Scene) (calls : List ReportCall) where
           let made = ready.made in
           let first : first_refused d made ≡ Some i = sym ready.isolated.5 ∙ is in
           let says : option_map (fault_at_call (get_or scene.lines.items i 0)) (refusal_at_by d made i) ≡ Some f =
-              ap (option_map (fault_at_call (get_or scene.lines.items i 0))) (sym (ready.isolated.6 i)) ∙ sym (ap (option_and_then (λ k. option_map (fault_at_call (get_or scene.lines.items k 0)) (refusal_at_by d calls k))) is) ∙ some in
+          ap (option_map (fault_at_call (get_or scene.lines.items i 0))) (sym (ready.isolated.6 i)) ∙ sym (ap (option_and_then (λ k. option_map (fault_at_call (get_or scene.lines.items k 0)) (refusal_at_by d calls k))) is) ∙ some in
           elim ((slice_get_cases made i).1) [
             | inl h ↦
                 let size : length (take i made) ≡ i = length-take-le i made (omega (arith, h.1)) in

@@ -19,7 +19,7 @@ returns-in-Ok-run_report-clause-ok g c =
     let is = configured_so options config None c.requires.no_store c.in-Ok.builder c.in-Ok.ensures.ok in (
       last.writer,
       λ held. subst (λ w. AreWhole device device options (g.W.Write.contents w, held) (g.W.Write.contents last.writer, held) config c.args.calls.now) out.0
-      (alone_ends options config c.args.calls.now _ is g.W.Write.contents c.in-Ok-new.out last out.1 c.requires.no_store c.in-Ok-run_report.ensures.ok c.in-Ok-run_report.ensures.delivered held),
+          (alone_ends options config c.args.calls.now _ is g.W.Write.contents c.in-Ok-new.out last out.1 c.requires.no_store c.in-Ok-run_report.ensures.ok c.in-Ok-run_report.ensures.delivered held),
     )
 
 pub returns-clause-err : goal.returns-clause-err
@@ -34,6 +34,6 @@ returns-clause-err g c =
     let is = configured_so options config None c.requires.no_store c.in-Ok.builder c.in-Ok.ensures.ok in (
       last.writer,
       λ held. subst (λ f. AreBegun device device options (g.W.Write.contents c.args.writer, held) (g.W.Write.contents last.writer, held) config f c.args.calls.now) (sym c.fault_of_stop.ensures)
-      (subst (λ w. AreBegun device device options (g.W.Write.contents w, held) (g.W.Write.contents last.writer, held) config (fault_at_call number stop.fault) c.args.calls.now) out.0
-      (alone_stops options config c.args.calls.now _ is g.W.Write.contents c.in-Ok-new.out last out.1 c.requires.no_store c.requires.accepted number stop.position stop.fault ran.refused ran.no_store ran.err held)),
+          (subst (λ w. AreBegun device device options (g.W.Write.contents w, held) (g.W.Write.contents last.writer, held) config (fault_at_call number stop.fault) c.args.calls.now) out.0
+          (alone_stops options config c.args.calls.now _ is g.W.Write.contents c.in-Ok-new.out last out.1 c.requires.no_store c.requires.accepted number stop.position stop.fault ran.refused ran.no_store ran.err held)),
     )

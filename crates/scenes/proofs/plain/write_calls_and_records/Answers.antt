@@ -27,7 +27,7 @@ returns-in-Ok-run_report_with_store-clause-ok g c =
       last.writer,
       store_last.writer,
       subst (λ old. AreWhole device device options old (g.W.Write.contents last.writer, g.S.Write.contents store_last.writer) config c.args.calls.now) (pair {T = Option (List ℕ)} (ap g.W.Write.contents out.0) (ap g.S.Write.contents records.0))
-      (both_end options config c.args.calls.now _ is g.W.Write.contents c.in-Ok-new.out last out.1 g.S.Write.contents c.in-Ok-new-2.records store_last records.1 c.args.store c.requires.store ran.ok ran.delivered ran.stored ran.store_delivered),
+          (both_end options config c.args.calls.now _ is g.W.Write.contents c.in-Ok-new.out last out.1 g.S.Write.contents c.in-Ok-new-2.records store_last records.1 c.args.store c.requires.store ran.ok ran.delivered ran.stored ran.store_delivered),
     )
 
 pub returns-clause-err : goal.returns-clause-err
@@ -45,6 +45,6 @@ returns-clause-err g c =
       last.writer,
       store_last.writer,
       subst (λ f. AreBegun device device options (g.W.Write.contents c.args.writer, g.S.Write.contents c.args.store_writer) (g.W.Write.contents last.writer, g.S.Write.contents store_last.writer) config f c.args.calls.now) (sym c.fault_of_stop.ensures)
-      (subst (λ old. AreBegun device device options old (g.W.Write.contents last.writer, g.S.Write.contents store_last.writer) config (fault_at_call number stop.fault) c.args.calls.now) (pair {T = Option (List ℕ)} (ap g.W.Write.contents out.0) (ap g.S.Write.contents records.0))
-      (both_stop options config c.args.calls.now _ is g.W.Write.contents c.in-Ok-new.out last out.1 g.S.Write.contents c.in-Ok-new-2.records store_last records.1 c.args.store c.requires.store c.requires.accepted number stop.position stop.fault ran.refused ran.err ran.store_err ran.text_delivered (ran.records_delivered out.1 records.1))),
+          (subst (λ old. AreBegun device device options old (g.W.Write.contents last.writer, g.S.Write.contents store_last.writer) config (fault_at_call number stop.fault) c.args.calls.now) (pair {T = Option (List ℕ)} (ap g.W.Write.contents out.0) (ap g.S.Write.contents records.0))
+          (both_stop options config c.args.calls.now _ is g.W.Write.contents c.in-Ok-new.out last out.1 g.S.Write.contents c.in-Ok-new-2.records store_last records.1 c.args.store c.requires.store c.requires.accepted number stop.position stop.fault ran.refused ran.err ran.store_err ran.text_delivered (ran.records_delivered out.1 records.1))),
     )
