@@ -1,7 +1,7 @@
 pub mod FinalOrders
+pub mod Inserts
 pub mod KeptTests
 pub mod Keys
 pub mod Loads
 pub mod Orders
-pub mod PlacedEntries
 pub mod Places

@@ -7,6 +7,7 @@ ghost use Rattle.reporter_state.specs.Effects.{final_output, finished_entry, ski
 ghost use Rattle.reporter_state.specs.Entries.{final_level_of_output};
 ghost use Rattle.text_parts.specs.Finish.{timed_at_end};
 
+use crate::binary_ids::BinaryIds;
 use crate::kept_test::KeptTest;
 use crate::loaded_output::LoadedOutput;
 use run_model::level::FinalStatusLevel;
@@ -82,13 +83,14 @@ impl FinalOutputEntry {
     /// its output are shared. Output that is shown must not have been left unread.
     pub fn of_test(
         alloc: Global,
+        ids: &mut BinaryIds,
         finished: &FinishedTest<'_, '_>,
     ) -> Result<FinalOutputEntry, OutOfMemory>
         requires { HasShownOutput (finish_of finished.now) }
         ensures { IfOk result (λ e. e ≡ finished_entry (finish_of finished.now)) }
     {
         Ok(FinalOutputEntry {
-            test: KeptTest::copy_of(alloc, finished.test)?,
+            test: KeptTest::copy_of(alloc, ids, finished.test)?,
             output: FinalOutput::of_test(alloc, finished)?,
         })
     }
@@ -96,12 +98,13 @@ impl FinalOutputEntry {
     /// What the summary shows of a skipped test. It allocates for the test's names.
     pub fn skipped(
         alloc: Global,
+        ids: &mut BinaryIds,
         test: CountedInstance<'_>,
     ) -> Result<FinalOutputEntry, OutOfMemory>
         ensures { IfOk result (λ e. e ≡ skipped_entry test.entry) }
     {
         Ok(FinalOutputEntry {
-            test: KeptTest::copy_of(alloc, test)?,
+            test: KeptTest::copy_of(alloc, ids, test)?,
             output: FinalOutput::Skipped,
         })
     }

@@ -6,6 +6,7 @@
 //! the calls before.
 #![tactic(auto)]
 
+pub mod binary_ids;
 pub mod decider;
 pub mod effect;
 pub mod faults;

@@ -8,6 +8,7 @@ ghost use Rattle.reporter_state.specs.declared.final_output.FinalOutputEntry.{Fi
 ghost use Rattle.reporter_state.specs.Effects.{HasEndOutput, HasEndOutputIn, TestEnd, end_of, kept_entry};
 ghost use Rattle.reporter_state.specs.Entries.{final_order};
 
+use crate::binary_ids::BinaryIds;
 use crate::effect::{EndedTest, EventEffect, greater_reason};
 use crate::final_output::FinalOutputEntry;
 use crate::kept::KeptEntries;
@@ -26,6 +27,8 @@ pub struct ReporterState {
     pub alloc: Global,
     /// What is kept for the summary.
     pub kept: KeptEntries,
+    /// The ids of binaries that kept tests share.
+    pub ids: BinaryIds,
     /// The unique prefix of the run's id that was given last.
     pub unique_prefix: Option<ShortestRunIdPrefix>,
     /// The greatest reason that the run was cancelled for.
@@ -48,6 +51,7 @@ impl ReporterState {
         ReporterState {
             alloc,
             kept: KeptEntries::new(alloc),
+            ids: BinaryIds::new(alloc),
             unique_prefix: None,
             cancel_status: None,
             settings,
@@ -107,7 +111,7 @@ impl ReporterState {
         if !finished.row.is_listed(is_wanted) {
             return Ok(());
         }
-        let entry = FinalOutputEntry::of_test(self.alloc, finished)?;
+        let entry = FinalOutputEntry::of_test(self.alloc, &mut self.ids, finished)?;
         self.kept.keep(self.alloc, entry)?;
         Ok(())
     }
@@ -126,7 +130,7 @@ impl ReporterState {
         if !FinalStatusLevel::Skip.is_shown_at(shown) {
             return Ok(());
         }
-        let entry = FinalOutputEntry::skipped(self.alloc, test)?;
+        let entry = FinalOutputEntry::skipped(self.alloc, &mut self.ids, test)?;
         self.kept.keep(self.alloc, entry)?;
         Ok(())
     }
