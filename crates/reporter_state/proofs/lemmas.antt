@@ -1,4 +1,5 @@
 pub mod FinalOrders
+pub mod Fronts
 pub mod Inserts
 pub mod KeptTests
 pub mod Keys

@@ -1,8 +1,9 @@
 //! The ids of the binaries whose tests are kept.
 
-ghost use Rattle.std.specs.Prelude.{◌≡◌, IfOk};
+ghost use Rattle.std.specs.Prelude.{◌≡◌, IfOk, IsTrue};
 ghost use Rattle.std.specs.Cmp.Lexicographic.{slice_cmp};
 ghost use Rattle.std.specs.Ordering.{nat_cmp};
+ghost use Rattle.reporter_state.specs.KeptTests.{IsFront};
 
 use run_model::memory::OutOfMemory;
 use run_model::name::RustBinaryId;
@@ -14,10 +15,13 @@ use std::rc::Rc;
 // How many ids are looked through for one that is shared.
 const REMEMBERED: usize = 8;
 
+// How many bytes of an id are compared at once.
+const FRONT: usize = 32;
+
 /// The id of a kept test's binary, which the kept tests of that binary share: a run has few binaries. Contracts see its text.
 #[derive(Drop)]
 pub struct KeptBinaryId {
-    id: Rc<RustBinaryId>,
+    shared: Rc<FrontedId>,
 }
 
 impl Model for KeptBinaryId {
@@ -25,7 +29,65 @@ impl Model for KeptBinaryId {
 
     ghost Value = { List ℕ };
 
-    ghost view = { λ kept. kept.id.value };
+    ghost view = { λ kept. kept.shared.value };
+}
+
+// An id with the first bytes of its text, and zeros after a shorter one: most ids that are compared are the same, and most texts are as
+// short.
+#[derive(Drop)]
+struct FrontedId {
+    id: RustBinaryId,
+    front: [u8; FRONT],
+}
+
+impl Model for FrontedId {
+    ghost use Rattle.std.specs.Prelude.{List, ℕ};
+    ghost use Rattle.reporter_state.specs.KeptTests.{IsFront};
+
+    ghost Value = { List ℕ };
+
+    ghost view = { λ fronted. fronted.id };
+
+    ghost invariant = { λ fronted. IsFront fronted.front fronted.id };
+}
+
+impl FrontedId {
+    // Copies the id.
+    fn copy_of(alloc: Global, id: &RustBinaryId) -> Result<FrontedId, OutOfMemory>
+        ensures { IfOk result (λ fronted. fronted ≡ id.now) }
+    {
+        Ok(FrontedId {
+            front: front_of(id.as_str()),
+            id: RustBinaryId::new(alloc, id.as_str())?,
+        })
+    }
+
+    // Whether both are short and the same.
+    fn is_short_and_same(&self, other: &FrontedId) -> bool
+        ensures { IsTrue result → self.now ≡ other.now }
+    {
+        let len = self.id.as_str().len();
+        len == other.id.as_str().len() && len <= FRONT && self.front == other.front
+    }
+
+    // The id.
+    fn get(&self) -> &RustBinaryId
+        ensures { result.now ≡ self.now }
+    {
+        &self.id
+    }
+}
+
+// The first bytes of a text, and zeros after a shorter one.
+fn front_of(text: &str) -> [u8; FRONT]
+    ensures { IsFront result text.now }
+{
+    let bytes = text.as_bytes();
+    let mut front = [0; FRONT];
+    for i in 0..bytes.len().min(FRONT) {
+        front[i] = bytes[i];
+    }
+    front
 }
 
 impl KeptBinaryId {
@@ -33,9 +95,9 @@ impl KeptBinaryId {
     fn copy_of(alloc: Global, id: &RustBinaryId) -> Result<KeptBinaryId, OutOfMemory>
         ensures { IfOk result (λ kept. kept ≡ id.now) }
     {
-        let id = RustBinaryId::new(alloc, id.as_str())?;
+        let fronted = FrontedId::copy_of(alloc, id)?;
         Ok(KeptBinaryId {
-            id: Rc::new(alloc, id)?,
+            shared: Rc::new(alloc, fronted)?,
         })
     }
 
@@ -44,7 +106,7 @@ impl KeptBinaryId {
         ensures { IfOk result (λ kept. kept ≡ self.now) }
     {
         Ok(KeptBinaryId {
-            id: self.id.clone()?,
+            shared: self.shared.clone()?,
         })
     }
 
@@ -52,13 +114,16 @@ impl KeptBinaryId {
     pub fn get(&self) -> &RustBinaryId
         ensures { result.now ≡ self.now }
     {
-        &self.id
+        self.shared.get()
     }
 
     /// Compares the bytes of the texts.
     pub fn compare(&self, other: &KeptBinaryId) -> Ordering
         ensures { result ≡ slice_cmp nat_cmp self.now other.now }
     {
+        if self.shared.is_short_and_same(&other.shared) {
+            return Ordering::Equal;
+        }
         self.get().cmp(other.get())
     }
 }

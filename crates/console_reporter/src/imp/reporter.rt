@@ -566,7 +566,7 @@ fn write_finished<W: WriteStr>(
     ensures { Puts W.meaning w.old (finished_text settings.now (option_map end_of ended.now)) result w.new }
 {
     match ended {
-        Some(EndedTest::Finished(finished)) => write_test_finished(w, settings, finished),
+        Some(EndedTest::Finished(attempts)) => write_test_finished(w, settings, &attempts.finished),
         Some(EndedTest::Skipped(_)) | None => Ok(()),
     }
 }
