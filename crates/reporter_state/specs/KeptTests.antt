@@ -1,6 +1,6 @@
 -- Tests that are kept, with names of their own.
 use Rattle.std.specs.Borrow.{Bor}
-use Rattle.std.specs.Prelude.{◌≡◌, ℕ, ◌<◌, List, slice_index}
+use Rattle.std.specs.Prelude.{ℕ, List}
 use Rattle.text_parts.specs.declared.instance.CountedInstance.{CountedInstance}
 use Rattle.reporter_state.specs.declared.kept_test.KeptTest.{KeptTest}
 
@@ -23,7 +23,3 @@ borrowed_test t = record {
   counter = t.counter;
   instance = record { binary_id = lent t.instance.binary_id; test_name = lent t.instance.test_name };
 }
-
--- the first 32 bytes of a text, with zeros after a shorter one
-abbrev pub IsFront : List ℕ → List ℕ → Type 0
-IsFront front text = (i : ℕ) → i < 32 → slice_index front i ≡ slice_index text i

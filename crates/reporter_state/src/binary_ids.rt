@@ -1,9 +1,9 @@
 //! The ids of the binaries whose tests are kept.
 
-ghost use Rattle.std.specs.Prelude.{◌≡◌, IfOk, IsTrue};
+ghost use Rattle.std.specs.Prelude.{◌≡◌, ◌≤◌, IfOk, IsTrue, slice_index};
 ghost use Rattle.std.specs.Cmp.Lexicographic.{slice_cmp};
 ghost use Rattle.std.specs.Ordering.{nat_cmp};
-ghost use Rattle.reporter_state.specs.KeptTests.{IsFront};
+ghost use Rattle.reporter_state.specs.Fronts.{word_of};
 
 use run_model::memory::OutOfMemory;
 use run_model::name::RustBinaryId;
@@ -15,7 +15,7 @@ use std::rc::Rc;
 // How many ids are looked through for one that is shared.
 const REMEMBERED: usize = 8;
 
-// How many bytes of an id are compared at once.
+// How many bytes of an id are compared as numbers.
 const FRONT: usize = 32;
 
 /// The id of a kept test's binary, which the kept tests of that binary share: a run has few binaries. Contracts see its text.
@@ -32,17 +32,16 @@ impl Model for KeptBinaryId {
     ghost view = { λ kept. kept.shared.value };
 }
 
-// An id with the first bytes of its text, and zeros after a shorter one: most ids that are compared are the same, and most texts are as
-// short.
+// An id with the first bytes of its text: most ids that are compared are the same, and most are as short.
 #[derive(Drop)]
 struct FrontedId {
     id: RustBinaryId,
-    front: [u8; FRONT],
+    front: Front,
 }
 
 impl Model for FrontedId {
     ghost use Rattle.std.specs.Prelude.{List, ℕ};
-    ghost use Rattle.reporter_state.specs.KeptTests.{IsFront};
+    ghost use Rattle.reporter_state.specs.Fronts.{IsFront};
 
     ghost Value = { List ℕ };
 
@@ -51,14 +50,30 @@ impl Model for FrontedId {
     ghost invariant = { λ fronted. IsFront fronted.front fronted.id };
 }
 
+// The first bytes of a text as numbers, and zeros after a shorter one.
+#[derive(Clone, Copy, PartialEq, Eq)]
+struct Front {
+    first: u64,
+    second: u64,
+    third: u64,
+    fourth: u64,
+}
+
 impl FrontedId {
     // Copies the id.
     fn copy_of(alloc: Global, id: &RustBinaryId) -> Result<FrontedId, OutOfMemory>
         ensures { IfOk result (λ fronted. fronted ≡ id.now) }
     {
+        let bytes = id.as_str().as_bytes();
+        let front = Front {
+            first: word_at(bytes, 0),
+            second: word_at(bytes, 8),
+            third: word_at(bytes, 16),
+            fourth: word_at(bytes, 24),
+        };
         Ok(FrontedId {
-            front: front_of(id.as_str()),
             id: RustBinaryId::new(alloc, id.as_str())?,
+            front,
         })
     }
 
@@ -78,16 +93,31 @@ impl FrontedId {
     }
 }
 
-// The first bytes of a text, and zeros after a shorter one.
-fn front_of(text: &str) -> [u8; FRONT]
-    ensures { IsFront result text.now }
+// Eight bytes of a text as a number.
+fn word_at(bytes: &[u8], at: usize) -> u64
+    requires { at ≤ 24 }
+    ensures { result ≡ word_of bytes.now at }
 {
-    let bytes = text.as_bytes();
-    let mut front = [0; FRONT];
-    for i in 0..bytes.len().min(FRONT) {
-        front[i] = bytes[i];
+    u64::from_le_bytes([
+        byte_at(bytes, at),
+        byte_at(bytes, at + 1),
+        byte_at(bytes, at + 2),
+        byte_at(bytes, at + 3),
+        byte_at(bytes, at + 4),
+        byte_at(bytes, at + 5),
+        byte_at(bytes, at + 6),
+        byte_at(bytes, at + 7),
+    ])
+}
+
+// A byte of a text, and zero past its end.
+fn byte_at(bytes: &[u8], at: usize) -> u8
+    ensures { result ≡ slice_index bytes.now at }
+{
+    match bytes.get(at) {
+        Some(byte) => *byte,
+        None => 0,
     }
-    front
 }
 
 impl KeptBinaryId {

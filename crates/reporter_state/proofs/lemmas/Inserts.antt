@@ -1,5 +1,5 @@
 -- An entry that is inserted at its key, whose place is after those of the entries that are there (for `KeptEntries::keep`, `KeptEntries::write`).
-use Rattle.std.proofs.Common.{◌≡◌, ℕ, ◌<◌, ◌+◌, Bool, List, [], ◌∷◌, ◌++◌, refl, sym, subst, ◌∙◌, ap, arith, length, map, reverse, Ordering, Less, Equal, Greater, is_lt, nat_cmp}
+use Rattle.std.proofs.Common.{◌≡◌, ℕ, ◌<◌, ◌+◌, Bool, List, [], ◌∷◌, ◌++◌, refl, sym, subst, ◌∙◌, ap, arith, length, reverse, Ordering, Less, Equal, Greater, is_lt, nat_cmp}
 use Rattle.std.specs.Cmp.Lexicographic.{nat_list_cmp_total, lists_total}
 use Rattle.std.specs.Ordering.{ordering_reverse, ordering_then}
 use Rattle.std.specs.BTreeMap.{insert_entry}
@@ -7,11 +7,11 @@ use Rattle.std.specs.declared.cmp.Reverse.{Reverse}
 use Rattle.std.proofs.lemmas.List.{map-append, reverse-append, reverse-reverse}
 use Rattle.text_parts.specs.declared.settings.Settings.{Settings}
 use Rattle.reporter_state.specs.Entries.{entries_text, entry_cmp, entry_key, entry_text, final_order, is_before}
-use Rattle.reporter_state.specs.Keys.{ArePlaced, Held, Placed, entries_of, held_cmp, placed_at, placed_cmp, shown_of}
-use Rattle.reporter_state.specs.Order.{key_cmp, put_in}
+use Rattle.reporter_state.specs.Keys.{ArePlaced, Held, Placed, entries_of, held_cmp, placed_at, shown_of}
+use Rattle.reporter_state.specs.Order.{put_in}
 use Rattle.reporter_state.specs.declared.final_output.FinalOutputEntry.{FinalOutputEntry}
 use Rattle.reporter_state.proofs.lemmas.Keys.{is_before-ranks}
-use Rattle.reporter_state.proofs.lemmas.Orders.{order_more, put_back, put_last, rising-ordered_by}
+use Rattle.reporter_state.proofs.lemmas.Orders.{order_more, put_back, rising-ordered_by}
 
 earlier : (n p : ℕ) → p < n → nat_cmp p n ≡ Less
 earlier n p h = grind arith
