@@ -95,12 +95,16 @@ class Copy:
         if len(mistake.functions) != 1 or {it for it, _, _ in mistake.edits} != {path}:
             raise DoesNotApply(mistake.name)
         self.mistake, self.path, (self.of,) = mistake, path, mistake.functions
-        for self.place, it in enumerate(functions(text)):
+        names = []
+        for it in functions(text):
             whole = text[it.above : it.past()]
             if all(whole.count(old) == 1 for _, old, _ in mistake.edits):
                 break
+            names.append(it.name)
         else:
             raise DoesNotApply(mistake.name)
+        # A file may have methods of one name.
+        self.place = names.count(it.name)
         is_of_trait = bool(it.indent) and " for " in head_above(text, it.start)
         owner = re.escape(self.of.split("::")[-2].partition("+")[0]) if "::" in self.of else "Self"
         itself = rf"(?:(?<![.\w:])|\bself\.|\b(?:Self|{owner})::){it.name}(?:\(|::<)"
@@ -204,10 +208,12 @@ def made_texts(mistakes, copies):
     texts = sources_of(mistakes[0].crate)
     for mistake in mistakes:
         texts = texts if mistake.copy else mistake.apply(texts)
-    # A mistake replaces a line by a line, so each function keeps its number in its file.
-    for it in sorted(copies, key=lambda it: it.place, reverse=True):
+    for it in copies:
         text = texts[it.path]
-        past = [*functions(text)][it.place].past()
+        found = [other.past() for other in functions(text) if other.name == it.own]
+        if len(found) <= it.place:
+            raise DoesNotApply(it.mistake.name)
+        past = found[it.place]
         texts[it.path] = f"{text[:past]}\n{it.text()}{text[past:]}"
     return texts
 
