@@ -17,12 +17,13 @@ class Progress:
     """So many parts, of which none is done yet."""
 
     def __init__(self, count):
-        self.count, self.done, self.began = count, 0, time.monotonic()
+        self.count, self.done, self.began, self.telling = count, 0, time.monotonic(), threading.Lock()
 
     def tell(self, part, how):
         """Says that a part is done, and how it ended."""
-        self.done += 1
-        print(f"{self.minutes()}  {self.done:2d} of {self.count}  {part}: {how}", flush=True)
+        with self.telling:
+            self.done += 1
+            print(f"{self.minutes()}  {self.done:2d} of {self.count}  {part}: {how}", flush=True)
 
     def minutes(self):
         return f"{(time.monotonic() - self.began) / 60:5.1f} min"
