@@ -6,7 +6,7 @@ use report_text::helpers::plural::*;
 use report_text::helpers::*;
 use run_model::abort::{AbortDescription, DescriptionText};
 use run_model::config::NextestRunMode;
-use run_model::name::{OwnedTestInstanceId, ScriptId};
+use run_model::name::{OwnedTestInstanceId, ScriptId, TestCaseName};
 use run_model::stress::StressIndex;
 use run_model::time::Nanos;
 use std::alloc::Global;
@@ -226,6 +226,17 @@ fn how_a_process_exits(rt: HostRuntime) -> Result<(), Fail> {
         if let ExitDescription::Abort(abort) = &exit {
             assert_eq!(rt; display_abort_status(alloc, abort)?.as_str(), want);
         }
+    }
+    Ok(())
+}
+
+#[test]
+fn names_of_tests(rt: HostRuntime) -> Result<(), Fail> {
+    for text in ["mod::t2", "t1"] {
+        let name = TestCaseName::new(rt.alloc(), text)?;
+        let mut out = String::new(rt.alloc());
+        write_test_name(&name, &ListStyles::default(), &mut out)?;
+        assert_eq!(rt; out.as_str(), text);
     }
     Ok(())
 }
