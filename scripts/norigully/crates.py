@@ -20,10 +20,10 @@ LIBS = pathlib.Path(os.environ.get("LIBS") or TOP).resolve()
 class Crate:
     """A line of crates.txt: a crate, its kind if that is told, and the libraries that it names."""
 
-    def __init__(self, name, line, of):
-        self.name, self.line, self.named, self.of = name, line, named_in(line), of
+    def __init__(self, name, line, of, top):
+        self.name, self.line, self.named, self.of, self.top = name, line, named_in(line), of, top
         self.is_static = "staticlib" in line.partition(":")[0].split()[1:]
-        self.folder = TOP / "crates" / self.name
+        self.folder = top / "crates" / self.name
         self.is_program = (self.folder / "src/main.rt").is_file()
 
     def deps(self):
@@ -32,7 +32,7 @@ class Crate:
 
     def below(self):
         """All crates of this repository that it stands on, lowest first."""
-        return [self.of[it] for it in with_those_below([self.name]) if it != self.name]
+        return [self.of[it] for it in with_those_below([self.name], self.top) if it != self.name]
 
     def rlib(self):
         return LIBS / f"crates/{self.name}/out/rlib/{self.name}.rlib"
@@ -48,9 +48,9 @@ class Crate:
         """The file by which the gate says what sources it proved. The kit removes it together with what was built."""
         return self.made().parent / "sources"
 
-    def sources(self, top=TOP):
-        """Its files in a copy of the repository, by their paths in the crate and in order."""
-        folder, files = sources_of(self.name, top)
+    def sources(self, top=None):
+        """Its files here or in a copy of the repository, by their paths in the crate and in order."""
+        folder, files = sources_of(self.name, top or self.top)
         return {it: pathlib.Path(folder, it) for it in files}
 
     def sum(self, known):
@@ -106,8 +106,8 @@ def newest(files):
     return max((it.stat().st_mtime for it in files), default=0)
 
 
-def listed():
-    """The crates by their names, the lowest layer first."""
+def listed(top=TOP):
+    """The crates of a repository by their names, the lowest layer first."""
     found = {}
-    found.update({name: Crate(name, line, found) for name, line in lines_of().items()})
+    found.update({name: Crate(name, line, found, top) for name, line in lines_of(top).items()})
     return found

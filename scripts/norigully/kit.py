@@ -45,10 +45,19 @@ def require(program):
         sys.exit(f"{program}: {why}")
 
 
+def megabytes():
+    """The memory that is free."""
+    with open("/proc/meminfo") as memory:
+        return next(int(line.split()[1]) for line in memory if line.startswith("MemAvailable:")) // 1024
+
+
+def has_memory_for(checks):
+    """Whether so many checks may run side by side."""
+    return megabytes() >= checks * MEGABYTES_A_CHECK
+
+
 def jobs():
     """How many checks run side by side: RT_JOBS where it is set, else as many as processors and memory allow."""
     if os.environ.get("RT_JOBS", "").isdecimal():
         return max(1, int(os.environ["RT_JOBS"]))
-    with open("/proc/meminfo") as memory:
-        kilobytes = next(int(line.split()[1]) for line in memory if line.startswith("MemAvailable:"))
-    return max(1, min(len(os.sched_getaffinity(0)), kilobytes // 1024 // MEGABYTES_A_CHECK))
+    return max(1, min(len(os.sched_getaffinity(0)), megabytes() // MEGABYTES_A_CHECK))

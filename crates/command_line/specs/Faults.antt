@@ -1,4 +1,4 @@
--- The message of a fault, and the status that the program ends with.
+-- The line of a fault, and the status that the program ends with.
 use Rattle.std.specs.Prelude.{ℕ, List, ◌++◌, codes, decimal, ⊤}
 use Rattle.std.specs.declared.io.ErrorKind.{ErrorKind}
 use Rattle.std.specs.declared.io.ErrorKind.TheVariants as kind
@@ -12,16 +12,6 @@ use Rattle.command_line.specs.declared.fault.FaultLine.{FaultLine}
 use Rattle.command_line.specs.declared.fault.Program.{Program}
 use Rattle.command_line.specs.declared.fault.Program.TheVariants as program
 
--- the message of a fault
-abbrev pub fault_text : Fault → List ℕ
-fault_text fault.Usage = codes "the command line is wrong"
-fault_text (fault.CannotRead file) = codes "cannot read " ++ file.now
-fault_text (fault.CannotWrite file) = codes "cannot write " ++ file.now
-fault_text (fault.Line n f) = codes "line " ++ (decimal n ++ (codes ": " ++ line_fault_text f))
-fault_text fault.WriteFailed = codes "write failed"
-fault_text fault.StoreFailed = codes "store write failed"
-fault_text fault.OutOfMemory = codes "out of memory"
-
 -- the name of a program, and what it reads, as the last of the words that it takes
 abbrev pub program_words : Program → List ℕ × List ℕ
 program_words program.Report = (codes "report", codes "FILE")
@@ -29,15 +19,24 @@ program_words program.Follow = (codes "follow", codes "[FILE]")
 program_words program.Replay = (codes "replay", codes "DIR")
 
 -- what a program says of a fault: of wrong words, the words that it takes
-abbrev pub said_by : Program → Fault → List ℕ
-said_by by fault.Usage =
+abbrev pub fault_text : Program → Fault → List ℕ
+fault_text by fault.Usage =
     codes "usage: " ++ ((program_words by).0
     ++ (codes " [--color] [--counter] [--replay] [--unload] [--level L] [--store PATH] [--store-success] [--store-failure] " ++ (program_words by).1))
-said_by by other = fault_text other
+fault_text by (fault.CannotRead file) = codes "cannot read " ++ file.now
+fault_text by (fault.CannotWrite file) = codes "cannot write " ++ file.now
+fault_text by (fault.Line n f) = codes "line " ++ (decimal n ++ (codes ": " ++ line_fault_text f))
+fault_text by fault.WriteFailed = codes "write failed"
+fault_text by fault.StoreFailed = codes "store write failed"
+fault_text by fault.OutOfMemory = codes "out of memory"
 
 -- the line on standard error
 abbrev pub fault_line : FaultLine → List ℕ
-fault_line it = (program_words it.program).0 ++ (codes ": " ++ said_by it.program it.fault)
+fault_line it = (program_words it.program).0 ++ (codes ": " ++ fault_text it.program it.fault)
+
+-- the line of `report`
+abbrev pub line_of : Fault → FaultLine
+line_of fault = record { program = program.Report; fault = fault }
 
 -- 2 where nothing was printed, 3 where a beginning of the report was
 abbrev pub status_of : Fault → ℕ

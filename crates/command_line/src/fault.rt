@@ -2,7 +2,7 @@
 
 ghost use Rattle.std.specs.Prelude.{◌≡◌, Some};
 ghost use Rattle.command_line.specs.declared.fault.Fault.TheVariants.{OutOfMemory};
-ghost use Rattle.command_line.specs.Faults.{fault_by_kind, fault_line, fault_of_read, fault_text, program_words, status_of};
+ghost use Rattle.command_line.specs.Faults.{fault_by_kind, fault_line, fault_of_read, line_of, program_words, status_of};
 
 use run_model::memory::OutOfMemory;
 pub use scene_fields::fault::{LineFault, ReadFault};
@@ -11,12 +11,12 @@ use std::fmt;
 use std::fmt::Formatter;
 use std::io::ErrorKind;
 
-/// What can go wrong, as it is said behind a program's name.
+/// What can go wrong. It is shown as the line that `report` prints; a [`FaultLine`] is that of any program.
 ///
 /// ```
 /// use scene_fields::fault::LineFault;
 /// let fault = Fault::Line { line: 2, fault: LineFault::UnknownEvent };
-/// assert_eq!(fault.to_string(alloc)?.as_str(), "line 2: unknown event");
+/// assert_eq!(fault.to_string(alloc)?.as_str(), "report: line 2: unknown event");
 /// ```
 #[derive(Clone, Copy, Debug)]
 pub enum Fault<'a> {
@@ -73,18 +73,14 @@ impl<'a> Fault<'a> {
 }
 
 impl fmt::Display for Fault<'_> {
-    ghost output = { λ fault. Some (fault_text fault) };
+    ghost output = { λ fault. Some (fault_line (line_of fault)) };
 
     fn fmt<W: fmt::Write>(&self, f: &mut Formatter<W>) -> fmt::Result {
-        match self {
-            Fault::Usage => f.write_str("the command line is wrong"),
-            Fault::CannotRead { file } => write!(f, "cannot read {file}"),
-            Fault::CannotWrite { file } => write!(f, "cannot write {file}"),
-            Fault::Line { line, fault } => write!(f, "line {line}: {fault}"),
-            Fault::WriteFailed => f.write_str("write failed"),
-            Fault::StoreFailed => f.write_str("store write failed"),
-            Fault::OutOfMemory => f.write_str("out of memory"),
-        }
+        let line = FaultLine {
+            program: Program::Report,
+            fault: *self,
+        };
+        line.fmt(f)
     }
 }
 
@@ -138,7 +134,12 @@ impl fmt::Display for FaultLine<'_> {
                 f,
                 "{name}: usage: {name} [--color] [--counter] [--replay] [--unload] [--level L] [--store PATH] [--store-success] [--store-failure] {operand}"
             ),
-            fault => write!(f, "{name}: {fault}"),
+            Fault::CannotRead { file } => write!(f, "{name}: cannot read {file}"),
+            Fault::CannotWrite { file } => write!(f, "{name}: cannot write {file}"),
+            Fault::Line { line, fault } => write!(f, "{name}: line {line}: {fault}"),
+            Fault::WriteFailed => write!(f, "{name}: write failed"),
+            Fault::StoreFailed => write!(f, "{name}: store write failed"),
+            Fault::OutOfMemory => write!(f, "{name}: out of memory"),
         }
     }
 }

@@ -201,8 +201,8 @@ fn tells_that_outputs_cannot_be_read(rt: HostRuntime) -> Result<(), Fail> {
     let lines = lines_with(alloc, PASSED, FAILED)?;
     let report = replay(alloc, &OPTIONS, lines.as_str(), OUTPUTS)?.printed;
     let kinds = [
-        (ErrorKind::Other, "cannot read DIR", 2),
-        (ErrorKind::OutOfMemory, "out of memory", 3),
+        (ErrorKind::Other, "report: cannot read DIR", 2),
+        (ErrorKind::OutOfMemory, "report: out of memory", 3),
     ];
     for (kind, line, status) in kinds {
         // The first call asks how many bytes there are.

@@ -5,3 +5,5 @@
 #![tactic(auto)]
 
 pub mod helpers;
+
+pub use plain_text::{escapes, indenter, reporter_helpers, style, write_str};

@@ -24,7 +24,7 @@ pub data TestEnd : Type 0 where
 
 -- what the code hands on of it
 abbrev pub end_of : EndedTest → TestEnd
-end_of (ended.Finished f) = Finished (finish_of f)
+end_of (ended.Finished f) = Finished (finish_of f.finished)
 end_of (ended.Skipped test) = Skipped test
 
 -- output that is shown of it was not left unread

@@ -8,6 +8,7 @@ use Rattle.std.specs.List.Sorted.{IsSorted, IsStable}
 use Rattle.run_names.specs.Levels.{final_rank, reason_rank}
 use Rattle.run_model.specs.Statuses.{final_level_of}
 use Rattle.run_names.specs.Stress.{stress_key}
+use Rattle.run_names.specs.declared.name.OwnedTestInstanceId.{OwnedTestInstanceId}
 use Rattle.run_names.specs.UniquePrefixes.{UniquePrefix}
 use Rattle.run_names.specs.declared.level.CancelReason.TheVariants as cause
 use Rattle.run_names.specs.declared.level.FinalStatusLevel.{FinalStatusLevel}
@@ -78,10 +79,13 @@ final_level_of_output Skipped = final.Skip
 abbrev pub level_key : FinalOutputEntry → ℕ
 level_key e = 7 - final_rank (final_level_of_output e.output)
 
--- a test's part of a key: the iteration, then the counter where one is shown, then the bytes of the binary's id and of the test's
--- name
+-- the names' part of a key: the bytes of the binary's id and of the test's name
+abbrev pub instance_key : OwnedTestInstanceId → List (List ℕ)
+instance_key i = i.binary_id ∷ i.test_name ∷ []
+
+-- a test's part of a key: the iteration, then the counter where one is shown, then the names
 abbrev pub test_key : KeptTest → List (List ℕ)
-test_key t = iteration_key t.stress_index ∷ counter_key t.counter ∷ t.instance.binary_id ∷ t.instance.test_name ∷ []
+test_key t = iteration_key t.stress_index ∷ counter_key t.counter ∷ instance_key t.instance
 
 -- the key of an entry: the final level, the greatest first, then the test
 abbrev pub entry_key : FinalOutputEntry → List (List ℕ)

@@ -1,52 +1,50 @@
--- The keys by which entries are ordered, and what a list of entries with their places shows.
-use Rattle.std.specs.Prelude.{◌≡◌, ℕ, ◌-◌, ◌<◌, ◌≤◌, Bool, List, [], ◌∷◌, count_by, length, map}
+-- The keys at which entries are kept, and what a map of them shows.
+use Rattle.std.specs.Prelude.{◌≡◌, ℕ, ◌<◌, None, List, map, reverse}
 use Rattle.std.specs.declared.cmp.Ordering.{Ordering}
-use Rattle.std.specs.Ordering.{is_lt, nat_cmp, on, then_cmp}
+use Rattle.std.specs.declared.cmp.Reverse.{Reverse}
+use Rattle.std.specs.Ordering.{nat_cmp, on, then_cmp}
 use Rattle.std.specs.Cmp.{IsTotalOrder, then_total, on_total, nat_cmp_total}
 use Rattle.std.specs.Cmp.Lexicographic.{lists_total, nat_list_cmp_total}
 use Rattle.std.specs.List.{AllByRecursion}
-use Rattle.std.specs.List.Sorted.{ties}
-use Rattle.run_names.specs.Levels.{final_rank}
-use Rattle.reporter_state.specs.Entries.{final_level_of_output, test_key}
-use Rattle.reporter_state.specs.Order.{key_cmp, ordered_by}
+use Rattle.reporter_state.specs.Entries.{entry_key}
+use Rattle.reporter_state.specs.Order.{key_cmp}
 use Rattle.reporter_state.specs.declared.final_output.FinalOutputEntry.{FinalOutputEntry}
-use Rattle.reporter_state.specs.declared.placed_entry.PlacedEntry.{PlacedEntry}
+use Rattle.reporter_state.specs.declared.kept_test.KeptTest.{KeptTest}
 
--- the final order's part of a key
-abbrev pub order_key : PlacedEntry → List (List ℕ)
-order_key p = ((7 - final_rank p.level) ∷ []) ∷ test_key p.entry.test
+-- an entry, and how many entries were kept before it
+pub record Placed : Type 0 where
+  pub entry : FinalOutputEntry
+  pub place : ℕ
 
--- the order of entries with their places: the final order's, and then that in which they were kept
-abbrev pub placed_cmp : PlacedEntry → PlacedEntry → Ordering
-placed_cmp = then_cmp (on order_key key_cmp) (on (λ p. p.place) nat_cmp)
+-- the order of keys: the final order's, and then that in which the entries were kept
+abbrev pub placed_cmp : Placed → Placed → Ordering
+placed_cmp = then_cmp (on (λ p. entry_key p.entry) key_cmp) (on (λ p. p.place) nat_cmp)
 
 pub placed_total : IsTotalOrder placed_cmp
-placed_total = then_total (on_total order_key (lists_total nat_list_cmp_total)) (on_total (λ p. p.place) nat_cmp_total)
+placed_total = then_total (on_total (λ p. entry_key p.entry) (lists_total nat_list_cmp_total)) (on_total (λ p. p.place) nat_cmp_total)
 
-abbrev pub is_placed_before : PlacedEntry → PlacedEntry → Bool
-is_placed_before a b = is_lt (placed_cmp a b)
-
-abbrev pub placed_order : List PlacedEntry → List PlacedEntry
-placed_order ps = ordered_by is_placed_before ps
+-- neither an iteration nor a counter
+abbrev pub IsPlain : KeptTest → Type 0
+IsPlain t = (t.stress_index ≡ None) × (t.counter ≡ None)
 
 -- an entry before which so many were kept
-abbrev pub placed_at : FinalOutputEntry → ℕ → PlacedEntry
-placed_at e place = record { entry = e; place = place; level = final_level_of_output e.output }
+abbrev pub placed_at : FinalOutputEntry → ℕ → Placed
+placed_at e place = record { entry = e; place = place }
 
-abbrev pub entries_of : List PlacedEntry → List FinalOutputEntry
-entries_of ps = map (λ (p : PlacedEntry). p.entry) ps
+-- a map holds its keys greatest first, and nothing beside them
+abbrev pub Held : Type 0
+Held = Reverse Placed × Unit {0}
 
--- the level is its entry's, and the place one of the first so many
-abbrev pub IsPlaced : ℕ → PlacedEntry → Type 0
-IsPlaced count p = (p.level ≡ final_level_of_output p.entry.output) × (p.place < count)
+abbrev pub held_cmp : Reverse Placed → Reverse Placed → Ordering
+held_cmp k l = placed_cmp l.0 k.0
 
-abbrev pub ArePlaced : ℕ → List PlacedEntry → Type 0
-ArePlaced count ps = AllByRecursion (IsPlaced count) ps
+abbrev pub entries_of : List Held → List FinalOutputEntry
+entries_of ps = map (λ (p : Held). p.0.0.entry) ps
 
--- no two are equal: they differ by their places
-abbrev pub AreApart : List PlacedEntry → Type 0
-AreApart ps = (p : PlacedEntry) → count_by (ties is_placed_before p) ps ≤ 1
+-- it shows them from the last one on
+abbrev pub shown_of : List Held → List FinalOutputEntry
+shown_of ps = reverse (entries_of ps)
 
--- each has its level and a place of its own
-abbrev pub HavePlaces : List PlacedEntry → Type 0
-HavePlaces ps = ArePlaced (length ps) ps × AreApart ps
+-- each place is one of the first so many
+abbrev pub ArePlaced : ℕ → List Held → Type 0
+ArePlaced count ps = AllByRecursion (λ (p : Held). p.0.0.place < count) ps

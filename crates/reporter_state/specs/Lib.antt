@@ -1,5 +1,6 @@
 pub mod Effects
 pub mod Entries
+pub mod Fronts
 pub mod KeptTests
 pub mod Keys
 pub mod Loads

@@ -7,6 +7,7 @@ ghost use Rattle.reporter_state.specs.Refusals.{decider_by};
 ghost use Rattle.reporter_state.specs.Effects.{HasEndOutputIn, effect_of, end_of};
 ghost use Rattle.reporter_state.specs.Loads.{lacks_output};
 
+use crate::finished_attempts::FinishedAttempts;
 use run_model::event::{TestEvent, TestEventKind};
 use run_model::level::CancelReason;
 use test_text::test_finished::FinishedTest;
@@ -26,7 +27,7 @@ pub struct EventEffect<'e, 'a> {
 #[derive(Clone, Copy)]
 pub enum EndedTest<'e, 'a> {
     /// It finished.
-    Finished(FinishedTest<'e, 'a>),
+    Finished(FinishedAttempts<'e, 'a>),
     /// It was not to run.
     Skipped(CountedInstance<'a>),
 }
@@ -55,7 +56,7 @@ impl<'e, 'a> EventEffect<'e, 'a> {
                 run_statuses,
                 current_stats,
             } => {
-                effect.ended = Some(EndedTest::Finished(FinishedTest::new(
+                let finished = FinishedTest::new(
                     settings,
                     reason,
                     *stress_index,
@@ -64,7 +65,11 @@ impl<'e, 'a> EventEffect<'e, 'a> {
                     *failure_output,
                     run_statuses,
                     current_stats,
-                )));
+                );
+                effect.ended = Some(EndedTest::Finished(FinishedAttempts {
+                    finished,
+                    statuses: run_statuses,
+                }));
             }
             TestEventKind::TestSkipped {
                 stress_index,

@@ -44,7 +44,8 @@ pub enum WriteEventError {
 /// let stopped = run_report(alloc, builder, &mut out, false, false, false, false, &calls);
 /// assert_eq!(stopped, Err(RunFault { position: 0, fault: WriteEventError::OutputNotLoaded }));
 /// ```
-#[derive(Clone, Copy, Debug, PartialEq, Eq)]
+#[derive(Clone, Copy, Debug, PartialEq, Eq, Error)]
+#[error("call {position}: {fault}")]
 pub struct RunFault {
     /// The place of the call from 0, or the number of calls where the end of the report failed.
     pub position: usize,

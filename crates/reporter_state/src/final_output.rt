@@ -7,14 +7,14 @@ ghost use Rattle.reporter_state.specs.Effects.{final_output, finished_entry, ski
 ghost use Rattle.reporter_state.specs.Entries.{final_level_of_output};
 ghost use Rattle.text_parts.specs.Finish.{timed_at_end};
 
+use crate::binary_ids::BinaryIds;
+use crate::finished_attempts::FinishedAttempts;
 use crate::kept_test::KeptTest;
 use crate::loaded_output::LoadedOutput;
 use run_model::level::FinalStatusLevel;
 use run_model::memory::OutOfMemory;
 use run_model::status::StatusSummary;
 use std::alloc::Global;
-use test_text::status_line::StatusLine;
-use test_text::test_finished::FinishedTest;
 use text_parts::instance::CountedInstance;
 
 /// An entry of the summary.
@@ -59,12 +59,16 @@ impl FinalOutput {
 
     // What the summary shows of a finished test.
     #[tactic(auto, unfolding(crate::specs::Effects::final_output))]
-    fn of_test(alloc: Global, finished: &FinishedTest<'_, '_>) -> Result<FinalOutput, OutOfMemory>
-        requires { HasShownOutput (finish_of finished.now) }
-        ensures output { IfOk result (λ o. o ≡ final_output (finish_of finished.now)) }
-        ensures free { is_aborted (finish_of finished.now).last.result ≡ false → timed_at_end finished.now.row finished.now.display ≡ false → IsOk result }
+    fn of_test(
+        alloc: Global,
+        attempts: &FinishedAttempts<'_, '_>,
+    ) -> Result<FinalOutput, OutOfMemory>
+        requires { HasShownOutput (finish_of attempts.now.finished) }
+        ensures output { IfOk result (λ o. o ≡ final_output (finish_of attempts.now.finished)) }
+        ensures free { is_aborted (finish_of attempts.now.finished).last.result ≡ false → timed_at_end attempts.now.finished.row attempts.now.finished.display ≡ false → IsOk result }
     {
-        let summary = StatusLine::of_description(&finished.describe).to_summary(alloc)?;
+        let finished = &attempts.finished;
+        let summary = attempts.statuses.summary(alloc)?;
         if finished.row.is_shown_at_end(finished.display) {
             let output = &finished.describe.last_status().output;
             Ok(FinalOutput::ExecutedWithOutput {
@@ -82,26 +86,28 @@ impl FinalOutputEntry {
     /// its output are shared. Output that is shown must not have been left unread.
     pub fn of_test(
         alloc: Global,
-        finished: &FinishedTest<'_, '_>,
+        ids: &mut BinaryIds,
+        attempts: &FinishedAttempts<'_, '_>,
     ) -> Result<FinalOutputEntry, OutOfMemory>
-        requires { HasShownOutput (finish_of finished.now) }
-        ensures { IfOk result (λ e. e ≡ finished_entry (finish_of finished.now)) }
+        requires { HasShownOutput (finish_of attempts.now.finished) }
+        ensures { IfOk result (λ e. e ≡ finished_entry (finish_of attempts.now.finished)) }
     {
         Ok(FinalOutputEntry {
-            test: KeptTest::copy_of(alloc, finished.test)?,
-            output: FinalOutput::of_test(alloc, finished)?,
+            test: KeptTest::copy_of(alloc, ids, attempts.finished.test)?,
+            output: FinalOutput::of_test(alloc, attempts)?,
         })
     }
 
     /// What the summary shows of a skipped test. It allocates for the test's names.
     pub fn skipped(
         alloc: Global,
+        ids: &mut BinaryIds,
         test: CountedInstance<'_>,
     ) -> Result<FinalOutputEntry, OutOfMemory>
         ensures { IfOk result (λ e. e ≡ skipped_entry test.entry) }
     {
         Ok(FinalOutputEntry {
-            test: KeptTest::copy_of(alloc, test)?,
+            test: KeptTest::copy_of(alloc, ids, test)?,
             output: FinalOutput::Skipped,
         })
     }

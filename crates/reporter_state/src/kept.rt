@@ -5,7 +5,6 @@ ghost use Rattle.plain_text.specs.Writer.{Puts};
 ghost use Rattle.test_text.specs.StatusLine.{status_line};
 ghost use Rattle.test_text.specs.declared.status_line.StatusLineKind.{StatusLineKind};
 ghost use Rattle.reporter_state.specs.Entries.{final_text, entries_text, final_order, IsFinalOrder};
-ghost use Rattle.reporter_state.specs.Keys.{entries_of};
 ghost use Rattle.reporter_state.specs.KeptTests.{borrowed_test};
 ghost use Rattle.reporter_state.specs.declared.final_output.FinalOutputEntry.{FinalOutputEntry};
 
@@ -16,6 +15,8 @@ use plain_text::write_str::{WriteFault, WriteStr};
 use run_model::memory::OutOfMemory;
 use run_model::status::StatusSummary;
 use std::alloc::Global;
+use std::cmp::Reverse;
+use std::collections::BTreeMap;
 use std::marker::Model;
 use test_text::status_line::{StatusLine, StatusLineKind, write_status_line};
 use test_text::test_skipped::write_skip_line;
@@ -25,20 +26,21 @@ use text_parts::settings::Settings;
 /// The entries that a summary lists. Contracts see them as the list in which it shows them.
 #[derive(Drop)]
 pub struct KeptEntries {
-    // as they were kept; a summary that was written left those before it in their order
-    entries: Vec<PlacedEntry>,
+    // Greatest first: a search of a map looks at the first keys first, and most runs keep entries in their order.
+    by_key: BTreeMap<Reverse<PlacedEntry>, ()>,
 }
 
 impl Model for KeptEntries {
     ghost use Rattle.std.specs.Prelude.{List};
-    ghost use Rattle.reporter_state.specs.Keys.{HavePlaces, entries_of, placed_order};
+    ghost use Rattle.std.specs.BTreeMap.{btree_map_len};
+    ghost use Rattle.reporter_state.specs.Keys.{ArePlaced, shown_of};
     ghost use Rattle.reporter_state.specs.declared.final_output.FinalOutputEntry.{FinalOutputEntry};
 
     ghost Value = { List FinalOutputEntry };
 
-    ghost view = { λ k. entries_of (placed_order k.entries.items) };
+    ghost view = { λ k. shown_of k.by_key.entries };
 
-    ghost invariant = { λ k. HavePlaces k.entries.items };
+    ghost invariant = { λ k. ArePlaced (btree_map_len k.by_key) k.by_key.entries };
 }
 
 impl KeptEntries {
@@ -48,7 +50,7 @@ impl KeptEntries {
         ensures { result ≡ final_order [] }
     {
         KeptEntries {
-            entries: Vec::new(alloc),
+            by_key: BTreeMap::new(alloc),
         }
     }
 
@@ -57,18 +59,20 @@ impl KeptEntries {
         ensures ok { OnOk result ((kept : List FinalOutputEntry) → self.old ≡ final_order kept → self.new ≡ final_order (kept ++ entry ∷ [])) }
         ensures err { OnErr result (self.new ≡ self.old) }
     {
-        let placed = PlacedEntry::new(alloc, entry, self.entries.len())?;
-        self.entries.push(placed)?;
+        let placed = PlacedEntry::new(alloc, entry, self.by_key.len())?;
+        self.by_key.insert(Reverse(placed), ())?;
         Ok(())
     }
 
-    /// Writes the entries in their order. It allocates nothing: they are ordered where they stand.
-    pub fn write<W: WriteStr>(&mut self, w: &mut W, settings: &Settings) -> Result<(), WriteFault>
-        ensures text { Puts W.meaning w.old (entries_text settings.now self.old) result w.new }
-        ensures same { self.new ≡ self.old }
+    /// Writes the entries in their order. It allocates nothing.
+    pub fn write<W: WriteStr>(&self, w: &mut W, settings: &Settings) -> Result<(), WriteFault>
+        ensures { Puts W.meaning w.old (entries_text settings.now self.now) result w.new }
     {
-        self.entries.sort_unstable();
-        write_entries(w, settings, &self.entries)
+        for (key, ()) in self.by_key.iter().rev() {
+            let FinalOutputEntry { test, output } = key.0.entry();
+            write_entry(w, settings, test, output)?;
+        }
+        Ok(())
     }
 }
 
@@ -79,21 +83,6 @@ pub fn one_final_order()
     ensures exists { (kept : List FinalOutputEntry) → IsFinalOrder kept (final_order kept) }
     ensures only { (kept order : List FinalOutputEntry) → IsFinalOrder kept order → order ≡ final_order kept }
 {}
-
-// Writes entries as they stand.
-fn write_entries<W: WriteStr>(
-    w: &mut W,
-    settings: &Settings,
-    entries: &[PlacedEntry],
-) -> Result<(), WriteFault>
-    ensures { Puts W.meaning w.old (entries_text settings.now (entries_of entries.now)) result w.new }
-{
-    for placed in entries {
-        let FinalOutputEntry { test, output } = placed.entry.get();
-        write_entry(w, settings, test, output)?;
-    }
-    Ok(())
-}
 
 // Writes an entry: its line, and what the last attempt wrote where that is kept; or that the test was skipped.
 #[tactic(auto, unfolding(crate::specs::Entries::final_text), using(crate::proofs::lemmas::KeptTests::skip_of_kept))]

@@ -1,13 +1,19 @@
 //! A test that is kept: it has names of its own, so that the event that named it need not last.
 
 ghost use Rattle.std.specs.Prelude.{◌≡◌, IfOk};
+ghost use Rattle.std.specs.Cmp.Lexicographic.{slice_cmp};
+ghost use Rattle.reporter_state.specs.Entries.{instance_key};
 ghost use Rattle.reporter_state.specs.KeptTests.{kept_test};
+ghost use Rattle.reporter_state.specs.Order.{key_cmp};
 
+use crate::binary_ids::{BinaryIds, KeptBinaryId};
 use report_text::helpers::DisplayCounterIndex;
 use run_model::memory::OutOfMemory;
-use run_model::name::{OwnedTestInstanceId, TestInstanceId};
+use run_model::name::{TestCaseName, TestInstanceId};
 use run_model::stress::StressIndex;
 use std::alloc::Global;
+use std::cmp::Ordering;
+use std::marker::Model;
 use text_parts::instance::CountedInstance;
 
 /// A test as its lines name it, with names of its own.
@@ -18,12 +24,31 @@ pub struct KeptTest {
     /// Its counter, where counters are shown.
     pub counter: Option<DisplayCounterIndex>,
     /// The test.
-    pub instance: OwnedTestInstanceId,
+    pub instance: KeptInstance,
+}
+
+/// The names of a kept test. The id is shared by the tests of its binary.
+#[derive(Drop)]
+pub struct KeptInstance {
+    binary_id: KeptBinaryId,
+    test_name: TestCaseName,
+}
+
+impl Model for KeptInstance {
+    ghost use Rattle.run_names.specs.declared.name.OwnedTestInstanceId.{OwnedTestInstanceId};
+
+    ghost Value = { OwnedTestInstanceId };
+
+    ghost view = { λ i. record { binary_id = i.binary_id; test_name = i.test_name } };
 }
 
 impl KeptTest {
-    /// Copies the test's names.
-    pub fn copy_of(alloc: Global, test: CountedInstance<'_>) -> Result<KeptTest, OutOfMemory>
+    /// Copies the test's name, and its binary's id if it is a new one.
+    pub fn copy_of(
+        alloc: Global,
+        ids: &mut BinaryIds,
+        test: CountedInstance<'_>,
+    ) -> Result<KeptTest, OutOfMemory>
         ensures { IfOk result (λ t. t ≡ kept_test test.entry) }
     {
         let TestInstanceId {
@@ -33,7 +58,10 @@ impl KeptTest {
         Ok(KeptTest {
             stress_index: test.stress_index,
             counter: test.counter,
-            instance: OwnedTestInstanceId::new(alloc, binary_id.as_str(), test_name.as_str())?,
+            instance: KeptInstance {
+                binary_id: ids.keep(alloc, binary_id)?,
+                test_name: TestCaseName::new(alloc, test_name.as_str())?,
+            },
         })
     }
 
@@ -46,5 +74,26 @@ impl KeptTest {
             counter: self.counter,
             instance: self.instance.as_ref(),
         }
+    }
+}
+
+impl KeptInstance {
+    /// The names, borrowed.
+    pub fn as_ref(&self) -> TestInstanceId<'_>
+        ensures { (result.binary_id.now ≡ self.now.binary_id) × (result.test_name.now ≡ self.now.test_name) }
+    {
+        TestInstanceId {
+            binary_id: self.binary_id.get(),
+            test_name: &self.test_name,
+        }
+    }
+
+    /// Compares the bytes of the binaries' ids, then of the tests' names.
+    pub fn compare(&self, other: &KeptInstance) -> Ordering
+        ensures { result ≡ key_cmp (instance_key self.now) (instance_key other.now) }
+    {
+        self.binary_id
+            .compare(&other.binary_id)
+            .then_with(|| self.test_name.cmp(&other.test_name))
     }
 }

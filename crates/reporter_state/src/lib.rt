@@ -1,15 +1,17 @@
 //! What a reporter knows of the calls before, and what it decides of the next one.
 //!
 //! One module a concern: `decider` says what is decided of an event by its metadata, `faults` how a call fails, `effect` what an event
-//! does beside its text, `final_output` what is kept of a test for the summary, `loaded_output` the output in it, `kept_test` the test
-//! with names of its own, `placed_entry` what an entry is ordered by, `kept` how entries are held and listed, and `state` what is known of
-//! the calls before.
+//! does beside its text, `finished_attempts` a finished test with its attempts, `final_output` what is kept of a test for the summary,
+//! `loaded_output` the output in it, `kept_test` the test with names of its own, `binary_ids` the ids of binaries that tests share,
+//! `placed_entry` the key at which an entry is kept, `kept` how entries are held and listed, and `state` what is known of the calls before.
 #![tactic(auto)]
 
+pub mod binary_ids;
 pub mod decider;
 pub mod effect;
 pub mod faults;
 pub mod final_output;
+pub mod finished_attempts;
 pub mod kept;
 pub mod kept_test;
 pub mod loaded_output;

@@ -4,30 +4,44 @@ ghost use Rattle.std.specs.Prelude.{◌≡◌, refl, Some, IfOk};
 ghost use Rattle.std.specs.Ordering.{as_partial_cmp, eq_by_cmp, nat_cmp};
 ghost use Rattle.std.specs.Cmp.{eq_by_cmp_equiv, partial_equiv_from_equiv, partial_order_from_total};
 ghost use Rattle.std.specs.Cmp.Lexicographic.{slice_cmp};
-ghost use Rattle.reporter_state.specs.Entries.{counter_key, iteration_key, test_key};
-ghost use Rattle.reporter_state.specs.Keys.{order_key, placed_at, placed_cmp, placed_total};
+ghost use Rattle.reporter_state.specs.Entries.{counter_key, entry_key, iteration_key, test_key};
+ghost use Rattle.reporter_state.specs.Keys.{placed_at, placed_cmp, placed_total};
 ghost use Rattle.reporter_state.specs.Order.{key_cmp};
 
 use crate::final_output::FinalOutputEntry;
 use crate::kept_test::KeptTest;
 use report_text::helpers::DisplayCounterIndex;
 use run_model::boxed::Boxed;
-use run_model::level::FinalStatusLevel;
 use run_model::memory::OutOfMemory;
 use run_model::stress::StressIndex;
 use std::alloc::Global;
 use std::cmp::Ordering;
+use std::marker::Model;
 
 /// An entry with its place. It is ordered by its final level, the greatest first, then by the iteration, then by the counter where
 /// one is shown, then by the bytes of the binary's id and of the test's name, and then by how many entries were kept before.
 #[derive(Drop)]
 pub struct PlacedEntry {
-    /// The entry. It stands apart, so that a move is cheap.
-    pub entry: Boxed<FinalOutputEntry>,
-    /// How many entries were kept before, so that no two are equal.
-    pub place: usize,
-    /// The level from which on the summary lists the test.
-    pub level: FinalStatusLevel,
+    // It stands apart, so that a move is cheap.
+    entry: Boxed<FinalOutputEntry>,
+    // How many entries were kept before, so that no two are equal.
+    place: usize,
+    // How far its level is below all. Most entries that are compared are of one level.
+    below: u8,
+    // Whether it has neither an iteration nor a counter, as most have.
+    is_plain: bool,
+}
+
+impl Model for PlacedEntry {
+    ghost use Rattle.std.specs.Prelude.{◌≡◌, true};
+    ghost use Rattle.reporter_state.specs.Entries.{level_key};
+    ghost use Rattle.reporter_state.specs.Keys.{IsPlain, Placed};
+
+    ghost Value = { Placed };
+
+    ghost view = { λ p. record { entry = p.entry; place = p.place } };
+
+    ghost invariant = { λ p. (p.below ≡ level_key p.entry) × (p.is_plain ≡ true → IsPlain p.entry.test) };
 }
 
 impl PlacedEntry {
@@ -39,12 +53,21 @@ impl PlacedEntry {
     ) -> Result<PlacedEntry, OutOfMemory>
         ensures { IfOk result (λ p. p ≡ placed_at entry place) }
     {
-        let level = entry.output.final_status_level();
+        let below = entry.output.final_status_level().below_all();
+        let is_plain = entry.test.stress_index.is_none() && entry.test.counter.is_none();
         Ok(PlacedEntry {
             entry: Boxed::new(alloc, entry)?,
             place,
-            level,
+            below,
+            is_plain,
         })
+    }
+
+    /// The entry.
+    pub fn entry(&self) -> &FinalOutputEntry
+        ensures { result.now ≡ self.now.entry }
+    {
+        self.entry.get()
     }
 }
 
@@ -86,26 +109,27 @@ impl Ord for PlacedEntry {
     }
 }
 
-// Compares as the final order does, which does not look at places. Most entries that are compared are of one level.
+// Compares as the final order does, which does not look at places.
 fn compare_order(left: &PlacedEntry, right: &PlacedEntry) -> Ordering
-    ensures { result ≡ key_cmp (order_key left.now) (order_key right.now) }
+    ensures { result ≡ key_cmp (entry_key left.now.entry) (entry_key right.now.entry) }
 {
-    let (below, right_below) = (left.level.below_all(), right.level.below_all());
-    if below != right_below {
-        return below.cmp(&right_below);
+    if left.below != right.below {
+        return left.below.cmp(&right.below);
     }
-    compare_tests(&left.entry.get().test, &right.entry.get().test)
+    let (left_test, right_test) = (&left.entry.get().test, &right.entry.get().test);
+    if left.is_plain && right.is_plain {
+        return left_test.instance.compare(&right_test.instance);
+    }
+    compare_tests(left_test, right_test)
 }
 
 // Compares the iterations, then the counters, then the bytes of the binaries' ids and of the tests' names.
 fn compare_tests(left: &KeptTest, right: &KeptTest) -> Ordering
     ensures { result ≡ key_cmp (test_key left.now) (test_key right.now) }
 {
-    let (left_instance, right_instance) = (&left.instance, &right.instance);
     compare_iterations(left.stress_index, right.stress_index)
         .then_with(|| compare_counters(left.counter, right.counter))
-        .then_with(|| left_instance.binary_id.cmp(&right_instance.binary_id))
-        .then_with(|| left_instance.test_name.cmp(&right_instance.test_name))
+        .then_with(|| left.instance.compare(&right.instance))
 }
 
 // Compares iterations: none first.

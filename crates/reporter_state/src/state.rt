@@ -8,14 +8,15 @@ ghost use Rattle.reporter_state.specs.declared.final_output.FinalOutputEntry.{Fi
 ghost use Rattle.reporter_state.specs.Effects.{HasEndOutput, HasEndOutputIn, TestEnd, end_of, kept_entry};
 ghost use Rattle.reporter_state.specs.Entries.{final_order};
 
+use crate::binary_ids::BinaryIds;
 use crate::effect::{EndedTest, EventEffect, greater_reason};
 use crate::final_output::FinalOutputEntry;
+use crate::finished_attempts::FinishedAttempts;
 use crate::kept::KeptEntries;
 use run_model::level::{CancelReason, FinalStatusLevel};
 use run_model::memory::OutOfMemory;
 use run_model::run_id::ShortestRunIdPrefix;
 use std::alloc::Global;
-use test_text::test_finished::FinishedTest;
 use text_parts::instance::CountedInstance;
 use text_parts::settings::Settings;
 
@@ -26,6 +27,8 @@ pub struct ReporterState {
     pub alloc: Global,
     /// What is kept for the summary.
     pub kept: KeptEntries,
+    /// The ids of binaries that kept tests share.
+    pub ids: BinaryIds,
     /// The unique prefix of the run's id that was given last.
     pub unique_prefix: Option<ShortestRunIdPrefix>,
     /// The greatest reason that the run was cancelled for.
@@ -48,6 +51,7 @@ impl ReporterState {
         ReporterState {
             alloc,
             kept: KeptEntries::new(alloc),
+            ids: BinaryIds::new(alloc),
             unique_prefix: None,
             cancel_status: None,
             settings,
@@ -85,29 +89,30 @@ impl ReporterState {
         ensures needed { OnErr result (is_some (kept_entry self.old.settings (end_of ended.now)) ≡ true) }
     {
         match ended {
-            EndedTest::Finished(finished) => self.keep_finished(finished),
+            EndedTest::Finished(attempts) => self.keep_finished(attempts),
             EndedTest::Skipped(test) => self.keep_skipped(*test),
         }
     }
 
     // Keeps a finished test where the summary lists it.
-    fn keep_finished(&mut self, finished: &FinishedTest<'_, '_>) -> Result<(), OutOfMemory>
-        requires { HasShownOutput (finish_of finished.now) }
+    fn keep_finished(&mut self, attempts: &FinishedAttempts<'_, '_>) -> Result<(), OutOfMemory>
+        requires { HasShownOutput (finish_of attempts.now.finished) }
         ensures settings { self.new.settings ≡ self.old.settings }
         ensures prefix { self.new.unique_prefix ≡ self.old.unique_prefix }
         ensures reason { self.new.cancel_status ≡ self.old.cancel_status }
         ensures works { self.new.has_failed ≡ self.old.has_failed }
         ensures kept { OnOk result ((before : List FinalOutputEntry) → self.old.kept ≡ final_order before →
-            self.new.kept ≡ final_order (before ++ option_to_list (kept_entry self.old.settings (TestEnd.Finished (finish_of finished.now))))) }
-        ensures needed { OnErr result (is_some (kept_entry self.old.settings (TestEnd.Finished (finish_of finished.now))) ≡ true) }
+            self.new.kept ≡ final_order (before ++ option_to_list (kept_entry self.old.settings (TestEnd.Finished (finish_of attempts.now.finished))))) }
+        ensures needed { OnErr result (is_some (kept_entry self.old.settings (TestEnd.Finished (finish_of attempts.now.finished))) ≡ true) }
     {
+        let finished = &attempts.finished;
         let is_wanted = self
             .settings
             .is_final_wanted(finished.display, &finished.describe);
         if !finished.row.is_listed(is_wanted) {
             return Ok(());
         }
-        let entry = FinalOutputEntry::of_test(self.alloc, finished)?;
+        let entry = FinalOutputEntry::of_test(self.alloc, &mut self.ids, attempts)?;
         self.kept.keep(self.alloc, entry)?;
         Ok(())
     }
@@ -126,7 +131,7 @@ impl ReporterState {
         if !FinalStatusLevel::Skip.is_shown_at(shown) {
             return Ok(());
         }
-        let entry = FinalOutputEntry::skipped(self.alloc, test)?;
+        let entry = FinalOutputEntry::skipped(self.alloc, &mut self.ids, test)?;
         self.kept.keep(self.alloc, entry)?;
         Ok(())
     }

@@ -15,6 +15,7 @@ use test_devices::Device;
 
 mod growths;
 mod pieces;
+mod plain;
 mod stores;
 
 const DONE: &str =
@@ -120,18 +121,30 @@ fn report_and_store<R: Read + Drop, W: Write, S: Write>(
     report_scene(alloc, options, reader, writer, store_writer)
 }
 
-// What reporting a scene and its records to these devices answers, once it is read and judged: the scene is not dropped, since what
-// drops one is proved in each crate that does.
-fn report_accepted_to(
+// What writing a scene's report and its records to these devices answers, once it is read and judged: the scene is not dropped, since
+// what drops one is proved in each crate that does.
+fn judge_and_write(
     alloc: Global,
+    options: &Options<'static>,
     text: &str,
     device: &mut Device,
     store: &mut Device,
 ) -> Result<(), Fault<'static>> {
-    let scene = judge(alloc, &STORING, text.as_bytes())?;
-    let outcome = write_report(alloc, &STORING, &scene, device, store);
+    let scene = judge(alloc, options, text.as_bytes())?;
+    let outcome = write_report(alloc, options, &scene, device, store);
     mem::forget(scene);
     outcome
+}
+
+// Why a scene is not accepted, if it is not.
+fn fault_of_judging<R: Read + Drop>(alloc: Global, reader: R) -> Option<Fault<'static>> {
+    match judge(alloc, &OPTIONS, reader) {
+        Ok(scene) => {
+            mem::forget(scene);
+            None
+        }
+        Err(fault) => Some(fault),
+    }
 }
 
 #[test]
@@ -142,14 +155,14 @@ fn writes_the_report_and_stops_where_the_device_fails(rt: HostRuntime) -> Result
         Device::with_room(alloc, 600)?,
         Device::with_room(alloc, 600)?,
     );
-    assert!(rt; report_accepted_to(alloc, TWO_TESTS, &mut roomy, &mut store).is_ok());
+    assert!(rt; judge_and_write(alloc, &STORING, TWO_TESTS, &mut roomy, &mut store).is_ok());
     assert!(rt; roomy.taken() == OF_TWO_TESTS.as_bytes());
     assert!(rt; store.taken() == STORED_OF_TWO_TESTS.as_bytes());
     let (mut device, mut unstored) = (Device::with_room(alloc, 10)?, Device::with_room(alloc, 10)?);
-    let Err(fault) = report_accepted_to(alloc, TWO_TESTS, &mut device, &mut unstored) else {
+    let Err(fault) = judge_and_write(alloc, &STORING, TWO_TESTS, &mut device, &mut unstored) else {
         return Err(Fail::from("the device failed"));
     };
-    assert_eq!(rt; fault.to_string(alloc)?.as_str(), "write failed");
+    assert_eq!(rt; fault.to_string(alloc)?.as_str(), "report: write failed");
     assert_eq!(rt; fault.status(), 3);
     assert!(rt; device.taken() == b"----------".as_slice() && unstored.taken().is_empty());
     Ok(())
@@ -251,24 +264,30 @@ fn tells_why_a_file_is_not_read(rt: HostRuntime) -> Result<(), Fail> {
     let alloc = rt.alloc();
     let text = END.as_bytes();
     let kinds = [
-        (ErrorKind::Other, "cannot read FILE", 2),
-        (ErrorKind::OutOfMemory, "out of memory", 3),
+        (ErrorKind::Other, "report: cannot read FILE", 2),
+        (ErrorKind::OutOfMemory, "report: out of memory", 3),
     ];
     for (kind, line, status) in kinds {
         for reads_before in 0..14 {
-            let reader = Failing {
+            let reader = || Failing {
                 text,
                 reads_before,
                 kind,
             };
             let texts = (Vec::new(alloc), Vec::new(alloc));
             let (outcome, printed, stored) = report_and_store(
-                alloc, &STORING, reader, texts.0, texts.1,
+                alloc,
+                &STORING,
+                reader(),
+                texts.0,
+                texts.1,
             );
+            let judged = fault_of_judging(alloc, reader());
             // It says once behind the last byte, and once more, that nothing is left.
             let is_read = reads_before > text.len().div_ceil(7) + 1;
             assert_eq!(rt; outcome.is_ok(), is_read);
-            if let Err(fault) = outcome {
+            assert_eq!(rt; judged.is_none(), is_read);
+            for fault in [outcome.err(), judged].into_iter().flatten() {
                 assert_eq!(rt; fault.to_string(alloc)?.as_str(), line);
                 assert_eq!(rt; fault.status(), status);
                 assert!(rt; printed.is_empty() && stored.is_empty());
@@ -408,11 +427,7 @@ fn tells_each_fault(rt: HostRuntime) -> Result<(), Fail> {
         (Fault::OutOfMemory, 3, "report: out of memory"),
     ];
     for (fault, status, line) in faults {
-        let program = Program::Report;
-        assert_eq!(rt;
-            FaultLine { program, fault }.to_string(rt.alloc())?.as_str(),
-            line
-        );
+        assert_eq!(rt; fault.to_string(rt.alloc())?.as_str(), line);
         assert_eq!(rt; fault.status(), status);
     }
     let follow = FaultLine {
@@ -446,7 +461,8 @@ fn tells_what_is_wrong_with_a_line(rt: HostRuntime) -> Result<(), Fail> {
     for (fault, line) in faults {
         let read = ReadFault::Line { line: 3, fault };
         assert_eq!(rt; read.to_string(rt.alloc())?.as_str(), line);
-        assert_eq!(rt; Fault::from(read).to_string(rt.alloc())?.as_str(), line);
+        let shown = Fault::from(read).to_string(rt.alloc())?;
+        assert_eq!(rt; shown.as_str().strip_prefix("report: "), Some(line));
     }
     assert_eq!(rt;
         ReadFault::OutOfMemory.to_string(rt.alloc())?.as_str(),

@@ -1,6 +1,7 @@
 pub mod Deferred
 pub mod Devices
 pub mod FollowedRuns
+pub mod PlainReports
 pub mod Prints
 pub mod ReadLines
 pub mod ReadyCalls

@@ -1,7 +1,7 @@
 -- Scenes that are judged: each line by itself, and then whether the scene's reporter would refuse an event.
 use Rattle.std.specs.Prelude.{◌≡◌, ◌⊎◌, ℕ, List, ◌∷◌, ◌++◌, get_or, length, Option, None, Some, Result, Ok, Err}
-use Rattle.std.specs.Option.{option_map}
-use Rattle.reporter_state.specs.Refusals.{first_refused, refusal_by}
+use Rattle.std.specs.Option.{option_and_then, option_map}
+use Rattle.reporter_state.specs.Refusals.{first_refused, refusal_at_by, refusal_by}
 use Rattle.reporter_state.specs.declared.decider.OutputLoadDecider.{OutputLoadDecider}
 use Rattle.run_model.specs.declared.call.ReportCall.{ReportCall}
 use Rattle.scenes.specs.Reports.{AreCallsOf, fault_at_call, decider_for}
@@ -53,6 +53,10 @@ pub record IsRefusedLine (options : Options) (scene : Scene) (n : ℕ) (f : Line
   pub accepted : first_refused (decider_for options scene.config) front ≡ None
   pub refused : Refuses options scene.config call f
   pub number : n ≡ get_or scene.lines.items (length front) 0
+
+-- the fault of the line of the first call that is refused
+abbrev pub fault_of_first : OutputLoadDecider → Scene → List ReportCall → Option Fault
+fault_of_first d scene calls = option_and_then (λ i. option_map (fault_at_call (get_or scene.lines.items i 0)) (refusal_at_by d calls i)) (first_refused d calls)
 
 -- the fault is that the first refused call of the scene has, unless memory was refused
 abbrev pub IsSceneRefused : Options → Scene → Fault → Type 0

@@ -72,11 +72,15 @@ module _ {W T : Type 0} (m : Meaning W) (k : Meaning T) (options : Options) (old
   abbrev pub PrintsFollowed : RunOutcome → ParsedLines → Type 0
   PrintsFollowed come_to run = OfCalls options run (λ calls. AreWhole run.config calls × (come_to ≡ run_outcome (reverse calls)))
 
-  -- this fault stopped it, and each has a beginning
+  -- this fault stopped these calls, and each has a beginning
+  abbrev pub AreBegun : SceneConfig → Fault → List ReportCall → Type 0
+  AreBegun config fault calls = IsStop options fault
+      × HasBeginning m (report_of options config) (fault ≡ WriteFailed) (fault ≡ StoreFailed) calls old.0 new.0
+      × HasBeginning k (stored_of options) (fault ≡ StoreFailed) (fault ≡ WriteFailed) calls old.1 new.1
+
+  -- it stopped the report of the run
   abbrev pub Begins : ParsedLines → Fault → Type 0
-  Begins run fault = OfCalls options run (λ calls. IsStop options fault
-      × HasBeginning m (report_of options run.config) (fault ≡ WriteFailed) (fault ≡ StoreFailed) calls old.0 new.0
-      × HasBeginning k (stored_of options) (fault ≡ StoreFailed) (fault ≡ WriteFailed) calls old.1 new.1)
+  Begins run fault = OfCalls options run (AreBegun run.config fault)
 
   -- how the report of the run ends
   abbrev pub Reported : ParsedLines → Result (Unit {0}) Fault → Type 0

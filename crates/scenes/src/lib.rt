@@ -9,6 +9,7 @@
 mod deferred;
 pub mod follow;
 mod outcome;
+mod plain;
 pub mod process;
 pub mod read;
 pub mod report;

@@ -14,6 +14,7 @@ ghost use Rattle.scene_text.specs.SceneTexts.{AllRead, event_lines, no_lines, te
 ghost use Rattle.scenes.specs.ParsedScenes.{IsReadFault, IsSceneRead, OfText, scene_lines};
 
 use crate::deferred::{Deferred, deliver_rest};
+use crate::plain::{refused_call, write_calls, write_calls_and_records};
 use crate::read::{SceneSource, read_lines};
 use crate::reporter::{builder_of, decider_of, fault_at_call};
 use crate::scene::Scene;
@@ -183,8 +184,9 @@ pub fn report_scene<'a, R: Read + Drop, W: Write, S: Write>(
     }
 }
 
-/// Writes the report of a scene to a device, and its records to a second one, if the options ask for them. It judges the scene first, and
-/// a scene that is refused leaves the devices as they were. The text is delivered as by [`report_accepted`].
+/// Writes the report of a scene to a device, and its records to a second one, if the options ask for them: the plain way, by the calls of
+/// the scene. Of these the first that is refused is asked for, and a scene that has one leaves the devices as they were; else `run_report`
+/// writes their report. [`report_accepted`] promises the same, holds one call at a time, and gives the devices back.
 pub fn write_report<W: Write + Drop, S: Write + Drop>(
     alloc: Global,
     options: &Options<'_>,
@@ -196,12 +198,24 @@ pub fn write_report<W: Write + Drop, S: Write + Drop>(
     ensures err { IfErr result (λ fault. IsSceneRefused options.now scene.now fault
         ⊎ ((last : W) × (store_last : S) × Begins device device options.now (W.contents writer, S.contents store_writer) (W.contents last, S.contents store_last) (scene_lines scene.now) fault)) }
 {
-    let judged = match accept_scene(alloc, options, scene) {
-        Ok(judged) => judged,
-        Err(fault) => return Err(fault),
+    let all = scene.calls(alloc, options)?;
+    let calls = all.as_slice();
+    let decider = decider_of(alloc, options, &scene.config)?;
+    if let Some(fault) = refused_call(&decider, scene, calls) {
+        return Err(fault);
+    }
+    let Some(store) = options.store else {
+        return write_calls(alloc, options, scene, calls, writer);
     };
-    let (outcome, _writer, _store_writer) = report_accepted(alloc, &judged, writer, store_writer);
-    outcome
+    write_calls_and_records(
+        alloc,
+        options,
+        scene,
+        calls,
+        writer,
+        store_writer,
+        store.config,
+    )
 }
 
 /// Writes the report of a scene that was judged to a device, and its records to a second one where the options ask for them, and gives

@@ -13,7 +13,7 @@ use Rattle.console_reporter.specs.Report.{past_at, report, text_at}
 use Rattle.console_reporter.specs.OptionalStore.{store_accepts, store_may_refuse, store_meaning}
 use Rattle.console_reporter.specs.HeldState.{MayGrowAt, StandsAfter, may_grow_in}
 use Rattle.console_reporter.specs.Stored.{stored, stored_at}
-use Rattle.console_reporter.specs.Telling.{IsSameReporter, MayGrowFor, Promises, Tells, TellsRun, past_with}
+use Rattle.console_reporter.specs.Telling.{AreDelivered, IsSameReporter, MayGrowFor, Promises, Tells, TellsRun, past_with}
 use Rattle.run_model.specs.declared.call.ReportCall.{ReportCall}
 use Rattle.reporter_state.specs.Refusals.{refusal_in}
 use Rattle.reporter_state.specs.declared.faults.RunFault.{RunFault}
@@ -54,7 +54,7 @@ module _ {W S : Type 0} {m : Meaning W} {n : Meaning S} (laws : WriterLaws m) (s
 
   -- what a run leaves where the calls before this one were made, and it was stopped, or past the last of them the end
   module _ (config : Configuration) (calls : List ReportCall) {old new : DisplayReporter W S} (stands : StandsAfter config [] old) (stop : RunFault)
-      (h : (mid : DisplayReporter W S) × TellsRun m n old (past_at calls stop.position) mid × Promises m n mid (slice_get calls stop.position) (Err stop.fault) new) where
+      (h : (mid : DisplayReporter W S) × TellsRun m n old (past_at calls stop.position) mid × Promises m n mid (slice_get calls stop.position) (Err stop.fault) new × (AreDelivered m n old → AreDelivered m n mid)) where
     pub run_refusal : refusal_at config calls stop.position ≡ refusal_in stop.fault
     run_refusal = sym (h.2.refused config _ (h.1.stands config stands))
 
@@ -97,7 +97,20 @@ module _ {W S : Type 0} {m : Meaning W} {n : Meaning S} (laws : WriterLaws m) (s
       | inr (inr w) ↦ inr (inr (((store-laws store_laws).kept _ _ _ (h.1.stored config stands)).1 w))
     ]
 
+    -- what a fault of one device leaves of the other: the text of this call is delivered, and the records of the calls before are
+    pub text_delivered : stop.fault ≡ StoreIo → m.is_delivered new.writer.now
+    text_delivered = h.2.err.delivered
+
+    records_delivered : AreDelivered m n old → stop.fault ≡ Io → (store_meaning n).is_delivered new.store
+    records_delivered held is =
+        let same : new.store ≡ h.0.store = subst (λ e. Stops Records (store_meaning n) h.0.store stored_here e new.store) is records_stopped in
+        subst (store_meaning n).is_delivered (sym same) (h.3 held).store
+
     -- with a store
+    pub records_delivered_there : {a b : Store S} → old.store ≡ Some a → new.store ≡ Some b → m.is_delivered old.writer.now → n.is_delivered a.writer.now → stop.fault ≡ Io → n.is_delivered b.writer.now
+    records_delivered_there {a} {b} old_is new_is w r is =
+        subst (store_meaning n).is_delivered new_is (records_delivered (record { writer = w; store = subst (store_meaning n).is_delivered (sym old_is) r }) is)
+
     pub records_there : {a b : Store S} → old.store ≡ Some a → new.store ≡ Some b → (mid : S) × n.accepts a.writer.now stored_before mid × Stops Records n mid stored_here stop.fault b.writer.now
     records_there {a} {b} old_is new_is =
         stopped_there n a b h.0.store stored_before stored_here stop.fault

@@ -181,7 +181,7 @@ impl<'a, W: WriteStr, S: WriteStr> DisplayReporter<'a, W, S> {
         ensures unrefused { IfErr result (λ e. refusal_in e ≡ None) }
     {
         let effect = EventEffect::of_event(&self.state.settings, self.state.cancel_status, event);
-        if let Err(fault) = write_delivered(self.writer, &mut self.state, event, &effect) {
+        if let Err(fault) = write_delivered(self.writer, &self.state, event, &effect) {
             return Err(error_of(fault));
         }
         match self.state.apply(&effect) {
@@ -365,7 +365,8 @@ impl<'a, W: WriteStr, S: WriteStr> DisplayReporter<'a, W, S> {
         ensures accepted_before { IfErr result (λ stop. (config : Configuration) → StandsAfter config [] self.old → AreAccepted config (take stop.position calls.now)) }
         // The calls before were made, and then that at the position, or past the last of them the end, was not.
         ensures err { IfErr result (λ stop. (mid : DisplayReporter W S) × TellsRun W.meaning S.meaning self.old (past_at calls.now stop.position) mid
-            × Promises W.meaning S.meaning mid (slice_get calls.now stop.position) (Err stop.fault) self.new) }
+            × Promises W.meaning S.meaning mid (slice_get calls.now stop.position) (Err stop.fault) self.new
+            × (AreDelivered W.meaning S.meaning self.old → AreDelivered W.meaning S.meaning mid)) }
     {
         for position in 0..calls.len() {
             match self.make_call(alloc, &calls[position]) {
@@ -440,15 +441,14 @@ fn deliver_header<W: WriteStr>(
 // Writes the text of an event, and delivers it.
 fn write_delivered<W: WriteStr>(
     w: &mut W,
-    state: &mut ReporterState,
+    state: &ReporterState,
     event: &TestEvent<'_>,
     effect: &EventEffect<'_, '_>,
 ) -> Result<(), WriteFault>
-    requires ended { option_map end_of effect.now.ended ≡ (effect_of event.now.kind).ended state.old.settings (reason_rank state.old.cancel_status) }
+    requires ended { option_map end_of effect.now.ended ≡ (effect_of event.now.kind).ended state.now.settings (reason_rank state.now.cancel_status) }
     requires loaded { HasEndOutputIn (option_map end_of effect.now.ended) }
-    requires accepted { lacks_output (decider_by state.old.settings None) event.now.kind ≡ false }
-    ensures text { Puts W.meaning w.old (event_text state.old.settings (known_by state.old) event.now.elapsed.0 event.now.kind) result w.new }
-    ensures state { state.new ≡ state.old }
+    requires accepted { lacks_output (decider_by state.now.settings None) event.now.kind ≡ false }
+    ensures text { Puts W.meaning w.old (event_text state.now.settings (known_by state.now) event.now.elapsed.0 event.now.kind) result w.new }
     ensures delivered { OnOk result (W.meaning.is_delivered w.new) }
 {
     write_event_text(w, state, event, effect)?;
@@ -459,15 +459,14 @@ fn write_delivered<W: WriteStr>(
 #[tactic(auto, unfolding(crate::specs::Report::event_text))]
 fn write_event_text<W: WriteStr>(
     w: &mut W,
-    state: &mut ReporterState,
+    state: &ReporterState,
     event: &TestEvent<'_>,
     effect: &EventEffect<'_, '_>,
 ) -> Result<(), WriteFault>
-    requires ended { option_map end_of effect.now.ended ≡ (effect_of event.now.kind).ended state.old.settings (reason_rank state.old.cancel_status) }
+    requires ended { option_map end_of effect.now.ended ≡ (effect_of event.now.kind).ended state.now.settings (reason_rank state.now.cancel_status) }
     requires loaded { HasEndOutputIn (option_map end_of effect.now.ended) }
-    requires accepted { lacks_output (decider_by state.old.settings None) event.now.kind ≡ false }
-    ensures text { Puts W.meaning w.old (event_text state.old.settings (known_by state.old) event.now.elapsed.0 event.now.kind) result w.new }
-    ensures state { state.new ≡ state.old }
+    requires accepted { lacks_output (decider_by state.now.settings None) event.now.kind ≡ false }
+    ensures { Puts W.meaning w.old (event_text state.now.settings (known_by state.now) event.now.elapsed.0 event.now.kind) result w.new }
 {
     let (settings, kind) = (&state.settings, &event.kind);
     match kind {
@@ -504,12 +503,11 @@ fn write_event_text<W: WriteStr>(
 #[tactic(auto, unfolding(crate::specs::Report::event_text))]
 fn write_run<W: WriteStr>(
     w: &mut W,
-    state: &mut ReporterState,
+    state: &ReporterState,
     event: &TestEvent<'_>,
 ) -> Result<(), WriteFault>
     requires { is_of_run event.now.kind ≡ true }
-    ensures text { Puts W.meaning w.old (event_text state.old.settings (known_by state.old) event.now.elapsed.0 event.now.kind) result w.new }
-    ensures state { state.new ≡ state.old }
+    ensures { Puts W.meaning w.old (event_text state.now.settings (known_by state.now) event.now.elapsed.0 event.now.kind) result w.new }
 {
     let settings = &state.settings;
     match &event.kind {
@@ -545,17 +543,16 @@ fn write_run<W: WriteStr>(
 // Writes the end of a run: its summary, the entries, the tests that were not seen, and the warnings.
 fn write_end_of_run<W: WriteStr>(
     w: &mut W,
-    state: &mut ReporterState,
+    state: &ReporterState,
     elapsed: Nanos,
     run_stats: &RunFinishedStats,
     outstanding_not_seen: &Option<NotSeen>,
 ) -> Result<(), WriteFault>
-    ensures text { Puts W.meaning w.old (end_of_run_text state.old.settings (known_by state.old) elapsed.0 run_stats.now outstanding_not_seen.now) result w.new }
-    ensures state { state.new ≡ state.old }
+    ensures { Puts W.meaning w.old (end_of_run_text state.now.settings (known_by state.now) elapsed.0 run_stats.now outstanding_not_seen.now) result w.new }
 {
-    write_run_finished(w, &state.settings, elapsed, run_stats)?;
-    write_listed(w, state)?;
     let settings = &state.settings;
+    write_run_finished(w, settings, elapsed, run_stats)?;
+    write_listed(w, state)?;
     write_not_seen(w, settings, outstanding_not_seen)?;
     write_final_warnings(settings.mode, run_stats.final_stats(), &settings.styles, w)
 }
@@ -570,16 +567,15 @@ fn write_finished<W: WriteStr>(
     ensures { Puts W.meaning w.old (finished_text settings.now (option_map end_of ended.now)) result w.new }
 {
     match ended {
-        Some(EndedTest::Finished(finished)) => write_test_finished(w, settings, finished),
+        Some(EndedTest::Finished(attempts)) => write_test_finished(w, settings, &attempts.finished),
         Some(EndedTest::Skipped(_)) | None => Ok(()),
     }
 }
 
 // Writes the entries, unless the run was interrupted.
 #[tactic(auto, unfolding(crate::specs::Report::listed_text))]
-fn write_listed<W: WriteStr>(w: &mut W, state: &mut ReporterState) -> Result<(), WriteFault>
-    ensures text { Puts W.meaning w.old (listed_text state.old.settings (known_by state.old)) result w.new }
-    ensures state { state.new ≡ state.old }
+fn write_listed<W: WriteStr>(w: &mut W, state: &ReporterState) -> Result<(), WriteFault>
+    ensures { Puts W.meaning w.old (listed_text state.now.settings (known_by state.now)) result w.new }
 {
     if shows_entries(state.cancel_status) {
         state.kept.write(w, &state.settings)

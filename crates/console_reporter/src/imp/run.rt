@@ -153,6 +153,10 @@ pub fn run_report_with_store<W: WriteStr, S: WriteStr>(
     ensures memory { let config = configured_with_store store builder use_unicode is_terminal is_ci display_empty_outputs in
         IfErr result (λ stop. stop.fault ≡ WriteEventError.Memory → W.meaning.may_refuse writer.old ⊎ MayGrowAt config calls.now stop.position ⊎ S.meaning.may_refuse store_writer.old) }
     ensures known { IfErr result (λ stop. stop.fault ≡ WriteEventError.Failed → ⊥) }
+    // What a fault of one device leaves of the other is delivered, as far as it was accepted.
+    ensures text_delivered { IfErr result (λ stop. stop.fault ≡ WriteEventError.StoreIo → W.meaning.is_delivered writer.new) }
+    ensures records_delivered { W.meaning.is_delivered writer.old → S.meaning.is_delivered store_writer.old
+        → IfErr result (λ stop. stop.fault ≡ WriteEventError.Io → S.meaning.is_delivered store_writer.new) }
     ensures colour { ColourLaw (configured_with_store store builder use_unicode is_terminal is_ci display_empty_outputs) calls.now }
     ensures stored_colour { IsSameStoredInColour (configured_with_store store builder use_unicode is_terminal is_ci display_empty_outputs) calls.now }
     ensures plain { PlainLaw (configured_with_store store builder use_unicode is_terminal is_ci display_empty_outputs) calls.now }

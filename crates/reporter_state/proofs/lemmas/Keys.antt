@@ -1,4 +1,4 @@
--- The order of entries by their keys (for the lemmas of PlacedEntries, Pasts).
+-- The order of entries by their keys (for the lemmas of Inserts, Pasts).
 use Rattle.std.specs.Cmp.{IsStrictWeakOrder}
 use Rattle.std.specs.Cmp.Lexicographic.{nat_list_cmp_total, lists_total}
 use Rattle.std.proofs.lemmas.List.Sorted.{ranks_by}

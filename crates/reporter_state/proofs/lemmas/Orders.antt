@@ -1,12 +1,13 @@
--- Lists in order, with ties as they came: there is exactly one (for the lemmas of PlacedEntries, Pasts).
-use Rattle.std.proofs.Common.{suc-add, ap₂, ◌≡◌, ◌≤◌, zero, suc, length, if◌then◌else◌, count_by, subst, IsPermutation, Bool, true, false, not, cond, List, [], ◌∷◌, ◌++◌, filter, refl, sym, ◌∙◌, ap, arith, inl, inr, IsSortedBy}
+-- Lists in order, with ties as they came: there is exactly one (for the lemmas of Inserts, Pasts).
+use Rattle.std.proofs.Common.{suc-add, ap₂, ◌≡◌, zero, suc, Bool, true, false, not, cond, List, [], ◌∷◌, ◌++◌, filter, reverse, refl, sym, ◌∙◌, ap, arith, inl, inr, IsSortedBy}
 use Rattle.std.specs.Cmp.{IsStrictWeakOrder}
 use Rattle.std.specs.List.{AllByRecursion}
 use Rattle.std.specs.List.Sorted.{ties, IsStableBy}
 use Rattle.std.proofs.lemmas.Bool.{false≢true, cases_Bool, and_parts, not-true}
 use Rattle.std.proofs.lemmas.List.Elements.{recursion_from_All, All-from_recursion}
-use Rattle.std.proofs.lemmas.List.Sorted.{sorted_far, All-permutation, sum_by-IsPermutation}
-use Rattle.std.proofs.lemmas.List.Sums.{length-filter}
+use Rattle.std.proofs.lemmas.Grind.{reverse_onto}
+use Rattle.std.proofs.lemmas.List.{reverse-append, reverse-reverse}
+use Rattle.std.proofs.lemmas.List.Sorted.{sorted_far, All-permutation, IsPermutation-reverse}
 use Rattle.reporter_state.specs.Order.{put_in, ordered_by}
 
 -- each element is not above those after it
@@ -22,40 +23,24 @@ pub All-more : {X : Type 0} (P Q : X → Type 0) → ((x : X) → P x → Q x) �
 All-more P Q f [] h = tt
 All-more P Q f (x ∷ xs) h = (f x h.0, All-more P Q f xs h.1)
 
--- the elements that pass are one, if all that pass are that one
-passes-one : {X : Type 0} (p : X → Bool) (x : X) (xs : List X) → AllByRecursion (λ y. p y ≡ true → y ≡ x) xs → AllByRecursion (λ y. y ≡ x) (filter p xs)
-passes-one p x [] all = tt
-passes-one p x (y ∷ ys) all = let more = passes-one p x ys all.1 in elim (cases_Bool (p y)) [ inl t ↦ rw t (all.0 t, more) | inr n ↦ rw n more ]
-
-one-passes : {X : Type 0} (p : X → Bool) (x : X) (xs : List X) → AllByRecursion (λ y. y ≡ x) (filter p xs) → AllByRecursion (λ y. p y ≡ true → y ≡ x) xs
-one-passes p x [] all = tt
-one-passes p x (y ∷ ys) all = elim (cases_Bool (p y)) [
-  | inl t ↦ (let found = rw t at all in (λ h. found.0, one-passes p x ys found.1))
-  | inr n ↦ (λ h. absurd (false≢true (sym n ∙ h)), one-passes p x ys (rw n at all))
-]
-
-moved-alone : {X : Type 0} (p : X → Bool) (xs ys zs ws : List X) → IsPermutation xs ys → filter p xs ≡ zs → filter p ys ≡ ws → length ws ≡ length zs → length zs ≤ 1 → ws ≡ zs
-moved-alone p xs ys [] [] moved a b same few = refl
-moved-alone p xs ys [] (w ∷ ws) moved a b same few = absurd (omega arith)
-moved-alone p xs ys (z ∷ []) [] moved a b same few = absurd (omega arith)
-moved-alone {X} p xs ys (z ∷ []) (w ∷ []) moved a b same few =
-    let P : X → Type 0 = λ y. p y ≡ true → y ≡ z in
-    let all = one-passes p z xs (subst (AllByRecursion (λ y. y ≡ z)) (sym a) (refl, tt)) in
-    let found = passes-one p z ys (recursion_from_All P ys (All-permutation P xs ys moved (All-from_recursion P xs all))) in
-    ap (λ y. y ∷ []) (subst (AllByRecursion (λ y. y ≡ z)) b found).0
-moved-alone p xs ys (z ∷ []) (w ∷ v ∷ ws) moved a b same few = absurd (omega arith)
-moved-alone p xs ys (z ∷ y ∷ zs) ws moved a b same few = absurd (omega arith)
-
--- where at most one element passes, the one that does is the same in another order
-pub same_alone : {X : Type 0} (p : X → Bool) (xs ys : List X) → IsPermutation xs ys → count_by p xs ≤ 1 → filter p ys ≡ filter p xs
-same_alone p xs ys moved few =
-    let same = length-filter p ys ∙ sum_by-IsPermutation (λ x. if p x then 1 else 0) xs ys moved ∙ sym (length-filter p xs) in
-    moved-alone p xs ys (filter p xs) (filter p ys) moved refl refl same (omega (arith, length-filter p xs))
-
 -- an element before the first one that is greater
 abbrev pub put_last : {X : Type 0} → (X → X → Bool) → X → List X → List X
 put_last lt e [] = e ∷ []
 put_last lt e (f ∷ fs) = cond (lt e f) (e ∷ f ∷ fs) (f ∷ put_last lt e fs)
+
+module _ {X : Type 0} (lt : X → X → Bool) where
+  after_all : (e : X) (gs : List X) → AllByRecursion (λ g. lt g e ≡ true) gs → put_in lt e gs ≡ gs ++ e ∷ []
+  unfolding put_in
+  after_all e [] h = refl
+  after_all e (g ∷ gs) h = rw h.0 (ap (λ l. g ∷ l) (after_all e gs h.1))
+
+  before_last : (e f : X) (gs : List X) → lt f e ≡ false → put_in lt e (gs ++ f ∷ []) ≡ put_in lt e gs ++ f ∷ []
+  unfolding put_in
+  before_last e f [] h = rw h refl
+  before_last e f (g ∷ gs) h = let more = before_last e f gs h in elim (cases_Bool (lt g e)) [
+    | inl t ↦ rw t (ap (λ l. g ∷ l) more)
+    | inr n ↦ rw n refl
+  ]
 
 module _ {X : Type 0} (lt : X → X → Bool) (o : IsStrictWeakOrder lt) where
   not_below_itself : (x : X) → lt x x ≡ false
@@ -192,6 +177,25 @@ module _ {X : Type 0} (lt : X → X → Bool) (o : IsStrictWeakOrder lt) where
   unfolding ordered_by put_in
   order_more [] e = refl
   order_more (x ∷ es) e = ap (put_in lt x) (order_more es e) ∙ exchange x e (ordered_by lt es)
+
+  -- the order with an element more at the end, held the other way round
+  pub put_back : (e : X) (fs : List X) → IsRising lt fs → reverse (put_in (λ a b. lt b a) e (reverse fs)) ≡ put_last lt e fs
+  unfolding put_in
+  put_back e [] h = refl
+  put_back e (f ∷ fs) h = elim (cases_Bool (lt e f)) [
+    | inl t ↦ (
+        let above = All-more (λ g. lt g f ≡ false) (λ g. lt e g ≡ true) (λ g a. elim (cases_Bool (lt e g)) [ inl y ↦ y | inr n ↦ absurd (false≢true (sym (o.chain e g f n a) ∙ t)) ]) fs h.0 in
+        let all = recursion_from_All (λ g. lt e g ≡ true) (reverse (f ∷ fs)) (All-permutation (λ g. lt e g ≡ true) (f ∷ fs) (reverse (f ∷ fs)) (IsPermutation-reverse (f ∷ fs)) (All-from_recursion (λ g. lt e g ≡ true) (f ∷ fs) (t, above))) in
+        ap reverse (after_all (λ a b. lt b a) e (reverse (f ∷ fs)) all) ∙ reverse-append (reverse (f ∷ fs)) (e ∷ []) ∙ ap (λ l. e ∷ l) (reverse-reverse (f ∷ fs)) ∙ rw t refl
+        )
+    | inr n ↦ (
+        let more = put_back e fs h.1 in
+        ap (λ l. reverse (put_in (λ a b. lt b a) e l)) (reverse_onto fs f [])
+        ∙ ap reverse (before_last (λ a b. lt b a) e f (reverse fs) n)
+        ∙ reverse-append (put_in (λ a b. lt b a) e (reverse fs)) (f ∷ [])
+        ∙ ap (λ l. f ∷ l) more ∙ rw n refl
+        )
+  ]
 
   -- two elements one of which is less may be put in in either order
   put_both : (x y : X) (fs : List X) → lt x y ≡ true → put_in lt x (put_in lt y fs) ≡ put_in lt y (put_in lt x fs)

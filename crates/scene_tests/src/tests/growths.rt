@@ -4,7 +4,7 @@
 use super::pieces::large_line;
 use super::{
     ASKED, CANCELLED, OF_ASKED, OF_CANCELLED, OF_TWO_TESTS, OPTIONS, STORING, TWO_TESTS,
-    report_and_store,
+    judge_and_write, report_and_store,
 };
 use scene_text::reader::LARGE;
 use scenes::fault::Fault;
@@ -53,6 +53,24 @@ fn a_scene_from_its_text_to_its_records(rt: HostRuntime) -> Result<(), Fail> {
                 Device::with_room(alloc, ROOM)?,
                 Device::with_room(alloc, ROOM)?,
             );
+            assert!(rt; leaves(&outcome, device.taken(), whole));
+            assert!(rt; leaves(&outcome, store.taken(), records));
+            outcome?;
+        }
+    }
+    Ok(())
+}
+
+#[test]
+fn a_scene_that_is_judged_and_then_written(rt: HostRuntime) -> Result<(), Fail> {
+    let alloc = rt.alloc();
+    for (text, whole, records) in REPORTS {
+        for (options, records) in [(OPTIONS, ""), (STORING, records)] {
+            let (mut device, mut store) = (
+                Device::with_room(alloc, ROOM)?,
+                Device::with_room(alloc, ROOM)?,
+            );
+            let outcome = judge_and_write(alloc, &options, text, &mut device, &mut store);
             assert!(rt; leaves(&outcome, device.taken(), whole));
             assert!(rt; leaves(&outcome, store.taken(), records));
             outcome?;

@@ -32,7 +32,7 @@ module _ {W : Type 0} (contents : W → Option (List ℕ)) (a b : TextBuffer W) 
   begun_here F t (inr (inr h)) = known_front (contents a.writer) (contents b.writer) t h.accepted.holds (λ xs ys before after.
       begins_of xs a.pending ys b.pending t none (record { front = h.front; rest = h.rest; whole = h.whole; delivers = accepted_delivers contents a b xs ys h.front before after h.accepted }))
 
-  beginning_here : (texts : List ReportCall → Text) (F G : Type 0) (calls : List ReportCall) → HasBeginning (buffer_meaning contents) texts F G calls a b → HasBeginning device texts F G calls (contents a.writer) (contents b.writer)
+  pub beginning_here : (texts : List ReportCall → Text) (F G : Type 0) (calls : List ReportCall) → HasBeginning (buffer_meaning contents) texts F G calls a b → HasBeginning device texts F G calls (contents a.writer) (contents b.writer)
   beginning_here texts F G calls h = record {
     begun = inr (inl (begun_here F (texts calls) h.begun));
     whole = λ other. let w = h.whole other in record { first = w.first; rest = w.rest; is = w.is; accepted = whole_here (texts w.first) w.accepted w.delivered; delivered = tt };

@@ -43,7 +43,7 @@ module _ {S : Type 0} {m : Meaning S} (laws : WriterLaws m) (texts : List Report
   }
 
   -- a beginning of the texts of some calls is one of those of more
-  begun_longer : (a b : S) (t u : Text) → Begun m OfOwn a t b → Begun m OfOwn a (t ++ u) b
+  pub begun_longer : (a b : S) (t u : Text) → Begun m OfOwn a t b → Begun m OfOwn a (t ++ u) b
   begun_longer a b t u (inl h) = inl (h.0, laws.stops_within a b t u _ h.1)
   begun_longer a b t u (inr (inl h)) = inr (inl (laws.stops_within a b t u _ h))
   begun_longer a b t u (inr (inr f)) = inr (inr (record { front = f.front; rest = f.rest ++ u; whole = ap (λ x. x ++ u) f.whole ∙ append_assoc f.front f.rest u; accepted = f.accepted }))
@@ -81,7 +81,7 @@ module _ {S : Type 0} {m : Meaning S} (laws : WriterLaws m) (texts : List Report
         (λ is. absurd (other is))
 
 -- a text begins so
-record IsFront (front whole : Text) : Type 0 where
+pub record IsFront (front whole : Text) : Type 0 where
   pub rest : Text
   pub is : whole ≡ front ++ rest
 
@@ -94,7 +94,7 @@ module _ (whole : List ReportCall → Text) (part : List ReportCall → ReportCa
       let next : Text = part (later ++ past) call in
       record { rest = b.rest ++ next; is = one_more call (later ++ past) ∙ ap (λ t. t ++ next) b.is ∙ append_assoc (whole past) b.rest next }
 
-  front_of_more : (calls more : List ReportCall) → IsFront (whole (reverse calls)) (whole (reverse (calls ++ more)))
+  pub front_of_more : (calls more : List ReportCall) → IsFront (whole (reverse calls)) (whole (reverse (calls ++ more)))
   front_of_more calls more = subst (λ past. IsFront (whole (reverse calls)) (whole past)) (sym (reverse-append calls more)) (front_of_later (reverse more) (reverse calls))
 
 module _ {W T : Type 0} {m : Meaning W} {k : Meaning T} (laws : WriterLaws m) (others : WriterLaws k) (options : Options) (old new : W × T) where

@@ -1,11 +1,11 @@
-use Rattle.std.proofs.Common.{take, rules}
+use Rattle.std.proofs.Common.{take, rules, subst, sym}
 use Rattle.console_reporter.specs.Accepted.{AreAccepted}
 use Rattle.console_reporter.specs.Configuration.{configured_with_store}
 use Rattle.std.proofs.lemmas.Result.{on_ok_weaker, IfErr-weaker}
 use Rattle.console_reporter.proofs.lemmas.Calls.{err_here, ok_here}
 use Rattle.console_reporter.proofs.lemmas.Independence.{order_independent, stats_independent}
 use Rattle.console_reporter.proofs.lemmas.ReportColourPairs.{colour_holds, plain_holds}
-use Rattle.console_reporter.proofs.lemmas.Runs.{memory_there, records_failed, records_there, run_failed, run_known, run_refusal, run_stopped, stored_there, text_first_there}
+use Rattle.console_reporter.proofs.lemmas.Runs.{memory_there, records_delivered_there, records_failed, records_there, run_failed, run_known, run_refusal, run_stopped, stored_there, text_delivered, text_first_there}
 use Rattle.console_reporter.proofs.imp.run.run_report_with_store.Goals as goal
 
 pub returns-in-Some-clause-accepted : goal.returns-in-Some-clause-accepted
@@ -47,6 +47,17 @@ pub returns-in-Some-clause-memory : goal.returns-in-Some-clause-memory
 returns-in-Some-clause-memory g c =
     let built = c.build_with_store-reporter.ensures in
     let h = IfErr-weaker _ _ _ (λ stop h. memory_there g.met.W.WriteStr.laws g.met.S.WriteStr.laws _ c.args.calls.now built.stands stop h built.store) c.make_calls-outcome.ensures.err in
+    search rules
+
+pub returns-in-Some-clause-text_delivered : goal.returns-in-Some-clause-text_delivered
+returns-in-Some-clause-text_delivered g c =
+    let h = IfErr-weaker _ _ _ (text_delivered g.met.W.WriteStr.laws g.met.S.WriteStr.laws _ c.args.calls.now c.build_with_store-reporter.ensures.stands) c.make_calls-outcome.ensures.err in
+    search rules
+
+pub returns-in-Some-clause-records_delivered : goal.returns-in-Some-clause-records_delivered
+returns-in-Some-clause-records_delivered g c = λ w r.
+    let built = c.build_with_store-reporter.ensures in
+    let h = IfErr-weaker _ _ _ (λ stop h. records_delivered_there g.met.W.WriteStr.laws g.met.S.WriteStr.laws _ c.args.calls.now built.stands stop h built.store c.in-Some.is (subst g.W.WriteStr.meaning.is_delivered (sym built.untouched) w) r) c.make_calls-outcome.ensures.err in
     search rules
 
 pub returns-in-Some-clause-ok : goal.returns-in-Some-clause-ok

@@ -1,4 +1,4 @@
-use Rattle.std.proofs.Common.{rules, arith, length, refl, sym, subst, ap, ◌∙◌, Err, Some}
+use Rattle.std.proofs.Common.{rules, arith, length, refl, sym, subst, ap, ◌∙◌, Err, Some, inr}
 use Rattle.std.proofs.lemmas.Option.{slice_get-get_or, slice_get_past}
 use Rattle.console_reporter.specs.Telling.{Promises, TellsRun}
 use Rattle.console_reporter.specs.Report.{past_at}
@@ -11,6 +11,7 @@ pub loop-position-init : goal.loop-position-init
 loop-position-init g c = record {
   same = record { writer = search rules; store = same-store _; settings = refl };
   tells = run_begun g.met.W.WriteStr.laws g.met.S.WriteStr.laws _;
+  delivered = λ held. held;
   unrefused = λ config stands. tt;
 }
 
@@ -22,6 +23,7 @@ loop-position-preserved g c =
       tells =
           subst (λ past. TellsRun g.W.WriteStr.meaning g.S.WriteStr.meaning c.args.self.now past c.make_call.new.self) (sym (past_read _ _ _ c.index-calls-position.is c.loop-position-test.true))
           (run_more g.met.W.WriteStr.laws g.met.S.WriteStr.laws _ (Some c.index-calls-position.result) i.tells c.in-Ok.ensures.ok);
+      delivered = λ held. c.in-Ok.ensures.delivered (inr (i.delivered held));
       unrefused = λ config stands.
           accepted_read config _ _ _ c.index-calls-position.is c.loop-position-test.true (i.unrefused config stands) (sym (c.in-Ok.ensures.refused config _ (i.tells.stands config stands)));
     }
@@ -35,6 +37,7 @@ returns-in-Err-clause-err g c =
       c.loop-position.self,
       c.loop-position.invariant.tells,
       subst (λ call. Promises g.W.WriteStr.meaning g.S.WriteStr.meaning c.loop-position.self call (Err c.in-Err.fault) c.make_call.new.self) (sym read) c.in-Err.ensures,
+      c.loop-position.invariant.delivered,
     )
 
 pub returns-in-Ok-finish-clause-same : goal.returns-in-Ok-finish-clause-same
@@ -58,4 +61,5 @@ returns-in-Err-finish-clause-err g c =
       c.loop-position.self,
       subst (λ i. TellsRun g.W.WriteStr.meaning g.S.WriteStr.meaning c.args.self.now (past_at c.args.calls.now i) c.loop-position.self) (omega arith) c.loop-position.invariant.tells,
       subst (λ call. Promises g.W.WriteStr.meaning g.S.WriteStr.meaning c.loop-position.self call (Err c.in-Err-finish.fault) c.finish.new.self) (sym past) c.in-Err-finish.ensures.call,
+      c.loop-position.invariant.delivered,
     )

@@ -3,12 +3,13 @@ use Rattle.console_reporter.specs.Accepted.{AreAccepted}
 use Rattle.console_reporter.specs.Configuration.{Configuration}
 use Rattle.console_reporter.specs.Report.{past_at}
 use Rattle.console_reporter.specs.HeldState.{StandsAfter}
-use Rattle.console_reporter.specs.Telling.{IsSameReporter, TellsRun}
+use Rattle.console_reporter.specs.Telling.{AreDelivered, IsSameReporter, TellsRun}
 use Rattle.console_reporter.proofs.imp.reporter.DisplayReporter.make_calls.Given as goal
 
 abbrev pub invariant-loop-position : goal.invariant-loop-position
 invariant-loop-position g l = record {
   same : IsSameReporter l.initial.self l.self;
   tells : TellsRun g.W.WriteStr.meaning g.S.WriteStr.meaning l.initial.self (past_at l.calls l.position) l.self;
+  delivered : AreDelivered g.W.WriteStr.meaning g.S.WriteStr.meaning l.initial.self → AreDelivered g.W.WriteStr.meaning g.S.WriteStr.meaning l.self;
   unrefused : (config : Configuration) → StandsAfter config [] l.initial.self → AreAccepted config (take l.position l.calls);
 }

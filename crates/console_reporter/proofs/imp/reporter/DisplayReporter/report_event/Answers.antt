@@ -1,11 +1,8 @@
-use Rattle.std.proofs.Common.{◌≡◌, [], ap₂, subst, sym, append-nil, inr, max, ◌∙◌}
+use Rattle.std.proofs.Common.{rules, [], ap₂, sym, append-nil, inr, max, ◌∙◌}
 use Rattle.std.specs.Option.{option_map}
-use Rattle.run_names.specs.Levels.{reason_rank}
-use Rattle.reporter_state.specs.Effects.{effect_of, end_of}
+use Rattle.reporter_state.specs.Effects.{end_of}
 use Rattle.console_reporter.proofs.lemmas.Calls.{stops_error}
 use Rattle.console_reporter.proofs.lemmas.Pasts.{kept-more, text-held}
-use Rattle.console_reporter.proofs.lemmas.Stores.{same-store, stands-still}
-use Rattle.reporter_state.specs.declared.state.ReporterState.{ReporterState}
 use Rattle.reporter_state.specs.Entries.{cancel, prefix}
 use Rattle.console_reporter.specs.Report.{text}
 use Rattle.run_model.specs.declared.call.ReportCall.TheVariants.{Event}
@@ -23,19 +20,14 @@ returns-in-Ok-clause-accepted g c = λ config past stands.
 
 pub returns-in-Ok-clause-stands : goal.returns-in-Ok-clause-stands
 unfolding cancel prefix
-returns-in-Ok-clause-stands g c = λ config past stands.
-    let same = c.in_default.ensures.state in
-    let written = record c.args.self.now { state = c.write_delivered.new.state } in
-    let held = stands-still config past c.args.self.now written same (same-store c.args.self.now.store) stands in
-    let ended = subst (λ (s : ReporterState). option_map end_of c.of_event-effect.result.ended ≡ (effect_of c.args.event.now.kind).ended s.settings (reason_rank s.cancel_status)) (sym same) c.of_event-effect.ensures.ended in
-    record {
-      settings = c.apply.ensures.settings ∙ held.settings;
-      prefix = c.apply.ensures.prefix ∙ held.prefix;
-      reason = c.in-Ok.ensures.reason ∙ ap₂ max c.of_event-effect.ensures.reason held.reason;
-      kept = kept-more config past written c.args.event.now (option_map end_of c.of_event-effect.result.ended) _ held ended c.in-Ok.ensures.kept;
-      store = stands.store;
-      works = c.apply.ensures.works ∙ held.works;
-    }
+returns-in-Ok-clause-stands g c = λ config past stands. record {
+  settings = c.apply.ensures.settings ∙ stands.settings;
+  prefix = c.apply.ensures.prefix ∙ stands.prefix;
+  reason = c.in-Ok.ensures.reason ∙ ap₂ max c.of_event-effect.ensures.reason stands.reason;
+  kept = kept-more config past c.args.self.now c.args.event.now (option_map end_of c.of_event-effect.result.ended) _ stands c.of_event-effect.ensures.ended c.in-Ok.ensures.kept;
+  store = stands.store;
+  works = search rules;
+}
 
 pub returns-in-Err-apply-clause-err : goal.returns-in-Err-apply-clause-err
 returns-in-Err-apply-clause-err g c = λ config past stands.

@@ -1,0 +1,18 @@
+//! A finished test with the attempts that it is made of.
+
+ghost use Rattle.std.specs.Prelude.{◌≡◌};
+ghost use Rattle.run_model.specs.Statuses.{described_summary, summary_of};
+
+use run_model::output::LiveSpec;
+use run_model::status::ExecutionStatuses;
+use test_text::test_finished::FinishedTest;
+
+/// A finished test, with its attempts: an entry's summary is that of the attempts.
+#[derive(Clone, Copy)]
+pub struct FinishedAttempts<'e, 'a> {
+    /// The test.
+    pub finished: FinishedTest<'e, 'a>,
+    /// Its attempts.
+    pub statuses: &'e ExecutionStatuses<LiveSpec>,
+    ghost described: { summary_of statuses.now ≡ described_summary finished.describe },
+}

@@ -1,0 +1,116 @@
+//! The plain way to report a scene: all its calls are made, the first that is refused is asked for, and `run_report` writes their report.
+//!
+//! `report_accepted`, which the programs call, promises the same and holds one call at a time.
+
+ghost use Rattle.std.specs.Prelude.{◌≡◌, ℕ, List, Option, None, Some, IfErr, OnOk, get_or};
+ghost use Rattle.reporter_state.specs.Refusals.{first_refused};
+ghost use Rattle.scenes.specs.Judged.{fault_of_first};
+ghost use Rattle.scenes.specs.Prints.{AreBegun, AreWhole, device};
+ghost use Rattle.scenes.specs.Reports.{decider_for, fault_at_call, store_for};
+
+use crate::reporter::{builder_of, fault_at_call};
+use crate::scene::Scene;
+use command_line::args::Options;
+use command_line::fault::Fault;
+use console_reporter::imp::{
+    OutputLoadDecider, ReportCall, RunFault, StoreConfig, first_refused, run_report,
+    run_report_with_store,
+};
+use console_reporter::write_str::TextBuffer;
+use std::alloc::Global;
+use std::io::Write;
+
+/// The fault of the line of the first call of a scene that its reporter refuses.
+pub(crate) fn refused_call(
+    decider: &OutputLoadDecider,
+    scene: &Scene,
+    calls: &[ReportCall<'_>],
+) -> Option<Fault<'static>>
+    ensures { result ≡ fault_of_first decider.now scene.now calls.now }
+{
+    let place = first_refused(decider, calls)?;
+    let error = decider.refusal(calls.get(place)?)?;
+    Some(fault_at_call(scene.line_of(place), error))
+}
+
+/// Writes the report of calls of a scene to a device, without records. None of them may be refused.
+pub(crate) fn write_calls<W: Write + Drop>(
+    alloc: Global,
+    options: &Options<'_>,
+    scene: &Scene,
+    calls: &[ReportCall<'_>],
+    writer: W,
+) -> Result<(), Fault<'static>>
+    requires no_store { store_for options.now ≡ None }
+    requires accepted { first_refused (decider_for options.now scene.now.config) calls.now ≡ None }
+    ensures ok { OnOk result ((last : W) × ((held : Option (List ℕ)) → AreWhole device device options.now (W.contents writer, held) (W.contents last, held) scene.now.config calls.now)) }
+    ensures err { IfErr result (λ fault. (last : W) × ((held : Option (List ℕ)) → AreBegun device device options.now (W.contents writer, held) (W.contents last, held) scene.now.config fault calls.now)) }
+{
+    let Ok(builder) = builder_of(alloc, options, &scene.config) else {
+        return Err(Fault::OutOfMemory);
+    };
+    let mut out = match TextBuffer::new(alloc, writer) {
+        Ok(out) => out,
+        Err(_refused) => return Err(Fault::OutOfMemory),
+    };
+    let unicode = scene.config.use_unicode;
+    let empty = scene.config.display_empty_outputs;
+    match run_report(
+        alloc, builder, &mut out, unicode, false, false, empty, calls,
+    ) {
+        Ok(()) => Ok(()),
+        Err(stop) => Err(fault_of_stop(scene, stop)),
+    }
+}
+
+/// Writes the report of calls of a scene to a device, and their records to a second one. None of them may be refused.
+pub(crate) fn write_calls_and_records<W: Write + Drop, S: Write + Drop>(
+    alloc: Global,
+    options: &Options<'_>,
+    scene: &Scene,
+    calls: &[ReportCall<'_>],
+    writer: W,
+    store_writer: S,
+    store: StoreConfig,
+) -> Result<(), Fault<'static>>
+    requires store { store_for options.now ≡ Some store }
+    requires accepted { first_refused (decider_for options.now scene.now.config) calls.now ≡ None }
+    ensures ok { OnOk result ((last : W) × (store_last : S) × AreWhole device device options.now (W.contents writer, S.contents store_writer) (W.contents last, S.contents store_last) scene.now.config calls.now) }
+    ensures err { IfErr result (λ fault. (last : W) × (store_last : S) × AreBegun device device options.now (W.contents writer, S.contents store_writer) (W.contents last, S.contents store_last) scene.now.config fault calls.now) }
+{
+    let Ok(builder) = builder_of(alloc, options, &scene.config) else {
+        return Err(Fault::OutOfMemory);
+    };
+    let mut out = match TextBuffer::new(alloc, writer) {
+        Ok(out) => out,
+        Err(_refused) => return Err(Fault::OutOfMemory),
+    };
+    let mut records = match TextBuffer::new(alloc, store_writer) {
+        Ok(records) => records,
+        Err(_refused) => return Err(Fault::OutOfMemory),
+    };
+    let unicode = scene.config.use_unicode;
+    let empty = scene.config.display_empty_outputs;
+    match run_report_with_store(
+        alloc,
+        builder,
+        &mut out,
+        &mut records,
+        store,
+        unicode,
+        false,
+        false,
+        empty,
+        calls,
+    ) {
+        Ok(()) => Ok(()),
+        Err(stop) => Err(fault_of_stop(scene, stop)),
+    }
+}
+
+// What a run of a scene's calls stopped by, as a fault of the program.
+fn fault_of_stop(scene: &Scene, stop: RunFault) -> Fault<'static>
+    ensures { result ≡ fault_at_call (get_or scene.now.lines.items stop.position 0) stop.fault }
+{
+    fault_at_call(scene.line_of(stop.position), stop.fault)
+}
