@@ -14,11 +14,11 @@ use std::io::{ErrorKind, Write};
 /// interrupt, such as standard output. It holds what the device holds, and allocates nothing.
 ///
 /// ```
-/// use std::io;
-/// let device = RetryInterrupted::new(io::writer(&rt));
-/// let mut out = TextBuffer::new(alloc, device)?;
-/// out.write_str("done\n")?;
-/// out.write_str_flush()?;
+/// use std::io::Write;
+/// let mut device = RetryInterrupted::new(Vec::new(alloc));
+/// device.write_all(b"done\n")?;
+/// device.flush()?;
+/// assert_eq!(device.into_inner().as_slice(), b"done\n".as_slice());
 /// ```
 #[derive(Drop)]
 pub struct RetryInterrupted<W> {
