@@ -1,11 +1,21 @@
-//! What each program does with its process: the words that it was called with, and the line and the status of a fault.
+//! What each program does with its process: the words that it was called with, its descriptors and the file of its records, and the line and
+//! the status of a fault.
 
 ghost use Rattle.std.specs.Prelude.{◌≡◌, ◌⊎◌, IfErr};
 ghost use Rattle.command_line.specs.Faults.{status_of};
 ghost use Rattle.command_line.specs.declared.fault.Fault.{Fault};
 
 use command_line::fault::{Fault, FaultLine, Program};
-use std::{env, io};
+use plain_text::write_str::RetryInterrupted;
+use std::fmt::Display;
+use std::fs::{File, Metadata};
+use std::io::Write;
+use std::os::fd::AsRawFd;
+use std::os::unix::fs::MetadataExt;
+use std::{env, fs, io, mem};
+
+// The last of the descriptors that every process is given: input, output and error.
+const STANDARD_ERROR: i32 = 2;
 
 /// The words that follow the program's name. No clause says which they are, since none of the kit does; each stored run shows it. The error is
 /// `Usage` where a word is no text, or that memory is refused.
@@ -22,10 +32,62 @@ pub fn arguments(rt: &HostRuntime) -> Result<Vec<String>, Fault<'static>>
     }
 }
 
+/// Opens the folder `/` in the place of each standard descriptor that is closed, and leaves it open.
+///
+/// What is opened gets the lowest free number. So without this, where standard output is closed, the file of the records would be standard
+/// output, and hold the report. No byte is written to a folder or read from one, and this one is there also without `/dev`.
+pub fn fill_standard_descriptors(rt: &HostRuntime) {
+    for _descriptor in 0..=STANDARD_ERROR {
+        match File::open(rt, "/") {
+            Ok(folder) if is_standard(&folder) => mem::forget(folder),
+            _ => return,
+        }
+    }
+}
+
+// Whether a file has the number of a standard descriptor.
+fn is_standard(file: &File) -> bool {
+    file.as_raw_fd() <= STANDARD_ERROR
+}
+
+/// Makes or empties the file of the records. It is refused where that is one of the files that are read, as far as the system told which they
+/// are, since it would be empty then; and where it would be a standard descriptor, since it would get what is printed.
+pub fn create_store<'a>(
+    rt: &HostRuntime,
+    path: &'a str,
+    inputs: &[io::Result<Metadata>],
+) -> Result<File, Fault<'a>> {
+    let fault = Fault::CannotWrite { file: path };
+    if let Ok(there) = fs::metadata(rt, path) {
+        let is_input = |input: &io::Result<
+            Metadata,
+        >| matches!(input, Ok(input) if is_same_file(&there, input));
+        if inputs.iter().any(is_input) {
+            return Err(fault);
+        }
+    }
+    match File::create(rt, path) {
+        Ok(file) if is_standard(&file) => Err(fault),
+        Ok(file) => Ok(file),
+        Err(error) => Err(fault.by_kind(error.kind())),
+    }
+}
+
+// Whether both are the same file, by whatever path. Of a pipe or a device nothing is emptied.
+fn is_same_file(one: &Metadata, other: &Metadata) -> bool {
+    one.is_file() && one.dev() == other.dev() && one.ino() == other.ino()
+}
+
 /// Prints the line of a fault on standard error, and answers the status to end with.
 pub fn tell(rt: &HostRuntime, program: Program, fault: Fault<'_>) -> u8
     ensures { result ≡ status_of fault.entry }
 {
-    let _ = rt.eprintln(FaultLine { program, fault });
+    print_error(rt, FaultLine { program, fault });
     fault.status()
+}
+
+/// Prints a line on standard error. It takes no memory, since there may be none left, and no interrupt loses it.
+pub fn print_error<D: Display + Drop>(rt: &HostRuntime, line: D) {
+    // Where it cannot be printed, the status still tells.
+    let _ = writeln!(RetryInterrupted::new(rt.stderr()), "{line}");
 }
