@@ -1,7 +1,8 @@
 //! What each program does with its process: the words that it was called with, its descriptors and the file of its records, and the line and
 //! the status of a fault.
 
-ghost use Rattle.std.specs.Prelude.{◌≡◌, ◌⊎◌, IfErr};
+ghost use Rattle.std.specs.Fd.{file_raw_fd};
+ghost use Rattle.std.specs.Prelude.{◌≡◌, ◌⊎◌, ◌↔◌, ◌≤ℤ◌, ◌<ℤ◌, pos, IfErr, IfOk, IsTrue};
 ghost use Rattle.command_line.specs.Faults.{status_of};
 ghost use Rattle.command_line.specs.declared.fault.Fault.{Fault};
 
@@ -46,7 +47,9 @@ pub fn fill_standard_descriptors(rt: &HostRuntime) {
 }
 
 // Whether a file has the number of a standard descriptor.
-fn is_standard(file: &File) -> bool {
+fn is_standard(file: &File) -> bool
+    ensures { IsTrue result ↔ file_raw_fd file.now ≤ℤ pos 2 }
+{
     file.as_raw_fd() <= STANDARD_ERROR
 }
 
@@ -56,13 +59,13 @@ pub fn create_store<'a>(
     rt: &HostRuntime,
     path: &'a str,
     inputs: &[io::Result<Metadata>],
-) -> Result<File, Fault<'a>> {
+) -> Result<File, Fault<'a>>
+    ensures ok { IfOk result (λ file. pos 2 <ℤ file_raw_fd file) }
+    ensures err { IfErr result (λ fault. (fault ≡ Fault.CannotWrite path.entry) ⊎ (fault ≡ Fault.OutOfMemory)) }
+{
     let fault = Fault::CannotWrite { file: path };
     if let Ok(there) = fs::metadata(rt, path) {
-        let is_input = |input: &io::Result<
-            Metadata,
-        >| matches!(input, Ok(input) if is_same_file(&there, input));
-        if inputs.iter().any(is_input) {
+        if inputs.iter().any(|input| is_file_of(&there, input)) {
             return Err(fault);
         }
     }
@@ -73,9 +76,12 @@ pub fn create_store<'a>(
     }
 }
 
-// Whether both are the same file, by whatever path. Of a pipe or a device nothing is emptied.
-fn is_same_file(one: &Metadata, other: &Metadata) -> bool {
-    one.is_file() && one.dev() == other.dev() && one.ino() == other.ino()
+// Whether this is the file of an input, by whatever path. Of a pipe or a device nothing is emptied.
+fn is_file_of(there: &Metadata, input: &io::Result<Metadata>) -> bool {
+    match input {
+        Ok(input) => there.is_file() && there.dev() == input.dev() && there.ino() == input.ino(),
+        Err(_) => false,
+    }
 }
 
 /// Prints the line of a fault on standard error, and answers the status to end with.
