@@ -10,7 +10,7 @@ use command_line::fault::{Fault, FaultLine, Program};
 use plain_text::write_str::RetryInterrupted;
 use std::fmt::Display;
 use std::fs::{File, Metadata};
-use std::io::Write;
+use std::io::{ErrorKind, Write};
 use std::os::fd::AsRawFd;
 use std::os::unix::fs::MetadataExt;
 use std::{env, fs, io, mem};
@@ -28,7 +28,7 @@ pub fn arguments(rt: &HostRuntime) -> Result<Vec<String>, Fault<'static>>
             .skip(1)
             .collect(rt.alloc())
             .map_err(|_| Fault::OutOfMemory),
-        Err(e) if e.kind() == io::ErrorKind::OutOfMemory => Err(Fault::OutOfMemory),
+        Err(e) if e.kind() == ErrorKind::OutOfMemory => Err(Fault::OutOfMemory),
         Err(_) => Err(Fault::Usage),
     }
 }
@@ -64,10 +64,12 @@ pub fn create_store<'a>(
     ensures err { IfErr result (λ fault. (fault ≡ Fault.CannotWrite path.entry) ⊎ (fault ≡ Fault.OutOfMemory)) }
 {
     let fault = Fault::CannotWrite { file: path };
-    if let Ok(there) = fs::metadata(rt, path) {
-        if inputs.iter().any(|input| is_file_of(&there, input)) {
-            return Err(fault);
-        }
+    match fs::metadata(rt, path) {
+        Ok(there) if inputs.iter().any(|input| is_file_of(&there, input)) => return Err(fault),
+        Ok(_) => {}
+        Err(error) if error.kind() == ErrorKind::NotFound => {}
+        // What cannot be looked at is not emptied.
+        Err(error) => return Err(fault.by_kind(error.kind())),
     }
     match File::create(rt, path) {
         Ok(file) if is_standard(&file) => Err(fault),
