@@ -1,8 +1,20 @@
 """What the scripts of this repository share. Each module is one concern; none needs more than Python's own library."""
 
 import pathlib
+import sys
+
+# Each script imports this before its other modules, which an older Python would end in a traceback.
+if sys.version_info < (3, 10):
+    sys.exit("%s: this needs Python 3.10 or later, and this is %d.%d" % (sys.argv[0], *sys.version_info[:2]))
 
 # The version of this project (CHANGELOG.md).
 VERSION = "0.1.0"
 # The top of the repository.
 TOP = pathlib.Path(__file__).resolve().parent.parent.parent
+
+
+def print_help_if_asked(doc):
+    """Prints the docstring of a script and ends it, where that is all that it is asked for."""
+    if sys.argv[1:] in (["--help"], ["-h"]):
+        print(doc, end="" if doc.endswith("\n") else "\n")
+        sys.exit(0)

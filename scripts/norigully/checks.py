@@ -3,6 +3,7 @@
 import os
 import re
 import shutil
+import subprocess
 import sys
 from importlib.machinery import SourceFileLoader
 from importlib.util import module_from_spec, spec_from_loader
@@ -25,6 +26,15 @@ def need_tool(tool):
     """Ends the script where there is no such command."""
     if not shutil.which(tool):
         sys.exit(f"{sys.argv[0]}: there is no {tool} on the PATH")
+
+
+def build_shim(folder):
+    """Builds the library that changes the calls of a program (faults.c), and answers where it stands."""
+    need_tool("cc")
+    made = folder / "faults.so"
+    source = TOP / "scripts/norigully/faults.c"
+    subprocess.run(["cc", "-shared", "-fPIC", "-O1", "-o", made, source, "-ldl"], check=True)
+    return made
 
 
 def case_words(args):

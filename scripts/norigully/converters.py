@@ -2,17 +2,17 @@
 
 import sys
 
+from norigully import print_help_if_asked
+
 
 class Bad(Exception):
     """What is wrong with the input."""
 
 
 def run_script(name, doc, work):
-    """What a script's work answers; what is wrong is told in one line, with status 2. `--help` prints the script's doc,
-    and nothing is answered."""
-    if sys.argv[1:] in (["--help"], ["-h"]):
-        print(doc, end="")
-        return None
+    """What a script's work answers; what is wrong is told in one line, with status 2. `--help` prints the script's
+    doc."""
+    print_help_if_asked(doc)
     try:
         return work()
     except (Bad, OSError, RecursionError) as error:
@@ -24,4 +24,4 @@ def convert(name, doc, lines):
     """Writes the lines of a scene, once all are made."""
     made = run_script(name, doc, lines)
     sys.stdout.reconfigure(encoding="utf-8", newline="\n")
-    sys.stdout.writelines(made or ())
+    sys.stdout.writelines(made)

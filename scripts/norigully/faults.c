@@ -1,11 +1,15 @@
 /* Loaded before the C library, it makes one call of a program fail: the growth of memory, the write to standard output or to a file that
    was opened, the read, the seek, or the look at what a file is (`look`). FAULT_KIND names the kind, and FAULT_AT says which call of it. A
    short write takes one byte; what is interrupted takes or gives none, and may be tried again. It creates the file FAULT_TOLD where the call
-   came. `scripts/check-faults` builds and uses it. */
+   came. Four kinds change many calls. With `one-byte` every read gives a byte. With `random` reads and writes are interrupted or short, as
+   FAULT_AT seeds it. With `interrupted-line` so many writes to standard error are interrupted. With `paced` each read of a file run.scene
+   waits for a byte of the descriptor FAULT_AT, and ends behind a line feed. `scripts/check-faults`, `scripts/check-process` and
+   `scripts/check-replay` use it. */
 #define _GNU_SOURCE
 #include <dlfcn.h>
 #include <errno.h>
 #include <fcntl.h>
+#include <stdio.h>
 #include <stdlib.h>
 #include <string.h>
 #include <sys/stat.h>
@@ -38,6 +42,62 @@ static int fails(const char *plain)
     return 1;
 }
 
+static int is(const char *name)
+{
+    return !strcmp(kind, name);
+}
+
+/* A number below the limit, by a generator with 64 bits of state. */
+static size_t drawn(size_t limit)
+{
+    static unsigned long long state;
+    if (!state)
+        state = 2 * (unsigned long long)calls_before + 1;
+    state = state * 6364136223846793005ULL + 1442695040888963407ULL;
+    return (state >> 33) % limit;
+}
+
+/* How many of these bytes a call is to take or give: none where it is interrupted. */
+static size_t some_of(size_t count)
+{
+    switch (drawn(4)) {
+    case 0:
+        return 0;
+    case 1:
+        return count;
+    default:
+        return count ? 1 + drawn(count) : 0;
+    }
+}
+
+static int is_lines(int file)
+{
+    char link[32], path[4096];
+    snprintf(link, sizeof link, "/proc/self/fd/%d", file);
+    ssize_t length = readlink(link, path, sizeof path - 1);
+    if (length < 0)
+        return 0;
+    path[length] = 0;
+    return length >= 10 && !strcmp(path + length - 10, "/run.scene");
+}
+
+/* Reads up to the next line feed, once the gate gives a byte. */
+static ssize_t read_line(ssize_t (*real)(int, void *, size_t), int file, char *bytes, size_t count)
+{
+    char gate;
+    size_t at = 0;
+    while (real(calls_before + 1, &gate, 1) < 0 && errno == EINTR)
+        ;
+    while (at < count) {
+        ssize_t given = real(file, bytes + at, 1);
+        if (given <= 0)
+            return at ? (ssize_t)at : given;
+        if (bytes[at++] == '\n')
+            break;
+    }
+    return at;
+}
+
 static void *next(const char *name)
 {
     return dlsym(RTLD_NEXT, name);
@@ -64,6 +124,17 @@ ssize_t write(int file, const void *bytes, size_t count)
     static ssize_t (*real)(int, const void *, size_t);
     if (!real)
         real = next("write");
+    if (is("random") && count) {
+        size_t some = some_of(count);
+        if (some)
+            return real(file, bytes, some);
+        errno = EINTR;
+        return -1;
+    }
+    if (file == 2 && is("interrupted-line") && calls_before-- > 0) {
+        errno = EINTR;
+        return -1;
+    }
     if (file != 2 && fails(file == 1 ? "write" : "store-write")) {
         if (!strncmp(kind, "short-", 6))
             return real(file, bytes, count ? 1 : 0);
@@ -78,6 +149,17 @@ ssize_t read(int file, void *bytes, size_t count)
     static ssize_t (*real)(int, void *, size_t);
     if (!real)
         real = next("read");
+    if (is("one-byte"))
+        return real(file, bytes, count ? 1 : 0);
+    if (is("paced") && is_lines(file))
+        return read_line(real, file, bytes, count);
+    if (is("random") && count) {
+        size_t some = some_of(count);
+        if (some)
+            return real(file, bytes, some);
+        errno = EINTR;
+        return -1;
+    }
     if (fails("read")) {
         errno = strncmp(kind, "interrupted-", 12) ? EIO : EINTR;
         return -1;

@@ -8,12 +8,13 @@ use plain_text::write_str::RetryInterrupted;
 use scenes::args::{Options, words_or_input};
 use scenes::fault::{Fault, Program};
 use scenes::follow::{RunOutcome, follow_scene};
-use scenes::process::{arguments, tell};
-use std::fs::File;
+use scenes::process::{arguments, create_store, fill_standard_descriptors, print_error, tell};
+use std::fs::{self, File, Metadata};
 use std::io::{self, Read};
 use std::process::ExitCode;
 
 fn main(rt: HostRuntime) -> ExitCode {
+    fill_standard_descriptors(&rt);
     let status = match arguments(&rt) {
         Ok(mut args) => match run(&rt, &mut args) {
             Ok(outcome) => end(&rt, outcome),
@@ -27,7 +28,7 @@ fn main(rt: HostRuntime) -> ExitCode {
 // Answers the status of the run. Of a run that did not end it prints a line.
 fn end(rt: &HostRuntime, outcome: RunOutcome) -> u8 {
     if outcome == RunOutcome::NotEnded {
-        let _ = rt.eprintln("follow: the run did not end");
+        print_error(rt, "follow: the run did not end");
     }
     outcome.status()
 }
@@ -38,19 +39,23 @@ fn run<'a>(rt: &HostRuntime, args: &'a mut Vec<String>) -> Result<RunOutcome, Fa
         return Err(Fault::Usage);
     };
     if options.file == "-" {
-        return follow(rt, &options, rt.stdin());
+        return follow(rt, &options, rt.stdin(), fs::metadata(rt, "/dev/stdin"));
     }
     match File::open(rt, options.file) {
-        Ok(file) => follow(rt, &options, file),
+        Ok(file) => {
+            let input = file.metadata();
+            follow(rt, &options, file, input)
+        }
         Err(error) => Err(Fault::CannotRead { file: options.file }.by_kind(error.kind())),
     }
 }
 
-// Follows the lines of a reader. The file of the records is made or emptied before a line is read.
+// Follows the lines of a reader. The file of the records is made or emptied before a line is read, and is not the input.
 fn follow<'a, R: Read + Drop>(
     rt: &HostRuntime,
     options: &Options<'a>,
     reader: R,
+    input: io::Result<Metadata>,
 ) -> Result<RunOutcome, Fault<'a>> {
     let alloc = rt.alloc();
     // A signal may interrupt a write, which is then made again.
@@ -58,11 +63,11 @@ fn follow<'a, R: Read + Drop>(
     let Some(store) = options.store else {
         return follow_scene(alloc, options, reader, output, io::sink()).0;
     };
-    match File::create(rt, store.file) {
+    match create_store(rt, store.file, &[input]) {
         Ok(file) => {
             let records = RetryInterrupted::new(file);
             follow_scene(alloc, options, reader, output, records).0
         }
-        Err(error) => Err(Fault::CannotWrite { file: store.file }.by_kind(error.kind())),
+        Err(fault) => Err(fault),
     }
 }

@@ -10,13 +10,14 @@ use recorded_runs::run::RecordedRun;
 use scenes::args::{Options, words};
 use scenes::fault::{Fault, Program};
 use scenes::follow::RunOutcome;
-use scenes::process::{arguments, tell};
-use std::fs::File;
+use scenes::process::{arguments, create_store, fill_standard_descriptors, print_error, tell};
+use std::fs::{self, File, Metadata};
 use std::io::{self, ErrorKind};
 use std::path::Path;
 use std::process::ExitCode;
 
 fn main(rt: HostRuntime) -> ExitCode {
+    fill_standard_descriptors(&rt);
     let status = match arguments(&rt) {
         Ok(args) => match run(&rt, args.as_slice()) {
             Ok(outcome) => end(&rt, outcome),
@@ -30,7 +31,7 @@ fn main(rt: HostRuntime) -> ExitCode {
 // Answers the status of the run. Of a run that did not end it prints a line.
 fn end(rt: &HostRuntime, outcome: RunOutcome) -> u8 {
     if outcome == RunOutcome::NotEnded {
-        let _ = rt.eprintln("replay: the run did not end");
+        print_error(rt, "replay: the run did not end");
     }
     outcome.status()
 }
@@ -40,45 +41,60 @@ fn run<'a>(rt: &HostRuntime, args: &'a [String]) -> Result<RunOutcome, Fault<'a>
     let Some(options) = words(args) else {
         return Err(Fault::Usage);
     };
-    let (lines, outputs) = match open(rt, options.file) {
-        Ok(files) => files,
-        Err(error) => return Err(Fault::CannotRead { file: options.file }.by_kind(error.kind())),
-    };
-    replay(rt, options, lines, outputs)
+    match open(rt, options.file) {
+        Ok(files) => replay(rt, options, files),
+        Err(error) => Err(Fault::CannotRead { file: options.file }.by_kind(error.kind())),
+    }
+}
+
+// The files of a recorded run, and what the system says of each.
+struct RunFiles {
+    lines: File,
+    outputs: RecordedOutputs<File>,
+    inputs: [io::Result<Metadata>; 2],
 }
 
 // Opens the lines and the outputs of the run in this folder.
-fn open(rt: &HostRuntime, folder: &str) -> io::Result<(File, RecordedOutputs<File>)> {
+fn open(rt: &HostRuntime, folder: &str) -> io::Result<RunFiles> {
     let lines = open_file(rt, folder, "run.scene")?;
-    let outputs = RecordedOutputs::new(open_file(rt, folder, "outputs")?)?;
-    Ok((lines, outputs))
+    let outputs = open_file(rt, folder, "outputs")?;
+    let inputs = [lines.metadata(), outputs.metadata()];
+    Ok(RunFiles {
+        lines,
+        outputs: RecordedOutputs::new(outputs)?,
+        inputs,
+    })
 }
 
-// Opens a file of a folder. A folder would open as well, and fail only once it is read.
+// Opens a file of a folder. It is looked at first: to open a pipe would wait for its other end.
 fn open_file(rt: &HostRuntime, folder: &str, name: &str) -> io::Result<File> {
-    let file = File::open(rt, Path::new(folder).join(rt.alloc(), name)?)?;
-    if file.metadata()?.is_dir() {
-        return Err(ErrorKind::IsADirectory.into());
+    let path = Path::new(folder).join(rt.alloc(), name)?;
+    if !fs::metadata(rt, &path)?.is_file() {
+        return Err(ErrorKind::InvalidInput.into());
     }
-    Ok(file)
+    File::open(rt, &path)
 }
 
-// Replays the run. The file of the records is made or emptied before a line is read.
+// Replays the run. The file of the records is made or emptied before a line is read, and is none of the run's.
 fn replay<'a>(
     rt: &HostRuntime,
     options: Options<'a>,
-    lines: File,
-    outputs: RecordedOutputs<File>,
+    files: RunFiles,
 ) -> Result<RunOutcome, Fault<'a>> {
     let alloc = rt.alloc();
+    let RunFiles {
+        lines,
+        outputs,
+        inputs,
+    } = files;
     let mut run = RecordedRun::new(alloc, options, lines, outputs)?;
     // A signal may interrupt a write, which is then made again.
     let output = RetryInterrupted::new(io::writer(rt));
     let Some(store) = options.store else {
         return run.replay(alloc, output, io::sink()).0;
     };
-    match File::create(rt, store.file) {
+    match create_store(rt, store.file, &inputs) {
         Ok(records) => run.replay(alloc, output, RetryInterrupted::new(records)).0,
-        Err(error) => Err(Fault::CannotWrite { file: store.file }.by_kind(error.kind())),
+        Err(fault) => Err(fault),
     }
 }

@@ -7,7 +7,7 @@
 use plain_text::write_str::RetryInterrupted;
 use scenes::args::words;
 use scenes::fault::{Fault, Program};
-use scenes::process::{arguments, tell};
+use scenes::process::{arguments, create_store, fill_standard_descriptors, tell};
 use scenes::report::{accept_scene, read_whole, report_accepted};
 use std::fs::File;
 use std::io;
@@ -15,6 +15,7 @@ use std::mem::ManuallyDrop;
 use std::process::ExitCode;
 
 fn main(rt: HostRuntime) -> ExitCode {
+    fill_standard_descriptors(&rt);
     let status = match arguments(&rt) {
         Ok(args) => match run(&rt, args.as_slice()) {
             Ok(()) => 0,
@@ -46,9 +47,10 @@ fn run<'a>(rt: &HostRuntime, args: &'a [String]) -> Result<(), Fault<'a>> {
     let Some(store) = options.store else {
         return report_accepted(alloc, &judged, output, io::sink()).0;
     };
-    let records = match File::create(rt, store.file) {
+    // The scene was read whole, so the file of the records may be the same.
+    let records = match create_store(rt, store.file, &[]) {
         Ok(records) => records,
-        Err(error) => return Err(Fault::CannotWrite { file: store.file }.by_kind(error.kind())),
+        Err(fault) => return Err(fault),
     };
     report_accepted(alloc, &judged, output, RetryInterrupted::new(records)).0
 }

@@ -1,11 +1,22 @@
-//! What each program does with its process: the words that it was called with, and the line and the status of a fault.
+//! What each program does with its process: the words that it was called with, its descriptors and the file of its records, and the line and
+//! the status of a fault.
 
-ghost use Rattle.std.specs.Prelude.{◌≡◌, ◌⊎◌, IfErr};
+ghost use Rattle.std.specs.Fd.{file_raw_fd};
+ghost use Rattle.std.specs.Prelude.{◌≡◌, ◌⊎◌, ◌↔◌, ◌≤ℤ◌, ◌<ℤ◌, pos, IfErr, IfOk, IsTrue};
 ghost use Rattle.command_line.specs.Faults.{status_of};
 ghost use Rattle.command_line.specs.declared.fault.Fault.{Fault};
 
 use command_line::fault::{Fault, FaultLine, Program};
-use std::{env, io};
+use plain_text::write_str::RetryInterrupted;
+use std::fmt::Display;
+use std::fs::{File, Metadata};
+use std::io::{ErrorKind, Write};
+use std::os::fd::AsRawFd;
+use std::os::unix::fs::MetadataExt;
+use std::{env, fs, io, mem};
+
+// The last of the descriptors that every process is given: input, output and error.
+const STANDARD_ERROR: i32 = 2;
 
 /// The words that follow the program's name. No clause says which they are, since none of the kit does; each stored run shows it. The error is
 /// `Usage` where a word is no text, or that memory is refused.
@@ -17,8 +28,61 @@ pub fn arguments(rt: &HostRuntime) -> Result<Vec<String>, Fault<'static>>
             .skip(1)
             .collect(rt.alloc())
             .map_err(|_| Fault::OutOfMemory),
-        Err(e) if e.kind() == io::ErrorKind::OutOfMemory => Err(Fault::OutOfMemory),
+        Err(e) if e.kind() == ErrorKind::OutOfMemory => Err(Fault::OutOfMemory),
         Err(_) => Err(Fault::Usage),
+    }
+}
+
+/// Opens the folder `/` in the place of each standard descriptor that is closed, and leaves it open.
+///
+/// What is opened gets the lowest free number. So without this, where standard output is closed, the file of the records would be standard
+/// output, and hold the report. No byte is written to a folder or read from one, and this one is there also without `/dev`.
+pub fn fill_standard_descriptors(rt: &HostRuntime) {
+    for _descriptor in 0..=STANDARD_ERROR {
+        match File::open(rt, "/") {
+            Ok(folder) if is_standard(&folder) => mem::forget(folder),
+            _ => return,
+        }
+    }
+}
+
+// Whether a file has the number of a standard descriptor.
+fn is_standard(file: &File) -> bool
+    ensures { IsTrue result ↔ file_raw_fd file.now ≤ℤ pos 2 }
+{
+    file.as_raw_fd() <= STANDARD_ERROR
+}
+
+/// Makes or empties the file of the records. It is refused where that is one of the files that are read, as far as the system told which they
+/// are, since it would be empty then; and where it would be a standard descriptor, since it would get what is printed.
+pub fn create_store<'a>(
+    rt: &HostRuntime,
+    path: &'a str,
+    inputs: &[io::Result<Metadata>],
+) -> Result<File, Fault<'a>>
+    ensures ok { IfOk result (λ file. pos 2 <ℤ file_raw_fd file) }
+    ensures err { IfErr result (λ fault. (fault ≡ Fault.CannotWrite path.entry) ⊎ (fault ≡ Fault.OutOfMemory)) }
+{
+    let fault = Fault::CannotWrite { file: path };
+    match fs::metadata(rt, path) {
+        Ok(there) if inputs.iter().any(|input| is_file_of(&there, input)) => return Err(fault),
+        Ok(_) => {}
+        Err(error) if error.kind() == ErrorKind::NotFound => {}
+        // What cannot be looked at is not emptied.
+        Err(error) => return Err(fault.by_kind(error.kind())),
+    }
+    match File::create(rt, path) {
+        Ok(file) if is_standard(&file) => Err(fault),
+        Ok(file) => Ok(file),
+        Err(error) => Err(fault.by_kind(error.kind())),
+    }
+}
+
+// Whether this is the file of an input, by whatever path. Of a pipe or a device nothing is emptied.
+fn is_file_of(there: &Metadata, input: &io::Result<Metadata>) -> bool {
+    match input {
+        Ok(input) => there.is_file() && there.dev() == input.dev() && there.ino() == input.ino(),
+        Err(_) => false,
     }
 }
 
@@ -26,6 +90,12 @@ pub fn arguments(rt: &HostRuntime) -> Result<Vec<String>, Fault<'static>>
 pub fn tell(rt: &HostRuntime, program: Program, fault: Fault<'_>) -> u8
     ensures { result ≡ status_of fault.entry }
 {
-    let _ = rt.eprintln(FaultLine { program, fault });
+    print_error(rt, FaultLine { program, fault });
     fault.status()
+}
+
+/// Prints a line on standard error. It takes no memory, since there may be none left, and no interrupt loses it.
+pub fn print_error<D: Display + Drop>(rt: &HostRuntime, line: D) {
+    // Where it cannot be printed, the status still tells.
+    let _ = writeln!(RetryInterrupted::new(rt.stderr()), "{line}");
 }

@@ -1,0 +1,67 @@
+"""usage: norigully [OPTIONS] FILE
+       norigully --follow [OPTIONS] [FILE]
+       norigully --recorded [OPTIONS] DIR
+
+Prints the console report of a run that is written as text. FILE is the last word; - is standard input.
+
+  --follow          as the first word: reports each line before it reads the next; without FILE, those of standard input
+  --recorded        as the first word: reports the run in the folder DIR, as nextest shows a recorded run, and reads only
+                    the captured output that the report shows
+  --color           with colours, which is the default on a terminal unless NO_COLOR is set
+  --no-color        without colours, also on a terminal
+  --counter         a counter on the line of each test
+  --replay          as nextest shows a recorded run
+  --level L         lines from this status level on: none, fail, retry, slow, leak, pass (the default), skip, all
+  --unload          leaves out captured output that the report does not show; the report stays the same
+  --store PATH      writes a record of each finished test to PATH
+  --store-success   keep the output of passing tests in these records
+  --store-failure   and that of failing tests
+  --help            alone: this text
+  --version         alone: the version
+
+Its status is 0; 2 where the words, FILE, DIR, PATH or a line are wrong; 3 where writing or memory failed; and 1 where
+the program is not beside it. With --follow or --recorded it is that of the run: 0, 100 where it failed or was
+cancelled, 4 where no test ran, and 3 where it did not end.
+"""
+
+import os
+import pathlib
+import shutil
+import sys
+import tempfile
+import zipapp
+
+from norigully.front import NOT_BUILT, fault, start
+
+# What it is made of.
+MODULES = ("__init__.py", "front.py", "installed.py", "words.py")
+MAIN = "from norigully.installed import main\n\nmain()\n"
+
+
+def beside(name):
+    """What a program is called beside it."""
+    return f"norigully-{name}"
+
+
+def write(target):
+    """Writes the `norigully` that ./build installs: one file, which runs the programs that stand beside it."""
+    with tempfile.TemporaryDirectory() as made:
+        made = pathlib.Path(made)
+        (made / "norigully").mkdir()
+        for module in MODULES:
+            shutil.copy(pathlib.Path(__file__).parent / module, made / "norigully")
+        (made / "__main__.py").write_text(MAIN)
+        zipapp.create_archive(made, target, "/usr/bin/env python3")
+
+
+def run_program(name, _options, words):
+    """Becomes the program."""
+    program = pathlib.Path(sys.argv[0]).resolve().parent / beside(name)
+    try:
+        os.execv(program, [name, *words])
+    except OSError as error:
+        fault("norigully", f"cannot run {program}: {error.strerror}", NOT_BUILT)
+
+
+def main():
+    start("norigully", __doc__, str, run_program)
