@@ -6,6 +6,7 @@
 
 use plain_text::write_str::RetryInterrupted;
 use recorded_outputs::outputs::RecordedOutputs;
+use recorded_outputs::read_at::Metered;
 use recorded_runs::run::RecordedRun;
 use scenes::args::{Options, words};
 use scenes::fault::{Fault, Program};
@@ -48,9 +49,9 @@ fn run<'a>(rt: &HostRuntime, args: &'a [String]) -> Result<RunOutcome, Fault<'a>
 }
 
 // Opens the lines and the outputs of the run in this folder.
-fn open(rt: &HostRuntime, folder: &str) -> io::Result<(File, RecordedOutputs<File>)> {
+fn open(rt: &HostRuntime, folder: &str) -> io::Result<(File, RecordedOutputs<Metered<File>>)> {
     let lines = open_file(rt, folder, "run.scene")?;
-    let outputs = RecordedOutputs::new(open_file(rt, folder, "outputs")?)?;
+    let outputs = RecordedOutputs::new(Metered::new(open_file(rt, folder, "outputs")?))?;
     Ok((lines, outputs))
 }
 
@@ -68,7 +69,7 @@ fn replay<'a>(
     rt: &HostRuntime,
     options: Options<'a>,
     lines: File,
-    outputs: RecordedOutputs<File>,
+    outputs: RecordedOutputs<Metered<File>>,
 ) -> Result<RunOutcome, Fault<'a>> {
     let alloc = rt.alloc();
     let mut run = RecordedRun::new(alloc, options, lines, outputs)?;
