@@ -23,6 +23,17 @@ use thiserror::Error;
 ///     Ok(reporter.finish()?)
 /// }
 /// ```
+///
+/// Its words are those of the fault, behind the place of the call where there is one.
+///
+/// ```
+/// let fault = WriteEventError::StoreIo;
+/// let of_a_call = ReportError::Run { position: 3, fault };
+/// assert_eq!(ReportError::OutOfMemory.to_string(alloc)?.as_str(), "out of memory");
+/// assert_eq!(ReportError::Io.to_string(alloc)?.as_str(), "input or output failed");
+/// assert_eq!(ReportError::WriteEvent(fault).to_string(alloc)?.as_str(), "the store could not be written");
+/// assert_eq!(of_a_call.to_string(alloc)?.as_str(), "call 3: the store could not be written");
+/// ```
 #[derive(Clone, Copy, Debug, PartialEq, Eq, Error)]
 pub enum ReportError {
     /// A growth of memory was refused.

@@ -87,10 +87,11 @@ impl LoadEventFault {
 /// ```
 /// use recorded_lines::line::RecordedLine;
 /// use recorded_outputs::outputs::RecordedOutputs;
+/// use recorded_outputs::read_at::Metered;
 /// use scene_events::scene::event::SceneEvent;
 /// let line = RecordedLine::read(alloc, "answers-end\t0")?;
 /// let mut event = SceneEvent::InfoFinished(0);
-/// let mut outputs = RecordedOutputs::new(b"passed\nfailed\n".as_slice())?;
+/// let mut outputs = RecordedOutputs::new(Metered::new(b"passed\nfailed\n".as_slice()))?;
 /// assert!(load_outputs(alloc, &decider, line.outputs.as_slice(), &mut outputs, &mut event).is_ok());
 /// assert_eq!(outputs.bytes_read(), 0); // the event has no output
 /// ```
@@ -104,7 +105,8 @@ pub fn load_outputs<O: ReadAt + Drop>(
 ) -> Result<(), LoadEventFault>
     ensures loaded { IfSome (O.recorded outputs.old.source) (λ all. IsReplayed all decider.now stored.now event.old result event.new) }
     ensures kept { O.recorded outputs.new.source ≡ O.recorded outputs.old.source }
-    ensures count { OnOk result (outputs.new.bytes_read ≡ counted outputs.old.bytes_read (needed_of decider.now event.old stored.now)) }
+    ensures count { OnOk result (O.count outputs.new.source ≡ counted (O.count outputs.old.source) (needed_of decider.now event.old stored.now)) }
+    ensures most { O.count outputs.new.source ≤ counted (O.count outputs.old.source) (needed_of decider.now event.old stored.now) }
 {
     let _count = outputs.bytes_read(); // it is a `u64`, which a proof learns by reading it
     check_all_there(stored, outputs)?;
@@ -166,7 +168,7 @@ fn check_all_there<O: ReadAt + Drop>(
 ) -> Result<(), LoadEventFault>
     ensures there { IfSome (O.recorded outputs.old.source) (λ all. IsFirstBad (first_field_not (is_there all) stored.now) result) }
     ensures kept { O.recorded outputs.new.source ≡ O.recorded outputs.old.source }
-    ensures count { outputs.new.bytes_read ≡ outputs.old.bytes_read }
+    ensures count { O.count outputs.new.source ≡ O.count outputs.old.source }
 {
     for placed in stored {
         check_output_there(placed, outputs)?;
@@ -181,7 +183,7 @@ fn check_output_there<O: ReadAt + Drop>(
 ) -> Result<(), LoadEventFault>
     ensures there { IfSome (O.recorded outputs.old.source) (λ all. IsFirstBad (field_not (is_there all) placed.now) result) }
     ensures kept { O.recorded outputs.new.source ≡ O.recorded outputs.old.source }
-    ensures count { outputs.new.bytes_read ≡ outputs.old.bytes_read }
+    ensures count { O.count outputs.new.source ≡ O.count outputs.old.source }
 {
     check_stream_there(placed, StreamField::First, outputs)?;
     check_stream_there(placed, StreamField::Second, outputs)
@@ -195,7 +197,7 @@ fn check_stream_there<O: ReadAt + Drop>(
 ) -> Result<(), LoadEventFault>
     ensures there { IfSome (O.recorded outputs.old.source) (λ all. IsFirstBad (stream_field_not (is_there all) placed.now stream) result) }
     ensures kept { O.recorded outputs.new.source ≡ O.recorded outputs.old.source }
-    ensures count { outputs.new.bytes_read ≡ outputs.old.bytes_read }
+    ensures count { O.count outputs.new.source ≡ O.count outputs.old.source }
 {
     if is_there(placed.output.stream(stream), outputs)? {
         Ok(())
@@ -211,7 +213,7 @@ fn is_there<O: ReadAt + Drop>(
 ) -> io::Result<bool>
     ensures there { IfSome (O.recorded outputs.old.source) (λ all. IfOk result (λ is. is ≡ is_there all stream)) }
     ensures kept { O.recorded outputs.new.source ≡ O.recorded outputs.old.source }
-    ensures count { outputs.new.bytes_read ≡ outputs.old.bytes_read }
+    ensures count { O.count outputs.new.source ≡ O.count outputs.old.source }
 {
     match stream {
         StoredStream::NotCaptured | StoredStream::Empty => Ok(true),
@@ -226,11 +228,12 @@ fn load_all<O: ReadAt + Drop>(
     outputs: &mut RecordedOutputs<O>,
     event: &mut SceneEvent,
 ) -> Result<(), LoadEventFault>
-    requires { outputs.old.bytes_read ≤ 2 ^ 64 - 1 }
+    requires { O.count outputs.old.source ≤ 2 ^ 64 - 1 }
     ensures undamaged { IfSome (O.recorded outputs.old.source) (λ all. IsFirstBad (first_field_not (is_undamaged all) stored.now) result) }
     ensures loaded { IfSome (O.recorded outputs.old.source) (λ all. OnOk result (event.new ≡ event_inline all stored.now event.old)) }
     ensures kept { O.recorded outputs.new.source ≡ O.recorded outputs.old.source }
-    ensures count { OnOk result (outputs.new.bytes_read ≡ counted outputs.old.bytes_read (outputs_len stored.now)) }
+    ensures count { OnOk result (O.count outputs.new.source ≡ counted (O.count outputs.old.source) (outputs_len stored.now)) }
+    ensures most { O.count outputs.new.source ≤ counted (O.count outputs.old.source) (outputs_len stored.now) }
 {
     for placed in stored {
         load_placed(alloc, placed, outputs, event)?;
@@ -245,11 +248,12 @@ fn load_placed<O: ReadAt + Drop>(
     outputs: &mut RecordedOutputs<O>,
     event: &mut SceneEvent,
 ) -> Result<(), LoadEventFault>
-    requires { outputs.old.bytes_read ≤ 2 ^ 64 - 1 }
+    requires { O.count outputs.old.source ≤ 2 ^ 64 - 1 }
     ensures undamaged { IfSome (O.recorded outputs.old.source) (λ all. IsFirstBad (field_not (is_undamaged all) placed.now) result) }
     ensures loaded { IfSome (O.recorded outputs.old.source) (λ all. OnOk result (event.new ≡ event_with placed.now.place (output_inline all placed.now.output) event.old)) }
     ensures kept { O.recorded outputs.new.source ≡ O.recorded outputs.old.source }
-    ensures count { OnOk result (outputs.new.bytes_read ≡ counted outputs.old.bytes_read (output_len placed.now.output)) }
+    ensures count { OnOk result (O.count outputs.new.source ≡ counted (O.count outputs.old.source) (output_len placed.now.output)) }
+    ensures most { O.count outputs.new.source ≤ counted (O.count outputs.old.source) (output_len placed.now.output) }
 {
     match placed.output.load(alloc, outputs) {
         Ok(captured) => Ok(event.load(alloc, placed.place, captured)?),

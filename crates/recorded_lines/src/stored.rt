@@ -89,7 +89,7 @@ impl StoredStream {
     ) -> Result<Option<ChildSingleOutput>, LoadFault>
         ensures loaded { IfSome (O.recorded outputs.old.source) (λ all. IsCapturedStream all self.now result) }
         ensures kept { O.recorded outputs.new.source ≡ O.recorded outputs.old.source }
-        ensures count { IsCountedOfStream outputs.old.bytes_read self.now result outputs.new.bytes_read }
+        ensures count { IsCountedOfStream (O.count outputs.old.source) self.now result (O.count outputs.new.source) }
     {
         match self {
             StoredStream::NotCaptured => Ok(None),
@@ -151,9 +151,10 @@ impl StoredOutput {
     ///
     /// ```
     /// use recorded_outputs::outputs::RecordedOutputs;
+    /// use recorded_outputs::read_at::Metered;
     /// let reference = "\\@7:7:ee2a98c236301c76";
     /// let stored = StoredOutput::read("comb", reference, "-").ok_or("no output")?;
-    /// let mut outputs = RecordedOutputs::new(b"passed\nfailed\n".as_slice())?;
+    /// let mut outputs = RecordedOutputs::new(Metered::new(b"passed\nfailed\n".as_slice()))?;
     /// assert!(stored.load(alloc, &mut outputs)?.is_loaded());
     /// assert_eq!(outputs.bytes_read(), 7);
     /// ```
@@ -164,7 +165,7 @@ impl StoredOutput {
     ) -> Result<ChildOutputDescription, StreamFault>
         ensures loaded { IfSome (O.recorded outputs.old.source) (λ all. IsCaptured all self.now result) }
         ensures kept { O.recorded outputs.new.source ≡ O.recorded outputs.old.source }
-        ensures count { IsCountedOf outputs.old.bytes_read self.now result outputs.new.bytes_read }
+        ensures count { IsCountedOf (O.count outputs.old.source) self.now result (O.count outputs.new.source) }
     {
         match self {
             StoredOutput::Split { stdout, stderr } => {
@@ -197,7 +198,7 @@ fn load_single<O: ReadAt + Drop>(
 ) -> Result<ChildSingleOutput, LoadFault>
     ensures loaded { IfSome (O.recorded outputs.old.source) (λ all. IsLoaded all reference.now result) }
     ensures kept { O.recorded outputs.new.source ≡ O.recorded outputs.old.source }
-    ensures count { IsCounted outputs.old.bytes_read reference.now result outputs.new.bytes_read }
+    ensures count { IsCounted (O.count outputs.old.source) reference.now result (O.count outputs.new.source) }
 {
     let bytes = outputs.load(alloc, reference)?;
     single(alloc, bytes)

@@ -71,29 +71,24 @@ pub struct RecordedOutputs<O: ReadAt> {
     source: O,
     // How many bytes there were when that was last asked.
     len: u64,
-    bytes_read: u64,
     ghost known: { ForSome (O.recorded source) (λ all. len ≡ length all) },
 }
 
 impl<O: ReadAt + Drop> RecordedOutputs<O> {
-    /// Outputs of which nothing was read. It asks how many bytes there are, and an error is that of this question.
+    /// The outputs in this source, of which nothing is read. It asks how many bytes there are, and an error is that of this question.
     pub fn new(mut source: O) -> io::Result<RecordedOutputs<O>>
         ensures recorded { IfOk result (λ outputs. O.recorded outputs.source ≡ O.recorded source) }
-        ensures count { IfOk result (λ outputs. outputs.bytes_read ≡ 0) }
+        ensures count { IfOk result (λ outputs. O.count outputs.source ≡ O.count source) }
     {
         let len = source.len()?;
-        Ok(RecordedOutputs {
-            source,
-            len,
-            bytes_read: 0,
-        })
+        Ok(RecordedOutputs { source, len })
     }
 
-    /// How many bytes of streams were read. It stays at `u64::MAX` where it would pass that.
+    /// How many bytes of the source were read. It stays at `u64::MAX` where it would pass that.
     pub fn bytes_read(&self) -> u64
-        ensures { result ≡ self.now.bytes_read }
+        ensures { result ≡ O.count self.now.source }
     {
-        self.bytes_read
+        self.source.bytes_read()
     }
 
     /// Whether all bytes that a reference names are there, of which none is read. Where they end behind the last byte that is known, it
@@ -101,7 +96,7 @@ impl<O: ReadAt + Drop> RecordedOutputs<O> {
     pub fn holds(&mut self, reference: &Reference) -> io::Result<bool>
         ensures holds { IfSome (O.recorded self.old.source) (λ all. IfOk result (λ holds. IsTrue holds ↔ (end_of reference.now ≤ length all))) }
         ensures kept { O.recorded self.new.source ≡ O.recorded self.old.source }
-        ensures count { self.new.bytes_read ≡ self.old.bytes_read }
+        ensures count { O.count self.new.source ≡ O.count self.old.source }
     {
         if !reference.ends_within(self.len) {
             self.len = self.source.len()?;
@@ -114,9 +109,10 @@ impl<O: ReadAt + Drop> RecordedOutputs<O> {
     /// Where they are not all there no memory is asked for. [`LoadFault`] says what each fault is.
     ///
     /// ```
+    /// use recorded_outputs::read_at::Metered;
     /// use recorded_outputs::reference::read_reference;
     /// let reference = read_reference("\\@7:7:ee2a98c236301c76").ok_or("no reference")?;
-    /// let mut outputs = RecordedOutputs::new(b"passed\nfailed\n".as_slice())?;
+    /// let mut outputs = RecordedOutputs::new(Metered::new(b"passed\nfailed\n".as_slice()))?;
     /// let stream = outputs.load(alloc, &reference)?;
     /// assert_eq!(stream.as_slice(), b"failed\n".as_slice());
     /// assert_eq!(outputs.bytes_read(), 7);
@@ -125,7 +121,7 @@ impl<O: ReadAt + Drop> RecordedOutputs<O> {
         ensures loaded { IfSome (O.recorded self.old.source) (λ all. IsLoaded all reference.now result) }
         ensures sum { IfOk result (HasSum reference.now) }
         ensures kept { O.recorded self.new.source ≡ O.recorded self.old.source }
-        ensures count { IsCounted self.old.bytes_read reference.now result self.new.bytes_read }
+        ensures count { IsCounted (O.count self.old.source) reference.now result (O.count self.new.source) }
     {
         if !self.holds(reference)? {
             return Err(LoadFault::PastEnd);
@@ -138,15 +134,13 @@ impl<O: ReadAt + Drop> RecordedOutputs<O> {
         Ok(Bytes::from_vec(bytes)?)
     }
 
-    // Fills a vector with the bytes from this place on, and counts them.
+    // Fills a vector with the bytes from this place on.
     fn fill(&mut self, offset: u64, bytes: &mut Vec<u8>) -> io::Result<()>
         ensures read { OnOk result (IfSome (O.recorded self.old.source) (HasRead offset bytes.new.items)) }
         ensures len { OnOk result (vec_len bytes.new ≡ vec_len bytes.old) }
         ensures kept { O.recorded self.new.source ≡ O.recorded self.old.source }
-        ensures count { self.new.bytes_read ≡ (if is_ok result then counted self.old.bytes_read (vec_len bytes.old) else self.old.bytes_read) }
+        ensures count { O.count self.new.source ≡ (if is_ok result then counted (O.count self.old.source) (vec_len bytes.old) else O.count self.old.source) }
     {
-        self.source.read_at(offset, bytes.as_mut_slice())?;
-        self.bytes_read = self.bytes_read.saturating_add(bytes.len() as u64);
-        Ok(())
+        self.source.read_at(offset, bytes.as_mut_slice())
     }
 }

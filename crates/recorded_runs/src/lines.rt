@@ -55,7 +55,7 @@ pub(crate) fn read_line<'a, O: ReadAt + Drop>(
     ensures left { IfErr result (λ fault. (all : List ℕ) → O.recorded outputs.old.source ≡ Some all → Lacks 10 line.now → LeavesLine file.now read.old read.new (line_replayed options.now all line.now) fault) }
     ensures fault { IfErr result (IsJudgeFault file.now) }
     ensures kept { O.recorded outputs.new.source ≡ O.recorded outputs.old.source }
-    ensures count { OnOk result ((all : List ℕ) → O.recorded outputs.old.source ≡ Some all → Lacks 10 line.now → IsCounted options.now read.old (line_unread line.now) (stored_in line.now) outputs.old.bytes_read outputs.new.bytes_read) }
+    ensures count { OnOk result ((all : List ℕ) → O.recorded outputs.old.source ≡ Some all → Lacks 10 line.now → IsCounted options.now read.old (line_unread line.now) (stored_in line.now) (O.count outputs.old.source) (O.count outputs.new.source)) }
 {
     let Ok(text) = str::from_utf8(line) else {
         // A comment may hold any bytes, and another such line is wrong.
@@ -86,7 +86,7 @@ fn read_stored<'a, O: ReadAt + Drop>(
     ensures fault { IfErr result (IsJudgeFault file.now) }
     ensures kept { O.recorded outputs.new.source ≡ O.recorded outputs.old.source }
     ensures count { OnOk result (text_lines (cow_str_bytes recorded.now.text) ≡ plain_line (cow_str_bytes recorded.now.text) ∷ []
-        → IsCounted options.now read.old (cow_str_bytes recorded.now.text) recorded.now.outputs.items outputs.old.bytes_read outputs.new.bytes_read) }
+        → IsCounted options.now read.old (cow_str_bytes recorded.now.text) recorded.now.outputs.items (O.count outputs.old.source) (O.count outputs.new.source)) }
 {
     let (config, next) = (read.run.config, read.next);
     let (events, lines) = (read.run.events.len(), read.run.lines.len());
@@ -119,7 +119,7 @@ fn read_and_load<'a, O: ReadAt + Drop>(
     ensures fault { IfErr result (IsJudgeFault file.now) }
     ensures kept { O.recorded outputs.new.source ≡ O.recorded outputs.old.source }
     ensures count { OnOk result (text_lines (cow_str_bytes recorded.now.text) ≡ plain_line (cow_str_bytes recorded.now.text) ∷ []
-        → IsCounted options.now read.old (cow_str_bytes recorded.now.text) recorded.now.outputs.items outputs.old.bytes_read outputs.new.bytes_read) }
+        → IsCounted options.now read.old (cow_str_bytes recorded.now.text) recorded.now.outputs.items (O.count outputs.old.source) (O.count outputs.new.source)) }
 {
     let (number, place) = (read.next, read.run.events.len());
     read.read_more(alloc, recorded.text.as_str().as_bytes())?;

@@ -29,12 +29,13 @@ const BYTES_AT_ONCE: usize = 16_384;
 ///
 /// ```
 /// use recorded_outputs::outputs::RecordedOutputs;
+/// use recorded_outputs::read_at::Metered;
 /// use scenes::args::words;
 /// use scenes::follow::RunOutcome;
 /// let given = CommandLine::from_words(alloc, &["--level", "pass", "DIR"])?;
 /// let options = words(given.words()).ok_or("no options")?;
 /// let lines = "done\t-\talpha\tt1\tnever\tnever\tpass\tinitial=1 finished=1 passed=1\t1\tpass\t5000000\t0\tcomb\t\\@0:7:62cd0a585dc2fe91\t-\t-\t-\n";
-/// let outputs = RecordedOutputs::new(b"passed\n".as_slice())?;
+/// let outputs = RecordedOutputs::new(Metered::new(b"passed\n".as_slice()))?;
 /// let mut run = RecordedRun::new(alloc, options, lines.as_bytes(), outputs)?;
 /// let (outcome, printed, _records) = run.replay(alloc, Vec::new(alloc), Vec::new(alloc));
 /// assert!(outcome? == RunOutcome::NotEnded);
@@ -78,7 +79,7 @@ impl<'a, R: Read + Drop, O: ReadAt + Drop> RecordedRun<'a, R, O> {
 
     /// How many bytes of outputs were read. It stays at `u64::MAX` where it would pass that.
     pub fn bytes_read(&self) -> u64
-        ensures { result ≡ self.now.outputs.bytes_read }
+        ensures { result ≡ O.count self.now.outputs.source }
     {
         self.outputs.bytes_read()
     }
@@ -86,9 +87,10 @@ impl<'a, R: Read + Drop, O: ReadAt + Drop> RecordedRun<'a, R, O> {
     /// Prints the report of the run, each line of it once it was read, and its records to a second device, if the options ask for them. Both
     /// devices are given back.
     ///
-    /// On `Ok` the first device has what `follow` prints of the scene in which every output stands in its place (`ok`), and the outputs that
-    /// the report does not show were not read (`reads`). The error is that of the first line that is wrong; the report of the lines before it
-    /// stands.
+    /// On `Ok` the first device has what `follow` prints of the events of the run, with every output put into its event (`ok`), and the outputs
+    /// that the report does not show were not read (`reads`, which speaks of the count of the outputs' source). That reading a scene with the
+    /// outputs spelled out gives these events is not proved: `scripts/check-recorded` tests it. The error is that of the first line that is
+    /// wrong; the report of the lines before it stands.
     pub fn replay<W: Write, S: Write>(
         &mut self,
         alloc: Global,
@@ -101,7 +103,7 @@ impl<'a, R: Read + Drop, O: ReadAt + Drop> RecordedRun<'a, R, O> {
             (Prints device device self.old.options (W.contents writer, S.contents store_writer) (W.contents result.1, S.contents result.2))
             (Begins device device self.old.options (W.contents writer, S.contents store_writer) (W.contents result.1, S.contents result.2))) }
         ensures reads { (text all : List ℕ) → reader_remaining R.remaining self.old.reader ≡ Some text → O.recorded self.old.outputs.source ≡ Some all → IfOk result.0 (λ _.
-            self.new.outputs.bytes_read ≡ counted self.old.outputs.bytes_read (needed_bytes self.old.options text)) }
+            O.count self.new.outputs.source ≡ counted (O.count self.old.outputs.source) (needed_bytes self.old.options text)) }
         ensures no_store { self.old.options.store ≡ None → result.2 ≡ store_writer }
     {
         let options = self.options;
@@ -112,7 +114,7 @@ impl<'a, R: Read + Drop, O: ReadAt + Drop> RecordedRun<'a, R, O> {
 }
 
 impl<'o, R: Read, O: ReadAt + Drop> RunSource for RecordedRun<'o, R, O> {
-    ghost left = { λ total run. IsLeft total run.options (O.recorded run.outputs.source) (reader_remaining R.remaining run.reader) run.outputs.bytes_read };
+    ghost left = { λ total run. IsLeft total run.options (O.recorded run.outputs.source) (reader_remaining R.remaining run.reader) (O.count run.outputs.source) };
 
     fn read_next<'a>(
         &mut self,

@@ -3,6 +3,7 @@
 use recorded_lines::line::{PlacedOutput, RecordedLine};
 use recorded_lines::stored::{StoredOutput, StreamFault, StreamField};
 use recorded_outputs::outputs::{LoadFault, RecordedOutputs};
+use recorded_outputs::read_at::Metered;
 use run_model::output::{ChildOutputDescription, ChildSingleOutput};
 use std::process::Abort;
 use std::test::Fail;
@@ -128,7 +129,7 @@ fn loads_outputs(rt: HostRuntime) -> Result<(), Fail> {
     ];
     for (first, second, want_stdout, want_stderr, count) in split {
         let stored = StoredOutput::read("split", first, second).ok_or("an output")?;
-        let mut outputs = RecordedOutputs::new(OUTPUTS)?;
+        let mut outputs = RecordedOutputs::new(Metered::new(OUTPUTS))?;
         match stored.load(alloc, &mut outputs) {
             Ok(ChildOutputDescription::Split { stdout, stderr }) => {
                 assert_stream(&rt, &stdout, want_stdout);
@@ -139,7 +140,7 @@ fn loads_outputs(rt: HostRuntime) -> Result<(), Fail> {
         assert_eq!(rt; outputs.bytes_read(), count);
     }
     let stored = StoredOutput::read("comb", FAILED, "-").ok_or("an output")?;
-    match stored.load(alloc, &mut RecordedOutputs::new(OUTPUTS)?) {
+    match stored.load(alloc, &mut RecordedOutputs::new(Metered::new(OUTPUTS))?) {
         Ok(ChildOutputDescription::Combined { output }) => {
             assert_eq!(rt; output.as_bytes(), b"failed\n".as_slice());
         }
@@ -196,7 +197,7 @@ fn tells_which_stream_is_damaged(rt: HostRuntime) -> Result<(), Fail> {
     ];
     for (form, first, second, stream, fault, count) in rows {
         let output = StoredOutput::read(form, first, second).ok_or("an output")?;
-        let mut outputs = RecordedOutputs::new(OUTPUTS)?;
+        let mut outputs = RecordedOutputs::new(Metered::new(OUTPUTS))?;
         let loaded = output.load(rt.alloc(), &mut outputs);
         assert_eq!(rt; loaded.err(), Some(StreamFault { stream, fault }));
         assert_eq!(rt; outputs.bytes_read(), count);
@@ -207,6 +208,22 @@ fn tells_which_stream_is_damaged(rt: HostRuntime) -> Result<(), Fail> {
         };
         let field = if stream == StreamField::First { 14 } else { 15 };
         assert_eq!(rt; placed.field_of(stream), field);
+    }
+    Ok(())
+}
+
+#[test]
+fn a_fault_of_a_stream_has_the_words_of_its_fault(rt: HostRuntime) -> Result<(), Fail> {
+    let faults = [
+        (LoadFault::PastEnd, "the output lies past the end"),
+        (LoadFault::WrongSum, "the output has another sum"),
+        (LoadFault::OutOfMemory, "out of memory"),
+    ];
+    for (fault, words) in faults {
+        for stream in [StreamField::First, StreamField::Second] {
+            let told = StreamFault { stream, fault };
+            assert_eq!(rt; told.to_string(rt.alloc())?.as_str(), words);
+        }
     }
     Ok(())
 }

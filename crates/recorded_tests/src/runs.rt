@@ -2,7 +2,7 @@
 
 use crate::tests::sources::Failing;
 use recorded_outputs::outputs::RecordedOutputs;
-use recorded_outputs::read_at::ReadAt;
+use recorded_outputs::read_at::{Metered, Source};
 use recorded_runs::run::RecordedRun;
 use run_model::level::StatusLevel;
 use scenes::args::{Options, StoreOptions};
@@ -61,13 +61,13 @@ struct Replayed<'a> {
     bytes_read: u64,
 }
 
-fn replay<'a, O: ReadAt + Drop>(
+fn replay<'a, O: Source + Drop>(
     alloc: Global,
     options: &Options<'a>,
     lines: &str,
     outputs: O,
 ) -> Result<Replayed<'a>, Fail> {
-    let outputs = RecordedOutputs::new(outputs)?;
+    let outputs = RecordedOutputs::new(Metered::new(outputs))?;
     let mut run = RecordedRun::new(alloc, *options, lines.as_bytes(), outputs)?;
     let (outcome, printed, stored) = run.replay(alloc, Vec::new(alloc), Vec::new(alloc));
     Ok(Replayed {
@@ -202,6 +202,9 @@ fn tells_that_outputs_cannot_be_read(rt: HostRuntime) -> Result<(), Fail> {
     let report = replay(alloc, &OPTIONS, lines.as_str(), OUTPUTS)?.printed;
     let kinds = [
         (ErrorKind::Other, "report: cannot read DIR", 2),
+        (ErrorKind::Interrupted, "report: cannot read DIR", 2),
+        (ErrorKind::PermissionDenied, "report: cannot read DIR", 2),
+        (ErrorKind::UnexpectedEof, "report: cannot read DIR", 2),
         (ErrorKind::OutOfMemory, "report: out of memory", 3),
     ];
     for (kind, line, status) in kinds {
@@ -216,5 +219,47 @@ fn tells_that_outputs_cannot_be_read(rt: HostRuntime) -> Result<(), Fail> {
         assert!(rt; report.as_slice().starts_with(replayed.printed.as_slice()));
         assert_eq!(rt; replayed.bytes_read, 0);
     }
+    Ok(())
+}
+
+// A line with backslashes and no reference, and one of 89 fields: of its ten attempts the first, the fifth and the last are stored, and
+// streams of no byte are among them.
+const MUCH: &str = "config\tfinal\tfail\n\
+setup\t-\t0\t1\tdb\t./start\\\\db\t\\x2d\n\
+done\t-\talpha\tt1\tnever\timmediate-final\tpass\tinitial=1 finished=1 failed=1\t10\
+\tfail:1\t5000000\t0\tsplit\tFAILED\tPASSED\t-\t-\
+\tfail:1\t5000000\t0\tsplit\t-\t-\t-\t-\
+\tfail:1\t5000000\t0\tsplit\t-\t-\t-\t-\
+\tfail:1\t5000000\t0\tsplit\t-\t-\t-\t-\
+\tfail:1\t5000000\t0\tsplit\tPASSED\tEMPTY\t-\t-\
+\tfail:1\t5000000\t0\tsplit\t-\t-\t-\t-\
+\tfail:1\t5000000\t0\tsplit\t-\t-\t-\t-\
+\tfail:1\t5000000\t0\tsplit\t-\t-\t-\t-\
+\tfail:1\t5000000\t0\tsplit\t-\t-\t-\t-\
+\tfail:1\t5000000\t0\tsplit\tEMPTY\tFAILED\t-\t-\
+\nend\t1520000000\tinitial=1 finished=1 failed=1\t0\t-\n";
+
+#[test]
+fn replays_lines_of_much_of_everything(rt: HostRuntime) -> Result<(), Fail> {
+    let alloc = rt.alloc();
+    let lines = MUCH
+        .replace(alloc, "PASSED", PASSED)?
+        .replace(alloc, "FAILED", FAILED)?
+        .replace(alloc, "EMPTY", "\\@14:0:d1fba762150c532c")?;
+    let inline = MUCH
+        .replace(alloc, "PASSED", "passed\\n")?
+        .replace(alloc, "FAILED", "failed\\n")?
+        .replace(alloc, "EMPTY", "")?;
+    let replayed = replay(alloc, &OPTIONS, lines.as_str(), OUTPUTS)?;
+    let (outcome, printed, _stored) = follow_scene(
+        alloc,
+        &OPTIONS,
+        inline.as_bytes(),
+        Vec::new(alloc),
+        Vec::new(alloc),
+    );
+    assert!(rt; outcome? == RunOutcome::Failed && replayed.outcome? == RunOutcome::Failed);
+    assert_eq!(rt; replayed.printed.as_slice(), printed.as_slice());
+    assert_eq!(rt; replayed.bytes_read, 28);
     Ok(())
 }

@@ -3,12 +3,13 @@
 pub mod sources;
 
 use recorded_outputs::outputs::{LoadFault, RecordedOutputs};
-use recorded_outputs::read_at::ReadAt;
+use recorded_outputs::read_at::{Metered, ReadAt, Source};
 use recorded_outputs::reference::{Reference, read_reference};
 use sources::{Failing, Growing, Shortened};
 use std::alloc::Global;
 use std::fs::File;
 use std::io::{Cursor, ErrorKind, Write};
+use std::path::Path;
 use std::process::Abort;
 use std::test::Fail;
 use std::{env, fs, io, process};
@@ -151,11 +152,15 @@ fn fault_of<O: ReadAt + Drop>(
 
 #[test]
 fn loads_from_memory(rt: HostRuntime) -> Result<(), Fail> {
-    check_loads(&rt, rt.alloc(), &mut RecordedOutputs::new(OUTPUTS)?)?;
     check_loads(
         &rt,
         rt.alloc(),
-        &mut RecordedOutputs::new(Cursor::new(OUTPUTS))?,
+        &mut RecordedOutputs::new(Metered::new(OUTPUTS))?,
+    )?;
+    check_loads(
+        &rt,
+        rt.alloc(),
+        &mut RecordedOutputs::new(Metered::new(Cursor::new(OUTPUTS)))?,
     )
 }
 
@@ -169,7 +174,7 @@ fn loads_from_a_file(rt: HostRuntime) -> Result<(), Fail> {
     // Both stay open, and nothing is left of it in the folder.
     fs::remove_file(&rt, path.as_path())?;
     written.write_all(&OUTPUTS[..7])?;
-    let mut outputs = RecordedOutputs::new(file)?;
+    let mut outputs = RecordedOutputs::new(Metered::new(file))?;
     assert!(rt; !outputs.holds(&reference(STREAMS[1].0)?)?);
     written.write_all(&OUTPUTS[7..])?;
     check_loads(&rt, alloc, &mut outputs)?;
@@ -181,8 +186,19 @@ fn loads_from_a_file(rt: HostRuntime) -> Result<(), Fail> {
 }
 
 #[test]
+fn a_file_that_gives_little_at_once_is_read_on(rt: HostRuntime) -> Result<(), Fail> {
+    // Linux gives a page of this file at most, however much is asked for.
+    let mut file = File::open(&rt, Path::new("/proc/self/smaps"))?;
+    let mut buffer = [0; 6_000];
+    file.read_at(0, &mut buffer)?;
+    assert!(rt; !buffer.contains(&0));
+    Ok(())
+}
+
+#[test]
 fn a_folder_gives_no_stream(rt: HostRuntime) -> Result<(), Fail> {
-    let mut outputs = RecordedOutputs::new(File::open(&rt, env::temp_dir(&rt)?.as_path())?)?;
+    let folder = File::open(&rt, env::temp_dir(&rt)?.as_path())?;
+    let mut outputs = RecordedOutputs::new(Metered::new(folder))?;
     for field in [STREAMS[0].0, STREAMS[2].0, PAST_END[2], PAST_END[3]] {
         assert!(rt;
             outputs.load(rt.alloc(), &reference(field)?).is_err(),
@@ -195,7 +211,7 @@ fn a_folder_gives_no_stream(rt: HostRuntime) -> Result<(), Fail> {
 
 #[test]
 fn asks_anew_how_many_bytes_there_are(rt: HostRuntime) -> Result<(), Fail> {
-    let mut outputs = RecordedOutputs::new(Growing::new(OUTPUTS, &[0, 7, 13, 14]))?;
+    let mut outputs = RecordedOutputs::new(Metered::new(Growing::new(OUTPUTS, &[0, 7, 13, 14])))?;
     let [first, second] = [reference(STREAMS[0].0)?, reference(STREAMS[1].0)?];
     assert!(rt; outputs.holds(&first)?);
     // It knows by now that the first is there, and asks for the second alone.
@@ -212,7 +228,7 @@ fn use_failing(
     first: &Reference,
     past: &Reference,
 ) -> Result<u64, LoadFault> {
-    let mut outputs = RecordedOutputs::new(source)?;
+    let mut outputs = RecordedOutputs::new(Metered::new(source))?;
     outputs.holds(past)?;
     outputs.load(alloc, first)?;
     outputs.load(alloc, first)?;
@@ -248,7 +264,11 @@ fn tells_of_each_call_that_fails(rt: HostRuntime) -> Result<(), Fail> {
 #[test]
 fn a_call_that_fails_leaves_the_outputs_as_they_were(rt: HostRuntime) -> Result<(), Fail> {
     let first = reference(STREAMS[0].0)?;
-    let mut outputs = RecordedOutputs::new(Failing::once(OUTPUTS, 1, ErrorKind::Other))?;
+    let mut outputs = RecordedOutputs::new(Metered::new(Failing::once(
+        OUTPUTS,
+        1,
+        ErrorKind::Other,
+    )))?;
     assert!(rt; outputs.load(rt.alloc(), &first).is_err());
     assert_eq!(rt; outputs.bytes_read(), 0);
     check_loads(&rt, rt.alloc(), &mut outputs)
@@ -257,7 +277,7 @@ fn a_call_that_fails_leaves_the_outputs_as_they_were(rt: HostRuntime) -> Result<
 #[test]
 fn bytes_that_are_told_and_missing_are_an_error(rt: HostRuntime) -> Result<(), Fail> {
     for there in 0..7 {
-        let mut outputs = RecordedOutputs::new(Shortened::new(OUTPUTS, there))?;
+        let mut outputs = RecordedOutputs::new(Metered::new(Shortened::new(OUTPUTS, there)))?;
         let fault = fault_of(rt.alloc(), &mut outputs, &reference(STREAMS[0].0)?);
         assert_eq!(rt;
             fault,

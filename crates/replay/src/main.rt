@@ -6,6 +6,7 @@
 
 use plain_text::write_str::RetryInterrupted;
 use recorded_outputs::outputs::RecordedOutputs;
+use recorded_outputs::read_at::Metered;
 use recorded_runs::run::RecordedRun;
 use scenes::args::{Options, words};
 use scenes::fault::{Fault, Program};
@@ -50,7 +51,7 @@ fn run<'a>(rt: &HostRuntime, args: &'a [String]) -> Result<RunOutcome, Fault<'a>
 // The files of a recorded run, and what the system says of each.
 struct RunFiles {
     lines: File,
-    outputs: RecordedOutputs<File>,
+    outputs: RecordedOutputs<Metered<File>>,
     inputs: [io::Result<Metadata>; 2],
 }
 
@@ -61,7 +62,7 @@ fn open(rt: &HostRuntime, folder: &str) -> io::Result<RunFiles> {
     let inputs = [lines.metadata(), outputs.metadata()];
     Ok(RunFiles {
         lines,
-        outputs: RecordedOutputs::new(outputs)?,
+        outputs: RecordedOutputs::new(Metered::new(outputs))?,
         inputs,
     })
 }

@@ -1,6 +1,6 @@
 //! What outputs are read from in these tests: calls that fail, bytes that come later, and bytes that are told and missing.
 
-use recorded_outputs::read_at::ReadAt;
+use recorded_outputs::read_at::Source;
 use std::io;
 use std::io::ErrorKind;
 
@@ -45,10 +45,10 @@ impl<'a> Failing<'a> {
     }
 }
 
-impl ReadAt for Failing<'_> {
+impl Source for Failing<'_> {
     fn len(&mut self) -> io::Result<u64> {
         self.call()?;
-        ReadAt::len(&mut self.all)
+        Source::len(&mut self.all)
     }
 
     fn read_at(&mut self, offset: u64, buffer: &mut [u8]) -> io::Result<()> {
@@ -71,7 +71,7 @@ impl<'a> Growing<'a> {
     }
 }
 
-impl ReadAt for Growing<'_> {
+impl Source for Growing<'_> {
     fn len(&mut self) -> io::Result<u64> {
         let Some((len, later)) = self.lens.split_first() else {
             return Err(ErrorKind::Other.into());
@@ -99,9 +99,9 @@ impl<'a> Shortened<'a> {
     }
 }
 
-impl ReadAt for Shortened<'_> {
+impl Source for Shortened<'_> {
     fn len(&mut self) -> io::Result<u64> {
-        ReadAt::len(&mut self.all)
+        Source::len(&mut self.all)
     }
 
     fn read_at(&mut self, offset: u64, buffer: &mut [u8]) -> io::Result<()> {

@@ -8,5 +8,5 @@ abbrev pub invariant-loop-placed : goal.invariant-loop-placed
 invariant-loop-placed g l = record {
   there : IsLeft is_there (g.O.ReadAt.recorded l.fn.outputs.source) (drop l.placed-index l.stored) l.stored;
   kept : g.O.ReadAt.recorded l.outputs.source ≡ g.O.ReadAt.recorded l.fn.outputs.source;
-  count : l.outputs.bytes_read ≡ l.fn.outputs.bytes_read;
+  count : g.O.ReadAt.count l.outputs.source ≡ g.O.ReadAt.count l.fn.outputs.source;
 }

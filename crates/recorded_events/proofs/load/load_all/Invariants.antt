@@ -10,6 +10,6 @@ invariant-loop-placed g l = record {
   undamaged : IsLeft is_undamaged (g.O.ReadAt.recorded l.fn.outputs.source) (drop l.placed-index l.stored) l.stored;
   loaded : IsLeftEvent (g.O.ReadAt.recorded l.fn.outputs.source) (drop l.placed-index l.stored) l.event l.stored l.fn.event;
   kept : g.O.ReadAt.recorded l.outputs.source ≡ g.O.ReadAt.recorded l.fn.outputs.source;
-  small : l.outputs.bytes_read ≤ 2 ^ 64 - 1;
-  count : counted l.outputs.bytes_read (outputs_len (drop l.placed-index l.stored)) ≡ counted l.fn.outputs.bytes_read (outputs_len l.stored);
+  small : g.O.ReadAt.count l.outputs.source ≤ 2 ^ 64 - 1;
+  count : counted (g.O.ReadAt.count l.outputs.source) (outputs_len (drop l.placed-index l.stored)) ≡ counted (g.O.ReadAt.count l.fn.outputs.source) (outputs_len l.stored);
 }

@@ -18,7 +18,7 @@ returns-then-len-place-clause-read g c = λ all known one.
 pub returns-then-len-place-clause-count : goal.returns-then-len-place-clause-count
 returns-then-len-place-clause-count g c = λ one.
     no_event_counted c.args.options.now (cow_str_bytes c.args.recorded.now.text) _ (c.as_bytes.ensures.value ∙ c.as_str.ensures.value) c.args.recorded.now.outputs.items c.args.read.now c.read_more.new.self c.in_ok-read_more.ensures.read one
-    _ _ (c.len-place.ensures ∙ c.args.read.now.run.events.ok.0) (c.len.ensures ∙ c.read_more.new.self.run.events.ok.0) c.if-len-place.true c.args.outputs.now.bytes_read
+    _ _ (c.len-place.ensures ∙ c.args.read.now.run.events.ok.0) (c.len.ensures ∙ c.read_more.new.self.run.events.ok.0) c.if-len-place.true (g.O.ReadAt.count c.args.outputs.now.source)
 
 pub returns-in_err-decider-clause-still : goal.returns-in_err-decider-clause-still
 returns-in_err-decider-clause-still g c = on_error c.from_residual-in_err-decider.result _ (keeps_read c.args.read.now c.read_more.new.self _ c.in_ok-read_more.ensures.read)

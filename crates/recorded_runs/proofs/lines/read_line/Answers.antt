@@ -14,7 +14,7 @@ returns-in_default-clause-read g c = λ all known lacks.
 
 pub returns-in_default-clause-count : goal.returns-in_default-clause-count
 returns-in_default-clause-count g c = λ all known lacks.
-    nothing_counted c.args.options.now c.args.line.now _ (bytes_unread _ c.in_default.ensures.cases.0) (bytes_stored _ c.in_default.ensures.cases.0) c.args.read.now c.args.outputs.now.bytes_read
+    nothing_counted c.args.options.now c.args.line.now _ (bytes_unread _ c.in_default.ensures.cases.0) (bytes_stored _ c.in_default.ensures.cases.0) c.args.read.now (g.O.ReadAt.count c.args.outputs.now.source)
 
 pub returns-in_err-recorded-clause-left : goal.returns-in_err-recorded-clause-left
 returns-in_err-recorded-clause-left g c = not_recorded c.from_residual-in_err-recorded.result _ c.args.line.now c.args.file.now c.args.read.now c.args.options.now c.from_residual-in_err-recorded.ensures
@@ -35,7 +35,7 @@ pub returns-then-is_empty-clause-count : goal.returns-then-is_empty-clause-count
 returns-then-is_empty-clause-count g c = λ all known lacks.
     nothing_counted c.args.options.now c.args.line.now _ (text_unread _ _ _ c.in-Ok.ensures.cases (c.as_bytes.ensures.value ∙ c.as_str.ensures.value ∙ c.in_ok-recorded.ensures.text))
     (text_stored _ _ _ c.in-Ok.ensures.cases c.in_ok-recorded.ensures.outputs ∙ none_in _ _ _ c.is_empty.ensures c.if-is_empty.true c.in_ok-recorded.recorded.outputs.ok.0)
-    c.args.read.now c.args.outputs.now.bytes_read
+    c.args.read.now (g.O.ReadAt.count c.args.outputs.now.source)
 
 pub returns-clause-read : goal.returns-clause-read
 returns-clause-read g c =
