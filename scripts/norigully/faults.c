@@ -1,14 +1,15 @@
 /* Loaded before the C library, it makes one call of a program fail: the growth of memory, the write to standard output or to a file that
    was opened, the read, the seek, or the look at what a file is (`look`). FAULT_KIND names the kind, and FAULT_AT says which call of it. A
    short write takes one byte; what is interrupted takes or gives none, and may be tried again. It creates the file FAULT_TOLD where the call
-   came. Four kinds change many calls. With `one-byte` every read gives a byte. With `random` reads and writes are interrupted or short, as
+   came. Five kinds change many calls. With `one-byte` every read gives a byte. With `random` reads and writes are interrupted or short, as
    FAULT_AT seeds it. With `interrupted-line` so many writes to standard error are interrupted. With `paced` each read of a file run.scene
-   waits for a byte of the descriptor FAULT_AT, and ends behind a line feed. `scripts/check-faults`, `scripts/check-process` and
+   waits for a byte of the descriptor FAULT_AT, and ends behind a line feed. With `no-root` the folder `/` cannot be opened. `scripts/check-faults`, `scripts/check-process` and
    `scripts/check-replay` use it. */
 #define _GNU_SOURCE
 #include <dlfcn.h>
 #include <errno.h>
 #include <fcntl.h>
+#include <stdarg.h>
 #include <stdio.h>
 #include <stdlib.h>
 #include <string.h>
@@ -165,6 +166,25 @@ ssize_t read(int file, void *bytes, size_t count)
         return -1;
     }
     return real(file, bytes, count);
+}
+
+int open(const char *path, int flags, ...)
+{
+    static int (*real)(const char *, int, ...);
+    mode_t mode = 0;
+    if (flags & O_CREAT) {
+        va_list more;
+        va_start(more, flags);
+        mode = va_arg(more, int);
+        va_end(more);
+    }
+    if (!real)
+        real = next("open");
+    if (is("no-root") && !strcmp(path, "/")) {
+        errno = EACCES;
+        return -1;
+    }
+    return real(path, flags, mode);
 }
 
 off_t lseek(int file, off_t offset, int whence)

@@ -35,12 +35,18 @@ def fill_standard_descriptors():
 def check_files(name, options):
     """Ends this where a file cannot be read, or the file of the records is one that is read and would be emptied. None
     is opened: a pipe can be read once."""
-    if any(os.path.isdir(file) or not os.access(file, os.R_OK) for file in options.files):
+    if not all(can_read(name, file) for file in options.files):
         fault(name, f"cannot read {options.file}", WRONG_WORDS)
     if options.store_at is not None:
         store = options.given[options.store_at]
         if any(is_same_file(store, file) for file in options.files or [INPUT]):
             fault(name, f"cannot write {store}", WRONG_WORDS)
+
+
+def can_read(name, file):
+    """Whether a program reads such a file. Those of a recorded run are no pipes."""
+    is_right = os.path.isfile(file) if name == "replay" else not os.path.isdir(file)
+    return is_right and os.access(file, os.R_OK)
 
 
 def is_same_file(store, file):

@@ -39,15 +39,21 @@ fn run<'a>(rt: &HostRuntime, args: &'a mut Vec<String>) -> Result<RunOutcome, Fa
         return Err(Fault::Usage);
     };
     if options.file == "-" {
-        return follow(rt, &options, rt.stdin(), fs::metadata(rt, "/dev/stdin"));
+        // Without `/dev/stdin` it is not known which file it is.
+        let input = fs::metadata(rt, "/dev/stdin").ok();
+        return follow(rt, &options, rt.stdin(), input);
     }
-    match File::open(rt, options.file) {
-        Ok(file) => {
-            let input = file.metadata();
-            follow(rt, &options, file, input)
-        }
+    match open(rt, options.file) {
+        Ok((file, input)) => follow(rt, &options, file, Some(input)),
         Err(error) => Err(Fault::CannotRead { file: options.file }.by_kind(error.kind())),
     }
+}
+
+// Opens a file, and asks which it is.
+fn open(rt: &HostRuntime, path: &str) -> io::Result<(File, Metadata)> {
+    let file = File::open(rt, path)?;
+    let input = file.metadata()?;
+    Ok((file, input))
 }
 
 // Follows the lines of a reader. The file of the records is made or emptied before a line is read, and is not the input.
@@ -55,7 +61,7 @@ fn follow<'a, R: Read + Drop>(
     rt: &HostRuntime,
     options: &Options<'a>,
     reader: R,
-    input: io::Result<Metadata>,
+    input: Option<Metadata>,
 ) -> Result<RunOutcome, Fault<'a>> {
     let alloc = rt.alloc();
     // A signal may interrupt a write, which is then made again.
@@ -63,7 +69,7 @@ fn follow<'a, R: Read + Drop>(
     let Some(store) = options.store else {
         return follow_scene(alloc, options, reader, output, io::sink()).0;
     };
-    match create_store(rt, store.file, &[input]) {
+    match create_store(rt, store.file, input.as_slice()) {
         Ok(file) => {
             let records = RetryInterrupted::new(file);
             follow_scene(alloc, options, reader, output, records).0

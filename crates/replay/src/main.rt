@@ -52,14 +52,14 @@ fn run<'a>(rt: &HostRuntime, args: &'a [String]) -> Result<RunOutcome, Fault<'a>
 struct RunFiles {
     lines: File,
     outputs: RecordedOutputs<Metered<File>>,
-    inputs: [io::Result<Metadata>; 2],
+    inputs: [Metadata; 2],
 }
 
 // Opens the lines and the outputs of the run in this folder.
 fn open(rt: &HostRuntime, folder: &str) -> io::Result<RunFiles> {
     let lines = open_file(rt, folder, "run.scene")?;
     let outputs = open_file(rt, folder, "outputs")?;
-    let inputs = [lines.metadata(), outputs.metadata()];
+    let inputs = [lines.metadata()?, outputs.metadata()?];
     Ok(RunFiles {
         lines,
         outputs: RecordedOutputs::new(Metered::new(outputs))?,

@@ -13,7 +13,7 @@ use std::fs::{File, Metadata};
 use std::io::{ErrorKind, Write};
 use std::os::fd::AsRawFd;
 use std::os::unix::fs::MetadataExt;
-use std::{env, fs, io, mem};
+use std::{env, fs, mem};
 
 // The last of the descriptors that every process is given: input, output and error.
 const STANDARD_ERROR: i32 = 2;
@@ -53,19 +53,19 @@ fn is_standard(file: &File) -> bool
     file.as_raw_fd() <= STANDARD_ERROR
 }
 
-/// Makes or empties the file of the records. It is refused where that is one of the files that are read, as far as the system told which they
-/// are, since it would be empty then; and where it would be a standard descriptor, since it would get what is printed.
+/// Makes or empties the file of the records. It is refused where that is one of the files that are read, since it would be empty then, and
+/// where it would be a standard descriptor, since it would get what is printed.
 pub fn create_store<'a>(
     rt: &HostRuntime,
     path: &'a str,
-    inputs: &[io::Result<Metadata>],
+    inputs: &[Metadata],
 ) -> Result<File, Fault<'a>>
     ensures ok { IfOk result (λ file. pos 2 <ℤ file_raw_fd file) }
     ensures err { IfErr result (λ fault. (fault ≡ Fault.CannotWrite path.entry) ⊎ (fault ≡ Fault.OutOfMemory)) }
 {
     let fault = Fault::CannotWrite { file: path };
     match fs::metadata(rt, path) {
-        Ok(there) if inputs.iter().any(|input| is_file_of(&there, input)) => return Err(fault),
+        Ok(there) if inputs.iter().any(|input| is_same_file(&there, input)) => return Err(fault),
         Ok(_) => {}
         Err(error) if error.kind() == ErrorKind::NotFound => {}
         // What cannot be looked at is not emptied.
@@ -78,12 +78,9 @@ pub fn create_store<'a>(
     }
 }
 
-// Whether this is the file of an input, by whatever path. Of a pipe or a device nothing is emptied.
-fn is_file_of(there: &Metadata, input: &io::Result<Metadata>) -> bool {
-    match input {
-        Ok(input) => there.is_file() && there.dev() == input.dev() && there.ino() == input.ino(),
-        Err(_) => false,
-    }
+// Whether both are the same file, by whatever path. Of a pipe or a device nothing is emptied.
+fn is_same_file(one: &Metadata, other: &Metadata) -> bool {
+    one.is_file() && one.dev() == other.dev() && one.ino() == other.ino()
 }
 
 /// Prints the line of a fault on standard error, and answers the status to end with.
