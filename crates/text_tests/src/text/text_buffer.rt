@@ -95,9 +95,11 @@ fn a_call_that_is_interrupted_is_made_again(rt: HostRuntime) -> Result<(), Fail>
     for times in [0, 1, 2, 100] {
         let device = RetryInterrupted::new(Device::interrupted(alloc, times));
         let (device, answer, pending) = deliver(alloc, device, TEXT)?;
-        let device = device.into_inner();
+        let mut device = device.into_inner();
         assert_eq!(rt; (answer, pending), (Ok(()), 0));
         assert_eq!(rt; device.taken(), TEXT.as_bytes());
+        // The flush was made until it worked, so the next one is interrupted anew.
+        assert_eq!(rt; device.flush().is_err(), times > 0);
     }
     Ok(())
 }
