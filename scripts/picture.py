@@ -52,7 +52,9 @@ def main():
     plain = [re.sub(r"\x1b\[[0-9;]*m", "", line) for line in lines]
     width = round(2 * MARGIN + COLUMN * max(map(len, plain)))
     height = 2 * MARGIN + LINE * len(lines)
-    print(f'<svg xmlns="http://www.w3.org/2000/svg" width="{width}" height="{height}" viewBox="0 0 {width} {height}">')
+    size = f'width="{width}" height="{height}" viewBox="0 0 {width} {height}"'
+    print(f'<svg xmlns="http://www.w3.org/2000/svg" role="img" {size}>')
+    print("<title>The coloured report of a test run</title>")
     print(f'<rect width="{width}" height="{height}" rx="8" fill="{BACKGROUND}"/>')
     print(
         '<g font-family="ui-monospace, SFMono-Regular, Menlo, Consolas, monospace" font-size="14" xml:space="preserve">'

@@ -10,8 +10,8 @@ class Bad(Exception):
 
 
 def run_script(name, doc, work):
-    """What a script's work answers; what is wrong is told in one line, with status 2. `--help` prints the script's
-    doc."""
+    """Returns what a script's work returns; an error is reported in one line, with status 2. `--help` prints the
+    script's doc."""
     print_help_if_asked(doc)
     try:
         return work()

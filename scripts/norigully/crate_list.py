@@ -26,7 +26,7 @@ def named_in(line):
 
 
 def with_those_below(names, top=TOP):
-    """These crates and all crates of the repository that they stand on, lowest first."""
+    """These crates and all crates of the repository that they depend on, lowest first."""
     lines, found = lines_of(top), set()
 
     def take(name):
