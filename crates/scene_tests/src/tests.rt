@@ -265,6 +265,7 @@ fn tells_why_a_file_is_not_read(rt: HostRuntime) -> Result<(), Fail> {
     let text = END.as_bytes();
     let kinds = [
         (ErrorKind::Other, "report: cannot read FILE", 2),
+        (ErrorKind::WouldBlock, "report: cannot read FILE", 2),
         (ErrorKind::OutOfMemory, "report: out of memory", 3),
     ];
     for (kind, line, status) in kinds {
