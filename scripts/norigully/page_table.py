@@ -15,8 +15,8 @@ class Table:
         """The lines go into this file, which is empty."""
         self.path, self.writer, self.reader = file, open(file, "wb"), open(file, "rb")
         self.sums, self.starts, self.end = array.array("q"), array.array("Q"), 0
-        # The places of the first report by their sums, in order; and those of lines that came later.
-        self.order, self.ordered, self.later = array.array("I"), array.array("q"), {}
+        # The places of the first report in the order of their sums, and by their sums those that came later.
+        self.order, self.later = array.array("I"), {}
 
     def close(self):
         self.writer.close()
@@ -54,13 +54,17 @@ class Table:
         return len(self.sums) - 1
 
     def put_in_order(self):
-        self.order = array.array("I", sorted(range(len(self.sums)), key=self.sums.__getitem__))
-        self.ordered = array.array("q", map(self.sums.__getitem__, self.order))
+        # In parts, by the first four bits: while it is sorted, a place takes twenty times as much memory.
+        for part in range(-8, 8):
+            places = (place for place, key in enumerate(self.sums) if key >> 60 == part)
+            self.order.extend(sorted(places, key=self.sums.__getitem__))
 
     def place_of(self, line, at):
         """The first place of the line from here on, or else its first one, or else a new one."""
         key = hash(line)
-        low, high = bisect.bisect_left(self.ordered, key), bisect.bisect_right(self.ordered, key)
+        sum_of = self.sums.__getitem__
+        low = bisect.bisect_left(self.order, key, key=sum_of)
+        high = bisect.bisect_right(self.order, key, low, key=sum_of)
         behind = bisect.bisect_left(self.order, at, low, high)
         known = itertools.chain(range(behind, high), range(low, behind))
         for place in itertools.chain(map(self.order.__getitem__, known), self.later.get(key, ())):

@@ -35,7 +35,7 @@ const put = (parent, pieces) => {
 // The report stands in blocks of lines. A block has its lines while it is near what is seen, and else its height alone.
 const blocks = () => report.children;
 const fill = async block => {
-  const number = Number(block.dataset.number), lines = block.filled ? null : await ask("block", { generation: shown.generation, number });
+  const number = Number(block.dataset.number), lines = block.filled ? null : await ask("block", { generation: shown.generation, at: number });
   if (!lines || block.filled || !block.isConnected) return;
   block.filled = true;
   block.replaceChildren(...lines.map(pieces => {

@@ -113,10 +113,10 @@ const answers = {
     current = { generation: current.generation + 1, report, styles };
     return { generation: current.generation, count: report.length, summary, failures: placesOfFailures(report) };
   },
-  block({ generation, number }) {
+  block({ generation, at }) {
     if (generation !== current.generation) return null;
-    let style = current.styles[number];
-    return Array.from(current.report.subarray(number * BLOCK, (number + 1) * BLOCK), place => {
+    let style = current.styles[at];
+    return Array.from(current.report.subarray(at * BLOCK, (at + 1) * BLOCK), place => {
       const made = pieces(table[place], style);
       style = styleAfter(table[place], style);
       return made;
