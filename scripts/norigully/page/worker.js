@@ -81,12 +81,14 @@ const placesOf = ({ level, failure, success }) => {
   return places;
 };
 
-// The line that tells a failure: the first with its name, but for one that says what was begun or is slow.
-const TELLS = /^ *(?:TRY \d+ )?(?!START|SLOW|SKIP|TERMINATING|PASS|LEAK )[A-Z][A-Z0-9 #/+-]*\[[^\]]*\] (?:\([^)]*\) |@[^ ]* )?(.*)$/;
+// The line that tells a failure: the first with its name, but for one that says what was begun or is slow. A line of
+// the report itself begins with a style, and one that a test wrote with spaces.
+const TELLS = /^ *(?:TRY \d+ )?(?!START|SLOW|SKIP|TERMINATING|PASS|LEAK )[A-Z][A-Z0-9 #/+-]*\[[^\]]*\] (?:\([^)]*\) |@[^ ]* )?(.*)$/s;
+const isOwn = place => table[place].startsWith("\x1b[");
 const placesOfFailures = report => {
   const first = new Map(about.failures.map(it => [it.join(" ").replace(SEQUENCE, ""), -1]));
   for (let n = 0; n < report.length; n++) {
-    const found = TELLS.exec(plainOf(report[n]));
+    const found = isOwn(report[n]) && TELLS.exec(plainOf(report[n]));
     if (found && first.get(found[1]) === -1) first.set(found[1], n);
   }
   return about.failures.map(it => first.get(it.join(" ").replace(SEQUENCE, "")));
@@ -107,7 +109,7 @@ const answers = {
     let style = PLAIN, summary = [];
     for (let n = 0; n < report.length; n++) {
       if (n % BLOCK === 0) styles.push(style);
-      if (/^ +Summary \[/.test(plainOf(report[n]))) summary = pieces(table[report[n]], style);
+      if (isOwn(report[n]) && /^ +Summary \[/.test(plainOf(report[n]))) summary = pieces(table[report[n]], style);
       style = styleAfter(table[report[n]], style);
     }
     current = { generation: current.generation + 1, report, styles };
