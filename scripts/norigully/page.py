@@ -137,13 +137,17 @@ class Run:
         """Has the program print a report, gives its lines to a call, and answers what that does."""
         words = [self.program, "--color", "--level", level, str(self.words)]
         with tempfile.TemporaryFile() as said:
-            with subprocess.Popen(words, stdin=subprocess.DEVNULL, stdout=subprocess.PIPE, stderr=said) as ran:
+            try:
+                ran = subprocess.Popen(words, stdin=subprocess.DEVNULL, stdout=subprocess.PIPE, stderr=said)
+            except OSError as error:
+                raise NoProgram(f"cannot run {self.program}: {error.strerror}") from None
+            with ran:
                 found = read(ran.stdout)
             said.seek(0)
-            if ran.returncode not in ENDED[self.name] or (fault := said.read()):
-                said.seek(0)
-                fault = said.read().decode(errors="replace").strip() or f"status {ran.returncode}"
-                raise Bad(fault.removeprefix(f"{self.name}: ").replace(str(self.words), self.asked.source))
+            fault = said.read().decode(errors="replace").strip()
+        if ran.returncode not in ENDED[self.name] or fault:
+            fault = fault.removeprefix(f"{self.name}: ").replace(str(self.words), self.asked.source)
+            raise Bad(fault or f"{self.name} ended with status {ran.returncode}")
         return found
 
     def choices(self):
