@@ -156,7 +156,7 @@ class Run:
             return SUCCESS, ""
         why = "" if self.asked.choices else f" ({self.size / 10**6:.0f} MB)"
         many, few = (len(it) * len(FAILURE) * len(LEVELS) for it in (SUCCESS, [""]))
-        return [""], f"This page of a large run{why} has {few} of {many} reports: output of successes is as the run says."
+        return [""], f"This page of a large run{why} has {few} of {many} reports: output of successes as in the run."
 
 
 def make(run, file):

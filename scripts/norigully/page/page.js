@@ -108,6 +108,12 @@ const show = async () => {
 
 // A link to each failure, which says its name in the address and can be sent.
 const addressOf = test => `#${encodeURIComponent(test.join(" "))}`;
+const addressed = () => {
+  try {
+    const name = decodeURIComponent(location.hash.slice(1));
+    return failures.findIndex(test => test.join(" ") === name);
+  } catch { return -1; }
+};
 const list = () => {
   const title = failures.length ? `${failures.length.toLocaleString("en")} failed` : "No failures";
   $("failures").querySelector("h2").textContent = title;
@@ -123,16 +129,18 @@ const list = () => {
   }));
 };
 const goToAddress = async () => {
-  const number = failures.findIndex(test => addressOf(test) === location.hash);
+  const number = addressed();
   for (const [k, link] of [...$("failures").querySelectorAll("a")].entries()) {
-    if (k === number) link.setAttribute("aria-current", "true"); else link.removeAttribute("aria-current");
+    if (k !== number) { link.removeAttribute("aria-current"); continue; }
+    link.setAttribute("aria-current", "true");
+    link.scrollIntoView({ block: "nearest" });
   }
   if (narrow.matches) fold($("failures"), true);
   if (number >= 0 && places[number] >= 0) await goTo(places[number]);
   else if (number >= 0) $("found").textContent = "not at this level";
 };
 const stepFailure = by => {
-  const now = failures.findIndex(test => addressOf(test) === location.hash), count = failures.length;
+  const now = addressed(), count = failures.length;
   if (count) location.hash = addressOf(failures[now < 0 ? (by > 0 ? 0 : count - 1) : (now + by + count) % count]);
 };
 
@@ -145,7 +153,10 @@ const search = async go => {
   markAll();
   if (go && hits.length) await goTo(hits[0]);
 };
-const tellFound = () => { $("found").textContent = $("find").value ? `${(at + 1).toLocaleString("en")} of ${hits.length.toLocaleString("en")}` : ""; };
+const tellFound = () => {
+  const [now, count] = [at + 1, hits.length].map(it => it.toLocaleString("en"));
+  $("found").textContent = $("find").value ? `${now} of ${count}` : "";
+};
 const step = async by => {
   if (!hits.length) return;
   at = (at + by + hits.length) % hits.length;
