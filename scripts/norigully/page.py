@@ -154,9 +154,9 @@ class Run:
         """The words for when output is shown of which the page has reports, and what it says of others."""
         if self.asked.choices == "all" or (self.asked.choices is None and self.size <= LARGE):
             return SUCCESS, ""
-        why = "" if self.asked.choices else f" ({self.size / 10**6:.0f} MB)"
+        why = "" if self.asked.choices else f" of a large run ({self.size / 10**6:.0f} MB)"
         many, few = (len(it) * len(FAILURE) * len(LEVELS) for it in (SUCCESS, [""]))
-        return [""], f"This page of a large run{why} has {few} of {many} reports: output of successes as in the run."
+        return [""], f"This page{why} has {few} of {many} reports: output of successes as in the run."
 
 
 def make(run, file):
