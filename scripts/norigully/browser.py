@@ -1,6 +1,7 @@
 """A browser that the checks of pages drive: chromium without a window, by its protocol for tools over two pipes."""
 
 import base64
+import contextlib
 import json
 import os
 import select
@@ -10,7 +11,10 @@ import tempfile
 import time
 
 NAMES = ("chromium", "chromium-headless-shell", "google-chrome")
-OPTIONS = ("--headless", "--no-sandbox", "--disable-gpu", "--no-first-run", "--disable-background-networking")
+OPTIONS = (
+    *("--headless", "--no-sandbox", "--disable-gpu", "--disable-dev-shm-usage"),
+    *("--no-first-run", "--disable-background-networking"),
+)
 # A browser has so many seconds for an answer.
 LIMIT = 120
 
@@ -20,6 +24,18 @@ def found():
     return next(filter(shutil.which, NAMES), None)
 
 
+@contextlib.contextmanager
+def started():
+    """A browser, or None where there is none that starts."""
+    browser = Browser(found())
+    with contextlib.ExitStack() as stack:
+        try:
+            stack.enter_context(browser)
+        except (OSError, EOFError):
+            browser = None
+        yield browser
+
+
 class Browser:
     """A browser with one page, while this is entered. It notes what the page asked the network for, and its errors."""
 
@@ -27,6 +43,8 @@ class Browser:
         self.name, self.number, self.held, self.events = name, 0, b"", []
 
     def __enter__(self):
+        if self.name is None:
+            raise FileNotFoundError("there is no browser")
         self.folder = tempfile.mkdtemp(prefix="norigully-")
         theirs, self.to = os.pipe()
         self.of, theirs_too = os.pipe()
@@ -40,18 +58,22 @@ class Browser:
         os.close(theirs)
         os.close(theirs_too)
         self.session = None
-        target = self.ask("Target.createTarget", url="about:blank")["targetId"]
-        self.session = self.ask("Target.attachToTarget", targetId=target, flatten=True)["sessionId"]
-        for domain in ("Page", "Network", "Runtime", "Log"):
-            self.ask(f"{domain}.enable")
+        try:
+            target = self.ask("Target.createTarget", url="about:blank")["targetId"]
+            self.session = self.ask("Target.attachToTarget", targetId=target, flatten=True)["sessionId"]
+            for domain in ("Page", "Network", "Runtime", "Log"):
+                self.ask(f"{domain}.enable")
+        except (OSError, EOFError):
+            self.__exit__()
+            raise
         return self
 
     def __exit__(self, *_):
         try:
-            session, self.session = self.session, None
+            self.session = None
             self.ask("Browser.close")
             self.ran.wait(LIMIT)
-        except (OSError, EOFError, TimeoutError, subprocess.TimeoutExpired):
+        except (OSError, EOFError, subprocess.TimeoutExpired):
             self.ran.kill()
             self.ran.wait()
         os.close(self.to)

@@ -32,6 +32,8 @@ SUCCESS = ("immediate", "", "never")
 # Of more lines than that a page has few choices, unless it is told otherwise: those of successes as the run says.
 LARGE = 32 * 10**6
 PIECE = 3 << 16
+# Standard output.
+OUTPUT = 1
 # A recorded run that failed is told by the status of `replay`.
 ENDED = {"report": (0,), "replay": (0, 3, 4, 100)}
 
@@ -196,7 +198,8 @@ def write_page(title, packed, file):
     before, data, behind = part("page.html").partition("<!--DATA-->\n")
     for name, text in {**parts, "SCRIPT": script}.items():
         before, behind = (it.replace(f"<!--{name}-->", text) for it in (before, behind))
-    file.write(before.encode())
+    # A title may be no UTF-8.
+    file.write(before.encode(errors="replace"))
     for name, source in packed.items():
         file.write(f'<script type="text/plain" id="{name}">'.encode())
         write_packed(source, file)
@@ -226,9 +229,5 @@ def main(words, program_of):
         with open(made, "wb") as file:
             make(Run(asked, Path(folder), program_of), file)
         with open(made, "rb") as page:
-            if asked.to is not None:
-                with open(asked.to, "wb") as file:
-                    shutil.copyfileobj(page, file)
-            else:
-                shutil.copyfileobj(page, sys.stdout.buffer)
-                sys.stdout.buffer.flush()
+            with open(OUTPUT, "wb", closefd=False) if asked.to is None else open(asked.to, "wb") as file:
+                shutil.copyfileobj(page, file)
