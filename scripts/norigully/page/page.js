@@ -3,6 +3,8 @@
 const $ = id => document.getElementById(id);
 const BLOCK = 200, LINE = 20, NEAR = "1500px";
 const report = $("report"), narrow = matchMedia("(max-width: 800px)");
+// So many blocks stand at a time: browsers scroll no further than some 800,000 lines.
+let most = 2500, base = 0;
 let shown = { generation: 0, count: 0 }, failures = [], places = [], hits = [], at = -1, marked = -1, searches = 0;
 
 // Questions to the worker, and their answers.
@@ -72,8 +74,10 @@ const mark = block => {
 };
 const markAll = () => { for (const block of blocks()) mark(block); };
 const goTo = async line => {
-  const block = blocks()[Math.floor(line / BLOCK)], { generation } = shown;
+  const number = Math.floor(line / BLOCK), { generation } = shown;
   marked = line;
+  if (number < base || number >= base + most) layOut(Math.floor(number / most) * most);
+  const block = blocks()[number - base];
   if (!block) return;
   if (!block.filled) block.scrollIntoView();
   await fill(block);
@@ -82,20 +86,32 @@ const goTo = async line => {
   markAll();
 };
 
+const layOut = first => {
+  base = first;
+  seen.disconnect();
+  const count = Math.min(most, Math.ceil(shown.count / BLOCK) - base);
+  report.replaceChildren(...Array.from({ length: count }, (_, k) => {
+    const block = document.createElement("div");
+    block.dataset.number = base + k;
+    block.style.height = `${Math.min(BLOCK, shown.count - (base + k) * BLOCK) * LINE}px`;
+    seen.observe(block);
+    return block;
+  }));
+  tellRest($("earlier"), 0, base * BLOCK);
+  tellRest($("later"), (base + count) * BLOCK, shown.count);
+};
+const tellRest = (button, from, to) => {
+  button.hidden = from >= to;
+  button.textContent = `Lines ${(from + 1).toLocaleString("en")} to ${to.toLocaleString("en")}`;
+};
+
 const chosen = () => ({ level: $("level").value, failure: $("failure").value, success: $("success").value });
 const show = async () => {
   const answer = await ask("show", { choice: chosen() });
   if (answer.generation < shown.generation) return;
-  seen.disconnect();
   shown = answer;
   [places, hits, at, marked] = [answer.failures, [], -1, -1];
-  report.replaceChildren(...Array.from({ length: Math.ceil(shown.count / BLOCK) }, (_, number) => {
-    const block = document.createElement("div");
-    block.dataset.number = number;
-    block.style.height = `${Math.min(BLOCK, shown.count - number * BLOCK) * LINE}px`;
-    seen.observe(block);
-    return block;
-  }));
+  layOut(0);
   $("summary").replaceChildren();
   if (!answer.summary.length) $("summary").textContent = shown.count ? "The run did not end" : "The report is empty";
   else {
@@ -184,6 +200,8 @@ $("find").addEventListener("keydown", event => {
   if (event.key === "Enter") { event.preventDefault(); step(event.shiftKey ? -1 : 1); }
   if (event.key === "Escape") { $("find").value = ""; search(false); report.focus(); }
 });
+$("earlier").addEventListener("click", () => goTo(base * BLOCK - 1));
+$("later").addEventListener("click", () => goTo((base + most) * BLOCK));
 $("up").addEventListener("click", () => step(-1));
 $("down").addEventListener("click", () => step(1));
 addEventListener("hashchange", goToAddress);
