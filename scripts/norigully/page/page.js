@@ -9,6 +9,7 @@ let shown = { generation: 0, count: 0 }, failures = [], places = [], hits = [], 
 
 // Questions to the worker, and their answers.
 const worker = new Worker(URL.createObjectURL(new Blob([$("worker").textContent], { type: "text/javascript" })));
+worker.onerror = () => { $("summary").textContent = "This run cannot be shown: the browser runs no worker here"; };
 const waiting = new Map();
 let questions = 0;
 const ask = (what, words = {}) => new Promise((resolve, reject) => {
