@@ -14,6 +14,8 @@ WRONG_WORDS, FAILED, NOT_BUILT, INTERRUPTED = 2, 3, 1, 130
 INPUT, OUTPUT, ERROR = range(3)
 # The first words that name another program than `report`.
 PROGRAMS = {"--follow": "follow", "--recorded": "replay"}
+# The first word that makes a page.
+PAGE = "--page"
 
 
 def fault(name, what, status):
@@ -79,9 +81,27 @@ def follows_pipe(name, options):
     return stat.S_ISFIFO(mode) or stat.S_ISSOCK(mode)
 
 
-def start(called, doc, kit_line, run_program):
+def make_page(called, words, program_of):
+    """Makes the page that the words ask for. A call answers where a proved program stands, or None."""
+    # Others need not wait for what only this one needs.
+    from norigully import converters, page
+
+    fill_standard_descriptors()
+    try:
+        page.main(words, program_of)
+    except page.NoProgram as error:
+        fault(called, str(error), NOT_BUILT)
+    except converters.Bad as error:
+        fault(called, str(error), WRONG_WORDS)
+    except (OSError, MemoryError):
+        fault(called, "write failed", FAILED)
+    except KeyboardInterrupt:
+        sys.exit(INTERRUPTED)
+
+
+def start(called, doc, kit_line, run_program, program_of):
     """Does what the words ask, by a call that runs a program: it gets the program's name, what is asked of it, and its
-    words. `called` is what this is called in its own lines."""
+    words. `called` is what this is called in its own lines. Another call answers where a proved program stands."""
     fill_standard_descriptors()
     words = sys.argv[1:]
     if sys.stdout is None and words in (["--help"], ["-h"], ["--version"], ["-V"]):
@@ -90,6 +110,9 @@ def start(called, doc, kit_line, run_program):
     if words in (["--version"], ["-V"]):
         print(f"norigully {VERSION}, the console reporter of nextest-runner 0.129.0 with a proof")
         print(kit_line(), end="")
+        return
+    if words[:1] == [PAGE]:
+        make_page(called, words[1:], program_of)
         return
     try:
         run_words(words, run_program)

@@ -1,12 +1,15 @@
 """usage: norigully [OPTIONS] FILE
        norigully --follow [OPTIONS] [FILE]
        norigully --recorded [OPTIONS] DIR
+       norigully --page [-o PAGE] FILE
 
 Prints the console report of a run that is written as text. FILE is the last word; - is standard input.
 
   --follow          as the first word: reports each line before it reads the next; without FILE, those of standard input
   --recorded        as the first word: reports the run in the folder DIR, as nextest shows a recorded run, and reads only
                     the captured output that the report shows
+  --page            as the first word: makes an HTML page of the run, which goes to PAGE or standard output; --recorded
+                    DIR is a recorded run, --title T its title, and --choices all or few says how many reports it has
   --color           with colours, which is the default on a terminal unless NO_COLOR is set
   --no-color        without colours, also on a terminal
   --counter         a counter on the line of each test
@@ -34,7 +37,11 @@ import zipapp
 from norigully.front import NOT_BUILT, fault, start
 
 # What it is made of.
-MODULES = ("__init__.py", "front.py", "installed.py", "words.py")
+MODULES = (
+    *("__init__.py", "front.py", "installed.py", "words.py"),
+    *("converters.py", "page.py", "page_table.py", "scene_lines.py"),
+)
+HERE = pathlib.Path(__file__).parent
 MAIN = "from norigully.installed import main\n\nmain()\n"
 
 
@@ -49,14 +56,20 @@ def write(target):
         made = pathlib.Path(made)
         (made / "norigully").mkdir()
         for module in MODULES:
-            shutil.copy(pathlib.Path(__file__).parent / module, made / "norigully")
+            shutil.copy(HERE / module, made / "norigully")
+        shutil.copytree(HERE / "page", made / "norigully/page")
         (made / "__main__.py").write_text(MAIN)
         zipapp.create_archive(made, target, "/usr/bin/env python3")
 
 
+def program_of(name):
+    """Where a program stands."""
+    return pathlib.Path(sys.argv[0]).resolve().parent / beside(name)
+
+
 def run_program(name, _options, words):
     """Becomes the program."""
-    program = pathlib.Path(sys.argv[0]).resolve().parent / beside(name)
+    program = program_of(name)
     try:
         os.execv(program, [name, *words])
     except OSError as error:
@@ -64,4 +77,4 @@ def run_program(name, _options, words):
 
 
 def main():
-    start("norigully", __doc__, str, run_program)
+    start("norigully", __doc__, str, run_program, program_of)

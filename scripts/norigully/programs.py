@@ -54,3 +54,8 @@ def is_current(name, top=TOP):
     if not program(name, top).is_file() or not sum_file(name, top).is_file():
         return False
     return sum_file(name, top).read_text() == sums_of(name, sum_of_sources(name, top), top)
+
+
+def proved(name):
+    """Where the proved program stands, or None where it is not there or not that of these sources."""
+    return program(name) if is_current(name) else None

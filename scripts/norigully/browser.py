@@ -1,0 +1,147 @@
+"""A browser that the checks of pages drive: chromium without a window, by its protocol for tools over two pipes."""
+
+import base64
+import contextlib
+import json
+import os
+import select
+import shutil
+import subprocess
+import tempfile
+import time
+
+NAMES = ("chromium", "chromium-headless-shell", "google-chrome")
+OPTIONS = (
+    *("--headless", "--no-sandbox", "--disable-gpu", "--disable-dev-shm-usage"),
+    *("--no-first-run", "--disable-background-networking"),
+)
+# A browser has so many seconds for an answer.
+LIMIT = 120
+
+
+def found():
+    """The name of a browser that is here, or None."""
+    return next(filter(shutil.which, NAMES), None)
+
+
+@contextlib.contextmanager
+def started():
+    """A browser, or None where there is none that starts."""
+    browser = Browser(found())
+    with contextlib.ExitStack() as stack:
+        try:
+            stack.enter_context(browser)
+        except (OSError, EOFError):
+            browser = None
+        yield browser
+
+
+class Browser:
+    """A browser with one page, while this is entered. It notes what the page asked the network for, and its errors."""
+
+    def __init__(self, name):
+        self.name, self.number, self.held, self.events = name, 0, b"", []
+
+    def __enter__(self):
+        if self.name is None:
+            raise FileNotFoundError("there is no browser")
+        self.folder = tempfile.mkdtemp(prefix="norigully-")
+        theirs, self.to = os.pipe()
+        self.of, theirs_too = os.pipe()
+        # The protocol is that of descriptors 3 and 4.
+        command = f'exec "$@" 3<&{theirs} 4>&{theirs_too}'
+        words = [*OPTIONS, f"--user-data-dir={self.folder}", "--remote-debugging-pipe", "about:blank"]
+        how = {"stdin": subprocess.DEVNULL, "stdout": subprocess.DEVNULL, "stderr": subprocess.DEVNULL}
+        self.ran = subprocess.Popen(
+            ["bash", "-c", command, "browser", self.name, *words], pass_fds=(theirs, theirs_too), **how
+        )
+        os.close(theirs)
+        os.close(theirs_too)
+        self.session = None
+        try:
+            target = self.ask("Target.createTarget", url="about:blank")["targetId"]
+            self.session = self.ask("Target.attachToTarget", targetId=target, flatten=True)["sessionId"]
+            for domain in ("Page", "Network", "Runtime", "Log"):
+                self.ask(f"{domain}.enable")
+        except (OSError, EOFError):
+            self.__exit__()
+            raise
+        return self
+
+    def __exit__(self, *_):
+        try:
+            self.session = None
+            self.ask("Browser.close")
+            self.ran.wait(LIMIT)
+        except (OSError, EOFError, subprocess.TimeoutExpired):
+            self.ran.kill()
+            self.ran.wait()
+        os.close(self.to)
+        os.close(self.of)
+        shutil.rmtree(self.folder, ignore_errors=True)
+
+    def read(self, until):
+        """The next message."""
+        while b"\0" not in self.held:
+            if not select.select([self.of], [], [], max(0, until - time.monotonic()))[0]:
+                raise TimeoutError(f"{self.name} did not answer")
+            piece = os.read(self.of, 1 << 16)
+            if not piece:
+                raise EOFError(f"{self.name} ended")
+            self.held += piece
+        message, _, self.held = self.held.partition(b"\0")
+        return json.loads(message)
+
+    def ask(self, method, **words):
+        """What the browser answers; events that come before are noted."""
+        self.number += 1
+        question = {"id": self.number, "method": method, "params": words}
+        if self.session:
+            question["sessionId"] = self.session
+        data, until = json.dumps(question).encode() + b"\0", time.monotonic() + LIMIT
+        while data:
+            data = data[os.write(self.to, data) :]
+        while True:
+            message = self.read(until)
+            if message.get("id") == self.number:
+                if "error" in message:
+                    raise OSError(f"{method}: {message['error']['message']}")
+                return message["result"]
+            self.events.append(message)
+
+    def open(self, address):
+        """Opens a page, and waits until it has read its run."""
+        self.events.clear()
+        self.ask("Page.navigate", url=address)
+        until = time.monotonic() + LIMIT
+        while not self.value("document.readyState === 'complete' && typeof ready === 'object'"):
+            if time.monotonic() > until:
+                raise TimeoutError(f"{address} is not ready")
+            time.sleep(0.02)
+        self.value("ready")
+
+    def value(self, script):
+        """The value of a script in the page, once it is there."""
+        found = self.ask("Runtime.evaluate", expression=script, awaitPromise=True, returnByValue=True)
+        if "exceptionDetails" in found:
+            raise OSError(json.dumps(found["exceptionDetails"])[:400])
+        return found["result"].get("value")
+
+    def resize(self, width, height, dark=False, scale=1, phone=False):
+        size = {"width": width, "height": height, "deviceScaleFactor": scale, "mobile": phone}
+        self.ask("Emulation.setDeviceMetricsOverride", **size)
+        scheme = [{"name": "prefers-color-scheme", "value": "dark" if dark else "light"}]
+        self.ask("Emulation.setEmulatedMedia", features=scheme)
+
+    def picture(self):
+        """What the page looks like, as a PNG."""
+        return base64.b64decode(self.ask("Page.captureScreenshot", format="png")["data"])
+
+    def requests(self):
+        """The addresses that the page asked for."""
+        return [it["params"]["request"]["url"] for it in self.events if it["method"] == "Network.requestWillBeSent"]
+
+    def errors(self):
+        """What the page said of errors, and of what its policy refused."""
+        kinds = ("Runtime.exceptionThrown", "Log.entryAdded", "Page.javascriptDialogOpening")
+        return [json.dumps(it["params"])[:300] for it in self.events if it["method"] in kinds]
