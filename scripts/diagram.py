@@ -17,8 +17,8 @@ from norigully import print_help_if_asked  # noqa: E402
 WIDTH, HEIGHT, LINE = 900, 640, 19
 TITLE = "What is proved, what is tested and what is trusted"
 DESCRIPTION = (
-    "A file or a program's events go to the reporter, through readers if it is a file. The reporter's texts go through "
-    "a TextBuffer to the operating system. Readers, reporter and TextBuffer are proved. The reporter is proved equal to "
+    "A file or a program's events go to the reporter, a file through readers. The reporter's texts go through a "
+    "TextBuffer to the operating system. Readers, reporter and TextBuffer are proved. The reporter is proved equal to "
     "definitions, which are tested against what nextest printed. The kit and the operating system are trusted."
 )
 # The kinds differ in the form of their line, too, so that no reader needs the colours.
