@@ -9,16 +9,16 @@ use Rattle.command_line.specs.declared.args.Options.{Options}
 use Rattle.command_line.specs.declared.args.StoreOptions.{StoreOptions}
 use Rattle.store_text.specs.declared.config.StoreConfig.{StoreConfig}
 
-abbrev pub Text : Type 0
-Text = List ℕ
+abbrev pub Argument : Type 0
+Argument = List ℕ
 
 -- the bytes of the words
-abbrev pub texts : List (String Global) → List Text
+abbrev pub texts : List (String Global) → List Argument
 texts ws = map string_bytes ws
 
 -- where records go, and what they hold
 pub record AskedStore : Type 0 where
-  pub file : Text
+  pub file : Argument
   pub config : StoreConfig
 
 -- what is asked for: `Options`, with a text for each that it borrows
@@ -29,10 +29,10 @@ pub record Asked : Type 0 where
   pub unload_skipped : Bool
   pub status_level : StatusLevel
   pub store : Option AskedStore
-  pub file : Text
+  pub file : Argument
 
 -- what these options ask for of a file and of records, if they are used rightly: without records no output is kept
-abbrev pub asked_of : ArgsSoFar → Option Text → Text → Option Asked
+abbrev pub asked_of : ArgsSoFar → Option Argument → Argument → Option Asked
 asked_of options store file =
     if is_none store && (options.store_success || options.store_failure) then None
     else Some (record {
@@ -46,11 +46,11 @@ asked_of options store file =
     })
 
 -- no option
-abbrev pub nothing_said : ArgsSoFar
-nothing_said = record { color = false; counter = false; replay = false; unload = false; level = None; store_success = false; store_failure = false }
+abbrev pub no_args : ArgsSoFar
+no_args = record { color = false; counter = false; replay = false; unload = false; level = None; store_success = false; store_failure = false }
 
 -- these options and a flag, if it is one and was not there before
-abbrev pub with_flag : ArgsSoFar → Text → Option ArgsSoFar
+abbrev pub with_flag : ArgsSoFar → Argument → Option ArgsSoFar
 with_flag options flag =
     if bytes_eq flag (codes "--color") && not options.color then Some (record options { color = true })
     else (if bytes_eq flag (codes "--counter") && not options.counter then Some (record options { counter = true })
@@ -61,7 +61,7 @@ with_flag options flag =
     else None)))))
 
 -- the status level of a word
-abbrev pub level_of : Text → Option StatusLevel
+abbrev pub level_of : Argument → Option StatusLevel
 level_of word =
     if bytes_eq word (codes "none") then Some status.None
     else (if bytes_eq word (codes "fail") then Some status.Fail
@@ -74,14 +74,14 @@ level_of word =
     else None)))))))
 
 -- these options and the word of a status level, if it is one and no level was there before
-abbrev pub with_level : ArgsSoFar → Text → Option ArgsSoFar
+abbrev pub with_level : ArgsSoFar → Argument → Option ArgsSoFar
 with_level options word =
     if is_some options.level then None
     else option_map (λ level. record options { level = Some level }) (level_of word)
 
 -- what words ask for after these options and where records go, if they are used rightly: the last one is the file, a level follows
 -- `--level`, and the file of the records follows `--store`
-unfoldable pub options_after : ArgsSoFar → Option Text → List Text → Option Asked
+unfoldable pub options_after : ArgsSoFar → Option Argument → List Argument → Option Asked
 options_after options store [] = None
 options_after options store (file ∷ []) = asked_of options store file
 options_after options store (option ∷ word ∷ rest) =
@@ -90,18 +90,18 @@ options_after options store (option ∷ word ∷ rest) =
     else option_and_then (λ more. options_after more store (word ∷ rest)) (with_flag options option))
 
 -- what these words ask for, if they are used rightly
-abbrev pub options_of : List Text → Option Asked
-options_of words = options_after nothing_said None words
+abbrev pub options_of : List Argument → Option Asked
+options_of words = options_after no_args None words
 
 -- the same where standard input is the file `-`, and is read if no file is named
-abbrev pub options_or_input : List Text → Option Asked
+abbrev pub options_or_input : List Argument → Option Asked
 options_or_input words = option_or (options_of (words ++ codes "-" ∷ [])) (options_of words)
 
--- the records that the program took them to ask for
+-- `StoreOptions` with texts in place of borrowed words
 abbrev pub store_asked_for : StoreOptions → AskedStore
 store_asked_for s = record { file = s.file.now; config = s.config }
 
--- what the program took them to ask for
+-- `Options` with texts in place of borrowed words
 abbrev pub asked_for : Options → Asked
 asked_for o = record {
   should_colorize = o.should_colorize;

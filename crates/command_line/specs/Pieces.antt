@@ -2,8 +2,8 @@
 use Rattle.std.specs.Prelude.{◌≡◌, ◌⊎◌, ◌<◌, ℕ, Bool, true, false, List, [], ◌∷◌, ◌++◌, length, Option, Some, ⊤}
 use Rattle.command_line.specs.declared.fault.Fault.{Fault}
 use Rattle.command_line.specs.declared.fault.Fault.TheVariants as fault
-use Rattle.command_line.specs.declared.pieces.Taken.{Taken}
-use Rattle.command_line.specs.declared.pieces.Taken.TheVariants as taken
+use Rattle.command_line.specs.declared.pieces.Chunk.{Chunk}
+use Rattle.command_line.specs.declared.pieces.Chunk.TheVariants as taken
 
 -- what was read of a text: nothing, where it was empty; or a piece that a line feed parts from what is left, or the whole text, where it was not
 -- empty
@@ -13,7 +13,7 @@ IsNextPiece text true piece rest = (more : List ℕ) × (rest ≡ Some more) × 
 
 -- what was taken of a text whose first bytes are at hand, behind what was taken before: lines and the line feed that ends them, a part
 -- of one, or nothing, where none are at hand; and what is left of it
-abbrev pub IsBehind : Taken → List ℕ → List ℕ → List ℕ → List ℕ → Option (List ℕ) → Type 0
+abbrev pub IsBehind : Chunk → List ℕ → List ℕ → List ℕ → List ℕ → Option (List ℕ) → Type 0
 IsBehind taken.Lines at_hand text old new rest = (more : List ℕ) × (rest ≡ Some more) × (old ++ text ≡ new ++ 10 ∷ more)
 IsBehind taken.Part at_hand text old new rest = (more : List ℕ) × (rest ≡ Some more) × (old ++ text ≡ new ++ more)
 IsBehind taken.Nothing at_hand text old new rest = (at_hand ≡ []) × (rest ≡ Some text) × (new ≡ old)

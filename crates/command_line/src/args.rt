@@ -63,9 +63,9 @@ pub fn words(words: &[String]) -> Option<Options<'_>>
 /// ```
 /// let mut given = Vec::new(alloc);
 /// given.push(String::from_str(alloc, "--color")?)?;
-/// assert_eq!(words_or_input(alloc, &mut given)?.map(|options| options.file), Some("-"));
+/// assert_eq!(args_or_input(alloc, &mut given)?.map(|options| options.file), Some("-"));
 /// ```
-pub fn words_or_input<'a>(
+pub fn args_or_input<'a>(
     alloc: Global,
     given: &'a mut Vec<String>,
 ) -> Result<Option<Options<'a>>, OutOfMemory>

@@ -27,10 +27,10 @@ pub fn next_piece<'a, R: Read>(
             Err(error) => return Err(Fault::CannotRead { file }.by_kind(error.kind())),
         }
         match take_at_hand(reader, piece)? {
-            Taken::Lines => return Ok(true),
-            Taken::Part => {}
+            Chunk::Lines => return Ok(true),
+            Chunk::Part => {}
             // The file ends here.
-            Taken::Nothing => return Ok(!piece.is_empty()),
+            Chunk::Nothing => return Ok(!piece.is_empty()),
         }
     }
     Err(Fault::CannotRead { file })
@@ -38,7 +38,7 @@ pub fn next_piece<'a, R: Read>(
 
 // What was taken of the bytes that a reader has at hand.
 #[derive(Clone, Copy)]
-enum Taken {
+enum Chunk {
     // Whole lines, and the line feed that ends the last.
     Lines,
     // All of them, which are a part of a line.
@@ -51,7 +51,7 @@ enum Taken {
 fn take_at_hand<R: Read>(
     reader: &mut BufReader<R>,
     piece: &mut Vec<u8>,
-) -> Result<Taken, OutOfMemory>
+) -> Result<Chunk, OutOfMemory>
     ensures { IfOk result (λ taken. (text : List ℕ) → reader_remaining R.remaining reader.old ≡ Some text → IsBehind taken (reader_buffer reader.old) text piece.old.items piece.new.items (reader_remaining R.remaining reader.new)) }
 {
     let at_hand = reader.buffer();
@@ -59,14 +59,14 @@ fn take_at_hand<R: Read>(
         Some(at) => {
             piece.extend_from_slice(&at_hand[..at])?;
             reader.consume(at + 1);
-            Ok(Taken::Lines)
+            Ok(Chunk::Lines)
         }
-        None if at_hand.is_empty() => Ok(Taken::Nothing),
+        None if at_hand.is_empty() => Ok(Chunk::Nothing),
         None => {
             let count = at_hand.len();
             piece.extend_from_slice(at_hand)?;
             reader.consume(count);
-            Ok(Taken::Part)
+            Ok(Chunk::Part)
         }
     }
 }

@@ -1,11 +1,10 @@
 pub mod Calls
-pub mod UninterruptedRuns
-pub mod EntryColourPairs
 pub mod Exactness
 pub mod Independence
 pub mod Isolation
 pub mod OtherOutputs
 pub mod Pasts
+pub mod PlainEntries
 pub mod Promises
 pub mod Refusals
 pub mod ReportColourPairs
@@ -14,4 +13,4 @@ pub mod Runs
 pub mod Same
 pub mod Stores
 pub mod Texts
-pub mod WholeLines
+pub mod UninterruptedRuns

@@ -11,8 +11,8 @@ pub mod PlainCalls
 pub mod PlainLaw
 pub mod Report
 pub mod ReportErrors
+pub mod Runs
 pub mod OptionalStore
 pub mod Statistics
 pub mod Stored
 pub mod Telling
-pub mod Topics

@@ -1,5 +1,5 @@
 -- How a call of a reporter ends.
-use Rattle.std.specs.Prelude.{◌≡◌, [], ◌∷◌, ◌++◌, ◌⊎◌, Option, None, Result, Ok, Err}
+use Rattle.std.specs.Prelude.{◌≡◌, ◌++◌, ◌⊎◌, Option, None, Result, Ok, Err}
 use Rattle.plain_text.specs.Texts.{Text}
 use Rattle.plain_text.specs.Writer.{Meaning}
 use Rattle.plain_text.specs.declared.write_str.WriteFault.{WriteFault}
@@ -37,10 +37,6 @@ Stops Records m old text StoreIo new = m.stops old text Device new
 abbrev pub answered_refusal : Result (Unit {0}) WriteEventError → Option WriteEventError
 answered_refusal (Ok done) = None
 answered_refusal (Err e) = refusal_in e
-
--- the text is empty or ends in a line feed
-abbrev pub IsOfLines : Text → Type 0
-IsOfLines t = (t ≡ []) ⊎ ((front : Text) × (t ≡ front ++ 10 ∷ []))
 
 -- what a fault at a side is to the caller of a reporter
 abbrev pub error_for : Side → WriteFault → WriteEventError

@@ -1,5 +1,5 @@
 -- The report: the text of each call, from the call, the configuration and the calls before it.
-use Rattle.std.specs.Prelude.{ℕ, List, [], ◌∷◌, ◌++◌, Option, None, Some, nat_lt, reverse, take, slice_get, if◌then◌else◌}
+use Rattle.std.specs.Prelude.{ℕ, Bool, false, List, [], ◌∷◌, ◌++◌, Option, None, Some, nat_lt, reverse, take, slice_get}
 use Rattle.std.specs.Option.{option_map_or}
 use Rattle.run_model.specs.Stats.{final_stats_of_run}
 use Rattle.run_names.specs.UniquePrefixes.{UniquePrefix}
@@ -19,6 +19,7 @@ use Rattle.run_text.specs.Cancel.{begin_cancel_text, begin_kill_text}
 use Rattle.run_text.specs.Header.{replay_header_text}
 use Rattle.run_text.specs.Input.{input_enter_text}
 use Rattle.run_text.specs.NotSeen.{not_seen_text}
+use Rattle.report_words.specs.Parts.{Parts, Line, Lines, none, ◌⧺◌, choice, plainly, loosely, paint}
 use Rattle.run_text.specs.Pause.{run_continued_text, run_paused_text}
 use Rattle.run_text.specs.SetupScript.{setup_script_finished_text, setup_script_slow_text, setup_script_started_text}
 use Rattle.run_text.specs.Start.{run_started_text}
@@ -37,10 +38,10 @@ use Rattle.run_model.specs.declared.call.ReportCall.TheVariants.{Event, Header, 
 use Rattle.reporter_state.specs.declared.final_output.FinalOutputEntry.{FinalOutputEntry}
 
 -- the text of the test that an event finishes
-abbrev pub finished_text : Settings → Option TestEnd → Text
-finished_text s None = []
+abbrev pub finished_text : Settings → Option TestEnd → Parts false Lines
+finished_text s None = plainly none
 finished_text s (Some (Finished f)) = test_finished_text s f
-finished_text s (Some (Skipped test)) = []
+finished_text s (Some (Skipped test)) = plainly none
 
 -- what a text may read of the calls before it: the prefix of the run's id, the rank of the reason, and the entries as they stand
 pub record Known : Type 0 where
@@ -49,46 +50,56 @@ pub record Known : Type 0 where
   pub entries : List FinalOutputEntry
 
 -- the entries, where no hiding reason was given
-unfoldable pub listed_text : Settings → Known → Text
-listed_text s known = if nat_lt known.reason hiding_rank then entries_text s known.entries else []
+unfoldable pub listed_text : Settings → Known → Parts false Lines
+listed_text s known = choice (nat_lt known.reason hiding_rank) (entries_text s known.entries) none
 
 -- the end of a run: its summary, the entries, the tests that were not seen, and the warnings
-abbrev pub end_of_run_text : Settings → Known → ℕ → RunFinishedStats → Option NotSeen → Text
+abbrev pub end_of_run_text : Settings → Known → ℕ → RunFinishedStats → Option NotSeen → Parts false Line
 end_of_run_text s known elapsed stats outstanding =
-    run_finished_text s elapsed stats
-    ++ (listed_text s known ++ (not_seen_text s outstanding ++ final_warnings s.styles s.mode (final_stats_of_run stats)))
+    run_finished_text s.theme_characters s.mode elapsed stats
+    ⧺ listed_text s known
+    ⧺ not_seen_text s.mode outstanding
+    ⧺ final_warnings s.mode (final_stats_of_run stats)
 
 -- a setup script of an event
 abbrev pub script_by : Option StressIndex → Text → Text → List Text → Script
 script_by stress id program args = record { stress_index = stress; script_id = id; program = program; args = args }
 
--- the text of an event, by what is known of the calls before it and how long the run has taken
-unfoldable pub event_text : Settings → Known → ℕ → TestEventKind → Text
-event_text s known elapsed (RunStarted counts id profile) = run_started_text s known.prefix counts id profile
-event_text s known elapsed (StressSubRunStarted progress) = stress_sub_run_started_text s progress
-event_text s known elapsed (SetupScriptStarted stress index total id program args) =
-    setup_script_started_text s.styles index total (script_by stress id program args)
-event_text s known elapsed (SetupScriptSlow stress id program args taken will_terminate) =
+-- what ends in a line feed, beside texts that may be empty
+abbrev pub line : {a : Bool} → Parts a Line → Parts false Lines
+line x = plainly (loosely x)
+
+-- the parts of an event, by what is known of the calls before it and how long the run has taken
+abbrev pub event_parts : Settings → Known → ℕ → TestEventKind → Parts false Lines
+event_parts s known elapsed (RunStarted counts id profile) = line (run_started_text s known.prefix counts id profile)
+event_parts s known elapsed (StressSubRunStarted progress) = line (stress_sub_run_started_text s.theme_characters progress)
+event_parts s known elapsed (SetupScriptStarted stress index total id program args) =
+    line (setup_script_started_text index total (script_by stress id program args))
+event_parts s known elapsed (SetupScriptSlow stress id program args taken will_terminate) =
     setup_script_slow_text s (script_by stress id program args) taken.0 will_terminate
-event_text s known elapsed (SetupScriptFinished stress id program args status) =
-    setup_script_finished_text s (script_by stress id program args) status
-event_text s known elapsed (TestStarted stress instance stats command) = test_started_text s stress instance stats command
-event_text s known elapsed (TestSlow stress instance retry taken will_terminate) = test_slow_text s stress instance retry taken.0 will_terminate
-event_text s known elapsed (TestAttemptFailedWillRetry stress instance status delay failure) = attempt_failed_text s stress instance status delay.0 failure
-event_text s known elapsed (TestRetryStarted stress instance retry command) = test_retry_started_text s stress instance retry command
-event_text s known elapsed (TestFinished stress instance success failure statuses stats) =
+event_parts s known elapsed (SetupScriptFinished stress id program args status) =
+    line (setup_script_finished_text s (script_by stress id program args) status)
+event_parts s known elapsed (TestStarted stress instance stats command) = test_started_text s stress instance stats command
+event_parts s known elapsed (TestSlow stress instance retry taken will_terminate) = test_slow_text s stress instance retry taken.0 will_terminate
+event_parts s known elapsed (TestAttemptFailedWillRetry stress instance status delay failure) = attempt_failed_text s stress instance status delay.0 failure
+event_parts s known elapsed (TestRetryStarted stress instance retry command) = test_retry_started_text s stress instance retry command
+event_parts s known elapsed (TestFinished stress instance success failure statuses stats) =
     test_finished_text s (test_finish s known.reason stress instance success failure statuses stats)
-event_text s known elapsed (TestSkipped stress instance) = test_skipped_text s stress instance
-event_text s known elapsed (RunBeginCancel scripts stats running) = begin_cancel_text s scripts stats.cancel_reason running
-event_text s known elapsed (RunBeginKill scripts stats running) = begin_kill_text s scripts stats.cancel_reason running
-event_text s known elapsed (RunPaused scripts running) = run_paused_text s scripts running
-event_text s known elapsed (RunContinued scripts running) = run_continued_text s scripts running
-event_text s known elapsed (InfoStarted total stats) = info_started_text s elapsed total stats
-event_text s known elapsed (InfoResponse index total response) = info_response_text s index total response
-event_text s known elapsed (InfoFinished missing) = info_finished_text s missing
-event_text s known elapsed (InputEnter stats running) = input_enter_text s.styles elapsed stats running
-event_text s known elapsed (StressSubRunFinished progress taken stats) = stress_sub_run_finished_text s progress taken.0 stats
-event_text s known elapsed (RunFinished taken stats outstanding) = end_of_run_text s known taken.0 stats outstanding
+event_parts s known elapsed (TestSkipped stress instance) = test_skipped_text s stress instance
+event_parts s known elapsed (RunBeginCancel scripts stats running) = line (begin_cancel_text s.mode scripts stats.cancel_reason running)
+event_parts s known elapsed (RunBeginKill scripts stats running) = line (begin_kill_text s.mode scripts stats.cancel_reason running)
+event_parts s known elapsed (RunPaused scripts running) = line (run_paused_text s.mode scripts running)
+event_parts s known elapsed (RunContinued scripts running) = line (run_continued_text s.mode scripts running)
+event_parts s known elapsed (InfoStarted total stats) = line (info_started_text s.theme_characters elapsed total stats)
+event_parts s known elapsed (InfoResponse index total response) = line (info_response_text s index total response)
+event_parts s known elapsed (InfoFinished missing) = line (info_finished_text s.theme_characters missing)
+event_parts s known elapsed (InputEnter stats running) = line (input_enter_text elapsed stats running)
+event_parts s known elapsed (StressSubRunFinished progress taken stats) = line (stress_sub_run_finished_text s.mode progress taken.0 stats)
+event_parts s known elapsed (RunFinished taken stats outstanding) = line (end_of_run_text s known taken.0 stats outstanding)
+
+-- the parts painted
+unfoldable pub event_text : Settings → Known → ℕ → TestEventKind → Text
+event_text s known elapsed e = paint s.styles (event_parts s known elapsed e)
 
 -- what is known after a past, a list of calls with the latest first: the entries are in their final order
 abbrev pub known_after : Configuration → List ReportCall → Known
@@ -101,7 +112,7 @@ known_after config past = record {
 -- the text of a call after a past
 abbrev pub text : Configuration → List ReportCall → ReportCall → Text
 text config past (Event e) = event_text (settings_of config) (known_after config past) e.elapsed.0 e.kind
-text config past (Header h) = replay_header_text (settings_of config).styles h
+text config past (Header h) = paint (settings_of config).styles (replay_header_text h)
 text config past (Prefix p) = []
 
 -- the texts of the calls of a past, in the order of the calls

@@ -5,7 +5,8 @@ use Rattle.plain_text.specs.Texts.{Text}
 use Rattle.plain_text.specs.Writer.{Meaning, successor}
 use Rattle.console_reporter.specs.Configuration.{Configuration}
 use Rattle.console_reporter.specs.Accepted.{refusal}
-use Rattle.console_reporter.specs.Outcomes.{IsOfLines, Stops, answered_refusal}
+use Rattle.report_words.specs.Parts.{IsOfLines}
+use Rattle.console_reporter.specs.Outcomes.{Stops, answered_refusal}
 use Rattle.console_reporter.specs.Outcomes.Side.{Report, Records}
 use Rattle.console_reporter.specs.Report.{report, text}
 use Rattle.console_reporter.specs.OptionalStore.{IsSameStore, store_meaning}
@@ -46,11 +47,11 @@ IsNeverRefused (Some (Header header)) = Unit {0}
 IsNeverRefused (Some (Prefix prefix)) = Unit {0}
 
 -- every call but the taking of a prefix delivers what the writers hold
-abbrev pub Delivers : Option ReportCall → Type 0
-Delivers None = Unit {0}
-Delivers (Some (Event event)) = Unit {0}
-Delivers (Some (Header header)) = Unit {0}
-Delivers (Some (Prefix prefix)) = ⊥
+abbrev pub IsDelivered : Option ReportCall → Type 0
+IsDelivered None = Unit {0}
+IsDelivered (Some (Event event)) = Unit {0}
+IsDelivered (Some (Header header)) = Unit {0}
+IsDelivered (Some (Prefix prefix)) = ⊥
 
 -- both have the same writers, and go by the same settings
 pub record IsSameReporter {W S : Type 0} (old new : DisplayReporter W S) : Type 0 where
@@ -85,7 +86,7 @@ module _ {W S : Type 0} (m : Meaning W) (n : Meaning S) where
   pub record Promises (old : DisplayReporter W S) (call : Option ReportCall) (result : Result (Unit {0}) WriteEventError) (new : DisplayReporter W S) : Type 0 where
     pub same : IsSameReporter old new
     pub ok : OnOk result (Tells old call new)
-    pub delivered : Delivers call ⊎ AreDelivered old → OnOk result (AreDelivered new)
+    pub delivered : IsDelivered call ⊎ AreDelivered old → OnOk result (AreDelivered new)
     pub err : IfErr result (λ e. Breaks old call e new)
     pub lines : (config : Configuration) (past : List ReportCall) → IsOfLines (told_text config past call)
     -- it is refused by itself, whatever stood before, and then changes nothing

@@ -1,15 +1,15 @@
 //! The reporter: what it is built from, its calls, and the run of a list of calls.
 //!
 //! One module a concern: `builder` says what a reporter is built from (what it is asked is `run_model::call`), `unload` which outputs a
-//! replay may leave unread, `store` where records go, `reporter` the calls, `run` the run of a list of them, and `topics` what text an
-//! event has. What is known of the calls before, and what is decided of the next one, stands in the crate `reporter_state`; the texts
+//! replay may leave unread, `store` where records go, `reporter` the calls, `event_text` what text an event has, and `run` the run of a
+//! list of them. What is known of the calls before, and what is decided of the next one, stands in the crate `reporter_state`; the texts
 //! themselves in the crates `test_text`, `run_text` and `info_text`, and the records in `store_text`.
 
 mod builder;
+mod event_text;
 mod reporter;
 mod run;
 mod store;
-mod topics;
 mod unload;
 
 pub use builder::{DisplayReporterBuilder, Surroundings};

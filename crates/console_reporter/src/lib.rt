@@ -8,9 +8,9 @@
 //! A call of `write_event` passes these crates:
 //!
 //! 1. `reporter_state`: the decider says by the event's metadata whether it is refused, which changes nothing.
-//! 2. This one: `imp::topics` picks the function that writes the text. Those of tests stand in `test_text`, of a run and of its setup scripts
+//! 2. This one: `imp::event_text` picks the function that writes the text. Those of tests are in `test_text`, of a run and of its setup scripts
 //!    in `run_text`, of what units are doing in `info_text`.
-//! 3. They put together what several events have, in `event_text`; captured output, in `unit_report`; names and counters, in `report_text`
+//! 3. They put together what several events have, in `text_parts`; captured output, in `unit_report`; names and counters, in `report_text`
 //!    and `report_words`; styles, numbers and cut lines, in `plain_text`.
 //! 4. `plain_text`: the `TextBuffer` gathers the text and delivers it.
 //! 5. `reporter_state`: what a later summary lists is kept.
@@ -21,7 +21,7 @@
 //! 1. `command_line`: the next whole lines of the file are taken.
 //! 2. `scene_text`: the line is read into an event of `scene_events`, field by field in `scene_fields`.
 //! 3. `scenes`, in `report`: once all lines are read, the decider is asked of each event. `follow` asks when the event's turn comes.
-//! 4. `scenes`, `SceneReporter`: the event is made a call, and that is made of the reporter.
+//! 4. `scenes`, `SceneReporter`: the event becomes a call, which the reporter is given.
 //!
 //! `follow` reports the lines that it has at hand before it reads more.
 #![tactic(auto)]

@@ -6,7 +6,7 @@
 //! assert!(passed.last_status().result.is_success());
 //! ```
 //!
-//! All else of a run's events stands in [`crate::model`], the crate `run_model`.
+//! The other types of events are in [`crate::model`], the crate `run_model`.
 
 pub use crate::error::ReportError;
 pub use crate::imp::{

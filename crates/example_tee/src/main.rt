@@ -15,11 +15,11 @@ fn main(rt: HostRuntime) -> Result<(), ReportError> {
     Ok(rt.print(failures)?)
 }
 
-// Reports a run of two tests to standard output, in colour, and answers the report of those that failed.
+// Reports a run of two tests to standard output, in colour, and returns the report of those that failed.
 fn report(rt: &HostRuntime, alloc: Global) -> Result<String, ReportError> {
-    let binary_id = &RustBinaryId::new(alloc, "alpha")?;
-    let first = TestCaseName::new(alloc, "parser::empty_input")?;
-    let second = TestCaseName::new(alloc, "parser::nested")?;
+    let binary_id = RustBinaryId::new(alloc, "alpha")?;
+    let passed = TestCaseName::new(alloc, "parser::empty_input")?;
+    let failed = TestCaseName::new(alloc, "parser::nested")?;
     let mut screen = TextBuffer::new(alloc, io::writer(rt))?;
     let mut failures = String::new(alloc);
     let mut colorful = DisplayReporterBuilder::new(alloc, 2)?;
@@ -30,38 +30,7 @@ fn report(rt: &HostRuntime, alloc: Global) -> Result<String, ReportError> {
         first: colorful.build_for(alloc, &mut screen, Surroundings::default()),
         second: brief.build_for(alloc, &mut failures, Surroundings::default()),
     };
-
-    let time = Nanos::from_millis(20);
-    let test = TestInstanceId {
-        binary_id,
-        test_name: &first,
-    };
-    let stats = RunStats {
-        finished_count: 1,
-        passed: 1,
-        ..RunStats::new(2)
-    };
-    let statuses = ExecutionStatuses::single(alloc, ExecuteStatus::passed(time));
-    tell(
-        &mut tee,
-        &TestEvent::test_finished(time, test, statuses, stats),
-    )?;
-
-    let test = TestInstanceId {
-        binary_id,
-        test_name: &second,
-    };
-    let stats = RunStats {
-        finished_count: 2,
-        failed: 1,
-        ..stats
-    };
-    let statuses = ExecutionStatuses::single(alloc, ExecuteStatus::failed(101, time));
-    tell(
-        &mut tee,
-        &TestEvent::test_finished(time, test, statuses, stats),
-    )?;
-    tell(&mut tee, &TestEvent::run_finished(time, stats))?;
+    write_run(alloc, &mut tee, &binary_id, &passed, &failed)?;
     let (screen_end, failures_end) = tee.finish();
     screen_end?;
     failures_end?;
@@ -69,8 +38,43 @@ fn report(rt: &HostRuntime, alloc: Global) -> Result<String, ReportError> {
     Ok(failures)
 }
 
-// Tells both reporters; the first fault of either ends the program.
-fn tell<'a, V: WriteStr, W: WriteStr>(
+// Writes the events of the run.
+fn write_run<'a, V: WriteStr, W: WriteStr>(
+    alloc: Global,
+    tee: &mut Tee<'a, V, W>,
+    binary_id: &'a RustBinaryId,
+    passed: &'a TestCaseName,
+    failed: &'a TestCaseName,
+) -> Result<(), WriteEventError> {
+    let time = Nanos::from_millis(20);
+    let stats = RunStats {
+        finished_count: 1,
+        passed: 1,
+        ..RunStats::new(2)
+    };
+    let test = TestInstanceId {
+        binary_id,
+        test_name: passed,
+    };
+    let statuses = ExecutionStatuses::single(alloc, ExecuteStatus::passed(time));
+    write_event(tee, &TestEvent::test_finished(time, test, statuses, stats))?;
+
+    let stats = RunStats {
+        finished_count: 2,
+        failed: 1,
+        ..stats
+    };
+    let test = TestInstanceId {
+        binary_id,
+        test_name: failed,
+    };
+    let statuses = ExecutionStatuses::single(alloc, ExecuteStatus::failed(101, time));
+    write_event(tee, &TestEvent::test_finished(time, test, statuses, stats))?;
+    write_event(tee, &TestEvent::run_finished(time, stats))
+}
+
+// Writes the event by both reporters; the first fault of either ends the program.
+fn write_event<'a, V: WriteStr, W: WriteStr>(
     tee: &mut Tee<'a, V, W>,
     event: &TestEvent<'a>,
 ) -> Result<(), WriteEventError> {

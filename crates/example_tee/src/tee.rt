@@ -10,18 +10,18 @@ use console_reporter::prelude::*;
 /// Hands each event to two reporters, which may be configured differently and write to different places.
 #[derive(Drop)]
 pub struct Tee<'a, V, W> {
-    /// The reporter that is told first.
+    /// The reporter that writes first.
     pub first: DisplayReporter<'a, V, String>,
-    /// The reporter that is told second, whatever the first answered.
+    /// The reporter that writes second, whatever the first returned.
     pub second: DisplayReporter<'a, W, String>,
 }
 
-/// What each of two reporters answered.
+/// What each of two reporters returned.
 pub type Answers = (Result<(), WriteEventError>, Result<(), WriteEventError>);
 
 impl<'a, V: WriteStr, W: WriteStr> Tee<'a, V, W> {
-    /// Tells both, and answers what each answered: a fault of one output does not keep the other from its report. Each output gets
-    /// the text of the event after its own calls before, and on a fault a beginning of that text.
+    /// Writes the event by both, and returns both results: a fault of one output does not keep the other from its report. Each output gets
+    /// the text of the event after its own calls before, and on a fault a prefix of that text.
     pub fn write_event(&mut self, event: &TestEvent<'_>) -> Answers
         ensures first { OnOk result.0 (Tells V.meaning string_meaning self.old.first (Some (ReportCall.Event event.now)) self.new.first) }
         ensures first_err { IfErr result.0 (λ e. Breaks V.meaning string_meaning self.old.first (Some (ReportCall.Event event.now)) e self.new.first) }
@@ -33,7 +33,7 @@ impl<'a, V: WriteStr, W: WriteStr> Tee<'a, V, W> {
         (first, second)
     }
 
-    /// Ends both reports, and answers what each answered.
+    /// Ends both reports, and returns both results.
     pub fn finish(&mut self) -> Answers
         ensures first { OnOk result.0 (Tells V.meaning string_meaning self.old.first None self.new.first) }
         ensures first_err { IfErr result.0 (λ e. Breaks V.meaning string_meaning self.old.first None e self.new.first) }

@@ -5,10 +5,12 @@
 #![tactic(auto)]
 
 use plain_text::write_str::RetryInterrupted;
-use scenes::args::{Options, words_or_input};
+use scenes::args::{Options, args_or_input};
 use scenes::fault::{Fault, Program};
 use scenes::follow::{RunOutcome, follow_scene};
-use scenes::process::{arguments, create_store, fill_standard_descriptors, print_error, tell};
+use scenes::process::{
+    arguments, create_store, fill_standard_descriptors, print_error, report_fault,
+};
 use std::fs::{self, File, Metadata};
 use std::io::{self, Read};
 use std::process::ExitCode;
@@ -18,9 +20,9 @@ fn main(rt: HostRuntime) -> ExitCode {
     let status = match arguments(&rt) {
         Ok(mut args) => match run(&rt, &mut args) {
             Ok(outcome) => end(&rt, outcome),
-            Err(fault) => tell(&rt, Program::Follow, fault),
+            Err(fault) => report_fault(&rt, Program::Follow, fault),
         },
-        Err(fault) => tell(&rt, Program::Follow, fault),
+        Err(fault) => report_fault(&rt, Program::Follow, fault),
     };
     ExitCode::from(status)
 }
@@ -35,7 +37,7 @@ fn end(rt: &HostRuntime, outcome: RunOutcome) -> u8 {
 
 // Runs the program on its words.
 fn run<'a>(rt: &HostRuntime, args: &'a mut Vec<String>) -> Result<RunOutcome, Fault<'a>> {
-    let Some(options) = words_or_input(rt.alloc(), args)? else {
+    let Some(options) = args_or_input(rt.alloc(), args)? else {
         return Err(Fault::Usage);
     };
     if options.file == "-" {

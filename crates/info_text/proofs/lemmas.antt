@@ -1,2 +1,1 @@
-pub mod ResponseColourPairs
-pub mod StateColourPairs
+pub mod FreeResponses

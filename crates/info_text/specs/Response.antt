@@ -1,5 +1,5 @@
 -- The answer of a unit that is asked what it is doing.
-use Rattle.std.specs.Prelude.{◌≡◌, ℕ, ◌+◌, ◌-◌, ◌==◌, Bool, true, false, ◌&&◌, ◌||◌, Option, None, Some, [], ◌++◌, length, codes, nat_lt, if◌then◌else◌}
+use Rattle.std.specs.Prelude.{◌≡◌, ℕ, ◌+◌, ◌-◌, ◌==◌, Bool, true, false, ◌&&◌, ◌||◌, Option, None, Some, zero, suc, [], ◌++◌, length, codes, nat_lt, if◌then◌else◌, refl}
 use Rattle.std.specs.Fmt.{decimal}
 use Rattle.run_model.specs.Infos.{has_valid_output}
 use Rattle.run_model.specs.Outputs.{has_errors, has_loaded_output}
@@ -12,13 +12,17 @@ use Rattle.run_model.specs.declared.info.UnitState.TheVariants.{Running, Exiting
 use Rattle.run_model.specs.declared.status.RetryData.{RetryData}
 use Rattle.run_names.specs.declared.unit.UnitKind.{UnitKind}
 use Rattle.run_names.specs.declared.unit.UnitKind.TheVariants as unit
-use Rattle.plain_text.specs.Indent.{indent}
-use Rattle.plain_text.specs.Style.{plain, styled}
+use Rattle.plain_text.specs.Escapes.{HasNoEscape}
+use Rattle.plain_text.specs.Style.{plain}
 use Rattle.plain_text.specs.Texts.{Text, spaces}
+use Rattle.plain_text.proofs.lemmas.Widths.{free_both}
+use Rattle.report_words.specs.Parts.{Parts, Fixed, Line, Lines, Open, Count, none, words, Word, Verbatim, number, ◌⧺◌, choice, indented_line, drawn_given_line}
 use Rattle.report_words.specs.Theme.{hbar_text}
+use Rattle.report_words.proofs.lemmas.FreeWords.{free-hbar_text, free-if}
 use Rattle.report_words.specs.declared.theme.ThemeCharacters.{ThemeCharacters}
 use Rattle.plain_text.specs.declared.style.Styles.{Styles}
 use Rattle.unit_report.specs.UnitOutput.{OutputLayout, execution_output}
+use Rattle.unit_report.proofs.lemmas.UnitColourPairs.{ends-execution_output}
 use Rattle.unit_report.specs.declared.unit_output.header.OutputHeader.TheVariants.{Label}
 use Rattle.unit_report.specs.declared.unit_output.header.OutputName.TheVariants as name
 use Rattle.run_model.specs.Attempts.{Written}
@@ -33,16 +37,30 @@ use Rattle.info_text.specs.declared.state.InfoUnit.{InfoUnit}
 unfoldable pub separator : ThemeCharacters → ℕ → Text
 separator theme index = if index == 0 then [] else hbar_text theme.is_unicode 8 ++ plain (codes "\n")
 
+pub free-separator : (theme : ThemeCharacters) (index : ℕ) → HasNoEscape (separator theme index)
+unfolding separator plain
+free-separator theme index = free-if (index == 0) [] _ refl (free_both (hbar_text theme.is_unicode 8) (codes "\n") (free-hbar_text theme.is_unicode 8) refl)
+
 -- the spaces after the number of an answer, which stands as wide as the word before a state, where it has room
 abbrev pub number_padding : ℕ → ℕ → Text
-number_padding number total = spaces (8 - (length (decimal number) + length (decimal total) + 3))
+number_padding place total = spaces (8 - (length (decimal place) + length (decimal total) + 3))
+
+free-spaces : (n : ℕ) → HasNoEscape (spaces n)
+free-spaces zero = refl
+free-spaces (suc n) = free-spaces n
+
+pub free-number_padding : (place total : ℕ) → HasNoEscape (number_padding place total)
+free-number_padding place total = free-spaces (8 - (length (decimal place) + length (decimal total) + 3))
 
 -- which of so many answers it is, counted from 1
-unfoldable pub response_number : Styles → ℕ → ℕ → Text
-response_number s number total =
-    plain (codes "\n* ")
-    ++ (styled s.count (decimal number)
-    ++ (plain (codes "/") ++ (styled s.count (decimal total) ++ (plain (codes ": ") ++ plain (number_padding number total)))))
+unfoldable pub response_number : ℕ → ℕ → Fixed Open
+response_number place total =
+    words (codes "\n* ")
+    ⧺ number Count place
+    ⧺ words (codes "/")
+    ⧺ number Count total
+    ⧺ words (codes ": ")
+    ⧺ Word (number_padding place total) (free-number_padding place total)
 
 -- how the output within an answer is laid out: names without bars, and two spaces before each line
 abbrev pub info_layout : Styles → UnitKind → OutputLayout
@@ -59,14 +77,18 @@ info_layout s kind = record {
 abbrev pub HasValidOutput : UnitState → Written → Type 0
 HasValidOutput state output = has_valid_output state ≡ true → has_loaded_output output ≡ true
 
+-- the output as the answer shows it
+abbrev pub told_output : Settings → UnitKind → Written → Parts false Line
+told_output s kind output =
+    drawn_given_line (λ t. execution_output s.unit_output t (info_layout t kind) output) (λ t. ends-execution_output s.unit_output t (info_layout t kind) output)
+
 -- the output, where it is that of the unit
-unfoldable pub valid_output : Settings → UnitKind → UnitState → Written → Text
-valid_output s kind state output =
-    if has_valid_output state then execution_output s.unit_output s.styles (info_layout s.styles kind) output else []
+unfoldable pub valid_output : Settings → UnitKind → UnitState → Written → Parts false Lines
+valid_output s kind state output = choice (has_valid_output state) (told_output s kind output) none
 
 -- what a unit is doing and what it has written
-unfoldable pub unit_answer : Settings → InfoUnit → UnitState → Written → Text
-unit_answer s u state output = state_text s u state ++ valid_output s u.kind state output
+unfoldable pub unit_answer : Settings → InfoUnit → UnitState → Written → Parts false Open
+unit_answer s u state output = state_text s.mode u state ⧺ valid_output s u.kind state output
 
 -- a setup script as its answer names it, and as its state is told of it
 abbrev pub answering_script : SetupScriptInfoResponse → Script
@@ -76,9 +98,8 @@ abbrev pub script_unit : SetupScriptInfoResponse → InfoUnit
 script_unit x = record { kind = unit.Script; attempt = None; has_errors = has_errors x.output }
 
 -- the answer of a setup script
-unfoldable pub script_answer : Settings → SetupScriptInfoResponse → Text
-script_answer s x =
-    shown_script s.styles (answering_script x) ++ (plain (codes "\n") ++ unit_answer s (script_unit x) x.state x.output)
+unfoldable pub script_answer : Settings → SetupScriptInfoResponse → Parts false Open
+script_answer s x = shown_script (answering_script x) ⧺ words (codes "\n") ⧺ unit_answer s (script_unit x) x.state x.output
 
 -- the next attempt waits
 abbrev pub is_delay : UnitState → Bool
@@ -100,8 +121,8 @@ abbrev pub test_unit : TestInfoResponse → InfoUnit
 test_unit x = record { kind = unit.Test; attempt = told_attempt x.retry_data x.state; has_errors = has_errors x.output }
 
 -- the answer of a test
-unfoldable pub test_answer : Settings → TestInfoResponse → Text
-test_answer s x = instance_end s.styles (answering_test x) ++ unit_answer s (test_unit x) x.state x.output
+unfoldable pub test_answer : Settings → TestInfoResponse → Parts false Open
+test_answer s x = instance_end (answering_test x) ⧺ unit_answer s (test_unit x) x.state x.output
 
 -- the output of an answer is there, if it is that of its unit
 abbrev pub HasAnswerOutput : InfoResponse → Type 0
@@ -109,12 +130,13 @@ HasAnswerOutput (SetupScript x) = HasValidOutput x.state x.output
 HasAnswerOutput (Test x) = HasValidOutput x.state x.output
 
 -- what stands after the number of an answer
-abbrev pub answer : Settings → InfoResponse → Text
+abbrev pub answer : Settings → InfoResponse → Parts false Open
 answer s (SetupScript x) = script_answer s x
 answer s (Test x) = test_answer s x
 
 -- the answer of a unit, from its place. All lines but that of its number are indented, and an empty line follows
-unfoldable pub info_response_text : Settings → ℕ → ℕ → InfoResponse → Text
+unfoldable pub info_response_text : Settings → ℕ → ℕ → InfoResponse → Parts false Line
 info_response_text s index total response =
-    separator s.theme_characters index
-    ++ (response_number s.styles (index + 1) total ++ (indent (codes "  ") false (answer s response) ++ plain (codes "\n")))
+    Verbatim (separator s.theme_characters index) (free-separator s.theme_characters index)
+    ⧺ response_number (index + 1) total
+    ⧺ indented_line 2 false (answer s response)

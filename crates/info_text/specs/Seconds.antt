@@ -1,8 +1,15 @@
 -- Durations within lines.
 use Rattle.std.specs.Prelude.{ℕ, ◌++◌}
 use Rattle.plain_text.specs.Numbers.{seconds}
+use Rattle.plain_text.specs.Style.{plain}
 use Rattle.plain_text.specs.Texts.{Text}
+use Rattle.report_words.proofs.lemmas.FreeWords.{free-seconds}
+use Rattle.report_words.specs.Parts.{Fixed, Open, Word}
 
--- a duration in seconds with three decimals, between two texts
-unfoldable pub seconds_between : Text → ℕ → Text → Text
-seconds_between before nanos after = before ++ (seconds 3 nanos ++ after)
+-- a duration in seconds with three decimals
+abbrev pub seconds_part : ℕ → Fixed Open
+seconds_part nanos = Word (seconds 3 nanos) (free-seconds 3 nanos)
+
+-- the same between two texts
+abbrev pub seconds_between : Text → ℕ → Text → Text
+seconds_between before nanos after = plain before ++ (plain (seconds 3 nanos) ++ plain after)

@@ -1,10 +1,12 @@
 //! The answer of a unit that is asked what it is doing.
 
-ghost use Rattle.std.specs.Prelude.{◌≡◌, ◌+◌, codes, false};
+ghost use Rattle.std.specs.Prelude.{◌≡◌, ◌+◌, false};
 ghost use Rattle.plain_text.specs.Indent.{indent};
 ghost use Rattle.plain_text.specs.Writer.{Puts};
 ghost use Rattle.unit_report.specs.UnitOutput.{layout_of};
 ghost use Rattle.text_parts.specs.Script.{script_of};
+ghost use Rattle.plain_text.specs.Texts.{spaces};
+ghost use Rattle.report_words.specs.Parts.{paint};
 ghost use Rattle.info_text.specs.Response.{HasAnswerOutput, HasValidOutput, answer, answering_script, answering_test, info_layout, info_response_text, is_delay, number_padding, response_number, script_answer, script_unit, separator, test_answer, test_unit, told_attempt, unit_answer, valid_output};
 
 use crate::state::{InfoUnit, write_state};
@@ -33,7 +35,7 @@ pub fn write_info_response<W: WriteStr>(
     response: &InfoResponse<'_>,
 ) -> Result<(), WriteFault>
     requires { HasAnswerOutput response.now }
-    ensures { Puts W.meaning w.old (info_response_text settings.now index total response.now) result w.new }
+    ensures { Puts W.meaning w.old (paint settings.now.styles (info_response_text settings.now index total response.now)) result w.new }
 {
     write_separator(w, settings.theme_characters, index)?;
     write_response_number(w, &settings.styles, index as u128 + 1, total)?;
@@ -65,7 +67,7 @@ fn write_response_number<W: WriteStr>(
     number: u128,
     total: usize,
 ) -> Result<(), WriteFault>
-    ensures { Puts W.meaning w.old (response_number styles.now number total) result w.new }
+    ensures { Puts W.meaning w.old (paint styles.now (response_number number total)) result w.new }
 {
     write_plain(w, "\n* ")?;
     styles.count.write_number(w, number)?;
@@ -93,7 +95,7 @@ fn write_indented<W: WriteStr>(
     response: &InfoResponse<'_>,
 ) -> Result<(), WriteFault>
     requires { HasAnswerOutput response.now }
-    ensures { Puts W.meaning w.old (indent (codes "  ") false (answer settings.now response.now)) result w.new }
+    ensures { Puts W.meaning w.old (indent (spaces 2) false (paint settings.now.styles (answer settings.now response.now))) result w.new }
 {
     let mut out = indented(w).with_str("  ").skip_initial();
     let result = write_answer(&mut out, settings, response);
@@ -109,7 +111,7 @@ fn write_answer<W: WriteStr>(
     response: &InfoResponse<'_>,
 ) -> Result<(), WriteFault>
     requires { HasAnswerOutput response.now }
-    ensures { Puts W.meaning w.old (answer settings.now response.now) result w.new }
+    ensures { Puts W.meaning w.old (paint settings.now.styles (answer settings.now response.now)) result w.new }
 {
     match response {
         InfoResponse::SetupScript(response) => write_script_answer(w, settings, response),
@@ -125,7 +127,7 @@ fn write_script_answer<W: WriteStr>(
     response: &SetupScriptInfoResponse,
 ) -> Result<(), WriteFault>
     requires { HasValidOutput response.now.state response.now.output }
-    ensures { Puts W.meaning w.old (script_answer settings.now response.now) result w.new }
+    ensures { Puts W.meaning w.old (paint settings.now.styles (script_answer settings.now response.now)) result w.new }
 {
     script_of_response(response).write_to(w, &settings.styles)?;
     write_plain(w, "\n")?;
@@ -169,9 +171,9 @@ fn write_test_answer<W: WriteStr>(
     response: &TestInfoResponse<'_>,
 ) -> Result<(), WriteFault>
     requires { HasValidOutput response.now.state response.now.output }
-    ensures { Puts W.meaning w.old (test_answer settings.now response.now) result w.new }
+    ensures { Puts W.meaning w.old (paint settings.now.styles (test_answer settings.now response.now)) result w.new }
 {
-    write_instance_end(w, &settings.styles, test_of_response(response))?;
+    write_instance_end(w, &settings.styles, &test_of_response(response))?;
     write_unit_answer(
         w,
         settings,
@@ -231,7 +233,7 @@ fn write_unit_answer<W: WriteStr>(
     output: &ChildExecutionOutputDescription<LiveSpec>,
 ) -> Result<(), WriteFault>
     requires { HasValidOutput state.now output.now }
-    ensures { Puts W.meaning w.old (unit_answer settings.now unit state.now output.now) result w.new }
+    ensures { Puts W.meaning w.old (paint settings.now.styles (unit_answer settings.now unit state.now output.now)) result w.new }
 {
     write_state(w, settings, unit, state)?;
     write_valid_output(w, settings, unit.kind, state, output)
@@ -247,7 +249,7 @@ fn write_valid_output<W: WriteStr>(
     output: &ChildExecutionOutputDescription<LiveSpec>,
 ) -> Result<(), WriteFault>
     requires { HasValidOutput state.now output.now }
-    ensures { Puts W.meaning w.old (valid_output settings.now kind state.now output.now) result w.new }
+    ensures { Puts W.meaning w.old (paint settings.now.styles (valid_output settings.now kind state.now output.now)) result w.new }
 {
     if !state.has_valid_output() {
         return Ok(());

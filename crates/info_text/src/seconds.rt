@@ -13,7 +13,7 @@ use run_model::time::Nanos;
 /// write_seconds(&mut out, " for ", Nanos(1_500_000_000), "s")?;
 /// assert_eq!(out.as_str(), " for 1.500s");
 /// ```
-#[tactic(auto, unfolding(crate::specs::Seconds::seconds_between, plain_text::specs::Texts::right_in))]
+#[tactic(auto, unfolding(plain_text::specs::Style::plain, plain_text::specs::Texts::right_in))]
 pub fn write_seconds<W: WriteStr>(
     w: &mut W,
     before: &str,

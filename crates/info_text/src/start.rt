@@ -1,6 +1,7 @@
 //! That all units are asked what they are doing, and that no further answers are waited for.
 
 ghost use Rattle.plain_text.specs.Writer.{Puts};
+ghost use Rattle.report_words.specs.Parts.{paint};
 ghost use Rattle.info_text.specs.Start.{info_finished_text, info_started_text, missing_line, missing_note};
 
 use crate::seconds::write_seconds;
@@ -21,7 +22,7 @@ pub fn write_info_started<W: WriteStr>(
     total: usize,
     stats: &RunStats,
 ) -> Result<(), WriteFault>
-    ensures { Puts W.meaning w.old (info_started_text settings.now elapsed.0 total stats.now) result w.new }
+    ensures { Puts W.meaning w.old (paint settings.now.styles (info_started_text settings.now.theme_characters elapsed.0 total stats.now)) result w.new }
 {
     let styles = &settings.styles;
     write_bar_line(w, settings.theme_characters)?;
@@ -38,7 +39,7 @@ pub fn write_info_finished<W: WriteStr>(
     settings: &Settings,
     missing: usize,
 ) -> Result<(), WriteFault>
-    ensures { Puts W.meaning w.old (info_finished_text settings.now missing) result w.new }
+    ensures { Puts W.meaning w.old (paint settings.now.styles (info_finished_text settings.now.theme_characters missing)) result w.new }
 {
     write_missing_note(w, &settings.styles, missing)?;
     write_bar_line(w, settings.theme_characters)
@@ -51,7 +52,7 @@ fn write_missing_note<W: WriteStr>(
     styles: &Styles,
     missing: usize,
 ) -> Result<(), WriteFault>
-    ensures { Puts W.meaning w.old (missing_note styles.now missing) result w.new }
+    ensures { Puts W.meaning w.old (paint styles.now (missing_note missing)) result w.new }
 {
     if missing == 0 {
         return Ok(());
@@ -66,7 +67,7 @@ fn write_missing_line<W: WriteStr>(
     styles: &Styles,
     missing: usize,
 ) -> Result<(), WriteFault>
-    ensures { Puts W.meaning w.old (missing_line styles.now missing) result w.new }
+    ensures { Puts W.meaning w.old (paint styles.now (missing_line missing)) result w.new }
 {
     styles.skip.write(w, "info")?;
     write_plain(w, ": missing ")?;

@@ -3,7 +3,8 @@
 ghost use Rattle.std.specs.Prelude.{◌≡◌};
 ghost use Rattle.std.specs.Option.{is_some};
 ghost use Rattle.plain_text.specs.Writer.{Puts};
-ghost use Rattle.info_text.specs.State.{attempt_text, waiting_line, delay_note, exited_text, exiting_line, exiting_note, leak_note, nanos_of, note_start, process_of, running_style, running_line, signal_of, marked_slow_end, state_text, status_start, taken_end, tentative_info, terminating_line, terminating_note, unit_start, unknown_info};
+ghost use Rattle.report_words.specs.Parts.{paint, style_of};
+ghost use Rattle.info_text.specs.State.{attempt_text, waiting_line, delay_note, exited_text, exiting_line, exiting_note, leak_note, nanos_of, note_start, process_of, running_tone, running_line, signal_of, marked_slow_end, state_text, status_start, taken_end, tentative_info, terminating_line, terminating_note, unit_start, unknown_info};
 ghost use Rattle.unit_report.specs.UnitKind.{unit_word};
 
 use crate::seconds::write_seconds;
@@ -37,7 +38,7 @@ pub fn write_state<W: WriteStr>(
     unit: InfoUnit,
     state: &UnitState,
 ) -> Result<(), WriteFault>
-    ensures { Puts W.meaning w.old (state_text settings.now unit state.now) result w.new }
+    ensures { Puts W.meaning w.old (paint settings.now.styles (state_text settings.now.mode unit state.now)) result w.new }
 {
     match state {
         UnitState::Running {
@@ -94,7 +95,7 @@ fn write_running_line<W: WriteStr>(
     time_taken: Nanos,
     slow_after: Option<Nanos>,
 ) -> Result<(), WriteFault>
-    ensures { Puts W.meaning w.old (running_line settings.now unit pid time_taken.0 slow_after) result w.new }
+    ensures { Puts W.meaning w.old (paint settings.now.styles (running_line settings.now.mode unit pid time_taken.0 slow_after)) result w.new }
 {
     let styles = &settings.styles;
     write_unit_start(w, settings, unit)?;
@@ -106,7 +107,7 @@ fn write_running_line<W: WriteStr>(
 
 // The style in which a unit runs: one with errors in that of failures, a slow one in that of skipped tests.
 fn running_style(styles: &Styles, has_errors: bool, is_slow: bool) -> Style
-    ensures { result ≡ running_style styles.now has_errors is_slow }
+    ensures { result ≡ style_of styles.now (running_tone has_errors is_slow) }
 {
     if has_errors {
         styles.fail
@@ -127,7 +128,7 @@ fn write_exiting_line<W: WriteStr>(
     time_taken: Nanos,
     slow_after: Option<Nanos>,
 ) -> Result<(), WriteFault>
-    ensures { Puts W.meaning w.old (exiting_line settings.now unit outcome.now time_taken.0 slow_after) result w.new }
+    ensures { Puts W.meaning w.old (paint settings.now.styles (exiting_line settings.now.mode unit outcome.now time_taken.0 slow_after)) result w.new }
 {
     write_unit_start(w, settings, unit)?;
     write_tentative_info(w, &settings.styles, slow_after.is_some(), outcome)?;
@@ -141,7 +142,7 @@ fn write_tentative_info<W: WriteStr>(
     is_slow: bool,
     outcome: &Option<ExecutionResultDescription>,
 ) -> Result<(), WriteFault>
-    ensures { Puts W.meaning w.old (tentative_info styles.now is_slow outcome.now) result w.new }
+    ensures { Puts W.meaning w.old (paint styles.now (tentative_info is_slow outcome.now)) result w.new }
 {
     match outcome {
         None => write_unknown_info(w, styles),
@@ -152,7 +153,7 @@ fn write_tentative_info<W: WriteStr>(
 // Writes that it is not known how a unit ended.
 #[tactic(auto, unfolding(crate::specs::State::unknown_info))]
 fn write_unknown_info<W: WriteStr>(w: &mut W, styles: &Styles) -> Result<(), WriteFault>
-    ensures { Puts W.meaning w.old (unknown_info styles.now) result w.new }
+    ensures { Puts W.meaning w.old (paint styles.now unknown_info) result w.new }
 {
     styles.fail.write(w, "failed")?;
     write_plain(w, " with unknown status")
@@ -168,7 +169,7 @@ fn write_exiting_note<W: WriteStr>(
     waiting: Nanos,
     remaining: Nanos,
 ) -> Result<(), WriteFault>
-    ensures { Puts W.meaning w.old (exiting_note settings.now unit pid waiting.0 remaining.0) result w.new }
+    ensures { Puts W.meaning w.old (paint settings.now.styles (exiting_note settings.now.mode unit pid waiting.0 remaining.0)) result w.new }
 {
     if waiting.0 < 1_000_000_000 {
         return Ok(());
@@ -186,7 +187,7 @@ fn write_leak_note<W: WriteStr>(
     waiting: Nanos,
     remaining: Nanos,
 ) -> Result<(), WriteFault>
-    ensures { Puts W.meaning w.old (leak_note settings.now unit pid waiting.0 remaining.0) result w.new }
+    ensures { Puts W.meaning w.old (paint settings.now.styles (leak_note settings.now.mode unit pid waiting.0 remaining.0)) result w.new }
 {
     write_note_start(w, &settings.styles)?;
     write_seconds(w, ":   spent ", waiting, "s waiting for ")?;
@@ -207,7 +208,7 @@ fn write_terminating_line<W: WriteStr>(
     unit: InfoUnit,
     state: &UnitTerminatingState,
 ) -> Result<(), WriteFault>
-    ensures { Puts W.meaning w.old (terminating_line settings.now unit state.now) result w.new }
+    ensures { Puts W.meaning w.old (paint settings.now.styles (terminating_line settings.now.mode unit state.now)) result w.new }
 {
     let styles = &settings.styles;
     write_status_start(w, settings, unit)?;
@@ -229,7 +230,7 @@ fn write_terminating_note<W: WriteStr>(
     unit: InfoUnit,
     state: &UnitTerminatingState,
 ) -> Result<(), WriteFault>
-    ensures { Puts W.meaning w.old (terminating_note settings.now unit state.now) result w.new }
+    ensures { Puts W.meaning w.old (paint settings.now.styles (terminating_note settings.now.mode unit state.now)) result w.new }
 {
     write_note_start(w, &settings.styles)?;
     write_plain(w, ":   sent ")?;
@@ -268,7 +269,7 @@ fn write_exited<W: WriteStr>(
     time_taken: Nanos,
     slow_after: Option<Nanos>,
 ) -> Result<(), WriteFault>
-    ensures { Puts W.meaning w.old (exited_text settings.now unit outcome.now time_taken.0 slow_after) result w.new }
+    ensures { Puts W.meaning w.old (paint settings.now.styles (exited_text settings.now.mode unit outcome.now time_taken.0 slow_after)) result w.new }
 {
     write_unit_start(w, settings, unit)?;
     write_info_result(w, &settings.styles, slow_after.is_some(), outcome)?;
@@ -284,7 +285,7 @@ fn write_waiting_line<W: WriteStr>(
     previous: &ExecutionResultDescription,
     is_slow: bool,
 ) -> Result<(), WriteFault>
-    ensures { Puts W.meaning w.old (waiting_line settings.now unit previous.now is_slow) result w.new }
+    ensures { Puts W.meaning w.old (paint settings.now.styles (waiting_line settings.now.mode unit previous.now is_slow)) result w.new }
 {
     write_unit_start(w, settings, unit)?;
     write_info_result(w, &settings.styles, is_slow, previous)?;
@@ -302,7 +303,7 @@ fn write_delay_note<W: WriteStr>(
     waiting: Nanos,
     remaining: Nanos,
 ) -> Result<(), WriteFault>
-    ensures { Puts W.meaning w.old (delay_note settings.now unit waiting.0 remaining.0) result w.new }
+    ensures { Puts W.meaning w.old (paint settings.now.styles (delay_note settings.now.mode unit waiting.0 remaining.0)) result w.new }
 {
     write_note_start(w, &settings.styles)?;
     write_seconds(w, ":   waited ", waiting, "s so far")?;
@@ -318,7 +319,7 @@ fn write_unit_start<W: WriteStr>(
     settings: &Settings,
     unit: InfoUnit,
 ) -> Result<(), WriteFault>
-    ensures { Puts W.meaning w.old (unit_start settings.now unit) result w.new }
+    ensures { Puts W.meaning w.old (paint settings.now.styles (unit_start settings.now.mode unit)) result w.new }
 {
     write_status_start(w, settings, unit)?;
     DisplayUnitKind::new(settings.mode, unit.kind).write_to(w)?;
@@ -332,7 +333,7 @@ fn write_status_start<W: WriteStr>(
     settings: &Settings,
     unit: InfoUnit,
 ) -> Result<(), WriteFault>
-    ensures { Puts W.meaning w.old (status_start settings.now unit) result w.new }
+    ensures { Puts W.meaning w.old (paint settings.now.styles (status_start unit)) result w.new }
 {
     settings.styles.count.write(w, "status")?;
     write_plain(w, ": ")?;
@@ -361,7 +362,7 @@ fn write_attempt<W: WriteStr>(w: &mut W, attempt: Option<RetryData>) -> Result<(
 // Writes how a note begins.
 #[tactic(auto, unfolding(crate::specs::State::note_start))]
 fn write_note_start<W: WriteStr>(w: &mut W, styles: &Styles) -> Result<(), WriteFault>
-    ensures { Puts W.meaning w.old (note_start styles.now) result w.new }
+    ensures { Puts W.meaning w.old (paint styles.now note_start) result w.new }
 {
     styles.count.write(w, "note")
 }
@@ -374,7 +375,7 @@ fn write_process<W: WriteStr>(
     unit: InfoUnit,
     pid: u32,
 ) -> Result<(), WriteFault>
-    ensures { Puts W.meaning w.old (process_of settings.now unit pid) result w.new }
+    ensures { Puts W.meaning w.old (paint settings.now.styles (process_of settings.now.mode unit pid)) result w.new }
 {
     DisplayUnitKind::new(settings.mode, unit.kind).write_to(w)?;
     write_plain(w, " PID ")?;

@@ -4,7 +4,7 @@ use Rattle.plain_text.specs.Escapes.PieceText.{SequenceText, StretchText}
 use Rattle.plain_text.specs.declared.escapes.Piece.{Piece}
 use Rattle.plain_text.specs.declared.escapes.Piece.TheVariants.{Sequence, Stretch}
 
--- the piece without where it lies in memory
+-- its bytes, without their address
 abbrev pub piece_text : Piece → PieceText
 piece_text (Sequence s) = SequenceText s.now
 piece_text (Stretch s) = StretchText s.now

@@ -4,7 +4,7 @@ use Rattle.std.specs.Io.KnownBytes.{Appends}
 use Rattle.plain_text.specs.declared.write_str.WriteFault.{WriteFault}
 use Rattle.plain_text.specs.declared.write_str.WriteFault.TheVariants.{Device, Memory}
 
--- what a writer means
+-- what "accepted", "delivered" and a fault mean for one type of writer: for a `String`, `accepts old text new` is `new ≡ old ++ text`
 pub record Meaning (S : Type 0) : Type 1 where
   -- from the first writer, the text was accepted, and left the second
   pub accepts : S → List ℕ → S → Type 0

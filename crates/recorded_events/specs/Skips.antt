@@ -1,10 +1,7 @@
 -- Which events of a scene need no captured output.
 use Rattle.std.specs.Prelude.{Bool, false, not}
 use Rattle.run_model.specs.Statuses.{summary_of}
-use Rattle.run_model.specs.declared.call.ReportCall.{ReportCall}
-use Rattle.run_model.specs.declared.call.ReportCall.TheVariants as call
 use Rattle.reporter_state.specs.Loads.{loads_attempt, loads_finish, loads_script}
-use Rattle.reporter_state.specs.Unread.{is_skipped}
 use Rattle.reporter_state.specs.declared.decider.OutputLoadDecider.{OutputLoadDecider}
 use Rattle.scene_events.specs.declared.scene.event.SceneEvent.{SceneEvent}
 use Rattle.scene_events.specs.declared.scene.event.SceneEvent.TheVariants as scene
@@ -15,9 +12,3 @@ skips d (scene.SetupScriptFinished e) = not (loads_script e.attempt.result)
 skips d (scene.TestAttemptFailedWillRetry e) = not (loads_attempt d e.failure_output)
 skips d (scene.TestFinished e) = not (loads_finish d e.success_output e.failure_output (summary_of e.attempts))
 skips d other = false
-
--- the same of a call of a reporter; one that is no event has no output
-abbrev pub skips_call : OutputLoadDecider → ReportCall → Bool
-skips_call d (call.Event e) = is_skipped d e.kind
-skips_call d (call.Header h) = false
-skips_call d (call.Prefix p) = false

@@ -3,17 +3,14 @@
 ghost use Rattle.std.specs.Prelude.{◌≡◌, ◌≤◌, ◌-◌, ◌^◌, IfOk, IfSome, OnOk};
 ghost use Rattle.recorded_outputs.specs.Outputs.{counted};
 ghost use Rattle.recorded_events.specs.Loads.{IsFirstBad, IsReplayed, event_inline, fault_of_kind, fault_of_stream, field_not, first_field_not, is_there, is_undamaged, needed_of, output_inline, output_len, outputs_len, stream_field_not};
-ghost use Rattle.recorded_events.specs.Skips.{skips, skips_call};
-ghost use Rattle.reporter_state.specs.Unread.{is_skipped};
+ghost use Rattle.recorded_events.specs.Skips.{skips};
 ghost use Rattle.scene_events.specs.Loads.{event_with};
 
 use recorded_lines::line::PlacedOutput;
 use recorded_lines::stored::{StoredStream, StreamFault, StreamField};
 use recorded_outputs::outputs::{LoadFault, RecordedOutputs};
 use recorded_outputs::read_at::ReadAt;
-use reporter_state::decider::OutputLoadDecider;
-use run_model::call::ReportCall;
-use run_model::event::TestEvent;
+use reporter_state::decider::{OutputLoadDecider, OutputMetadata};
 use run_model::memory::OutOfMemory;
 use run_model::output_event::LoadOutput;
 use scene_events::scene::event::SceneEvent;
@@ -85,14 +82,12 @@ impl LoadEventFault {
 /// Every output must be there, also one that is skipped. After an error the event is not to be used: some of its outputs may be in it.
 ///
 /// ```
-/// use recorded_lines::line::RecordedLine;
 /// use recorded_outputs::outputs::RecordedOutputs;
 /// use recorded_outputs::read_at::Metered;
 /// use scene_events::scene::event::SceneEvent;
-/// let line = RecordedLine::read(alloc, "answers-end\t0")?;
 /// let mut event = SceneEvent::InfoFinished(0);
 /// let mut outputs = RecordedOutputs::new(Metered::new(b"passed\nfailed\n".as_slice()))?;
-/// assert!(load_outputs(alloc, &decider, line.outputs.as_slice(), &mut outputs, &mut event).is_ok());
+/// assert!(load_outputs(alloc, &decider, &[], &mut outputs, &mut event).is_ok());
 /// assert_eq!(outputs.bytes_read(), 0); // the event has no output
 /// ```
 #[tactic(auto, unfolding(crate::specs::Loads::event_replayed))]
@@ -110,55 +105,37 @@ pub fn load_outputs<O: ReadAt + Drop>(
 {
     let _count = outputs.bytes_read(); // it is a `u64`, which a proof learns by reading it
     check_all_there(stored, outputs)?;
-    if skips(alloc, decider, event)? {
+    if skips(decider, event) {
         return Ok(());
     }
     load_all(alloc, stored, outputs, event)
 }
 
-// Whether the decider skips the outputs of an event. It is asked about the call of the event, which is built for it and let go.
-#[tactic(auto, using(crate::proofs::lemmas::Skips::skips_call_same))]
-fn skips(
-    alloc: Global,
-    decider: &OutputLoadDecider,
-    event: &SceneEvent,
-) -> Result<bool, OutOfMemory>
-    ensures { IfOk result (λ is. is ≡ skips decider.now event.now) }
+// Whether the decider skips the outputs of an event, by what the event says beside them. Of others, as of a unit's answer, it is not asked.
+#[tactic(auto, using(crate::proofs::lemmas::Skips::loads_by_last))]
+fn skips(decider: &OutputLoadDecider, event: &SceneEvent) -> bool
+    ensures { result ≡ skips decider.now event.now }
 {
-    let mut calls = Vec::new(alloc);
-    event.push_call(alloc, &mut calls)?;
-    match calls.as_slice() {
-        [call] => skips_call(alloc, decider, call),
-        _ => Ok(false),
-    }
-}
-
-// The same of a call. A header and a prefix have no output.
-fn skips_call(
-    alloc: Global,
-    decider: &OutputLoadDecider,
-    call: &ReportCall<'_>,
-) -> Result<bool, OutOfMemory>
-    ensures { IfOk result (λ is. is ≡ skips_call decider.now call.now) }
-{
-    match call {
-        ReportCall::Event(event) => skips_called(alloc, decider, event),
-        ReportCall::Header(_) | ReportCall::Prefix(_) => Ok(false),
-    }
-}
-
-// The same of an event of a reporter.
-fn skips_called(
-    alloc: Global,
-    decider: &OutputLoadDecider,
-    event: &TestEvent<'_>,
-) -> Result<bool, OutOfMemory>
-    ensures { IfOk result (λ is. is ≡ is_skipped decider.now event.now.kind) }
-{
-    match event.recorded(alloc)? {
-        Some(recorded) => Ok(decider.should_load_output(&recorded) == LoadOutput::Skip),
-        None => Ok(false),
-    }
+    let metadata = match event {
+        SceneEvent::SetupScriptFinished(finish) => {
+            let result = finish.get().attempt.result();
+            OutputMetadata::SetupScriptFinished { result }
+        }
+        SceneEvent::TestAttemptFailedWillRetry(failed) => {
+            let failure_output = failed.get().failure_output;
+            OutputMetadata::TestAttemptFailedWillRetry { failure_output }
+        }
+        SceneEvent::TestFinished(finish) => {
+            let finish = finish.get();
+            OutputMetadata::TestFinished {
+                success_output: finish.success_output,
+                failure_output: finish.failure_output,
+                last_result: finish.attempts.last_result(),
+            }
+        }
+        _ => return false,
+    };
+    decider.should_load(metadata) == LoadOutput::Skip
 }
 
 // Checks that all stored outputs are there. It reads none of them.

@@ -11,6 +11,7 @@ ghost use Rattle.recorded_outputs.specs.ReadAt.{HasRead};
 use std::fs::File;
 use std::io;
 use std::io::{AsBytes, Cursor, ErrorKind, Read, Seek, SeekFrom};
+use std::os::unix::fs::FileExt;
 
 /// Bytes that are read at their place, as those of a file are.
 ///
@@ -72,7 +73,7 @@ impl<T: AsBytes> Source for Cursor<T> {
     }
 }
 
-/// The bytes of a file, wherever it stands. A read moves it.
+/// The bytes of a file, wherever it stands. No call moves it.
 impl Source for File {
     fn len(&mut self) -> io::Result<u64> {
         // A seek to the end of a folder would answer a number that no file has.
@@ -80,8 +81,7 @@ impl Source for File {
     }
 
     fn read_at(&mut self, offset: u64, buffer: &mut [u8]) -> io::Result<()> {
-        self.seek(SeekFrom::Start(offset))?;
-        self.read_exact(buffer)
+        self.read_exact_at(buffer, offset)
     }
 }
 

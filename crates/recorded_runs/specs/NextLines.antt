@@ -11,6 +11,8 @@ use Rattle.recorded_events.specs.declared.load.LoadEventFault.TheVariants as loa
 use Rattle.recorded_lines.specs.declared.line.PlacedOutput.{PlacedOutput}
 use Rattle.recorded_outputs.specs.Outputs.{counted}
 use Rattle.recorded_runs.specs.Runs.{needed_for, whole_lines}
+use Rattle.recorded_runs.specs.declared.lines.Taken.{Taken}
+use Rattle.recorded_runs.specs.declared.lines.Taken.TheVariants as taken
 use Rattle.scene_events.specs.declared.scene.event.SceneEvent.{SceneEvent}
 use Rattle.scene_fields.specs.Split.{Lacks}
 use Rattle.scene_fields.specs.declared.fault.LineFault.TheVariants as line
@@ -23,6 +25,13 @@ use Rattle.scenes.specs.Reports.{decider_for}
 abbrev pub IsNextLine : List ℕ → Bool → List ℕ → Option (List ℕ) → Type 0
 IsNextLine text true line rest = (more : List ℕ) × (rest ≡ Some more) × (text ≡ line ++ 10 ∷ more) × Lacks 10 line
 IsNextLine text false line rest = (whole_lines text ≡ []) × ((more : List ℕ) × (rest ≡ Some more) × (whole_lines more ≡ []))
+
+-- what was taken of a text whose first bytes are at hand, after what was taken before: the end of a line and its line feed, a part of a line, or
+-- nothing, where none are at hand; and what is left of it
+abbrev pub TakesOf : Taken → List ℕ → List ℕ → List ℕ → List ℕ → Option (List ℕ) → Type 0
+TakesOf taken.Line at_hand text old new rest = (part : List ℕ) × (more : List ℕ) × (rest ≡ Some more) × (new ≡ old ++ part) × (text ≡ part ++ 10 ∷ more) × Lacks 10 part
+TakesOf taken.Part at_hand text old new rest = (part : List ℕ) × (more : List ℕ) × (rest ≡ Some more) × (new ≡ old ++ part) × (text ≡ part ++ more) × Lacks 10 part
+TakesOf taken.Nothing at_hand text old new rest = (at_hand ≡ []) × (rest ≡ Some text) × (new ≡ old)
 
 -- a line of this text as it is replayed, with these stored outputs
 abbrev pub loaded_line : Options → List ℕ → List ℕ → List PlacedOutput → RunLine

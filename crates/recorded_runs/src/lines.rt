@@ -2,26 +2,28 @@
 
 ghost use Rattle.std.specs.Prelude.{◌≡◌, ℕ, List, [], ◌∷◌, Some, IfErr, IfOk, OnErr, OnOk};
 ghost use Rattle.std.specs.Cow.{cow_str_bytes};
-ghost use Rattle.std.specs.Io.Buffered.{reader_remaining};
+ghost use Rattle.std.specs.Io.Buffered.{reader_buffer, reader_remaining};
 ghost use Rattle.command_line.specs.Faults.{IsJudgeFault};
 ghost use Rattle.command_line.specs.Pieces.{IsUnread};
-ghost use Rattle.recorded_runs.specs.NextLines.{IsCounted, IsFaultOfLoad, IsLineFault, IsNextLine, KeepsRead, LeavesLine, loaded_line};
+ghost use Rattle.recorded_runs.specs.NextLines.{IsCounted, IsFaultOfLoad, IsLineFault, IsNextLine, KeepsRead, LeavesLine, TakesOf, loaded_line};
 ghost use Rattle.recorded_runs.specs.Runs.{line_replayed, line_unread, stored_in};
 ghost use Rattle.scene_fields.specs.Split.{Lacks};
 ghost use Rattle.scene_text.specs.SceneTexts.{ReadsLines, plain_line, text_lines};
 
+use memchr::memchr;
 use recorded_events::load::{LoadEventFault, load_outputs};
 use recorded_lines::line::RecordedLine;
 use recorded_outputs::outputs::RecordedOutputs;
 use recorded_outputs::read_at::ReadAt;
+use run_model::memory::OutOfMemory;
 use scene_text::reader::LinesRead;
 use scenes::args::Options;
 use scenes::fault::{Fault, LineFault};
 use scenes::reporter::decider_of;
 use std::alloc::Global;
-use std::io::{BufRead, BufReader, Read};
+use std::io::{BufRead, BufReader, ErrorKind, Read};
 
-/// Reads the next line into the buffer, without the line feed that ends it. It answers whether there is one: what stands behind the last line
+/// Reads the next line into the buffer, without the line feed that ends it. It returns whether there is one: what follows the last line
 /// feed is none.
 pub(crate) fn next_line<'a, R: Read>(
     file: &'a str,
@@ -32,13 +34,54 @@ pub(crate) fn next_line<'a, R: Read>(
     ensures err { IfErr result (IsUnread file.now) }
 {
     line.clear();
-    match reader.read_until(b'\n', line) {
-        Ok(_) => {}
-        Err(error) => return Err(Fault::CannotRead { file }.by_kind(error.kind())),
+    for _turn in 0..u64::MAX {
+        match reader.fill_buf() {
+            Ok(_) => {}
+            Err(error) if error.kind() == ErrorKind::Interrupted => continue,
+            Err(error) => return Err(Fault::CannotRead { file }.by_kind(error.kind())),
+        }
+        match take_at_hand(reader, line)? {
+            Taken::Line => return Ok(true),
+            Taken::Part => {}
+            // The file ends here.
+            Taken::Nothing => return Ok(false),
+        }
     }
-    match line.pop() {
-        Some(last) => Ok(last == b'\n'),
-        None => Ok(false),
+    Err(Fault::CannotRead { file })
+}
+
+// What was taken of the bytes that a reader has at hand.
+#[derive(Clone, Copy)]
+enum Taken {
+    // The end of a line, and its line feed.
+    Line,
+    // All of them, which are a part of a line.
+    Part,
+    // Nothing, since it has none.
+    Nothing,
+}
+
+// Takes what the reader has at hand up to the first line feed, or all of it.
+fn take_at_hand<R: Read>(
+    reader: &mut BufReader<R>,
+    line: &mut Vec<u8>,
+) -> Result<Taken, OutOfMemory>
+    ensures { IfOk result (λ taken. (text : List ℕ) → reader_remaining R.remaining reader.old ≡ Some text → TakesOf taken (reader_buffer reader.old) text line.old.items line.new.items (reader_remaining R.remaining reader.new)) }
+{
+    let at_hand = reader.buffer();
+    match memchr(b'\n', at_hand) {
+        Some(at) => {
+            line.extend_from_slice(&at_hand[..at])?;
+            reader.consume(at + 1);
+            Ok(Taken::Line)
+        }
+        None if at_hand.is_empty() => Ok(Taken::Nothing),
+        None => {
+            let count = at_hand.len();
+            line.extend_from_slice(at_hand)?;
+            reader.consume(count);
+            Ok(Taken::Part)
+        }
     }
 }
 

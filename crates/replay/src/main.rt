@@ -11,7 +11,9 @@ use recorded_runs::run::RecordedRun;
 use scenes::args::{Options, words};
 use scenes::fault::{Fault, Program};
 use scenes::follow::RunOutcome;
-use scenes::process::{arguments, create_store, fill_standard_descriptors, print_error, tell};
+use scenes::process::{
+    arguments, create_store, fill_standard_descriptors, print_error, report_fault,
+};
 use std::fs::{self, File, Metadata};
 use std::io::{self, ErrorKind};
 use std::path::Path;
@@ -22,9 +24,9 @@ fn main(rt: HostRuntime) -> ExitCode {
     let status = match arguments(&rt) {
         Ok(args) => match run(&rt, args.as_slice()) {
             Ok(outcome) => end(&rt, outcome),
-            Err(fault) => tell(&rt, Program::Replay, fault),
+            Err(fault) => report_fault(&rt, Program::Replay, fault),
         },
-        Err(fault) => tell(&rt, Program::Replay, fault),
+        Err(fault) => report_fault(&rt, Program::Replay, fault),
     };
     ExitCode::from(status)
 }

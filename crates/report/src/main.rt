@@ -7,7 +7,7 @@
 use plain_text::write_str::RetryInterrupted;
 use scenes::args::words;
 use scenes::fault::{Fault, Program};
-use scenes::process::{arguments, create_store, fill_standard_descriptors, tell};
+use scenes::process::{arguments, create_store, fill_standard_descriptors, report_fault};
 use scenes::report::{accept_scene, read_whole, report_accepted};
 use std::fs::File;
 use std::io;
@@ -19,9 +19,9 @@ fn main(rt: HostRuntime) -> ExitCode {
     let status = match arguments(&rt) {
         Ok(args) => match run(&rt, args.as_slice()) {
             Ok(()) => 0,
-            Err(fault) => tell(&rt, Program::Report, fault),
+            Err(fault) => report_fault(&rt, Program::Report, fault),
         },
-        Err(fault) => tell(&rt, Program::Report, fault),
+        Err(fault) => report_fault(&rt, Program::Report, fault),
     };
     ExitCode::from(status)
 }

@@ -1,6 +1,6 @@
 -- What the program tells of a text, as a line that is wrong or as memory that was refused (for `report_of`).
 use Rattle.std.proofs.Common.{◌≡◌, ℕ, List, Option, ◌⊎◌, inl, inr}
-use Rattle.report_c.specs.Reported.{IsUnreported, fault_told}
+use Rattle.report_c.specs.Reported.{IsUnreported, read_fault_of}
 use Rattle.scene_fields.specs.declared.fault.LineFault.{LineFault}
 use Rattle.scenes.specs.Judged.{IsRejected}
 use Rattle.scenes.specs.ParsedScenes.{OfText}
@@ -16,7 +16,7 @@ line_no_stop options n f (inr (inl is)) = cc
 line_no_stop options n f (inr (inr is)) = (let h = is.0 in cc)
 
 module _ {W S : Type 0} (options : Options) (text : List ℕ) (old new : W × S) (before after : Option (List ℕ) × Option (List ℕ)) where
-  pub unreported : (f : Fault) → IsRejected options text f old new ⊎ OfText text (λ run. Begins device device options before after run f) → IsUnreported options text (fault_told f)
+  pub unreported : (f : Fault) → IsRejected options text f old new ⊎ OfText text (λ run. Begins device device options before after run f) → IsUnreported options text (read_fault_of f)
   unreported fault.Usage h = tt
   unreported (fault.CannotRead file) h = tt
   unreported (fault.CannotWrite file) h = tt

@@ -57,16 +57,16 @@ pub record IsTooLong (options : NorigullyOptions) (text old : List ℕ) (n : ℕ
   pub count : n ≡ length report
 
 -- The program tells a fault of this line.
-pub record IsWrongLine (options : NorigullyOptions) (text : List ℕ) (line : ℕ) : Type 0 where
+pub record IsFaultOfLine (options : NorigullyOptions) (text : List ℕ) (line : ℕ) : Type 0 where
   pub program : Options
   pub asked : AsksFor options program
   pub wrong : LineFault
   pub judged : IsJudged program (Err (fault.Line line wrong)) text
 
 -- What ended a report to memory: a line that is wrong, or that memory was refused.
-abbrev pub fault_told : Fault → ReadFault
-fault_told (fault.Line n f) = read.Line n f
-fault_told _ = read.OutOfMemory
+abbrev pub read_fault_of : Fault → ReadFault
+read_fault_of (fault.Line n f) = read.Line n f
+read_fault_of _ = read.OutOfMemory
 
 -- There is no report, since the program tells a fault of this line, or since memory was refused.
 abbrev pub IsUnreported : Options → List ℕ → ReadFault → Type 0

@@ -4,7 +4,7 @@
 #![tactic(auto)]
 
 ghost use Rattle.std.specs.Prelude.{◌≡◌, ◌≢◌, ◌↔◌, ◌≤◌, None};
-ghost use Rattle.report_c.specs.Reported.{IsTooLong, IsWritten, IsWrongLine, level_numbered};
+ghost use Rattle.report_c.specs.Reported.{IsTooLong, IsWritten, IsFaultOfLine, level_numbered};
 
 mod report;
 
@@ -73,7 +73,7 @@ pub extern "C" fn norigully_report(
     // That report has more bytes than the buffer.
     ensures too_long { result.status ≡ 1 → IsTooLong options.now scene.now out.old result.length }
     // That line is the first of the text that is wrong, or that of the first event that a reporter refuses.
-    ensures line { result.status ≡ 2 → IsWrongLine options.now scene.now result.line }
+    ensures line { result.status ≡ 2 → IsFaultOfLine options.now scene.now result.line }
     // A status level that is none is told, and is told of no other.
     ensures level { (result.status ≡ 4) ↔ (level_numbered options.now.status_level ≡ None) }
     ensures fault { result.status ≤ 4 }

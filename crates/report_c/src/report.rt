@@ -3,7 +3,7 @@
 ghost use Rattle.std.specs.Prelude.{◌≡◌, ◌↔◌, [], IfSome, IfOk, IfErr, None, Some};
 ghost use Rattle.scenes.specs.ParsedScenes.{OfText};
 ghost use Rattle.scenes.specs.Prints.{Prints, device};
-ghost use Rattle.report_c.specs.Reported.{AsksFor, IsUnreported, fault_told, level_numbered};
+ghost use Rattle.report_c.specs.Reported.{AsksFor, IsUnreported, read_fault_of, level_numbered};
 
 use crate::NorigullyOptions;
 use run_model::level::StatusLevel;
@@ -64,13 +64,13 @@ pub fn report_of(alloc: Global, options: &Options<'_>, text: &[u8]) -> Result<Ve
     );
     match outcome {
         Ok(()) => Ok(report),
-        Err(fault) => Err(fault_told(&fault)),
+        Err(fault) => Err(read_fault_of(&fault)),
     }
 }
 
 // A line that is wrong. All else that ends a report to memory is that memory was refused.
-fn fault_told(fault: &Fault<'_>) -> ReadFault
-    ensures { result ≡ fault_told fault.now }
+fn read_fault_of(fault: &Fault<'_>) -> ReadFault
+    ensures { result ≡ read_fault_of fault.now }
 {
     match fault {
         Fault::Line { line, fault } => ReadFault::Line {

@@ -1,5 +1,5 @@
 -- Names, iterations and counters as a report shows them.
-use Rattle.std.specs.Prelude.{◌≢◌, ℕ, ◌+◌, List, [], ◌∷◌, ◌++◌, Option, None, Some, length, codes, encode_utf8}
+use Rattle.std.specs.Prelude.{◌≢◌, ℕ, ◌+◌, List, [], ◌∷◌, ◌++◌, false, Option, None, Some, length, codes, encode_utf8}
 use Rattle.std.specs.Fmt.{decimal}
 use Rattle.std.specs.declared.num.NonZeroU32.{NonZeroU32}
 use Rattle.std.specs.Int.NonZero.{non_zero_u32_get}
@@ -14,6 +14,7 @@ use Rattle.plain_text.specs.Style.{PartText, Plain, Styled, paint}
 use Rattle.plain_text.specs.declared.style.Style.{Style}
 use Rattle.plain_text.specs.declared.style.Style.TheVariants as style
 use Rattle.plain_text.specs.declared.style.ListStyles.{ListStyles}
+use Rattle.report_words.specs.Parts.{Parts, Open, drawn_given}
 use Rattle.report_text.specs.declared.helpers.instance.DisplayCounterIndex.{DisplayCounterIndex}
 use Rattle.report_text.specs.declared.helpers.instance.DisplayCounterIndex.TheVariants.{Counter, Padded}
 
@@ -91,3 +92,10 @@ HasPlainWords counter binary_id name = HasPlainCounter counter × HasNoEscape bi
 unfoldable pub script_text : Style → Style → Option StressIndex → Text → Text → Text
 script_text id_style count_style stress id command =
     stress_prefix count_style stress ++ (paint (Styled id_style id ∷ Plain (codes ": ") ∷ []) ++ command)
+
+-- a test and a setup script as parts of a line
+abbrev pub instance_part : Option StressIndex → Option DisplayCounterIndex → TestInstanceId → Parts false Open
+instance_part stress counter i = drawn_given (λ s. instance_text s.list_styles stress counter i)
+
+abbrev pub script_part : Option StressIndex → Text → Text → Parts false Open
+script_part stress id command = drawn_given (λ s. script_text s.script_id s.count stress id command)

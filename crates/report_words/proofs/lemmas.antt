@@ -1,4 +1,5 @@
 pub mod Clocks
 pub mod ColourPairs
 pub mod FreeWords
+pub mod PartsInColour
 pub mod SplitPaths

@@ -1,4 +1,6 @@
 pub mod Durations
+pub mod InColour
+pub mod Parts
 pub mod Paths
 pub mod PlainTexts
 pub mod Plural

@@ -4,5 +4,6 @@ pub mod Inserts
 pub mod KeptTests
 pub mod Keys
 pub mod Loads
+pub mod Metadata
 pub mod Orders
 pub mod Places

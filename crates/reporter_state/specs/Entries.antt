@@ -3,7 +3,6 @@ use Rattle.std.specs.Prelude.{ℕ, ◌-◌, Bool, false, List, [], ◌∷◌, �
 use Rattle.std.specs.Option.{option_to_list}
 use Rattle.std.specs.declared.cmp.Ordering.{Ordering}
 use Rattle.std.specs.Ordering.{is_lt}
-use Rattle.std.specs.List.{flat_map}
 use Rattle.std.specs.List.Sorted.{IsSorted, IsStable}
 use Rattle.run_names.specs.Levels.{final_rank, reason_rank}
 use Rattle.run_model.specs.Statuses.{final_level_of}
@@ -17,10 +16,11 @@ use Rattle.run_names.specs.declared.stress.StressIndex.{StressIndex}
 use Rattle.plain_text.specs.Texts.{Text}
 use Rattle.report_text.specs.declared.helpers.instance.DisplayCounterIndex.{DisplayCounterIndex}
 use Rattle.report_text.specs.declared.helpers.instance.DisplayCounterIndex.TheVariants.{Counter, Padded}
-use Rattle.text_parts.specs.AttemptOutput.{attempt_output}
+use Rattle.report_words.specs.Parts.{Parts, Line, Lines, ◌⧺◌, each, paint}
 use Rattle.reporter_state.specs.Effects.{effect_of, entry_of}
 use Rattle.reporter_state.specs.KeptTests.{borrowed_test}
 use Rattle.reporter_state.specs.Order.{key_cmp, ordered_by}
+use Rattle.text_parts.specs.AttemptOutput.{attempt_output}
 use Rattle.test_text.specs.TestSkipped.{skip_line}
 use Rattle.test_text.specs.StatusLine.{status_line}
 use Rattle.run_model.specs.declared.call.ReportCall.{ReportCall}
@@ -107,16 +107,21 @@ abbrev pub final_order : List FinalOutputEntry → List FinalOutputEntry
 final_order entries = ordered_by is_before entries
 
 -- how the summary shows a test: its line, and then what its last attempt wrote where that is kept; or that it was skipped
-unfoldable pub final_text : Settings → CountedInstance → FinalOutput → Text
-final_text s test (Executed summary) = status_line s.styles Final test summary
-final_text s test (ExecutedWithOutput summary output) =
-    status_line s.styles Final test summary ++ attempt_output s false summary.result output
-final_text s test Skipped = skip_line s test
+unfoldable pub final_text : Settings → CountedInstance → FinalOutput → Parts false Line
+final_text s test (Executed summary) = status_line Final test summary
+final_text s test (ExecutedWithOutput summary output) = status_line Final test summary ⧺ attempt_output s false summary.result output
+final_text s test Skipped = skip_line test
 
 -- how it shows an entry
-abbrev pub entry_text : Settings → FinalOutputEntry → Text
+abbrev pub entry_text : Settings → FinalOutputEntry → Parts false Line
 entry_text s e = final_text s (borrowed_test e.test) e.output
 
+abbrev pub shown_entry : Settings → FinalOutputEntry → Text
+shown_entry s e = paint s.styles (entry_text s e)
+
 -- the entries as they stand, one after another
-abbrev pub entries_text : Settings → List FinalOutputEntry → Text
-entries_text s es = flat_map (entry_text s) es
+abbrev pub entries_text : Settings → List FinalOutputEntry → Parts false Lines
+entries_text s es = each (entry_text s) es
+
+abbrev pub shown_entries : Settings → List FinalOutputEntry → Text
+shown_entries s es = paint s.styles (entries_text s es)

@@ -4,6 +4,7 @@ pub mod Fronts
 pub mod KeptTests
 pub mod Keys
 pub mod Loads
+pub mod Metadata
 pub mod Order
 pub mod Refusals
 pub mod Unread

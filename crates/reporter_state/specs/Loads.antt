@@ -66,7 +66,7 @@ decision d (TestFinished stress test success failure statuses stats) = Some (loa
 decision d _ = None
 
 -- the output that an event needs: that of a decided one if the decider loads it, of a finished test that of the last attempt; and
--- that of a unit which answers, where it is its own
+-- the output of a unit that answers, unless it is that of the attempt before
 abbrev pub answered_output : UnitState → Written → Option Written
 answered_output state output = if has_valid_output state then Some output else None
 

@@ -1,11 +1,15 @@
 //! What a reporter decides of an event by its metadata alone.
 
+ghost use Rattle.run_model.specs.declared.output.RecordedOutput.{RecordedOutput};
+ghost use Rattle.run_model.specs.declared.output.RecordingSpec.{RecordingSpec};
+ghost use Rattle.run_model.specs.declared.output_event.OutputEventKind.{OutputEventKind};
 ghost use Rattle.std.specs.Prelude.{◌≡◌, IfSome, None, Some, false};
 ghost use Rattle.std.specs.Option.{is_some, option_map};
 ghost use Rattle.run_model.specs.Recorded.{recorded_kind};
 ghost use Rattle.run_model.specs.Statuses.{described_summary, summary_of};
 ghost use Rattle.run_model.specs.declared.event.TestEventKind.{TestEventKind};
 ghost use Rattle.reporter_state.specs.Refusals.{decider_by, event_refusal, first_refused, is_retried_success, refusal_by};
+ghost use Rattle.reporter_state.specs.Metadata.{HasMetadata, loads_by_metadata, loads_last};
 ghost use Rattle.reporter_state.specs.Loads.{decision, is_asked_of, lacks_output, load_if, loads, loads_attempt, loads_finish, loads_script, needed_answer, needed_output};
 ghost use Rattle.reporter_state.specs.Refusals.{refusal_in};
 ghost use Rattle.reporter_state.specs.Unread.{unread_call};
@@ -32,6 +36,30 @@ pub struct OutputLoadDecider {
     status_level: StatusLevel,
     overrides: OutputDisplayOverrides,
     store: Option<StoreConfig>,
+}
+
+/// What an event that may have captured output says of it beside the output itself.
+#[derive(Clone, Copy)]
+pub enum OutputMetadata<'a> {
+    /// A setup script has finished.
+    SetupScriptFinished {
+        /// How it ended.
+        result: &'a ExecutionResultDescription,
+    },
+    /// An attempt of a test has failed, and another one follows.
+    TestAttemptFailedWillRetry {
+        /// When the output of a failure is to be shown.
+        failure_output: TestOutputDisplay,
+    },
+    /// A test has finished.
+    TestFinished {
+        /// When its output is to be shown if it succeeded.
+        success_output: TestOutputDisplay,
+        /// When its output is to be shown if it failed.
+        failure_output: TestOutputDisplay,
+        /// How its last attempt ended.
+        last_result: &'a ExecutionResultDescription,
+    },
 }
 
 impl OutputLoadDecider {
@@ -88,6 +116,32 @@ impl OutputLoadDecider {
         })
     }
 
+    /// Whether the captured output of an event with this metadata has to be loaded: what `should_load_output` returns of such an event,
+    /// which need not be there. It allocates nothing.
+    ///
+    /// ```
+    /// let failed = ExecutionResultDescription::ExecFail;
+    /// let metadata = OutputMetadata::SetupScriptFinished { result: &failed };
+    /// assert_eq!(decider.should_load(metadata), LoadOutput::Load);
+    /// ```
+    #[tactic(auto, using(crate::proofs::lemmas::Metadata::loads_alike))]
+    pub fn should_load(&self, metadata: OutputMetadata<'_>) -> LoadOutput
+        ensures loads { result ≡ load_if (loads_by_metadata self.now metadata.entry) }
+        ensures alike { (event : OutputEventKind RecordingSpec RecordedOutput) → HasMetadata event metadata.entry → result ≡ load_if (loads self.now event) }
+    {
+        load_if(match metadata {
+            OutputMetadata::SetupScriptFinished { result } => loads_script(result),
+            OutputMetadata::TestAttemptFailedWillRetry { failure_output } => {
+                self.loads_attempt(failure_output)
+            }
+            OutputMetadata::TestFinished {
+                success_output,
+                failure_output,
+                last_result,
+            } => self.loads_last(success_output, failure_output, last_result),
+        })
+    }
+
     // The decision for a live event; `None` for kinds without captured output.
     fn decision(&self, kind: &TestEventKind<'_>) -> Option<LoadOutput>
         ensures { result ≡ decision self.now kind.now }
@@ -133,6 +187,26 @@ impl OutputLoadDecider {
         display.is_immediate()
             || display.is_final()
             || self.stores_output(describe.is_success_for_output())
+    }
+
+    // The same by how its last attempt ended.
+    fn loads_last(
+        &self,
+        success_output: TestOutputDisplay,
+        failure_output: TestOutputDisplay,
+        last_result: &ExecutionResultDescription,
+    ) -> bool
+        ensures { result ≡ loads_last self.now success_output failure_output last_result.now }
+    {
+        let is_success = last_result.is_success();
+        let display = if is_success {
+            self.overrides.success_output(success_output)
+        } else if matches!(last_result, ExecutionResultDescription::ExecFail) {
+            self.overrides.exec_fail_output(failure_output)
+        } else {
+            self.overrides.failure_output(failure_output)
+        };
+        display.is_immediate() || display.is_final() || self.stores_output(is_success)
     }
 
     // Whether a store is asked to keep the output of such a test.

@@ -34,6 +34,7 @@ pub enum EndedTest<'e, 'a> {
 
 impl<'e, 'a> EventEffect<'e, 'a> {
     /// What an event does where the run was cancelled for this reason before.
+    #[inline(always)]
     pub fn of_event(
         settings: &Settings,
         reason: Option<CancelReason>,

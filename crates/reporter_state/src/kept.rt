@@ -4,7 +4,8 @@ ghost use Rattle.std.specs.Prelude.{◌≡◌, List, [], ◌∷◌, ◌++◌, On
 ghost use Rattle.plain_text.specs.Writer.{Puts};
 ghost use Rattle.test_text.specs.StatusLine.{status_line};
 ghost use Rattle.test_text.specs.declared.status_line.StatusLineKind.{StatusLineKind};
-ghost use Rattle.reporter_state.specs.Entries.{final_text, entries_text, final_order, IsFinalOrder};
+ghost use Rattle.report_words.specs.Parts.{paint};
+ghost use Rattle.reporter_state.specs.Entries.{final_text, shown_entries, final_order, IsFinalOrder};
 ghost use Rattle.reporter_state.specs.KeptTests.{borrowed_test};
 ghost use Rattle.reporter_state.specs.declared.final_output.FinalOutputEntry.{FinalOutputEntry};
 
@@ -66,7 +67,7 @@ impl KeptEntries {
 
     /// Writes the entries in their order. It allocates nothing.
     pub fn write<W: WriteStr>(&self, w: &mut W, settings: &Settings) -> Result<(), WriteFault>
-        ensures { Puts W.meaning w.old (entries_text settings.now self.now) result w.new }
+        ensures { Puts W.meaning w.old (shown_entries settings.now self.now) result w.new }
     {
         for (key, ()) in self.by_key.iter().rev() {
             let FinalOutputEntry { test, output } = key.0.entry();
@@ -92,7 +93,7 @@ fn write_entry<W: WriteStr>(
     test: &KeptTest,
     output: &FinalOutput,
 ) -> Result<(), WriteFault>
-    ensures { Puts W.meaning w.old (final_text settings.now (borrowed_test test.now) output.now) result w.new }
+    ensures { Puts W.meaning w.old (paint settings.now.styles (final_text settings.now (borrowed_test test.now) output.now)) result w.new }
 {
     match output {
         FinalOutput::Executed { summary } => write_line(w, settings, test, summary),
@@ -112,14 +113,14 @@ fn write_line<W: WriteStr>(
     test: &KeptTest,
     summary: &StatusSummary,
 ) -> Result<(), WriteFault>
-    ensures { Puts W.meaning w.old (status_line settings.now.styles StatusLineKind.Final (borrowed_test test.now) summary.now) result w.new }
+    ensures { Puts W.meaning w.old (paint settings.now.styles (status_line StatusLineKind.Final (borrowed_test test.now) summary.now)) result w.new }
 {
     let line = StatusLine::of_summary(summary);
     write_status_line(
         w,
         &settings.styles,
         StatusLineKind::Final,
-        test.as_counted(),
+        &test.as_counted(),
         line,
     )
 }

@@ -1,11 +1,11 @@
 //! What a reporter knows of the calls before, and what an event makes of that.
 
-ghost use Rattle.std.specs.Prelude.{◌≡◌, ◌++◌, List, [], OnOk, OnErr, None, max, true, false};
+ghost use Rattle.std.specs.Prelude.{◌≡◌, ◌++◌, ◌∷◌, List, [], OnOk, OnErr, None, max, true, false};
 ghost use Rattle.std.specs.Option.{is_some, option_and_then, option_map, option_to_list};
 ghost use Rattle.run_names.specs.Levels.{reason_rank};
 ghost use Rattle.test_text.specs.TestFinished.{HasShownOutput, finish_of};
 ghost use Rattle.reporter_state.specs.declared.final_output.FinalOutputEntry.{FinalOutputEntry};
-ghost use Rattle.reporter_state.specs.Effects.{HasEndOutput, HasEndOutputIn, TestEnd, end_of, kept_entry};
+ghost use Rattle.reporter_state.specs.Effects.{HasEndOutput, HasEndOutputIn, TestEnd, end_of, finished_entry, kept_entry};
 ghost use Rattle.reporter_state.specs.Entries.{final_order};
 
 use crate::binary_ids::BinaryIds;
@@ -60,6 +60,7 @@ impl ReporterState {
     }
 
     /// Does what an event does: it may cancel the run, and finish a test.
+    #[inline(always)]
     pub fn apply(&mut self, effect: &EventEffect<'_, '_>) -> Result<(), OutOfMemory>
         requires { HasEndOutputIn (option_map end_of effect.now.ended) }
         ensures settings { self.new.settings ≡ self.old.settings }
@@ -78,6 +79,7 @@ impl ReporterState {
     }
 
     // Keeps a test where the summary lists it.
+    #[inline(always)]
     fn keep_test(&mut self, ended: &EndedTest<'_, '_>) -> Result<(), OutOfMemory>
         requires { HasEndOutput (end_of ended.now) }
         ensures settings { self.new.settings ≡ self.old.settings }
@@ -95,6 +97,7 @@ impl ReporterState {
     }
 
     // Keeps a finished test where the summary lists it.
+    #[inline(always)]
     fn keep_finished(&mut self, attempts: &FinishedAttempts<'_, '_>) -> Result<(), OutOfMemory>
         requires { HasShownOutput (finish_of attempts.now.finished) }
         ensures settings { self.new.settings ≡ self.old.settings }
@@ -112,6 +115,21 @@ impl ReporterState {
         if !finished.row.is_listed(is_wanted) {
             return Ok(());
         }
+        self.keep_listed(attempts)
+    }
+
+    // Keeps a finished test that the summary lists. Not inlined: the compiler zeroes all locals of a function at its entry, and most tests are
+    // not listed.
+    #[inline(never)]
+    fn keep_listed(&mut self, attempts: &FinishedAttempts<'_, '_>) -> Result<(), OutOfMemory>
+        requires { HasShownOutput (finish_of attempts.now.finished) }
+        ensures settings { self.new.settings ≡ self.old.settings }
+        ensures prefix { self.new.unique_prefix ≡ self.old.unique_prefix }
+        ensures reason { self.new.cancel_status ≡ self.old.cancel_status }
+        ensures works { self.new.has_failed ≡ self.old.has_failed }
+        ensures kept { OnOk result ((before : List FinalOutputEntry) → self.old.kept ≡ final_order before →
+            self.new.kept ≡ final_order (before ++ finished_entry (finish_of attempts.now.finished) ∷ [])) }
+    {
         let entry = FinalOutputEntry::of_test(self.alloc, &mut self.ids, attempts)?;
         self.kept.keep(self.alloc, entry)?;
         Ok(())

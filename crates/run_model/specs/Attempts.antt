@@ -35,9 +35,13 @@ code_failure code = Fail (ExitCode code) false
 abbrev pub only_attempt : RetryData
 only_attempt = record { attempt = 1; total_attempts = 1 }
 
+-- both streams were captured and are empty
+abbrev pub silent_output : ChildOutputDescription
+silent_output = Split (Some []) (Some [])
+
 -- a process that ended so, whose streams were captured and are empty
 abbrev pub silent_execution : ExecutionResultDescription → ChildExecutionOutputDescription LiveSpec ChildOutputDescription
-silent_execution outcome = Output (Some outcome) (Split (Some []) (Some [])) None None
+silent_execution outcome = Output (Some outcome) silent_output None None
 
 -- the same where the process wrote this; one that could not be started wrote nothing
 abbrev pub execution_with_output : ChildExecutionOutputDescription LiveSpec ChildOutputDescription → ChildOutputDescription → ChildExecutionOutputDescription LiveSpec ChildOutputDescription

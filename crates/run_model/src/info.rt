@@ -1,16 +1,18 @@
 //! What each unit of a run answers when it is asked what it is doing.
 
-ghost use Rattle.std.specs.Prelude.{◌≡◌, Some};
+ghost use Rattle.std.specs.Prelude.{◌≡◌, IfOk, Some};
 ghost use Rattle.run_model.specs.Infos.{has_valid_output, terminate_reason_text};
 
-use crate::output::{ChildExecutionOutputDescription, LiveSpec};
+use crate::output::{ChildExecutionOutputDescription, LiveSpec, copy_result};
 use crate::status::{ExecutionResultDescription, RetryData};
 use run_names::abort::DescriptionText;
 use run_names::boxed::Boxed;
 use run_names::command::CommandLine;
+use run_names::memory::OutOfMemory;
 use run_names::name::{ProgramName, ScriptId, TestInstanceId};
 use run_names::stress::StressIndex;
 use run_names::time::Nanos;
+use std::alloc::Global;
 use std::fmt;
 use std::fmt::Formatter;
 
@@ -123,6 +125,63 @@ pub enum UnitState {
 }
 
 impl UnitState {
+    /// Copies its texts, which allocates.
+    pub fn copy(&self, alloc: Global) -> Result<Self, OutOfMemory>
+        ensures { IfOk result (λ state. state ≡ self.now) }
+    {
+        Ok(match self {
+            &UnitState::Running {
+                pid,
+                time_taken,
+                slow_after,
+            } => {
+                UnitState::Running {
+                    pid,
+                    time_taken,
+                    slow_after,
+                }
+            }
+            UnitState::Exiting {
+                pid,
+                time_taken,
+                slow_after,
+                tentative_result,
+                waiting_duration,
+                remaining,
+            } => UnitState::Exiting {
+                pid: *pid,
+                time_taken: *time_taken,
+                slow_after: *slow_after,
+                tentative_result: copy_result(alloc, tentative_result)?,
+                waiting_duration: *waiting_duration,
+                remaining: *remaining,
+            },
+            UnitState::Terminating(terminating) => {
+                UnitState::Terminating(terminating.copy(alloc)?)
+            }
+            UnitState::Exited {
+                result,
+                time_taken,
+                slow_after,
+            } => UnitState::Exited {
+                result: result.copy(alloc)?,
+                time_taken: *time_taken,
+                slow_after: *slow_after,
+            },
+            UnitState::DelayBeforeNextAttempt {
+                previous_result,
+                previous_slow,
+                waiting_duration,
+                remaining,
+            } => UnitState::DelayBeforeNextAttempt {
+                previous_result: previous_result.copy(alloc)?,
+                previous_slow: *previous_slow,
+                waiting_duration: *waiting_duration,
+                remaining: *remaining,
+            },
+        })
+    }
+
     /// Whether the output that stands beside the state is that of the unit: between two attempts there is none.
     pub fn has_valid_output(&self) -> bool
         ensures { result ≡ has_valid_output self.now }
@@ -152,6 +211,19 @@ pub struct UnitTerminatingState {
     pub waiting_duration: Nanos,
     /// How much longer it is waited for before it is killed.
     pub remaining: Nanos,
+}
+
+impl UnitTerminatingState {
+    /// Copies the name of the signal, which allocates.
+    pub fn copy(&self, alloc: Global) -> Result<Self, OutOfMemory>
+        ensures { IfOk result (λ state. state ≡ self.now) }
+    {
+        let UnitTerminateMethod::Signal(signal) = &self.method;
+        Ok(UnitTerminatingState {
+            method: UnitTerminateMethod::Signal(signal.copy(alloc)?),
+            ..*self
+        })
+    }
 }
 
 /// Why a process is ended. It prints its name in lower case.

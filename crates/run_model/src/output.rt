@@ -1,10 +1,11 @@
 //! What a test or a setup script wrote, as it was captured, and what went wrong with it.
 
-ghost use Rattle.std.specs.Prelude.{◌≡◌, [], length, ◌==◌, is_ok, true, IfOk, IsOk};
+ghost use Rattle.std.specs.Prelude.{◌≡◌, [], length, ◌==◌, is_ok, true, IfOk, IsOk, IsTrue};
+ghost use Rattle.std.specs.Option.{unwrap_or};
 ghost use Rattle.std.specs.Cow.{cow_str_bytes, IsOwnedStr};
 ghost use Rattle.std.specs.Str.{encode_utf8_all, IsUtf8};
 ghost use Rattle.bstr.specs.Utf8.{lossy_chars};
-ghost use Rattle.run_model.specs.Attempts.{execution_with_output, silent_execution};
+ghost use Rattle.run_model.specs.Attempts.{execution_with_output, silent_execution, silent_output};
 ghost use Rattle.run_model.specs.Outputs.{subslice_value, stdout_part, stderr_part, combined_part, has_errors, has_loaded_output, is_loaded};
 ghost use Rattle.run_model.specs.Recorded.{recorded_execution, recorded_member, recorded_output};
 ghost use Rattle.run_model.specs.Unloaded.{unloaded_output};
@@ -86,6 +87,14 @@ impl ChildSingleOutput {
         ChildSingleOutput { bytes: None }
     }
 
+    // Whether it owns no memory. It has no bytes then.
+    #[inline(always)]
+    fn owns_nothing(&self) -> bool
+        ensures { IsTrue result → self.now ≡ [] }
+    {
+        self.bytes.is_none()
+    }
+
     /// The bytes.
     pub fn as_bytes(&self) -> &[u8]
         ensures { result.now ≡ self.now }
@@ -143,6 +152,33 @@ pub enum ChildOutputDescription {
 }
 
 impl ChildOutputDescription {
+    // Whether it is that of a process that wrote nothing, and owns no memory.
+    #[inline(always)]
+    fn is_silent(&self) -> bool
+        ensures { IsTrue result → self.now ≡ silent_output }
+    {
+        match self {
+            ChildOutputDescription::Split {
+                stdout: Some(stdout),
+                stderr: Some(stderr),
+            } => stdout.owns_nothing() && stderr.owns_nothing(),
+            _ => false,
+        }
+    }
+
+    // Makes it that of a process that wrote nothing. One that is that already, as most are, is left as it is.
+    #[inline(always)]
+    fn replace_with_silent(&mut self)
+        ensures { self.new ≡ silent_output }
+    {
+        if !self.is_silent() {
+            *self = ChildOutputDescription::Split {
+                stdout: Some(ChildSingleOutput::empty()),
+                stderr: Some(ChildSingleOutput::empty()),
+            };
+        }
+    }
+
     /// What was captured of each stream by itself. It allocates for streams that are not empty.
     ///
     /// ```
@@ -316,6 +352,37 @@ impl ChildExecutionOutputDescription<LiveSpec> {
         }
     }
 
+    /// Makes it that of a process that ended so and wrote this, or nothing, and returns true. It allocates nothing, so that is done only where it is that of
+    /// a process without errors, and the result is a pass or a failure with an exit code; else it returns false, and what it holds then is
+    /// not said.
+    #[inline(always)]
+    pub fn replace(
+        &mut self,
+        outcome: &ExecutionResultDescription,
+        captured: Option<ChildOutputDescription>,
+    ) -> bool
+        ensures { IsTrue result → self.new ≡ execution_with_output (silent_execution outcome.now) (unwrap_or captured silent_output) }
+    {
+        match self {
+            ChildExecutionOutputDescription::Output {
+                result,
+                output,
+                errors: None,
+                highlight: None,
+            } => {
+                match captured {
+                    Some(captured) => *output = captured,
+                    None => output.replace_with_silent(),
+                }
+                match result {
+                    Some(result) => result.replace(outcome),
+                    None => false,
+                }
+            }
+            _ => false,
+        }
+    }
+
     /// The same, where the process wrote this. One that could not be started wrote nothing, and stays as it is.
     pub fn with_output(self, captured: ChildOutputDescription) -> Self
         ensures { result ≡ execution_with_output self captured }
@@ -405,7 +472,7 @@ impl ChildExecutionOutputDescription<LiveSpec> {
 }
 
 // Copies the result, if there is one; allocates only if it holds text.
-fn copy_result(
+pub(crate) fn copy_result(
     alloc: Global,
     outcome: &Option<ExecutionResultDescription>,
 ) -> Result<Option<ExecutionResultDescription>, OutOfMemory>

@@ -30,6 +30,7 @@ impl<T: Drop> Boxed<T> {
     ghost use Rattle.run_names.specs.Boxes.{LendsValue};
 
     /// Puts a value on the heap.
+    #[inline(always)]
     pub fn new(alloc: Global, value: T) -> Result<Self, OutOfMemory>
         ensures { IfOk result (λ b. b ≡ value) }
     {

@@ -1,5 +1,1 @@
-pub mod CancelColourPairs
-pub mod NotSeenColourPairs
-pub mod ScriptColourPairs
-pub mod StartColourPairs
-pub mod SummaryColourPairs
+pub mod FreeRuns

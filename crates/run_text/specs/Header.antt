@@ -1,13 +1,13 @@
 -- What a replay says before it.
-use Rattle.std.specs.Prelude.{ℤ, pos, [], ◌++◌, codes, int_lt, unsigned_abs, if◌then◌else◌}
+use Rattle.std.specs.Prelude.{ℤ, pos, [], ◌++◌, codes, int_lt, unsigned_abs, if◌then◌else◌, false}
 use Rattle.jiff_core.specs.declared.civil.date.Date.{Date}
 use Rattle.jiff_core.specs.declared.civil.datetime.DateTime.{DateTime}
 use Rattle.jiff_core.specs.declared.civil.time.Time.{Time}
 use Rattle.run_model.specs.declared.replay.ReplayHeader.{ReplayHeader}
-use Rattle.plain_text.specs.Texts.{Text, right_in}
+use Rattle.plain_text.specs.Texts.{Text}
 use Rattle.plain_text.specs.Numbers.{last_digits}
-use Rattle.plain_text.specs.Style.{plain, styled}
-use Rattle.plain_text.specs.declared.style.Styles.{Styles}
+use Rattle.plain_text.specs.Style.{plain}
+use Rattle.report_words.specs.Parts.{Parts, Line, Count, Pass, words, right, given_toned, drawn_given, ◌⧺◌}
 use Rattle.run_text.specs.RunId.{id_text}
 
 -- a minus before the year, where that is before the year 0
@@ -29,17 +29,20 @@ unfoldable pub started_text : DateTime → Text
 started_text d = date_text d.date ++ (plain (codes " ") ++ time_text d.time)
 
 -- the line that says which run is shown
-unfoldable pub replaying_line : Styles → ReplayHeader → Text
-replaying_line s h =
-    styled s.pass (right_in 12 (codes "Replaying"))
-    ++ (plain (codes " recorded run ") ++ (id_text s h.unique_prefix h.run_id ++ plain (codes "\n")))
+unfoldable pub replaying_line : ReplayHeader → Parts false Line
+replaying_line h =
+    right 12 Pass (codes "Replaying") ⧺ words (codes " recorded run ") ⧺ id_text h.unique_prefix h.run_id ⧺ words (codes "\n")
 
 -- the line that says when it started, and how it ended
-unfoldable pub started_line : Styles → ReplayHeader → Text
-started_line s h =
-    styled s.pass (right_in 12 (codes "Started"))
-    ++ (plain (codes " ") ++ (started_text h.started_at ++ (plain (codes "  status: ") ++ (styled s.count h.status ++ plain (codes "\n")))))
+unfoldable pub started_line : ReplayHeader → Parts false Line
+started_line h =
+    right 12 Pass (codes "Started")
+    ⧺ words (codes " ")
+    ⧺ drawn_given (λ s. started_text h.started_at)
+    ⧺ words (codes "  status: ")
+    ⧺ given_toned Count h.status
+    ⧺ words (codes "\n")
 
 -- both
-unfoldable pub replay_header_text : Styles → ReplayHeader → Text
-replay_header_text s h = replaying_line s h ++ started_line s h
+unfoldable pub replay_header_text : ReplayHeader → Parts false Line
+replay_header_text h = replaying_line h ⧺ started_line h

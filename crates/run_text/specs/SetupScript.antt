@@ -1,5 +1,5 @@
 -- Setup scripts: that one has started, runs for long or has finished.
-use Rattle.std.specs.Prelude.{◌≡◌, ℕ, ◌+◌, Bool, true, false, [], ◌++◌, codes, if◌then◌else◌}
+use Rattle.std.specs.Prelude.{◌≡◌, ℕ, ◌+◌, Bool, true, false, ◌++◌, codes}
 use Rattle.std.specs.Fmt.{decimal}
 use Rattle.run_model.specs.Outputs.{has_loaded_output}
 use Rattle.run_model.specs.Statuses.{is_success}
@@ -12,10 +12,9 @@ use Rattle.run_model.specs.declared.status.ExecutionResultDescription.TheVariant
 use Rattle.run_model.specs.declared.status.LeakTimeoutResult.TheVariants as leak
 use Rattle.run_model.specs.declared.status.SetupScriptExecuteStatus.{SetupScriptExecuteStatus}
 use Rattle.plain_text.specs.Texts.{Text, right_in}
-use Rattle.plain_text.specs.Style.{plain, styled}
-use Rattle.plain_text.specs.declared.style.Style.{Style}
-use Rattle.plain_text.specs.declared.style.Styles.{Styles}
-use Rattle.unit_report.specs.Durations.{bracketed_duration, slow_duration}
+use Rattle.plain_text.specs.Style.{plain}
+use Rattle.report_words.specs.Parts.{Parts, Fixed, Open, Line, Lines, Tone, Pass, Fail, Skip, none, words, right, given_right, ◌⧺◌, choice, drawn_given}
+use Rattle.unit_report.specs.Durations.{bracketed, exceeded}
 use Rattle.text_parts.specs.AttemptOutput.{script_output}
 use Rattle.text_parts.specs.ResultWords.{short_word}
 use Rattle.text_parts.specs.Script.{Script, shown_script}
@@ -28,56 +27,61 @@ script_counter index total =
     plain (codes "[") ++ (right_in 9 (decimal (index + 1) ++ (codes "/" ++ decimal total)) ++ plain (codes "] "))
 
 -- a script has started
-unfoldable pub setup_script_started_text : Styles → ℕ → ℕ → Script → Text
-setup_script_started_text s index total script =
-    styled s.pass (right_in 12 (codes "SETUP"))
-    ++ (plain (codes " ") ++ (script_counter index total ++ (shown_script s script ++ plain (codes "\n"))))
+unfoldable pub setup_script_started_text : ℕ → ℕ → Script → Parts false Line
+setup_script_started_text index total script =
+    right 12 Pass (codes "SETUP")
+    ⧺ words (codes " ")
+    ⧺ drawn_given (λ s. script_counter index total)
+    ⧺ shown_script script
+    ⧺ words (codes "\n")
 
 -- a script that runs for long: the flag says that it is ended for it, and the level from which on that is told
 abbrev pub slow_script_level : Bool → StatusLevel
 slow_script_level false = level.Slow
 slow_script_level true = level.Fail
 
-unfoldable pub slow_script_words : Styles → Bool → Text
-slow_script_words s false = styled s.skip (right_in 12 (codes "SETUP SLOW"))
-slow_script_words s true = styled s.fail (right_in 12 (codes "TERMINATING"))
+unfoldable pub slow_script_words : Bool → Fixed Open
+slow_script_words false = right 12 Skip (codes "SETUP SLOW")
+slow_script_words true = right 12 Fail (codes "TERMINATING")
 
-unfoldable pub shown_slow_script : Styles → Script → ℕ → Bool → Text
-shown_slow_script s script elapsed will_terminate =
-    slow_script_words s will_terminate
-    ++ (plain (codes " ") ++ (slow_duration elapsed ++ (shown_script s script ++ plain (codes "\n"))))
+unfoldable pub shown_slow_script : Script → ℕ → Bool → Parts false Line
+shown_slow_script script elapsed will_terminate =
+    slow_script_words will_terminate ⧺ words (codes " ") ⧺ exceeded elapsed ⧺ shown_script script ⧺ words (codes "\n")
 
-unfoldable pub setup_script_slow_text : Settings → Script → ℕ → Bool → Text
+unfoldable pub setup_script_slow_text : Settings → Script → ℕ → Bool → Parts false Lines
 setup_script_slow_text s script elapsed will_terminate =
-    if is_level_shown s (slow_script_level will_terminate) then shown_slow_script s.styles script elapsed will_terminate else []
+    choice (is_level_shown s (slow_script_level will_terminate)) (shown_slow_script script elapsed will_terminate) none
 
 -- how a script ended. A timeout that counts as a success has the style of a failure
-abbrev pub script_status_style : Styles → ExecutionResultDescription → Style
-script_status_style s outcome.Pass = s.pass
-script_status_style s (outcome.Leak leak.Pass) = s.skip
-script_status_style s (outcome.Leak leak.Fail) = s.fail
-script_status_style s (outcome.Fail failure leaked) = s.fail
-script_status_style s outcome.ExecFail = s.fail
-script_status_style s (outcome.Timeout result) = s.fail
+abbrev pub script_status_tone : ExecutionResultDescription → Tone
+script_status_tone outcome.Pass = Pass
+script_status_tone (outcome.Leak leak.Pass) = Skip
+script_status_tone (outcome.Leak leak.Fail) = Fail
+script_status_tone (outcome.Fail failure leaked) = Fail
+script_status_tone outcome.ExecFail = Fail
+script_status_tone (outcome.Timeout result) = Fail
 
 abbrev pub script_status_words : ExecutionResultDescription → Text
 script_status_words result = codes "SETUP" ++ (codes " " ++ short_word result)
 
 -- the line of a script that ended so
-unfoldable pub setup_script_line : Styles → Script → ExecutionResultDescription → ℕ → Text
-setup_script_line s script result time_taken =
-    styled (script_status_style s result) (right_in 12 (script_status_words result))
-    ++ (plain (codes " ") ++ (bracketed_duration time_taken ++ (shown_script s script ++ plain (codes "\n"))))
+unfoldable pub setup_script_line : Script → ExecutionResultDescription → ℕ → Parts false Line
+setup_script_line script result time_taken =
+    given_right 12 (script_status_tone result) (script_status_words result)
+    ⧺ words (codes " ")
+    ⧺ bracketed time_taken
+    ⧺ shown_script script
+    ⧺ words (codes "\n")
 
 -- what a script wrote is there, unless it succeeded
 abbrev pub HasFailedScriptOutput : SetupScriptExecuteStatus LiveSpec ChildOutputDescription → Type 0
 HasFailedScriptOutput x = is_success x.result ≡ false → has_loaded_output x.output ≡ true
 
 -- what a script wrote, unless it succeeded
-unfoldable pub failed_script_output : Settings → SetupScriptExecuteStatus LiveSpec ChildOutputDescription → Text
-failed_script_output s x = if is_success x.result then [] else script_output s x.result x.output
+unfoldable pub failed_script_output : Settings → SetupScriptExecuteStatus LiveSpec ChildOutputDescription → Parts false Lines
+failed_script_output s x = choice (is_success x.result) none (script_output s x.result x.output)
 
 -- a script has finished
-unfoldable pub setup_script_finished_text : Settings → Script → SetupScriptExecuteStatus LiveSpec ChildOutputDescription → Text
+unfoldable pub setup_script_finished_text : Settings → Script → SetupScriptExecuteStatus LiveSpec ChildOutputDescription → Parts false Line
 setup_script_finished_text s script x =
-    setup_script_line s.styles script x.result x.time_taken.0 ++ failed_script_output s x
+    setup_script_line script x.result x.time_taken.0 ⧺ failed_script_output s x

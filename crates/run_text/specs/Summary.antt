@@ -1,6 +1,5 @@
 -- The end of a run before its entries: how long it took, and its counts.
-use Rattle.std.specs.Prelude.{ℕ, not, [], ◌++◌, ◌&&◌, ◌==◌, Option, None, Some, codes, if◌then◌else◌}
-use Rattle.std.specs.Fmt.{decimal}
+use Rattle.std.specs.Prelude.{ℕ, not, ◌&&◌, ◌==◌, Option, None, Some, codes}
 use Rattle.std.specs.declared.num.NonZeroU32.{NonZeroU32}
 use Rattle.std.specs.Int.NonZero.{non_zero_u32_get}
 use Rattle.run_names.specs.Levels.{reason_words}
@@ -16,42 +15,41 @@ use Rattle.run_model.specs.declared.stats.StressFinalRunStats.{StressFinalRunSta
 use Rattle.run_model.specs.declared.stats.StressFinalRunStats.TheVariants as stress
 use Rattle.run_model.specs.declared.stats.StressRunStats.{StressRunStats}
 use Rattle.run_names.specs.declared.stress.StressIndex.{StressIndex}
-use Rattle.plain_text.specs.Texts.{Text, right_in}
 use Rattle.report_words.specs.Plural.{iterations_word, tests_word_if}
-use Rattle.plain_text.specs.Style.{plain, styled}
-use Rattle.plain_text.specs.declared.style.Style.{Style}
-use Rattle.plain_text.specs.declared.style.Styles.{Styles}
-use Rattle.unit_report.specs.Durations.{bracketed_duration}
+use Rattle.unit_report.specs.Durations.{bracketed}
 use Rattle.text_parts.specs.Bar.{bar_line}
 use Rattle.text_parts.specs.StatsText.{counted_text, summary_text}
-use Rattle.text_parts.specs.declared.settings.Settings.{Settings}
+use Rattle.report_words.specs.declared.theme.ThemeCharacters.{ThemeCharacters}
+use Rattle.report_words.proofs.lemmas.FreeWords.{free-iterations_word, free-reason_words, free-tests_word_if}
+use Rattle.report_words.specs.Parts.{Fixed, Open, Line, Tone, Pass, Fail, Skip, Count, none, words, Word, toned, Toned, right, number, ◌⧺◌, choice, openly}
 
--- the style of what a run came to
-abbrev pub outcome_style : Styles → FinalRunStats → Style
-outcome_style s Success = s.pass
-outcome_style s NoTestsRun = s.skip
-outcome_style s (Cancelled reason kind) = s.fail
-outcome_style s (Failed kind) = s.fail
+-- what a run came to
+abbrev pub outcome_tone : FinalRunStats → Tone
+outcome_tone Success = Pass
+outcome_tone NoTestsRun = Skip
+outcome_tone (Cancelled reason kind) = Fail
+outcome_tone (Failed kind) = Fail
 
 -- of how many tests so many ran, where that is another number
-unfoldable pub initial_count_text : Styles → RunStats → Text
-initial_count_text s x =
-    if x.finished_count == x.initial_run_count then []
-    else plain (codes "/") ++ styled s.count (decimal x.initial_run_count)
+unfoldable pub initial_count_text : RunStats → Fixed Open
+initial_count_text x =
+    choice (x.finished_count == x.initial_run_count) none (words (codes "/") ⧺ number Count x.initial_run_count)
 
 -- the counts of a run; its word is singular only where both numbers are 1
-unfoldable pub run_counts_text : Styles → NextestRunMode → RunStats → Text
-run_counts_text s mode x =
-    styled s.count (decimal x.finished_count)
-    ++ (initial_count_text s x
-    ++ (plain (codes " ")
-    ++ (plain (tests_word_if mode (not ((x.finished_count == 1) && (x.initial_run_count == 1))))
-    ++ (plain (codes " run: ") ++ (summary_text s x ++ plain (codes "\n"))))))
+unfoldable pub run_counts_text : NextestRunMode → RunStats → Fixed Line
+run_counts_text mode x =
+    number Count x.finished_count
+    ⧺ initial_count_text x
+    ⧺ words (codes " ")
+    ⧺ Word (tests_word_if mode (not ((x.finished_count == 1) && (x.initial_run_count == 1)))) (free-tests_word_if mode _)
+    ⧺ words (codes " run: ")
+    ⧺ summary_text x
+    ⧺ words (codes "\n")
 
 -- of how many iterations so many have finished, where that is known
-unfoldable pub of_total : Styles → Option NonZeroU32 → Text
-of_total s None = []
-of_total s (Some total) = plain (codes "/") ++ styled s.count (decimal (non_zero_u32_get total))
+unfoldable pub of_total : Option NonZeroU32 → Fixed Open
+of_total None = openly none
+of_total (Some total) = words (codes "/") ⧺ number Count (non_zero_u32_get total)
 
 -- how many iterations there were to be, and where that is not known how many have finished
 abbrev pub number_of : ℕ → Option NonZeroU32 → ℕ
@@ -62,55 +60,59 @@ abbrev pub last_number : StressIndex → ℕ
 last_number i = number_of i.current i.total
 
 -- how many iterations have finished; the word goes by the last number
-unfoldable pub iterations_run_text : Styles → StressIndex → Text
-iterations_run_text s i =
-    styled s.count (decimal i.current)
-    ++ (of_total s i.total ++ (plain (codes " stress run ") ++ (plain (iterations_word (last_number i)) ++ plain (codes ": "))))
+unfoldable pub iterations_run_text : StressIndex → Fixed Open
+iterations_run_text i =
+    number Count i.current
+    ⧺ of_total i.total
+    ⧺ words (codes " stress run ")
+    ⧺ Word (iterations_word (last_number i)) (free-iterations_word _)
+    ⧺ words (codes ": ")
 
 -- how many iterations failed, where there is one
-unfoldable pub failed_iterations : Styles → ℕ → Text
-failed_iterations s n = if n == 0 then [] else plain (codes ", ") ++ counted_text s s.fail n (codes "failed")
+unfoldable pub failed_iterations : ℕ → Fixed Open
+failed_iterations n = choice (n == 0) none (words (codes ", ") ⧺ counted_text n (toned Fail (codes "failed")))
 
 -- why the last iteration was cancelled, where that is known
-unfoldable pub cancel_reason_text : Styles → Option CancelReason → Text
-cancel_reason_text s None = []
-cancel_reason_text s (Some reason) = plain (codes "; cancelled due to ") ++ styled s.fail (reason_words reason)
+unfoldable pub cancel_reason_text : Option CancelReason → Fixed Open
+cancel_reason_text None = openly none
+cancel_reason_text (Some reason) = words (codes "; cancelled due to ") ⧺ Toned Fail (reason_words reason) (free-reason_words reason)
 
-abbrev pub cancelled_due_to : Styles → FinalRunStats → Text
-cancelled_due_to s Success = []
-cancelled_due_to s NoTestsRun = []
-cancelled_due_to s (Cancelled reason kind) = cancel_reason_text s reason
-cancelled_due_to s (Failed kind) = []
+abbrev pub cancelled_due_to : FinalRunStats → Fixed Open
+cancelled_due_to Success = openly none
+cancelled_due_to NoTestsRun = openly none
+cancelled_due_to (Cancelled reason kind) = cancel_reason_text reason
+cancelled_due_to (Failed kind) = openly none
 
 -- the iterations of a stress run
-unfoldable pub stress_counts_text : Styles → StressRunStats → Text
-stress_counts_text s x =
-    iterations_run_text s x.completed
-    ++ (counted_text s s.pass x.success_count (codes "passed")
-    ++ (failed_iterations s x.failed_count ++ (cancelled_due_to s x.last_final_stats ++ plain (codes "\n"))))
+unfoldable pub stress_counts_text : StressRunStats → Fixed Line
+stress_counts_text x =
+    iterations_run_text x.completed
+    ⧺ counted_text x.success_count (toned Pass (codes "passed"))
+    ⧺ failed_iterations x.failed_count
+    ⧺ cancelled_due_to x.last_final_stats
+    ⧺ words (codes "\n")
 
--- the style of what a stress run came to, and of either summary
-abbrev pub stress_outcome_style : Styles → StressFinalRunStats → Style
-stress_outcome_style s stress.Success = s.pass
-stress_outcome_style s stress.NoTestsRun = s.skip
-stress_outcome_style s stress.Cancelled = s.fail
-stress_outcome_style s stress.Failed = s.fail
+-- what a stress run came to, and either run
+abbrev pub stress_outcome_tone : StressFinalRunStats → Tone
+stress_outcome_tone stress.Success = Pass
+stress_outcome_tone stress.NoTestsRun = Skip
+stress_outcome_tone stress.Cancelled = Fail
+stress_outcome_tone stress.Failed = Fail
 
-abbrev pub summary_style : Styles → RunFinishedStats → Style
-summary_style s (Single x) = outcome_style s (final_stats_of x)
-summary_style s (Stress x) = stress_outcome_style s (stress_stats_of x)
+abbrev pub summary_tone : RunFinishedStats → Tone
+summary_tone (Single x) = outcome_tone (final_stats_of x)
+summary_tone (Stress x) = stress_outcome_tone (stress_stats_of x)
 
 -- the counts of a run, or the iterations of a stress run
-abbrev pub summary_counts : Settings → RunFinishedStats → Text
-summary_counts s (Single x) = run_counts_text s.styles s.mode x
-summary_counts s (Stress x) = stress_counts_text s.styles x
+abbrev pub summary_counts : NextestRunMode → RunFinishedStats → Fixed Line
+summary_counts mode (Single x) = run_counts_text mode x
+summary_counts mode (Stress x) = stress_counts_text x
 
 -- the statistics that end a run, after its bar
-unfoldable pub summary_line : Settings → ℕ → RunFinishedStats → Text
-summary_line s elapsed x =
-    styled (summary_style s.styles x) (right_in 12 (codes "Summary"))
-    ++ (plain (codes " ") ++ (bracketed_duration elapsed ++ summary_counts s x))
+unfoldable pub summary_line : NextestRunMode → ℕ → RunFinishedStats → Fixed Line
+summary_line mode elapsed x =
+    right 12 (summary_tone x) (codes "Summary") ⧺ words (codes " ") ⧺ bracketed elapsed ⧺ summary_counts mode x
 
 -- the end of a run, before its entries
-unfoldable pub run_finished_text : Settings → ℕ → RunFinishedStats → Text
-run_finished_text s elapsed stats = bar_line s.theme_characters ++ summary_line s elapsed stats
+unfoldable pub run_finished_text : ThemeCharacters → NextestRunMode → ℕ → RunFinishedStats → Fixed Line
+run_finished_text theme mode elapsed stats = bar_line theme ⧺ summary_line mode elapsed stats

@@ -2,6 +2,7 @@
 
 ghost use Rattle.std.specs.Prelude.{◌≡◌};
 ghost use Rattle.plain_text.specs.Writer.{Puts};
+ghost use Rattle.report_words.specs.Parts.{paint};
 ghost use Rattle.run_text.specs.Cancel.{begin_cancel_text, begin_kill_text, ends_at_once, reason_text, still_running, terminating_at_once, terminating_words};
 
 use crate::running::Running;
@@ -24,7 +25,7 @@ pub fn write_begin_cancel<W: WriteStr>(
     reason: Option<CancelReason>,
     running: usize,
 ) -> Result<(), WriteFault>
-    ensures { Puts W.meaning w.old (begin_cancel_text settings.now setup_scripts_running reason running) result w.new }
+    ensures { Puts W.meaning w.old (paint settings.now.styles (begin_cancel_text settings.now.mode setup_scripts_running reason running)) result w.new }
 {
     let running = Running {
         setup_scripts: setup_scripts_running,
@@ -45,7 +46,7 @@ pub fn write_begin_kill<W: WriteStr>(
     reason: Option<CancelReason>,
     running: usize,
 ) -> Result<(), WriteFault>
-    ensures { Puts W.meaning w.old (begin_kill_text settings.now setup_scripts_running reason running) result w.new }
+    ensures { Puts W.meaning w.old (paint settings.now.styles (begin_kill_text settings.now.mode setup_scripts_running reason running)) result w.new }
 {
     let running = Running {
         setup_scripts: setup_scripts_running,
@@ -74,7 +75,7 @@ fn write_reason<W: WriteStr>(
     styles: &Styles,
     reason: Option<CancelReason>,
 ) -> Result<(), WriteFault>
-    ensures { Puts W.meaning w.old (reason_text styles.now reason) result w.new }
+    ensures { Puts W.meaning w.old (paint styles.now (reason_text reason)) result w.new }
 {
     match reason {
         None => Ok(()),
@@ -93,7 +94,7 @@ fn write_still_running<W: WriteStr>(
     is_terminating: bool,
     running: Running,
 ) -> Result<(), WriteFault>
-    ensures { Puts W.meaning w.old (still_running settings.now is_terminating running) result w.new }
+    ensures { Puts W.meaning w.old (paint settings.now.styles (still_running settings.now.mode is_terminating running)) result w.new }
 {
     if running.is_none() {
         return Ok(());
@@ -104,14 +105,14 @@ fn write_still_running<W: WriteStr>(
     write_plain(w, " still running")
 }
 
-// Writes that what runs is ended, where it is.
+// Writes `immediately terminating ` if running units are terminated.
 #[tactic(auto, unfolding(crate::specs::Cancel::terminating_at_once))]
 fn write_terminating_at_once<W: WriteStr>(
     w: &mut W,
     styles: &Styles,
     is_terminating: bool,
 ) -> Result<(), WriteFault>
-    ensures { Puts W.meaning w.old (terminating_at_once styles.now is_terminating) result w.new }
+    ensures { Puts W.meaning w.old (paint styles.now (terminating_at_once is_terminating)) result w.new }
 {
     if is_terminating {
         write_terminating_words(w, styles)
@@ -122,7 +123,7 @@ fn write_terminating_at_once<W: WriteStr>(
 
 #[tactic(auto, unfolding(crate::specs::Cancel::terminating_words))]
 fn write_terminating_words<W: WriteStr>(w: &mut W, styles: &Styles) -> Result<(), WriteFault>
-    ensures { Puts W.meaning w.old (terminating_words styles.now) result w.new }
+    ensures { Puts W.meaning w.old (paint styles.now terminating_words) result w.new }
 {
     write_plain(w, "immediately ")?;
     styles.fail.write(w, "terminating")?;

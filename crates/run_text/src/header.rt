@@ -2,6 +2,7 @@
 
 ghost use Rattle.std.specs.Prelude.{◌≡◌};
 ghost use Rattle.plain_text.specs.Writer.{Puts};
+ghost use Rattle.report_words.specs.Parts.{paint};
 ghost use Rattle.run_text.specs.Header.{date_text, replay_header_text, replaying_line, started_line, started_text, time_text, year_sign};
 
 use crate::run_id::write_run_id;
@@ -25,7 +26,7 @@ pub fn write_replay_header<W: WriteStr>(
     styles: &Styles,
     header: &ReplayHeader,
 ) -> Result<(), WriteFault>
-    ensures { Puts W.meaning w.old (replay_header_text styles.now header.now) result w.new }
+    ensures { Puts W.meaning w.old (paint styles.now (replay_header_text header.now)) result w.new }
 {
     write_replaying_line(w, styles, header)?;
     write_started_line(w, styles, header)
@@ -38,7 +39,7 @@ fn write_replaying_line<W: WriteStr>(
     styles: &Styles,
     header: &ReplayHeader,
 ) -> Result<(), WriteFault>
-    ensures { Puts W.meaning w.old (replaying_line styles.now header.now) result w.new }
+    ensures { Puts W.meaning w.old (paint styles.now (replaying_line header.now)) result w.new }
 {
     styles.pass.write_right(w, 12, "Replaying")?;
     write_plain(w, " recorded run ")?;
@@ -53,7 +54,7 @@ fn write_started_line<W: WriteStr>(
     styles: &Styles,
     header: &ReplayHeader,
 ) -> Result<(), WriteFault>
-    ensures { Puts W.meaning w.old (started_line styles.now header.now) result w.new }
+    ensures { Puts W.meaning w.old (paint styles.now (started_line header.now)) result w.new }
 {
     styles.pass.write_right(w, 12, "Started")?;
     write_plain(w, " ")?;

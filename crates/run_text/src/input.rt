@@ -1,6 +1,7 @@
 //! How a run stands, when it is asked for by a key.
 
 ghost use Rattle.plain_text.specs.Writer.{Puts};
+ghost use Rattle.report_words.specs.Parts.{paint};
 ghost use Rattle.run_text.specs.Input.{finished_of_initial, input_enter_text};
 
 use plain_text::style::{Styles, write_plain};
@@ -19,7 +20,7 @@ pub fn write_input_enter<W: WriteStr>(
     stats: &RunStats,
     running: usize,
 ) -> Result<(), WriteFault>
-    ensures { Puts W.meaning w.old (input_enter_text styles.now elapsed.0 stats.now running) result w.new }
+    ensures { Puts W.meaning w.old (paint styles.now (input_enter_text elapsed.0 stats.now running)) result w.new }
 {
     failure_style(styles, stats).write_right(w, 12, "Running")?;
     write_plain(w, " ")?;
@@ -36,7 +37,7 @@ fn write_finished_of_initial<W: WriteStr>(
     styles: &Styles,
     stats: &RunStats,
 ) -> Result<(), WriteFault>
-    ensures { Puts W.meaning w.old (finished_of_initial styles.now stats.now) result w.new }
+    ensures { Puts W.meaning w.old (paint styles.now (finished_of_initial stats.now)) result w.new }
 {
     styles.count.write_number(w, stats.finished_count as u128)?;
     write_plain(w, "/")?;

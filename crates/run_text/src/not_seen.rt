@@ -3,9 +3,10 @@
 ghost use Rattle.std.specs.Prelude.{◌≡◌, length};
 ghost use Rattle.std.specs.List.{flat_map};
 ghost use Rattle.plain_text.specs.Writer.{Puts};
-ghost use Rattle.run_text.specs.NotSeen.{more_line, more_not_seen, not_seen_line, not_seen_note, not_seen_start, not_seen_text};
+ghost use Rattle.report_words.specs.Parts.{paint};
+ghost use Rattle.run_text.specs.NotSeen.{listed_line, more_line, more_not_seen, not_seen_line, not_seen_note, not_seen_start, not_seen_text};
 
-use plain_text::style::{ListStyles, Styles, write_plain};
+use plain_text::style::{Styles, write_plain};
 use plain_text::write_str::{WriteFault, WriteStr};
 use report_text::helpers::DisplayTestInstance;
 use report_text::helpers::plural::tests_str;
@@ -20,7 +21,7 @@ pub fn write_not_seen<W: WriteStr>(
     settings: &Settings,
     outstanding: &Option<NotSeen>,
 ) -> Result<(), WriteFault>
-    ensures { Puts W.meaning w.old (not_seen_text settings.now outstanding.now) result w.new }
+    ensures { Puts W.meaning w.old (paint settings.now.styles (not_seen_text settings.now.mode outstanding.now)) result w.new }
 {
     match outstanding {
         None => Ok(()),
@@ -41,13 +42,13 @@ fn write_note<W: WriteStr>(
     total: usize,
     listed: &[OwnedTestInstanceId],
 ) -> Result<(), WriteFault>
-    ensures { Puts W.meaning w.old (not_seen_note settings.now total listed.now) result w.new }
+    ensures { Puts W.meaning w.old (paint settings.now.styles (not_seen_note settings.now.mode total listed.now)) result w.new }
 {
     if total == 0 {
         return Ok(());
     }
     write_note_start(w, &settings.styles, settings.mode, total)?;
-    write_listed(w, &settings.styles.list_styles, listed)?;
+    write_listed(w, &settings.styles, listed)?;
     write_more(w, settings, total.saturating_sub(listed.len()))
 }
 
@@ -59,7 +60,7 @@ fn write_note_start<W: WriteStr>(
     mode: NextestRunMode,
     total: usize,
 ) -> Result<(), WriteFault>
-    ensures { Puts W.meaning w.old (not_seen_start styles.now mode total) result w.new }
+    ensures { Puts W.meaning w.old (paint styles.now (not_seen_start mode total)) result w.new }
 {
     styles.skip.write_right(w, 12, "Note")?;
     write_plain(w, " ")?;
@@ -72,13 +73,13 @@ fn write_note_start<W: WriteStr>(
 // Writes the tests, each on a line of its own.
 fn write_listed<W: WriteStr>(
     w: &mut W,
-    list_styles: &ListStyles,
+    styles: &Styles,
     listed: &[OwnedTestInstanceId],
 ) -> Result<(), WriteFault>
-    ensures { Puts W.meaning w.old (flat_map (not_seen_line list_styles.now) listed.now) result w.new }
+    ensures { Puts W.meaning w.old (flat_map (listed_line styles.now) listed.now) result w.new }
 {
     for instance in listed {
-        write_listed_test(w, list_styles, instance)?;
+        write_listed_test(w, styles, instance)?;
     }
     Ok(())
 }
@@ -87,13 +88,13 @@ fn write_listed<W: WriteStr>(
 #[tactic(auto, unfolding(crate::specs::NotSeen::not_seen_line))]
 fn write_listed_test<W: WriteStr>(
     w: &mut W,
-    list_styles: &ListStyles,
+    styles: &Styles,
     instance: &OwnedTestInstanceId,
 ) -> Result<(), WriteFault>
-    ensures { Puts W.meaning w.old (not_seen_line list_styles.now instance.now) result w.new }
+    ensures { Puts W.meaning w.old (paint styles.now (not_seen_line instance.now)) result w.new }
 {
     write_plain(w, "             ")?;
-    DisplayTestInstance::new(None, None, instance.as_ref(), list_styles).write_to(w)?;
+    DisplayTestInstance::new(None, None, instance.as_ref(), &styles.list_styles).write_to(w)?;
     write_plain(w, "\n")
 }
 
@@ -104,7 +105,7 @@ fn write_more<W: WriteStr>(
     settings: &Settings,
     remaining: usize,
 ) -> Result<(), WriteFault>
-    ensures { Puts W.meaning w.old (more_not_seen settings.now remaining) result w.new }
+    ensures { Puts W.meaning w.old (paint settings.now.styles (more_not_seen settings.now.mode remaining)) result w.new }
 {
     if remaining == 0 {
         return Ok(());
@@ -119,7 +120,7 @@ fn write_more_line<W: WriteStr>(
     mode: NextestRunMode,
     remaining: usize,
 ) -> Result<(), WriteFault>
-    ensures { Puts W.meaning w.old (more_line styles.now mode remaining) result w.new }
+    ensures { Puts W.meaning w.old (paint styles.now (more_line mode remaining)) result w.new }
 {
     write_plain(w, "             ... and ")?;
     styles.count.write_number(w, remaining as u128)?;

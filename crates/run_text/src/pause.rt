@@ -1,7 +1,11 @@
 //! A run that is stopped for a while, and goes on.
 
+ghost use Rattle.std.specs.Prelude.{◌++◌};
 ghost use Rattle.plain_text.specs.Writer.{Puts};
-ghost use Rattle.run_text.specs.Pause.{now_running, pause_text, run_continued_text, run_paused_text};
+ghost use Rattle.plain_text.specs.Style.{styled};
+ghost use Rattle.plain_text.specs.Texts.{right_in};
+ghost use Rattle.report_words.specs.Parts.{paint};
+ghost use Rattle.run_text.specs.Pause.{due_to_signal, now_running, run_continued_text, run_paused_text};
 
 use crate::running::Running;
 use plain_text::style::write_plain;
@@ -21,7 +25,7 @@ pub fn write_run_paused<W: WriteStr>(
     setup_scripts_running: usize,
     running: usize,
 ) -> Result<(), WriteFault>
-    ensures { Puts W.meaning w.old (run_paused_text settings.now setup_scripts_running running) result w.new }
+    ensures { Puts W.meaning w.old (paint settings.now.styles (run_paused_text settings.now.mode setup_scripts_running running)) result w.new }
 {
     write_pause(w, settings, "Pausing", setup_scripts_running, running)
 }
@@ -34,13 +38,13 @@ pub fn write_run_continued<W: WriteStr>(
     setup_scripts_running: usize,
     running: usize,
 ) -> Result<(), WriteFault>
-    ensures { Puts W.meaning w.old (run_continued_text settings.now setup_scripts_running running) result w.new }
+    ensures { Puts W.meaning w.old (paint settings.now.styles (run_continued_text settings.now.mode setup_scripts_running running)) result w.new }
 {
     write_pause(w, settings, "Continuing", setup_scripts_running, running)
 }
 
 // Writes what the run does on a signal, and how many run.
-#[tactic(auto, unfolding(crate::specs::Pause::pause_text))]
+#[tactic(auto, unfolding(crate::specs::Pause::due_to_signal))]
 fn write_pause<W: WriteStr>(
     w: &mut W,
     settings: &Settings,
@@ -48,7 +52,7 @@ fn write_pause<W: WriteStr>(
     setup_scripts_running: usize,
     running: usize,
 ) -> Result<(), WriteFault>
-    ensures { Puts W.meaning w.old (pause_text settings.now word.now setup_scripts_running running) result w.new }
+    ensures { Puts W.meaning w.old (styled settings.now.styles.pass (right_in 12 word.now) ++ paint settings.now.styles (due_to_signal settings.now.mode setup_scripts_running running)) result w.new }
 {
     let running = Running {
         setup_scripts: setup_scripts_running,
@@ -68,7 +72,7 @@ fn write_now_running<W: WriteStr>(
     settings: &Settings,
     running: Running,
 ) -> Result<(), WriteFault>
-    ensures { Puts W.meaning w.old (now_running settings.now running) result w.new }
+    ensures { Puts W.meaning w.old (paint settings.now.styles (now_running settings.now.mode running)) result w.new }
 {
     if running.is_none() {
         return Ok(());

@@ -2,6 +2,7 @@
 
 ghost use Rattle.std.specs.Prelude.{◌≡◌, ◌≤◌, length};
 ghost use Rattle.plain_text.specs.Writer.{Puts};
+ghost use Rattle.report_words.specs.Parts.{paint};
 ghost use Rattle.run_text.specs.RunId.{run_id_text, id_text};
 
 use plain_text::style::Styles;
@@ -17,7 +18,7 @@ pub fn write_run_id<W: WriteStr>(
     unique_prefix: &Option<ShortestRunIdPrefix>,
     run_id: &Uuid,
 ) -> Result<(), WriteFault>
-    ensures { Puts W.meaning w.old (id_text styles.now unique_prefix.now run_id.now) result w.new }
+    ensures { Puts W.meaning w.old (paint styles.now (id_text unique_prefix.now run_id.now)) result w.new }
 {
     match unique_prefix {
         None => {

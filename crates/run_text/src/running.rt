@@ -1,8 +1,10 @@
 //! What runs while a run is cancelled, killed or paused.
 
-ghost use Rattle.std.specs.Prelude.{◌≡◌};
+ghost use Rattle.std.specs.Prelude.{◌≡◌, ◌++◌};
 ghost use Rattle.plain_text.specs.Writer.{Puts};
-ghost use Rattle.run_text.specs.Running.{counted_running, is_none_running, running_text};
+ghost use Rattle.plain_text.specs.Style.{plain};
+ghost use Rattle.report_words.specs.Parts.{paint};
+ghost use Rattle.run_text.specs.Running.{number_running, is_none_running, running_text};
 
 use plain_text::style::{Styles, write_plain};
 use plain_text::write_str::{WriteFault, WriteStr};
@@ -40,7 +42,7 @@ impl Running {
         mode: NextestRunMode,
         styles: &Styles,
     ) -> Result<(), WriteFault>
-        ensures { Puts W.meaning w.old (running_text styles.now mode self) result w.new }
+        ensures { Puts W.meaning w.old (paint styles.now (running_text mode self)) result w.new }
     {
         if self.setup_scripts == 0 {
             write_counted(w, styles, self.tests, tests_str(mode, self.tests))
@@ -52,14 +54,14 @@ impl Running {
 }
 
 // Writes a number, and what it counts.
-#[tactic(auto, unfolding(crate::specs::Running::counted_running))]
+#[tactic(auto, unfolding(crate::specs::Running::number_running))]
 fn write_counted<W: WriteStr>(
     w: &mut W,
     styles: &Styles,
     count: usize,
     units: &str,
 ) -> Result<(), WriteFault>
-    ensures { Puts W.meaning w.old (counted_running styles.now count units.now) result w.new }
+    ensures { Puts W.meaning w.old (paint styles.now (number_running count) ++ plain units.now) result w.new }
 {
     styles.count.write_number(w, count as u128)?;
     write_plain(w, " ")?;

@@ -5,7 +5,8 @@ ghost use Rattle.plain_text.specs.Style.{styled};
 ghost use Rattle.plain_text.specs.Texts.{right_in};
 ghost use Rattle.plain_text.specs.Writer.{Puts};
 ghost use Rattle.text_parts.specs.Script.{script_of};
-ghost use Rattle.run_text.specs.SetupScript.{HasFailedScriptOutput, failed_script_output, script_counter, script_status_style, script_status_words, setup_script_finished_text, setup_script_line, setup_script_slow_text, setup_script_started_text, shown_slow_script, slow_script_level, slow_script_words};
+ghost use Rattle.report_words.specs.Parts.{paint, style_of};
+ghost use Rattle.run_text.specs.SetupScript.{HasFailedScriptOutput, failed_script_output, script_counter, script_status_tone, script_status_words, setup_script_finished_text, setup_script_line, setup_script_slow_text, setup_script_started_text, shown_slow_script, slow_script_level, slow_script_words};
 
 use itoa::Buffer;
 use plain_text::numbers::write_right_joined;
@@ -30,7 +31,7 @@ pub fn write_setup_script_started<W: WriteStr>(
     total: usize,
     script: ScriptInstance<'_>,
 ) -> Result<(), WriteFault>
-    ensures { Puts W.meaning w.old (setup_script_started_text styles.now index total (script_of script.entry)) result w.new }
+    ensures { Puts W.meaning w.old (paint styles.now (setup_script_started_text index total (script_of script.entry))) result w.new }
 {
     styles.pass.write_right(w, 12, "SETUP")?;
     write_plain(w, " ")?;
@@ -65,7 +66,7 @@ pub fn write_setup_script_slow<W: WriteStr>(
     elapsed: Nanos,
     will_terminate: bool,
 ) -> Result<(), WriteFault>
-    ensures { Puts W.meaning w.old (setup_script_slow_text settings.now (script_of script.entry) elapsed.0 will_terminate) result w.new }
+    ensures { Puts W.meaning w.old (paint settings.now.styles (setup_script_slow_text settings.now (script_of script.entry) elapsed.0 will_terminate)) result w.new }
 {
     if settings.is_level_shown(slow_script_level(will_terminate)) {
         write_shown_slow_script(w, &settings.styles, script, elapsed, will_terminate)
@@ -94,7 +95,7 @@ fn write_shown_slow_script<W: WriteStr>(
     elapsed: Nanos,
     will_terminate: bool,
 ) -> Result<(), WriteFault>
-    ensures { Puts W.meaning w.old (shown_slow_script styles.now (script_of script.entry) elapsed.0 will_terminate) result w.new }
+    ensures { Puts W.meaning w.old (paint styles.now (shown_slow_script (script_of script.entry) elapsed.0 will_terminate)) result w.new }
 {
     write_slow_script_words(w, styles, will_terminate)?;
     write_plain(w, " ")?;
@@ -110,7 +111,7 @@ fn write_slow_script_words<W: WriteStr>(
     styles: &Styles,
     will_terminate: bool,
 ) -> Result<(), WriteFault>
-    ensures { Puts W.meaning w.old (slow_script_words styles.now will_terminate) result w.new }
+    ensures { Puts W.meaning w.old (paint styles.now (slow_script_words will_terminate)) result w.new }
 {
     if will_terminate {
         styles.fail.write_right(w, 12, "TERMINATING")
@@ -129,7 +130,7 @@ pub fn write_setup_script_finished<W: WriteStr>(
     run_status: &SetupScriptExecuteStatus<LiveSpec>,
 ) -> Result<(), WriteFault>
     requires { HasFailedScriptOutput run_status.now }
-    ensures { Puts W.meaning w.old (setup_script_finished_text settings.now (script_of script.entry) run_status.now) result w.new }
+    ensures { Puts W.meaning w.old (paint settings.now.styles (setup_script_finished_text settings.now (script_of script.entry) run_status.now)) result w.new }
 {
     let (outcome, time_taken) = (&run_status.result, run_status.time_taken);
     write_setup_script_line(w, &settings.styles, script, outcome, time_taken)?;
@@ -145,7 +146,7 @@ fn write_setup_script_line<W: WriteStr>(
     outcome: &ExecutionResultDescription,
     time_taken: Nanos,
 ) -> Result<(), WriteFault>
-    ensures { Puts W.meaning w.old (setup_script_line styles.now (script_of script.entry) outcome.now time_taken.0) result w.new }
+    ensures { Puts W.meaning w.old (paint styles.now (setup_script_line (script_of script.entry) outcome.now time_taken.0)) result w.new }
 {
     write_script_status(w, styles, outcome)?;
     write_plain(w, " ")?;
@@ -160,7 +161,7 @@ fn write_script_status<W: WriteStr>(
     styles: &Styles,
     outcome: &ExecutionResultDescription,
 ) -> Result<(), WriteFault>
-    ensures { Puts W.meaning w.old (styled (script_status_style styles.now outcome.now) (right_in 12 (script_status_words outcome.now))) result w.new }
+    ensures { Puts W.meaning w.old (styled (style_of styles.now (script_status_tone outcome.now)) (right_in 12 (script_status_words outcome.now))) result w.new }
 {
     let mut signal = Buffer::new();
     let word = spaced_short_status_str(outcome, &mut signal);
@@ -171,7 +172,7 @@ fn write_script_status<W: WriteStr>(
 
 // The style of that. A timeout that counts as a success has that of a failure.
 fn script_status_style(styles: &Styles, outcome: &ExecutionResultDescription) -> Style
-    ensures { result ≡ script_status_style styles.now outcome.now }
+    ensures { result ≡ style_of styles.now (script_status_tone outcome.now) }
 {
     match outcome {
         ExecutionResultDescription::Pass => styles.pass,
@@ -195,7 +196,7 @@ fn write_failed_script_output<W: WriteStr>(
     run_status: &SetupScriptExecuteStatus<LiveSpec>,
 ) -> Result<(), WriteFault>
     requires { HasFailedScriptOutput run_status.now }
-    ensures { Puts W.meaning w.old (failed_script_output settings.now run_status.now) result w.new }
+    ensures { Puts W.meaning w.old (paint settings.now.styles (failed_script_output settings.now run_status.now)) result w.new }
 {
     let outcome = &run_status.result;
     if outcome.is_success() {

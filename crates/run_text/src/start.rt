@@ -1,6 +1,7 @@
 //! The start of a run: its id and profile, and what it is to run.
 
 ghost use Rattle.plain_text.specs.Writer.{Puts};
+ghost use Rattle.report_words.specs.Parts.{paint};
 ghost use Rattle.run_text.specs.Start.{profile_text, run_id_line, test_counts_text, starting_line, run_started_text};
 
 use crate::run_id::write_run_id;
@@ -26,7 +27,7 @@ pub fn write_run_started<W: WriteStr>(
     run_id: &Uuid,
     profile_name: &ProfileName,
 ) -> Result<(), WriteFault>
-    ensures { Puts W.meaning w.old (run_started_text settings.now unique_prefix.now test_list.now run_id.now profile_name.now) result w.new }
+    ensures { Puts W.meaning w.old (paint settings.now.styles (run_started_text settings.now unique_prefix.now test_list.now run_id.now profile_name.now)) result w.new }
 {
     write_bar_line(w, settings.theme_characters)?;
     write_run_id_line(w, &settings.styles, unique_prefix, run_id, profile_name)?;
@@ -42,7 +43,7 @@ fn write_run_id_line<W: WriteStr>(
     run_id: &Uuid,
     profile_name: &ProfileName,
 ) -> Result<(), WriteFault>
-    ensures { Puts W.meaning w.old (run_id_line styles.now unique_prefix.now run_id.now profile_name.now) result w.new }
+    ensures { Puts W.meaning w.old (paint styles.now (run_id_line unique_prefix.now run_id.now profile_name.now)) result w.new }
 {
     styles.pass.write_right(w, 12, "Nextest run")?;
     write_plain(w, " ID ")?;
@@ -53,7 +54,7 @@ fn write_run_id_line<W: WriteStr>(
 // Writes the profile, at the end of that line.
 #[tactic(auto, unfolding(crate::specs::Start::profile_text))]
 fn write_profile<W: WriteStr>(w: &mut W, styles: &Styles, name: &str) -> Result<(), WriteFault>
-    ensures { Puts W.meaning w.old (profile_text styles.now name.now) result w.new }
+    ensures { Puts W.meaning w.old (paint styles.now (profile_text name.now)) result w.new }
 {
     write_plain(w, " with nextest profile: ")?;
     styles.count.write(w, name)?;
@@ -67,7 +68,7 @@ fn write_starting_line<W: WriteStr>(
     settings: &Settings,
     counts: &TestCounts,
 ) -> Result<(), WriteFault>
-    ensures { Puts W.meaning w.old (starting_line settings.now counts.now) result w.new }
+    ensures { Puts W.meaning w.old (paint settings.now.styles (starting_line settings.now counts.now)) result w.new }
 {
     let (mode, styles) = (settings.mode, &settings.styles);
     styles.pass.write_right(w, 12, "Starting")?;
@@ -91,7 +92,7 @@ fn write_test_counts<W: WriteStr>(
     mode: NextestRunMode,
     counts: &TestCounts,
 ) -> Result<(), WriteFault>
-    ensures { Puts W.meaning w.old (test_counts_text styles.now mode counts.now) result w.new }
+    ensures { Puts W.meaning w.old (paint styles.now (test_counts_text mode counts.now)) result w.new }
 {
     styles.count.write_number(w, counts.run_count as u128)?;
     write_plain(w, " ")?;

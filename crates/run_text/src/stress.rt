@@ -7,6 +7,7 @@ ghost use Rattle.run_names.specs.Stress.{remaining_value};
 ghost use Rattle.report_words.specs.Durations.{clock_text, whole_seconds};
 ghost use Rattle.plain_text.specs.Style.{styled};
 ghost use Rattle.plain_text.specs.Writer.{Puts};
+ghost use Rattle.report_words.specs.Parts.{paint};
 ghost use Rattle.run_text.specs.Stress.{count_left_text, elapsed_text, iteration_text, of_iterations, of_time, remaining_text, stress_sub_run_finished_text, stress_sub_run_line, stress_sub_run_started_text, time_left_text};
 
 use crate::summary::{outcome_style, write_run_counts};
@@ -29,7 +30,7 @@ pub fn write_stress_sub_run_started<W: WriteStr>(
     settings: &Settings,
     progress: &StressProgress,
 ) -> Result<(), WriteFault>
-    ensures { Puts W.meaning w.old (stress_sub_run_started_text settings.now progress.now) result w.new }
+    ensures { Puts W.meaning w.old (paint settings.now.styles (stress_sub_run_started_text settings.now.theme_characters progress.now)) result w.new }
 {
     write_bar_line(w, settings.theme_characters)?;
     write_started_line(w, &settings.styles, progress)
@@ -42,7 +43,7 @@ fn write_started_line<W: WriteStr>(
     styles: &Styles,
     progress: &StressProgress,
 ) -> Result<(), WriteFault>
-    ensures { Puts W.meaning w.old (stress_sub_run_line styles.now progress.now) result w.new }
+    ensures { Puts W.meaning w.old (paint styles.now (stress_sub_run_line progress.now)) result w.new }
 {
     styles.pass.write_right(w, 12, "Stress test")?;
     write_plain(w, " ")?;
@@ -60,7 +61,7 @@ fn write_iteration<W: WriteStr>(
     progress: &StressProgress,
     number: u128,
 ) -> Result<(), WriteFault>
-    ensures { Puts W.meaning w.old (iteration_text styles.now progress.now number) result w.new }
+    ensures { Puts W.meaning w.old (paint styles.now (iteration_text progress.now number)) result w.new }
 {
     write_plain(w, "iteration ")?;
     styles.count.write_number(w, number)?;
@@ -73,7 +74,7 @@ fn write_of_iterations<W: WriteStr>(
     styles: &Styles,
     progress: &StressProgress,
 ) -> Result<(), WriteFault>
-    ensures { Puts W.meaning w.old (of_iterations styles.now progress.now) result w.new }
+    ensures { Puts W.meaning w.old (paint styles.now (of_iterations progress.now)) result w.new }
 {
     match progress {
         StressProgress::Count {
@@ -98,7 +99,7 @@ fn write_elapsed<W: WriteStr>(
     styles: &Styles,
     progress: &StressProgress,
 ) -> Result<(), WriteFault>
-    ensures { Puts W.meaning w.old (elapsed_text styles.now progress.now) result w.new }
+    ensures { Puts W.meaning w.old (paint styles.now (elapsed_text progress.now)) result w.new }
 {
     write_plain(w, " (")?;
     write_hh_mm_ss(w, styles, progress.elapsed(), DurationRounding::Floor)?;
@@ -112,7 +113,7 @@ fn write_of_time<W: WriteStr>(
     styles: &Styles,
     progress: &StressProgress,
 ) -> Result<(), WriteFault>
-    ensures { Puts W.meaning w.old (of_time styles.now progress.now) result w.new }
+    ensures { Puts W.meaning w.old (paint styles.now (of_time progress.now)) result w.new }
 {
     match progress {
         StressProgress::Time { total, .. } => {
@@ -144,7 +145,7 @@ fn write_remaining<W: WriteStr>(
     styles: &Styles,
     remaining: Option<StressRemaining>,
 ) -> Result<(), WriteFault>
-    ensures { Puts W.meaning w.old (remaining_text styles.now (option_map remaining_value remaining)) result w.new }
+    ensures { Puts W.meaning w.old (paint styles.now (remaining_text (option_map remaining_value remaining))) result w.new }
 {
     match remaining {
         None | Some(StressRemaining::Infinite) => Ok(()),
@@ -159,7 +160,7 @@ fn write_count_left<W: WriteStr>(
     styles: &Styles,
     count: NonZeroU32,
 ) -> Result<(), WriteFault>
-    ensures { Puts W.meaning w.old (count_left_text styles.now (non_zero_u32_get count)) result w.new }
+    ensures { Puts W.meaning w.old (paint styles.now (count_left_text (non_zero_u32_get count))) result w.new }
 {
     write_plain(w, ", ")?;
     styles.count.write_number(w, count.get() as u128)?;
@@ -172,7 +173,7 @@ fn write_count_left<W: WriteStr>(
 // make less than the whole.
 #[tactic(auto, unfolding(crate::specs::Stress::time_left_text))]
 fn write_time_left<W: WriteStr>(w: &mut W, styles: &Styles, time: Nanos) -> Result<(), WriteFault>
-    ensures { Puts W.meaning w.old (time_left_text styles.now time.0) result w.new }
+    ensures { Puts W.meaning w.old (paint styles.now (time_left_text time.0)) result w.new }
 {
     write_plain(w, ", ")?;
     write_hh_mm_ss(w, styles, time, DurationRounding::Ceiling)?;
@@ -188,7 +189,7 @@ pub fn write_stress_sub_run_finished<W: WriteStr>(
     sub_elapsed: Nanos,
     sub_stats: &RunStats,
 ) -> Result<(), WriteFault>
-    ensures { Puts W.meaning w.old (stress_sub_run_finished_text settings.now progress.now sub_elapsed.0 sub_stats.now) result w.new }
+    ensures { Puts W.meaning w.old (paint settings.now.styles (stress_sub_run_finished_text settings.now.mode progress.now sub_elapsed.0 sub_stats.now)) result w.new }
 {
     let styles = &settings.styles;
     outcome_style(styles, sub_stats.summarize_final()).write_right(w, 12, "Stress test")?;

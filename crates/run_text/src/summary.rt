@@ -2,7 +2,8 @@
 
 ghost use Rattle.std.specs.Prelude.{◌≡◌};
 ghost use Rattle.plain_text.specs.Writer.{Puts};
-ghost use Rattle.run_text.specs.Summary.{cancel_reason_text, cancelled_due_to, failed_iterations, initial_count_text, iterations_run_text, last_number, of_total, outcome_style, run_counts_text, run_finished_text, stress_counts_text, stress_outcome_style, summary_counts, summary_line, summary_style};
+ghost use Rattle.report_words.specs.Parts.{paint, style_of};
+ghost use Rattle.run_text.specs.Summary.{cancel_reason_text, cancelled_due_to, failed_iterations, initial_count_text, iterations_run_text, last_number, of_total, outcome_tone, run_counts_text, run_finished_text, stress_counts_text, stress_outcome_tone, summary_counts, summary_line, summary_tone};
 
 use plain_text::style::{Style, Styles, write_plain};
 use plain_text::write_str::{WriteFault, WriteStr};
@@ -28,7 +29,7 @@ pub fn write_run_finished<W: WriteStr>(
     elapsed: Nanos,
     run_stats: &RunFinishedStats,
 ) -> Result<(), WriteFault>
-    ensures { Puts W.meaning w.old (run_finished_text settings.now elapsed.0 run_stats.now) result w.new }
+    ensures { Puts W.meaning w.old (paint settings.now.styles (run_finished_text settings.now.theme_characters settings.now.mode elapsed.0 run_stats.now)) result w.new }
 {
     write_bar_line(w, settings.theme_characters)?;
     write_summary_line(w, settings, elapsed, run_stats)
@@ -42,7 +43,7 @@ fn write_summary_line<W: WriteStr>(
     elapsed: Nanos,
     run_stats: &RunFinishedStats,
 ) -> Result<(), WriteFault>
-    ensures { Puts W.meaning w.old (summary_line settings.now elapsed.0 run_stats.now) result w.new }
+    ensures { Puts W.meaning w.old (paint settings.now.styles (summary_line settings.now.mode elapsed.0 run_stats.now)) result w.new }
 {
     let style = summary_style(&settings.styles, run_stats);
     style.write_right(w, 12, "Summary")?;
@@ -57,7 +58,7 @@ fn write_summary_counts<W: WriteStr>(
     settings: &Settings,
     run_stats: &RunFinishedStats,
 ) -> Result<(), WriteFault>
-    ensures { Puts W.meaning w.old (summary_counts settings.now run_stats.now) result w.new }
+    ensures { Puts W.meaning w.old (paint settings.now.styles (summary_counts settings.now.mode run_stats.now)) result w.new }
 {
     match run_stats {
         RunFinishedStats::Single(stats) => {
@@ -69,7 +70,7 @@ fn write_summary_counts<W: WriteStr>(
 
 // The style of a summary, by what the run came to.
 fn summary_style(styles: &Styles, run_stats: &RunFinishedStats) -> Style
-    ensures { result ≡ summary_style styles.now run_stats.now }
+    ensures { result ≡ style_of styles.now (summary_tone run_stats.now) }
 {
     match run_stats {
         RunFinishedStats::Single(stats) => outcome_style(styles, stats.summarize_final()),
@@ -79,7 +80,7 @@ fn summary_style(styles: &Styles, run_stats: &RunFinishedStats) -> Style
 
 // The style of what a stress run came to.
 fn stress_outcome_style(styles: &Styles, outcome: StressFinalRunStats) -> Style
-    ensures { result ≡ stress_outcome_style styles.now outcome }
+    ensures { result ≡ style_of styles.now (stress_outcome_tone outcome) }
 {
     match outcome {
         StressFinalRunStats::Success => styles.pass,
@@ -95,7 +96,7 @@ fn write_stress_counts<W: WriteStr>(
     styles: &Styles,
     stats: &StressRunStats,
 ) -> Result<(), WriteFault>
-    ensures { Puts W.meaning w.old (stress_counts_text styles.now stats.now) result w.new }
+    ensures { Puts W.meaning w.old (paint styles.now (stress_counts_text stats.now)) result w.new }
 {
     write_iterations_run(w, styles, &stats.completed)?;
     write_counted(
@@ -117,7 +118,7 @@ fn write_iterations_run<W: WriteStr>(
     styles: &Styles,
     completed: &StressIndex,
 ) -> Result<(), WriteFault>
-    ensures { Puts W.meaning w.old (iterations_run_text styles.now completed.now) result w.new }
+    ensures { Puts W.meaning w.old (paint styles.now (iterations_run_text completed.now)) result w.new }
 {
     styles.count.write_number(w, completed.current as u128)?;
     write_of_total(w, styles, completed.total)?;
@@ -132,7 +133,7 @@ fn write_of_total<W: WriteStr>(
     styles: &Styles,
     total: Option<NonZeroU32>,
 ) -> Result<(), WriteFault>
-    ensures { Puts W.meaning w.old (of_total styles.now total) result w.new }
+    ensures { Puts W.meaning w.old (paint styles.now (of_total total)) result w.new }
 {
     match total {
         None => Ok(()),
@@ -160,7 +161,7 @@ fn write_failed_iterations<W: WriteStr>(
     styles: &Styles,
     count: u32,
 ) -> Result<(), WriteFault>
-    ensures { Puts W.meaning w.old (failed_iterations styles.now count) result w.new }
+    ensures { Puts W.meaning w.old (paint styles.now (failed_iterations count)) result w.new }
 {
     if count == 0 {
         return Ok(());
@@ -175,7 +176,7 @@ fn write_cancelled_due_to<W: WriteStr>(
     styles: &Styles,
     last: FinalRunStats,
 ) -> Result<(), WriteFault>
-    ensures { Puts W.meaning w.old (cancelled_due_to styles.now last) result w.new }
+    ensures { Puts W.meaning w.old (paint styles.now (cancelled_due_to last)) result w.new }
 {
     match last {
         FinalRunStats::Cancelled { reason, .. } => write_cancel_reason(w, styles, reason),
@@ -189,7 +190,7 @@ fn write_cancel_reason<W: WriteStr>(
     styles: &Styles,
     reason: Option<CancelReason>,
 ) -> Result<(), WriteFault>
-    ensures { Puts W.meaning w.old (cancel_reason_text styles.now reason) result w.new }
+    ensures { Puts W.meaning w.old (paint styles.now (cancel_reason_text reason)) result w.new }
 {
     match reason {
         None => Ok(()),
@@ -202,7 +203,7 @@ fn write_cancel_reason<W: WriteStr>(
 
 /// The style of what a run came to.
 pub fn outcome_style(styles: &Styles, outcome: FinalRunStats) -> Style
-    ensures { result ≡ outcome_style styles.now outcome }
+    ensures { result ≡ style_of styles.now (outcome_tone outcome) }
 {
     match outcome {
         FinalRunStats::Success => styles.pass,
@@ -220,7 +221,7 @@ pub fn write_run_counts<W: WriteStr>(
     mode: NextestRunMode,
     stats: &RunStats,
 ) -> Result<(), WriteFault>
-    ensures { Puts W.meaning w.old (run_counts_text styles.now mode stats.now) result w.new }
+    ensures { Puts W.meaning w.old (paint styles.now (run_counts_text mode stats.now)) result w.new }
 {
     let is_plural = !(stats.finished_count == 1 && stats.initial_run_count == 1);
     styles.count.write_number(w, stats.finished_count as u128)?;
@@ -239,7 +240,7 @@ fn write_initial_count<W: WriteStr>(
     styles: &Styles,
     stats: &RunStats,
 ) -> Result<(), WriteFault>
-    ensures { Puts W.meaning w.old (initial_count_text styles.now stats.now) result w.new }
+    ensures { Puts W.meaning w.old (paint styles.now (initial_count_text stats.now)) result w.new }
 {
     if stats.finished_count == stats.initial_run_count {
         return Ok(());

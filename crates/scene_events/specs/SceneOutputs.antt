@@ -20,8 +20,8 @@ written result (Output output errors highlight) = described.Output result output
 written result (StartError error) = described.StartError error
 
 -- whether that is there, and was not left unread
-abbrev pub is_loaded : SceneOutput → Bool
-is_loaded output = has_loaded_output (written None output)
+abbrev pub is_output_there : SceneOutput → Bool
+is_output_there output = has_loaded_output (written None output)
 
 -- the same where this was captured; a unit that could not be started captured nothing
 abbrev pub loaded : SceneOutput → ChildOutputDescription → SceneOutput

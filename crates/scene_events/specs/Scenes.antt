@@ -78,10 +78,10 @@ SaysSame event other = ⊥
 
 -- how long the run had taken when this happened, which a scene says only where the state of the run or of its units was
 -- asked for
-abbrev pub elapsed_of : SceneEvent → ℕ
-elapsed_of (scene.InfoStarted e) = e.elapsed.0
-elapsed_of (scene.InputEnter e) = e.elapsed.0
-elapsed_of other = 0
+abbrev pub elapsed_in : SceneEvent → ℕ
+elapsed_in (scene.InfoStarted e) = e.elapsed.0
+elapsed_in (scene.InputEnter e) = e.elapsed.0
+elapsed_in other = 0
 
 -- a reporter's header says what a scene's does
 abbrev pub SaysSameRun : SceneHeader → ReplayHeader → Type 0
@@ -91,7 +91,7 @@ SaysSameRun header replay =
 
 -- a call of a reporter that is what a scene asks for
 abbrev pub IsCallOf : SceneEvent → ReportCall → Type 0
-IsCallOf event (call.Event e) = (e.elapsed.0 ≡ elapsed_of event) × SaysSame event e.kind
+IsCallOf event (call.Event e) = (e.elapsed.0 ≡ elapsed_in event) × SaysSame event e.kind
 IsCallOf (scene.Prefix prefix) (call.Prefix p) = p ≡ prefix
 IsCallOf (scene.Header header) (call.Header h) = SaysSameRun header h
 IsCallOf event other = ⊥

@@ -27,6 +27,7 @@ pub struct ParsedRun {
 
 impl ParsedRun {
     /// Pushes an event and its line. Where memory is refused, neither is there.
+    #[inline(always)]
     pub fn push(&mut self, event: SceneEvent, line: u64) -> Result<(), OutOfMemory>
         ensures config { self.new.config ≡ self.old.config }
         ensures events { OnOk result (self.new.events.items ≡ self.old.events.items ++ event ∷ []) }
@@ -71,7 +72,7 @@ pub struct SceneConfig {
 impl SceneConfig {
     ghost use Rattle.scene_events.specs.Configs.{unconfigured};
 
-    /// What counts where no line says anything else.
+    /// The defaults.
     pub fn new() -> SceneConfig
         ensures { result ≡ unconfigured }
     {

@@ -51,8 +51,8 @@ status_cut None = None
 status_cut (Some x) = with_number_and_text (λ n message. aborted false (abort.WindowsNtStatus n (Some message))) (code_in x.0) (unescaped 127 x.1)
 
 -- a word, and what follows its colon
-abbrev pub told_in : List ℕ → List ℕ → Option ExecutionResultDescription
-told_in word t =
+abbrev pub result_with_details : List ℕ → List ℕ → Option ExecutionResultDescription
+result_with_details word t =
     if bytes_eq word (codes "fail") then option_map (exit_code false) (code_in t)
     else (if bytes_eq word (codes "fail+leak") then option_map (exit_code true) (code_in t)
     else (if bytes_eq word (codes "sig") then signal_cut t (cut 58 t)
@@ -62,7 +62,7 @@ told_in word t =
 
 abbrev pub result_cut : List ℕ → Option (List ℕ × List ℕ) → Option ExecutionResultDescription
 result_cut t None = plain_in t
-result_cut t (Some x) = told_in x.0 x.1
+result_cut t (Some x) = result_with_details x.0 x.1
 
 -- a result as a word, or as a word, a colon and what it tells of
 unfoldable pub result_in : List ℕ → Option ExecutionResultDescription

@@ -14,8 +14,8 @@ cow_text (Borrowed t) = t.now
 cow_text (Owned t) = string_bytes t
 
 -- no escape begins in the text
-abbrev pub IsPlain : List ℕ → Type 0
-IsPlain t = Lacks 92 t
+abbrev pub LacksEscapes : List ℕ → Type 0
+LacksEscapes t = Lacks 92 t
 
 -- the number, unless it is above this
 abbrev pub up_to : ℕ → ℕ → Option ℕ
@@ -81,6 +81,6 @@ pub record AddsStretch (old plain escape new : List ℕ) (after : Bor (List ℕ)
 pub record MovesPlain (old new : List ℕ) (from to count : ℕ) : Type 0 where
   pub within : from + count ≤ length old
   pub long : length new ≡ length old
-  pub plain : IsPlain (take count (drop from old))
+  pub plain : LacksEscapes (take count (drop from old))
   pub front : take (to + count) new ≡ take to old ++ take count (drop from old)
   pub rest : drop (from + count) new ≡ drop (from + count) old

@@ -23,7 +23,7 @@ trait Counts: Copy {
     // What the key of each row says after these counts.
     ghost rows: { Self → List (Row Self) };
 
-    // Sets what a key counts, and answers in which row the key stands. None is a bad value, or no key.
+    // Sets the count of `word` and returns the index of its row; None for an unknown key or a bad value.
     fn set(&mut self, word: &str, value: &str) -> Option<usize>
         ensures set { option_map (λ place. (place, self.new)) result ≡ row_in 0 (rows self.old) word.now value.now }
         ensures place { IfSome result (λ place. place < 15) };

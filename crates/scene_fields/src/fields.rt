@@ -5,7 +5,7 @@ ghost use Rattle.scene_fields.specs.Split.{split_on, field_texts};
 ghost use Rattle.scene_fields.specs.declared.fault.LineFault.{LineFault};
 ghost use Rattle.scene_fields.specs.Fields.{IsKeptWhere, Place, ReadsBy, TriesBy, answered, next, taken_text};
 
-use super::marks::{first_place, marks_from, places_behind};
+use super::marks::{first_place, marks_from, shift_past};
 use super::owned_text::OwnedText;
 use crate::fault::{LineError, LineFault};
 use bytes::BytesMut;
@@ -34,7 +34,7 @@ pub fn split_fields<'a>(line: &'a str, fields: &mut Vec<&'a str>) -> Result<(), 
             fields.push(&line[start..tab])?;
             start = tab + 1;
             at = start;
-            tabs = places_behind(tabs, place, 1);
+            tabs = shift_past(tabs, place, 1);
         }
         from += 32;
     }
@@ -130,6 +130,7 @@ impl<'a> Fields<'a> {
     }
 
     /// Takes a field.
+    #[inline(always)]
     pub fn take(&mut self) -> Result<&'a str, LineFault>
         ensures { next self.old ≡ answered (taken_text result) self.new }
     {
@@ -171,6 +172,7 @@ impl<'a> Fields<'a> {
     }
 
     /// Takes a field, and reads it by a function that answers None where the field is a bad one.
+    #[inline(always)]
     pub fn read<T: Drop, F: FnOnce(&'a str) -> Option<T>>(
         &mut self,
         read: F,
@@ -186,6 +188,7 @@ impl<'a> Fields<'a> {
     }
 
     /// Takes a field, and reads it as `read` does, by a function that allocates.
+    #[inline(always)]
     pub fn try_read<T: Drop, F: FnOnce(&'a str) -> Result<Option<T>, OutOfMemory>>(
         &mut self,
         read: F,

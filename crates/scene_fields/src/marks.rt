@@ -19,16 +19,16 @@ pub fn marks_from(byte: u8, bytes: &[u8], from: usize) -> u64
 {
     let left = bytes.len() - from;
     if left >= 32 || bytes.len() < 32 {
-        return marks_of(byte, block_from(bytes, from));
+        return match_mask(byte, load_block(bytes, from));
     }
     // The last bytes of the text, without those that stand before the place: no byte is copied for them.
     let last = u8x32::from_slice(&bytes[bytes.len() - 32..]);
-    marks_of(byte, last) >> (32 - left)
+    match_mask(byte, last) >> (32 - left)
 }
 
 /// The 32 bytes from a place on, or those that are left and zeros after them.
 #[inline(always)]
-pub fn block_from(bytes: &[u8], from: usize) -> u8x32
+pub fn load_block(bytes: &[u8], from: usize) -> u8x32
     requires { from ≤ length bytes.now }
     ensures { result ≡ take 32 (drop from bytes.now) ++ replicate (32 - (length bytes.now - from)) 0 }
 {
@@ -61,7 +61,7 @@ pub fn find_byte(byte: u8, bytes: &[u8]) -> Option<usize>
 
 /// The places of a byte in a block, which are counted in bytes from 0: the mask has the bit of each.
 #[inline(always)]
-pub fn marks_of(byte: u8, block: u8x32) -> u64
+pub fn match_mask(byte: u8, block: u8x32) -> u64
     ensures { result ≡ marks byte block }
 {
     block.simd_eq(u8x32::splat(byte)).to_bitmask()
@@ -77,9 +77,9 @@ pub fn first_place(mask: u64) -> usize
     mask.trailing_zeros() as usize
 }
 
-/// The places behind one of them, without the first so many, counted from there.
+/// The mask shifted so that bit 0 is `place + count`.
 #[inline(always)]
-pub fn places_behind(mask: u64, place: usize, count: usize) -> u64
+pub fn shift_past(mask: u64, place: usize, count: usize) -> u64
     requires some { mask ≢ 0 }
     requires within { place < 64 }
     requires on { 1 ≤ count }

@@ -73,6 +73,7 @@ fn parse_small_count(text: &str) -> Option<u32>
 }
 
 /// Reads a duration in nanoseconds.
+#[inline(always)]
 pub fn read_nanos(text: &str) -> Option<Nanos>
     ensures { result ≡ nanos_in text.now }
 {
@@ -80,6 +81,7 @@ pub fn read_nanos(text: &str) -> Option<Nanos>
 }
 
 // Reads a number of 128 bits.
+#[inline(always)]
 #[tactic(auto, using(crate::proofs::lemmas::Numbers::number_by))]
 fn read_wide_count(text: &str) -> Option<u128>
     ensures { result ≡ number_in 128 text.now }

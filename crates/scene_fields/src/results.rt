@@ -7,7 +7,7 @@ ghost use Rattle.std.specs.Prelude.{◌≡◌, Some, IfOk};
 ghost use Rattle.std.specs.Option.{option_map};
 ghost use Rattle.scene_fields.specs.Split.{cut};
 ghost use Rattle.scene_fields.specs.Numbers.{code_in};
-ghost use Rattle.scene_fields.specs.Results.{aborted, exit_code, nameless_signal, plain_in, result_in, signal_cut, status_cut, told_in};
+ghost use Rattle.scene_fields.specs.Results.{aborted, exit_code, nameless_signal, plain_in, result_in, signal_cut, status_cut, result_with_details};
 
 use super::numbers::read_code;
 use super::split::split_at_byte;
@@ -29,13 +29,14 @@ pub type ReadResult = Result<Option<ExecutionResultDescription>, OutOfMemory>;
 /// let outcome = read_result(alloc, "sig:11:SEGV")?;
 /// assert!(matches!(outcome, Some(ExecutionResultDescription::Fail { leaked: false, .. })));
 /// ```
+#[inline(always)]
 #[tactic(auto, unfolding(crate::specs::Results::result_in))]
 pub fn read_result(alloc: Global, field: &str) -> ReadResult
     ensures { IfOk result (λ outcome. outcome ≡ result_in field.now) }
 {
     match split_at_byte(field, b':') {
         None => read_plain(alloc, field),
-        Some((word, rest)) => read_told(alloc, word, rest),
+        Some((word, rest)) => read_with_details(alloc, word, rest),
     }
 }
 
@@ -64,8 +65,8 @@ fn read_plain(alloc: Global, field: &str) -> ReadResult
 }
 
 // Reads a result whose word has something to tell of.
-fn read_told(alloc: Global, word: &str, rest: &str) -> ReadResult
-    ensures { IfOk result (λ outcome. outcome ≡ told_in word.now rest.now) }
+fn read_with_details(alloc: Global, word: &str, rest: &str) -> ReadResult
+    ensures { IfOk result (λ outcome. outcome ≡ result_with_details word.now rest.now) }
 {
     match word {
         "fail" => Ok(read_exit_code(rest, false)),

@@ -5,9 +5,9 @@
 
 ghost use Rattle.std.specs.Prelude.{◌≡◌, ◌≢◌, ◌<◌, ◌≤◌, ℕ, length, slice_index, take};
 ghost use Rattle.std.specs.Option.{option_map};
-ghost use Rattle.scene_fields.specs.Texts.{IsPlain, MovesPlain, bytes_in};
+ghost use Rattle.scene_fields.specs.Texts.{LacksEscapes, MovesPlain, bytes_in};
 
-use super::marks::{block_from, first_place, marks_of};
+use super::marks::{first_place, load_block, match_mask};
 use super::texts::escape_at;
 use std::simd::prelude::*;
 
@@ -45,7 +45,7 @@ fn move_plain(bytes: &mut [u8], from: usize, to: usize) -> usize
     ensures some { 1 ≤ result }
     ensures moved { MovesPlain bytes.old bytes.new from to result }
 {
-    let block = block_from(bytes, from);
+    let block = load_block(bytes, from);
     let count = plain_len(block, bytes.len() - from);
     if from + count - to >= BLOCK {
         // The whole block is written, since what is left to read begins where it ends, or behind that.
@@ -62,9 +62,9 @@ fn plain_len(block: u8x32, most: usize) -> usize
     ensures block { result ≤ 32 }
     ensures most { result ≤ most }
     ensures some { 1 ≤ most → slice_index block 0 ≢ 92 → 1 ≤ result }
-    ensures plain { IsPlain (take result block) }
+    ensures plain { LacksEscapes (take result block) }
 {
-    let marks = marks_of(b'\\', block);
+    let marks = match_mask(b'\\', block);
     let count = if marks == 0 {
         BLOCK
     } else {

@@ -147,6 +147,7 @@ pub fn read_flaky_result(field: &str) -> Option<FlakyResult>
 /// let first = StressIndex { current: 0, total: NonZeroU32::new(3) };
 /// assert_eq!(read_stress_index("0/3"), Some(Some(first)));
 /// ```
+#[inline(always)]
 pub fn read_stress_index(field: &str) -> Option<Option<StressIndex>>
     ensures { result ≡ stress_in field.now }
 {

@@ -4,6 +4,8 @@ use Rattle.std.specs.Prelude.{ℕ, zero, suc, ◌+◌, ◌/◌, ◌^◌, List, [
 use Rattle.uuid.specs.Text.{parsed}
 use Rattle.run_model.specs.Attempts.{Attempt, Attempts}
 use Rattle.run_model.specs.Stats.{final_stats_of}
+use Rattle.run_model.specs.declared.info.UnitState.{UnitState}
+use Rattle.run_model.specs.declared.status.ExecutionResultDescription.{ExecutionResultDescription}
 use Rattle.run_model.specs.declared.output.ChildOutputDescription.{ChildOutputDescription}
 use Rattle.run_model.specs.declared.output.ChildOutputDescription.TheVariants as streams
 use Rattle.run_model.specs.declared.output.LiveSpec.{LiveSpec}
@@ -242,14 +244,20 @@ info_line_fields = do
   stats ← field stats_in
   says (event.InfoStarted (record { elapsed = elapsed; current_stats = stats; running = total }))
 
--- what a unit is doing, how the attempt ended, and what it has written
-unfoldable pub answer_fields : Line UnitAnswer
-answer_fields = do
+-- what a unit is doing, and how the attempt ended
+unfoldable pub state_fields : Line (UnitState × Option ExecutionResultDescription)
+state_fields = do
   begun ← field state_in
   result ← field result_or_none_in
   state ← valued (state_with result begun)
+  says (state, result)
+
+-- the same, and what it has written
+unfoldable pub answer_fields : Line UnitAnswer
+answer_fields = do
+  read ← state_fields
   output ← output_fields
-  says (record { state = state; output = written result output })
+  says (record { state = read.0; output = written read.1 output })
 
 -- `answer-script`: which answer of how many, the iteration, the script, and its answer
 abbrev pub answer_script_line_fields : Line SceneEvent

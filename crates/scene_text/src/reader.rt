@@ -1,8 +1,8 @@
 //! The reader of scenes.
 //!
 //! A scene is lines of fields separated by tabs. The first field names an event, and what follows it is read by
-//! the kind of the event. Each module knows one thing: `lines` which kinds there are, `event_lines` what fields each has, and
-//! `parts` values that stand in one field in parts.
+//! the kind of the event. Each module knows one thing: `lines` which kinds there are, `event_lines` what fields each has,
+//! `parts` values that are in one field in parts, and `binary_ids` ids that lines share.
 
 ghost use Rattle.std.specs.Prelude.{◌≡◌, ◌++◌, [], false, IfErr, OnOk, Ok};
 ghost use Rattle.scene_text.specs.SceneTexts.{LeavesLines, NotesLine, ReadsLines, TakesLine, before_next, fault_at, is_begun_behind, is_passed_over, no_lines, parsed_line, parsed_lines, parsed_words, text_lines};

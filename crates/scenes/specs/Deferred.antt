@@ -33,7 +33,7 @@ deferred_laws laws = record {
   memory = λ a b t. laws.memory a.writer b.writer t;
 }
 
--- The report had ended by this fault, and its rest was delivered, unless its device had failed; or the device failed now.
+-- Either the report had failed with f and the rest was still delivered (not after `WriteFailed`), or delivery failed now.
 abbrev pub DeliversRest : {W : Type 0} → (W → Option (List ℕ)) → Result (Unit {0}) Fault → TextBuffer W → TextBuffer W → Fault → Type 0
 DeliversRest contents outcome old new f =
     ((outcome ≡ Err f) × (f ≡ WriteFailed → new ≡ old) × BufferAccepts contents old [] new × ((f ≡ WriteFailed → ⊥) → new.pending ≡ []))

@@ -10,7 +10,7 @@ use Rattle.scene_fields.specs.declared.fault.LineFault.{LineFault}
 use Rattle.scenes.specs.Judged.{RefusesEvent}
 use Rattle.scenes.specs.ParsedScenes.{OfLines}
 use Rattle.scenes.specs.Prints.{Begins, Prints, PrintsFollowed}
-use Rattle.scenes.specs.Read.{AtLine, HasRead}
+use Rattle.scenes.specs.Read.{AtLine, HasReadLines}
 use Rattle.scenes.specs.SceneReporter.{Follows, writers}
 use Rattle.command_line.specs.declared.fault.Fault.{Fault}
 use Rattle.command_line.specs.declared.fault.Fault.TheVariants.{CannotRead, Line}
@@ -18,7 +18,7 @@ use Rattle.command_line.specs.declared.args.Options.{Options}
 use Rattle.scenes.specs.declared.outcome.RunOutcome.{RunOutcome}
 use Rattle.scenes.specs.declared.scene_reporter.SceneReporter.{SceneReporter}
 
--- the first of the lines behind a run, which has this number, is wrong or an event whose call is refused, and this is its fault
+-- the next line, with this number, is malformed or its event is refused; `fault` says so
 pub record IsWrongLine (options : Options) (run : ParsedLines) (lines : List RunLine) (number : ℕ) (fault : Fault) : Type 0 where
   pub t : RunLine
   pub more : List RunLine
@@ -47,7 +47,7 @@ Followed m k options all old new IsDone result =
 pub record KeepsUp {W S : Type 0} (m : Meaning W) (n : Meaning S) (options : Options) (all : List RunLine) (start now : SceneReporter W S) (read : LinesRead) (more : Result Bool Fault) (Has : ParsedLines → List RunLine → Type 0) : Type 0 where
   pub front : List RunLine
   pub before : ParsedLines
-  pub has : HasRead options.file.now all front before read more Has
+  pub has : HasReadLines options.file.now all front before read more Has
   pub printed : Prints m (store_meaning n) options (writers start) (writers now) before
   pub follows : Follows m n options start now (record { config = read.run.config; events = before.events })
   pub begun : more ≡ Ok true → is_begun (before.events ++ read.run.events.items) ≡ true

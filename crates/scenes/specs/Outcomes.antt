@@ -31,7 +31,7 @@ abbrev pub outcome_of : RunFinishedStats → RunOutcome
 outcome_of (finished.Single stats) = outcome_of_single (final_stats_of stats)
 outcome_of (finished.Stress stats) = outcome_of_stress (stress_stats_of stats)
 
--- what it has come to after an event: a start takes back an end
+-- the outcome after an event; a new start undoes an end
 abbrev pub outcome_after_event : RunOutcome → TestEventKind → RunOutcome
 outcome_after_event before (kind.RunStarted tests id profile) = outcome.NotEnded
 outcome_after_event before (kind.RunFinished elapsed stats outstanding) = outcome_of stats
@@ -42,7 +42,7 @@ outcome_after before (call.Event e) = outcome_after_event before e.kind
 outcome_after before (call.Header h) = before
 outcome_after before (call.Prefix p) = before
 
--- what a run has come to whose calls are these, the latest first
+-- the outcome of these calls, the latest first
 unfoldable pub run_outcome : List ReportCall → RunOutcome
 run_outcome [] = outcome.NotEnded
 run_outcome (call ∷ past) = outcome_after (run_outcome past) call

@@ -31,7 +31,7 @@ IsMore file (Err fault) run left number Has = IsUnread file fault ⊎ ((f : Read
 
 -- Behind the first of all lines, whose events are forgotten, further lines were read: their values and the numbers of their events are at
 -- hand. Then comes what is left, which the source may have.
-pub record HasRead (file : List ℕ) (all front : List RunLine) (before : ParsedLines) (read : LinesRead) (more : Result Bool Fault) (Has : ParsedLines → List RunLine → Type 0) : Type 0 where
+pub record HasReadLines (file : List ℕ) (all front : List RunLine) (before : ParsedLines) (read : LinesRead) (more : Result Bool Fault) (Has : ParsedLines → List RunLine → Type 0) : Type 0 where
   pub lines : List RunLine
   pub left : List RunLine
   pub whole : all ≡ front ++ (lines ++ left)

@@ -36,11 +36,11 @@ use Rattle.scene_events.specs.declared.scene.event.SceneEvent.{SceneEvent}
 abbrev pub AreCallsOf : Scene → List ReportCall → Type 0
 AreCallsOf scene calls = AllZip IsCallOf scene.events.items calls
 
--- a counter, or nothing
+-- what the options show of progress: a counter, or nothing
 abbrev pub progress_for : Options → ShowProgress
 progress_for options = if options.show_counter then progress.Counter else progress.None
 
--- a recorded run, or one that goes on
+-- whether they show a recorded run, or one in progress
 abbrev pub kind_for : Options → DisplayerKind
 kind_for options = if options.is_replay then displayer.Replay else displayer.Live
 

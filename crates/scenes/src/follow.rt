@@ -10,7 +10,7 @@ ghost use Rattle.scene_text.specs.SceneTexts.{ParsedLines, RunLine, is_begun, no
 ghost use Rattle.scenes.specs.Follow.{Followed, StopsBy};
 ghost use Rattle.scenes.specs.ParsedScenes.{OfLines, OfText};
 ghost use Rattle.scenes.specs.Prints.{Begins, Prints, PrintsFollowed, device};
-ghost use Rattle.scenes.specs.Read.{HasRead};
+ghost use Rattle.scenes.specs.Read.{HasReadLines};
 ghost use Rattle.scenes.specs.Reports.{store_for};
 ghost use Rattle.scenes.specs.SceneReporter.{Follows, writers};
 
@@ -141,7 +141,7 @@ fn follow_lines<'a, L: RunSource, W: WriteStr, S: WriteStr>(
     reporter: &mut SceneReporter<'_, W, S>,
 ) -> Result<RunOutcome, Fault<'a>>
     ensures same { IsSameReporter reporter.old.reporter reporter.new.reporter }
-    ensures ends { (total : ℕ) (all : List RunLine) → HasRead options.now.file.now all [] no_lines read.old more.entry (L.left total source.old) → (more.entry ≡ Ok true → is_begun read.old.run.events.items ≡ true)
+    ensures ends { (total : ℕ) (all : List RunLine) → HasReadLines options.now.file.now all [] no_lines read.old more.entry (L.left total source.old) → (more.entry ≡ Ok true → is_begun read.old.run.events.items ≡ true)
         → Follows W.meaning S.meaning options.now reporter.old reporter.old (record { config = read.old.run.config; events = [] })
         → Followed W.meaning (store_meaning S.meaning) options.now all (writers reporter.old) (writers reporter.new) (λ run. L.left total source.new run []) result }
 {

@@ -1,9 +1,14 @@
-//! Scenes: runs written as text, one event a line. They are read, judged and reported, or followed line by line.
+//! Scenes: runs written as text, one event a line. They are read, checked and reported, or followed line by line.
 //!
-//! One module a concern: `scene` is a run that was read and makes the calls of a reporter, `reporter` is what that is built from,
-//! `report` the whole way from a file's bytes to those of its report and its records, and `follow` the same line by line. How a text
-//! is read stands in the crate `scene_text`, and the words of a command line, pieces of a file and faults in `command_line`. The
-//! programs `report` and `follow` do the rest: files, and what `process` has for both.
+//! One module a concern:
+//!
+//! - `report` is the whole way from a file's bytes to those of its report and its records; `follow` is the same line by line.
+//! - `read` reads the lines of a source, `scene` is a run that was read, and `plain` is its report without a check of its own.
+//! - `reporter` builds the reporter of a scene, `scene_reporter` makes its calls, and `outcome` is what they say of the run.
+//! - `deferred` delivers at the end what a buffer still holds.
+//! - `process` is what the programs have in common: standard descriptors, the file of records, the line and the status of a fault.
+//!
+//! How a text is read is in the crate `scene_text`; the words of a command line, pieces of a file and faults are in `command_line`.
 #![tactic(auto)]
 
 mod deferred;

@@ -18,7 +18,7 @@ use std::{env, fs, mem};
 // The last of the descriptors that every process is given: input, output and error.
 const STANDARD_ERROR: i32 = 2;
 
-/// The words that follow the program's name. No clause says which they are, since none of the kit does; each stored run shows it. The error is
+/// The words that follow the program's name. The kit's `env::args` has no contract, so this has none; the stored runs test it. The error is
 /// `Usage` where a word is no text, or that memory is refused.
 pub fn arguments(rt: &HostRuntime) -> Result<Vec<String>, Fault<'static>>
     ensures err { IfErr result (λ fault. (fault ≡ Fault.Usage) ⊎ (fault ≡ Fault.OutOfMemory)) }
@@ -84,7 +84,7 @@ fn is_same_file(one: &Metadata, other: &Metadata) -> bool {
 }
 
 /// Prints the line of a fault on standard error, and answers the status to end with.
-pub fn tell(rt: &HostRuntime, program: Program, fault: Fault<'_>) -> u8
+pub fn report_fault(rt: &HostRuntime, program: Program, fault: Fault<'_>) -> u8
     ensures { result ≡ status_of fault.entry }
 {
     print_error(rt, FaultLine { program, fault });

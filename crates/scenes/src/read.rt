@@ -4,7 +4,7 @@ ghost use Rattle.std.specs.Prelude.{◌≡◌, ℕ, List, [], Ok, true, IfErr, I
 ghost use Rattle.std.specs.Io.Buffered.{reader_remaining};
 ghost use Rattle.command_line.specs.Faults.{IsJudgeFault};
 ghost use Rattle.scene_text.specs.SceneTexts.{LeavesLines, ParsedLines, ReadsLines, RunLine, is_begun, text_lines};
-ghost use Rattle.scenes.specs.Read.{AreLeftOf, HasRead};
+ghost use Rattle.scenes.specs.Read.{AreLeftOf, HasReadLines};
 
 use command_line::fault::Fault;
 use command_line::pieces::next_piece;
@@ -30,8 +30,8 @@ pub trait RunSource {
         file: &'a str,
         read: &mut LinesRead,
     ) -> Result<bool, Fault<'a>>
-        ensures read { (total : ℕ) (all front : List RunLine) (before : ParsedLines) → HasRead file.now all front before read.old (Ok true) (left total self.old)
-            → HasRead file.now all front before read.new result (left total self.new) }
+        ensures read { (total : ℕ) (all front : List RunLine) (before : ParsedLines) → HasReadLines file.now all front before read.old (Ok true) (left total self.old)
+            → HasReadLines file.now all front before read.new result (left total self.new) }
         ensures fault { IfErr result (IsJudgeFault file.now) };
 }
 
@@ -98,8 +98,8 @@ pub(crate) fn read_lines<'a, L: RunSource>(
     read: &mut LinesRead,
     to_event: bool,
 ) -> Result<bool, Fault<'a>>
-    ensures read { (total : ℕ) (all front : List RunLine) (before : ParsedLines) → HasRead file.now all front before read.old (Ok true) (L.left total source.old)
-        → HasRead file.now all front before read.new result (L.left total source.new) }
+    ensures read { (total : ℕ) (all front : List RunLine) (before : ParsedLines) → HasReadLines file.now all front before read.old (Ok true) (L.left total source.old)
+        → HasReadLines file.now all front before read.new result (L.left total source.new) }
     ensures event { result ≡ Ok true → (to_event ≡ true) × (is_begun read.new.run.events.items ≡ true) }
     ensures fault { IfErr result (IsJudgeFault file.now) }
 {

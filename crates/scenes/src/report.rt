@@ -1,7 +1,7 @@
 //! What the program does with a scene, over any reader and any two writers.
 //!
-//! A scene is read, then judged, and then reported. Judging has no device in its hands, and a report takes what judging gives, so no byte
-//! comes out before a scene is judged, and none of a scene that is refused.
+//! A scene is read, then checked by `judge`, and then reported. `judge` has no device, and a report takes the scene that it accepted, so no
+//! byte is written before a scene is accepted, and none of a scene that is refused.
 
 ghost use Rattle.std.specs.Prelude.{◌≡◌, ◌⊎◌, ℕ, List, [], Option, None, Some, IfOk, IfErr, OnOk};
 ghost use Rattle.command_line.specs.declared.fault.Fault.{Fault};
@@ -30,7 +30,7 @@ use std::alloc::{AllocError, Global};
 use std::io::{Read, Write};
 use std::marker::Model;
 
-/// A scene that was judged: its reporter refuses no call of it.
+/// A scene of which the reporter refuses no call.
 #[derive(Drop)]
 pub struct AcceptedScene<'a> {
     options: &'a Options<'a>,
@@ -115,7 +115,7 @@ pub fn accept_scene<'a>(
     }
 }
 
-// Judges the events of a scene: the first whose call its reporter would refuse is the fault of its line. Those behind it are judged too,
+// Checks the events of a scene: the first whose call its reporter would refuse is the fault of its line. Those after it are checked too,
 // so that a fault is that of a scene that has all its calls.
 fn check_refusals(alloc: Global, options: &Options<'_>, scene: &Scene) -> Result<(), Fault<'static>>
     ensures ok { OnOk result (IsSceneAccepted options.now scene.now) }
@@ -218,7 +218,7 @@ pub fn write_report<W: Write + Drop, S: Write + Drop>(
     )
 }
 
-/// Writes the report of a scene that was judged to a device, and its records to a second one where the options ask for them, and gives
+/// Writes the report of an accepted scene to a device, and its records to a second one where the options ask for them, and gives
 /// both devices back. Without records the text goes to its device when 8,192 bytes are gathered and at the end; with records it goes
 /// there at each call, before the records of that call.
 pub fn report_accepted<W: Write, S: Write>(

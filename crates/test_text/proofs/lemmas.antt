@@ -1,3 +1,3 @@
+pub mod FreeStatusLines
+pub mod FreeTests
 pub mod PassWords
-pub mod StatusColourPairs
-pub mod TestColourPairs

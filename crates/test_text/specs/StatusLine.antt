@@ -1,5 +1,5 @@
 -- The line of a finished test.
-use Rattle.std.specs.Prelude.{ℕ, Bool, true, false, [], ◌++◌, ◌&&◌, ◌==◌, codes, if◌then◌else◌}
+use Rattle.std.specs.Prelude.{ℕ, Bool, true, false, ◌++◌, ◌&&◌, ◌==◌, codes, if◌then◌else◌, refl}
 use Rattle.std.specs.Fmt.{decimal}
 use Rattle.run_model.specs.declared.status.ExecutionResultDescription.{ExecutionResultDescription}
 use Rattle.run_model.specs.declared.status.FlakyResult.{FlakyResult}
@@ -8,12 +8,14 @@ use Rattle.run_model.specs.declared.status.RetryData.{RetryData}
 use Rattle.run_model.specs.declared.status.StatusCase.{StatusCase}
 use Rattle.run_model.specs.declared.status.StatusCase.TheVariants.{Success, Flaky, Failure}
 use Rattle.run_model.specs.declared.status.StatusSummary.{StatusSummary}
-use Rattle.plain_text.specs.Texts.{Text, right_in}
-use Rattle.report_text.specs.Instance.{instance_text}
-use Rattle.plain_text.specs.Style.{plain, styled}
-use Rattle.plain_text.specs.declared.style.Style.{Style}
-use Rattle.plain_text.specs.declared.style.Styles.{Styles}
-use Rattle.unit_report.specs.Durations.{bracketed_duration}
+use Rattle.plain_text.specs.Texts.{Text}
+use Rattle.plain_text.specs.Escapes.{HasNoEscape}
+use Rattle.plain_text.proofs.lemmas.Closed.{decimal_free}
+use Rattle.plain_text.proofs.lemmas.Widths.{free_both}
+use Rattle.text_parts.proofs.lemmas.ResultColourPairs.{free-success_word}
+use Rattle.report_words.specs.Parts.{Fixed, Parts, Open, Line, Lines, Tone, Pass, Fail, Skip, none, words, toned, Right, given_right, ◌⧺◌, choice, plainly}
+use Rattle.report_text.specs.Instance.{instance_part}
+use Rattle.unit_report.specs.Durations.{bracketed}
 use Rattle.text_parts.specs.AbortLine.{abort_line}
 use Rattle.text_parts.specs.ResultWords.{long_word, short_word, success_word, is_plain_success}
 use Rattle.text_parts.specs.declared.instance.CountedInstance.{CountedInstance}
@@ -25,10 +27,13 @@ use Rattle.test_text.specs.declared.status_line.StatusLineKind.TheVariants.{Inte
 abbrev pub attempt_words : ℕ → Text → Text
 attempt_words attempt word = codes "TRY " ++ (decimal attempt ++ (codes " " ++ word))
 
+pub free-attempt_words : (attempt : ℕ) (word : Text) → HasNoEscape word → HasNoEscape (attempt_words attempt word)
+free-attempt_words attempt word free = free_both (decimal attempt) (codes " " ++ word) (decimal_free _) free
+
 -- a success after earlier attempts: as it is shown at once, and in the summary
-abbrev pub flaky_style : Styles → FlakyResult → Style
-flaky_style s flaky.Pass = s.skip
-flaky_style s flaky.Fail = s.fail
+abbrev pub flaky_tone : FlakyResult → Tone
+flaky_tone flaky.Pass = Skip
+flaky_tone flaky.Fail = Fail
 
 abbrev pub flaky_label : FlakyResult → Text
 flaky_label flaky.Pass = codes "FLAKY "
@@ -38,12 +43,18 @@ abbrev pub flaky_words : StatusLineKind → FlakyResult → RetryData → Text
 flaky_words Intermediate result retry = attempt_words retry.attempt (codes "PASS")
 flaky_words Final result retry = flaky_label result ++ (decimal retry.attempt ++ (codes "/" ++ decimal retry.total_attempts))
 
--- a success at the first attempt: that it was slow is said in the summary alone
-abbrev pub success_style : Styles → Bool → ExecutionResultDescription → Style
-success_style s is_slow result = if is_plain_success is_slow result then s.pass else s.skip
+-- no escape character is in them
+pub free-flaky_words : (kind : StatusLineKind) (x : FlakyResult) (retry : RetryData) → HasNoEscape (flaky_words kind x retry)
+free-flaky_words Intermediate x retry = free-attempt_words retry.attempt (codes "PASS") refl
+free-flaky_words Final flaky.Pass retry = free_both (decimal retry.attempt) (codes "/" ++ decimal retry.total_attempts) (decimal_free _) (decimal_free retry.total_attempts)
+free-flaky_words Final flaky.Fail retry = free_both (decimal retry.attempt) (codes "/" ++ decimal retry.total_attempts) (decimal_free _) (decimal_free retry.total_attempts)
 
-abbrev pub success_text : Styles → Bool → ExecutionResultDescription → Text
-success_text s is_slow result = styled (success_style s is_slow result) (right_in 12 (success_word is_slow result))
+-- a success at the first attempt: that it was slow is said in the summary alone
+abbrev pub success_tone : Bool → ExecutionResultDescription → Tone
+success_tone is_slow result = if is_plain_success is_slow result then Pass else Skip
+
+abbrev pub success_text : Bool → ExecutionResultDescription → Fixed Open
+success_text is_slow result = Right 12 (success_tone is_slow result) (success_word is_slow result) (free-success_word is_slow result)
 
 -- a failure, after its attempt's number where that is not 1
 abbrev pub failure_words : ℕ → ExecutionResultDescription → Text
@@ -65,14 +76,14 @@ is_final_line Intermediate = false
 is_final_line Final = true
 
 -- what begins the line, by what the attempts came to
-abbrev pub status_words : Styles → StatusLineKind → StatusCase → StatusSummary → Text
-status_words s kind Success x = success_text s (is_final_line kind && x.is_slow) x.result
-status_words s kind (Flaky result) x = styled (flaky_style s result) (right_in 12 (flaky_words kind result x.retry_data))
-status_words s kind Failure x = styled s.fail (right_in 12 (failure_words x.retry_data.attempt x.result))
+abbrev pub status_words : StatusLineKind → StatusCase → StatusSummary → Parts false Open
+status_words kind Success x = plainly (success_text (is_final_line kind && x.is_slow) x.result)
+status_words kind (Flaky result) x = plainly (Right 12 (flaky_tone result) (flaky_words kind result x.retry_data) (free-flaky_words kind result x.retry_data))
+status_words kind Failure x = given_right 12 Fail (failure_words x.retry_data.attempt x.result)
 
 -- the word of the line, and a space
-unfoldable pub status_prefix : Styles → StatusLineKind → StatusSummary → Text
-status_prefix s kind x = status_words s kind x.case x ++ plain (codes " ")
+unfoldable pub status_prefix : StatusLineKind → StatusSummary → Parts false Open
+status_prefix kind x = status_words kind x.case x ⧺ words (codes " ")
 
 -- a success after earlier attempts counts as a failure
 abbrev pub is_flaky_failure : StatusCase → Bool
@@ -82,20 +93,20 @@ is_flaky_failure (Flaky flaky.Fail) = true
 is_flaky_failure Failure = false
 
 -- what is said of that
-unfoldable pub flaky_note : Styles → Text
-flaky_note s = plain (codes "           - test configured to ") ++ (styled s.fail (codes "fail") ++ plain (codes " if flaky\n"))
+unfoldable pub flaky_note : Fixed Line
+flaky_note = words (codes "           - test configured to ") ⧺ toned Fail (codes "fail") ⧺ words (codes " if flaky\n")
 
 -- it is said after the line that is shown at once
-unfoldable pub flaky_failure_line : Styles → StatusLineKind → StatusCase → Text
-flaky_failure_line s Final x = []
-flaky_failure_line s Intermediate x = if is_flaky_failure x then flaky_note s else []
+unfoldable pub flaky_failure_line : StatusLineKind → StatusCase → Fixed Lines
+flaky_failure_line Final x = none
+flaky_failure_line Intermediate x = choice (is_flaky_failure x) flaky_note none
 
 -- the line of a finished test, as it is shown at once or in the summary
-unfoldable pub status_line : Styles → StatusLineKind → CountedInstance → StatusSummary → Text
-status_line s kind test x =
-    status_prefix s kind x
-    ++ (bracketed_duration x.time_taken.0
-    ++ (instance_text s.list_styles test.stress_index test.counter test.instance
-    ++ (plain (codes "\n")
-    ++ (abort_line s x.result
-    ++ flaky_failure_line s kind x.case))))
+unfoldable pub status_line : StatusLineKind → CountedInstance → StatusSummary → Parts false Line
+status_line kind test x =
+    status_prefix kind x
+    ⧺ bracketed x.time_taken.0
+    ⧺ instance_part test.stress_index test.counter test.instance
+    ⧺ words (codes "\n")
+    ⧺ abort_line x.result
+    ⧺ flaky_failure_line kind x.case

@@ -1,5 +1,5 @@
 -- A finished test, and its text.
-use Rattle.std.specs.Prelude.{◌≡◌, ℕ, true, false, Option, [], ◌++◌, if◌then◌else◌}
+use Rattle.std.specs.Prelude.{◌≡◌, ℕ, true, false, Option}
 use Rattle.run_model.specs.Attempts.{Attempts}
 use Rattle.run_model.specs.Outputs.{has_loaded_output}
 use Rattle.run_model.specs.Statuses.{described_last, described_summary, summary_of}
@@ -11,10 +11,10 @@ use Rattle.run_model.specs.declared.stats.RunStats.{RunStats}
 use Rattle.run_model.specs.declared.status.ExecuteStatus.{ExecuteStatus}
 use Rattle.run_model.specs.declared.status.StatusSummary.{StatusSummary}
 use Rattle.run_names.specs.declared.stress.StressIndex.{StressIndex}
-use Rattle.plain_text.specs.Texts.{Text}
-use Rattle.text_parts.specs.AttemptOutput.{attempt_output}
 use Rattle.text_parts.specs.Finish.{display_of, output_timing, is_ever_shown, is_line_shown, timed_at_once}
 use Rattle.text_parts.specs.Settings.{finished_counter}
+use Rattle.report_words.specs.Parts.{Parts, Lines, none, ◌⧺◌, choice}
+use Rattle.text_parts.specs.AttemptOutput.{attempt_output}
 use Rattle.test_text.specs.StatusLine.{status_line}
 use Rattle.text_parts.specs.declared.finish.OutputTiming.{OutputTiming}
 use Rattle.text_parts.specs.declared.instance.CountedInstance.{CountedInstance}
@@ -55,14 +55,13 @@ abbrev pub HasShownOutput : TestFinish → Type 0
 HasShownOutput f = is_ever_shown f.display ≡ true → has_loaded_output f.last.output ≡ true
 
 -- the line of a finished test, where the status level is at least the test's
-unfoldable pub line_at_once : Settings → TestFinish → Text
-line_at_once s f = if is_line_shown s f.summary then status_line s.styles Intermediate f.test f.summary else []
+unfoldable pub line_at_once : Settings → TestFinish → Parts false Lines
+line_at_once s f = choice (is_line_shown s f.summary) (status_line Intermediate f.test f.summary) none
 
 -- the output of its last attempt, where that is shown at once, whatever the status level
-unfoldable pub output_at_once : Settings → TestFinish → Text
-output_at_once s f =
-    if timed_at_once f.row f.display then attempt_output s false f.last.result f.last.output else []
+unfoldable pub output_at_once : Settings → TestFinish → Parts false Lines
+output_at_once s f = choice (timed_at_once f.row f.display) (attempt_output s false f.last.result f.last.output) none
 
 -- a finished test: its line and its output
-unfoldable pub test_finished_text : Settings → TestFinish → Text
-test_finished_text s f = line_at_once s f ++ output_at_once s f
+unfoldable pub test_finished_text : Settings → TestFinish → Parts false Lines
+test_finished_text s f = line_at_once s f ⧺ output_at_once s f

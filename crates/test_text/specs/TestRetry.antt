@@ -1,5 +1,5 @@
 -- An attempt that failed where another one follows.
-use Rattle.std.specs.Prelude.{◌≡◌, ℕ, ◌+◌, Bool, true, Option, [], ◌++◌, ◌==◌, codes, unwrap_or, if◌then◌else◌}
+use Rattle.std.specs.Prelude.{◌≡◌, ℕ, ◌+◌, Bool, true, false, Option, ◌++◌, ◌==◌, codes, unwrap_or}
 use Rattle.std.specs.Fmt.{decimal}
 use Rattle.run_model.specs.Attempts.{Attempt}
 use Rattle.run_names.specs.Displays.{is_immediate}
@@ -9,23 +9,27 @@ use Rattle.run_names.specs.declared.level.StatusLevel.TheVariants as status
 use Rattle.run_names.specs.declared.name.TestInstanceId.{TestInstanceId}
 use Rattle.run_model.specs.declared.status.RetryData.{RetryData}
 use Rattle.run_names.specs.declared.stress.StressIndex.{StressIndex}
-use Rattle.plain_text.specs.Style.{plain, styled}
-use Rattle.plain_text.specs.Texts.{Text, right_in}
-use Rattle.plain_text.specs.declared.style.Styles.{Styles}
-use Rattle.unit_report.specs.Durations.{bracketed_duration, duration_by}
-use Rattle.text_parts.specs.AttemptOutput.{attempt_output}
+use Rattle.plain_text.specs.Texts.{Text}
+use Rattle.plain_text.specs.Escapes.{HasNoEscape}
+use Rattle.plain_text.proofs.lemmas.Closed.{decimal_free}
+use Rattle.plain_text.proofs.lemmas.Widths.{free_both}
+use Rattle.report_words.specs.Parts.{Parts, Line, Lines, Retry, none, words, Right, given_right, ◌⧺◌, choice}
 use Rattle.text_parts.specs.Instance.{instance_end, padded_instance}
 use Rattle.text_parts.specs.ResultWords.{short_word}
 use Rattle.text_parts.specs.Settings.{is_level_shown}
+use Rattle.unit_report.specs.Durations.{bracketed, by_delay}
+use Rattle.text_parts.specs.AttemptOutput.{attempt_output}
 use Rattle.test_text.specs.StatusLine.{attempt_words}
 use Rattle.text_parts.specs.declared.instance.CountedInstance.{CountedInstance}
 use Rattle.text_parts.specs.declared.settings.Settings.{Settings}
 
 -- its line
-unfoldable pub attempt_failed_line : Styles → CountedInstance → Attempt → Text
-attempt_failed_line s test x =
-    styled s.retry (right_in 12 (attempt_words x.retry_data.attempt (short_word x.result)))
-    ++ (plain (codes " ") ++ (bracketed_duration x.time_taken.0 ++ instance_end s test))
+unfoldable pub attempt_failed_line : CountedInstance → Attempt → Parts false Line
+attempt_failed_line test x =
+    given_right 12 Retry (attempt_words x.retry_data.attempt (short_word x.result))
+    ⧺ words (codes " ")
+    ⧺ bracketed x.time_taken.0
+    ⧺ instance_end test
 
 -- its output is shown at once: by the setting of failures, also where the test could not be started
 unfoldable pub is_failed_output_shown : Settings → TestOutputDisplay → Bool
@@ -36,23 +40,26 @@ abbrev pub HasFailedAttemptOutput : Settings → Attempt → TestOutputDisplay �
 HasFailedAttemptOutput s x failure = is_failed_output_shown s failure ≡ true → has_loaded_output x.output ≡ true
 
 -- its output, where that is shown at once
-unfoldable pub failed_output : Settings → Attempt → TestOutputDisplay → Text
-failed_output s x failure = if is_failed_output_shown s failure then attempt_output s true x.result x.output else []
+unfoldable pub failed_output : Settings → Attempt → TestOutputDisplay → Parts false Lines
+failed_output s x failure = choice (is_failed_output_shown s failure) (attempt_output s true x.result x.output) none
 
 -- the number of the next attempt
 abbrev pub delay_words : RetryData → Text
 delay_words r = codes "DELAY " ++ (decimal (r.attempt + 1) ++ (codes "/" ++ decimal r.total_attempts))
 
+pub free-delay_words : (r : RetryData) → HasNoEscape (delay_words r)
+free-delay_words r = free_both (decimal (r.attempt + 1)) (codes "/" ++ decimal r.total_attempts) (decimal_free (r.attempt + 1)) (decimal_free r.total_attempts)
+
 -- how long the next attempt waits, where it does
-unfoldable pub delay_line : Styles → CountedInstance → RetryData → ℕ → Text
-delay_line s test r delay =
-    if delay == 0 then []
-    else styled s.retry (right_in 12 (delay_words r)) ++ (plain (codes " ") ++ (duration_by delay ++ instance_end s test))
+unfoldable pub delay_line : CountedInstance → RetryData → ℕ → Parts false Lines
+delay_line test r delay =
+    choice (delay == 0) none (Right 12 Retry (delay_words r) (free-delay_words r) ⧺ words (codes " ") ⧺ by_delay delay ⧺ instance_end test)
 
 -- an attempt has failed, and another one follows: nothing where such attempts are not shown
-unfoldable pub attempt_failed_text : Settings → Option StressIndex → TestInstanceId → Attempt → ℕ → TestOutputDisplay → Text
+unfoldable pub attempt_failed_text : Settings → Option StressIndex → TestInstanceId → Attempt → ℕ → TestOutputDisplay → Parts false Lines
 attempt_failed_text s stress instance x delay failure =
-    if is_level_shown s status.Retry
-    then attempt_failed_line s.styles (padded_instance s stress instance) x
-    ++ (failed_output s x failure ++ delay_line s.styles (padded_instance s stress instance) x.retry_data delay)
-    else []
+    choice (is_level_shown s status.Retry)
+    (attempt_failed_line (padded_instance s stress instance) x
+    ⧺ failed_output s x failure
+    ⧺ delay_line (padded_instance s stress instance) x.retry_data delay)
+    none

@@ -1,19 +1,18 @@
 -- A test that is not run.
-use Rattle.std.specs.Prelude.{Option, [], ◌++◌, codes, if◌then◌else◌}
+use Rattle.std.specs.Prelude.{false, Option, codes}
 use Rattle.run_names.specs.declared.level.StatusLevel.TheVariants as status
 use Rattle.run_names.specs.declared.name.TestInstanceId.{TestInstanceId}
 use Rattle.run_names.specs.declared.stress.StressIndex.{StressIndex}
-use Rattle.plain_text.specs.Style.{styled}
-use Rattle.plain_text.specs.Texts.{Text, right_in}
+use Rattle.report_words.specs.Parts.{Parts, Line, Lines, Skip, none, right, ◌⧺◌, choice}
 use Rattle.text_parts.specs.Instance.{padded_instance, untimed_end}
 use Rattle.text_parts.specs.Settings.{is_level_shown}
 use Rattle.text_parts.specs.declared.instance.CountedInstance.{CountedInstance}
 use Rattle.text_parts.specs.declared.settings.Settings.{Settings}
 
 -- its line
-unfoldable pub skip_line : Settings → CountedInstance → Text
-skip_line s test = styled s.styles.skip (right_in 12 (codes "SKIP")) ++ untimed_end s.styles test
+unfoldable pub skip_line : CountedInstance → Parts false Line
+skip_line test = right 12 Skip (codes "SKIP") ⧺ untimed_end test
 
 -- the line, where skipped tests are shown
-unfoldable pub test_skipped_text : Settings → Option StressIndex → TestInstanceId → Text
-test_skipped_text s stress instance = if is_level_shown s status.Skip then skip_line s (padded_instance s stress instance) else []
+unfoldable pub test_skipped_text : Settings → Option StressIndex → TestInstanceId → Parts false Lines
+test_skipped_text s stress instance = choice (is_level_shown s status.Skip) (skip_line (padded_instance s stress instance)) none

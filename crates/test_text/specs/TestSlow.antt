@@ -1,34 +1,38 @@
 -- A test that runs longer than it should.
-use Rattle.std.specs.Prelude.{ℕ, Bool, true, false, ◌&&◌, Option, [], ◌++◌, codes, nat_le, nat_lt, if◌then◌else◌}
+use Rattle.std.specs.Prelude.{ℕ, Bool, true, false, ◌&&◌, Option, codes, nat_le, nat_lt, if◌then◌else◌, refl}
 use Rattle.run_names.specs.Levels.{status_rank}
 use Rattle.run_names.specs.declared.level.StatusLevel.{StatusLevel}
 use Rattle.run_names.specs.declared.level.StatusLevel.TheVariants as status
 use Rattle.run_names.specs.declared.name.TestInstanceId.{TestInstanceId}
 use Rattle.run_model.specs.declared.status.RetryData.{RetryData}
 use Rattle.run_names.specs.declared.stress.StressIndex.{StressIndex}
-use Rattle.plain_text.specs.Style.{plain, styled}
-use Rattle.plain_text.specs.Texts.{Text, right_in}
-use Rattle.plain_text.specs.declared.style.Style.{Style}
-use Rattle.plain_text.specs.declared.style.Styles.{Styles}
-use Rattle.unit_report.specs.Durations.{slow_duration}
+use Rattle.plain_text.specs.Escapes.{HasNoEscape}
+use Rattle.plain_text.specs.Texts.{Text}
+use Rattle.report_words.proofs.lemmas.FreeWords.{free-if}
+use Rattle.report_words.specs.Parts.{Parts, Line, Lines, Tone, Fail, Retry, Skip, none, words, Right, ◌⧺◌, choice}
 use Rattle.text_parts.specs.Instance.{instance_end, padded_instance}
 use Rattle.text_parts.specs.Settings.{is_level_shown}
-use Rattle.test_text.specs.StatusLine.{attempt_words}
+use Rattle.unit_report.specs.Durations.{exceeded}
+use Rattle.test_text.specs.StatusLine.{attempt_words, free-attempt_words}
 use Rattle.text_parts.specs.declared.instance.CountedInstance.{CountedInstance}
 use Rattle.text_parts.specs.declared.settings.Settings.{Settings}
 
 -- the end of a slow test's line: how long the attempt has taken, and the test
-unfoldable pub slow_end : Styles → CountedInstance → ℕ → Text
-slow_end s test elapsed = plain (codes " ") ++ (slow_duration elapsed ++ instance_end s test)
+unfoldable pub slow_end : CountedInstance → ℕ → Parts false Line
+slow_end test elapsed = words (codes " ") ⧺ exceeded elapsed ⧺ instance_end test
 
 -- the word of a slow attempt, with its number unless it is the first
 unfoldable pub slow_word : ℕ → Text
 slow_word attempt = if nat_lt 1 attempt then attempt_words attempt (codes "SLOW") else codes "SLOW"
 
+pub free-slow_word : (attempt : ℕ) → HasNoEscape (slow_word attempt)
+unfolding slow_word
+free-slow_word attempt = free-if (nat_lt 1 attempt) _ _ (free-attempt_words attempt (codes "SLOW") refl) refl
+
 -- an attempt is slow: the line, where slow tests are shown
-unfoldable pub slow_text : Settings → CountedInstance → ℕ → ℕ → Text
+unfoldable pub slow_text : Settings → CountedInstance → ℕ → ℕ → Parts false Lines
 slow_text s test attempt elapsed =
-    if is_level_shown s status.Slow then styled s.styles.skip (right_in 12 (slow_word attempt)) ++ slow_end s.styles test elapsed else []
+    choice (is_level_shown s status.Slow) (Right 12 Skip (slow_word attempt) (free-slow_word attempt) ⧺ slow_end test elapsed) none
 
 -- no attempt follows
 unfoldable pub is_last_attempt : RetryData → Bool
@@ -38,8 +42,8 @@ is_last_attempt r = nat_le r.total_attempts r.attempt
 abbrev pub terminating_level : RetryData → StatusLevel
 terminating_level r = if is_last_attempt r then status.Fail else status.Retry
 
-abbrev pub terminating_style : Styles → RetryData → Style
-terminating_style s r = if is_last_attempt r then s.fail else s.retry
+abbrev pub terminating_tone : RetryData → Tone
+terminating_tone r = if is_last_attempt r then Fail else Retry
 
 -- more is shown at once than what has this level
 unfoldable pub is_level_exceeded : Settings → StatusLevel → Bool
@@ -53,17 +57,21 @@ has_number s r = nat_lt 1 r.total_attempts && is_level_exceeded s (terminating_l
 unfoldable pub terminating_word : Settings → RetryData → Text
 terminating_word s r = if has_number s r then attempt_words r.attempt (codes "TRMNTG") else codes "TERMINATING"
 
+pub free-terminating_word : (s : Settings) (r : RetryData) → HasNoEscape (terminating_word s r)
+unfolding terminating_word
+free-terminating_word s r = free-if (has_number s r) _ _ (free-attempt_words r.attempt (codes "TRMNTG") refl) refl
+
 -- an attempt is ended since it is slow: the line, where its level is shown
-unfoldable pub terminating_text : Settings → CountedInstance → RetryData → ℕ → Text
+unfoldable pub terminating_text : Settings → CountedInstance → RetryData → ℕ → Parts false Lines
 terminating_text s test r elapsed =
-    if is_level_shown s (terminating_level r)
-    then styled (terminating_style s.styles r) (right_in 12 (terminating_word s r)) ++ slow_end s.styles test elapsed
-    else []
+    choice (is_level_shown s (terminating_level r))
+    (Right 12 (terminating_tone r) (terminating_word s r) (free-terminating_word s r) ⧺ slow_end test elapsed)
+    none
 
 -- a test is slow, and goes on or is ended for that
-abbrev pub slow_or_terminating : Settings → CountedInstance → RetryData → ℕ → Bool → Text
+abbrev pub slow_or_terminating : Settings → CountedInstance → RetryData → ℕ → Bool → Parts false Lines
 slow_or_terminating s test r elapsed true = terminating_text s test r elapsed
 slow_or_terminating s test r elapsed false = slow_text s test r.attempt elapsed
 
-unfoldable pub test_slow_text : Settings → Option StressIndex → TestInstanceId → RetryData → ℕ → Bool → Text
+unfoldable pub test_slow_text : Settings → Option StressIndex → TestInstanceId → RetryData → ℕ → Bool → Parts false Lines
 test_slow_text s stress instance r elapsed will_terminate = slow_or_terminating s (padded_instance s stress instance) r elapsed will_terminate

@@ -7,7 +7,8 @@ ghost use Rattle.plain_text.specs.Writer.{Puts};
 ghost use Rattle.plain_text.specs.Style.{plain, styled};
 ghost use Rattle.plain_text.specs.Texts.{right_in};
 ghost use Rattle.text_parts.specs.ResultWords.{long_failure_word, long_word};
-ghost use Rattle.test_text.specs.StatusLine.{is_final_line, shown_summary, flaky_style, flaky_words, failure_words, success_text, is_flaky_failure, status_prefix, flaky_note, flaky_failure_line, status_line};
+ghost use Rattle.report_words.specs.Parts.{paint, style_of};
+ghost use Rattle.test_text.specs.StatusLine.{is_final_line, shown_summary, flaky_tone, flaky_words, failure_words, success_text, is_flaky_failure, status_prefix, flaky_note, flaky_failure_line, status_line};
 
 use itoa::Buffer;
 use plain_text::style::{Style, Styles, write_plain};
@@ -112,12 +113,12 @@ pub fn write_status_line<W: WriteStr>(
     w: &mut W,
     styles: &Styles,
     kind: StatusLineKind,
-    test: CountedInstance<'_>,
+    test: &CountedInstance<'_>,
     line: StatusLine<'_>,
 ) -> Result<(), WriteFault>
-    ensures { Puts W.meaning w.old (status_line styles.now kind test.entry (shown_summary line.entry)) result w.new }
+    ensures { Puts W.meaning w.old (paint styles.now (status_line kind test.now (shown_summary line.entry))) result w.new }
 {
-    write_line(w, styles, kind, &test, &line)
+    write_line(w, styles, kind, test, &line)
 }
 
 // `write_status_line` by reference.
@@ -129,11 +130,11 @@ fn write_line<W: WriteStr>(
     test: &CountedInstance<'_>,
     line: &StatusLine<'_>,
 ) -> Result<(), WriteFault>
-    ensures { Puts W.meaning w.old (status_line styles.now kind test.now (shown_summary line.now)) result w.new }
+    ensures { Puts W.meaning w.old (paint styles.now (status_line kind test.now (shown_summary line.now))) result w.new }
 {
     write_status_prefix(w, styles, kind, line)?;
     DisplayBracketedDuration(line.time_taken).write_to(w)?;
-    write_instance(w, styles, *test)?;
+    write_instance(w, styles, test)?;
     write_plain(w, "\n")?;
     write_abort_line(w, styles, line.result)?;
     write_flaky_failure_line(w, styles, kind, line.case)
@@ -147,7 +148,7 @@ fn write_status_prefix<W: WriteStr>(
     kind: StatusLineKind,
     line: &StatusLine<'_>,
 ) -> Result<(), WriteFault>
-    ensures { Puts W.meaning w.old (status_prefix styles.now kind (shown_summary line.now)) result w.new }
+    ensures { Puts W.meaning w.old (paint styles.now (status_prefix kind (shown_summary line.now))) result w.new }
 {
     match line.case {
         StatusCase::Success => {
@@ -170,7 +171,7 @@ fn write_success_word<W: WriteStr>(
     is_slow: bool,
     outcome: &ExecutionResultDescription,
 ) -> Result<(), WriteFault>
-    ensures { Puts W.meaning w.old (success_text styles.now is_slow outcome.now ++ plain (codes " ")) result w.new }
+    ensures { Puts W.meaning w.old (paint styles.now (success_text is_slow outcome.now) ++ plain (codes " ")) result w.new }
 {
     match outcome {
         // Most tests pass: their word is there in its columns.
@@ -190,6 +191,7 @@ fn write_success_word<W: WriteStr>(
 }
 
 // Writes a word that stands in its columns, and a space. Without colour they are one text.
+#[inline(always)]
 #[tactic(auto, unfolding(plain_text::specs::Style::styled, plain_text::specs::Style::plain))]
 fn write_word<W: WriteStr>(
     w: &mut W,
@@ -215,7 +217,7 @@ fn write_flaky_word<W: WriteStr>(
     flaky_result: FlakyResult,
     retry_data: RetryData,
 ) -> Result<(), WriteFault>
-    ensures { Puts W.meaning w.old (styled (flaky_style styles.now flaky_result) (right_in 12 (flaky_words kind flaky_result retry_data))) result w.new }
+    ensures { Puts W.meaning w.old (styled (style_of styles.now (flaky_tone flaky_result)) (right_in 12 (flaky_words kind flaky_result retry_data))) result w.new }
 {
     let mut attempt = Buffer::new();
     let mut total = Buffer::new();
@@ -311,7 +313,7 @@ fn write_flaky_failure_line<W: WriteStr>(
     kind: StatusLineKind,
     case: StatusCase,
 ) -> Result<(), WriteFault>
-    ensures { Puts W.meaning w.old (flaky_failure_line styles.now kind case) result w.new }
+    ensures { Puts W.meaning w.old (paint styles.now (flaky_failure_line kind case)) result w.new }
 {
     match kind {
         StatusLineKind::Intermediate => {
@@ -328,7 +330,7 @@ fn write_flaky_failure_line<W: WriteStr>(
 // Writes that a success counts as a failure.
 #[tactic(auto, unfolding(crate::specs::StatusLine::flaky_note))]
 fn write_flaky_note<W: WriteStr>(w: &mut W, styles: &Styles) -> Result<(), WriteFault>
-    ensures { Puts W.meaning w.old (flaky_note styles.now) result w.new }
+    ensures { Puts W.meaning w.old (paint styles.now flaky_note) result w.new }
 {
     write_plain(w, "           - test configured to ")?;
     styles.fail.write(w, "fail")?;

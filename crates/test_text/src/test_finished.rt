@@ -3,6 +3,7 @@
 ghost use Rattle.std.specs.Prelude.{◌≡◌};
 ghost use Rattle.run_names.specs.Levels.{reason_rank};
 ghost use Rattle.plain_text.specs.Writer.{Puts};
+ghost use Rattle.report_words.specs.Parts.{paint};
 ghost use Rattle.test_text.specs.TestFinished.{HasShownOutput, finish_of, line_at_once, output_at_once, test_finish, test_finished_text};
 
 use crate::status_line::{StatusLine, StatusLineKind, write_status_line};
@@ -34,6 +35,7 @@ pub struct FinishedTest<'e, 'a> {
 
 impl<'e, 'a> FinishedTest<'e, 'a> {
     /// The test that finished, in a run that was cancelled for this reason before.
+    #[inline(always)]
     pub fn new(
         settings: &Settings,
         reason: Option<CancelReason>,
@@ -62,6 +64,7 @@ impl<'e, 'a> FinishedTest<'e, 'a> {
 
 /// Writes the line of a finished test where its level is shown, and the output of its last attempt where that is
 /// shown at once. That output must not have been left unread.
+#[inline(always)]
 #[tactic(auto, unfolding(crate::specs::TestFinished::test_finished_text))]
 pub fn write_test_finished<W: WriteStr>(
     w: &mut W,
@@ -69,7 +72,7 @@ pub fn write_test_finished<W: WriteStr>(
     finished: &FinishedTest<'_, '_>,
 ) -> Result<(), WriteFault>
     requires { HasShownOutput (finish_of finished.now) }
-    ensures { Puts W.meaning w.old (test_finished_text settings.now (finish_of finished.now)) result w.new }
+    ensures { Puts W.meaning w.old (paint settings.now.styles (test_finished_text settings.now (finish_of finished.now))) result w.new }
 {
     write_line_at_once(w, settings, finished)?;
     write_output_at_once(w, settings, finished)
@@ -82,7 +85,7 @@ fn write_line_at_once<W: WriteStr>(
     settings: &Settings,
     finished: &FinishedTest<'_, '_>,
 ) -> Result<(), WriteFault>
-    ensures { Puts W.meaning w.old (line_at_once settings.now (finish_of finished.now)) result w.new }
+    ensures { Puts W.meaning w.old (paint settings.now.styles (line_at_once settings.now (finish_of finished.now))) result w.new }
 {
     if settings.is_line_shown(&finished.describe) {
         let line = StatusLine::of_description(&finished.describe);
@@ -90,7 +93,7 @@ fn write_line_at_once<W: WriteStr>(
             w,
             &settings.styles,
             StatusLineKind::Intermediate,
-            finished.test,
+            &finished.test,
             line,
         )
     } else {
@@ -106,7 +109,7 @@ fn write_output_at_once<W: WriteStr>(
     finished: &FinishedTest<'_, '_>,
 ) -> Result<(), WriteFault>
     requires { HasShownOutput (finish_of finished.now) }
-    ensures { Puts W.meaning w.old (output_at_once settings.now (finish_of finished.now)) result w.new }
+    ensures { Puts W.meaning w.old (paint settings.now.styles (output_at_once settings.now (finish_of finished.now))) result w.new }
 {
     if finished.row.is_shown_at_once(finished.display) {
         let last = finished.describe.last_status();

@@ -4,6 +4,7 @@ ghost use Rattle.std.specs.Prelude.{◌≡◌, true};
 ghost use Rattle.plain_text.specs.Style.{styled};
 ghost use Rattle.plain_text.specs.Texts.{right_in};
 ghost use Rattle.plain_text.specs.Writer.{Puts};
+ghost use Rattle.report_words.specs.Parts.{paint};
 ghost use Rattle.test_text.specs.TestRetry.{HasFailedAttemptOutput, attempt_failed_line, attempt_failed_text, delay_line, delay_words, failed_output, is_failed_output_shown};
 ghost use Rattle.text_parts.specs.Settings.{is_level_shown};
 ghost use Rattle.test_text.specs.StatusLine.{attempt_words};
@@ -46,7 +47,7 @@ pub fn write_attempt_failed<W: WriteStr>(
     failure_output: TestOutputDisplay,
 ) -> Result<(), WriteFault>
     requires { is_level_shown settings.now Retry ≡ true → HasFailedAttemptOutput settings.now run_status.now failure_output }
-    ensures { Puts W.meaning w.old (attempt_failed_text settings.now stress_index instance.entry run_status.now delay_before_next_attempt.0 failure_output) result w.new }
+    ensures { Puts W.meaning w.old (paint settings.now.styles (attempt_failed_text settings.now stress_index instance.entry run_status.now delay_before_next_attempt.0 failure_output)) result w.new }
 {
     if !settings.is_level_shown(StatusLevel::Retry) {
         return Ok(());
@@ -71,7 +72,7 @@ fn write_attempt_failed_line<W: WriteStr>(
     test: CountedInstance<'_>,
     run_status: &ExecuteStatus<LiveSpec>,
 ) -> Result<(), WriteFault>
-    ensures { Puts W.meaning w.old (attempt_failed_line styles.now test.entry run_status.now) result w.new }
+    ensures { Puts W.meaning w.old (paint styles.now (attempt_failed_line test.entry run_status.now)) result w.new }
 {
     write_attempt_word(
         w,
@@ -81,7 +82,7 @@ fn write_attempt_failed_line<W: WriteStr>(
     )?;
     write_plain(w, " ")?;
     DisplayBracketedDuration(run_status.time_taken).write_to(w)?;
-    write_instance_end(w, styles, test)
+    write_instance_end(w, styles, &test)
 }
 
 // Writes how an attempt ended, after its number.
@@ -108,7 +109,7 @@ fn write_failed_output<W: WriteStr>(
     failure_output: TestOutputDisplay,
 ) -> Result<(), WriteFault>
     requires { HasFailedAttemptOutput settings.now run_status.now failure_output }
-    ensures { Puts W.meaning w.old (failed_output settings.now run_status.now failure_output) result w.new }
+    ensures { Puts W.meaning w.old (paint settings.now.styles (failed_output settings.now run_status.now failure_output)) result w.new }
 {
     if !shows_failed_output(settings, failure_output) {
         return Ok(());
@@ -138,7 +139,7 @@ fn write_delay_line<W: WriteStr>(
     retry_data: RetryData,
     delay: Nanos,
 ) -> Result<(), WriteFault>
-    ensures { Puts W.meaning w.old (delay_line styles.now test.entry retry_data delay.0) result w.new }
+    ensures { Puts W.meaning w.old (paint styles.now (delay_line test.entry retry_data delay.0)) result w.new }
 {
     if delay.0 == 0 {
         return Ok(());
@@ -146,7 +147,7 @@ fn write_delay_line<W: WriteStr>(
     write_delay_word(w, styles.retry, retry_data)?;
     write_plain(w, " ")?;
     DisplayDurationBy(delay).write_to(w)?;
-    write_instance_end(w, styles, test)
+    write_instance_end(w, styles, &test)
 }
 
 // Writes the number of the next attempt.

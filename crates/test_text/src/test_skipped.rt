@@ -1,6 +1,7 @@
 //! A test that is not run.
 
 ghost use Rattle.plain_text.specs.Writer.{Puts};
+ghost use Rattle.report_words.specs.Parts.{paint};
 ghost use Rattle.test_text.specs.TestSkipped.{skip_line, test_skipped_text};
 
 use plain_text::write_str::{WriteFault, WriteStr};
@@ -18,7 +19,7 @@ pub fn write_test_skipped<W: WriteStr>(
     stress_index: Option<StressIndex>,
     instance: TestInstanceId<'_>,
 ) -> Result<(), WriteFault>
-    ensures { Puts W.meaning w.old (test_skipped_text settings.now stress_index instance.entry) result w.new }
+    ensures { Puts W.meaning w.old (paint settings.now.styles (test_skipped_text settings.now stress_index instance.entry)) result w.new }
 {
     if !settings.is_level_shown(StatusLevel::Skip) {
         return Ok(());
@@ -39,8 +40,8 @@ pub fn write_skip_line<W: WriteStr>(
     settings: &Settings,
     test: CountedInstance<'_>,
 ) -> Result<(), WriteFault>
-    ensures { Puts W.meaning w.old (skip_line settings.now test.entry) result w.new }
+    ensures { Puts W.meaning w.old (paint settings.now.styles (skip_line test.entry)) result w.new }
 {
     settings.styles.skip.write_right(w, 12, "SKIP")?;
-    write_untimed_end(w, &settings.styles, test)
+    write_untimed_end(w, &settings.styles, &test)
 }

@@ -4,7 +4,8 @@ ghost use Rattle.std.specs.Prelude.{◌≡◌};
 ghost use Rattle.plain_text.specs.Style.{styled};
 ghost use Rattle.plain_text.specs.Texts.{right_in};
 ghost use Rattle.plain_text.specs.Writer.{Puts};
-ghost use Rattle.test_text.specs.TestSlow.{has_number, is_last_attempt, is_level_exceeded, slow_end, slow_text, slow_word, terminating_level, terminating_style, terminating_text, terminating_word, test_slow_text};
+ghost use Rattle.report_words.specs.Parts.{paint, style_of};
+ghost use Rattle.test_text.specs.TestSlow.{has_number, is_last_attempt, is_level_exceeded, slow_end, slow_text, slow_word, terminating_level, terminating_text, terminating_tone, terminating_word, test_slow_text};
 
 use itoa::Buffer;
 use plain_text::style::{Style, Styles, write_plain};
@@ -34,7 +35,7 @@ pub fn write_test_slow<W: WriteStr>(
     elapsed: Nanos,
     will_terminate: bool,
 ) -> Result<(), WriteFault>
-    ensures { Puts W.meaning w.old (test_slow_text settings.now stress_index instance.entry retry_data elapsed.0 will_terminate) result w.new }
+    ensures { Puts W.meaning w.old (paint settings.now.styles (test_slow_text settings.now stress_index instance.entry retry_data elapsed.0 will_terminate)) result w.new }
 {
     let test = settings.padded_instance(stress_index, instance);
     if will_terminate {
@@ -53,7 +54,7 @@ fn write_slow<W: WriteStr>(
     attempt: u32,
     elapsed: Nanos,
 ) -> Result<(), WriteFault>
-    ensures { Puts W.meaning w.old (slow_text settings.now test.entry attempt elapsed.0) result w.new }
+    ensures { Puts W.meaning w.old (paint settings.now.styles (slow_text settings.now test.entry attempt elapsed.0)) result w.new }
 {
     if !settings.is_level_shown(StatusLevel::Slow) {
         return Ok(());
@@ -84,7 +85,7 @@ fn write_terminating<W: WriteStr>(
     retry_data: RetryData,
     elapsed: Nanos,
 ) -> Result<(), WriteFault>
-    ensures { Puts W.meaning w.old (terminating_text settings.now test.entry retry_data elapsed.0) result w.new }
+    ensures { Puts W.meaning w.old (paint settings.now.styles (terminating_text settings.now test.entry retry_data elapsed.0)) result w.new }
 {
     if !settings.is_level_shown(terminating_level(retry_data)) {
         return Ok(());
@@ -100,7 +101,7 @@ fn write_terminating_word<W: WriteStr>(
     settings: &Settings,
     retry_data: RetryData,
 ) -> Result<(), WriteFault>
-    ensures { Puts W.meaning w.old (styled (terminating_style settings.now.styles retry_data) (right_in 12 (terminating_word settings.now retry_data))) result w.new }
+    ensures { Puts W.meaning w.old (styled (style_of settings.now.styles (terminating_tone retry_data)) (right_in 12 (terminating_word settings.now retry_data))) result w.new }
 {
     let style = terminating_style(&settings.styles, retry_data);
     if has_number(settings, retry_data) {
@@ -120,11 +121,11 @@ fn write_slow_end<W: WriteStr>(
     test: CountedInstance<'_>,
     elapsed: Nanos,
 ) -> Result<(), WriteFault>
-    ensures { Puts W.meaning w.old (slow_end styles.now test.entry elapsed.0) result w.new }
+    ensures { Puts W.meaning w.old (paint styles.now (slow_end test.entry elapsed.0)) result w.new }
 {
     write_plain(w, " ")?;
     DisplaySlowDuration(elapsed).write_to(w)?;
-    write_instance_end(w, styles, test)
+    write_instance_end(w, styles, &test)
 }
 
 // The level of an attempt that is ended: it is a failure, unless another attempt follows.
@@ -142,7 +143,7 @@ fn terminating_level(retry_data: RetryData) -> StatusLevel
 // The style of the same.
 #[tactic(auto, unfolding(crate::specs::TestSlow::is_last_attempt))]
 fn terminating_style(styles: &Styles, retry_data: RetryData) -> Style
-    ensures { result ≡ terminating_style styles.now retry_data }
+    ensures { result ≡ style_of styles.now (terminating_tone retry_data) }
 {
     if retry_data.is_last_attempt() {
         styles.fail

@@ -3,6 +3,7 @@
 ghost use Rattle.std.specs.Prelude.{◌≡◌};
 ghost use Rattle.plain_text.specs.Writer.{Puts};
 ghost use Rattle.text_parts.specs.Instance.{padded_instance};
+ghost use Rattle.report_words.specs.Parts.{paint};
 ghost use Rattle.test_text.specs.TestStarted.{command_text, retry_start_line, start_line, started_instance, test_retry_started_text, test_started_text};
 
 use itoa::Buffer;
@@ -33,7 +34,7 @@ pub fn write_test_started<W: WriteStr>(
     stats: &RunStats,
     command_line: &CommandLine,
 ) -> Result<(), WriteFault>
-    ensures { Puts W.meaning w.old (test_started_text settings.now stress_index instance.entry stats.now command_line.now) result w.new }
+    ensures { Puts W.meaning w.old (paint settings.now.styles (test_started_text settings.now stress_index instance.entry stats.now command_line.now)) result w.new }
 {
     let test = CountedInstance {
         stress_index,
@@ -54,7 +55,7 @@ pub fn write_test_retry_started<W: WriteStr>(
     retry_data: RetryData,
     command_line: &CommandLine,
 ) -> Result<(), WriteFault>
-    ensures { Puts W.meaning w.old (test_retry_started_text settings.now stress_index instance.entry retry_data command_line.now) result w.new }
+    ensures { Puts W.meaning w.old (paint settings.now.styles (test_retry_started_text settings.now stress_index instance.entry retry_data command_line.now)) result w.new }
 {
     let test = settings.padded_instance(stress_index, instance);
     write_retry_start_line(w, settings, retry_data.attempt, test)?;
@@ -68,13 +69,13 @@ fn write_start_line<W: WriteStr>(
     settings: &Settings,
     test: CountedInstance<'_>,
 ) -> Result<(), WriteFault>
-    ensures { Puts W.meaning w.old (start_line settings.now test.entry) result w.new }
+    ensures { Puts W.meaning w.old (paint settings.now.styles (start_line settings.now test.entry)) result w.new }
 {
     if !settings.shows_starts() {
         return Ok(());
     }
     settings.styles.pass.write_right(w, 12, "START")?;
-    write_untimed_end(w, &settings.styles, test)
+    write_untimed_end(w, &settings.styles, &test)
 }
 
 // Writes the line of another attempt that starts, where starts are shown.
@@ -85,7 +86,7 @@ fn write_retry_start_line<W: WriteStr>(
     attempt: u32,
     test: CountedInstance<'_>,
 ) -> Result<(), WriteFault>
-    ensures { Puts W.meaning w.old (retry_start_line settings.now attempt test.entry) result w.new }
+    ensures { Puts W.meaning w.old (paint settings.now.styles (retry_start_line settings.now attempt test.entry)) result w.new }
 {
     if !settings.shows_starts() {
         return Ok(());
@@ -96,7 +97,7 @@ fn write_retry_start_line<W: WriteStr>(
         .styles
         .retry
         .write_right_joined(w, 12, "TRY ", number, " ", "START")?;
-    write_untimed_end(w, &settings.styles, test)
+    write_untimed_end(w, &settings.styles, &test)
 }
 
 // Writes the command that runs a test, where commands are shown.
@@ -106,7 +107,7 @@ fn write_command_line<W: WriteStr>(
     settings: &Settings,
     command_line: &CommandLine,
 ) -> Result<(), WriteFault>
-    ensures { Puts W.meaning w.old (command_text settings.now command_line.now) result w.new }
+    ensures { Puts W.meaning w.old (paint settings.now.styles (command_text settings.now command_line.now)) result w.new }
 {
     if !settings.verbose {
         return Ok(());

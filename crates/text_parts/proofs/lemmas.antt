@@ -2,4 +2,3 @@ pub mod Finishes
 pub mod LineColourPairs
 pub mod OutputColourPairs
 pub mod ResultColourPairs
-pub mod StatsColourPairs

@@ -9,8 +9,9 @@ use Rattle.run_model.specs.declared.status.FailureDescription.TheVariants.{ExitC
 use Rattle.report_text.specs.Failure.{nt_status_text}
 use Rattle.plain_text.specs.Indent.{indent}
 use Rattle.plain_text.specs.Texts.{Text}
-use Rattle.plain_text.specs.Style.{plain, styled}
-use Rattle.plain_text.specs.declared.style.Styles.{Styles}
+use Rattle.plain_text.specs.Style.{plain}
+use Rattle.report_words.specs.Parts.{Parts, Fixed, Line, Lines, Count, Fail, none, words, toned, Toned, drawn_given, ◌⧺◌, plainly, loosely}
+use Rattle.report_text.proofs.lemmas.FreeDetails.{free-hex_text}
 
 -- what the system says of a status, if it is known: its later lines begin so too, where they are not empty
 unfoldable pub indented_message : Text → Text
@@ -21,35 +22,34 @@ nt_message None = []
 nt_message (Some message) = plain (codes ": ") ++ indented_message message
 
 -- a status of Windows
-unfoldable pub nt_line : Styles → ℤ → Option Text → Text
-nt_line s code message =
-    plain (codes "           - ")
-    ++ (styled s.fail (codes "with code")
-    ++ (plain (codes " ")
-    ++ (styled s.count (nt_status_text code)
-    ++ (nt_message message
-    ++ plain (codes "\n")))))
+unfoldable pub nt_line : ℤ → Option Text → Parts false Line
+nt_line code message =
+    words (codes "           - ")
+    ⧺ toned Fail (codes "with code")
+    ⧺ words (codes " ")
+    ⧺ Toned Count (nt_status_text code) (free-hex_text _)
+    ⧺ drawn_given (λ s. nt_message message)
+    ⧺ words (codes "\n")
 
 -- the end of the job that the process belonged to
-unfoldable pub job_object_line : Styles → Text
-job_object_line s =
-    plain (codes "           - ")
-    ++ (styled s.fail (codes "terminated") ++ (plain (codes " via ") ++ (styled s.count (codes "job object") ++ plain (codes "\n"))))
+unfoldable pub job_object_line : Fixed Line
+job_object_line =
+    words (codes "           - ") ⧺ toned Fail (codes "terminated") ⧺ words (codes " via ") ⧺ toned Count (codes "job object") ⧺ words (codes "\n")
 
 -- a signal is told by the word of the line itself
-abbrev pub line_of_abort : Styles → AbortDescription → Text
-line_of_abort s (UnixSignal signal name) = []
-line_of_abort s (WindowsNtStatus code message) = nt_line s code message
-line_of_abort s WindowsJobObject = job_object_line s
+abbrev pub line_of_abort : AbortDescription → Parts false Lines
+line_of_abort (UnixSignal signal name) = plainly none
+line_of_abort (WindowsNtStatus code message) = loosely (nt_line code message)
+line_of_abort WindowsJobObject = plainly (loosely job_object_line)
 
-abbrev pub line_of_failure : Styles → FailureDescription → Text
-line_of_failure s (ExitCode code) = []
-line_of_failure s (Abort abort) = line_of_abort s abort
+abbrev pub line_of_failure : FailureDescription → Parts false Lines
+line_of_failure (ExitCode code) = plainly none
+line_of_failure (Abort abort) = line_of_abort abort
 
 -- the line after the line of a test that ended so
-unfoldable pub abort_line : Styles → ExecutionResultDescription → Text
-abort_line s outcome.Pass = []
-abort_line s (outcome.Leak result) = []
-abort_line s (outcome.Fail failure leaked) = line_of_failure s failure
-abort_line s outcome.ExecFail = []
-abort_line s (outcome.Timeout result) = []
+unfoldable pub abort_line : ExecutionResultDescription → Parts false Lines
+abort_line outcome.Pass = plainly none
+abort_line (outcome.Leak result) = plainly none
+abort_line (outcome.Fail failure leaked) = line_of_failure failure
+abort_line outcome.ExecFail = plainly none
+abort_line (outcome.Timeout result) = plainly none

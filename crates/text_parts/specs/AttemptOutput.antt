@@ -1,6 +1,6 @@
 -- The output of a finished attempt or of a setup script, and how that ended.
 use Rattle.std.specs.Ordering.{int_eq}
-use Rattle.std.specs.Prelude.{pos, Bool, true, false, not, ◌&&◌, None, Some, [], ◌++◌, codes, if◌then◌else◌}
+use Rattle.std.specs.Prelude.{pos, Bool, true, false, not, ◌&&◌, None, Some, [], codes, if◌then◌else◌, refl}
 use Rattle.run_model.specs.Attempts.{Written}
 use Rattle.run_model.specs.declared.status.ExecutionResultDescription.{ExecutionResultDescription}
 use Rattle.run_model.specs.declared.status.ExecutionResultDescription.TheVariants as outcome
@@ -11,11 +11,13 @@ use Rattle.run_model.specs.declared.status.SlowTimeoutResult.TheVariants as slow
 use Rattle.run_names.specs.declared.unit.UnitKind.{UnitKind}
 use Rattle.run_names.specs.declared.unit.UnitKind.TheVariants as unit
 use Rattle.plain_text.specs.Texts.{Text}
-use Rattle.plain_text.specs.Style.{plain}
+use Rattle.plain_text.specs.Escapes.{HasNoEscape}
+use Rattle.report_words.specs.Parts.{Parts, Line, Lines, none, words, Word, ◌⧺◌, choice, drawn_given_line}
 use Rattle.report_words.specs.declared.theme.ThemeCharacters.{ThemeCharacters}
 use Rattle.plain_text.specs.declared.style.Style.{Style}
 use Rattle.plain_text.specs.declared.style.Styles.{Styles}
 use Rattle.unit_report.specs.UnitOutput.{OutputLayout, execution_output}
+use Rattle.unit_report.proofs.lemmas.UnitColourPairs.{ends-execution_output}
 use Rattle.unit_report.specs.declared.unit_output.header.OutputHeader.{OutputHeader}
 use Rattle.unit_report.specs.declared.unit_output.header.OutputHeader.TheVariants.{Bars}
 use Rattle.unit_report.specs.declared.unit_output.header.OutputName.{OutputName}
@@ -81,21 +83,32 @@ unfoldable pub info_line_start : UnitKind → Text
 info_line_start unit.Test = codes "    (test "
 info_line_start unit.Script = codes "    (script "
 
+pub free-info_line_start : (kind : UnitKind) → HasNoEscape (info_line_start kind)
+unfolding info_line_start
+free-info_line_start unit.Test = refl
+free-info_line_start unit.Script = refl
+
 -- that line, aligned with the output, and an empty line
-unfoldable pub shown_info_line : Styles → UnitKind → ExecutionResultDescription → Text
-shown_info_line s kind result = plain (info_line_start kind) ++ (info_text s false result ++ plain (codes ")\n\n"))
+unfoldable pub shown_info_line : UnitKind → ExecutionResultDescription → Parts false Line
+shown_info_line kind result = Word (info_line_start kind) (free-info_line_start kind) ⧺ info_text false result ⧺ words (codes ")\n\n")
 
-unfoldable pub info_line : Styles → UnitKind → ExecutionResultDescription → Text
-info_line s kind result = if has_info_line result then shown_info_line s kind result else []
+unfoldable pub info_line : UnitKind → ExecutionResultDescription → Parts false Lines
+info_line kind result = choice (has_info_line result) (shown_info_line kind result) none
 
--- what a unit wrote, which ended so, and how it ended; the flag says that another attempt follows
-unfoldable pub unit_output : Settings → UnitKind → Bool → ExecutionResultDescription → Written → Text
-unit_output s kind is_retry result output =
-    execution_output s.unit_output s.styles (finished_layout s kind result is_retry) output ++ info_line s.styles kind result
+-- what a unit wrote, which ended so: the style of its headers depends on that
+abbrev pub written_part : Settings → UnitKind → Bool → ExecutionResultDescription → Written → Parts false Line
+written_part s kind is_retry result output =
+    drawn_given_line
+    (λ t. execution_output s.unit_output t (layout_in kind s.no_output_indent s.theme_characters (header_style t result is_retry)) output)
+    (λ t. ends-execution_output s.unit_output t _ output)
+
+-- that, and how the unit ended; the flag says that another attempt follows
+unfoldable pub unit_output : Settings → UnitKind → Bool → ExecutionResultDescription → Written → Parts false Line
+unit_output s kind is_retry result output = written_part s kind is_retry result output ⧺ info_line kind result
 
 -- the same of an attempt of a test, and of a setup script, which is never tried again
-abbrev pub attempt_output : Settings → Bool → ExecutionResultDescription → Written → Text
+abbrev pub attempt_output : Settings → Bool → ExecutionResultDescription → Written → Parts false Line
 attempt_output s is_retry result output = unit_output s unit.Test is_retry result output
 
-abbrev pub script_output : Settings → ExecutionResultDescription → Written → Text
+abbrev pub script_output : Settings → ExecutionResultDescription → Written → Parts false Line
 script_output s result output = unit_output s unit.Script false result output

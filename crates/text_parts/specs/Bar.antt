@@ -1,10 +1,10 @@
 -- The bar that parts a report.
-use Rattle.std.specs.Prelude.{◌++◌, codes}
-use Rattle.plain_text.specs.Texts.{Text}
-use Rattle.plain_text.specs.Style.{plain}
+use Rattle.std.specs.Prelude.{codes}
+use Rattle.report_words.specs.Parts.{Fixed, Line, Verbatim, words, ◌⧺◌}
 use Rattle.report_words.specs.Theme.{hbar_text}
 use Rattle.report_words.specs.declared.theme.ThemeCharacters.{ThemeCharacters}
+use Rattle.report_words.proofs.lemmas.FreeWords.{free-hbar_text}
 
 -- the line of a bar of twelve characters
-unfoldable pub bar_line : ThemeCharacters → Text
-bar_line theme = hbar_text theme.is_unicode 12 ++ plain (codes "\n")
+abbrev pub bar_line : ThemeCharacters → Fixed Line
+bar_line theme = Verbatim (hbar_text theme.is_unicode 12) (free-hbar_text theme.is_unicode 12) ⧺ words (codes "\n")

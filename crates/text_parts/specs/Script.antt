@@ -1,12 +1,12 @@
 -- Setup scripts as their lines name them.
-use Rattle.std.specs.Prelude.{List, ◌∷◌, Option}
+use Rattle.std.specs.Prelude.{false, List, ◌∷◌, Option}
 use Rattle.std.specs.List.{AllByRecursion}
 use Rattle.run_names.specs.declared.stress.StressIndex.{StressIndex}
 use Rattle.plain_text.specs.Escapes.{HasNoEscape}
 use Rattle.plain_text.specs.Texts.{Text}
-use Rattle.report_text.specs.Instance.{script_text}
+use Rattle.report_text.specs.Instance.{script_part}
 use Rattle.report_text.specs.Quoting.{shell_words}
-use Rattle.plain_text.specs.declared.style.Styles.{Styles}
+use Rattle.report_words.specs.Parts.{Parts, Open}
 use Rattle.text_parts.specs.declared.script.ScriptInstance.{ScriptInstance}
 
 -- a setup script: its iteration of a stress run, its id, its program and the program's arguments
@@ -21,8 +21,8 @@ abbrev pub script_of : ScriptInstance → Script
 script_of x = record { stress_index = x.stress_index; script_id = x.script_id.now; program = x.program.now; args = x.args.now }
 
 -- the script as a report shows it
-abbrev pub shown_script : Styles → Script → Text
-shown_script s x = script_text s.script_id s.count x.stress_index x.script_id (shell_words (x.program ∷ x.args))
+abbrev pub shown_script : Script → Parts false Open
+shown_script x = script_part x.stress_index x.script_id (shell_words (x.program ∷ x.args))
 
 -- its id, its program and the program's arguments hold no escape character
 abbrev pub IsPlainScript : Script → Type 0

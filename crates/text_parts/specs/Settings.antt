@@ -45,7 +45,7 @@ counter_where (Some width) x = Some (Counter x.finished_count x.initial_run_coun
 abbrev pub finished_counter : Settings → RunStats → Option DisplayCounterIndex
 finished_counter s x = counter_where s.counter_width x
 
--- one further, for a test that starts
+-- the same plus one: the number of the test that starts
 abbrev pub next_where : Option ℕ → RunStats → Option DisplayCounterIndex
 next_where None x = None
 next_where (Some width) x = Some (Counter (x.finished_count + 1) x.initial_run_count)

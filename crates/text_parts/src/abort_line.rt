@@ -4,6 +4,7 @@ ghost use Rattle.std.specs.Prelude.{◌≡◌};
 ghost use Rattle.report_text.specs.Failure.{nt_status_text};
 ghost use Rattle.plain_text.specs.Style.{styled};
 ghost use Rattle.plain_text.specs.Writer.{Puts};
+ghost use Rattle.report_words.specs.Parts.{paint};
 ghost use Rattle.text_parts.specs.AbortLine.{indented_message, nt_message, nt_line, job_object_line, line_of_abort, line_of_failure, abort_line};
 
 use plain_text::indenter::indented;
@@ -21,7 +22,7 @@ pub fn write_abort_line<W: WriteStr>(
     styles: &Styles,
     outcome: &ExecutionResultDescription,
 ) -> Result<(), WriteFault>
-    ensures { Puts W.meaning w.old (abort_line styles.now outcome.now) result w.new }
+    ensures { Puts W.meaning w.old (paint styles.now (abort_line outcome.now)) result w.new }
 {
     match outcome {
         ExecutionResultDescription::Fail { failure, .. } => write_line_of_failure(
@@ -40,7 +41,7 @@ fn write_line_of_failure<W: WriteStr>(
     styles: &Styles,
     failure: &FailureDescription,
 ) -> Result<(), WriteFault>
-    ensures { Puts W.meaning w.old (line_of_failure styles.now failure.now) result w.new }
+    ensures { Puts W.meaning w.old (paint styles.now (line_of_failure failure.now)) result w.new }
 {
     match failure {
         FailureDescription::ExitCode { .. } => Ok(()),
@@ -54,7 +55,7 @@ fn write_line_of_abort<W: WriteStr>(
     styles: &Styles,
     abort: &AbortDescription,
 ) -> Result<(), WriteFault>
-    ensures { Puts W.meaning w.old (line_of_abort styles.now abort.now) result w.new }
+    ensures { Puts W.meaning w.old (paint styles.now (line_of_abort abort.now)) result w.new }
 {
     match abort {
         AbortDescription::UnixSignal { .. } => Ok(()),
@@ -73,7 +74,7 @@ fn write_nt_line<W: WriteStr>(
     code: i32,
     message: &Option<DescriptionText>,
 ) -> Result<(), WriteFault>
-    ensures { Puts W.meaning w.old (nt_line styles.now code message.now) result w.new }
+    ensures { Puts W.meaning w.old (paint styles.now (nt_line code message.now)) result w.new }
 {
     write_plain(w, "           - ")?;
     styles.fail.write(w, "with code")?;
@@ -125,7 +126,7 @@ fn write_indented_message<W: WriteStr>(w: &mut W, message: &str) -> Result<(), W
 // Writes that the job of the process was ended.
 #[tactic(auto, unfolding(crate::specs::AbortLine::job_object_line))]
 fn write_job_object_line<W: WriteStr>(w: &mut W, styles: &Styles) -> Result<(), WriteFault>
-    ensures { Puts W.meaning w.old (job_object_line styles.now) result w.new }
+    ensures { Puts W.meaning w.old (paint styles.now job_object_line) result w.new }
 {
     write_plain(w, "           - ")?;
     styles.fail.write(w, "terminated")?;

@@ -3,6 +3,7 @@
 ghost use Rattle.std.specs.Prelude.{◌≡◌, true};
 ghost use Rattle.run_model.specs.Outputs.{has_loaded_output};
 ghost use Rattle.plain_text.specs.Writer.{Puts};
+ghost use Rattle.report_words.specs.Parts.{paint};
 ghost use Rattle.unit_report.specs.UnitOutput.{layout_of};
 ghost use Rattle.text_parts.specs.AttemptOutput.{attempt_output, exec_fail_header, finished_layout, has_info_after_failure, has_info_line, header_style, info_line, info_line_start, layout_in, output_margin, result_style, script_output, shown_info_line, stream_header, unit_output};
 
@@ -29,7 +30,7 @@ pub fn write_test_execute_status<W: WriteStr>(
     output: &ChildExecutionOutputDescription<LiveSpec>,
 ) -> Result<(), WriteFault>
     requires { has_loaded_output output.now ≡ true }
-    ensures { Puts W.meaning w.old (attempt_output settings.now is_retry outcome.now output.now) result w.new }
+    ensures { Puts W.meaning w.old (paint settings.now.styles (attempt_output settings.now is_retry outcome.now output.now)) result w.new }
 {
     let kind = UnitKind::Test;
     write_unit_execute_status(w, settings, kind, is_retry, outcome, output)
@@ -44,7 +45,7 @@ pub fn write_setup_script_execute_status<W: WriteStr>(
     output: &ChildExecutionOutputDescription<LiveSpec>,
 ) -> Result<(), WriteFault>
     requires { has_loaded_output output.now ≡ true }
-    ensures { Puts W.meaning w.old (script_output settings.now outcome.now output.now) result w.new }
+    ensures { Puts W.meaning w.old (paint settings.now.styles (script_output settings.now outcome.now output.now)) result w.new }
 {
     let kind = UnitKind::Script;
     write_unit_execute_status(w, settings, kind, false, outcome, output)
@@ -61,7 +62,7 @@ fn write_unit_execute_status<W: WriteStr>(
     output: &ChildExecutionOutputDescription<LiveSpec>,
 ) -> Result<(), WriteFault>
     requires { has_loaded_output output.now ≡ true }
-    ensures { Puts W.meaning w.old (unit_output settings.now kind is_retry outcome.now output.now) result w.new }
+    ensures { Puts W.meaning w.old (paint settings.now.styles (unit_output settings.now kind is_retry outcome.now output.now)) result w.new }
 {
     let spec = output_spec_for_finished(settings, kind, outcome, is_retry);
     settings
@@ -78,7 +79,7 @@ fn write_info_line<W: WriteStr>(
     kind: UnitKind,
     outcome: &ExecutionResultDescription,
 ) -> Result<(), WriteFault>
-    ensures { Puts W.meaning w.old (info_line styles.now kind outcome.now) result w.new }
+    ensures { Puts W.meaning w.old (paint styles.now (info_line kind outcome.now)) result w.new }
 {
     if show_finished_status_info_line(outcome) {
         write_shown_info_line(w, styles, kind, outcome)
@@ -95,7 +96,7 @@ fn write_shown_info_line<W: WriteStr>(
     kind: UnitKind,
     outcome: &ExecutionResultDescription,
 ) -> Result<(), WriteFault>
-    ensures { Puts W.meaning w.old (shown_info_line styles.now kind outcome.now) result w.new }
+    ensures { Puts W.meaning w.old (paint styles.now (shown_info_line kind outcome.now)) result w.new }
 {
     write_plain(w, info_line_start(kind))?;
     // A pass has no such line, so none was slow.

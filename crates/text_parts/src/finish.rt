@@ -24,7 +24,7 @@ pub enum OutputTiming {
 }
 
 impl OutputTiming {
-    /// The row of a test that ended so, where the run was cancelled for this reason before.
+    /// When the output of a test with this result is shown, in a run that was cancelled for this reason before.
     #[tactic(auto, unfolding(crate::specs::Finish::output_timing))]
     pub fn of_test(
         reason: Option<CancelReason>,
@@ -78,7 +78,7 @@ impl OutputTiming {
         }
     }
 
-    /// Whether the summary lists a test that it is to list.
+    /// Whether the summary lists a test whose level or output asks for it.
     #[tactic(auto, unfolding(crate::specs::Finish::timed_listed))]
     pub fn is_listed(self, is_wanted: bool) -> bool
         ensures { result ≡ timed_listed self is_wanted }
@@ -122,7 +122,7 @@ fn is_terminated_failure(failure: &FailureDescription) -> bool
     }
 }
 
-// By signal 15, which asks a process to end, or with its job.
+// Whether it was ended by SIGTERM or with its job object, as nextest ends processes.
 fn is_terminated_abort(abort: &AbortDescription) -> bool
     ensures { result ≡ is_terminated_abort abort.now }
 {

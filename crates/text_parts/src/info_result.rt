@@ -1,7 +1,8 @@
 //! What an attempt came to, in words.
 
 ghost use Rattle.plain_text.specs.Writer.{Puts};
-ghost use Rattle.text_parts.specs.InfoResult.{leaked_note, exit_code_info, signal_name, signal_info, aborted_info, abort_info, failure_info, leak_info, timeout_info, passed_info, exec_fail_info, info_text};
+ghost use Rattle.report_words.specs.Parts.{paint};
+ghost use Rattle.text_parts.specs.InfoResult.{leaked_note, exit_code_info, signal_name, signal_info, aborted_info, abort_info, failure_info, leak_info, leak_failed_info, timeout_info, passed_info, exec_fail_info, info_text};
 
 use itoa::Buffer;
 use plain_text::style::{Styles, write_plain};
@@ -18,7 +19,7 @@ pub fn write_info_result<W: WriteStr>(
     is_slow: bool,
     outcome: &ExecutionResultDescription,
 ) -> Result<(), WriteFault>
-    ensures { Puts W.meaning w.old (info_text styles.now is_slow outcome.now) result w.new }
+    ensures { Puts W.meaning w.old (paint styles.now (info_text is_slow outcome.now)) result w.new }
 {
     match outcome {
         ExecutionResultDescription::Pass => write_passed_info(w, styles, is_slow),
@@ -37,27 +38,34 @@ fn write_passed_info<W: WriteStr>(
     styles: &Styles,
     is_slow: bool,
 ) -> Result<(), WriteFault>
-    ensures { Puts W.meaning w.old (passed_info styles.now is_slow) result w.new }
+    ensures { Puts W.meaning w.old (paint styles.now (passed_info is_slow)) result w.new }
 {
-    let style = if is_slow { styles.skip } else { styles.pass };
-    style.write(w, "passed")
+    if is_slow {
+        styles.skip.write(w, "passed")
+    } else {
+        styles.pass.write(w, "passed")
+    }
 }
 
-#[tactic(auto, unfolding(crate::specs::InfoResult::leak_info))]
 fn write_leak_info<W: WriteStr>(
     w: &mut W,
     styles: &Styles,
     outcome: LeakTimeoutResult,
 ) -> Result<(), WriteFault>
-    ensures { Puts W.meaning w.old (leak_info styles.now outcome) result w.new }
+    ensures { Puts W.meaning w.old (paint styles.now (leak_info outcome)) result w.new }
 {
     match outcome {
         LeakTimeoutResult::Pass => styles.skip.write(w, "passed with leaked handles"),
-        LeakTimeoutResult::Fail => {
-            styles.fail.write(w, "failed")?;
-            write_plain(w, ": exited with code 0, but leaked handles")
-        }
+        LeakTimeoutResult::Fail => write_leak_failed_info(w, styles),
     }
+}
+
+#[tactic(auto, unfolding(crate::specs::InfoResult::leak_failed_info))]
+fn write_leak_failed_info<W: WriteStr>(w: &mut W, styles: &Styles) -> Result<(), WriteFault>
+    ensures { Puts W.meaning w.old (paint styles.now leak_failed_info) result w.new }
+{
+    styles.fail.write(w, "failed")?;
+    write_plain(w, ": exited with code 0, but leaked handles")
 }
 
 fn write_failure_info<W: WriteStr>(
@@ -66,7 +74,7 @@ fn write_failure_info<W: WriteStr>(
     failure: &FailureDescription,
     leaked: bool,
 ) -> Result<(), WriteFault>
-    ensures { Puts W.meaning w.old (failure_info styles.now failure.now leaked) result w.new }
+    ensures { Puts W.meaning w.old (paint styles.now (failure_info failure.now leaked)) result w.new }
 {
     match failure {
         FailureDescription::ExitCode { code } => write_exit_code_info(w, styles, *code, leaked),
@@ -81,7 +89,7 @@ fn write_exit_code_info<W: WriteStr>(
     code: i32,
     leaked: bool,
 ) -> Result<(), WriteFault>
-    ensures { Puts W.meaning w.old (exit_code_info styles.now code leaked) result w.new }
+    ensures { Puts W.meaning w.old (paint styles.now (exit_code_info code leaked)) result w.new }
 {
     let mut number = Buffer::new();
     styles.fail.write(w, "failed")?;
@@ -97,7 +105,7 @@ fn write_abort_info<W: WriteStr>(
     abort: &AbortDescription,
     leaked: bool,
 ) -> Result<(), WriteFault>
-    ensures { Puts W.meaning w.old (abort_info styles.now abort.now leaked) result w.new }
+    ensures { Puts W.meaning w.old (paint styles.now (abort_info abort.now leaked)) result w.new }
 {
     match abort {
         AbortDescription::UnixSignal { signal, name } => write_signal_info(
@@ -116,7 +124,7 @@ fn write_signal_info<W: WriteStr>(
     name: &Option<DescriptionText>,
     leaked: bool,
 ) -> Result<(), WriteFault>
-    ensures { Puts W.meaning w.old (signal_info styles.now signal name.now leaked) result w.new }
+    ensures { Puts W.meaning w.old (paint styles.now (signal_info signal name.now leaked)) result w.new }
 {
     let mut number = Buffer::new();
     styles.fail.write(w, "aborted")?;
@@ -148,7 +156,7 @@ fn write_aborted_info<W: WriteStr>(
     styles: &Styles,
     leaked: bool,
 ) -> Result<(), WriteFault>
-    ensures { Puts W.meaning w.old (aborted_info styles.now leaked) result w.new }
+    ensures { Puts W.meaning w.old (paint styles.now (aborted_info leaked)) result w.new }
 {
     styles.fail.write(w, "aborted")?;
     write_leaked_note(w, leaked)
@@ -172,7 +180,7 @@ fn write_timeout_info<W: WriteStr>(
     styles: &Styles,
     outcome: SlowTimeoutResult,
 ) -> Result<(), WriteFault>
-    ensures { Puts W.meaning w.old (timeout_info styles.now outcome) result w.new }
+    ensures { Puts W.meaning w.old (paint styles.now (timeout_info outcome)) result w.new }
 {
     match outcome {
         SlowTimeoutResult::Pass => styles.skip.write(w, "passed with timeout"),
@@ -182,7 +190,7 @@ fn write_timeout_info<W: WriteStr>(
 
 #[tactic(auto, unfolding(crate::specs::InfoResult::exec_fail_info))]
 fn write_exec_fail_info<W: WriteStr>(w: &mut W, styles: &Styles) -> Result<(), WriteFault>
-    ensures { Puts W.meaning w.old (exec_fail_info styles.now) result w.new }
+    ensures { Puts W.meaning w.old (paint styles.now exec_fail_info) result w.new }
 {
     styles.fail.write(w, "failed to execute")
 }

@@ -3,6 +3,7 @@
 ghost use Rattle.std.specs.Prelude.{◌≡◌};
 ghost use Rattle.report_text.specs.Instance.{instance_text};
 ghost use Rattle.plain_text.specs.Writer.{Puts};
+ghost use Rattle.report_words.specs.Parts.{paint};
 ghost use Rattle.text_parts.specs.Instance.{instance_end, padded_instance, untimed_end};
 
 use crate::settings::Settings;
@@ -45,14 +46,14 @@ impl Settings {
 pub fn write_instance<W: WriteStr>(
     w: &mut W,
     styles: &Styles,
-    test: CountedInstance<'_>,
+    test: &CountedInstance<'_>,
 ) -> Result<(), WriteFault>
-    ensures { Puts W.meaning w.old (instance_text styles.now.list_styles test.entry.stress_index test.entry.counter test.entry.instance) result w.new }
+    ensures { Puts W.meaning w.old (instance_text styles.now.list_styles test.now.stress_index test.now.counter test.now.instance) result w.new }
 {
     write_test_instance(
         w,
         &styles.list_styles,
-        test.stress_index,
+        &test.stress_index,
         &test.counter,
         test.instance,
     )
@@ -63,9 +64,9 @@ pub fn write_instance<W: WriteStr>(
 pub fn write_instance_end<W: WriteStr>(
     w: &mut W,
     styles: &Styles,
-    test: CountedInstance<'_>,
+    test: &CountedInstance<'_>,
 ) -> Result<(), WriteFault>
-    ensures { Puts W.meaning w.old (instance_end styles.now test.entry) result w.new }
+    ensures { Puts W.meaning w.old (paint styles.now (instance_end test.now)) result w.new }
 {
     write_instance(w, styles, test)?;
     write_plain(w, "\n")
@@ -76,9 +77,9 @@ pub fn write_instance_end<W: WriteStr>(
 pub fn write_untimed_end<W: WriteStr>(
     w: &mut W,
     styles: &Styles,
-    test: CountedInstance<'_>,
+    test: &CountedInstance<'_>,
 ) -> Result<(), WriteFault>
-    ensures { Puts W.meaning w.old (untimed_end styles.now test.entry) result w.new }
+    ensures { Puts W.meaning w.old (paint styles.now (untimed_end test.now)) result w.new }
 {
     write_plain(w, " [         ] ")?;
     write_instance_end(w, styles, test)

@@ -2,6 +2,7 @@
 
 ghost use Rattle.std.specs.Prelude.{◌≡◌};
 ghost use Rattle.plain_text.specs.Writer.{Puts};
+ghost use Rattle.report_words.specs.Parts.{paint};
 ghost use Rattle.text_parts.specs.Script.{script_of, shown_script};
 
 use plain_text::style::Styles;
@@ -27,7 +28,7 @@ pub struct ScriptInstance<'a> {
 impl ScriptInstance<'_> {
     /// Writes its iteration, if there is one, its id and its command as a shell reads it.
     pub fn write_to<W: WriteStr>(self, w: &mut W, styles: &Styles) -> Result<(), WriteFault>
-        ensures { Puts W.meaning w.old (shown_script styles.now (script_of self.entry)) result w.new }
+        ensures { Puts W.meaning w.old (paint styles.now (shown_script (script_of self.entry))) result w.new }
     {
         write_script_instance(
             w,

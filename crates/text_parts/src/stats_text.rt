@@ -1,8 +1,10 @@
 //! The counts of a run in words, and the style that they give it.
 
-ghost use Rattle.std.specs.Prelude.{◌≡◌};
+ghost use Rattle.std.specs.Prelude.{◌≡◌, ◌==◌, ◌++◌, [], if◌then◌else◌, codes};
 ghost use Rattle.plain_text.specs.Writer.{Puts};
-ghost use Rattle.text_parts.specs.StatsText.{failure_style, progress_message, summary_text, counted_text, passed_note, passed_notes, notes_end, leaky_failed_note, failed_count, failed_counts, exec_failed_count, timed_out_count, other_failed_count};
+ghost use Rattle.plain_text.specs.Style.{plain, styled};
+ghost use Rattle.report_words.specs.Parts.{paint, style_of};
+ghost use Rattle.text_parts.specs.StatsText.{failure_tone, progress_message, summary_text, counted_front, passed_front, passed_notes, leaky_failed_note, failed_count, failed_counts, exec_failed_count, timed_out_count};
 
 use plain_text::style::{Style, Styles, write_plain};
 use plain_text::write_str::{WriteFault, WriteStr};
@@ -10,7 +12,7 @@ use run_model::stats::RunStats;
 
 /// The style of a run by whether something has failed in it.
 pub fn failure_style(styles: &Styles, stats: &RunStats) -> Style
-    ensures { result ≡ failure_style styles.now stats.now }
+    ensures { result ≡ style_of styles.now (failure_tone stats.now) }
 {
     if stats.has_failures() {
         styles.fail
@@ -26,7 +28,7 @@ pub fn write_summary_text<W: WriteStr>(
     styles: &Styles,
     stats: &RunStats,
 ) -> Result<(), WriteFault>
-    ensures { Puts W.meaning w.old (summary_text styles.now stats.now) result w.new }
+    ensures { Puts W.meaning w.old (paint styles.now (summary_text stats.now)) result w.new }
 {
     write_counted(w, styles, styles.pass, stats.passed, "passed")?;
     write_passed_notes(w, styles, stats)?;
@@ -43,7 +45,7 @@ pub fn write_progress_message<W: WriteStr>(
     stats: &RunStats,
     running: usize,
 ) -> Result<(), WriteFault>
-    ensures { Puts W.meaning w.old (progress_message styles.now stats.now running) result w.new }
+    ensures { Puts W.meaning w.old (paint styles.now (progress_message stats.now running)) result w.new }
 {
     write_counted(w, styles, styles.pass, running, "running")?;
     write_plain(w, ", ")?;
@@ -57,7 +59,7 @@ fn write_failed_counts<W: WriteStr>(
     styles: &Styles,
     stats: &RunStats,
 ) -> Result<(), WriteFault>
-    ensures { Puts W.meaning w.old (failed_counts styles.now stats.now) result w.new }
+    ensures { Puts W.meaning w.old (paint styles.now (failed_counts stats.now)) result w.new }
 {
     write_failed_count(w, styles, stats)?;
     write_exec_failed_count(w, styles, stats.exec_failed)?;
@@ -71,7 +73,7 @@ fn write_exec_failed_count<W: WriteStr>(
     styles: &Styles,
     count: usize,
 ) -> Result<(), WriteFault>
-    ensures { Puts W.meaning w.old (exec_failed_count styles.now count) result w.new }
+    ensures { Puts W.meaning w.old (paint styles.now (exec_failed_count count)) result w.new }
 {
     write_other_failed_count(w, styles, count, "exec failed")
 }
@@ -83,13 +85,13 @@ fn write_timed_out_count<W: WriteStr>(
     styles: &Styles,
     count: usize,
 ) -> Result<(), WriteFault>
-    ensures { Puts W.meaning w.old (timed_out_count styles.now count) result w.new }
+    ensures { Puts W.meaning w.old (paint styles.now (timed_out_count count)) result w.new }
 {
     write_other_failed_count(w, styles, count, "timed out")
 }
 
 /// Writes how many there are, and of what.
-#[tactic(auto, unfolding(crate::specs::StatsText::counted_text))]
+#[tactic(auto, unfolding(crate::specs::StatsText::counted_front))]
 pub fn write_counted<W: WriteStr>(
     w: &mut W,
     styles: &Styles,
@@ -97,7 +99,7 @@ pub fn write_counted<W: WriteStr>(
     count: usize,
     word: &str,
 ) -> Result<(), WriteFault>
-    ensures { Puts W.meaning w.old (counted_text styles.now style count word.now) result w.new }
+    ensures { Puts W.meaning w.old (paint styles.now (counted_front count) ++ styled style word.now) result w.new }
 {
     styles.count.write_number(w, count as u128)?;
     write_plain(w, " ")?;
@@ -111,7 +113,7 @@ fn write_passed_notes<W: WriteStr>(
     styles: &Styles,
     stats: &RunStats,
 ) -> Result<(), WriteFault>
-    ensures { Puts W.meaning w.old (passed_notes styles.now stats.now) result w.new }
+    ensures { Puts W.meaning w.old (paint styles.now (passed_notes stats.now)) result w.new }
 {
     let has_no_slow = stats.passed_slow == 0;
     let has_no_flaky = stats.flaky == 0;
@@ -123,7 +125,7 @@ fn write_passed_notes<W: WriteStr>(
 }
 
 // Writes how many of the tests that passed are of a kind, where there is one.
-#[tactic(auto, unfolding(crate::specs::StatsText::passed_note))]
+#[tactic(auto, unfolding(crate::specs::StatsText::passed_front, crate::specs::StatsText::counted_front))]
 fn write_passed_note<W: WriteStr>(
     w: &mut W,
     styles: &Styles,
@@ -131,7 +133,7 @@ fn write_passed_note<W: WriteStr>(
     count: usize,
     word: &str,
 ) -> Result<(), WriteFault>
-    ensures { Puts W.meaning w.old (passed_note styles.now is_first count word.now) result w.new }
+    ensures { Puts W.meaning w.old (if count == 0 then [] else paint styles.now (passed_front is_first count) ++ styled styles.now.skip word.now) result w.new }
 {
     if count == 0 {
         return Ok(());
@@ -141,9 +143,8 @@ fn write_passed_note<W: WriteStr>(
 }
 
 // Closes the parentheses, where there are some.
-#[tactic(auto, unfolding(crate::specs::StatsText::notes_end))]
 fn write_notes_end<W: WriteStr>(w: &mut W, has_none: bool) -> Result<(), WriteFault>
-    ensures { Puts W.meaning w.old (notes_end has_none) result w.new }
+    ensures { Puts W.meaning w.old (if has_none then [] else plain (codes ")")) result w.new }
 {
     if has_none {
         return Ok(());
@@ -158,7 +159,7 @@ fn write_failed_count<W: WriteStr>(
     styles: &Styles,
     stats: &RunStats,
 ) -> Result<(), WriteFault>
-    ensures { Puts W.meaning w.old (failed_count styles.now stats.now) result w.new }
+    ensures { Puts W.meaning w.old (paint styles.now (failed_count stats.now)) result w.new }
 {
     if stats.failed == 0 {
         return Ok(());
@@ -175,7 +176,7 @@ fn write_leaky_failed_note<W: WriteStr>(
     styles: &Styles,
     count: usize,
 ) -> Result<(), WriteFault>
-    ensures { Puts W.meaning w.old (leaky_failed_note styles.now count) result w.new }
+    ensures { Puts W.meaning w.old (paint styles.now (leaky_failed_note count)) result w.new }
 {
     if count == 0 {
         return Ok(());
@@ -188,14 +189,13 @@ fn write_leaky_failed_note<W: WriteStr>(
 }
 
 // Writes how many tests did not succeed in another way, where there is one.
-#[tactic(auto, unfolding(crate::specs::StatsText::other_failed_count))]
 fn write_other_failed_count<W: WriteStr>(
     w: &mut W,
     styles: &Styles,
     count: usize,
     word: &str,
 ) -> Result<(), WriteFault>
-    ensures { Puts W.meaning w.old (other_failed_count styles.now count word.now) result w.new }
+    ensures { Puts W.meaning w.old (if count == 0 then [] else (paint styles.now (counted_front count) ++ styled styles.now.fail word.now) ++ plain (codes ", ")) result w.new }
 {
     if count == 0 {
         return Ok(());

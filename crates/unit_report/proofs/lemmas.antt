@@ -1,6 +1,5 @@
 pub mod CapturedColourPairs
-pub mod DurationColourPairs
+pub mod FreeSkipCounts
 pub mod HighlightedLines
 pub mod Highlights
-pub mod SkipColourPairs
 pub mod UnitColourPairs

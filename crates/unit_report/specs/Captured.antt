@@ -24,7 +24,7 @@ reset_output t = without_trailing_newline t ++ (reset_color ++ 10 ∷ [])
 unfoldable pub highlighted_output : Style → Text → Text → Text → Text
 highlighted_output s front lit back = front ++ (plain reset_color ++ (highlighted_lines s lit ++ reset_output back))
 
--- the part without where it lies in memory
+-- its bytes, without their address
 abbrev pub part_value : ByteSubslice → Part
 part_value s = record { start = s.start; bytes = s.slice.now }
 

@@ -11,7 +11,7 @@ use Rattle.plain_text.specs.declared.style.Style.{Style}
 abbrev pub closes_line : ℕ → Bool
 closes_line c = (c == 10) || (c == 13)
 
--- such bytes alone
+-- line feeds and carriage returns only
 abbrev pub is_line_end : Text → Bool
 is_line_end [] = true
 is_line_end (c ∷ t) = closes_line c && is_line_end t

@@ -1,6 +1,5 @@
 -- How many tests and binaries a run skips, and why.
-use Rattle.std.specs.Prelude.{ℕ, ◌-◌, Bool, [], ◌++◌, ◌&&◌, ◌||◌, ◌==◌, codes, if◌then◌else◌}
-use Rattle.std.specs.Fmt.{decimal}
+use Rattle.std.specs.Prelude.{ℕ, ◌-◌, Bool, false, ◌++◌, ◌&&◌, ◌||◌, ◌==◌, codes}
 use Rattle.run_names.specs.declared.config.NextestRunMode.{NextestRunMode}
 use Rattle.run_names.specs.declared.config.NextestRunMode.TheVariants.{Test, Benchmark}
 use Rattle.run_names.specs.declared.config.CompiledDefaultFilter.{CompiledDefaultFilter}
@@ -8,9 +7,9 @@ use Rattle.run_names.specs.declared.config.CompiledDefaultFilterSection.{Compile
 use Rattle.run_names.specs.declared.config.CompiledDefaultFilterSection.TheVariants.{Profile, Override}
 use Rattle.run_model.specs.declared.event.SkipCounts.{SkipCounts}
 use Rattle.report_words.specs.Plural.{tests_word, binaries_word}
-use Rattle.plain_text.specs.Style.{plain, styled}
+use Rattle.report_words.specs.Parts.{Parts, Fixed, Open, Count, Skip, none, words, Word, toned, number, given_toned, ◌⧺◌, choice}
+use Rattle.report_words.proofs.lemmas.FreeWords.{free-tests_word_if, free-binaries_word}
 use Rattle.plain_text.specs.Texts.{Text}
-use Rattle.plain_text.specs.declared.style.Styles.{Styles}
 
 -- the tests that are skipped, in benchmark mode without those that are no benchmarks
 abbrev pub skipped_tests_in : NextestRunMode → SkipCounts → ℕ
@@ -18,70 +17,74 @@ skipped_tests_in Test c = c.skipped_tests
 skipped_tests_in Benchmark c = c.skipped_tests - c.skipped_tests_non_benchmark
 
 -- so many tests, unless there are none
-unfoldable pub tests_text : Styles → NextestRunMode → ℕ → Text
-tests_text s mode n =
-    if n == 0 then [] else styled s.count (decimal n) ++ (plain (codes " ") ++ plain (tests_word mode n))
+unfoldable pub tests_text : NextestRunMode → ℕ → Fixed Open
+tests_text mode n = choice (n == 0) none (number Count n ⧺ words (codes " ") ⧺ Word (tests_word mode n) (free-tests_word_if mode _))
 
 -- so many binaries, unless there are none
-unfoldable pub binaries_text : Styles → ℕ → Text
-binaries_text s n =
-    if n == 0 then [] else styled s.count (decimal n) ++ (plain (codes " ") ++ plain (binaries_word n))
+unfoldable pub binaries_text : ℕ → Fixed Open
+binaries_text n = choice (n == 0) none (number Count n ⧺ words (codes " ") ⧺ Word (binaries_word n) (free-binaries_word n))
 
 -- what stands between two numbers, where neither is 0
-unfoldable pub between : Text → Bool → Bool → Text
-between t left right = if left || right then [] else plain t
+abbrev pub between : Fixed Open → Bool → Bool → Fixed Open
+between t left right = choice (left || right) none t
 
 -- so many tests and binaries
-unfoldable pub tests_and_binaries : Styles → NextestRunMode → ℕ → ℕ → Text
-tests_and_binaries s mode tests binaries =
-    tests_text s mode tests ++ (between (codes " and ") (tests == 0) (binaries == 0) ++ binaries_text s binaries)
+unfoldable pub tests_and_binaries : NextestRunMode → ℕ → ℕ → Fixed Open
+tests_and_binaries mode tests binaries =
+    tests_text mode tests ⧺ between (words (codes " and ")) (tests == 0) (binaries == 0) ⧺ binaries_text binaries
+
+-- the name of a default filter that overrides have
+unfoldable pub override_name : Text → Parts false Open
+override_name profile = toned Count (codes "default-filter") ⧺ words (codes " in ") ⧺ given_toned Count (codes "profile." ++ (profile ++ codes ".overrides"))
 
 -- the name of a default filter
-unfoldable pub filter_name : Styles → Text → CompiledDefaultFilterSection → Text
-filter_name s profile Profile = styled s.count (codes "profile." ++ (profile ++ codes ".default-filter"))
-filter_name s profile (Override place) =
-    styled s.count (codes "default-filter") ++ (plain (codes " in ") ++ styled s.count (codes "profile." ++ (profile ++ codes ".overrides")))
+abbrev pub filter_name : Text → CompiledDefaultFilterSection → Parts false Open
+filter_name profile Profile = given_toned Count (codes "profile." ++ (profile ++ codes ".default-filter"))
+filter_name profile (Override place) = override_name profile
 
-unfoldable pub via_filter : Styles → CompiledDefaultFilter → Text
-via_filter s f = plain (codes " via ") ++ filter_name s f.profile f.section
+unfoldable pub via_filter : CompiledDefaultFilter → Parts false Open
+via_filter f = words (codes " via ") ⧺ filter_name f.profile f.section
 
 -- the tests that passed in a run before, unless there are none
-unfoldable pub rerun_text : Styles → NextestRunMode → ℕ → Text
-rerun_text s mode n = if n == 0 then [] else tests_text s mode n ++ plain (codes " that already passed")
+unfoldable pub rerun_text : NextestRunMode → ℕ → Fixed Open
+rerun_text mode n = choice (n == 0) none (tests_text mode n ⧺ words (codes " that already passed"))
 
 -- the default filter leaves nothing out
 abbrev pub has_no_filtered : SkipCounts → Bool
 has_no_filtered c = (c.skipped_tests_default_filter == 0) && (c.skipped_binaries_default_filter == 0)
 
 -- what the default filter leaves out, unless that is nothing
-unfoldable pub filtered_text : Styles → NextestRunMode → SkipCounts → CompiledDefaultFilter → Text
-filtered_text s mode c f =
-    if has_no_filtered c then []
-    else tests_and_binaries s mode c.skipped_tests_default_filter c.skipped_binaries_default_filter ++ via_filter s f
+unfoldable pub filtered_text : NextestRunMode → SkipCounts → CompiledDefaultFilter → Parts false Open
+filtered_text mode c f =
+    choice (has_no_filtered c) none (tests_and_binaries mode c.skipped_tests_default_filter c.skipped_binaries_default_filter ⧺ via_filter f)
 
 -- of what is skipped, what passed before and what the default filter leaves out
-unfoldable pub included_text : Styles → NextestRunMode → SkipCounts → CompiledDefaultFilter → Text
-included_text s mode c f =
-    if (c.skipped_tests_rerun == 0) && has_no_filtered c then []
-    else plain (codes ", including ")
-    ++ (rerun_text s mode c.skipped_tests_rerun
-    ++ (between (codes ", and ") (c.skipped_tests_rerun == 0) (has_no_filtered c) ++ filtered_text s mode c f))
+unfoldable pub included_text : NextestRunMode → SkipCounts → CompiledDefaultFilter → Parts false Open
+included_text mode c f =
+    choice ((c.skipped_tests_rerun == 0) && has_no_filtered c) none
+    (words (codes ", including ")
+    ⧺ rerun_text mode c.skipped_tests_rerun
+    ⧺ between (words (codes ", and ")) (c.skipped_tests_rerun == 0) (has_no_filtered c)
+    ⧺ filtered_text mode c f)
 
 -- why so many tests and the binaries are skipped: the one reason, or the parts that have one
-unfoldable pub skip_reason : Styles → NextestRunMode → ℕ → SkipCounts → CompiledDefaultFilter → Text
-skip_reason s mode tests c f =
-    if (tests == c.skipped_tests_rerun) && (c.skipped_binaries == 0) then plain (codes " that already passed")
-    else (if (tests == c.skipped_tests_default_filter) && (c.skipped_binaries == c.skipped_binaries_default_filter) then via_filter s f
-    else included_text s mode c f)
+unfoldable pub skip_reason : NextestRunMode → ℕ → SkipCounts → CompiledDefaultFilter → Parts false Open
+skip_reason mode tests c f =
+    choice ((tests == c.skipped_tests_rerun) && (c.skipped_binaries == 0)) (words (codes " that already passed"))
+    (choice ((tests == c.skipped_tests_default_filter) && (c.skipped_binaries == c.skipped_binaries_default_filter)) (via_filter f)
+    (included_text mode c f))
 
 -- the note in parentheses, where so many tests and the binaries are not none
-unfoldable pub skip_note : Styles → NextestRunMode → ℕ → SkipCounts → CompiledDefaultFilter → Text
-skip_note s mode tests c f =
-    if (tests == 0) && (c.skipped_binaries == 0) then []
-    else plain (codes " (")
-    ++ (tests_and_binaries s mode tests c.skipped_binaries
-    ++ (plain (codes " ") ++ (styled s.skip (codes "skipped") ++ (skip_reason s mode tests c f ++ plain (codes ")")))))
+unfoldable pub skip_note : NextestRunMode → ℕ → SkipCounts → CompiledDefaultFilter → Parts false Open
+skip_note mode tests c f =
+    choice ((tests == 0) && (c.skipped_binaries == 0)) none
+    (words (codes " (")
+    ⧺ tests_and_binaries mode tests c.skipped_binaries
+    ⧺ words (codes " ")
+    ⧺ toned Skip (codes "skipped")
+    ⧺ skip_reason mode tests c f
+    ⧺ words (codes ")"))
 
 -- what a run skips
-abbrev pub skip_counts_text : Styles → NextestRunMode → SkipCounts → CompiledDefaultFilter → Text
-skip_counts_text s mode c f = skip_note s mode (skipped_tests_in mode c) c f
+abbrev pub skip_counts_text : NextestRunMode → SkipCounts → CompiledDefaultFilter → Parts false Open
+skip_counts_text mode c f = skip_note mode (skipped_tests_in mode c) c f

@@ -35,7 +35,7 @@ pub record OutputLayout : Type 0 where
   pub exec_fail_header : OutputHeader
   pub output_indent : Text
 
--- the layout that the code hands on
+-- a `ChildOutputSpec` as a layout
 abbrev pub layout_of : ChildOutputSpec → OutputLayout
 layout_of spec = record {
   kind = spec.kind;

@@ -1,6 +1,5 @@
 -- What a run left undone.
-use Rattle.std.specs.Prelude.{ℕ, not, [], ◌++◌, ◌&&◌, ◌==◌, Option, None, Some, codes, if◌then◌else◌}
-use Rattle.std.specs.Fmt.{decimal}
+use Rattle.std.specs.Prelude.{ℕ, not, ◌&&◌, ◌==◌, Option, None, Some, codes}
 use Rattle.run_names.specs.Levels.{reason_words}
 use Rattle.run_names.specs.declared.config.NextestRunMode.{NextestRunMode}
 use Rattle.run_names.specs.declared.level.CancelReason.{CancelReason}
@@ -10,53 +9,60 @@ use Rattle.run_model.specs.declared.stats.FinalRunStats.TheVariants.{Success, No
 use Rattle.run_model.specs.declared.stats.RunStatsFailureKind.{RunStatsFailureKind}
 use Rattle.run_model.specs.declared.stats.RunStatsFailureKind.TheVariants.{SetupScript, Test}
 use Rattle.report_words.specs.Plural.{tests_word_if, were_word}
-use Rattle.plain_text.specs.Style.{plain, styled}
-use Rattle.plain_text.specs.Texts.{Text}
-use Rattle.plain_text.specs.declared.style.Styles.{Styles}
+use Rattle.report_words.specs.Parts.{Fixed, Open, Lines, Count, Skip, none, words, Word, toned, Toned, number, ◌⧺◌, choice, openly}
+use Rattle.report_words.proofs.lemmas.FreeWords.{free-tests_word_if, free-were_word, free-reason_words}
 
 -- the reason, where it is known
-unfoldable pub due_to : Styles → Option CancelReason → Text
-due_to s None = []
-due_to s (Some r) = plain (codes " due to ") ++ styled s.skip (reason_words r)
+unfoldable pub due_to : Option CancelReason → Fixed Open
+due_to None = openly none
+due_to (Some r) = words (codes " due to ") ⧺ Toned Skip (reason_words r) (free-reason_words r)
 
 -- which options would run all tests
-unfoldable pub options_hint : Styles → Text
-options_hint s =
-    plain (codes " (run with ")
-    ++ (styled s.count (codes "--no-fail-fast")
-    ++ (plain (codes " to run all tests, or run with ") ++ (styled s.count (codes "--max-fail") ++ plain (codes ")"))))
+unfoldable pub options_hint : Fixed Open
+options_hint =
+    words (codes " (run with ")
+    ⧺ toned Count (codes "--no-fail-fast")
+    ⧺ words (codes " to run all tests, or run with ")
+    ⧺ toned Count (codes "--max-fail")
+    ⧺ words (codes ")")
 
 -- they are named where a test's failure ended the run
-unfoldable pub hint_after : Styles → Option CancelReason → Text
-hint_after s (Some reason.TestFailure) = options_hint s
-hint_after s (Some reason.TestFailureImmediate) = options_hint s
-hint_after s other = []
+unfoldable pub hint_after : Option CancelReason → Fixed Open
+hint_after (Some reason.TestFailure) = options_hint
+hint_after (Some reason.TestFailureImmediate) = options_hint
+hint_after other = openly none
 
 -- how many of how many tests were not run
-unfoldable pub not_run_count : Styles → NextestRunMode → ℕ → ℕ → Text
-not_run_count s mode initial not_run =
-    styled s.count (decimal not_run)
-    ++ (plain (codes "/")
-    ++ (styled s.count (decimal initial)
-    ++ (plain (codes " ")
-    ++ (plain (tests_word_if mode (not ((not_run == 1) && (initial == 1))))
-    ++ (plain (codes " ") ++ (plain (were_word (not ((not_run == 1) && (initial == 1)))) ++ plain (codes " not run")))))))
+unfoldable pub not_run_count : NextestRunMode → ℕ → ℕ → Fixed Open
+not_run_count mode initial not_run =
+    number Count not_run
+    ⧺ words (codes "/")
+    ⧺ number Count initial
+    ⧺ words (codes " ")
+    ⧺ Word (tests_word_if mode (not ((not_run == 1) && (initial == 1)))) (free-tests_word_if mode _)
+    ⧺ words (codes " ")
+    ⧺ Word (were_word (not ((not_run == 1) && (initial == 1)))) (free-were_word _)
+    ⧺ words (codes " not run")
 
 -- the warning that tests were not run, where there are such
-unfoldable pub not_run_warning : Styles → NextestRunMode → Option CancelReason → ℕ → ℕ → Text
-not_run_warning s mode why initial not_run =
-    if not_run == 0 then []
-    else styled s.skip (codes "warning")
-    ++ (plain (codes ": ") ++ (not_run_count s mode initial not_run ++ (due_to s why ++ (hint_after s why ++ plain (codes "\n")))))
+unfoldable pub not_run_warning : NextestRunMode → Option CancelReason → ℕ → ℕ → Fixed Lines
+not_run_warning mode why initial not_run =
+    choice (not_run == 0) none
+    (toned Skip (codes "warning")
+    ⧺ words (codes ": ")
+    ⧺ not_run_count mode initial not_run
+    ⧺ due_to why
+    ⧺ hint_after why
+    ⧺ words (codes "\n"))
 
 -- nothing is said of a setup script
-abbrev pub warning_of : Styles → NextestRunMode → Option CancelReason → RunStatsFailureKind → Text
-warning_of s mode why SetupScript = []
-warning_of s mode why (Test initial not_run) = not_run_warning s mode why initial not_run
+abbrev pub warning_of : NextestRunMode → Option CancelReason → RunStatsFailureKind → Fixed Lines
+warning_of mode why SetupScript = none
+warning_of mode why (Test initial not_run) = not_run_warning mode why initial not_run
 
 -- the warnings that end a report
-unfoldable pub final_warnings : Styles → NextestRunMode → FinalRunStats → Text
-final_warnings s mode Success = []
-final_warnings s mode NoTestsRun = []
-final_warnings s mode (Cancelled why kind) = warning_of s mode why kind
-final_warnings s mode (Failed kind) = warning_of s mode (Some reason.TestFailure) kind
+unfoldable pub final_warnings : NextestRunMode → FinalRunStats → Fixed Lines
+final_warnings mode Success = none
+final_warnings mode NoTestsRun = none
+final_warnings mode (Cancelled why kind) = warning_of mode why kind
+final_warnings mode (Failed kind) = warning_of mode (Some reason.TestFailure) kind

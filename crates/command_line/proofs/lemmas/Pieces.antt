@@ -5,7 +5,7 @@ use Rattle.std.specs.Io.KnownBytes.{Keeps, prepend_known}
 use Rattle.std.proofs.lemmas.Bool.Decides.{nat_tests}
 use Rattle.memchr.specs.Find.{IsLastByte, is_byte}
 use Rattle.command_line.specs.Pieces.{IsBehind, IsNextPiece}
-use Rattle.command_line.specs.declared.pieces.Taken.TheVariants as taken
+use Rattle.command_line.specs.declared.pieces.Chunk.TheVariants as taken
 
 -- what a reader has at hand is the beginning of what is left, where that is known
 pub at_hand_first : (shows_nothing : Bool) (at_hand : List ℕ) (inner : Option (List ℕ)) (text : List ℕ) → (if shows_nothing then None else prepend_known at_hand inner) ≡ Some text → (left : List ℕ) × (at_hand ++ left ≡ text)

@@ -1,5 +1,5 @@
 -- Calls in turn (for `DisplayReporter::make_calls`, `DisplayReporter::report_event`, `run_report`, `write_delivered`).
-use Rattle.std.proofs.Common.{◌≡◌, ℕ, ◌+◌, ◌<◌, ◌≤◌, List, [], ◌∷◌, ◌++◌, length, reverse, take, get_or, sym, ap, ◌∙◌, subst, Result, Ok, Err, IfErr, OnOk, inl, inr, refl}
+use Rattle.std.proofs.Common.{◌≡◌, ℕ, ◌+◌, ◌<◌, ◌≤◌, List, [], ◌∷◌, ◌++◌, length, reverse, take, get_or, sym, ap, ◌∙◌, subst, Result, Ok, Err, IfErr, OnOk, inl, inr, refl, append-nil}
 use Rattle.std.specs.Result.{IsErrOf}
 use Rattle.std.proofs.lemmas.List.{take_more, take_all, reverse-append}
 use Rattle.plain_text.specs.Writer.{Meaning, WriterLaws, successor}
@@ -68,6 +68,11 @@ record_untouched laws a b t Io is same = same
 record_untouched {S} {m} laws a b t Memory is same = inr (record { front = []; rest = t; whole = refl; accepted = subst (λ x. m.accepts a [] x) (sym same) (laws.nothing a) })
 record_untouched laws a b t Failed is same = absurd is
 record_untouched laws a b t StoreIo is same = absurd is
+
+-- a fault of the store, as the caller sees it, comes after the whole text
+pub stops_after : {S : Type 0} (m : Meaning S) (a b : S) (t : List ℕ) (fault : WriteFault) (e : WriteEventError) → e ≡ error_for Records fault → m.accepts a t b → Stops Report m a t e b
+stops_after m a b t Device e is h = subst (λ x. Stops Report m a t x b) (sym is) h
+stops_after m a b t RefusedMemory e is h = subst (λ x. Stops Report m a t x b) (sym is) (inr (record { front = t; rest = []; whole = sym (append-nil t); accepted = h }))
 
 pub console_not_store : (e : WriteEventError) → IsOfConsole e → IsErrOf {T = Unit {0}} (Err e) StoreIo → ⊥
 console_not_store RetriedSuccess is h = is

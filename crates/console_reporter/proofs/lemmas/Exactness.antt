@@ -47,6 +47,7 @@ use Rattle.test_text.specs.declared.status_line.StatusLineKind.TheVariants.{Fina
 use Rattle.run_model.specs.Stats.{final_stats_of_run}
 use Rattle.unit_report.specs.Warnings.{final_warnings}
 use Rattle.run_text.specs.NotSeen.{not_seen_text}
+use Rattle.report_words.specs.Parts.{◌⧺◌, paint}
 use Rattle.run_text.specs.Summary.{run_finished_text}
 use Rattle.run_text.specs.SetupScript.{failed_script_output, setup_script_finished_text, setup_script_line}
 use Rattle.reporter_state.specs.Refusals.{decider_by}
@@ -166,15 +167,15 @@ observed_at_end config before after event end differ same =
 
 -- a setup script that did not succeed
 script_differs : (s : Settings) (script : Script) (x : SetupScriptExecuteStatus LiveSpec ChildOutputDescription) → loads_script x.result ≡ true →
-    setup_script_finished_text s script (record x { output = wrote_a }) ≢ setup_script_finished_text s script (record x { output = wrote_b })
+    paint s.styles (setup_script_finished_text s script (record x { output = wrote_a })) ≢ paint s.styles (setup_script_finished_text s script (record x { output = wrote_b }))
 unfolding setup_script_finished_text failed_script_output
 script_differs s script x is e =
     let failed : is_success x.result ≡ false = not-true _ is in
-    outputs_differ s unit.Script false x.result (append_cancel_left (setup_script_line s.styles script x.result x.time_taken.0) _ _ (rw failed at e))
+    outputs_differ s unit.Script false x.result (append_cancel_left (paint s.styles (setup_script_line script x.result x.time_taken.0)) _ _ (rw failed at e))
 
 -- an attempt that failed, whose output is shown
 attempt_differs : (s : Settings) (stress : Option StressIndex) (test : TestInstanceId) (x : Attempt) (delay : ℕ) (failure : TestOutputDisplay) → loads_attempt (decider_by s None) failure ≡ true →
-    attempt_failed_text s stress test (record x { output = wrote_a }) delay failure ≢ attempt_failed_text s stress test (record x { output = wrote_b }) delay failure
+    paint s.styles (attempt_failed_text s stress test (record x { output = wrote_a }) delay failure) ≢ paint s.styles (attempt_failed_text s stress test (record x { output = wrote_b }) delay failure)
 unfolding attempt_failed_text attempt_failed_line failed_output is_level_shown is_failed_output_shown
 attempt_differs s stress test x delay failure is e =
     let parts = and_parts _ _ is in
@@ -182,8 +183,8 @@ attempt_differs s stress test x delay failure is e =
     let at_once : is_failed_output_shown s failure ≡ true = parts.1 in
     let same = rw (shown, at_once) at e in
     outputs_differ s unit.Test true x.result
-    (append_cancel_right _ _ (delay_line s.styles (padded_instance s stress test) x.retry_data delay)
-    (append_cancel_left (attempt_failed_line s.styles (padded_instance s stress test) x) _ _ same))
+    (append_cancel_right _ _ (paint s.styles (delay_line (padded_instance s stress test) x.retry_data delay))
+    (append_cancel_left (paint s.styles (attempt_failed_line (padded_instance s stress test) x)) _ _ same))
 
 -- an entry's output, among those of a run that ends
 listed_differ : (s : Settings) (test : KeptTest) (x : StatusSummary) (front back : List FinalOutputEntry) (elapsed : ℕ) (end : TestEventKind) → is_end_of_run end ≡ true →
@@ -191,10 +192,10 @@ listed_differ : (s : Settings) (test : KeptTest) (x : StatusSummary) (front back
 unfolding event_text listed_text final_text
 listed_differ s test x front back elapsed (RunFinished taken stats outstanding) is e =
     let place = text-place test x s front back in
-    let rest = not_seen_text s outstanding ++ final_warnings s.styles s.mode (final_stats_of_run stats) in
-    let entries = append_cancel_right _ _ rest (append_cancel_left (run_finished_text s taken.0 stats) _ _ e) in
+    let rest = paint s.styles (not_seen_text s.mode outstanding ⧺ final_warnings s.mode (final_stats_of_run stats)) in
+    let entries = append_cancel_right _ _ rest (append_cancel_left (paint s.styles (run_finished_text s.theme_characters s.mode taken.0 stats)) _ _ e) in
     let outputs = append_cancel_right _ _ place.1 (append_cancel_left place.0 _ _ (sym (place.2 wrote_a) ∙ entries ∙ place.2 wrote_b)) in
-    outputs_differ s unit.Test false x.result (append_cancel_left (status_line s.styles Final (borrowed_test test) x) _ _ outputs)
+    outputs_differ s unit.Test false x.result (append_cancel_left (paint s.styles (status_line Final (borrowed_test test) x)) _ _ outputs)
 listed_differ s test x front back elapsed other is e = absurd (false≢true is)
 
 -- a finished test whose output is shown

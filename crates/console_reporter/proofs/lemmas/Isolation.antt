@@ -34,6 +34,7 @@ use Rattle.text_parts.specs.Settings.{is_level_shown}
 use Rattle.text_parts.specs.declared.finish.OutputTiming.{OutputTiming}
 use Rattle.text_parts.specs.declared.finish.OutputTiming.TheVariants.{Hidden, Shown, ShownOnce}
 use Rattle.text_parts.specs.declared.settings.Settings.{Settings}
+use Rattle.report_words.specs.Parts.{paint}
 use Rattle.run_text.specs.SetupScript.{failed_script_output, setup_script_finished_text}
 use Rattle.text_parts.specs.Script.{Script}
 use Rattle.reporter_state.specs.Refusals.{AreAcceptedBy, decider_by, event_refusal, first_refused, refusal_at_by, refusal_by}
@@ -77,7 +78,7 @@ never-at_end Shown display h = never-final display h
 never-at_end ShownOnce display h = rw (never-final display h) refl
 
 -- a finished test whose output is not shown has one text and one entry, whatever its last attempt wrote
-never-text : (s : Settings) (f : TestFinish) (last : Attempt) → is_ever_shown f.display ≡ false → test_finished_text s (record f { last = last }) ≡ test_finished_text s f
+never-text : (s : Settings) (f : TestFinish) (last : Attempt) → is_ever_shown f.display ≡ false → paint s.styles (test_finished_text s (record f { last = last })) ≡ paint s.styles (test_finished_text s f)
 unfolding test_finished_text line_at_once output_at_once
 never-text s f last h = rw (never-at_once f.row f.display h) refl
 
@@ -114,12 +115,12 @@ module _ (s : Settings) (stress : Option StressIndex) (test : TestInstanceId) (s
   same-finish elapsed = record {
     reason = refl;
     entry = λ before. ap (λ f. kept_entry s (Finished f)) (finish-unloaded before) ∙ never-kept s (finish before) (unloaded_attempt statuses.last) (never-shown before);
-    text = λ known. ap (test_finished_text s) (finish-unloaded known.reason) ∙ never-text s (finish known.reason) (unloaded_attempt statuses.last) (never-shown known.reason);
+    text = λ known. ap (λ f. paint s.styles (test_finished_text s f)) (finish-unloaded known.reason) ∙ never-text s (finish known.reason) (unloaded_attempt statuses.last) (never-shown known.reason);
   }
 
 -- an attempt that failed whose output is not shown
 never-attempt : (s : Settings) (stress : Option StressIndex) (test : TestInstanceId) (x : Attempt) (delay : ℕ) (failure : TestOutputDisplay) → loads_attempt (decider_by s None) failure ≡ false →
-    attempt_failed_text s stress test (unloaded_attempt x) delay failure ≡ attempt_failed_text s stress test x delay failure
+    paint s.styles (attempt_failed_text s stress test (unloaded_attempt x) delay failure) ≡ paint s.styles (attempt_failed_text s stress test x delay failure)
 unfolding attempt_failed_text attempt_failed_line failed_output is_level_shown is_failed_output_shown
 never-attempt s stress test x delay failure never =
     elim (cases_Bool (is_level_shown s level.Retry)) [
@@ -132,7 +133,7 @@ never-attempt s stress test x delay failure never =
 
 -- a setup script that succeeded
 never-script : (s : Settings) (script : Script) (x : SetupScriptExecuteStatus LiveSpec ChildOutputDescription) → loads_script x.result ≡ false →
-    setup_script_finished_text s script (unloaded_script x) ≡ setup_script_finished_text s script x
+    paint s.styles (setup_script_finished_text s script (unloaded_script x)) ≡ paint s.styles (setup_script_finished_text s script x)
 unfolding setup_script_finished_text failed_script_output
 never-script s script x never =
     elim (cases_Bool (is_success x.result)) [ inl y ↦ rw y refl | inr n ↦ absurd (false≢true (sym (rw n at never))) ]

@@ -16,6 +16,7 @@ use Rattle.plain_text.proofs.lemmas.Decoded.{decoded-same}
 use Rattle.unit_report.specs.Captured.{captured, coloured_output, plain_output, reset_output}
 use Rattle.unit_report.specs.Header.{header_text}
 use Rattle.unit_report.specs.UnitOutput.{child_output, errors_text, execution_output, present_stream, shown_stream}
+use Rattle.report_words.specs.Parts.{paint}
 use Rattle.text_parts.specs.AttemptOutput.{finished_layout, info_line, output_margin, unit_output}
 use Rattle.text_parts.specs.declared.settings.Settings.{Settings}
 use Rattle.console_reporter.specs.Exactness.{combined}
@@ -36,17 +37,17 @@ ascii b h (suc i) = lit< tt
 
 module _ (s : Settings) (kind : UnitKind) (is_retry : Bool) (x : ExecutionResultDescription) where
   -- the output of a unit that wrote a letter, around what is shown of that
-  output-place : (front back : Text) × ((b : ℕ) → b < 128 → unit_output s kind is_retry x (combined (b ∷ [])) ≡ front ++ (shown s.no_output_indent s.styles (b ∷ []) ++ back))
+  output-place : (front back : Text) × ((b : ℕ) → b < 128 → paint s.styles (unit_output s kind is_retry x (combined (b ∷ []))) ≡ front ++ (shown s.no_output_indent s.styles (b ∷ []) ++ back))
   unfolding unit_output execution_output errors_text child_output present_stream shown_stream
   output-place = (
     header_text (finished_layout s kind x is_retry).combined_header ++ plain (codes "\n"),
-    plain (codes "\n") ++ info_line s.styles kind x,
+    plain (codes "\n") ++ paint s.styles (info_line kind x),
     λ b h.
         let same = decoded-same (b ∷ []) (IsUtf8-from_ascii (b ∷ []) (ascii b h)) in
         elim (cases_Bool s.unit_output.display_empty_outputs) [ inl y ↦ rw (y, same) (simp append_assoc refl) | inr n ↦ rw (n, same) (simp append_assoc refl) ],
   )
 
-  pub outputs_differ : unit_output s kind is_retry x (combined (codes "a")) ≢ unit_output s kind is_retry x (combined (codes "b"))
+  pub outputs_differ : paint s.styles (unit_output s kind is_retry x (combined (codes "a"))) ≢ paint s.styles (unit_output s kind is_retry x (combined (codes "b")))
   outputs_differ e =
       let place = output-place in
       shown_differ s.no_output_indent s.styles s.styles.is_colorized refl

@@ -7,10 +7,10 @@ use Rattle.plain_text.specs.Writer.{Meaning, WriterLaws}
 use Rattle.console_reporter.specs.Configuration.{Configuration}
 use Rattle.console_reporter.specs.HeldState.{HasFailed, MayGrowIn, StandsAfter}
 use Rattle.console_reporter.specs.Outcomes.{HasFront}
-use Rattle.console_reporter.specs.Telling.{AreDelivered, Breaks, Delivers, IsNeverRefused, IsSameReporter, Promises, Tells, refusal_for}
+use Rattle.console_reporter.specs.Telling.{AreDelivered, Breaks, IsDelivered, IsNeverRefused, IsSameReporter, Promises, Tells, refusal_for}
 use Rattle.console_reporter.proofs.lemmas.Refusals.{breaks_refused, not_refused, told_none}
 use Rattle.console_reporter.proofs.lemmas.Stores.{same-store, store-laws}
-use Rattle.console_reporter.proofs.lemmas.WholeLines.{of_lines-told}
+use Rattle.console_reporter.proofs.lemmas.Texts.{of_lines-told}
 use Rattle.run_model.specs.declared.call.ReportCall.{ReportCall}
 use Rattle.reporter_state.specs.Refusals.{refusal_in}
 use Rattle.reporter_state.specs.declared.faults.WriteEventError.{WriteEventError}
@@ -88,7 +88,7 @@ module _ {W S : Type 0} (m : Meaning W) (n : Meaning S) (old new : DisplayReport
   module _ (works : old.state.has_failed ≡ false) (same : IsSameReporter old new)
       (accepted : (config : Configuration) (past : List ReportCall) → StandsAfter config past old → None ≡ refusal_for config call) where
     -- the call was made
-    pub promise_told : Tells m n old call new → (Delivers call ⊎ AreDelivered m n old → AreDelivered m n new) → Promises m n old call (Ok tt) new
+    pub promise_told : Tells m n old call new → (IsDelivered call ⊎ AreDelivered m n old → AreDelivered m n new) → Promises m n old call (Ok tt) new
     promise_told told delivered = record {
       same = same;
       ok = told;

@@ -3,69 +3,88 @@ use Rattle.std.proofs.Common.{◌≡◌, ℕ, zero, suc, Bool, true, false, refl
 use Rattle.std.specs.List.{AllByRecursion}
 use Rattle.std.specs.Option.{option_map_or}
 use Rattle.std.proofs.lemmas.List.{reverse-append}
-use Rattle.run_model.specs.Stats.{final_stats_of_run}
 use Rattle.run_model.specs.declared.event.TestEventKind.{TestEventKind}
-use Rattle.run_model.specs.declared.event.TestEventKind.TheVariants.{RunStarted, StressSubRunStarted, SetupScriptStarted, SetupScriptSlow, SetupScriptFinished, TestStarted, TestSlow, TestAttemptFailedWillRetry, TestRetryStarted, TestFinished, TestSkipped, RunBeginCancel, RunBeginKill, RunPaused, RunContinued, InfoStarted, InfoResponse, InfoFinished, InputEnter, StressSubRunFinished, RunFinished}
+use Rattle.run_model.specs.declared.event.TestEventKind.TheVariants.{RunStarted, SetupScriptStarted, SetupScriptSlow, SetupScriptFinished, TestStarted, TestSlow, TestAttemptFailedWillRetry, TestRetryStarted, TestFinished, TestSkipped, InfoResponse, RunFinished}
+use Rattle.run_model.specs.declared.info.InfoResponse.TheVariants.{SetupScript, Test}
 use Rattle.plain_text.specs.Escapes.{HasNoEscape}
+use Rattle.plain_text.specs.Style.{styles_of}
+use Rattle.plain_text.specs.declared.style.Styles.{Styles}
 use Rattle.report_words.specs.PlainTexts.{HoldsIf}
-use Rattle.report_words.proofs.lemmas.ColourPairs.{IsColourPair, colour_pair-none, colour_pair-append, colour_pair-if, colour_pair-whole}
-use Rattle.unit_report.proofs.lemmas.SkipColourPairs.{colour_pair-final_warnings}
-use Rattle.text_parts.specs.Finish.{display_of}
+use Rattle.report_words.specs.InColour.{IsColourPair}
+use Rattle.report_words.proofs.lemmas.ColourPairs.{colour_pair-none, colour_pair-append, colour_pair-whole}
+use Rattle.text_parts.specs.AttemptOutput.{unit_output}
+use Rattle.text_parts.specs.Finish.{display_of, is_line_shown}
+use Rattle.text_parts.specs.Settings.{is_level_shown, shows_starts}
 use Rattle.text_parts.specs.declared.settings.Settings.{Settings}
 use Rattle.text_parts.proofs.lemmas.LineColourPairs.{painted}
-use Rattle.test_text.proofs.lemmas.StatusColourPairs.{colour_pair-test_finished_text}
-use Rattle.test_text.proofs.lemmas.TestColourPairs.{colour_pair-test_started_text, colour_pair-test_slow_text, colour_pair-attempt_failed_text, colour_pair-test_retry_started_text, colour_pair-test_skipped_text}
+use Rattle.test_text.specs.TestFinished.{line_at_once, output_at_once, test_finished_text}
+use Rattle.test_text.specs.TestRetry.{attempt_failed_text, failed_output, is_failed_output_shown}
+use Rattle.test_text.specs.TestSkipped.{test_skipped_text}
+use Rattle.test_text.specs.TestSlow.{has_number, is_level_exceeded, slow_text, terminating_text, terminating_word, test_slow_text}
+use Rattle.test_text.specs.TestStarted.{command_text, retry_start_line, start_line, test_retry_started_text, test_started_text}
+use Rattle.test_text.proofs.lemmas.FreeStatusLines.{free-test_finished_text}
+use Rattle.test_text.proofs.lemmas.FreeTests.{free-test_started_text, free-test_slow_text, free-attempt_failed_text, free-test_retry_started_text, free-test_skipped_text}
 use Rattle.run_text.specs.PlainRuns.{IsPlainPrefix}
-use Rattle.run_text.proofs.lemmas.CancelColourPairs.{colour_pair-begin_cancel_text, colour_pair-begin_kill_text, colour_pair-run_paused_text, colour_pair-run_continued_text, colour_pair-input_enter_text}
-use Rattle.run_text.proofs.lemmas.NotSeenColourPairs.{colour_pair-not_seen_text}
-use Rattle.run_text.proofs.lemmas.ScriptColourPairs.{colour_pair-setup_script_started_text, colour_pair-setup_script_slow_text, colour_pair-setup_script_finished_text}
-use Rattle.run_text.proofs.lemmas.StartColourPairs.{colour_pair-run_started_text, colour_pair-replay_header_text}
-use Rattle.run_text.proofs.lemmas.SummaryColourPairs.{colour_pair-run_finished_text, colour_pair-stress_sub_run_started_text, colour_pair-stress_sub_run_finished_text}
-use Rattle.info_text.proofs.lemmas.ResponseColourPairs.{colour_pair-info_started_text, colour_pair-info_response_text, colour_pair-info_finished_text}
+use Rattle.run_text.specs.Header.{replay_header_text}
+use Rattle.run_text.specs.SetupScript.{failed_script_output, setup_script_finished_text, setup_script_slow_text}
+use Rattle.run_text.specs.Start.{run_started_text, starting_line}
+use Rattle.run_text.proofs.lemmas.FreeRuns.{free-not_seen_text, free-replay_header_text, free-run_started_text, free-setup_script_finished_text, free-setup_script_slow_text, free-setup_script_started_text}
+use Rattle.report_words.specs.Parts.{paint}
+use Rattle.report_words.proofs.lemmas.PartsInColour.{AreFree, in_colour as parts_in_colour}
+use Rattle.info_text.specs.Response.{info_response_text, script_answer, test_answer, unit_answer, valid_output}
+use Rattle.info_text.proofs.lemmas.FreeResponses.{free-info_response_text}
 use Rattle.console_reporter.specs.ColourLaw.{in_colour, ColourLaw}
 use Rattle.console_reporter.specs.Configuration.{Configuration, settings_of}
 use Rattle.reporter_state.specs.Entries.{cancel, prefix, kept, final_order}
 use Rattle.console_reporter.specs.PlainCalls.{IsPlainConfiguration, IsPlainKind, IsPlainCall, ArePlain}
 use Rattle.console_reporter.specs.PlainLaw.{IsPlainReport, PlainLaw}
-use Rattle.console_reporter.specs.Report.{Known, script_by, listed_text, event_text, text, report, past_at, text_at}
+use Rattle.console_reporter.specs.Report.{Known, script_by, listed_text, event_parts, event_text, text, report, past_at, text_at}
 use Rattle.run_model.specs.declared.call.ReportCall.{ReportCall}
 use Rattle.run_model.specs.declared.call.ReportCall.TheVariants.{Event, Header, Prefix}
-use Rattle.console_reporter.proofs.lemmas.EntryColourPairs.{IsPlainEntry, All-append, All-final_order, plain-test_finish, plain-kept, plain-prefix, same-kept, colour_pair-entries_text}
+use Rattle.console_reporter.proofs.lemmas.PlainEntries.{IsPlainEntry, All-append, All-final_order, plain-test_finish, plain-kept, plain-prefix, same-kept, same-entries, free-entries_text}
 
 -- what is known of a plain past
 record IsPlainKnown (k : Bool) (known : Known) : Type 0 where
   prefix : HoldsIf IsPlainPrefix known.prefix
   entries : AllByRecursion (IsPlainEntry k) known.entries
 
--- the text of an event, by what is known
+-- what is handed in for the parts of an event
+free-event_parts : (k : Bool) (s : Settings) (known : Known) (elapsed : ℕ) (e : TestEventKind) → HasNoEscape s.default_filter.profile → IsPlainKnown k known → IsPlainKind k e → AreFree k (event_parts s known elapsed e)
+unfolding listed_text
+free-event_parts k s known elapsed (RunStarted counts id profile) c p h = free-run_started_text k s known.prefix counts id profile c p.prefix h
+free-event_parts k s known elapsed (SetupScriptStarted stress index total id program args) c p h = free-setup_script_started_text k index total (script_by stress id program args) h
+free-event_parts k s known elapsed (SetupScriptSlow stress id program args taken b) c p h = free-setup_script_slow_text k s (script_by stress id program args) taken.0 b h
+free-event_parts k s known elapsed (SetupScriptFinished stress id program args status) c p h = free-setup_script_finished_text k s (script_by stress id program args) status h.0 h.1
+free-event_parts k s known elapsed (TestStarted stress instance stats command) c p h = free-test_started_text k s stress instance stats command h.0 h.1
+free-event_parts k s known elapsed (TestSlow stress instance retry taken b) c p h = free-test_slow_text k s stress instance retry taken.0 b h
+free-event_parts k s known elapsed (TestAttemptFailedWillRetry stress instance status delay failure) c p h = free-attempt_failed_text k s stress instance status delay.0 failure h.0 h.1.0 h.1.1
+free-event_parts k s known elapsed (TestRetryStarted stress instance retry command) c p h = free-test_retry_started_text k s stress instance retry command h.0 h.1
+free-event_parts k s known elapsed (TestFinished stress instance success failure statuses stats) c p h =
+    free-test_finished_text k s _ (plain-test_finish k s known.reason stress instance success failure statuses stats h)
+free-event_parts k s known elapsed (TestSkipped stress instance) c p h = free-test_skipped_text k s stress instance h
+free-event_parts k s known elapsed (InfoResponse index total response) c p h = free-info_response_text k s index total response h
+free-event_parts k s known elapsed (RunFinished taken stats outstanding) c p h =
+    (tt, ((free-entries_text k s known.entries p.entries, tt), (free-not_seen_text k s.mode outstanding h, tt)))
+free-event_parts k s known elapsed other c p h = tt
+
+-- nothing but styles is read of the colour
+same-event : (b : Bool) (t : Styles) (s : Settings) (known : Known) (elapsed : ℕ) (e : TestEventKind) → paint t (event_parts (painted b s) known elapsed e) ≡ paint t (event_parts s known elapsed e)
+unfolding run_started_text starting_line setup_script_slow_text setup_script_finished_text failed_script_output unit_output is_level_shown shows_starts display_of is_line_shown
+    test_started_text test_retry_started_text start_line retry_start_line command_text test_slow_text slow_text terminating_text terminating_word has_number is_level_exceeded
+    attempt_failed_text failed_output is_failed_output_shown test_finished_text line_at_once output_at_once test_skipped_text
+    info_response_text script_answer test_answer unit_answer valid_output listed_text
+same-event b t s known elapsed (TestSlow stress instance retry taken true) = refl
+same-event b t s known elapsed (TestSlow stress instance retry taken false) = refl
+same-event b t s known elapsed (InfoResponse index total (SetupScript x)) = refl
+same-event b t s known elapsed (InfoResponse index total (Test x)) = refl
+same-event b t s known elapsed (RunFinished taken stats outstanding) = rw (same-entries b t s known.entries) refl
+same-event b t s known elapsed other = refl
+
 colour_pair-event_text : (k : Bool) (s : Settings) (known : Known) (elapsed : ℕ) (e : TestEventKind) → HasNoEscape s.default_filter.profile → IsPlainKnown k known → IsPlainKind k e
     → IsColourPair k (event_text (painted true s) known elapsed e) (event_text (painted false s) known elapsed e)
-unfolding event_text listed_text display_of
-colour_pair-event_text k s known elapsed (RunStarted counts id profile) c p h = colour_pair-run_started_text k s known.prefix counts id profile c p.prefix h
-colour_pair-event_text k s known elapsed (StressSubRunStarted progress) c p h = colour_pair-stress_sub_run_started_text k s progress
-colour_pair-event_text k s known elapsed (SetupScriptStarted stress index total id program args) c p h = colour_pair-setup_script_started_text k index total (script_by stress id program args) h
-colour_pair-event_text k s known elapsed (SetupScriptSlow stress id program args taken b) c p h = colour_pair-setup_script_slow_text k s (script_by stress id program args) taken.0 b h
-colour_pair-event_text k s known elapsed (SetupScriptFinished stress id program args status) c p h = colour_pair-setup_script_finished_text k s (script_by stress id program args) status h.0 h.1
-colour_pair-event_text k s known elapsed (TestStarted stress instance stats command) c p h = colour_pair-test_started_text k s stress instance stats command h.0 h.1
-colour_pair-event_text k s known elapsed (TestSlow stress instance retry taken b) c p h = colour_pair-test_slow_text k s stress instance retry taken.0 b h
-colour_pair-event_text k s known elapsed (TestAttemptFailedWillRetry stress instance status delay failure) c p h = colour_pair-attempt_failed_text k s stress instance status delay.0 failure h.0 h.1.0 h.1.1
-colour_pair-event_text k s known elapsed (TestRetryStarted stress instance retry command) c p h = colour_pair-test_retry_started_text k s stress instance retry command h.0 h.1
-colour_pair-event_text k s known elapsed (TestFinished stress instance success failure statuses stats) c p h =
-    colour_pair-test_finished_text k s _ (plain-test_finish k s known.reason stress instance success failure statuses stats h)
-colour_pair-event_text k s known elapsed (TestSkipped stress instance) c p h = colour_pair-test_skipped_text k s stress instance h
-colour_pair-event_text k s known elapsed (RunBeginCancel scripts stats running) c p h = colour_pair-begin_cancel_text k s scripts stats.cancel_reason running
-colour_pair-event_text k s known elapsed (RunBeginKill scripts stats running) c p h = colour_pair-begin_kill_text k s scripts stats.cancel_reason running
-colour_pair-event_text k s known elapsed (RunPaused scripts running) c p h = colour_pair-run_paused_text k s scripts running
-colour_pair-event_text k s known elapsed (RunContinued scripts running) c p h = colour_pair-run_continued_text k s scripts running
-colour_pair-event_text k s known elapsed (InfoStarted total stats) c p h = colour_pair-info_started_text k s elapsed total stats
-colour_pair-event_text k s known elapsed (InfoResponse index total response) c p h = colour_pair-info_response_text k s index total response h
-colour_pair-event_text k s known elapsed (InfoFinished missing) c p h = colour_pair-info_finished_text k s missing
-colour_pair-event_text k s known elapsed (InputEnter stats running) c p h = colour_pair-input_enter_text k elapsed stats running
-colour_pair-event_text k s known elapsed (StressSubRunFinished progress taken stats) c p h = colour_pair-stress_sub_run_finished_text k s progress taken.0 stats
-colour_pair-event_text k s known elapsed (RunFinished taken stats outstanding) c p h =
-    colour_pair-append k _ _ _ _ (colour_pair-run_finished_text k s taken.0 stats)
-    (colour_pair-append k _ _ _ _ (colour_pair-if k _ _ _ _ _ (colour_pair-entries_text k s known.entries p.entries) (colour_pair-none k))
-    (colour_pair-append k _ _ _ _ (colour_pair-not_seen_text k s outstanding h) (colour_pair-final_warnings k s.mode (final_stats_of_run stats))))
+unfolding event_text
+colour_pair-event_text k s known elapsed e c p h =
+    rw (same-event true (styles_of true) s known elapsed e, same-event false (styles_of false) s known elapsed e) (parts_in_colour k (event_parts s known elapsed e) (free-event_parts k s known elapsed e c p h))
 
 -- the text of a call after a past
 colour_pair-text : (k : Bool) (config : Configuration) (past : List ReportCall) (call : ReportCall) → IsPlainConfiguration config → AllByRecursion (IsPlainCall k) past → IsPlainCall k call
@@ -75,7 +94,7 @@ colour_pair-text k config past (Event e) c all h =
     let known : Known = record { prefix = prefix past; reason = cancel past; entries = final_order (kept (painted false s) past) } in
     let plain : IsPlainKnown k known = record { prefix = plain-prefix k past all; entries = All-final_order (IsPlainEntry k) (kept (painted false s) past) (plain-kept k (painted false s) past all) } in
     rw (same-kept s past) (colour_pair-event_text k s known e.elapsed.0 e.kind c plain h)
-colour_pair-text k config past (Header x) c all h = colour_pair-replay_header_text k x h
+colour_pair-text k config past (Header x) c all h = parts_in_colour k (replay_header_text x) (free-replay_header_text k x h)
 colour_pair-text k config past (Prefix p) c all h = colour_pair-none k
 
 -- the texts of a past, joined

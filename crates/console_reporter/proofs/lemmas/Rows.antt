@@ -43,9 +43,9 @@ use Rattle.reporter_state.specs.Entries.{cancel, kept, final_order}
 use Rattle.test_text.specs.TestFinished.{test_finish}
 use Rattle.reporter_state.specs.Effects.{finished_entry}
 use Rattle.text_parts.specs.Finish.{display_of, output_timing, timed_listed, is_final_wanted}
-use Rattle.text_parts.specs.Bar.{bar_line}
 use Rattle.run_text.specs.RunId.{id_text, run_id_text}
 use Rattle.run_text.specs.Start.{profile_text, run_id_line, test_counts_text, starting_line, run_started_text}
+use Rattle.report_words.specs.Parts.{paint}
 use Rattle.run_text.specs.Summary.{initial_count_text, run_counts_text, summary_line, run_finished_text}
 use Rattle.test_text.specs.StatusLine.{status_prefix, flaky_failure_line, status_line}
 use Rattle.run_model.specs.declared.call.ReportCall.TheVariants.{Event}
@@ -53,7 +53,7 @@ use Rattle.text_parts.specs.declared.finish.OutputTiming.TheVariants as row
 use Rattle.text_parts.specs.declared.settings.Settings.{Settings}
 use Rattle.test_text.specs.declared.status_line.StatusLineKind.{StatusLineKind}
 use Rattle.test_text.specs.declared.status_line.StatusLineKind.TheVariants.{Intermediate, Final}
-use Rattle.text_parts.specs.StatsText.{summary_text, counted_text, passed_notes, passed_note, notes_end, failed_counts, failed_count, leaky_failed_note, exec_failed_count, timed_out_count, other_failed_count}
+use Rattle.text_parts.specs.StatsText.{summary_text, counted_front, passed_notes, passed_front, failed_counts, failed_count, leaky_failed_note, exec_failed_count, timed_out_count}
 use Rattle.plain_text.specs.Numbers.{seconds, with_point}
 use Rattle.report_text.specs.Instance.{test_text, stress_prefix, counter_prefix, test_name_text}
 use Rattle.unit_report.specs.Durations.{bracketed_duration}
@@ -91,9 +91,9 @@ none_skipped = record {
 abbrev run_id : List ℕ
 run_id = 0 ∷ 0 ∷ 0 ∷ 0 ∷ 0 ∷ 0 ∷ 64 ∷ 0 ∷ 128 ∷ 0 ∷ 0 ∷ 0 ∷ 0 ∷ 0 ∷ 0 ∷ 1 ∷ []
 
-start : run_started_text settings None (record { run_count = 2; listed_binary_count = 1; skip_counts = none_skipped }) run_id (codes "default")
+start : paint settings.styles (run_started_text settings None (record { run_count = 2; listed_binary_count = 1; skip_counts = none_skipped }) run_id (codes "default"))
     ≡ codes "------------\n Nextest run ID 00000000-0000-4000-8000-000000000001 with nextest profile: default\n    Starting 2 tests across 1 binary\n"
-unfolding run_started_text run_id_line profile_text id_text run_id_text starting_line test_counts_text skip_note bar_line hbar_text lib.Utf8.encode plain styled right_in chars by_index digits tests_word_if binaries_word
+unfolding run_started_text run_id_line profile_text id_text run_id_text starting_line test_counts_text skip_note hbar_text lib.Utf8.encode plain styled right_in chars by_index digits tests_word_if binaries_word
 start = refl
 
 -- two tests ran, one passed and one failed
@@ -116,9 +116,9 @@ stats = record {
   cancel_reason = None;
 }
 
-summary : run_finished_text settings 1520000000 (Single stats) ≡ codes "------------\n     Summary [   1.520s] 2 tests run: 1 passed, 1 failed, 0 skipped\n"
-unfolding run_finished_text summary_line run_counts_text initial_count_text bar_line hbar_text lib.Utf8.encode plain styled right_in chars digits tests_word_if bracketed_duration seconds with_point
-    summary_text counted_text passed_notes passed_note notes_end failed_counts failed_count leaky_failed_note exec_failed_count timed_out_count other_failed_count
+summary : paint settings.styles (run_finished_text settings.theme_characters settings.mode 1520000000 (Single stats)) ≡ codes "------------\n     Summary [   1.520s] 2 tests run: 1 passed, 1 failed, 0 skipped\n"
+unfolding run_finished_text summary_line run_counts_text initial_count_text hbar_text lib.Utf8.encode plain styled right_in chars digits tests_word_if bracketed_duration seconds with_point
+    summary_text counted_front passed_notes passed_front failed_counts failed_count leaky_failed_note exec_failed_count timed_out_count
 summary = refl
 
 -- a test that failed with a code at its one attempt, after so long
@@ -146,7 +146,7 @@ named = refl
 -- its line, at once and in the summary
 failed_line : (kind : StatusLineKind) (test : TestInstanceId) (output : Written) (code : ℤ) (time : Nanos) →
     test.binary_id.now ≡ codes "alpha" → test.test_name.now ≡ codes "mod::t2" → time.0 ≡ 1500000000 →
-    status_line settings.styles kind (record { stress_index = None; counter = None; instance = test }) (summary_of (failed output code time)) ≡ codes "        FAIL [   1.500s] alpha mod::t2\n"
+    paint settings.styles (status_line kind (record { stress_index = None; counter = None; instance = test }) (summary_of (failed output code time))) ≡ codes "        FAIL [   1.500s] alpha mod::t2\n"
 unfolding status_line status_prefix long_word abort_line flaky_failure_line plain styled right_in chars
 failed_line Final test output code time binary name after = rw (binary, name, after, lasted, named) refl
 failed_line Intermediate test output code time binary name after = rw (binary, name, after, lasted, named) refl

@@ -1,26 +1,31 @@
 -- Calls in turn, of a reporter with both its writers (for `DisplayReporter::make_calls`, `run_report`, `run_report_with_store`).
-use Rattle.std.proofs.Common.{◌≡◌, ◌⊎◌, inl, inr, List, [], ◌++◌, Option, Some, None, Err, IsTrue, false, append-nil, subst, sym, ◌∙◌}
+use Rattle.std.proofs.Common.{◌≡◌, ◌≤◌, ◌⊎◌, inl, inr, List, [], ◌++◌, Option, Some, None, Result, Err, OnOk, IfErr, IsTrue, false, append-nil, length, refl, reverse, subst, sym, take, ◌∙◌}
+use Rattle.std.proofs.lemmas.Result.{on_ok_weaker, IfErr-weaker}
 use Rattle.std.specs.Option.{option_map_or}
 use Rattle.std.specs.Prelude.{slice_get}
 use Rattle.plain_text.specs.Texts.{Text}
 use Rattle.plain_text.specs.Writer.{Meaning, WriterLaws, successor}
 use Rattle.reporter_state.specs.Entries.{cancel}
-use Rattle.console_reporter.specs.Accepted.{refusal_at}
+use Rattle.console_reporter.specs.Accepted.{AreAccepted, refusal_at}
 use Rattle.console_reporter.specs.Configuration.{Configuration, settings_of}
 use Rattle.console_reporter.specs.Outcomes.{Stops}
 use Rattle.console_reporter.specs.Outcomes.Side.{Report, Records}
 use Rattle.console_reporter.specs.Report.{past_at, report, text_at}
 use Rattle.console_reporter.specs.OptionalStore.{store_accepts, store_may_refuse, store_meaning}
 use Rattle.console_reporter.specs.HeldState.{MayGrowAt, StandsAfter, may_grow_in}
+use Rattle.console_reporter.specs.Runs.{Runs, absent}
 use Rattle.console_reporter.specs.Stored.{stored, stored_at}
 use Rattle.console_reporter.specs.Telling.{AreDelivered, IsSameReporter, MayGrowFor, Promises, Tells, TellsRun, past_with}
 use Rattle.run_model.specs.declared.call.ReportCall.{ReportCall}
 use Rattle.reporter_state.specs.Refusals.{refusal_in}
 use Rattle.reporter_state.specs.declared.faults.RunFault.{RunFault}
-use Rattle.reporter_state.specs.declared.faults.WriteEventError.TheVariants.{Failed, Io, Memory, StoreIo}
+use Rattle.reporter_state.specs.declared.faults.WriteEventError.{WriteEventError}
+use Rattle.reporter_state.specs.declared.faults.WriteEventError.TheVariants.{Failed, Io, Memory, OutputNotLoaded, RetriedSuccess, StoreIo}
 use Rattle.console_reporter.specs.declared.imp.reporter.DisplayReporter.{DisplayReporter}
 use Rattle.console_reporter.specs.declared.imp.store.Store.{Store}
-use Rattle.console_reporter.proofs.lemmas.Calls.{stopped_device, stopped_known}
+use Rattle.console_reporter.proofs.lemmas.Calls.{err_here, ok_here, stopped_device, stopped_known}
+use Rattle.console_reporter.proofs.lemmas.Independence.{order_independent, stats_independent}
+use Rattle.console_reporter.proofs.lemmas.ReportColourPairs.{colour_holds, plain_holds}
 use Rattle.console_reporter.proofs.lemmas.Stores.{absent_stop, same-store-after, stopped_there, store-laws, store-nothing}
 
 pub same-after : {W S : Type 0} {a b c : DisplayReporter W S} → IsSameReporter a b → IsSameReporter b c → IsSameReporter a c
@@ -55,7 +60,7 @@ module _ {W S : Type 0} {m : Meaning W} {n : Meaning S} (laws : WriterLaws m) (s
   -- what a run leaves where the calls before this one were made, and it was stopped, or past the last of them the end
   module _ (config : Configuration) (calls : List ReportCall) {old new : DisplayReporter W S} (stands : StandsAfter config [] old) (stop : RunFault)
       (h : (mid : DisplayReporter W S) × TellsRun m n old (past_at calls stop.position) mid × Promises m n mid (slice_get calls stop.position) (Err stop.fault) new × (AreDelivered m n old → AreDelivered m n mid)) where
-    pub run_refusal : refusal_at config calls stop.position ≡ refusal_in stop.fault
+    run_refusal : refusal_at config calls stop.position ≡ refusal_in stop.fault
     run_refusal = sym (h.2.refused config _ (h.1.stands config stands))
 
     -- the text of the calls before, and of this one
@@ -65,13 +70,13 @@ module _ {W S : Type 0} {m : Meaning W} {n : Meaning S} (laws : WriterLaws m) (s
     abbrev here : Text
     here = text_at config calls stop.position
 
-    pub run_stopped : (mid : W) × m.accepts old.writer.now before mid × Stops Report m mid here stop.fault new.writer.now
+    run_stopped : (mid : W) × m.accepts old.writer.now before mid × Stops Report m mid here stop.fault new.writer.now
     run_stopped = (h.0.writer.now, h.1.accepted config stands, h.2.err.stopped config _ (h.1.stands config stands))
 
-    pub run_failed : stop.fault ≡ Io → m.failures new.writer.now ≡ successor (m.failures old.writer.now)
+    run_failed : stop.fault ≡ Io → m.failures new.writer.now ≡ successor (m.failures old.writer.now)
     run_failed = let s = run_stopped in stopped_device Report laws old.writer.now s.0 new.writer.now before here stop.fault s.1 s.2
 
-    pub run_known : stop.fault ≡ Failed → ⊥
+    run_known : stop.fault ≡ Failed → ⊥
     run_known = let s = run_stopped in stopped_known Report laws old.writer.now s.0 new.writer.now before here stop.fault s.1 s.2
 
     -- their records
@@ -98,7 +103,7 @@ module _ {W S : Type 0} {m : Meaning W} {n : Meaning S} (laws : WriterLaws m) (s
     ]
 
     -- what a fault of one device leaves of the other: the text of this call is delivered, and the records of the calls before are
-    pub text_delivered : stop.fault ≡ StoreIo → m.is_delivered new.writer.now
+    text_delivered : stop.fault ≡ StoreIo → m.is_delivered new.writer.now
     text_delivered = h.2.err.delivered
 
     records_delivered : AreDelivered m n old → stop.fault ≡ Io → (store_meaning n).is_delivered new.store
@@ -107,41 +112,114 @@ module _ {W S : Type 0} {m : Meaning W} {n : Meaning S} (laws : WriterLaws m) (s
         subst (store_meaning n).is_delivered (sym same) (h.3 held).store
 
     -- with a store
-    pub records_delivered_there : {a b : Store S} → old.store ≡ Some a → new.store ≡ Some b → m.is_delivered old.writer.now → n.is_delivered a.writer.now → stop.fault ≡ Io → n.is_delivered b.writer.now
+    records_delivered_there : {a b : Store S} → old.store ≡ Some a → new.store ≡ Some b → m.is_delivered old.writer.now → n.is_delivered a.writer.now → stop.fault ≡ Io → n.is_delivered b.writer.now
     records_delivered_there {a} {b} old_is new_is w r is =
         subst (store_meaning n).is_delivered new_is (records_delivered (record { writer = w; store = subst (store_meaning n).is_delivered (sym old_is) r }) is)
 
-    pub records_there : {a b : Store S} → old.store ≡ Some a → new.store ≡ Some b → (mid : S) × n.accepts a.writer.now stored_before mid × Stops Records n mid stored_here stop.fault b.writer.now
+    records_there : {a b : Store S} → old.store ≡ Some a → new.store ≡ Some b → (mid : S) × n.accepts a.writer.now stored_before mid × Stops Records n mid stored_here stop.fault b.writer.now
     records_there {a} {b} old_is new_is =
         stopped_there n a b h.0.store stored_before stored_here stop.fault
         (subst (λ x. store_accepts n x stored_before h.0.store) old_is (h.1.stored config stands))
         (subst (λ x. Stops Records (store_meaning n) h.0.store stored_here stop.fault x) new_is records_stopped)
 
-    pub records_failed : {a b : Store S} → old.store ≡ Some a → new.store ≡ Some b → stop.fault ≡ StoreIo → n.failures b.writer.now ≡ successor (n.failures a.writer.now)
+    records_failed : {a b : Store S} → old.store ≡ Some a → new.store ≡ Some b → stop.fault ≡ StoreIo → n.failures b.writer.now ≡ successor (n.failures a.writer.now)
     records_failed {a} {b} old_is new_is = let s = records_there old_is new_is in stopped_device Records store_laws a.writer.now s.0 b.writer.now stored_before stored_here stop.fault s.1 s.2
 
-    pub text_first_there : {a b : Store S} → old.store ≡ Some a → new.store ≡ Some b → n.accepts a.writer.now stored_before b.writer.now ⊎ m.accepts old.writer.now (before ++ here) new.writer.now
+    text_first_there : {a b : Store S} → old.store ≡ Some a → new.store ≡ Some b → n.accepts a.writer.now stored_before b.writer.now ⊎ m.accepts old.writer.now (before ++ here) new.writer.now
     text_first_there old_is new_is = let s = text_first in rw (old_is, new_is) at s
 
-    pub memory_there : {a : Store S} → old.store ≡ Some a → stop.fault ≡ Memory → m.may_refuse old.writer.now ⊎ MayGrowAt config calls stop.position ⊎ n.may_refuse a.writer.now
+    memory_there : {a : Store S} → old.store ≡ Some a → stop.fault ≡ Memory → m.may_refuse old.writer.now ⊎ MayGrowAt config calls stop.position ⊎ n.may_refuse a.writer.now
     memory_there old_is is = let s = memory is in rw old_is at s
 
     -- without one
-    pub no_store_fails : old.store ≡ None → stop.fault ≡ StoreIo → ⊥
+    no_store_fails : old.store ≡ None → stop.fault ≡ StoreIo → ⊥
     no_store_fails none is =
         absent_stop n h.0.store stored_before stored_here new.store
         (subst (λ x. store_accepts n x stored_before h.0.store) none (h.1.stored config stands))
         (subst (λ x. Stops Records (store_meaning n) h.0.store stored_here x new.store) is records_stopped)
 
-    -- by the writer that the reporter began with
-    pub memory_alone : {w : W} → old.writer.now ≡ w → old.store ≡ None → stop.fault ≡ Memory → m.may_refuse w ⊎ MayGrowAt config calls stop.position
-    memory_alone same none is = elim (memory is) [
-      | inl w ↦ inl (subst m.may_refuse same w)
-      | inr (inl grows) ↦ inr grows
-      | inr (inr k) ↦ absurd (subst (store_may_refuse n) none k)
-    ]
+    memory_alone : old.store ≡ None → stop.fault ≡ Memory → m.may_refuse old.writer.now ⊎ MayGrowAt config calls stop.position ⊎ ⊥
+    memory_alone none is = let s = memory is in rw none at s
 
 -- the records of a run in which all calls were made
-pub stored_there : {W S : Type 0} {m : Meaning W} {n : Meaning S} {config : Configuration} {past : List ReportCall} {old new : DisplayReporter W S} {a b : Store S} →
+stored_there : {W S : Type 0} {m : Meaning W} {n : Meaning S} {config : Configuration} {past : List ReportCall} {old new : DisplayReporter W S} {a b : Store S} →
     StandsAfter config [] old → old.store ≡ Some a → new.store ≡ Some b → TellsRun m n old past new → n.accepts a.writer.now (stored config.store past) b.writer.now
 stored_there {config = config} stands old_is new_is h = let s = h.stored config stands in rw (old_is, new_is) at s
+
+-- an absent store goes by every fault that is not its own
+absent_stops : (e : WriteEventError) (t : Text) → (e ≡ Failed → ⊥) → (e ≡ StoreIo → ⊥) → Stops Records absent tt t e tt
+absent_stops RetriedSuccess t known store = refl
+absent_stops OutputNotLoaded t known store = refl
+absent_stops Io t known store = refl
+absent_stops Memory t known store = inr (record { front = []; rest = t; whole = refl; accepted = tt })
+absent_stops Failed t known store = absurd (known refl)
+absent_stops StoreIo t known store = absurd (store refl)
+
+-- what the calls of a run did, from a reporter that had made none
+module _ {W S : Type 0} {m : Meaning W} {n : Meaning S} (laws : WriterLaws m) (store_laws : WriterLaws n) (config : Configuration) (calls : List ReportCall) (old new : DisplayReporter W S)
+    (stands : StandsAfter config [] old) (result : Result (Unit {0}) RunFault)
+    (made : OnOk result (TellsRun m n old (reverse calls) new)) (held : OnOk result (AreDelivered m n new))
+    (accepted : OnOk result ((c : Configuration) → StandsAfter c [] old → AreAccepted c calls))
+    (position : IfErr result (λ stop. stop.position ≤ length calls))
+    (accepted_before : IfErr result (λ stop. (c : Configuration) → StandsAfter c [] old → AreAccepted c (take stop.position calls)))
+    (stopped : IfErr result (λ stop. (mid : DisplayReporter W S) × TellsRun m n old (past_at calls stop.position) mid × Promises m n mid (slice_get calls stop.position) (Err stop.fault) new
+    × (AreDelivered m n old → AreDelivered m n mid))) where
+  -- with a store
+  pub runs_with_store : {a b : Store S} → old.store ≡ Some a → new.store ≡ Some b → Runs m n config calls (old.writer.now, a.writer.now) result (new.writer.now, b.writer.now)
+  runs_with_store old_is new_is =
+      let told : OnOk result (m.accepts old.writer.now (report config (reverse calls)) new.writer.now) = on_ok_weaker _ (λ (h : TellsRun m n old (reverse calls) new). h.accepted config stands) made in
+      record {
+        ok = told;
+        stored = on_ok_weaker _ (stored_there stands old_is new_is) made;
+        delivered = on_ok_weaker _ (λ (h : AreDelivered m n new). h.writer) held;
+        store_delivered = on_ok_weaker _ (λ (h : AreDelivered m n new). subst (store_meaning n).is_delivered new_is h.store) held;
+        accepted = ok_here config old stands (λ config. AreAccepted config calls) result accepted;
+        no_failure = on_ok_weaker _ (λ h. (laws.kept _ _ _ h).0) told;
+        position = position;
+        err = IfErr-weaker _ _ _ (run_stopped laws store_laws config calls stands) stopped;
+        store_err = IfErr-weaker _ _ _ (λ stop h. records_there laws store_laws config calls stands stop h old_is new_is) stopped;
+        text_first = IfErr-weaker _ _ _ (λ stop h. text_first_there laws store_laws config calls stands stop h old_is new_is) stopped;
+        accepted_before = err_here config old stands (λ config stop. AreAccepted config (take stop.position calls)) result accepted_before;
+        refused = IfErr-weaker _ _ _ (run_refusal laws store_laws config calls stands) stopped;
+        io = IfErr-weaker _ _ _ (run_failed laws store_laws config calls stands) stopped;
+        store_io = IfErr-weaker _ _ _ (λ stop h. records_failed laws store_laws config calls stands stop h old_is new_is) stopped;
+        memory = IfErr-weaker _ _ _ (λ stop h. memory_there laws store_laws config calls stands stop h old_is) stopped;
+        known = IfErr-weaker _ _ _ (run_known laws store_laws config calls stands) stopped;
+        text_delivered = IfErr-weaker _ _ _ (text_delivered laws store_laws config calls stands) stopped;
+        records_delivered = λ w r. IfErr-weaker _ _ _ (λ stop h. records_delivered_there laws store_laws config calls stands stop h old_is new_is w r) stopped;
+        colour = colour_holds config calls;
+        stored_colour = record { at_each = λ position. refl; whole = refl };
+        plain = plain_holds config calls;
+        order = order_independent config calls;
+        statistics = stats_independent config calls;
+      }
+
+  -- without one
+  pub runs_alone : old.store ≡ None → Runs m absent config calls (old.writer.now, tt) result (new.writer.now, tt)
+  runs_alone none =
+      let told : OnOk result (m.accepts old.writer.now (report config (reverse calls)) new.writer.now) = on_ok_weaker _ (λ (h : TellsRun m n old (reverse calls) new). h.accepted config stands) made in
+      record {
+        ok = told;
+        stored = on_ok_weaker _ (λ h. tt) made;
+        delivered = on_ok_weaker _ (λ (h : AreDelivered m n new). h.writer) held;
+        store_delivered = on_ok_weaker _ (λ h. tt) held;
+        accepted = ok_here config old stands (λ config. AreAccepted config calls) result accepted;
+        no_failure = on_ok_weaker _ (λ h. (laws.kept _ _ _ h).0) told;
+        position = position;
+        err = IfErr-weaker _ _ _ (run_stopped laws store_laws config calls stands) stopped;
+        store_err = IfErr-weaker _ _ (λ (stop : RunFault). (mid : Unit {0}) × Unit {0} × Stops Records absent mid (stored_at config.store calls stop.position) stop.fault tt) (λ stop h. (tt, tt, absent_stops stop.fault _ (run_known laws store_laws config calls stands stop h) (no_store_fails laws store_laws config calls stands stop h none))) stopped;
+        text_first = IfErr-weaker _ _ _ (λ stop h. inl tt) stopped;
+        accepted_before = err_here config old stands (λ config stop. AreAccepted config (take stop.position calls)) result accepted_before;
+        refused = IfErr-weaker _ _ _ (run_refusal laws store_laws config calls stands) stopped;
+        io = IfErr-weaker _ _ _ (run_failed laws store_laws config calls stands) stopped;
+        store_io = IfErr-weaker _ _ (λ (stop : RunFault). stop.fault ≡ StoreIo → 0 ≡ successor 0) (λ stop h is. absurd (no_store_fails laws store_laws config calls stands stop h none is)) stopped;
+        memory = IfErr-weaker _ _ _ (λ stop h. memory_alone laws store_laws config calls stands stop h none) stopped;
+        known = IfErr-weaker _ _ _ (run_known laws store_laws config calls stands) stopped;
+        text_delivered = IfErr-weaker _ _ _ (text_delivered laws store_laws config calls stands) stopped;
+        records_delivered = λ w r. IfErr-weaker _ _ (λ (stop : RunFault). stop.fault ≡ Io → Unit {0}) (λ stop h is. tt) stopped;
+        colour = colour_holds config calls;
+        stored_colour = record { at_each = λ position. refl; whole = refl };
+        plain = plain_holds config calls;
+        order = order_independent config calls;
+        statistics = stats_independent config calls;
+      }

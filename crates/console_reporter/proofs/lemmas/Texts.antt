@@ -1,5 +1,5 @@
--- The texts of the calls of a past (for `texts_make_the_report`).
-use Rattle.std.proofs.Common.{◌≡◌, ℕ, ◌<◌, List, [], ◌∷◌, ◌++◌, length, refl, sym, ap, subst, ◌∙◌, append-nil, length-append, arith, Some}
+-- The texts of the calls of a past (for `texts_make_the_report`, and for what each call promises).
+use Rattle.std.proofs.Common.{◌≡◌, ℕ, ◌<◌, List, [], ◌∷◌, ◌++◌, length, refl, sym, ap, subst, ◌∙◌, append-nil, length-append, arith, inl, inr, Option, None, Some}
 use Rattle.std.specs.Prelude.{slice_get}
 use Rattle.std.specs.List.{flat_map}
 use Rattle.std.proofs.Math.Seq.{get_or-append_seam}
@@ -8,8 +8,13 @@ use Rattle.std.proofs.lemmas.List.{get_or_append_left}
 use Rattle.std.proofs.lemmas.Option.{slice_get-get_or}
 use Rattle.plain_text.specs.Texts.{Text}
 use Rattle.console_reporter.specs.Configuration.{Configuration}
-use Rattle.console_reporter.specs.Report.{report, text, report_texts}
+use Rattle.report_words.specs.Parts.{IsOfLines}
+use Rattle.report_words.proofs.lemmas.PartsInColour.{ends}
+use Rattle.run_text.specs.Header.{replay_header_text}
+use Rattle.console_reporter.specs.Report.{event_parts, event_text, report, text, report_texts}
+use Rattle.console_reporter.specs.Telling.{told_text}
 use Rattle.run_model.specs.declared.call.ReportCall.{ReportCall}
+use Rattle.run_model.specs.declared.call.ReportCall.TheVariants.{Event, Header, Prefix}
 
 pub report-joined : (config : Configuration) (past : List ReportCall) → report config past ≡ flat_map (λ t. t) (report_texts config past)
 unfolding report_texts
@@ -46,3 +51,15 @@ report_texts-placed config (next ∷ later) call past =
     let many = length-report_texts config whole in
     let joined = length-append later (call ∷ past) in
     get-earlier (report_texts config whole) (text config whole next) (length past) (grind (arith, many, joined)) ∙ report_texts-placed config later call past
+
+-- the text of each call is of lines, as the type of its parts says
+of_lines-text : (config : Configuration) (past : List ReportCall) (call : ReportCall) → IsOfLines (text config past call)
+unfolding event_text
+of_lines-text config past (Event e) = ends _ (event_parts _ _ e.elapsed.0 e.kind)
+of_lines-text config past (Header h) = inr (ends _ (replay_header_text h))
+of_lines-text config past (Prefix p) = inl refl
+
+-- and that of the end of a report, which is empty
+pub of_lines-told : (config : Configuration) (past : List ReportCall) (call : Option ReportCall) → IsOfLines (told_text config past call)
+of_lines-told config past None = inl refl
+of_lines-told config past (Some call) = of_lines-text config past call

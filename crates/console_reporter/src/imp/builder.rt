@@ -70,16 +70,15 @@ pub struct DisplayReporterBuilder {
     pub should_colorize: bool,
     /// Whether the command lines of tests are shown.
     pub verbose: bool,
-    /// Whether captured output stands at the beginning of its lines.
+    /// Whether captured output is written without an indent.
     pub no_output_indent: bool,
     /// Whether the report is made while the run goes on or from its record.
     pub displayer_kind: DisplayerKind,
 }
 
 impl DisplayReporterBuilder {
-    /// What nextest reports a run of this many tests by where nothing is configured: tests that pass, fail or are tried again have a
-    /// line, those that failed or were flaky stand in the summary, with counters and without colours. It allocates the name of the
-    /// default profile.
+    /// nextest's defaults for a run of this many tests: tests that pass, fail or are tried again have a line, failed and flaky tests are
+    /// listed in the summary, and there are counters and no colours. It allocates the name of the default profile.
     ///
     /// ```
     /// let mut builder = DisplayReporterBuilder::new(alloc, 2)?;
@@ -229,8 +228,8 @@ impl DisplayReporterBuilder {
         DisplayReporter::new(alloc, writer, store, settings)
     }
 
-    /// What decides by an event's metadata whether the reporter refuses it, and whether it shows or stores its output: the decider that the
-    /// reporter of this builder answers in these surroundings, with a store where one is named. It allocates nothing.
+    /// Returns the decider, which tells from an event's metadata whether the reporter refuses it and whether it needs its output. It is that of
+    /// the reporter that this builder builds in these surroundings, with a store where one is named. It allocates nothing.
     ///
     /// ```
     /// let decider = builder.output_load_decider(Surroundings::default(), None);

@@ -1,9 +1,10 @@
 //! The calls of a reporter.
 
-ghost use Rattle.std.specs.Prelude.{◌≡◌, ◌≤◌, ◌⊎◌, List, [], ◌∷◌, OnOk, IfErr, IsErrOf, Err, None, Some, length, nat_lt, reverse, slice_get, take, true, false};
+ghost use Rattle.std.specs.Prelude.{◌≡◌, ◌≤◌, ◌⊎◌, List, [], ◌∷◌, OnOk, IfErr, IsErrOf, Err, None, Some, length, reverse, slice_get, take, false};
 ghost use Rattle.std.specs.Option.{option_map};
 ghost use Rattle.run_names.specs.Levels.{reason_rank};
 ghost use Rattle.plain_text.specs.Writer.{Puts, successor};
+ghost use Rattle.report_words.specs.Parts.{paint};
 ghost use Rattle.run_text.specs.Header.{replay_header_text};
 ghost use Rattle.run_model.specs.declared.call.ReportCall.{ReportCall};
 ghost use Rattle.reporter_state.specs.declared.faults.WriteEventError.{WriteEventError};
@@ -12,46 +13,32 @@ ghost use Rattle.reporter_state.specs.Refusals.{decider_by};
 ghost use Rattle.console_reporter.specs.Accepted.{AreAccepted, decider_of};
 ghost use Rattle.reporter_state.specs.Effects.{HasEndOutputIn, effect_of, end_of};
 ghost use Rattle.reporter_state.specs.Loads.{lacks_output};
-ghost use Rattle.reporter_state.specs.Entries.{hiding_rank};
 ghost use Rattle.console_reporter.specs.Exactness.{IsExact};
 ghost use Rattle.reporter_state.specs.Refusals.{refusal_in};
 ghost use Rattle.console_reporter.specs.Outcomes.{IsOfConsole, Stops, error_for};
 ghost use Rattle.console_reporter.specs.Outcomes.Side.{Report, Records};
-ghost use Rattle.console_reporter.specs.Report.{end_of_run_text, event_text, finished_text, listed_text, past_at, text};
+ghost use Rattle.console_reporter.specs.Report.{event_text, past_at, text};
 ghost use Rattle.console_reporter.specs.OptionalStore.{config_of, store_accepts, store_delivered, store_meaning};
 ghost use Rattle.console_reporter.specs.Stored.{record_of};
 ghost use Rattle.console_reporter.specs.Telling.{AreDelivered, IsSameReporter, Breaks, Promises, Tells, TellsRun};
-ghost use Rattle.console_reporter.specs.Topics.{is_of_run};
 ghost use Rattle.console_reporter.specs.HeldState.{StandsAfter, HasFailed, IsSameWriter, MayGrow, known_by};
 
+use super::event_text::write_event_text;
 use super::store::Store;
-use super::topics::{write_attempt, write_info, write_setup_script, write_start, write_stop};
 use plain_text::write_str::{WriteFault, WriteStr};
 use reporter_state::decider::OutputLoadDecider;
-use reporter_state::effect::{EndedTest, EventEffect};
+use reporter_state::effect::EventEffect;
 use reporter_state::faults::{RunFault, WriteEventError};
 use reporter_state::state::ReporterState;
 use run_model::call::ReportCall;
-use run_model::event::{TestEvent, TestEventKind};
-use run_model::level::CancelReason;
+use run_model::event::TestEvent;
 use run_model::memory::OutOfMemory;
-use run_model::not_seen::NotSeen;
 use run_model::replay::ReplayHeader;
 use run_model::run_id::ShortestRunIdPrefix;
-use run_model::stats::RunFinishedStats;
-use run_model::time::Nanos;
 use run_text::header::write_replay_header;
-use run_text::input::write_input_enter;
-use run_text::not_seen::write_not_seen;
-use run_text::start::write_run_started;
-use run_text::stress::{write_stress_sub_run_finished, write_stress_sub_run_started};
-use run_text::summary::write_run_finished;
 use std::alloc::Global;
 use store_text::config::StoreConfig;
-use test_text::test_finished::write_test_finished;
-use test_text::test_skipped::write_test_skipped;
 use text_parts::settings::Settings;
-use unit_report::formatters::write_final_warnings;
 
 /// Reports events to a writer, and writes a record of each finished test to a store, if it has one.
 ///
@@ -86,8 +73,8 @@ impl<'a, W: WriteStr, S: WriteStr> DisplayReporter<'a, W, S> {
         }
     }
 
-    /// What decides by an event's metadata whether this reporter refuses it, and whether it shows or stores its output. It goes by
-    /// the reporter's configuration alone: it is the same after every call, also after one that failed.
+    /// Returns the decider, which tells from an event's metadata whether the reporter refuses it and whether it needs its output. It depends
+    /// on the reporter's configuration alone: it is the same after every call, also after one that failed.
     ///
     /// No output that it skips changes a report or what is stored. In a run that comes to its end, and is not cancelled at once,
     /// each that it loads does.
@@ -431,7 +418,7 @@ fn deliver_header<W: WriteStr>(
     settings: &Settings,
     header: &ReplayHeader,
 ) -> Result<(), WriteFault>
-    ensures text { Puts W.meaning w.old (replay_header_text settings.now.styles header.now) result w.new }
+    ensures text { Puts W.meaning w.old (paint settings.now.styles (replay_header_text header.now)) result w.new }
     ensures delivered { OnOk result (W.meaning.is_delivered w.new) }
 {
     write_replay_header(w, &settings.styles, header)?;
@@ -453,143 +440,4 @@ fn write_delivered<W: WriteStr>(
 {
     write_event_text(w, state, event, effect)?;
     w.write_str_flush()
-}
-
-// Writes the text of an event.
-#[tactic(auto, unfolding(crate::specs::Report::event_text))]
-fn write_event_text<W: WriteStr>(
-    w: &mut W,
-    state: &ReporterState,
-    event: &TestEvent<'_>,
-    effect: &EventEffect<'_, '_>,
-) -> Result<(), WriteFault>
-    requires ended { option_map end_of effect.now.ended ≡ (effect_of event.now.kind).ended state.now.settings (reason_rank state.now.cancel_status) }
-    requires loaded { HasEndOutputIn (option_map end_of effect.now.ended) }
-    requires accepted { lacks_output (decider_by state.now.settings None) event.now.kind ≡ false }
-    ensures { Puts W.meaning w.old (event_text state.now.settings (known_by state.now) event.now.elapsed.0 event.now.kind) result w.new }
-{
-    let (settings, kind) = (&state.settings, &event.kind);
-    match kind {
-        TestEventKind::SetupScriptStarted { .. }
-        | TestEventKind::SetupScriptSlow { .. }
-        | TestEventKind::SetupScriptFinished { .. } => write_setup_script(w, settings, kind),
-        TestEventKind::TestStarted { .. } | TestEventKind::TestRetryStarted { .. } => {
-            write_start(w, settings, kind)
-        }
-        TestEventKind::TestSlow { .. } | TestEventKind::TestAttemptFailedWillRetry { .. } => {
-            write_attempt(w, settings, kind)
-        }
-        TestEventKind::TestFinished { .. } => write_finished(w, settings, &effect.ended),
-        TestEventKind::TestSkipped {
-            stress_index,
-            test_instance,
-        } => write_test_skipped(w, settings, *stress_index, *test_instance),
-        TestEventKind::RunBeginCancel { .. }
-        | TestEventKind::RunBeginKill { .. }
-        | TestEventKind::RunPaused { .. }
-        | TestEventKind::RunContinued { .. } => write_stop(w, settings, kind),
-        TestEventKind::InfoStarted { .. }
-        | TestEventKind::InfoResponse { .. }
-        | TestEventKind::InfoFinished { .. } => write_info(w, settings, event.elapsed, kind),
-        TestEventKind::RunStarted { .. }
-        | TestEventKind::StressSubRunStarted { .. }
-        | TestEventKind::InputEnter { .. }
-        | TestEventKind::StressSubRunFinished { .. }
-        | TestEventKind::RunFinished { .. } => write_run(w, state, event),
-    }
-}
-
-// Writes that the run, or an iteration of it, has started or finished, or how it stands.
-#[tactic(auto, unfolding(crate::specs::Report::event_text))]
-fn write_run<W: WriteStr>(
-    w: &mut W,
-    state: &ReporterState,
-    event: &TestEvent<'_>,
-) -> Result<(), WriteFault>
-    requires { is_of_run event.now.kind ≡ true }
-    ensures { Puts W.meaning w.old (event_text state.now.settings (known_by state.now) event.now.elapsed.0 event.now.kind) result w.new }
-{
-    let settings = &state.settings;
-    match &event.kind {
-        TestEventKind::RunStarted {
-            test_list,
-            run_id,
-            profile_name,
-        } => {
-            let prefix = &state.unique_prefix;
-            write_run_started(w, settings, prefix, test_list, run_id, profile_name)
-        }
-        TestEventKind::StressSubRunStarted { progress } => {
-            write_stress_sub_run_started(w, settings, progress)
-        }
-        TestEventKind::InputEnter {
-            current_stats,
-            running,
-        } => write_input_enter(w, &settings.styles, event.elapsed, current_stats, *running),
-        TestEventKind::StressSubRunFinished {
-            progress,
-            sub_elapsed,
-            sub_stats,
-        } => write_stress_sub_run_finished(w, settings, progress, *sub_elapsed, sub_stats),
-        TestEventKind::RunFinished {
-            elapsed,
-            run_stats,
-            outstanding_not_seen,
-        } => write_end_of_run(w, state, *elapsed, run_stats, outstanding_not_seen),
-        _ => unreachable!(),
-    }
-}
-
-// Writes the end of a run: its summary, the entries, the tests that were not seen, and the warnings.
-fn write_end_of_run<W: WriteStr>(
-    w: &mut W,
-    state: &ReporterState,
-    elapsed: Nanos,
-    run_stats: &RunFinishedStats,
-    outstanding_not_seen: &Option<NotSeen>,
-) -> Result<(), WriteFault>
-    ensures { Puts W.meaning w.old (end_of_run_text state.now.settings (known_by state.now) elapsed.0 run_stats.now outstanding_not_seen.now) result w.new }
-{
-    let settings = &state.settings;
-    write_run_finished(w, settings, elapsed, run_stats)?;
-    write_listed(w, state)?;
-    write_not_seen(w, settings, outstanding_not_seen)?;
-    write_final_warnings(settings.mode, run_stats.final_stats(), &settings.styles, w)
-}
-
-// Writes the test that an event finishes.
-fn write_finished<W: WriteStr>(
-    w: &mut W,
-    settings: &Settings,
-    ended: &Option<EndedTest<'_, '_>>,
-) -> Result<(), WriteFault>
-    requires { HasEndOutputIn (option_map end_of ended.now) }
-    ensures { Puts W.meaning w.old (finished_text settings.now (option_map end_of ended.now)) result w.new }
-{
-    match ended {
-        Some(EndedTest::Finished(attempts)) => write_test_finished(w, settings, &attempts.finished),
-        Some(EndedTest::Skipped(_)) | None => Ok(()),
-    }
-}
-
-// Writes the entries, unless the run was interrupted.
-#[tactic(auto, unfolding(crate::specs::Report::listed_text))]
-fn write_listed<W: WriteStr>(w: &mut W, state: &ReporterState) -> Result<(), WriteFault>
-    ensures { Puts W.meaning w.old (listed_text state.now.settings (known_by state.now)) result w.new }
-{
-    if shows_entries(state.cancel_status) {
-        state.kept.write(w, &state.settings)
-    } else {
-        Ok(())
-    }
-}
-
-// Whether the summary lists entries in a run that was cancelled for this reason.
-fn shows_entries(reason: Option<CancelReason>) -> bool
-    ensures { result ≡ nat_lt (reason_rank reason) hiding_rank }
-{
-    match reason {
-        None => true,
-        Some(reason) => CancelReason::Interrupt.is_above(reason),
-    }
 }

@@ -53,7 +53,7 @@ fn an_iteration_stands_before_a_bar(rt: HostRuntime) -> Result<(), Fail> {
         &mut text,
         &Styles::default(),
         StatusLineKind::Final,
-        test,
+        &test,
         line,
     )?;
     assert_eq!(rt;

@@ -17,7 +17,7 @@ alike-front [] u v h = h
 alike-front (c ∷ t) u v h = ap (λ l. cond ((c == 32) && ends_line l) l (c ∷ l)) (alike-front t u v h)
 
 -- end spaces before a line feed do not depend on what follows
-end_spaces-line : (t u : Text) → without_end_spaces (t ++ 10 ∷ u) ≡ without_end_spaces t ++ 10 ∷ without_end_spaces u
+pub end_spaces-line : (t u : Text) → without_end_spaces (t ++ 10 ∷ u) ≡ without_end_spaces t ++ 10 ∷ without_end_spaces u
 unfolding without_end_spaces
 end_spaces-line [] u = refl
 end_spaces-line (c ∷ t) u =

@@ -15,7 +15,7 @@ use Rattle.reporter_state.specs.Unread.{is_skipped, unread_call}
 use Rattle.reporter_state.specs.declared.decider.OutputLoadDecider.{OutputLoadDecider}
 use Rattle.scene_events.specs.Loads.{attempts_with, event_with}
 use Rattle.scene_events.specs.SceneAttempts.{script_status}
-use Rattle.scene_events.specs.Scenes.{IsCallOf, SaysSame, elapsed_of}
+use Rattle.scene_events.specs.Scenes.{IsCallOf, SaysSame, elapsed_in}
 use Rattle.scene_events.specs.declared.scene.event.SceneEvent.{SceneEvent}
 use Rattle.scene_events.specs.declared.scene.event.SceneEvent.TheVariants as scene
 use Rattle.recorded_events.specs.Loads.{event_inline, output_inline}
@@ -28,7 +28,7 @@ pub record HasSame (d : OutputLoadDecider) (old event : SceneEvent) (k : TestEve
   pub other : TestEventKind
   pub says : SaysSame event other
   pub skipped : skips d event ≡ true
-  pub elapsed : elapsed_of event ≡ elapsed_of old
+  pub elapsed : elapsed_in event ≡ elapsed_in old
   pub same : unloaded_kind other ≡ unloaded_kind k
 
 -- where no output is put in

@@ -1,17 +1,18 @@
 -- The decider skips an event of a scene just where it skips the event of a reporter that the call has.
 use Rattle.std.proofs.Common.{◌≡◌, Bool, true, false, not, Some, refl, ap, ◌∙◌}
 use Rattle.run_model.specs.Statuses.{summary_of}
-use Rattle.run_model.specs.declared.call.ReportCall.{ReportCall}
-use Rattle.run_model.specs.declared.call.ReportCall.TheVariants as call
 use Rattle.run_model.specs.declared.event.TestEventKind.{TestEventKind}
 use Rattle.run_model.specs.declared.event.TestEventKind.TheVariants as kind
 use Rattle.reporter_state.specs.Loads.{load_if, loads_attempt, loads_finish, loads_script}
+use Rattle.reporter_state.specs.Metadata.{loads_last}
+use Rattle.reporter_state.proofs.lemmas.Metadata.{loads_last-same}
 use Rattle.reporter_state.specs.Unread.{is_skip, is_skipped}
 use Rattle.reporter_state.specs.declared.decider.OutputLoadDecider.{OutputLoadDecider}
-use Rattle.scene_events.specs.Scenes.{IsCallOf, SaysSame}
+use Rattle.scene_events.specs.Scenes.{SaysSame}
 use Rattle.scene_events.specs.declared.scene.event.SceneEvent.{SceneEvent}
 use Rattle.scene_events.specs.declared.scene.event.SceneEvent.TheVariants as scene
-use Rattle.recorded_events.specs.Skips.{skips, skips_call}
+use Rattle.scene_events.specs.declared.scene.unit_events.TestFinish.{TestFinish}
+use Rattle.recorded_events.specs.Skips.{skips}
 
 skip-if : (b : Bool) → is_skip (Some (load_if b)) ≡ not b
 skip-if true = refl
@@ -36,10 +37,6 @@ skips-same d event (kind.TestAttemptFailedWillRetry stress test status delay fai
 skips-same d event (kind.TestFinished stress test success failure statuses stats) says = absurd says
 skips-same d event k says = refl
 
--- a call of the event
-pub skips_call_same : (d : OutputLoadDecider) (event : SceneEvent) (c : ReportCall) → IsCallOf event c → skips_call d c ≡ skips d event
-skips_call_same d event (call.Event e) is = skips-same d event e.kind is.1
-skips_call_same d (scene.Header header) (call.Header h) is = refl
-skips_call_same d (scene.Prefix prefix) (call.Prefix p) is = refl
-skips_call_same d event (call.Header h) is = absurd is
-skips_call_same d event (call.Prefix p) is = absurd is
+-- by how the last attempt ended (for `skips`)
+pub loads_by_last : (d : OutputLoadDecider) (e : TestFinish) → loads_last d e.success_output e.failure_output e.attempts.last.result ≡ loads_finish d e.success_output e.failure_output (summary_of e.attempts)
+loads_by_last d e = loads_last-same d e.success_output e.failure_output e.attempts

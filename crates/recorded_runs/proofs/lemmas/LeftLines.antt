@@ -17,7 +17,7 @@ use Rattle.scene_fields.specs.declared.fault.ReadFault.TheVariants as fault
 use Rattle.scene_text.specs.SceneTexts.{ConfigLine, EventLine, IsNextFault, LinesBefore, NoEvent, ParsedLine, ParsedLines, ReadsLines, RunLine, event_line, event_lines, is_begun, line_read, lines_before, lines_with, parsed_line, with_event, with_line}
 use Rattle.scene_text.specs.declared.reader.LinesRead.{LinesRead}
 use Rattle.scene_text.proofs.lemmas.Tellings.{all_append, noted_append}
-use Rattle.scenes.specs.Read.{HasRead, IsMore}
+use Rattle.scenes.specs.Read.{HasReadLines, IsMore}
 
 -- what stands before the line behind one that tells
 begun_more : (es : List SceneEvent) (e : SceneEvent) → is_begun (es ++ e ∷ []) ≡ true
@@ -54,10 +54,10 @@ module _ (file : List ℕ) (total : ℕ) (options : Options) (all front : List R
   abbrev Left : ParsedLines → List RunLine → Type 0
   Left = IsLeft total options recorded remaining count
 
-  module _ (has : HasRead file all front before old (Ok true) Left) where
+  module _ (has : HasReadLines file all front before old (Ok true) Left) where
     -- further lines were read
     further : (new : LinesRead) (lines left : List RunLine) → has.left ≡ lines ++ left → ReadsLines old new lines → (more : Result Bool Fault) (Next : ParsedLines → List RunLine → Type 0) → IsMore file more (behind before.events new) left new.next Next →
-        HasRead file all front before new more Next
+        HasReadLines file all front before new more Next
     further new lines left is reads more Next more_is =
         let size = length-append has.lines lines in
         record {
@@ -76,12 +76,12 @@ module _ (file : List ℕ) (total : ℕ) (options : Options) (all front : List R
 
     module _ (recorded_new remaining_new : Option (List ℕ)) (kept : recorded_new ≡ recorded) (line : List ℕ) where
       -- no line is left
-      pub none_left : ((text : List ℕ) → remaining ≡ Some text → IsNextLine text false line remaining_new) → (new : LinesRead) → new ≡ old → HasRead file all front before new (Ok false) (IsLeft total options recorded_new remaining_new count)
+      pub none_left : ((text : List ℕ) → remaining ≡ Some text → IsNextLine text false line remaining_new) → (new : LinesRead) → new ≡ old → HasReadLines file all front before new (Ok false) (IsLeft total options recorded_new remaining_new count)
       none_left next new same =
           let left = has.more_is in
           let ends = next left.text left.rest in
           let none : has.left ≡ [] = left.is ∙ ap (map (line_replayed options left.all)) ends.0 in
-          subst (λ r. HasRead file all front before r (Ok false) (IsLeft total options recorded_new remaining_new count)) (sym same) (record {
+          subst (λ r. HasReadLines file all front before r (Ok false) (IsLeft total options recorded_new remaining_new count)) (sym same) (record {
             lines = has.lines;
             left = has.left;
             whole = has.whole;
@@ -125,7 +125,7 @@ module _ (file : List ℕ) (total : ℕ) (options : Options) (all front : List R
 
         -- and was read
         pub line_is_read : (count_new : ℕ) → ((outputs : List ℕ) → recorded ≡ Some outputs → Lacks 10 line → ReadsLines old new (line_replayed options outputs line ∷ [])) →
-            ((outputs : List ℕ) → recorded ≡ Some outputs → Lacks 10 line → IsCounted options old (line_unread line) (stored_in line) count count_new) → HasRead file all front before new (Ok true) (IsLeft total options recorded_new remaining_new count_new)
+            ((outputs : List ℕ) → recorded ≡ Some outputs → Lacks 10 line → IsCounted options old (line_unread line) (stored_in line) count count_new) → HasReadLines file all front before new (Ok true) (IsLeft total options recorded_new remaining_new count_new)
         line_is_read count_new reads counts =
             let read = reads all_outputs has.more_is.outputs lacks in
             let b = lines_before (behind before.events old) in
@@ -145,7 +145,7 @@ module _ (file : List ℕ) (total : ℕ) (options : Options) (all front : List R
             })
 
         -- or it is wrong
-        pub line_is_left : (told : Fault) (Next : ParsedLines → List RunLine → Type 0) → ((outputs : List ℕ) → recorded ≡ Some outputs → Lacks 10 line → LeavesLine file old new (line_replayed options outputs line) told) → HasRead file all front before new (Err told) Next
+        pub line_is_left : (told : Fault) (Next : ParsedLines → List RunLine → Type 0) → ((outputs : List ℕ) → recorded ≡ Some outputs → Lacks 10 line → LeavesLine file old new (line_replayed options outputs line) told) → HasReadLines file all front before new (Err told) Next
         line_is_left told Next leaves = elim (leaves all_outputs has.more_is.outputs lacks) [
           | inl h ↦ further new [] has.left refl h.1 (Err told) Next (inl h.0)
           | inr h ↦ (

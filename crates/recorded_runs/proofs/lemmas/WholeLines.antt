@@ -1,14 +1,14 @@
--- The whole lines of a text, one by one (for `next_line`, `read_next`).
-use Rattle.std.proofs.Common.{◌≡◌, ◌⊎◌, ℕ, ◌+◌, true, false, List, [], ◌∷◌, ◌++◌, Option, Some, length, reverse, refl, sym, ap, ◌∙◌, subst, arith, inl, inr, ◌==◌}
-use Rattle.std.specs.Io.BufRead.{drop_through, take_through}
+-- The whole lines of a text, one by one (for `next_line`, `take_at_hand`, `read_next`).
+use Rattle.std.proofs.Common.{◌≡◌, ℕ, ◌+◌, ◌<◌, true, false, List, [], ◌∷◌, ◌++◌, Option, None, Some, length, take, drop, refl, sym, ap, ◌∙◌, subst, arith, append_assoc, append-nil, inl, inr, ◌==◌}
 use Rattle.std.specs.List.{onto_first}
-use Rattle.std.proofs.lemmas.Bool.Decides.{nat_tests}
 use Rattle.std.proofs.lemmas.Bool.{cases_Bool}
-use Rattle.std.proofs.lemmas.List.{append_cancel_right, length-append, reverse-append}
+use Rattle.std.proofs.lemmas.List.{drop-append-le, drop_all}
+use Rattle.memchr.specs.Find.{IsFirstByte, is_byte}
 use Rattle.scene_fields.specs.Split.{Lacks, split_on}
-use Rattle.scene_fields.proofs.lemmas.Cuts.{split_on-lacks, split_on-parts}
-use Rattle.recorded_runs.specs.NextLines.{IsNextLine}
+use Rattle.scene_fields.proofs.lemmas.Cuts.{Lacks-from_each, cut_at, split_on-lacks, split_on-parts}
+use Rattle.recorded_runs.specs.NextLines.{IsNextLine, TakesOf}
 use Rattle.recorded_runs.specs.Runs.{whole_lines, without_last}
+use Rattle.recorded_runs.specs.declared.lines.Taken.TheVariants as taken
 
 -- a text has a first piece
 record HasPiece (text : List ℕ) : Type 0 where
@@ -33,65 +33,40 @@ whole_lines-more line more lacks =
 pub whole_lines-none : (text : List ℕ) → Lacks 10 text → whole_lines text ≡ []
 whole_lines-none text lacks = ap without_last (split_on-lacks 10 text lacks)
 
--- what stands up to the first line feed and with it: a line, or all of the text
-record IsLine (text : List ℕ) : Type 0 where
-  pub line : List ℕ
-  pub taken : take_through 10 text ≡ line ++ 10 ∷ []
-  pub whole : text ≡ line ++ 10 ∷ drop_through 10 text
-  pub lacks : Lacks 10 line
+lacks-append : (t u : List ℕ) → Lacks 10 t → Lacks 10 u → Lacks 10 (t ++ u)
+lacks-append [] u h k = k
+lacks-append (c ∷ t) u h k = (h.0, lacks-append t u h.1 k)
 
-record IsRest (text : List ℕ) : Type 0 where
-  pub taken : take_through 10 text ≡ text
-  pub left : drop_through 10 text ≡ []
-  pub lacks : Lacks 10 text
+-- a part of a line was taken of the text, and this is left
+abbrev pub IsPart : List ℕ → List ℕ → Option (List ℕ) → Type 0
+IsPart text line rest = (more : List ℕ) × (rest ≡ Some more) × (text ≡ line ++ more) × Lacks 10 line
 
-taken_through : (text : List ℕ) → IsLine text ⊎ IsRest text
-taken_through [] = inr (record { taken = refl; left = refl; lacks = tt })
-taken_through (c ∷ t) = elim (cases_Bool (c == 10)) [
-  | inl y ↦ (let is : c ≡ 10 = grind (arith, nat_tests, y) in inl (record { line = []; taken = rw y (ap (λ b. b ∷ []) is); whole = rw y (ap (λ b. b ∷ t) is); lacks = tt }))
-  | inr n ↦ elim (taken_through t) [
-    | inl h ↦ inl (record { line = c ∷ h.line; taken = rw n (ap (λ u. c ∷ u) h.taken); whole = rw n (ap (λ u. c ∷ u) h.whole); lacks = (n, h.lacks) })
-    | inr h ↦ inr (record { taken = rw n (ap (λ u. c ∷ u) h.taken); left = rw n h.left; lacks = (n, h.lacks) })
-  ]
-]
+module _ (text old left at_hand new : List ℕ) (rest : Option (List ℕ)) (so_far : text ≡ old ++ left) (lacks : Lacks 10 old) where
+  pub line_taken : TakesOf taken.Line at_hand left old new rest → IsNextLine text true new rest
+  line_taken (part, more, is, ends, cut, none) =
+      (more, is, so_far ∙ ap (λ t. old ++ t) cut ∙ sym (append_assoc old part (10 ∷ more)) ∙ ap (λ t. t ++ 10 ∷ more) (sym ends), subst (Lacks 10) (sym ends) (lacks-append old part lacks none))
 
--- two lists with one more have the same last
-same_last : (s u : List ℕ) (x y : ℕ) → s ++ x ∷ [] ≡ u ++ y ∷ [] → x ≡ y
-same_last s u x y h =
-    let turned : reverse (x ∷ []) ++ reverse s ≡ reverse (y ∷ []) ++ reverse u = sym (reverse-append s (x ∷ [])) ∙ ap reverse h ∙ reverse-append u (y ∷ []) in
-    cc
+  pub part_taken : TakesOf taken.Part at_hand left old new rest → IsPart text new rest
+  part_taken (part, more, is, ends, cut, none) =
+      (more, is, so_far ∙ ap (λ t. old ++ t) cut ∙ sym (append_assoc old part more) ∙ ap (λ t. t ++ more) (sym ends), subst (Lacks 10) (sym ends) (lacks-append old part lacks none))
 
--- what ends in a line feed has one
-feed_at_end : (front : List ℕ) → Lacks 10 (front ++ 10 ∷ []) → ⊥
-feed_at_end [] h = absurd (grind (arith, nat_tests, h.0))
-feed_at_end (c ∷ t) h = feed_at_end t h.1
+  -- the file ends here
+  pub none_taken : left ≡ [] → rest ≡ Some left → IsNextLine text false new rest
+  none_taken end is =
+      let whole : text ≡ old = so_far ∙ ap (λ t. old ++ t) end ∙ append-nil old in
+      (whole_lines-none text (subst (Lacks 10) (sym whole) lacks), ([], is ∙ ap Some end, whole_lines-none [] tt))
 
-module _ (text taken line : List ℕ) (rest : Option (List ℕ)) (known : rest ≡ Some (drop_through 10 text)) (is : taken ≡ take_through 10 text) where
-  -- nothing was taken, or this byte last
-  pub none_taken : length taken ≡ 0 → IsNextLine text false line rest
-  none_taken none = elim (taken_through text) [
-    | inl h ↦ (let size : length taken ≡ length h.line + 1 = ap length (is ∙ h.taken) ∙ length-append h.line (10 ∷ []) in absurd (omega (arith, none)))
-    | inr h ↦ (whole_lines-none text h.lacks, ([], known ∙ ap Some h.left, whole_lines-none [] tt))
-  ]
+-- what is at hand up to its first line feed, or all of it
+module _ (old at_hand text : List ℕ) (first : (left : List ℕ) × (at_hand ++ left ≡ text)) (rest : Option (List ℕ)) where
+  pub feed_found : (k : ℕ) (new : List ℕ) → IsFirstByte (is_byte 10) at_hand (Some k) → new ≡ old ++ take k at_hand → rest ≡ Some (drop (k + 1) text) → TakesOf taken.Line at_hand text old new rest
+  feed_found k new found is left =
+      let parts = cut_at 10 at_hand k found.0 found.1 in
+      let whole : text ≡ take k at_hand ++ 10 ∷ (drop (k + 1) at_hand ++ first.0) = sym first.1 ∙ ap (λ t. t ++ first.0) parts.1 ∙ append_assoc (take k at_hand) (10 ∷ drop (k + 1) at_hand) first.0 in
+      let within : k < length at_hand = found.0.high in
+      let behind : drop (k + 1) text ≡ drop (k + 1) at_hand ++ first.0 = ap (drop (k + 1)) (sym first.1) ∙ drop-append-le (k + 1) at_hand first.0 (omega (arith, within)) in
+      (take k at_hand, drop (k + 1) text, left, is, whole ∙ ap (λ t. take k at_hand ++ 10 ∷ t) (sym behind), parts.0)
 
-  module _ (last : ℕ) (ends : taken ≡ line ++ last ∷ []) where
-    feed_taken : (last == 10) ≡ true → IsNextLine text true line rest
-    feed_taken is_feed =
-        let feed : last ≡ 10 = grind (arith, nat_tests, is_feed) in
-        let ends_so : taken ≡ line ++ 10 ∷ [] = ends ∙ ap (λ b. line ++ b ∷ []) feed in
-        elim (taken_through text) [
-          | inl h ↦ (
-              let same : h.line ≡ line = append_cancel_right h.line line (10 ∷ []) (sym h.taken ∙ sym is ∙ ends_so) in
-              (drop_through 10 text, known, subst (λ l. text ≡ l ++ 10 ∷ drop_through 10 text) same h.whole, subst (Lacks 10) same h.lacks)
-              )
-          | inr h ↦ absurd (feed_at_end line (subst (Lacks 10) (sym h.taken ∙ sym is ∙ ends_so) h.lacks))
-        ]
-
-    other_taken : (last == 10) ≡ false → IsNextLine text false line rest
-    other_taken is_other = elim (taken_through text) [
-      | inl h ↦ (let feed : last ≡ 10 = same_last line h.line last 10 (sym ends ∙ is ∙ h.taken) in absurd (grind (arith, nat_tests, is_other)))
-      | inr h ↦ (whole_lines-none text h.lacks, ([], known ∙ ap Some h.left, whole_lines-none [] tt))
-    ]
-
-    pub last_taken : IsNextLine text (last == 10) line rest
-    last_taken = elim (cases_Bool (last == 10)) [ inl h ↦ rw h (feed_taken h) | inr h ↦ rw h (other_taken h) ]
+  pub feed_missed : (count : ℕ) (new : List ℕ) → IsFirstByte (is_byte 10) at_hand None → count ≡ length at_hand → new ≡ old ++ at_hand → rest ≡ Some (drop count text) → TakesOf taken.Part at_hand text old new rest
+  feed_missed count new missed size is left =
+      let behind : drop count text ≡ first.0 = ap (drop count) (sym first.1) ∙ ap (λ n. drop n (at_hand ++ first.0)) size ∙ drop-append-le (length at_hand) at_hand first.0 (omega arith) ∙ ap (λ t. t ++ first.0) (drop_all (length at_hand) at_hand (omega arith)) in
+      (at_hand, drop count text, left, is, sym first.1 ∙ ap (λ t. at_hand ++ t) (sym behind), Lacks-from_each 10 at_hand missed)

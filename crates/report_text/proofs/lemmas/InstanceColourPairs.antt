@@ -13,7 +13,8 @@ use Rattle.report_text.specs.declared.helpers.instance.DisplayCounterIndex.TheVa
 use Rattle.plain_text.specs.declared.style.Style.{Style}
 use Rattle.plain_text.specs.declared.style.Style.TheVariants as style
 use Rattle.plain_text.proofs.lemmas.Closed.{char_free, repeat_free}
-use Rattle.report_words.proofs.lemmas.ColourPairs.{IsColourPair, colour_pair-none, colour_pair-free, colour_pairs}
+use Rattle.report_words.specs.InColour.{IsColourPair}
+use Rattle.report_words.proofs.lemmas.ColourPairs.{colour_pair-none, colour_pair-free, colour_pairs}
 
 colour_pair-name_at : (k : Bool) (name : Text) (place : Option ℕ) → HasNoEscape name → place ≡ last_colons name → IsColourPair k (test_name_text (list_styles_of true) name) (test_name_text (list_styles_of false) name)
 unfolding test_name_text

@@ -110,7 +110,7 @@ impl<'a> DisplayTestInstance<'a> {
         write_test_instance(
             w,
             &self.styles,
-            self.stress_index,
+            &self.stress_index,
             &self.counter_index,
             self.instance,
         )
@@ -121,20 +121,21 @@ impl<'a> DisplayTestInstance<'a> {
 ///
 /// ```
 /// let counter = Some(DisplayCounterIndex::new_counter(1, 2));
-/// write_test_instance(&mut out, &styles.list_styles, None, &counter, test.as_ref())?;
+/// write_test_instance(&mut out, &styles.list_styles, &None, &counter, test.as_ref())?;
 /// assert_eq!(out.as_str(), "(1/2) alpha t1");
 /// ```
+#[inline(always)]
 #[tactic(auto, unfolding(crate::specs::Instance::test_text))]
 pub fn write_test_instance<W: WriteStr>(
     w: &mut W,
     styles: &ListStyles,
-    stress_index: Option<StressIndex>,
+    stress_index: &Option<StressIndex>,
     counter_index: &Option<DisplayCounterIndex>,
     instance: TestInstanceId<'_>,
 ) -> Result<(), WriteFault>
-    ensures { Puts W.meaning w.old (instance_text styles.now stress_index counter_index.now instance.entry) result w.new }
+    ensures { Puts W.meaning w.old (instance_text styles.now stress_index.now counter_index.now instance.entry) result w.new }
 {
-    write_stress_prefix(w, styles.count, stress_index)?;
+    write_stress_prefix(w, styles.count, *stress_index)?;
     write_counter_prefix(w, counter_index)?;
     write_id_prefix(w, styles.binary_id, instance.binary_id.as_str())?;
     write_test_name(instance.test_name, styles, w)
@@ -403,6 +404,7 @@ impl fmt::Display for DisplayTestName<'_> {
 
 /// Writes a test's name: the module path and its `::`, if there is one, and the name in it.
 #[tactic(auto, unfolding(crate::specs::Instance::test_name_text))]
+#[inline(always)]
 pub fn write_test_name<W: WriteStr>(
     name: &TestCaseName,
     styles: &ListStyles,
@@ -414,6 +416,19 @@ pub fn write_test_name<W: WriteStr>(
     if styles.module_path == Style::Plain && styles.test_name == Style::Plain {
         return w.write_str(name.as_str());
     }
+    write_coloured_name(name, styles, w)
+}
+
+// The same in any styles.
+#[tactic(auto, unfolding(crate::specs::Instance::test_name_text))]
+#[inline(never)]
+fn write_coloured_name<W: WriteStr>(
+    name: &TestCaseName,
+    styles: &ListStyles,
+    w: &mut W,
+) -> Result<(), WriteFault>
+    ensures { Puts W.meaning w.old (test_name_text styles.now name.now) result w.new }
+{
     let (module_path, last) = name.module_path_and_name();
     match module_path {
         None => styles.test_name.write(w, last),

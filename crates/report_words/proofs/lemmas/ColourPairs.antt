@@ -2,6 +2,7 @@
 use Rattle.std.proofs.Common.{◌≡◌, Bool, true, false, cond, [], ◌∷◌, ◌++◌, refl, sym, ◌∙◌, ap, append_assoc, append-nil}
 use Rattle.plain_text.specs.Texts.{Text}
 use Rattle.plain_text.specs.EqualButEndSpaces.{IsEqualButEndSpaces}
+use Rattle.report_words.specs.InColour.{IsInColour, IsColourPair, IsColourPairOfLine}
 use Rattle.plain_text.specs.Escapes.{visible_after, sequence_len, visible, HasNoEscape}
 use Rattle.plain_text.specs.Indent.{indent}
 use Rattle.plain_text.specs.Style.{plain, styled, reset_color, style_prefix, style_suffix}
@@ -11,21 +12,6 @@ use Rattle.plain_text.proofs.lemmas.IndentedEndSpaces.{IsBlank, alike-front, ali
 use Rattle.report_words.proofs.lemmas.FreeWords.{frees, free-plain, free-indent}
 use Rattle.plain_text.proofs.lemmas.LineSequences.{visible-line}
 use Rattle.plain_text.proofs.lemmas.Widths.{free_both, visible-free_append}
-
--- the first text in colour is the second, whatever comes after the two
-pub record IsInColour (c u : Text) : Type 0 where
-  pub joins : (rest : Text) → visible (c ++ rest) ≡ visible c ++ visible rest
-  pub alike : (rest more : Text) → IsEqualButEndSpaces rest more → IsEqualButEndSpaces (visible c ++ rest) (u ++ more)
-
--- where the flag says that texts are in colour, the first text in colour is the second; else the second holds no escape character
-pub record IsColourPair (k : Bool) (c u : Text) : Type 0 where
-  pub coloured : k ≡ true → IsInColour c u
-  pub plain : k ≡ false → HasNoEscape u
-
--- the same of the text of whole lines, to which nothing need be added
-pub record IsColourPairOfLine (k : Bool) (c u : Text) : Type 0 where
-  pub coloured : k ≡ true → IsEqualButEndSpaces (visible c) u
-  pub plain : k ≡ false → HasNoEscape u
 
 in_colour-none : IsInColour [] []
 unfolding visible_after
@@ -114,11 +100,6 @@ pub colour_pair-if : (k b : Bool) (c u d v : Text) → IsColourPair k c u → Is
 colour_pair-if k true c u d v h j = h
 colour_pair-if k false c u d v h j = j
 
--- a style that a test picks
-pub colour_pair-styled_if : (k b : Bool) (s r : Style) (t : Text) → HasNoEscape t → IsColourPair k (styled (cond b s r) t) (styled (cond b style.Plain style.Plain) t)
-colour_pair-styled_if k true s r t h = colour_pair-styled k s t h
-colour_pair-styled_if k false s r t h = colour_pair-styled k r t h
-
 -- a line whose visible text is alike the plain one
 pub colour_pair-line : (k : Bool) (c u : Text) → IsColourPairOfLine k c u → IsColourPair k (c ++ 10 ∷ []) (u ++ 10 ∷ [])
 colour_pair-line k c u h = record { coloured = λ e. in_colour-line c u (h.coloured e); plain = λ e. free_both u (10 ∷ []) (h.plain e) refl }
@@ -137,4 +118,4 @@ pub colour_pair-indent : (k : Bool) (p : Text) (b : Bool) (c u : Text) → HasNo
 colour_pair-indent k p b c u h blank same = rw (indent-feed p b c, indent-feed p b u) (colour_pair-indented_line k p b c u h blank same)
 
 -- what shows of a definition that it is a colour pair, where its parts are
-pub ruleset colour_pairs = (colour_pair-none, colour_pair-append, colour_pair-plain, colour_pair-styled, colour_pair-styled_if, colour_pair-if, frees)
+pub ruleset colour_pairs = (colour_pair-none, colour_pair-append, colour_pair-plain, colour_pair-styled, colour_pair-if, frees)

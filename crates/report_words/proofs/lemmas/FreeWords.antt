@@ -1,11 +1,14 @@
 -- Words without escape characters (for `colour_pairs`).
-use Rattle.std.proofs.Common.{◌≡◌, ℕ, ℤ, pos, negsuc, zero, suc, ◌+◌, ◌-◌, Bool, true, false, cond, ◌==◌, nat_lt, inl, inr, List, [], ◌∷◌, ◌++◌, refl, arith, take, drop, ◌/◌, ◌%◌}
+use Rattle.std.proofs.Common.{◌≡◌, ℕ, ℤ, pos, negsuc, zero, suc, ◌+◌, ◌-◌, Bool, true, false, cond, ◌==◌, nat_lt, inl, inr, List, [], ◌∷◌, refl, arith, take, drop, ◌/◌, ◌%◌}
 use Rattle.std.proofs.lemmas.Bool.{cases_Bool}
 use Rattle.std.proofs.lemmas.Bool.Decides.{nat_tests}
 use Rattle.std.specs.Fmt.{signed_decimal}
 use Rattle.uuid.specs.Text.{by_index, hyphenated_text, lower, is_hyphen_place, hex_digit as id_digit, nibble, digit_place}
 use Rattle.run_names.specs.declared.config.NextestRunMode.{NextestRunMode}
 use Rattle.run_names.specs.declared.config.NextestRunMode.TheVariants.{Test, Benchmark}
+use Rattle.run_names.specs.Levels.{reason_words}
+use Rattle.run_names.specs.declared.level.CancelReason.{CancelReason}
+use Rattle.run_names.specs.declared.level.CancelReason.TheVariants as reason
 use Rattle.plain_text.specs.Texts.{Text}
 use Rattle.plain_text.specs.Escapes.{visible, HasNoEscape}
 use Rattle.plain_text.specs.Indent.{indent}
@@ -103,6 +106,16 @@ pub free-were_word : (b : Bool) → HasNoEscape (were_word b)
 unfolding were_word
 free-were_word true = refl
 free-were_word false = refl
+
+pub free-reason_words : (r : CancelReason) → HasNoEscape (reason_words r)
+free-reason_words reason.SetupScriptFailure = refl
+free-reason_words reason.TestFailure = refl
+free-reason_words reason.ReportError = refl
+free-reason_words reason.GlobalTimeout = refl
+free-reason_words reason.TestFailureImmediate = refl
+free-reason_words reason.Signal = refl
+free-reason_words reason.Interrupt = refl
+free-reason_words reason.SecondSignal = refl
 
 pub free-hbar_text : (b : Bool) (n : ℕ) → HasNoEscape (hbar_text b n)
 unfolding hbar_text lib.Utf8.encode

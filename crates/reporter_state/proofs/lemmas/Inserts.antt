@@ -6,7 +6,7 @@ use Rattle.std.specs.BTreeMap.{insert_entry}
 use Rattle.std.specs.declared.cmp.Reverse.{Reverse}
 use Rattle.std.proofs.lemmas.List.{map-append, reverse-append, reverse-reverse}
 use Rattle.text_parts.specs.declared.settings.Settings.{Settings}
-use Rattle.reporter_state.specs.Entries.{entries_text, entry_cmp, entry_key, entry_text, final_order, is_before}
+use Rattle.reporter_state.specs.Entries.{shown_entries, entry_cmp, entry_key, shown_entry, final_order, is_before}
 use Rattle.reporter_state.specs.Keys.{ArePlaced, Held, Placed, entries_of, held_cmp, placed_at, shown_of}
 use Rattle.reporter_state.specs.Order.{put_in}
 use Rattle.reporter_state.specs.declared.final_output.FinalOutputEntry.{FinalOutputEntry}
@@ -65,9 +65,9 @@ module _ (e : FinalOutputEntry) (place : ℕ) (ps : List Held) (at_end : place �
   places_more = subst (λ n. ArePlaced n (insert_entry held_cmp ps (key_of e place) tt)) (ap (λ n. n + 1) at_end ∙ sym inserted.longer) inserted.placed
 
 -- a walk from the last one on shows it first
-pub text-left : (s : Settings) (e : FinalOutputEntry) (ps qs : List Held) (p : Held) → ps ≡ qs ++ p ∷ [] → e ≡ p.0.0.entry → entries_text s (shown_of ps) ≡ entry_text s e ++ entries_text s (shown_of qs)
+pub text-left : (s : Settings) (e : FinalOutputEntry) (ps qs : List Held) (p : Held) → ps ≡ qs ++ p ∷ [] → e ≡ p.0.0.entry → shown_entries s (shown_of ps) ≡ shown_entry s e ++ shown_entries s (shown_of qs)
 text-left s e ps qs p is same =
-    ap (λ l. entries_text s (shown_of l)) is
-    ∙ ap (λ es. entries_text s (reverse es)) (map-append (λ (q : Held). q.0.0.entry) qs (p ∷ []))
-    ∙ ap (entries_text s) (reverse-append (entries_of qs) (p.0.0.entry ∷ []))
-    ∙ ap (λ f. entry_text s f ++ entries_text s (shown_of qs)) (sym same)
+    ap (λ l. shown_entries s (shown_of l)) is
+    ∙ ap (λ es. shown_entries s (reverse es)) (map-append (λ (q : Held). q.0.0.entry) qs (p ∷ []))
+    ∙ ap (shown_entries s) (reverse-append (entries_of qs) (p.0.0.entry ∷ []))
+    ∙ ap (λ f. shown_entry s f ++ shown_entries s (shown_of qs)) (sym same)

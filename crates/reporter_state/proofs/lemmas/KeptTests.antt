@@ -2,19 +2,19 @@
 use Rattle.std.proofs.Common.{◌≡◌, refl, subst}
 use Rattle.run_model.specs.declared.status.StatusSummary.{StatusSummary}
 use Rattle.plain_text.specs.declared.style.Styles.{Styles}
+use Rattle.report_words.specs.Parts.{paint}
 use Rattle.text_parts.specs.Instance.{instance_end, untimed_end}
 use Rattle.test_text.specs.TestSkipped.{skip_line}
 use Rattle.test_text.specs.StatusLine.{status_line}
 use Rattle.text_parts.specs.declared.instance.CountedInstance.{CountedInstance}
-use Rattle.text_parts.specs.declared.settings.Settings.{Settings}
 use Rattle.test_text.specs.declared.status_line.StatusLineKind.{StatusLineKind}
 use Rattle.reporter_state.specs.KeptTests.{borrowed_test, kept_test}
 use Rattle.reporter_state.specs.declared.kept_test.KeptTest.{KeptTest}
 
-pub line_of_kept : (s : Styles) (kind : StatusLineKind) (a : CountedInstance) (t : KeptTest) (x : StatusSummary) → kept_test a ≡ t → status_line s kind a x ≡ status_line s kind (borrowed_test t) x
+pub line_of_kept : (s : Styles) (kind : StatusLineKind) (a : CountedInstance) (t : KeptTest) (x : StatusSummary) → kept_test a ≡ t → paint s (status_line kind a x) ≡ paint s (status_line kind (borrowed_test t) x)
 unfolding status_line
-line_of_kept s kind a t x h = subst (λ u. status_line s kind a x ≡ status_line s kind (borrowed_test u) x) h refl
+line_of_kept s kind a t x h = subst (λ u. paint s (status_line kind a x) ≡ paint s (status_line kind (borrowed_test u) x)) h refl
 
-pub skip_of_kept : (s : Settings) (a : CountedInstance) (t : KeptTest) → kept_test a ≡ t → skip_line s a ≡ skip_line s (borrowed_test t)
+pub skip_of_kept : (s : Styles) (a : CountedInstance) (t : KeptTest) → kept_test a ≡ t → paint s (skip_line a) ≡ paint s (skip_line (borrowed_test t))
 unfolding skip_line untimed_end instance_end
-skip_of_kept s a t h = subst (λ u. skip_line s a ≡ skip_line s (borrowed_test u)) h refl
+skip_of_kept s a t h = subst (λ u. paint s (skip_line a) ≡ paint s (skip_line (borrowed_test u))) h refl

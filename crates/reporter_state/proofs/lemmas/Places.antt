@@ -6,7 +6,7 @@ use Rattle.run_model.specs.declared.status.StatusSummary.{StatusSummary}
 use Rattle.plain_text.specs.Texts.{Text}
 use Rattle.run_model.specs.Attempts.{Written}
 use Rattle.text_parts.specs.declared.settings.Settings.{Settings}
-use Rattle.reporter_state.specs.Entries.{entries_text, entry_text, final_order, is_before}
+use Rattle.reporter_state.specs.Entries.{shown_entries, shown_entry, final_order, is_before}
 use Rattle.reporter_state.specs.Order.{ordered_by, put_in}
 use Rattle.reporter_state.specs.declared.final_output.FinalOutput.TheVariants.{Executed, ExecutedWithOutput}
 use Rattle.reporter_state.specs.declared.final_output.FinalOutputEntry.{FinalOutputEntry}
@@ -54,10 +54,10 @@ module _ (test : KeptTest) (x : StatusSummary) where
 
   -- and so does its text among those of the entries
   pub text-place : (s : Settings) (front back : List FinalOutputEntry) →
-      (before after : Text) × ((output : Written) → entries_text s (final_order (front ++ entry_with output ∷ back)) ≡ before ++ (entry_text s (entry_with output) ++ after))
+      (before after : Text) × ((output : Written) → shown_entries s (final_order (front ++ entry_with output ∷ back)) ≡ before ++ (shown_entry s (entry_with output) ++ after))
   text-place s front back =
       let place = ordered-place front back in (
-        entries_text s place.0,
-        entries_text s place.1,
-        λ output. ap (entries_text s) (place.2 output) ∙ flat_map-append (entry_text s) place.0 (entry_with output ∷ place.1),
+        shown_entries s place.0,
+        shown_entries s place.1,
+        λ output. ap (shown_entries s) (place.2 output) ∙ flat_map-append (shown_entry s) place.0 (entry_with output ∷ place.1),
       )

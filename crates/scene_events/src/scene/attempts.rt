@@ -1,13 +1,13 @@
 //! The attempts of a test in a short form: most are one attempt that wrote nothing, and a scene may hold a million.
 
 ghost use Rattle.std.specs.Option.{option_copied, unwrap_or};
-ghost use Rattle.std.specs.Prelude.{◌≡◌, IfOk, OnErr, OnOk};
+ghost use Rattle.std.specs.Prelude.{◌≡◌, IfOk, IsTrue, OnErr, OnOk};
 ghost use Rattle.scene_events.specs.SceneAttempts.{attempt_of, before_last};
 ghost use Rattle.scene_events.specs.SceneOutputs.{no_output};
 
 use super::outputs::{AttemptOutput, SceneOutput};
 use run_model::boxed::Boxed;
-use run_model::memory::OutOfMemory;
+use run_model::memory::{OutOfMemory, TooManyOwners};
 use run_model::output::{ChildExecutionOutputDescription, ChildOutputDescription, LiveSpec};
 use run_model::status::{
     ExecuteStatus, ExecutionResultDescription, ExecutionStatuses, FlakyResult, RetryData,
@@ -86,6 +86,7 @@ impl SceneAttempts {
 
     /// The attempts before the last one, in order, and the last; and what a success after earlier attempts counts as. It allocates
     /// only where there are earlier ones.
+    #[inline(always)]
     pub fn with_last(
         alloc: Global,
         earlier: Vec<SceneAttempt>,
@@ -116,6 +117,13 @@ impl SceneAttempts {
         })
     }
 
+    /// How the last attempt ended.
+    pub fn last_result(&self) -> &ExecutionResultDescription
+        ensures { result.now ≡ self.now.last.result }
+    {
+        &self.last.result
+    }
+
     /// Whether what the last attempt wrote is there, and not left unread.
     pub fn has_loaded_output(&self) -> bool
         ensures { result ≡ has_loaded_output self.now.last.output }
@@ -144,6 +152,39 @@ impl SceneAttempts {
             }
         }
         Ok(())
+    }
+
+    /// Makes these statuses those of the attempts and returns true, where both are of one attempt and nothing has to be allocated for that:
+    /// a pass or a failure with an exit code, and no more is known of its output than the bytes, which are shared. Else it returns false, and what
+    /// the statuses are then is not said.
+    #[inline(always)]
+    pub fn replace_statuses(
+        &self,
+        statuses: &mut ExecutionStatuses<LiveSpec>,
+    ) -> Result<bool, TooManyOwners>
+        ensures { IfOk result (λ is_replaced. IsTrue is_replaced → statuses.new ≡ self.now) }
+    {
+        let captured = match &self.more {
+            MoreAttempts::Nothing => None,
+            MoreAttempts::Output(output) => match output.get() {
+                SceneOutput::Output {
+                    output,
+                    errors: None,
+                    highlight: None,
+                } => Some(output.copy()?),
+                _ => return Ok(false),
+            },
+            MoreAttempts::Earlier(_) => return Ok(false),
+        };
+        let last = &self.last;
+        Ok(statuses.replace_only(
+            last.time_taken,
+            last.retry_data,
+            &last.result,
+            captured,
+            last.is_slow,
+            last.flaky_result,
+        ))
     }
 
     /// The attempts as an event has them. Copies their texts and shares the bytes of their outputs.
@@ -195,7 +236,7 @@ impl EndedAttempt {
         })
     }
 
-    // The same of one that wrote something.
+    // `status`, of an attempt that wrote something.
     #[inline(never)]
     fn status_with(
         &self,
@@ -217,7 +258,7 @@ impl EndedAttempt {
 impl EarlierAttempts {
     ghost use Rattle.scene_events.specs.SceneOutputs.{before_last_with};
 
-    // The same, where the last attempt stands behind the earlier ones.
+    // `SceneAttempts::load`, where there are earlier attempts; the last one comes after them.
     fn load(
         &mut self,
         alloc: Global,
@@ -303,6 +344,13 @@ impl SceneAttempt {
             },
             output,
         }
+    }
+
+    /// How it ended.
+    pub fn result(&self) -> &ExecutionResultDescription
+        ensures { result.now ≡ self.now.result }
+    {
+        &self.ended.result
     }
 
     /// Whether it succeeded.

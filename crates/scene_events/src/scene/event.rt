@@ -1,7 +1,7 @@
 //! The events of a scene.
 
-ghost use Rattle.std.specs.Prelude.{◌≡◌, OnErr, OnOk};
-ghost use Rattle.scene_events.specs.Scenes.{IsPushed, PushesCallOf};
+ghost use Rattle.std.specs.Prelude.{◌≡◌, IfOk, IsTrue, OnErr, OnOk};
+ghost use Rattle.scene_events.specs.Scenes.{IsCallOf, IsPushed, PushesCallOf};
 
 use super::run_events::{
     RunCancel, RunFinish, RunPause, RunStart, SceneHeader, StateRequest, SubRunFinish,
@@ -13,7 +13,7 @@ use super::unit_events::{
 use run_model::boxed::Boxed;
 use run_model::call::ReportCall;
 use run_model::event::{TestEvent, TestEventKind};
-use run_model::memory::OutOfMemory;
+use run_model::memory::{OutOfMemory, TooManyOwners};
 use run_model::output::ChildOutputDescription;
 use run_model::run_id::ShortestRunIdPrefix;
 use run_model::stress::StressProgress;
@@ -145,6 +145,25 @@ impl SceneEvent {
             _ => {}
         }
         Ok(())
+    }
+
+    /// Makes a call that of this event and returns true, if the event is of a test that finished in one attempt, the call is of such a test, and nothing
+    /// has to be allocated for it, as for most tests. Else it returns false, and what the call is then is not said.
+    ///
+    /// ```
+    /// let finished = SceneEvent::InfoFinished(1);
+    /// let mut calls = Vec::new(alloc);
+    /// finished.push_call(alloc, &mut calls)?;
+    /// assert!(!finished.replace_call(&mut calls[0])?);
+    /// ```
+    #[inline(always)]
+    pub fn replace_call<'a>(&'a self, call: &mut ReportCall<'a>) -> Result<bool, TooManyOwners>
+        ensures { IfOk result (λ is_replaced. IsTrue is_replaced → IsCallOf self.now call.new) }
+    {
+        match self {
+            SceneEvent::TestFinished(finish) => finish.get().replace_call(call),
+            _ => Ok(false),
+        }
     }
 
     /// Pushes the call that this event is. It borrows the event's names.

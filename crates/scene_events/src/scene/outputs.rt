@@ -1,6 +1,6 @@
 //! What an attempt wrote, as a scene holds it: how the attempt ended stands beside it, and is not held once more.
 
-ghost use Rattle.scene_events.specs.SceneOutputs.{is_loaded, loaded, no_output, written};
+ghost use Rattle.scene_events.specs.SceneOutputs.{is_output_there, loaded, no_output, written};
 ghost use Rattle.std.specs.Option.{option_copied, unwrap_or};
 ghost use Rattle.std.specs.Prelude.{◌≡◌, IfOk, OnErr, OnOk};
 
@@ -43,7 +43,7 @@ impl SceneOutput {
 
     /// Whether it can be shown: it was not left unread.
     pub(super) fn is_loaded(&self) -> bool
-        ensures { result ≡ is_loaded self.now }
+        ensures { result ≡ is_output_there self.now }
     {
         match self {
             SceneOutput::Output { output, .. } => output.is_loaded(),

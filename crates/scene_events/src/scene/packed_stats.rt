@@ -62,6 +62,7 @@ impl Model for PackedStats {
 
 impl PackedStats {
     /// The short form of these statistics. It allocates only where a count is too large for it.
+    #[inline(always)]
     pub fn new(alloc: Global, stats: RunStats) -> Result<Self, OutOfMemory>
         ensures value { IfOk result (λ packed. packed ≡ stats) }
         ensures free { IsShort stats → IsOk result }
@@ -86,6 +87,7 @@ impl PackedStats {
 
 impl ShortCounts {
     // The counts of these statistics, where each fits.
+    #[inline(always)]
     fn of(stats: &RunStats) -> Option<ShortCounts>
         ensures value { IfSome result (λ counts. short_stats counts ≡ stats.now) }
         ensures fits { IsShort stats.now → IsSome result }

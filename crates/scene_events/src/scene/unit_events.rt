@@ -1,20 +1,19 @@
 //! The events of units, which are tests and setup scripts, and what both answer when they are asked what they are doing.
 
-ghost use Rattle.scene_events.specs.Scenes.{PushesCallOf};
+ghost use Rattle.scene_events.specs.Scenes.{IsCallOf, PushesCallOf};
+ghost use Rattle.run_model.specs.declared.call.ReportCall.{ReportCall};
 ghost use Rattle.scene_events.specs.declared.scene.event.SceneEvent.{SceneEvent};
-ghost use Rattle.std.specs.Prelude.{◌≡◌, IfOk};
+ghost use Rattle.std.specs.Prelude.{◌≡◌, IfOk, IsTrue};
 
 use super::attempts::{SceneAttempt, SceneAttempts};
 use super::event::{Calls, push_event};
 use super::packed_stats::PackedStats;
 use run_model::boxed::Boxed;
+use run_model::call::ReportCall;
 use run_model::command::CommandLine;
 use run_model::config::TestOutputDisplay;
-use run_model::event::TestEventKind;
-use run_model::info::{
-    InfoResponse, SetupScriptInfoResponse, TestInfoResponse, UnitState, UnitTerminateMethod,
-    UnitTerminatingState,
-};
+use run_model::event::{TestEvent, TestEventKind};
+use run_model::info::{InfoResponse, SetupScriptInfoResponse, TestInfoResponse, UnitState};
 use run_model::memory::{OutOfMemory, TooManyOwners};
 use run_model::name::{ProgramName, RustBinaryId, ScriptId, TestCaseName, TestInstanceId};
 use run_model::output::{ChildExecutionOutputDescription, ChildOutputDescription, LiveSpec};
@@ -238,6 +237,47 @@ impl FailedAttempt {
 }
 
 impl TestFinish {
+    /// Makes this call that of the event, as `SceneEvent::replace_call` does.
+    pub fn replace_call<'a>(&'a self, call: &mut ReportCall<'a>) -> Result<bool, TooManyOwners>
+        ensures { IfOk result (λ is_replaced. IsTrue is_replaced → IsCallOf (SceneEvent.TestFinished self.now) call.new) }
+    {
+        match call {
+            ReportCall::Event(event) => self.replace_event(event),
+            ReportCall::Header(_) | ReportCall::Prefix(_) => Ok(false),
+        }
+    }
+
+    // Makes this event of a reporter that of the scene.
+    #[inline(always)]
+    fn replace_event<'a>(&'a self, event: &mut TestEvent<'a>) -> Result<bool, TooManyOwners>
+        ensures { IfOk result (λ is_replaced. IsTrue is_replaced → IsCallOf (SceneEvent.TestFinished self.now) (ReportCall.Event event.new)) }
+    {
+        event.elapsed = Nanos(0);
+        let TestEventKind::TestFinished { run_statuses, .. } = &mut event.kind else {
+            return Ok(false);
+        };
+        if !self.attempts.replace_statuses(run_statuses)? {
+            return Ok(false);
+        }
+        // The borrow checker lends one field of a variant at a time.
+        if let TestEventKind::TestFinished { stress_index, .. } = &mut event.kind {
+            *stress_index = self.test.stress_index;
+        }
+        if let TestEventKind::TestFinished { test_instance, .. } = &mut event.kind {
+            *test_instance = self.test.instance();
+        }
+        if let TestEventKind::TestFinished { success_output, .. } = &mut event.kind {
+            *success_output = self.success_output;
+        }
+        if let TestEventKind::TestFinished { failure_output, .. } = &mut event.kind {
+            *failure_output = self.failure_output;
+        }
+        if let TestEventKind::TestFinished { current_stats, .. } = &mut event.kind {
+            *current_stats = self.current_stats.get();
+        }
+        Ok(true)
+    }
+
     /// Pushes this event as a `ReportCall`.
     pub fn push_call<'a>(&'a self, alloc: Global, calls: &mut Calls<'a>) -> Result<(), OutOfMemory>
         ensures { PushesCallOf (SceneEvent.TestFinished self.now) calls.old.items result calls.new.items }
@@ -470,70 +510,8 @@ impl UnitAnswer {
         ensures { IfOk result (λ copy. copy ≡ self.now) }
     {
         Ok(UnitAnswer {
-            state: Boxed::new(alloc, copy_state(alloc, self.state.get())?)?,
+            state: Boxed::new(alloc, self.state.get().copy(alloc)?)?,
             output: Boxed::new(alloc, self.output.get().copy(alloc)?)?,
         })
     }
-}
-
-// Copies the texts of a state, which allocates.
-fn copy_state(alloc: Global, state: &UnitState) -> Result<UnitState, OutOfMemory>
-    ensures { IfOk result (λ copy. copy ≡ state.now) }
-{
-    Ok(match state {
-        UnitState::Running {
-            pid,
-            time_taken,
-            slow_after,
-        } => UnitState::Running {
-            pid: *pid,
-            time_taken: *time_taken,
-            slow_after: *slow_after,
-        },
-        UnitState::Exiting {
-            pid,
-            time_taken,
-            slow_after,
-            tentative_result,
-            waiting_duration,
-            remaining,
-        } => UnitState::Exiting {
-            pid: *pid,
-            time_taken: *time_taken,
-            slow_after: *slow_after,
-            tentative_result: tentative_result
-                .as_ref()
-                .map(|it| it.copy(alloc))
-                .transpose()?,
-            waiting_duration: *waiting_duration,
-            remaining: *remaining,
-        },
-        UnitState::Terminating(terminating) => {
-            let UnitTerminateMethod::Signal(signal) = &terminating.method;
-            UnitState::Terminating(UnitTerminatingState {
-                method: UnitTerminateMethod::Signal(signal.copy(alloc)?),
-                ..*terminating
-            })
-        }
-        UnitState::Exited {
-            result,
-            time_taken,
-            slow_after,
-        } => UnitState::Exited {
-            result: result.copy(alloc)?,
-            time_taken: *time_taken,
-            slow_after: *slow_after,
-        },
-        UnitState::DelayBeforeNextAttempt {
-            previous_result,
-            previous_slow,
-            waiting_duration,
-            remaining,
-        } => UnitState::DelayBeforeNextAttempt {
-            previous_result: previous_result.copy(alloc)?,
-            previous_slow: *previous_slow,
-            waiting_duration: *waiting_duration,
-            remaining: *remaining,
-        },
-    })
 }

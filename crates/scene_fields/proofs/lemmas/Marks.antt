@@ -1,4 +1,4 @@
--- The places of a byte as the bits of a mask (for `block_from`, `find_byte`, `marks_from`, `plain_len`, `split_fields`).
+-- The places of a byte as the bits of a mask (for `load_block`, `find_byte`, `marks_from`, `plain_len`, `split_fields`).
 use Rattle.std.proofs.Common.{◌≡◌, ◌≢◌, ℕ, zero, suc, ◌+◌, ◌-◌, ◌*◌, ◌/◌, ◌^◌, ◌<◌, ◌≤◌, ◌==◌, ◌++◌, ◌∙◌, List, [], ◌∷◌, Bool, true, false, not, cond, length, get_or, drop, take, min, map, replicate, refl, ap, sym, arith, inl, inr, w64}
 use native.Mathlib.Nat.{div-one, div-div-eq-div-mul, mul_comm, pow-suc, zero-div}
 use Rattle.std.specs.Int.{trailing_zeros}

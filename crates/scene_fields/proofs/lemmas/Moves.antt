@@ -3,7 +3,7 @@ use Rattle.std.proofs.Common.{◌≡◌, ℕ, zero, suc, ◌+◌, ◌-◌, ◌�
 use lib.Seq.{paste, length_paste_head, take-append-add}
 use Rattle.std.proofs.lemmas.List.{drop-drop, length-take, length-take-le, take-append-le}
 use Rattle.std.proofs.lemmas.List.Edits.{drop-paste, length-paste}
-use Rattle.scene_fields.specs.Texts.{IsPlain, MovesPlain}
+use Rattle.scene_fields.specs.Texts.{LacksEscapes, MovesPlain}
 
 -- lists that agree from a place on agree from any later one
 later_alike : (m k : ℕ) (s t : List ℕ) → m ≤ k → drop m s ≡ drop m t → drop k s ≡ drop k t
@@ -25,13 +25,13 @@ block_front t block from n is few most =
     ∙ take_fewer n 32 (drop from t) few
 
 -- bytes were written over a text, of which the first are those from a place on, and the others stay before what follows these
-pub moved : (t s new : List ℕ) (from to n m : ℕ) → n ≤ m → m ≤ length s → to + m ≤ from + n → from + n ≤ length t → take n s ≡ take n (drop from t) → new ≡ paste t to s m → IsPlain (take n s) → MovesPlain t new from to n
+pub moved : (t s new : List ℕ) (from to n m : ℕ) → n ≤ m → m ≤ length s → to + m ≤ from + n → from + n ≤ length t → take n s ≡ take n (drop from t) → new ≡ paste t to s m → LacksEscapes (take n s) → MovesPlain t new from to n
 moved t s new from to n m few room low within same pasted plain =
     let before : length (take to t) ≡ to = length-take-le to t (omega arith) in
     record {
       within = within;
       long = ap (λ u. length u) pasted ∙ length-paste t to s m (omega arith) room;
-      plain = subst IsPlain same plain;
+      plain = subst LacksEscapes same plain;
       front =
           ap (take (to + n)) pasted
           ∙ take-append-le (to + n) (take to t ++ take m s) _ (omega (arith, length_paste_head t to s m (omega arith) room))

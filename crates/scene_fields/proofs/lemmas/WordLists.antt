@@ -6,12 +6,12 @@ use Rattle.std.proofs.lemmas.List.{map-append}
 use Rattle.std.specs.Borrow.{Bor}
 use Rattle.std.specs.Option.{option_map}
 use Rattle.scene_fields.specs.Lists.{Words, begins_with_comma, in_first_word, list_words}
-use Rattle.scene_fields.specs.Texts.{IsPlain, escape_byte, AddsStretch}
+use Rattle.scene_fields.specs.Texts.{LacksEscapes, escape_byte, AddsStretch}
 use Rattle.scene_fields.proofs.lemmas.Unescaped.{alike, all_read, bad_escape, escape_read}
 
 -- words were read and a part of the next, and the rest of the list is still to come
 module _ (whole : Option Words) (words : Words) (word rest : List ℕ) (so_far : whole ≡ option_map (λ ws. words ++ (word ++ ws.0) ∷ ws.1) (list_words rest)) where
-  module _ (plain escape : List ℕ) (r : rest ≡ plain ++ (92 ∷ escape)) (h : IsPlain plain) where
+  module _ (plain escape : List ℕ) (r : rest ≡ plain ++ (92 ∷ escape)) (h : LacksEscapes plain) where
     -- a separator ends the word
     pub word-ends : (after : List ℕ) → escape ≡ 44 ∷ after → whole ≡ option_map (λ ws. (words ++ (word ++ plain) ∷ []) ++ ([] ++ ws.0) ∷ ws.1) (list_words after)
     word-ends after e =
@@ -27,7 +27,7 @@ module _ (whole : Option Words) (words : Words) (word rest : List ℕ) (so_far :
           escape_read _ _ _ (λ ws. refl) (λ c p ws. refl) whole _ rest so_far plain escape r h (in_first_word (f.byte ∷ [])) after.now (rw (no_comma, f.gives) refl) f.follows
           ∙ alike _ _ (λ ws. ap (λ w. words ++ w ∷ ws.1) (sym (ap (λ t. t ++ ws.0) f.grown ∙ append_assoc (word ++ plain) (f.byte ∷ []) ws.0 ∙ append_assoc word plain (f.byte ∷ ws.0)))) (list_words after.now)
 
-  pub word-ends-list : IsPlain rest → whole ≡ Some (words ++ (word ++ rest) ∷ [])
+  pub word-ends-list : LacksEscapes rest → whole ≡ Some (words ++ (word ++ rest) ∷ [])
   word-ends-list h = all_read _ _ _ (λ ws. refl) (λ c p ws. refl) whole _ rest so_far h ∙ ap (λ w. Some (words ++ (word ++ w) ∷ [])) (append-nil rest)
 
 -- a text with no separator in front

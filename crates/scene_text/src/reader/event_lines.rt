@@ -6,7 +6,7 @@ ghost use Rattle.scene_fields.specs.Fields.{answered, field, Gives};
 ghost use Rattle.scene_fields.specs.Lists.{errors_in};
 ghost use Rattle.scene_fields.specs.Split.{field_texts};
 ghost use Rattle.scene_fields.specs.Texts.{bytes_in, text_in};
-ghost use Rattle.scene_text.specs.EventLines.{after_streams, all_attempts, answer_fields, answer_script_line_fields, answer_test_line_fields, attempt_fields, attempts_behind, cancel_line_fields, done_line_fields, empty_output_fields, end_line_fields, end_stress_line_fields, header_line_fields, info_line_fields, input_line_fields, made, not_seen_fields, output_fields, pause_line_fields, prefix_line_fields, retry_fields, retry_line_fields, retry_start_line_fields, run_line_fields, script_fields, setup_done_line_fields, setup_line_fields, setup_slow_line_fields, slow_line_fields, some_text_in, start_line_fields, stream_in, sub_end_line_fields, TakesEmptyOutput, test_fields, unique_prefix_fields};
+ghost use Rattle.scene_text.specs.EventLines.{after_streams, all_attempts, answer_fields, answer_script_line_fields, answer_test_line_fields, attempt_fields, attempts_behind, cancel_line_fields, done_line_fields, empty_output_fields, end_line_fields, end_stress_line_fields, header_line_fields, info_line_fields, input_line_fields, made, not_seen_fields, output_fields, pause_line_fields, prefix_line_fields, retry_fields, retry_line_fields, retry_start_line_fields, run_line_fields, script_fields, setup_done_line_fields, setup_line_fields, setup_slow_line_fields, slow_line_fields, some_text_in, start_line_fields, state_fields, stream_in, sub_end_line_fields, TakesEmptyOutput, test_fields, unique_prefix_fields};
 ghost use Rattle.std.specs.Prelude.{drop, IfOk, IsTrue, ◌++◌, ◌≡◌};
 
 use super::binary_ids::BinaryIds;
@@ -19,11 +19,12 @@ use bytes::{Bytes, BytesMut};
 use run_model::abort::DescriptionText;
 use run_model::boxed::Boxed;
 use run_model::event::TestCounts;
+use run_model::info::UnitState;
 use run_model::not_seen::NotSeen;
 use run_model::output::{ChildOutputDescription, ChildSingleOutput, ErrorChain};
 use run_model::run_id::ShortestRunIdPrefix;
 use run_model::stats::{RunFinishedStats, StressRunStats};
-use run_model::status::{FlakyResult, RetryData};
+use run_model::status::{ExecutionResultDescription, FlakyResult, RetryData};
 use scene_events::scene::attempts::{SceneAttempt, SceneAttempts};
 use scene_events::scene::event::SceneEvent;
 use scene_events::scene::outputs::{AttemptOutput, SceneOutput};
@@ -115,12 +116,13 @@ pub fn read_done(alloc: Global, ids: &mut BinaryIds, fields: &mut Fields<'_>) ->
     let flaky_result = fields.read(read_flaky_result)?;
     let current_stats = PackedStats::new(alloc, fields.read(read_stats)?)?;
     let total_attempts = fields.read(read_small_count)?;
+    let attempts = read_attempts(alloc, fields, flaky_result, total_attempts)?;
     let finish = TestFinish {
         test,
         success_output,
         failure_output,
         current_stats,
-        attempts: read_attempts(alloc, fields, flaky_result, total_attempts)?,
+        attempts,
     };
     Ok(SceneEvent::TestFinished(Boxed::new(alloc, finish)?))
 }
@@ -159,6 +161,7 @@ pub fn read_retry_data(fields: &mut Fields<'_>) -> Result<RetryData, LineFault>
 }
 
 // Reads attempts up to the end of the line, which has at least one. Most lines have no more.
+#[inline(always)]
 #[tactic(auto, unfolding(crate::specs::EventLines::all_attempts))]
 fn read_attempts(
     alloc: Global,
@@ -179,8 +182,7 @@ fn read_attempts(
     read_more_attempts(alloc, fields, flaky_result, total_attempts, first)
 }
 
-// Reads attempts that follow the first one, up to the end of the line. It stands by itself, since a function clears the memory of all its
-// values at its start.
+// Reads attempts that follow the first one, up to the end of the line. Not inlined: the compiler zeroes all locals of a function at its entry.
 #[inline(never)]
 fn read_more_attempts(
     alloc: Global,
@@ -208,6 +210,7 @@ fn read_more_attempts(
 }
 
 // Reads an attempt: result, duration, whether it was slow, and its output.
+#[inline(always)]
 #[tactic(auto, unfolding(crate::specs::EventLines::attempt_fields))]
 fn read_attempt(alloc: Global, fields: &mut Fields<'_>, retry_data: RetryData) -> Line<SceneAttempt>
     ensures { Gives (λ s. s) fields.old result fields.new (attempt_fields retry_data) }
@@ -220,6 +223,7 @@ fn read_attempt(alloc: Global, fields: &mut Fields<'_>, retry_data: RetryData) -
 }
 
 // Reads what an attempt wrote. Most wrote nothing, and then it allocates nothing.
+#[inline(always)]
 fn read_attempt_output(alloc: Global, fields: &mut Fields<'_>) -> Line<AttemptOutput>
     ensures { Gives (λ o. o) fields.old result fields.new output_fields }
 {
@@ -229,7 +233,7 @@ fn read_attempt_output(alloc: Global, fields: &mut Fields<'_>) -> Line<AttemptOu
     read_written_output(alloc, fields)
 }
 
-// Reads what an attempt wrote that wrote something. It stands by itself, as `read_more_attempts` does.
+// Reads what an attempt wrote that wrote something. Not inlined, like `read_more_attempts`.
 #[inline(never)]
 fn read_written_output(alloc: Global, fields: &mut Fields<'_>) -> Line<AttemptOutput>
     ensures { Gives (λ o. o) fields.old result fields.new output_fields }
@@ -333,15 +337,27 @@ pub fn read_answer_test(alloc: Global, ids: &mut BinaryIds, fields: &mut Fields<
 fn read_answer(alloc: Global, fields: &mut Fields<'_>) -> Line<UnitAnswer>
     ensures { Gives (λ a. a) fields.old result fields.new answer_fields }
 {
-    let begun = fields.try_read(|field| read_state(alloc, field))?;
-    let outcome = fields.try_read(|field| read_result_or_none(alloc, field))?;
-    let copy = copy_outcome(alloc, &outcome)?;
-    let state = state_with(begun, copy).ok_or(fields.bad_field())?;
+    let (state, outcome) = read_unit_state(alloc, fields)?;
     let output = read_output(alloc, fields)?.description(alloc, outcome)?;
     Ok(UnitAnswer {
         state: Boxed::new(alloc, state)?,
         output: Boxed::new(alloc, output)?,
     })
+}
+
+// Reads what a unit is doing, and how the attempt ended.
+#[tactic(auto, unfolding(crate::specs::EventLines::state_fields))]
+fn read_unit_state(
+    alloc: Global,
+    fields: &mut Fields<'_>,
+) -> Line<(UnitState, Option<ExecutionResultDescription>)>
+    ensures { Gives (λ s. s) fields.old result fields.new state_fields }
+{
+    let begun = fields.try_read(|field| read_state(alloc, field))?;
+    let outcome = fields.try_read(|field| read_result_or_none(alloc, field))?;
+    let copy = copy_outcome(alloc, &outcome)?;
+    let state = state_with(begun, copy).ok_or(fields.bad_field())?;
+    Ok((state, outcome))
 }
 
 /// Reads what a unit wrote.
@@ -379,6 +395,7 @@ pub fn read_output(alloc: Global, fields: &mut Fields<'_>) -> Line<SceneOutput>
 }
 
 /// Takes the five fields of an empty output, if they come next.
+#[inline(always)]
 pub fn take_empty_output(fields: &mut Fields<'_>) -> bool
     ensures { TakesEmptyOutput result fields.old fields.new }
 {

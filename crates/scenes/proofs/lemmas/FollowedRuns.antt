@@ -1,7 +1,7 @@
 -- What is read of lines that are followed is reported, or left (for `follow_lines`, `follow_to`, `follow_source`).
 use Rattle.std.proofs.Common.{◌≡◌, ℕ, ◌+◌, Bool, true, false, List, [], ◌∷◌, ◌++◌, Result, Ok, Err, length, get_or, refl, sym, ap, ◌∙◌, subst, arith, append_assoc, inl, inr}
 use Rattle.std.specs.Borrow.{Bor}
-use Rattle.scenes.proofs.Common.{all_append, AreWhole, AtLine, Begins, begun_behind, Followed, EventLine, Fault, fault_of_read, Follows, HasRead, is_begun, is_begun_behind, IsMore, IsNextFault, IsUnread, KeepsUp, length-append, Line, line_value, LineFault, lines_after, lines_before, lines_with, LinesRead, Meaning, no_lines, Options, OutOfMemory, parsed_lines, ParsedLine, ParsedLines, Prints, ReadFault, ReportCall, RunLine, RunOutcome, SceneConfig, SceneEvent, SceneReporter, StopsAtEvent, StopsBy, store-laws, store_meaning, with_line, WriterLaws, writers}
+use Rattle.scenes.proofs.Common.{all_append, AreWhole, AtLine, Begins, begun_behind, Followed, EventLine, Fault, fault_of_read, Follows, HasReadLines, is_begun, is_begun_behind, IsMore, IsNextFault, IsUnread, KeepsUp, length-append, Line, line_value, LineFault, lines_after, lines_before, lines_with, LinesRead, Meaning, no_lines, Options, OutOfMemory, parsed_lines, ParsedLine, ParsedLines, Prints, ReadFault, ReportCall, RunLine, RunOutcome, SceneConfig, SceneEvent, SceneReporter, StopsAtEvent, StopsBy, store-laws, store_meaning, with_line, WriterLaws, writers}
 use Rattle.command_line.specs.declared.fault.Fault.TheVariants.{CannotRead}
 use Rattle.scene_fields.specs.declared.fault.ReadFault.TheVariants as read
 use Rattle.scene_text.specs.SceneTexts.{line_read}
@@ -82,7 +82,7 @@ module _ {W S : Type 0} {m : Meaning W} {n : Meaning S} (laws : WriterLaws m) (o
   }
 
   -- nothing was reported yet
-  pub keeps_up : (read : LinesRead) (more : Result Bool Fault) (Has : ParsedLines → List RunLine → Type 0) → HasRead options.file.now all [] no_lines read more Has → (more ≡ Ok true → is_begun read.run.events.items ≡ true) →
+  pub keeps_up : (read : LinesRead) (more : Result Bool Fault) (Has : ParsedLines → List RunLine → Type 0) → HasReadLines options.file.now all [] no_lines read more Has → (more ≡ Ok true → is_begun read.run.events.items ≡ true) →
       Follows m n options start start (record { config = read.run.config; events = [] }) → KeepsUp m n options all start start read more Has
   keeps_up read more Has has begun follows = record {
     front = [];
@@ -141,7 +141,7 @@ module _ {W S : Type 0} {m : Meaning W} {n : Meaning S} (laws : WriterLaws m) (o
       -- and the lines end there
       pub reported_all : more ≡ Ok false → Followed m (store_meaning n) options all (writers start) (writers next) (λ r. Has r []) (Ok next.outcome)
       reported_all last =
-          let has = subst (λ r. HasRead options.file.now all k.front k.before read r Has) last k.has in
+          let has = subst (λ r. HasReadLines options.file.now all k.front k.before read r Has) last k.has in
           let spelled = spells options.file.now all read k.front k.before Has has in
           (record { run = run; spelled = spelled; holds = reported.reported }, record { run = run; spelled = spelled; holds = has.more_is.1 }, tt)
 
@@ -153,7 +153,7 @@ module _ {W S : Type 0} {m : Meaning W} {n : Meaning S} (laws : WriterLaws m) (o
           k.has.left read.next here options.file.now f Has (subst (λ r. IsMore options.file.now r run k.has.left read.next Has) is k.has.more_is)
 
       -- or further lines were read behind it
-      pub reads_on : more ≡ Ok true → (new : LinesRead) (goes_on : Result Bool Fault) (Next : ParsedLines → List RunLine → Type 0) → HasRead options.file.now all (k.front ++ k.has.lines) run new goes_on Next → KeepsUp m n options all start next new goes_on Next
+      pub reads_on : more ≡ Ok true → (new : LinesRead) (goes_on : Result Bool Fault) (Next : ParsedLines → List RunLine → Type 0) → HasReadLines options.file.now all (k.front ++ k.has.lines) run new goes_on Next → KeepsUp m n options all start next new goes_on Next
       reads_on more_is new goes_on Next has = record {
         front = k.front ++ k.has.lines;
         before = run;
@@ -165,8 +165,8 @@ module _ {W S : Type 0} {m : Meaning W} {n : Meaning S} (laws : WriterLaws m) (o
 
     -- what was read is forgotten
     module _ (new : LinesRead) (config : new.run.config ≡ read.run.config) (events : new.run.events.items ≡ []) (lines : new.run.lines.items ≡ []) (begun : new.is_begun ≡ is_begun_behind read.is_begun read.run.events.items) (next : new.next ≡ read.next) where
-      pub forgotten : more ≡ Ok true → HasRead options.file.now all (k.front ++ k.has.lines) run new (Ok true) Has
-      forgotten goes_on = subst (λ r. HasRead options.file.now all (k.front ++ k.has.lines) run new r Has) goes_on (forgets options.file.now all k.front k.before read new more Has k.has config events lines begun next)
+      pub forgotten : more ≡ Ok true → HasReadLines options.file.now all (k.front ++ k.has.lines) run new (Ok true) Has
+      forgotten goes_on = subst (λ r. HasReadLines options.file.now all (k.front ++ k.has.lines) run new r Has) goes_on (forgets options.file.now all k.front k.before read new more Has k.has config events lines begun next)
 
 -- what holds of two writers holds of others that have what these have
 pub followed_so : {W T W' T' : Type 0} {m : Meaning W} {k : Meaning T} {m' : Meaning W'} {k' : Meaning T'} (options : Options) (all : List RunLine) {old new : W × T} {old' new' : W' × T'} (IsDone : ParsedLines → Type 0) →

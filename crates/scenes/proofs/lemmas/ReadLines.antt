@@ -1,7 +1,7 @@
 -- Lines that were read piece by piece, and which of them says an event (for `read_next`, `read_lines`, `read_whole`, `follow_lines`).
 use Rattle.std.proofs.Common.{bytes_eq, codes, if◌then◌else◌, ◌≡◌, ◌⊎◌, ℕ, ◌+◌, true, List, [], ◌∷◌, ◌++◌, Result, Ok, Err, length, get_or, refl, sym, ap, ◌∙◌, subst, arith, append-nil, append_assoc, inl, inr, Bool, false, Option, Some, map, ◌==◌}
 use native.Mathlib.Numerals.{unary_clauses}
-use Rattle.scenes.proofs.Common.{AllRead, AtLine, EventLine, is_begun, length-append, line_value, LineFault, lines_before, lines_with, nat_lt, nat_tests, ParsedLine, ParsedLines, RunLine, SceneConfig, SceneEvent, with_line, all_append, AreLeft, AreLeftOf, begun_behind, cases_Bool, false≢true, Fault, fault_of_read, HasRead, is_begun_behind, IsMore, IsNextFault, IsNextPiece, IsUnread, lines_after, LinesRead, map-append, no_lines, parsed_lines, ReadFault, text_lines, text_read}
+use Rattle.scenes.proofs.Common.{AllRead, AtLine, EventLine, is_begun, length-append, line_value, LineFault, lines_before, lines_with, nat_lt, nat_tests, ParsedLine, ParsedLines, RunLine, SceneConfig, SceneEvent, with_line, all_append, AreLeft, AreLeftOf, begun_behind, cases_Bool, false≢true, Fault, fault_of_read, HasReadLines, is_begun_behind, IsMore, IsNextFault, IsNextPiece, IsUnread, lines_after, LinesRead, map-append, no_lines, parsed_lines, ReadFault, text_lines, text_read}
 use Rattle.std.proofs.lemmas.List.{append_cancel_left}
 use Rattle.scene_text.specs.SceneTexts.{ConfigLine, NoEvent, event_lines, is_passed_over, line_read, LinesBefore, event_of, parsed_line, event_line, with_event, parsed_words, parsed_config, LeavesLines, ReadsLines, lines_read, plain_line}
 use Rattle.std.proofs.lemmas.Bool.{cond_both}
@@ -47,7 +47,7 @@ cut left rest piece remaining (inr none) (more, remains, inr end) = absurd (omeg
 
 -- none of the lines that a source has was read
 pub none_read : (file : List ℕ) (all : List RunLine) (read : LinesRead) (Has : ParsedLines → List RunLine → Type 0) → parsed_lines read.run ≡ no_lines → read.run.lines.items ≡ [] → read.is_begun ≡ false → read.next ≡ 1 → Has no_lines all →
-    HasRead file all [] no_lines read (Ok true) Has
+    HasReadLines file all [] no_lines read (Ok true) Has
 unfolding event_lines
 none_read file all read Has tells noted begun place known = record {
   lines = [];
@@ -63,8 +63,8 @@ none_read file all read Has tells noted begun place known = record {
 
 module _ (file : List ℕ) (all front : List RunLine) (before : ParsedLines) (old new : LinesRead) where
   -- further lines were read
-  module _ (Has Next : ParsedLines → List RunLine → Type 0) (has : HasRead file all front before old (Ok true) Has) (lines left : List RunLine) (is : has.left ≡ lines ++ left) (reads : ReadsLines old new lines) (more : Result Bool Fault) where
-    pub further : IsMore file more (lines_after before.events (parsed_lines new.run)) left new.next Next → HasRead file all front before new more Next
+  module _ (Has Next : ParsedLines → List RunLine → Type 0) (has : HasReadLines file all front before old (Ok true) Has) (lines left : List RunLine) (is : has.left ≡ lines ++ left) (reads : ReadsLines old new lines) (more : Result Bool Fault) where
+    pub further : IsMore file more (lines_after before.events (parsed_lines new.run)) left new.next Next → HasReadLines file all front before new more Next
     further more_is = record {
       lines = has.lines ++ lines;
       left = left;
@@ -83,31 +83,31 @@ module _ (file : List ℕ) (all front : List RunLine) (before : ParsedLines) (ol
   next_fault n run lines others (reading.Line m f) h = (h.0, (h.1.0, h.1.1 ++ others, ap (λ ls. ls ++ others) h.1.2, h.1.3))
   next_fault n run lines others reading.OutOfMemory h = tt
 
-  module _ (remaining : Option (List ℕ)) (has : HasRead file all front before old (Ok true) (λ run. AreLeftOf remaining)) (piece : List ℕ) (after : Option (List ℕ)) (next : (rest : List ℕ) → remaining ≡ Some rest → IsNextPiece rest true piece after) where
+  module _ (remaining : Option (List ℕ)) (has : HasReadLines file all front before old (Ok true) (λ run. AreLeftOf remaining)) (piece : List ℕ) (after : Option (List ℕ)) (next : (rest : List ℕ) → remaining ≡ Some rest → IsNextPiece rest true piece after) where
     here : IsCut has.left piece after
     here = cut has.left has.more_is.0 piece after has.more_is.2 (next has.more_is.0 has.more_is.1)
 
     -- a piece was read
-    pub piece_read : ReadsLines old new (text_lines piece) → HasRead file all front before new (Ok true) (λ run. AreLeftOf after)
+    pub piece_read : ReadsLines old new (text_lines piece) → HasReadLines file all front before new (Ok true) (λ run. AreLeftOf after)
     piece_read reads = further (λ run. AreLeftOf remaining) (λ run. AreLeftOf after) has (text_lines piece) here.0 here.1 reads (Ok true) here.2
 
     -- the first lines of it were read, and the next has a fault
-    pub piece_left : (f : ReadFault) (fault : Fault) → fault ≡ fault_of_read f → LeavesLines old new (text_lines piece) f → HasRead file all front before new (Err fault) (λ run. AreLeftOf after)
+    pub piece_left : (f : ReadFault) (fault : Fault) → fault ≡ fault_of_read f → LeavesLines old new (text_lines piece) f → HasReadLines file all front before new (Err fault) (λ run. AreLeftOf after)
     piece_left f fault is leaves =
         further (λ run. AreLeftOf remaining) (λ run. AreLeftOf after) has leaves.front (leaves.rest ++ here.0) (here.1 ∙ ap (λ ls. ls ++ here.0) leaves.whole ∙ append_assoc leaves.front leaves.rest here.0) leaves.reads (Err fault)
         (inr (f, is, next_fault new.next (lines_after before.events (parsed_lines new.run)) leaves.rest here.0 f (leaves.wrong before.events has.begun)))
 
   -- no line more was read
-  module _ (Has Next : ParsedLines → List RunLine → Type 0) (has : HasRead file all front before old (Ok true) Has) (same : new ≡ old) where
-    still : (more : Result Bool Fault) → IsMore file more (lines_after before.events (parsed_lines new.run)) has.left new.next Next → HasRead file all front before new more Next
+  module _ (Has Next : ParsedLines → List RunLine → Type 0) (has : HasReadLines file all front before old (Ok true) Has) (same : new ≡ old) where
+    still : (more : Result Bool Fault) → IsMore file more (lines_after before.events (parsed_lines new.run)) has.left new.next Next → HasReadLines file all front before new more Next
     still more more_is = further Has Next has [] has.left refl (subst (λ r. ReadsLines old r []) (sym same) (reads_none old)) more more_is
 
     -- there is none
-    pub none_left : ((run : ParsedLines) (left : List RunLine) → Has run left → AreLeft left [] × Next run []) → HasRead file all front before new (Ok false) Next
+    pub none_left : ((run : ParsedLines) (left : List RunLine) → Has run left → AreLeft left [] × Next run []) → HasReadLines file all front before new (Ok false) Next
     none_left none = still (Ok false) (none _ has.left (subst (λ r. Has (lines_after before.events (parsed_lines r.run)) has.left) (sym same) has.more_is))
 
     -- or it could not be read
-    pub unread : (fault : Fault) → IsUnread file fault → HasRead file all front before new (Err fault) Next
+    pub unread : (fault : Fault) → IsUnread file fault → HasReadLines file all front before new (Err fault) Next
     unread fault is = still (Err fault) (inl is)
 
 -- a line tells what it says
@@ -125,7 +125,7 @@ at_more all run t lines number after at parsed_lines = record {
 }
 
 -- the events that were read are forgotten
-module _ (file : List ℕ) (all front : List RunLine) (before : ParsedLines) (old new : LinesRead) (more : Result Bool Fault) (Has : ParsedLines → List RunLine → Type 0) (has : HasRead file all front before old more Has) where
+module _ (file : List ℕ) (all front : List RunLine) (before : ParsedLines) (old new : LinesRead) (more : Result Bool Fault) (Has : ParsedLines → List RunLine → Type 0) (has : HasReadLines file all front before old more Has) where
   abbrev pub read_told : ParsedLines
   read_told = lines_after before.events (parsed_lines old.run)
 
@@ -133,7 +133,7 @@ module _ (file : List ℕ) (all front : List RunLine) (before : ParsedLines) (ol
     pub all_forgotten : read_told ≡ lines_after read_told.events (parsed_lines new.run)
     all_forgotten = rw (config, events, append-nil read_told.events) refl
 
-    pub forgets : HasRead file all (front ++ has.lines) read_told new more Has
+    pub forgets : HasReadLines file all (front ++ has.lines) read_told new more Has
     unfolding event_lines
     forgets = record {
       lines = [];
@@ -164,7 +164,7 @@ to_end r false Q is none h = subst Q is h
 -- lines that were read from the first on
 module _ (file : List ℕ) (all : List RunLine) (read : LinesRead) where
   -- to its end
-  module _ (front : List RunLine) (before : ParsedLines) (Has : ParsedLines → List RunLine → Type 0) (has : HasRead file all front before read (Ok false) Has) where
+  module _ (front : List RunLine) (before : ParsedLines) (Has : ParsedLines → List RunLine → Type 0) (has : HasReadLines file all front before read (Ok false) Has) where
     abbrev pub after : ParsedLines
     after = lines_after before.events (parsed_lines read.run)
 
@@ -173,13 +173,13 @@ module _ (file : List ℕ) (all : List RunLine) (read : LinesRead) where
         let behind = all_append before has.lines after has.left after has.tells (last_tells read.next after has.left has.more_is.0).0 in
         ap (lines_read 1 no_lines) has.whole ∙ all_told 1 no_lines (front ++ (has.lines ++ has.left)) after (all_append no_lines front before (has.lines ++ has.left) after has.forgotten behind)
 
-  pub notes : (Has : ParsedLines → List RunLine → Type 0) → HasRead file all [] no_lines read (Ok false) Has → read.run.lines.items ≡ event_lines 1 no_lines all
+  pub notes : (Has : ParsedLines → List RunLine → Type 0) → HasReadLines file all [] no_lines read (Ok false) Has → read.run.lines.items ≡ event_lines 1 no_lines all
   notes Has has =
       has.noted ∙ sym (append-nil _) ∙ ap (λ ls. event_lines 1 no_lines has.lines ++ ls) (sym (last_tells read.next (parsed_lines read.run) has.left has.more_is.0).1)
       ∙ sym (noted_append 1 read.next no_lines has.lines (parsed_lines read.run) has.left has.place has.tells) ∙ ap (event_lines 1 no_lines) (sym has.whole)
 
 -- a text that was read from its beginning to a fault
-module _ (file text : List ℕ) (read : LinesRead) (Has : ParsedLines → List RunLine → Type 0) (fault : Fault) (has : HasRead file (text_lines text) [] no_lines read (Err fault) Has) where
+module _ (file text : List ℕ) (read : LinesRead) (Has : ParsedLines → List RunLine → Type 0) (fault : Fault) (has : HasReadLines file (text_lines text) [] no_lines read (Err fault) Has) where
   abbrev Stops : Fault → Type 0
   Stops f = IsSceneRead (Err f) (text_read text) × IsReadFault text f
 

@@ -21,7 +21,7 @@ use Rattle.run_model.specs.declared.output.LiveSpec.{LiveSpec}
 use Rattle.run_model.specs.declared.status.SetupScriptExecuteStatus.{SetupScriptExecuteStatus}
 use Rattle.run_model.specs.declared.call.ReportCall.TheVariants as call
 use Rattle.scene_events.specs.SceneAttempts.{script_status}
-use Rattle.scene_events.specs.Scenes.{SaysSame, may_be_refused, nothing_counted, elapsed_of}
+use Rattle.scene_events.specs.Scenes.{SaysSame, may_be_refused, nothing_counted, elapsed_in}
 use Rattle.scene_events.specs.declared.scene.event.SceneEvent.TheVariants as scene
 use Rattle.std.proofs.lemmas.Bool.{not-false, or_parts}
 use Rattle.reporter_state.specs.KeptTests.{lent}
@@ -103,7 +103,7 @@ named t = record { binary_id = lent t.binary_id; test_name = lent t.test_name }
 -- the call that says the same is not refused
 judged_by : (d : OutputLoadDecider) (event : SceneEvent) (k : TestEventKind) → SaysSame event k → told_refusal d event ≡ None → (n : ℕ) → ChecksEvent d n event None
 judged_by d event k same none n = record {
-  call = call.Event (record { elapsed = record { 0 = elapsed_of event }; kind = k });
+  call = call.Event (record { elapsed = record { 0 = elapsed_in event }; kind = k });
   of_event = (refl, same);
   is = sym (ap (option_map (fault_at_call n)) (refusal_told d event k same ∙ none));
 }

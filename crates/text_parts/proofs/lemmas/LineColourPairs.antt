@@ -1,4 +1,4 @@
--- Bars, and the tests and setup scripts that lines speak of, in colour and plain (for all lines of units).
+-- The tests and setup scripts that lines speak of, handed in without escape characters (for all lines of units).
 use Rattle.std.proofs.Common.{◌≢◌, ◌∷◌, ℕ, Bool, true, false, arith, Option, None, Some}
 use Rattle.run_names.specs.declared.name.TestInstanceId.{TestInstanceId}
 use Rattle.run_model.specs.declared.stats.RunStats.{RunStats}
@@ -7,11 +7,9 @@ use Rattle.report_text.specs.Instance.{HasPlainCounter}
 use Rattle.report_words.specs.PlainTexts.{IsPlainInstance}
 use Rattle.plain_text.specs.Style.{styles_of}
 use Rattle.report_words.specs.Theme.{hbar_character}
-use Rattle.report_words.specs.declared.theme.ThemeCharacters.{ThemeCharacters}
 use Rattle.report_text.proofs.lemmas.FreeDetails.{free-shell_words}
 use Rattle.report_text.proofs.lemmas.InstanceColourPairs.{colour_pair-instance_text, colour_pair-script_text}
-use Rattle.report_words.proofs.lemmas.ColourPairs.{IsColourPair, colour_pair-append, colour_pair-free, colour_pairs}
-use Rattle.text_parts.specs.Bar.{bar_line}
+use Rattle.report_words.proofs.lemmas.PartsInColour.{AreFree}
 use Rattle.text_parts.specs.Instance.{padded_instance, instance_end, untimed_end}
 use Rattle.text_parts.specs.Script.{IsPlainScript, Script, shown_script}
 use Rattle.text_parts.specs.Settings.{counter_where, finished_counter, next_where, started_counter, padded_where, padded_counter}
@@ -21,10 +19,6 @@ use Rattle.text_parts.specs.declared.settings.Settings.{Settings}
 -- the same settings, in colour or plain
 abbrev pub painted : Bool → Settings → Settings
 painted b s = record s { styles = styles_of b }
-
-pub colour_pair-bar_line : (k : Bool) (theme : ThemeCharacters) → IsColourPair k (bar_line theme) (bar_line theme)
-unfolding bar_line
-colour_pair-bar_line k theme = search (colour_pairs, colour_pair-free) depth 12
 
 -- no counter holds an escape character
 pub plain-finished_counter : (s : Settings) (x : RunStats) → HasPlainCounter (finished_counter s x)
@@ -60,14 +54,14 @@ pub plain-padded : (s : Settings) (stress : Option StressIndex) (i : TestInstanc
 plain-padded s stress i h = (plain-padded_counter s, h)
 
 -- the ends of a test's lines
-pub colour_pair-instance_end : (k : Bool) (test : CountedInstance) → IsPlainTest test → IsColourPair k (instance_end (styles_of true) test) (instance_end (styles_of false) test)
+pub free-instance_end : (k : Bool) (test : CountedInstance) → IsPlainTest test → AreFree k (instance_end test)
 unfolding instance_end
-colour_pair-instance_end k test h = let name = colour_pair-instance_text k test.stress_index test.counter test.instance h.0 h.1 in colour_pair-append k _ _ _ _ name (search colour_pairs)
+free-instance_end k test h = (colour_pair-instance_text k test.stress_index test.counter test.instance h.0 h.1, tt)
 
-pub colour_pair-untimed_end : (k : Bool) (test : CountedInstance) → IsPlainTest test → IsColourPair k (untimed_end (styles_of true) test) (untimed_end (styles_of false) test)
+pub free-untimed_end : (k : Bool) (test : CountedInstance) → IsPlainTest test → AreFree k (untimed_end test)
 unfolding untimed_end
-colour_pair-untimed_end k test h = let end = colour_pair-instance_end k test h in search colour_pairs depth 12
+free-untimed_end k test h = (tt, free-instance_end k test h)
 
 -- a script as its lines name it
-pub colour_pair-shown_script : (k : Bool) (x : Script) → IsPlainScript x → IsColourPair k (shown_script (styles_of true) x) (shown_script (styles_of false) x)
-colour_pair-shown_script k x h = colour_pair-script_text k _ _ x.stress_index x.script_id _ h.0 (free-shell_words (x.program ∷ x.args) (h.1, h.2))
+pub free-shown_script : (k : Bool) (x : Script) → IsPlainScript x → AreFree k (shown_script x)
+free-shown_script k x h = colour_pair-script_text k _ _ x.stress_index x.script_id _ h.0 (free-shell_words (x.program ∷ x.args) (h.1, h.2))

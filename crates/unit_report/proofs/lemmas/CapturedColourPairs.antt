@@ -19,7 +19,8 @@ use Rattle.plain_text.proofs.lemmas.Pieces.{free_parts, visible-free}
 use Rattle.plain_text.proofs.lemmas.Widths.{free_both, visible-free_append}
 use Rattle.report_words.proofs.lemmas.FreeWords.{free-take, free-drop, free-indent, free-visible}
 use Rattle.plain_text.proofs.lemmas.IndentedEndSpaces.{IsBlank}
-use Rattle.report_words.proofs.lemmas.ColourPairs.{IsColourPair, prefix-append, suffix-append, reset-append, colour_pair-indent}
+use Rattle.report_words.specs.InColour.{IsColourPair}
+use Rattle.report_words.proofs.lemmas.ColourPairs.{prefix-append, suffix-append, reset-append, colour_pair-indent}
 use Rattle.report_words.specs.PlainTexts.{HoldsIf}
 use Rattle.unit_report.specs.PlainOutputs.{IsInside, IsPlainStream}
 

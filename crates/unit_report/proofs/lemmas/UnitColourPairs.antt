@@ -1,5 +1,5 @@
 -- The output of a unit, in colour and plain (for the output of attempts and of answers).
-use Rattle.std.proofs.Common.{◌≡◌, ℕ, Bool, true, false, refl, List, [], ◌∷◌, Option, None, Some}
+use Rattle.std.proofs.Common.{◌≡◌, ℕ, Bool, true, false, refl, List, [], ◌∷◌, Option, None, Some, codes}
 use Rattle.std.specs.List.{AllByRecursion, flat_map}
 use Rattle.std.specs.Option.{option_and_then}
 use Rattle.run_names.specs.ErrorChains.{MessageAndCauses}
@@ -15,6 +15,7 @@ use Rattle.plain_text.specs.Escapes.{HasNoEscape}
 use Rattle.plain_text.specs.Style.{styles_of}
 use Rattle.report_words.specs.declared.theme.ThemeCharacters.{ThemeCharacters}
 use Rattle.plain_text.specs.declared.style.Style.{Style}
+use Rattle.plain_text.specs.declared.style.Styles.{Styles}
 use Rattle.plain_text.specs.declared.style.Style.TheVariants as style
 use Rattle.unit_report.specs.ErrorChain.{cause_text, causes_text, error_chain_text}
 use Rattle.unit_report.specs.Header.{output_name_text, bar_text, header_text}
@@ -26,7 +27,10 @@ use Rattle.unit_report.specs.declared.unit_output.header.OutputName.TheVariants 
 use Rattle.unit_report.specs.declared.unit_output.reporter.UnitOutputReporter.{UnitOutputReporter}
 use Rattle.report_words.proofs.lemmas.FreeWords.{frees}
 use Rattle.plain_text.proofs.lemmas.IndentedEndSpaces.{IsBlank}
-use Rattle.report_words.proofs.lemmas.ColourPairs.{IsColourPair, colour_pair-none, colour_pair-append, colour_pair-free, colour_pair-if, colour_pairs}
+use Rattle.report_words.specs.InColour.{IsColourPair}
+use Rattle.report_words.specs.Parts.{EndsLine, drawn_given, words, ◌⧺◌}
+use Rattle.report_words.proofs.lemmas.PartsInColour.{ends}
+use Rattle.report_words.proofs.lemmas.ColourPairs.{colour_pair-none, colour_pair-append, colour_pair-free, colour_pair-if, colour_pairs}
 use Rattle.report_words.specs.PlainTexts.{HoldsIf, IsPlainChain}
 use Rattle.unit_report.specs.PlainOutputs.{IsPlainStream, IsPlainOutput, IsPlainWritten}
 use Rattle.unit_report.proofs.lemmas.CapturedColourPairs.{colour_pair-indent_ended, ended-captured}
@@ -124,3 +128,9 @@ module _ (k : Bool) (r : UnitOutputReporter) (l m : OutputLayout) (layout : IsCo
   unfolding execution_output
   colour_pair-execution_output (Output result output errors o) p = let first = colour_pair-errors_text errors p.0 in let second = colour_pair-child_output output o p.1 in search colour_pairs depth 12
   colour_pair-execution_output (StartError chain) p = let first = colour_pair-errors_block chain p in search colour_pairs depth 12
+
+-- the output of a unit ends in an empty line
+pub ends-execution_output : (r : UnitOutputReporter) (s : Styles) (layout : OutputLayout) (w : ChildExecutionOutputDescription LiveSpec ChildOutputDescription) → EndsLine (execution_output r s layout w)
+unfolding execution_output
+ends-execution_output r s layout (Output result output errors highlight) = ends s (drawn_given (λ s. errors_text layout errors) ⧺ drawn_given (λ s. child_output r s layout output highlight) ⧺ words (codes "\n"))
+ends-execution_output r s layout (StartError chain) = ends s (drawn_given (λ s. errors_block layout chain) ⧺ words (codes "\n"))

@@ -26,6 +26,7 @@ pub struct DisplayBracketedDuration(pub Nanos);
 
 impl DisplayBracketedDuration {
     /// Writes what it shows.
+    #[inline(always)]
     #[tactic(auto, unfolding(crate::specs::Durations::bracketed_duration))]
     pub fn write_to<W: WriteStr>(&self, w: &mut W) -> Result<(), WriteFault>
         ensures { Puts W.meaning w.old (bracketed_duration self.now.0.0) result w.new }

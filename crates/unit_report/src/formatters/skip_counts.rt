@@ -1,8 +1,10 @@
 //! How many tests and binaries a run skips, and why.
 
-ghost use Rattle.std.specs.Prelude.{◌≡◌};
+ghost use Rattle.std.specs.Prelude.{◌≡◌, ◌||◌, [], if◌then◌else◌};
 ghost use Rattle.plain_text.specs.Writer.{Puts};
-ghost use Rattle.unit_report.specs.SkipCounts.{between, binaries_text, filter_name, filtered_text, has_no_filtered, included_text, rerun_text, skip_counts_text, skip_note, skip_reason, skipped_tests_in, tests_and_binaries, tests_text, via_filter};
+ghost use Rattle.plain_text.specs.Style.{plain};
+ghost use Rattle.report_words.specs.Parts.{paint};
+ghost use Rattle.unit_report.specs.SkipCounts.{binaries_text, filter_name, filtered_text, has_no_filtered, included_text, override_name, rerun_text, skip_counts_text, skip_note, skip_reason, skipped_tests_in, tests_and_binaries, tests_text, via_filter};
 
 use plain_text::style::{Styles, write_plain};
 use plain_text::write_str::{WriteFault, WriteStr};
@@ -27,7 +29,7 @@ pub fn write_skip_counts<W: WriteStr>(
     styles: &Styles,
     w: &mut W,
 ) -> Result<(), WriteFault>
-    ensures { Puts W.meaning w.old (skip_counts_text styles.now mode skip_counts.now default_filter.now) result w.new }
+    ensures { Puts W.meaning w.old (paint styles.now (skip_counts_text mode skip_counts.now default_filter.now)) result w.new }
 {
     let tests = skipped_tests(mode, skip_counts);
     write_skip_note(w, styles, mode, tests, skip_counts, default_filter)
@@ -55,7 +57,7 @@ fn write_skip_note<W: WriteStr>(
     counts: &SkipCounts,
     filter: &CompiledDefaultFilter,
 ) -> Result<(), WriteFault>
-    ensures { Puts W.meaning w.old (skip_note styles.now mode tests counts.now filter.now) result w.new }
+    ensures { Puts W.meaning w.old (paint styles.now (skip_note mode tests counts.now filter.now)) result w.new }
 {
     if tests == 0 && counts.skipped_binaries == 0 {
         return Ok(());
@@ -78,7 +80,7 @@ fn write_skip_reason<W: WriteStr>(
     counts: &SkipCounts,
     filter: &CompiledDefaultFilter,
 ) -> Result<(), WriteFault>
-    ensures { Puts W.meaning w.old (skip_reason styles.now mode tests counts.now filter.now) result w.new }
+    ensures { Puts W.meaning w.old (paint styles.now (skip_reason mode tests counts.now filter.now)) result w.new }
 {
     if tests == counts.skipped_tests_rerun && counts.skipped_binaries == 0 {
         write_plain(w, " that already passed")
@@ -100,7 +102,7 @@ fn write_included<W: WriteStr>(
     counts: &SkipCounts,
     filter: &CompiledDefaultFilter,
 ) -> Result<(), WriteFault>
-    ensures { Puts W.meaning w.old (included_text styles.now mode counts.now filter.now) result w.new }
+    ensures { Puts W.meaning w.old (paint styles.now (included_text mode counts.now filter.now)) result w.new }
 {
     let has_no_rerun = counts.skipped_tests_rerun == 0;
     let has_no_filtered = has_no_filtered(counts);
@@ -128,7 +130,7 @@ fn write_rerun<W: WriteStr>(
     mode: NextestRunMode,
     count: usize,
 ) -> Result<(), WriteFault>
-    ensures { Puts W.meaning w.old (rerun_text styles.now mode count) result w.new }
+    ensures { Puts W.meaning w.old (paint styles.now (rerun_text mode count)) result w.new }
 {
     if count == 0 {
         return Ok(());
@@ -146,7 +148,7 @@ fn write_filtered<W: WriteStr>(
     counts: &SkipCounts,
     filter: &CompiledDefaultFilter,
 ) -> Result<(), WriteFault>
-    ensures { Puts W.meaning w.old (filtered_text styles.now mode counts.now filter.now) result w.new }
+    ensures { Puts W.meaning w.old (paint styles.now (filtered_text mode counts.now filter.now)) result w.new }
 {
     if has_no_filtered(counts) {
         return Ok(());
@@ -169,20 +171,19 @@ fn write_via_filter<W: WriteStr>(
     styles: &Styles,
     filter: &CompiledDefaultFilter,
 ) -> Result<(), WriteFault>
-    ensures { Puts W.meaning w.old (via_filter styles.now filter.now) result w.new }
+    ensures { Puts W.meaning w.old (paint styles.now (via_filter filter.now)) result w.new }
 {
     write_plain(w, " via ")?;
     write_filter_name(w, styles, filter.profile.as_str(), filter.section)
 }
 
-#[tactic(auto, unfolding(crate::specs::SkipCounts::filter_name))]
 fn write_filter_name<W: WriteStr>(
     w: &mut W,
     styles: &Styles,
     profile: &str,
     section: CompiledDefaultFilterSection,
 ) -> Result<(), WriteFault>
-    ensures { Puts W.meaning w.old (filter_name styles.now profile.now section) result w.new }
+    ensures { Puts W.meaning w.old (paint styles.now (filter_name profile.now section)) result w.new }
 {
     match section {
         CompiledDefaultFilterSection::Profile => {
@@ -190,14 +191,24 @@ fn write_filter_name<W: WriteStr>(
                 .count
                 .write_joined(w, "profile.", profile, ".default-filter")
         }
-        CompiledDefaultFilterSection::Override(_) => {
-            styles.count.write(w, "default-filter")?;
-            write_plain(w, " in ")?;
-            styles
-                .count
-                .write_joined(w, "profile.", profile, ".overrides")
-        }
+        CompiledDefaultFilterSection::Override(_) => write_override_name(w, styles, profile),
     }
+}
+
+// Writes the name of the default filter that overrides have.
+#[tactic(auto, unfolding(crate::specs::SkipCounts::override_name))]
+fn write_override_name<W: WriteStr>(
+    w: &mut W,
+    styles: &Styles,
+    profile: &str,
+) -> Result<(), WriteFault>
+    ensures { Puts W.meaning w.old (paint styles.now (override_name profile.now)) result w.new }
+{
+    styles.count.write(w, "default-filter")?;
+    write_plain(w, " in ")?;
+    styles
+        .count
+        .write_joined(w, "profile.", profile, ".overrides")
 }
 
 // Writes the numbers of tests and binaries, and leaves out what is 0.
@@ -209,7 +220,7 @@ fn write_tests_and_binaries<W: WriteStr>(
     tests: usize,
     binaries: usize,
 ) -> Result<(), WriteFault>
-    ensures { Puts W.meaning w.old (tests_and_binaries styles.now mode tests binaries) result w.new }
+    ensures { Puts W.meaning w.old (paint styles.now (tests_and_binaries mode tests binaries)) result w.new }
 {
     write_tests(w, styles, mode, tests)?;
     write_between(w, " and ", tests == 0, binaries == 0)?;
@@ -217,14 +228,13 @@ fn write_tests_and_binaries<W: WriteStr>(
 }
 
 // Writes what stands between two numbers, where neither is 0.
-#[tactic(auto, unfolding(crate::specs::SkipCounts::between))]
 fn write_between<W: WriteStr>(
     w: &mut W,
     text: &str,
     left_is_zero: bool,
     right_is_zero: bool,
 ) -> Result<(), WriteFault>
-    ensures { Puts W.meaning w.old (between text.now left_is_zero right_is_zero) result w.new }
+    ensures { Puts W.meaning w.old (if left_is_zero || right_is_zero then [] else plain text.now) result w.new }
 {
     if left_is_zero || right_is_zero {
         Ok(())
@@ -240,7 +250,7 @@ fn write_tests<W: WriteStr>(
     mode: NextestRunMode,
     count: usize,
 ) -> Result<(), WriteFault>
-    ensures { Puts W.meaning w.old (tests_text styles.now mode count) result w.new }
+    ensures { Puts W.meaning w.old (paint styles.now (tests_text mode count)) result w.new }
 {
     if count == 0 {
         return Ok(());
@@ -252,7 +262,7 @@ fn write_tests<W: WriteStr>(
 
 #[tactic(auto, unfolding(crate::specs::SkipCounts::binaries_text))]
 fn write_binaries<W: WriteStr>(w: &mut W, styles: &Styles, count: usize) -> Result<(), WriteFault>
-    ensures { Puts W.meaning w.old (binaries_text styles.now count) result w.new }
+    ensures { Puts W.meaning w.old (paint styles.now (binaries_text count)) result w.new }
 {
     if count == 0 {
         return Ok(());

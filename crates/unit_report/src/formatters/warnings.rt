@@ -2,6 +2,7 @@
 
 ghost use Rattle.std.specs.Prelude.{◌≡◌};
 ghost use Rattle.plain_text.specs.Writer.{Puts};
+ghost use Rattle.report_words.specs.Parts.{paint};
 ghost use Rattle.unit_report.specs.Warnings.{due_to, final_warnings, hint_after, not_run_count, not_run_warning, options_hint, warning_of};
 
 use plain_text::style::{Styles, write_plain};
@@ -27,7 +28,7 @@ pub fn write_final_warnings<W: WriteStr>(
     styles: &Styles,
     w: &mut W,
 ) -> Result<(), WriteFault>
-    ensures { Puts W.meaning w.old (final_warnings styles.now mode final_stats) result w.new }
+    ensures { Puts W.meaning w.old (paint styles.now (final_warnings mode final_stats)) result w.new }
 {
     match final_stats {
         FinalRunStats::Success => Ok(()),
@@ -47,7 +48,7 @@ fn write_warning<W: WriteStr>(
     reason: Option<CancelReason>,
     kind: RunStatsFailureKind,
 ) -> Result<(), WriteFault>
-    ensures { Puts W.meaning w.old (warning_of styles.now mode reason kind) result w.new }
+    ensures { Puts W.meaning w.old (paint styles.now (warning_of mode reason kind)) result w.new }
 {
     match kind {
         RunStatsFailureKind::SetupScript => Ok(()),
@@ -68,7 +69,7 @@ fn write_not_run_warning<W: WriteStr>(
     initial: usize,
     not_run: usize,
 ) -> Result<(), WriteFault>
-    ensures { Puts W.meaning w.old (not_run_warning styles.now mode reason initial not_run) result w.new }
+    ensures { Puts W.meaning w.old (paint styles.now (not_run_warning mode reason initial not_run)) result w.new }
 {
     if not_run == 0 {
         return Ok(());
@@ -90,7 +91,7 @@ fn write_not_run_count<W: WriteStr>(
     initial: usize,
     not_run: usize,
 ) -> Result<(), WriteFault>
-    ensures { Puts W.meaning w.old (not_run_count styles.now mode initial not_run) result w.new }
+    ensures { Puts W.meaning w.old (paint styles.now (not_run_count mode initial not_run)) result w.new }
 {
     let plural = !(not_run == 1 && initial == 1);
     styles.count.write_number(w, not_run as u128)?;
@@ -110,7 +111,7 @@ fn write_due_to<W: WriteStr>(
     styles: &Styles,
     reason: Option<CancelReason>,
 ) -> Result<(), WriteFault>
-    ensures { Puts W.meaning w.old (due_to styles.now reason) result w.new }
+    ensures { Puts W.meaning w.old (paint styles.now (due_to reason)) result w.new }
 {
     match reason {
         None => Ok(()),
@@ -128,7 +129,7 @@ fn write_hint_after<W: WriteStr>(
     styles: &Styles,
     reason: Option<CancelReason>,
 ) -> Result<(), WriteFault>
-    ensures { Puts W.meaning w.old (hint_after styles.now reason) result w.new }
+    ensures { Puts W.meaning w.old (paint styles.now (hint_after reason)) result w.new }
 {
     match reason {
         Some(CancelReason::TestFailure | CancelReason::TestFailureImmediate) => {
@@ -140,7 +141,7 @@ fn write_hint_after<W: WriteStr>(
 
 #[tactic(auto, unfolding(crate::specs::Warnings::options_hint))]
 fn write_options_hint<W: WriteStr>(w: &mut W, styles: &Styles) -> Result<(), WriteFault>
-    ensures { Puts W.meaning w.old (options_hint styles.now) result w.new }
+    ensures { Puts W.meaning w.old (paint styles.now options_hint) result w.new }
 {
     write_plain(w, " (run with ")?;
     styles.count.write(w, "--no-fail-fast")?;

@@ -10,4 +10,4 @@ returns-in-Ok-clause-report c =
 pub returns-in-Err-clause-fault : goal.returns-in-Err-clause-fault
 returns-in-Err-clause-fault c =
     let ended = c.report_scene-report.ensures.err c.args.text.now refl in
-    rw c.fault_told.ensures (unreported _ _ _ _ _ _ c.in-Err.fault (rw c.in-Err.is at ended))
+    rw c.read_fault_of.ensures (unreported _ _ _ _ _ _ c.in-Err.fault (rw c.in-Err.is at ended))

@@ -1,9 +1,9 @@
 use Rattle.std.proofs.Common.{drop}
 use Rattle.std.specs.List.{flat_map}
 use Rattle.plain_text.specs.Writer.{Owes}
-use Rattle.run_text.specs.NotSeen.{not_seen_line}
+use Rattle.run_text.specs.NotSeen.{listed_line}
 use Rattle.run_text.proofs.not_seen.write_listed.Given as goal
 
 -- the tests that are left are owed
 abbrev pub invariant-loop-instance : goal.invariant-loop-instance
-invariant-loop-instance g l = Owes g.W.WriteStr.meaning l.fn.w (flat_map (not_seen_line l.list_styles) l.listed) l.w (flat_map (not_seen_line l.list_styles) (drop l.instance-index l.listed))
+invariant-loop-instance g l = Owes g.W.WriteStr.meaning l.fn.w (flat_map (listed_line l.styles) l.listed) l.w (flat_map (listed_line l.styles) (drop l.instance-index l.listed))

@@ -37,7 +37,7 @@ loop-tabs-preserved c =
       near = omega arith;
       high = omega (arith, inside _ _ _ _ _ _ so_far.left _ c.loop-tabs-test.true first);
       boundary = IsCharBoundary-after_ascii t _ c.utf8.line tab.0.high (omega (arith, byte_at 9 t _ tab.1));
-      left = fewer_left _ _ _ _ _ _ so_far.left _ c.loop-tabs-test.true first 1 _ (omega (arith, tab.0.high)) c.places_behind-tabs.ensures.behind;
+      left = fewer_left _ _ _ _ _ _ so_far.left _ c.loop-tabs-test.true first 1 _ (omega (arith, tab.0.high)) c.shift_past-tabs.ensures.behind;
       fields = rw c.in_ok-push.ensures.items (one_more _ _ _ _ _ so_far.fields (rw c.range.ensures.value (ap (split_on 9) cut.1 ∙ split_on-parts 9 _ _ cut.0)));
     }
 

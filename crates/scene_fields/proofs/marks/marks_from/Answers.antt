@@ -4,7 +4,7 @@ use Rattle.scene_fields.proofs.lemmas.Marks.{marks-block, marks-later}
 use Rattle.scene_fields.proofs.marks.marks_from.Goals as goal
 
 pub returns-then-left-ge32 : goal.returns-then-left-ge32
-returns-then-left-ge32 c = c.marks_of.ensures ∙ ap (marks c.args.byte) c.block_from.ensures ∙ marks-block c.args.byte c.args.bytes.now c.args.from c.requires.within _ c.requires.byte
+returns-then-left-ge32 c = c.match_mask.ensures ∙ ap (marks c.args.byte) c.load_block.ensures ∙ marks-block c.args.byte c.args.bytes.now c.args.from c.requires.within _ c.requires.byte
 
 pub returns : goal.returns
 returns c =
@@ -15,7 +15,7 @@ returns c =
     let size : 32 ≡ length t - start = omega arith in
     let at : start + s ≡ c.args.from = omega arith in
     let end : length t ≡ min (c.args.from + 32) (length t) = omega arith in
-    ap (λ m. m / 2 ^ s) (c.marks_of-2.ensures ∙ ap (λ n. marks b (take n (drop start t))) size)
+    ap (λ m. m / 2 ^ s) (c.match_mask-2.ensures ∙ ap (λ n. marks b (take n (drop start t))) size)
     ∙ marks-later b t start (length t) s
     ∙ ap (λ k. marks_between b t k (length t)) at
     ∙ ap (marks_between b t c.args.from) end

@@ -11,8 +11,8 @@ use Rattle.scene_fields.proofs.unescape.plain_len.Goals as goal
 -- what is counted stands before the first escape
 counted : (c : goal.After-min) → c.if-marks-eq0.count ≡ prefix_len (λ b. not (is_byte 92 b)) c.args.block
 counted c = elim c.if-marks-eq0.branch [
-  | then-marks-eq0 w ↦ omega (arith, w.count-is, c.fits-block.0, leading_from_mask_l (is_byte 92) c.args.block (omega (arith, w.if-marks-eq0, c.marks_of-marks.ensures)))
-  | else-marks-eq0 w ↦ w.count-is ∙ w.first_place-count.ensures.first ∙ ap (trailing_zeros w64) c.marks_of-marks.ensures ∙ trailing_mask_l (is_byte 92) 64 c.args.block (omega (arith, c.fits-block.0)) (omega (arith, w.if-marks-eq0, c.marks_of-marks.ensures))
+  | then-marks-eq0 w ↦ omega (arith, w.count-is, c.fits-block.0, leading_from_mask_l (is_byte 92) c.args.block (omega (arith, w.if-marks-eq0, c.match_mask-marks.ensures)))
+  | else-marks-eq0 w ↦ w.count-is ∙ w.first_place-count.ensures.first ∙ ap (trailing_zeros w64) c.match_mask-marks.ensures ∙ trailing_mask_l (is_byte 92) 64 c.args.block (omega (arith, c.fits-block.0)) (omega (arith, w.if-marks-eq0, c.match_mask-marks.ensures))
 ]
 
 pub returns-clause-block : goal.returns-clause-block

@@ -35,5 +35,5 @@ returns-clause-err g c =
       last.writer,
       λ held. subst (λ f. AreBegun device device options (g.W.Write.contents c.args.writer, held) (g.W.Write.contents last.writer, held) config f c.args.calls.now) (sym c.fault_of_stop.ensures)
           (subst (λ w. AreBegun device device options (g.W.Write.contents w, held) (g.W.Write.contents last.writer, held) config (fault_at_call number stop.fault) c.args.calls.now) out.0
-          (alone_stops options config c.args.calls.now _ is g.W.Write.contents c.in-Ok-new.out last out.1 c.requires.no_store c.requires.accepted number stop.position stop.fault ran.refused ran.no_store ran.err held)),
+          (alone_stops options config c.args.calls.now _ is g.W.Write.contents c.in-Ok-new.out last out.1 c.requires.no_store c.requires.accepted number stop.position stop.fault ran.refused (λ fails. let h = ran.store_io fails in cc) ran.err held)),
     )

@@ -1,5 +1,5 @@
 use Rattle.std.proofs.Common.{[], Bool, List, ℕ, Ok, Some, ◌≡◌, ◌∙◌, false, inl, refl}
-use Rattle.scenes.proofs.Common.{AreLeftOf, HasRead, no_lines, reader_remaining, text_lines}
+use Rattle.scenes.proofs.Common.{AreLeftOf, HasReadLines, no_lines, reader_remaining, text_lines}
 use Rattle.scene_text.proofs.lemmas.Tellings.{all_tell}
 use Rattle.scenes.proofs.lemmas.ReadLines.{none_read, notes, spells, stopped_read, to_end}
 use Rattle.scenes.proofs.report.read_whole.Given as given
@@ -8,16 +8,16 @@ use Rattle.scenes.proofs.report.read_whole.Goals.{After-read_lines}
 
 -- what was read of a text
 reads : (g : given.Over) (c : After-read_lines g) (text : List ℕ) → g.R.Read.remaining c.args.reader ≡ Some text →
-    HasRead c.args.options.now.file.now (text_lines text) [] no_lines c.read_lines.new.read c.read_lines.result (λ run. AreLeftOf (reader_remaining g.R.Read.remaining c.read_lines.new.source.reader))
+    HasReadLines c.args.options.now.file.now (text_lines text) [] no_lines c.read_lines.new.read c.read_lines.result (λ run. AreLeftOf (reader_remaining g.R.Read.remaining c.read_lines.new.source.reader))
 reads g c text known =
     c.read_lines.ensures.read 0 (text_lines text) [] no_lines
     (none_read c.args.options.now.file.now (text_lines text) c.new-read.result _ c.new-read.ensures.read c.new-read.ensures.lines c.new-read.ensures.begun c.new-read.ensures.next (text, c.in-Ok.ensures ∙ known, inl refl))
 
 -- to its end
 ended : (g : given.Over) (c : After-read_lines g) (text : List ℕ) → g.R.Read.remaining c.args.reader ≡ Some text → (more : Bool) → c.read_lines.result ≡ Ok more →
-    HasRead c.args.options.now.file.now (text_lines text) [] no_lines c.read_lines.new.read (Ok false) (λ run. AreLeftOf (reader_remaining g.R.Read.remaining c.read_lines.new.source.reader))
+    HasReadLines c.args.options.now.file.now (text_lines text) [] no_lines c.read_lines.new.read (Ok false) (λ run. AreLeftOf (reader_remaining g.R.Read.remaining c.read_lines.new.source.reader))
 ended g c text known more is =
-    to_end c.read_lines.result more (λ r. HasRead c.args.options.now.file.now (text_lines text) [] no_lines c.read_lines.new.read r (λ run. AreLeftOf (reader_remaining g.R.Read.remaining c.read_lines.new.source.reader))) is
+    to_end c.read_lines.result more (λ r. HasReadLines c.args.options.now.file.now (text_lines text) [] no_lines c.read_lines.new.read r (λ run. AreLeftOf (reader_remaining g.R.Read.remaining c.read_lines.new.source.reader))) is
     c.read_lines.ensures.event (reads g c text known)
 
 pub returns-in-Ok-read_lines-clause-scene : goal.returns-in-Ok-read_lines-clause-scene

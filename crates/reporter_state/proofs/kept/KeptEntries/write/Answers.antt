@@ -1,4 +1,8 @@
-use Rattle.plain_text.proofs.lemmas.Steps.{owes_accepted, owes_stopped}
+use Rattle.std.proofs.Common.{◌≡◌, [], ap, rules}
+use Rattle.std.specs.Iterator.Adapters.{rev_source}
+use Rattle.plain_text.proofs.lemmas.Steps.{owes_accepted, owes_nothing, owes_stopped}
+use Rattle.reporter_state.specs.Entries.{shown_entries}
+use Rattle.reporter_state.specs.Keys.{shown_of}
 use Rattle.reporter_state.proofs.lemmas.Inserts.{text-left}
 use Rattle.reporter_state.proofs.kept.KeptEntries.write.Goals as goal
 
@@ -9,3 +13,8 @@ loop-key-preserved g c =
 pub returns-in_err-write_entry : goal.returns-in_err-write_entry
 returns-in_err-write_entry g c =
     owes_stopped g.met.W.WriteStr.laws _ _ _ _ _ _ _ _ _ c.loop-key.invariant (text-left _ _ _ _ _ c.in-Some.ensures.steps c.entry.ensures) c.from_residual.ensures.1 c.in_err-write_entry.ensures
+
+pub returns : goal.returns
+returns g c =
+    let none : rev_source c.loop-key.key-iterator ≡ [] = search rules in
+    owes_nothing g.met.W.WriteStr.laws _ _ _ _ c.loop-key.invariant (ap (λ ps. shown_entries c.args.settings.now (shown_of ps)) none)

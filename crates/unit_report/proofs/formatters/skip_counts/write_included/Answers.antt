@@ -3,6 +3,13 @@ use Rattle.plain_text.proofs.lemmas.Steps.{puts_then, at_exit}
 use Rattle.unit_report.specs.SkipCounts.{included_text, has_no_filtered}
 use Rattle.unit_report.proofs.formatters.skip_counts.write_included.Goals as goal
 
+pub returns-in_err-write_plain : goal.returns-in_err-write_plain
+unfolding included_text
+returns-in_err-write_plain g c =
+    let laws = g.met.W.WriteStr.laws in
+    let some : ((c.args.counts.now.skipped_tests_rerun == 0) && has_no_filtered c.args.counts.now) ≡ false = search rules in
+    rw some (at_exit laws _ _ _ _ _ c.from_residual.ensures.1 (laws.stops_within _ _ _ _ _ c.in_err-write_plain.ensures))
+
 pub returns-in_err-write_rerun : goal.returns-in_err-write_rerun
 unfolding included_text
 returns-in_err-write_rerun g c =

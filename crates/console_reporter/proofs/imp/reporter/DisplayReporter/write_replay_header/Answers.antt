@@ -1,11 +1,14 @@
-use Rattle.std.proofs.Common.{rules, refl, ap, subst, sym, ◌∙◌, Some}
+use Rattle.std.proofs.Common.{rules, refl, ap, subst, sym, ◌∙◌, inr, List, Some}
 use Rattle.run_names.specs.Levels.{reason_rank}
 use Rattle.reporter_state.specs.declared.state.ReporterState.{ReporterState}
 use Rattle.console_reporter.proofs.lemmas.Stores.{config-same}
-use Rattle.console_reporter.proofs.lemmas.Calls.{stops_error}
+use Rattle.console_reporter.proofs.lemmas.Calls.{stops_after, stops_error}
 use Rattle.console_reporter.proofs.lemmas.Promises.{promise_broken, promise_failed, promise_told}
 use Rattle.reporter_state.specs.Entries.{cancel, kept, prefix}
+use Rattle.console_reporter.specs.Configuration.{Configuration}
+use Rattle.console_reporter.specs.HeldState.{StandsAfter}
 use Rattle.console_reporter.specs.Report.{text}
+use Rattle.run_model.specs.declared.call.ReportCall.{ReportCall}
 use Rattle.run_model.specs.declared.call.ReportCall.TheVariants.{Header}
 use Rattle.console_reporter.proofs.imp.reporter.DisplayReporter.write_replay_header.Goals as goal
 
@@ -49,5 +52,18 @@ returns-in-Err g c =
 
 pub returns-in-Err-flush_store : goal.returns-in-Err-flush_store
 returns-in-Err-flush_store g c =
+    let told : (config : Configuration) (past : List ReportCall) → StandsAfter config past c.args.self.now → g.W.WriteStr.meaning.accepts c.args.self.now.writer.now (text config past (Header c.args.header.now)) c.flush_store.new.self.writer.now =
+    λ config past stands.
+    subst (λ w. g.W.WriteStr.meaning.accepts c.args.self.now.writer.now (text config past (Header c.args.header.now)) w) (sym c.flush_store.ensures.writer) (rw stands.settings at c.in_default.ensures.text) in
     promise_broken g.W.WriteStr.meaning g.S.WriteStr.meaning c.args.self.now _ (Some (Header c.args.header.now)) (search rules) (search rules) (λ config past stands. refl) c.store_error_of.result c.store_error_of.ensures.unrefused
-    (search rules) refl
+    (record {
+      stopped = λ config past stands.
+          stops_after g.W.WriteStr.meaning c.args.self.now.writer.now c.flush_store.new.self.writer.now (text config past (Header c.args.header.now)) c.in-Err-flush_store.fault c.store_error_of.result c.store_error_of.ensures.error (told config past stands);
+      store_stopped = search rules;
+      order = λ config past stands. inr (told config past stands);
+      io = search rules;
+      store_io = search rules;
+      memory = search rules;
+      delivered = search rules;
+    })
+    refl

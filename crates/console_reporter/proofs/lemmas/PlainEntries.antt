@@ -1,0 +1,134 @@
+-- What is kept of the calls, and handed in for the entries of a summary (for `free-event_parts`).
+use Rattle.std.proofs.Common.{◌≡◌, ℕ, Bool, true, false, cond, refl, List, [], ◌∷◌, ◌++◌, Option, None, Some, ap₂}
+use Rattle.std.specs.List.{AllByRecursion}
+use Rattle.std.specs.Option.{option_to_list}
+use Rattle.run_model.specs.declared.event.TestEventKind.{TestEventKind}
+use Rattle.run_model.specs.declared.event.TestEventKind.TheVariants.{TestFinished, TestSkipped}
+use Rattle.run_names.specs.declared.unit.UnitKind.TheVariants as unit
+use Rattle.plain_text.specs.declared.style.Styles.{Styles}
+use Rattle.report_words.specs.PlainTexts.{HoldsIf}
+use Rattle.report_text.specs.PlainResults.{IsPlainResult}
+use Rattle.report_words.specs.Parts.{paint}
+use Rattle.report_words.proofs.lemmas.PartsInColour.{AreFree}
+use Rattle.unit_report.specs.PlainOutputs.{IsPlainWritten}
+use Rattle.test_text.specs.TestFinished.{TestFinish, test_finish}
+use Rattle.text_parts.specs.AttemptOutput.{unit_output}
+use Rattle.text_parts.specs.Finish.{display_of, is_final_wanted, timed_at_end}
+use Rattle.text_parts.specs.declared.instance.CountedInstance.{CountedInstance}
+use Rattle.text_parts.specs.declared.settings.Settings.{Settings}
+use Rattle.test_text.specs.declared.status_line.StatusLineKind.TheVariants.{Final}
+use Rattle.text_parts.proofs.lemmas.LineColourPairs.{painted, IsPlainTest, plain-finished_counter, plain-padded}
+use Rattle.text_parts.proofs.lemmas.OutputColourPairs.{free-unit_output}
+use Rattle.test_text.proofs.lemmas.FreeStatusLines.{IsPlainFinish, free-status_line}
+use Rattle.test_text.proofs.lemmas.FreeTests.{free-skip_line}
+use Rattle.run_text.specs.PlainRuns.{IsPlainPrefix}
+use Rattle.reporter_state.specs.Effects.{final_output, finished_entry, is_kept, is_skip_kept, entry_of}
+use Rattle.reporter_state.specs.Entries.{cancel, prefix, kept, final_order, is_before, final_text, entries_text}
+use Rattle.reporter_state.specs.KeptTests.{borrowed_test}
+use Rattle.reporter_state.proofs.lemmas.Keys.{is_before-ranks}
+use Rattle.reporter_state.proofs.lemmas.Orders.{All-ordered_by}
+use Rattle.console_reporter.specs.PlainCalls.{IsPlainKind, IsPlainCall}
+use Rattle.run_model.specs.declared.call.ReportCall.{ReportCall}
+use Rattle.run_model.specs.declared.call.ReportCall.TheVariants.{Event, Header, Prefix}
+use Rattle.reporter_state.specs.declared.final_output.FinalOutput.{FinalOutput}
+use Rattle.reporter_state.specs.declared.final_output.FinalOutput.TheVariants.{Executed, ExecutedWithOutput, Skipped}
+use Rattle.reporter_state.specs.declared.final_output.FinalOutputEntry.{FinalOutputEntry}
+
+-- what an entry shows of its test holds no escape character, but for the output where it need not
+abbrev IsPlainFinal : Bool → FinalOutput → Type 0
+IsPlainFinal k (Executed summary) = IsPlainResult summary.result
+IsPlainFinal k (ExecutedWithOutput summary output) = IsPlainResult summary.result × IsPlainWritten k output
+IsPlainFinal k Skipped = Unit {0}
+
+abbrev pub IsPlainEntry : Bool → FinalOutputEntry → Type 0
+IsPlainEntry k e = IsPlainTest (borrowed_test e.test) × IsPlainFinal k e.output
+
+free-final_text : (k : Bool) (s : Settings) (test : CountedInstance) (x : FinalOutput) → IsPlainTest test → IsPlainFinal k x → AreFree k (final_text s test x)
+unfolding final_text
+free-final_text k s test (Executed summary) h j = free-status_line k Final test summary h j
+free-final_text k s test (ExecutedWithOutput summary output) h j = (free-status_line k Final test summary h j.0, free-unit_output k s unit.Test false summary.result output j.0 j.1)
+free-final_text k s test Skipped h j = free-skip_line k test h
+
+pub free-entries_text : (k : Bool) (s : Settings) (es : List FinalOutputEntry) → AllByRecursion (IsPlainEntry k) es → AreFree k (entries_text s es)
+free-entries_text k s [] h = tt
+free-entries_text k s (e ∷ es) h = (free-final_text k s (borrowed_test e.test) e.output h.0.0 h.0.1, free-entries_text k s es h.1)
+
+-- lists of what is plain
+pub All-append : {X : Type 0} (P : X → Type 0) (xs ys : List X) → AllByRecursion P xs → AllByRecursion P ys → AllByRecursion P (xs ++ ys)
+All-append P [] ys h j = j
+All-append P (x ∷ xs) ys h j = (h.0, All-append P xs ys h.1 j)
+
+-- the final order holds the entries that were kept
+pub All-final_order : (P : FinalOutputEntry → Type 0) (es : List FinalOutputEntry) → AllByRecursion P es → AllByRecursion P (final_order es)
+All-final_order P es h = All-ordered_by is_before is_before-ranks P es h
+
+-- what is kept of a test that finished
+plain-finished : (k : Bool) (f : TestFinish) → IsPlainFinish k f → IsPlainFinal k (final_output f)
+unfolding final_output
+plain-finished k f h = go (timed_at_end f.row f.display)
+  where
+    go : (b : Bool) → IsPlainFinal k (cond b (ExecutedWithOutput f.summary f.last.output) (Executed f.summary))
+    go true = (h.summary, h.output)
+    go false = h.summary
+
+-- an entry, where it is kept
+abbrev entry_if : Bool → FinalOutputEntry → Option FinalOutputEntry
+entry_if b e = cond b (Some e) None
+
+plain-entry_if : (k b : Bool) (e : FinalOutputEntry) → IsPlainEntry k e → AllByRecursion (IsPlainEntry k) (option_to_list (entry_if b e))
+plain-entry_if k true e h = (h, tt)
+plain-entry_if k false e h = tt
+
+-- what is known of a finished test of an event
+pub plain-test_finish : (k : Bool) (s : Settings) (reason : ℕ) (stress : _) (instance : _) (success failure : _) (statuses : _) (stats : _) → IsPlainKind k (TestFinished stress instance success failure statuses stats)
+    → IsPlainFinish k (test_finish s reason stress instance success failure statuses stats)
+plain-test_finish k s reason stress instance success failure statuses stats h =
+    record { test = (plain-finished_counter s stats, h.0); summary = h.1.0; last = h.1.0; output = h.1.1 }
+
+plain-entry_of : (k : Bool) (s : Settings) (reason : ℕ) (e : TestEventKind) → IsPlainKind k e → AllByRecursion (IsPlainEntry k) (option_to_list (entry_of s reason e))
+plain-entry_of k s reason (TestFinished stress instance success failure statuses stats) h =
+    let f = test_finish s reason stress instance success failure statuses stats in
+    let all = plain-test_finish k s reason stress instance success failure statuses stats h in
+    plain-entry_if k (is_kept s f) (finished_entry f) (all.test, plain-finished k f all)
+plain-entry_of k s reason (TestSkipped stress instance) h = plain-entry_if k (is_skip_kept s) _ (plain-padded s stress instance h, tt)
+plain-entry_of k s reason other h = tt
+
+pub plain-kept : (k : Bool) (s : Settings) (past : List ReportCall) → AllByRecursion (IsPlainCall k) past → AllByRecursion (IsPlainEntry k) (kept s past)
+unfolding kept
+plain-kept k s [] h = tt
+plain-kept k s (Event e ∷ past) h = All-append (IsPlainEntry k) (kept s past) _ (plain-kept k s past h.1) (plain-entry_of k s (cancel past) e.kind h.0)
+plain-kept k s (Header x ∷ past) h = plain-kept k s past h.1
+plain-kept k s (Prefix p ∷ past) h = plain-kept k s past h.1
+
+-- it is the same in colour
+same-entry_of : (s : Settings) (reason : ℕ) (e : TestEventKind) → entry_of (painted true s) reason e ≡ entry_of (painted false s) reason e
+unfolding display_of is_final_wanted
+same-entry_of s reason (TestFinished stress instance success failure statuses stats) = refl
+same-entry_of s reason (TestSkipped stress instance) = refl
+same-entry_of s reason other = refl
+
+pub same-kept : (s : Settings) (past : List ReportCall) → kept (painted true s) past ≡ kept (painted false s) past
+unfolding kept
+same-kept s [] = refl
+same-kept s (Event e ∷ past) = ap₂ (λ es o. es ++ option_to_list o) (same-kept s past) (same-entry_of s (cancel past) e.kind)
+same-kept s (Header x ∷ past) = same-kept s past
+same-kept s (Prefix p ∷ past) = same-kept s past
+
+-- entries are shown by nothing of the settings but what is theirs
+same-final : (b : Bool) (t : Styles) (s : Settings) (test : CountedInstance) (x : FinalOutput) → paint t (final_text (painted b s) test x) ≡ paint t (final_text s test x)
+unfolding final_text unit_output
+same-final b t s test (Executed summary) = refl
+same-final b t s test (ExecutedWithOutput summary output) = refl
+same-final b t s test Skipped = refl
+
+pub same-entries : (b : Bool) (t : Styles) (s : Settings) (es : List FinalOutputEntry) → paint t (entries_text (painted b s) es) ≡ paint t (entries_text s es)
+same-entries b t s [] = refl
+same-entries b t s (e ∷ es) = ap₂ (λ x y. x ++ y) (same-final b t s (borrowed_test e.test) e.output) (same-entries b t s es)
+
+-- the prefix that stands
+pub plain-prefix : (k : Bool) (past : List ReportCall) → AllByRecursion (IsPlainCall k) past → HoldsIf IsPlainPrefix (prefix past)
+unfolding prefix
+plain-prefix k [] h = tt
+plain-prefix k (Event e ∷ past) h = plain-prefix k past h.1
+plain-prefix k (Header x ∷ past) h = plain-prefix k past h.1
+plain-prefix k (Prefix p ∷ past) h = h.0

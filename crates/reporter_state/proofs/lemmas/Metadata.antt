@@ -1,0 +1,35 @@
+-- The decision about an output by what its event says beside it is the one by its event (for `should_load`).
+use Rattle.std.proofs.Common.{◌≡◌, ℕ, Bool, true, false, ◌==◌, length, if◌then◌else◌, refl, ap, sym, ◌∙◌}
+use Rattle.run_model.specs.Attempts.{Attempts}
+use Rattle.run_model.specs.Statuses.{is_success, is_success_case, summary_of}
+use Rattle.run_model.specs.declared.output_event.OutputEventKind.{OutputEventKind}
+use Rattle.run_model.specs.declared.output_event.OutputEventKind.TheVariants as decided
+use Rattle.run_model.specs.declared.status.FlakyResult.{FlakyResult}
+use Rattle.run_model.specs.declared.status.StatusCase.TheVariants.{Success, Flaky, Failure}
+use Rattle.run_names.specs.declared.config.TestOutputDisplay.{TestOutputDisplay}
+use Rattle.reporter_state.specs.Loads.{loads, loads_attempt, loads_finish, loads_script}
+use Rattle.reporter_state.specs.Metadata.{HasMetadata, loads_by_metadata, loads_last}
+use Rattle.reporter_state.specs.declared.decider.OutputLoadDecider.{OutputLoadDecider}
+use Rattle.reporter_state.specs.declared.decider.OutputMetadata.{OutputMetadata}
+use Rattle.reporter_state.specs.declared.decider.OutputMetadata.TheVariants.{SetupScriptFinished, TestAttemptFailedWillRetry, TestFinished}
+
+-- attempts come to a success just where the last one succeeded
+success_case : (is_success is_only : Bool) (flaky : FlakyResult) → is_success_case (if is_success then (if is_only then Success else Flaky flaky) else Failure) ≡ is_success
+success_case true true flaky = refl
+success_case true false flaky = refl
+success_case false is_only flaky = refl
+
+pub loads_last-same : {S O : Type 0} (d : OutputLoadDecider) (success failure : TestOutputDisplay) (a : Attempts S O) → loads_last d success failure a.last.result ≡ loads_finish d success failure (summary_of a)
+loads_last-same d success failure a = rw (success_case (is_success a.last.result) (length a.earlier == 0) a.flaky_result) refl
+
+pub loads_alike : {S O : Type 0} (d : OutputLoadDecider) (event : OutputEventKind S O) (metadata : OutputMetadata) → HasMetadata event metadata → loads_by_metadata d metadata ≡ loads d event
+loads_alike d (decided.SetupScriptFinished stress status) (SetupScriptFinished result) h = ap loads_script (sym h)
+loads_alike d (decided.TestAttemptFailedWillRetry stress status delay failure) (TestAttemptFailedWillRetry display) h = ap (loads_attempt d) (sym h)
+loads_alike d (decided.TestFinished stress success failure statuses stats) (TestFinished on_success on_failure last) h =
+    rw (sym h.0, sym h.1, sym h.2) (loads_last-same d success failure statuses)
+loads_alike d (decided.SetupScriptFinished stress status) (TestAttemptFailedWillRetry display) h = absurd h
+loads_alike d (decided.SetupScriptFinished stress status) (TestFinished on_success on_failure last) h = absurd h
+loads_alike d (decided.TestAttemptFailedWillRetry stress status delay failure) (SetupScriptFinished result) h = absurd h
+loads_alike d (decided.TestAttemptFailedWillRetry stress status delay failure) (TestFinished on_success on_failure last) h = absurd h
+loads_alike d (decided.TestFinished stress success failure statuses stats) (SetupScriptFinished result) h = absurd h
+loads_alike d (decided.TestFinished stress success failure statuses stats) (TestAttemptFailedWillRetry display) h = absurd h

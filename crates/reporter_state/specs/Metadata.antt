@@ -1,0 +1,35 @@
+-- The decision about an output by what its event says beside it.
+use Rattle.std.specs.Prelude.{◌≡◌, Bool, ◌||◌, unwrap_or, if◌then◌else◌}
+use Rattle.run_model.specs.Statuses.{is_success}
+use Rattle.run_model.specs.declared.output_event.OutputEventKind.{OutputEventKind}
+use Rattle.run_model.specs.declared.output_event.OutputEventKind.TheVariants as decided
+use Rattle.run_model.specs.declared.status.ExecutionResultDescription.{ExecutionResultDescription}
+use Rattle.run_names.specs.declared.config.TestOutputDisplay.{TestOutputDisplay}
+use Rattle.text_parts.specs.Finish.{is_ever_shown}
+use Rattle.unit_report.specs.Overrides.{failure_display}
+use Rattle.unit_report.specs.declared.unit_output.overrides.OutputDisplayOverrides.{OutputDisplayOverrides}
+use Rattle.reporter_state.specs.Loads.{is_asked_of, loads_attempt, loads_script}
+use Rattle.reporter_state.specs.declared.decider.OutputLoadDecider.{OutputLoadDecider}
+use Rattle.reporter_state.specs.declared.decider.OutputMetadata.{OutputMetadata}
+use Rattle.reporter_state.specs.declared.decider.OutputMetadata.TheVariants.{SetupScriptFinished, TestAttemptFailedWillRetry, TestFinished}
+
+-- the setting of a test whose last attempt ended so
+abbrev pub display_by : OutputDisplayOverrides → TestOutputDisplay → TestOutputDisplay → ExecutionResultDescription → TestOutputDisplay
+display_by o success failure result = if is_success result then unwrap_or o.force_success_output success else failure_display o failure result
+
+-- of such a test: where that setting shows output, at once or at the end of the run, or a store is asked to keep it
+abbrev pub loads_last : OutputLoadDecider → TestOutputDisplay → TestOutputDisplay → ExecutionResultDescription → Bool
+loads_last d success failure result = is_ever_shown (display_by d.overrides success failure result) || is_asked_of d.store (is_success result)
+
+-- of an event with this metadata
+abbrev pub loads_by_metadata : OutputLoadDecider → OutputMetadata → Bool
+loads_by_metadata d (SetupScriptFinished result) = loads_script result.now
+loads_by_metadata d (TestAttemptFailedWillRetry failure) = loads_attempt d failure
+loads_by_metadata d (TestFinished success failure last) = loads_last d success failure last.now
+
+-- an event says this beside its output
+abbrev pub HasMetadata : {S O : Type 0} → OutputEventKind S O → OutputMetadata → Type 0
+HasMetadata (decided.SetupScriptFinished stress status) (SetupScriptFinished result) = status.result ≡ result.now
+HasMetadata (decided.TestAttemptFailedWillRetry stress status delay failure) (TestAttemptFailedWillRetry display) = failure ≡ display
+HasMetadata (decided.TestFinished stress success failure statuses stats) (TestFinished on_success on_failure last) = (success ≡ on_success) × (failure ≡ on_failure) × (statuses.last.result ≡ last.now)
+HasMetadata _ _ = ⊥
