@@ -48,13 +48,13 @@ abbrev pub IsObserved : Configuration → List ReportCall → TestEvent → List
 IsObserved config before event after = IsSeen config before event after ⊎ IsStoredThere config before event after
 
 -- the decider answers Load: none but decided events have an answer
-abbrev pub IsLoaded : OutputLoadDecider → TestEvent → Type 0
-IsLoaded decider event = decision decider event.kind ≡ Some Load
+abbrev pub AnswersLoad : OutputLoadDecider → TestEvent → Type 0
+AnswersLoad decider event = decision decider event.kind ≡ Some Load
 
 -- In every list of calls an event is observed only where the decider answers Load; and in uninterrupted calls, of which the last is the
 -- end of a run, it is observed exactly where the decider answers Load.
 abbrev pub IsExact : Configuration → OutputLoadDecider → Type 0
 IsExact config decider =
     (before after : List ReportCall) (event : TestEvent) →
-    (IsObserved config before event after → IsLoaded decider event)
-    × (AreUninterrupted (before ++ Event event ∷ after) → EndsRun after → IsObserved config before event after ↔ IsLoaded decider event)
+    (IsObserved config before event after → AnswersLoad decider event)
+    × (AreUninterrupted (before ++ Event event ∷ after) → EndsRun after → IsObserved config before event after ↔ AnswersLoad decider event)

@@ -52,10 +52,10 @@ abbrev pub part_text : PartText → Text
 part_text (Plain t) = plain t
 part_text (Styled s t) = styled s t
 
--- what the parts are painted to
-abbrev pub paint : List PartText → Text
-paint [] = []
-paint (p ∷ ps) = part_text p ++ paint ps
+-- the texts of parts, one after the other
+abbrev pub part_texts : List PartText → Text
+part_texts [] = []
+part_texts (p ∷ ps) = part_text p ++ part_texts ps
 
 -- a part of the code, as a part of a definition
 abbrev pub painted_part : Part → PartText

@@ -5,7 +5,7 @@ use Rattle.std.specs.Int.{cast_unsigned, w32}
 use Rattle.run_names.specs.declared.abort.AbortDescription.{AbortDescription}
 use Rattle.run_names.specs.declared.abort.AbortDescription.TheVariants.{UnixSignal, WindowsNtStatus, WindowsJobObject}
 use Rattle.plain_text.specs.Texts.{Text}
-use Rattle.plain_text.specs.Style.{Plain, paint, plain}
+use Rattle.plain_text.specs.Style.{Plain, part_texts, plain}
 use Rattle.report_text.specs.declared.helpers.failure.ExitDescription.{ExitDescription}
 use Rattle.report_text.specs.declared.helpers.failure.ExitDescription.TheVariants as ended
 
@@ -29,12 +29,12 @@ nt_status_text code = hex_text (cast_unsigned w32 code)
 -- a signal's name between parentheses, if it is known
 unfoldable pub signal_name_text : Option Text → Text
 signal_name_text None = []
-signal_name_text (Some name) = paint (Plain (codes " (SIG") ∷ Plain name ∷ Plain (codes ")") ∷ [])
+signal_name_text (Some name) = part_texts (Plain (codes " (SIG") ∷ Plain name ∷ Plain (codes ")") ∷ [])
 
 -- what a system says of a status, if it is known
 unfoldable pub message_text : Option Text → Text
 message_text None = []
-message_text (Some message) = paint (Plain (codes ": ") ∷ Plain message ∷ [])
+message_text (Some message) = part_texts (Plain (codes ": ") ∷ Plain message ∷ [])
 
 -- what is said first of a process that was ended from outside
 unfoldable pub abort_words : AbortDescription → Text

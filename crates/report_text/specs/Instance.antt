@@ -10,7 +10,7 @@ use Rattle.std.specs.List.{repeat}
 use Rattle.plain_text.specs.Texts.{Text, right_in}
 use Rattle.plain_text.specs.Escapes.{HasNoEscape}
 use Rattle.plain_text.specs.Fitting.{shrunk_parts}
-use Rattle.plain_text.specs.Style.{PartText, Plain, Styled, paint}
+use Rattle.plain_text.specs.Style.{PartText, Plain, Styled, part_texts}
 use Rattle.plain_text.specs.declared.style.Style.{Style}
 use Rattle.plain_text.specs.declared.style.Style.TheVariants as style
 use Rattle.plain_text.specs.declared.style.ListStyles.{ListStyles}
@@ -25,7 +25,7 @@ name_parts s (Some path) last = Styled s.module_path path ∷ Styled s.module_pa
 
 -- a test's name
 unfoldable pub test_name_text : ListStyles → Text → Text
-test_name_text s name = paint (name_parts s (module_path_of name) (last_name_of name))
+test_name_text s name = part_texts (name_parts s (module_path_of name) (last_name_of name))
 
 -- an iteration's number from 1, and with a total right in its width, before a slash and the total
 abbrev pub stress_parts : Style → ℕ → Option NonZeroU32 → List PartText
@@ -35,28 +35,28 @@ stress_parts s number (Some total) =
 
 -- an iteration of a stress run
 unfoldable pub stress_text : Style → StressIndex → Text
-stress_text s i = paint (stress_parts s (i.current + 1) i.total)
+stress_text s i = part_texts (stress_parts s (i.current + 1) i.total)
 
 -- what stands before the rest of a line: the iteration between brackets and a space, if there is one
 unfoldable pub stress_prefix : Style → Option StressIndex → Text
 stress_prefix s None = []
-stress_prefix s (Some i) = paint (Plain (codes "[") ∷ []) ++ (stress_text s i ++ paint (Plain (codes "] ") ∷ []))
+stress_prefix s (Some i) = part_texts (Plain (codes "[") ∷ []) ++ (stress_text s i ++ part_texts (Plain (codes "] ") ∷ []))
 
 -- a number right in the width of its total, or one character for each column of that
 unfoldable pub counter_text : DisplayCounterIndex → Text
 counter_text (Counter current total) =
-    paint (Plain (codes "(") ∷ Styled style.Plain (right_in (length (decimal total)) (decimal current)) ∷ Plain (codes "/") ∷ Plain (decimal total) ∷ Plain (codes ")") ∷ [])
+    part_texts (Plain (codes "(") ∷ Styled style.Plain (right_in (length (decimal total)) (decimal current)) ∷ Plain (codes "/") ∷ Plain (decimal total) ∷ Plain (codes ")") ∷ [])
 counter_text (Padded character width) =
-    paint (Plain (codes "(") ∷ []) ++ (repeat width (encode_utf8 character) ++ (repeat width (encode_utf8 character) ++ (encode_utf8 character ++ paint (Plain (codes ")") ∷ []))))
+    part_texts (Plain (codes "(") ∷ []) ++ (repeat width (encode_utf8 character) ++ (repeat width (encode_utf8 character) ++ (encode_utf8 character ++ part_texts (Plain (codes ")") ∷ []))))
 
 -- the counter and a space, if there is one
 unfoldable pub counter_prefix : Option DisplayCounterIndex → Text
 counter_prefix None = []
-counter_prefix (Some c) = counter_text c ++ paint (Plain (codes " ") ∷ [])
+counter_prefix (Some c) = counter_text c ++ part_texts (Plain (codes " ") ∷ [])
 
 -- a binary's id and a space
 abbrev pub id_prefix : Style → Text → Text
-id_prefix s id = paint (Styled s id ∷ Plain (codes " ") ∷ [])
+id_prefix s id = part_texts (Styled s id ∷ Plain (codes " ") ∷ [])
 
 -- a test: its iteration, its counter, its binary's id with a space and its name
 unfoldable pub test_text : ListStyles → Option StressIndex → Option DisplayCounterIndex → Text → Text → Text
@@ -91,7 +91,7 @@ HasPlainWords counter binary_id name = HasPlainCounter counter × HasNoEscape bi
 -- a setup script: its iteration, its id and its command
 unfoldable pub script_text : Style → Style → Option StressIndex → Text → Text → Text
 script_text id_style count_style stress id command =
-    stress_prefix count_style stress ++ (paint (Styled id_style id ∷ Plain (codes ": ") ∷ []) ++ command)
+    stress_prefix count_style stress ++ (part_texts (Styled id_style id ∷ Plain (codes ": ") ∷ []) ++ command)
 
 -- a test and a setup script as parts of a line
 abbrev pub instance_part : Option StressIndex → Option DisplayCounterIndex → TestInstanceId → Parts false Open

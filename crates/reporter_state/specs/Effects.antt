@@ -23,9 +23,9 @@ pub data TestEnd : Type 0 where
   Skipped : CountedInstance → TestEnd
 
 -- what the code hands on of it
-abbrev pub end_of : EndedTest → TestEnd
-end_of (ended.Finished f) = Finished (finish_of f.finished)
-end_of (ended.Skipped test) = Skipped test
+abbrev pub test_end_of : EndedTest → TestEnd
+test_end_of (ended.Finished f) = Finished (finish_of f.finished)
+test_end_of (ended.Skipped test) = Skipped test
 
 -- output that is shown of it was not left unread
 abbrev pub HasEndOutput : TestEnd → Type 0

@@ -4,7 +4,7 @@ ghost use Rattle.std.specs.Prelude.{◌≡◌, None, false, max};
 ghost use Rattle.std.specs.Option.{option_map};
 ghost use Rattle.run_names.specs.Levels.{reason_rank};
 ghost use Rattle.reporter_state.specs.Refusals.{decider_by};
-ghost use Rattle.reporter_state.specs.Effects.{HasEndOutputIn, effect_of, end_of};
+ghost use Rattle.reporter_state.specs.Effects.{HasEndOutputIn, effect_of, test_end_of};
 ghost use Rattle.reporter_state.specs.Loads.{lacks_output};
 
 use crate::finished_attempts::FinishedAttempts;
@@ -41,8 +41,8 @@ impl<'e, 'a> EventEffect<'e, 'a> {
         event: &'e TestEvent<'a>,
     ) -> EventEffect<'e, 'a>
         ensures reason { reason_rank result.reason ≡ (effect_of event.now.kind).reason }
-        ensures ended { option_map end_of result.ended ≡ (effect_of event.now.kind).ended settings.now (reason_rank reason) }
-        ensures loaded { lacks_output (decider_by settings.now None) event.now.kind ≡ false → HasEndOutputIn (option_map end_of result.ended) }
+        ensures ended { option_map test_end_of result.ended ≡ (effect_of event.now.kind).ended settings.now (reason_rank reason) }
+        ensures loaded { lacks_output (decider_by settings.now None) event.now.kind ≡ false → HasEndOutputIn (option_map test_end_of result.ended) }
     {
         let mut effect = EventEffect {
             reason: None,

@@ -5,7 +5,7 @@ ghost use Rattle.std.specs.Option.{is_some, option_and_then, option_map, option_
 ghost use Rattle.run_names.specs.Levels.{reason_rank};
 ghost use Rattle.test_text.specs.TestFinished.{HasShownOutput, finish_of};
 ghost use Rattle.reporter_state.specs.declared.final_output.FinalOutputEntry.{FinalOutputEntry};
-ghost use Rattle.reporter_state.specs.Effects.{HasEndOutput, HasEndOutputIn, TestEnd, end_of, finished_entry, kept_entry};
+ghost use Rattle.reporter_state.specs.Effects.{HasEndOutput, HasEndOutputIn, TestEnd, test_end_of, finished_entry, kept_entry};
 ghost use Rattle.reporter_state.specs.Entries.{final_order};
 
 use crate::binary_ids::BinaryIds;
@@ -62,14 +62,14 @@ impl ReporterState {
     /// Does what an event does: it may cancel the run, and finish a test.
     #[inline(always)]
     pub fn apply(&mut self, effect: &EventEffect<'_, '_>) -> Result<(), OutOfMemory>
-        requires { HasEndOutputIn (option_map end_of effect.now.ended) }
+        requires { HasEndOutputIn (option_map test_end_of effect.now.ended) }
         ensures settings { self.new.settings ≡ self.old.settings }
         ensures prefix { self.new.unique_prefix ≡ self.old.unique_prefix }
         ensures reason { OnOk result (reason_rank self.new.cancel_status ≡ max (reason_rank effect.now.reason) (reason_rank self.old.cancel_status)) }
         ensures works { self.new.has_failed ≡ self.old.has_failed }
         ensures kept { OnOk result ((before : List FinalOutputEntry) → self.old.kept ≡ final_order before →
-            self.new.kept ≡ final_order (before ++ option_to_list (option_and_then (kept_entry self.old.settings) (option_map end_of effect.now.ended)))) }
-        ensures needed { OnErr result (is_some (option_and_then (kept_entry self.old.settings) (option_map end_of effect.now.ended)) ≡ true) }
+            self.new.kept ≡ final_order (before ++ option_to_list (option_and_then (kept_entry self.old.settings) (option_map test_end_of effect.now.ended)))) }
+        ensures needed { OnErr result (is_some (option_and_then (kept_entry self.old.settings) (option_map test_end_of effect.now.ended)) ≡ true) }
     {
         if let Some(ended) = &effect.ended {
             self.keep_test(ended)?;
@@ -81,14 +81,14 @@ impl ReporterState {
     // Keeps a test where the summary lists it.
     #[inline(always)]
     fn keep_test(&mut self, ended: &EndedTest<'_, '_>) -> Result<(), OutOfMemory>
-        requires { HasEndOutput (end_of ended.now) }
+        requires { HasEndOutput (test_end_of ended.now) }
         ensures settings { self.new.settings ≡ self.old.settings }
         ensures prefix { self.new.unique_prefix ≡ self.old.unique_prefix }
         ensures reason { self.new.cancel_status ≡ self.old.cancel_status }
         ensures works { self.new.has_failed ≡ self.old.has_failed }
         ensures kept { OnOk result ((before : List FinalOutputEntry) → self.old.kept ≡ final_order before →
-            self.new.kept ≡ final_order (before ++ option_to_list (kept_entry self.old.settings (end_of ended.now)))) }
-        ensures needed { OnErr result (is_some (kept_entry self.old.settings (end_of ended.now)) ≡ true) }
+            self.new.kept ≡ final_order (before ++ option_to_list (kept_entry self.old.settings (test_end_of ended.now)))) }
+        ensures needed { OnErr result (is_some (kept_entry self.old.settings (test_end_of ended.now)) ≡ true) }
     {
         match ended {
             EndedTest::Finished(attempts) => self.keep_finished(attempts),

@@ -30,17 +30,17 @@ unfoldable pub iteration_text : StressProgress → ℕ → Fixed Open
 iteration_text x number_of = words (codes "iteration ") ⧺ number tone.Count number_of ⧺ of_iterations x
 
 -- a time in hours, minutes and seconds
-abbrev pub clock : ℕ → Fixed Open
-clock n = Toned tone.Count (clock_text n) (free-clock_text n)
+abbrev pub toned_clock : ℕ → Fixed Open
+toned_clock n = Toned tone.Count (clock_text n) (free-clock_text n)
 
 -- of how much time so much has passed, where that is known
 unfoldable pub of_time : StressProgress → Fixed Open
 of_time (Count all elapsed completed) = openly none
-of_time (Time all elapsed completed) = words (codes "/") ⧺ clock (whole_seconds Floor all.0)
+of_time (Time all elapsed completed) = words (codes "/") ⧺ toned_clock (whole_seconds Floor all.0)
 
 -- how long the run has taken
 unfoldable pub elapsed_text : StressProgress → Fixed Open
-elapsed_text x = words (codes " (") ⧺ clock (whole_seconds Floor (elapsed_of x).0) ⧺ of_time x ⧺ words (codes " elapsed so far")
+elapsed_text x = words (codes " (") ⧺ toned_clock (whole_seconds Floor (elapsed_of x).0) ⧺ of_time x ⧺ words (codes " elapsed so far")
 
 -- what remains: iterations, or time, of which a part of a second counts as one
 unfoldable pub count_left_text : ℕ → Fixed Open
@@ -48,7 +48,7 @@ count_left_text n =
     words (codes ", ") ⧺ number tone.Count n ⧺ words (codes " ") ⧺ Word (iterations_word n) (free-iterations_word n) ⧺ words (codes " remaining")
 
 unfoldable pub time_left_text : ℕ → Fixed Open
-time_left_text n = words (codes ", ") ⧺ clock (whole_seconds Ceiling n) ⧺ words (codes " remaining")
+time_left_text n = words (codes ", ") ⧺ toned_clock (whole_seconds Ceiling n) ⧺ words (codes " remaining")
 
 abbrev pub remaining_text : Option Remaining → Fixed Open
 remaining_text None = openly none

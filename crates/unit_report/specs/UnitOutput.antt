@@ -12,7 +12,7 @@ use Rattle.run_model.specs.declared.output.LiveSpec.{LiveSpec}
 use Rattle.run_names.specs.declared.unit.UnitKind.{UnitKind}
 use Rattle.plain_text.specs.Indent.{indent}
 use Rattle.plain_text.specs.Lossy.{decoded_text}
-use Rattle.plain_text.specs.Style.{Plain, Styled, paint, plain}
+use Rattle.plain_text.specs.Style.{Plain, Styled, part_texts, plain}
 use Rattle.plain_text.specs.Texts.{Text}
 use Rattle.plain_text.specs.declared.style.Styles.{Styles}
 use Rattle.unit_report.specs.Captured.{captured}
@@ -53,7 +53,7 @@ is_replay Replay = true
 -- an output that was not captured. It has its four spaces whatever the indentation
 unfoldable pub not_captured_text : Styles → OutputName → Text
 not_captured_text s name =
-    paint (Plain (codes "    (") ∷ Plain (output_name_text name) ∷ Plain (codes " ") ∷ Styled s.skip (codes "not captured") ∷ Plain (codes ")\n") ∷ [])
+    part_texts (Plain (codes "    (") ∷ Plain (output_name_text name) ∷ Plain (codes " ") ∷ Styled s.skip (codes "not captured") ∷ Plain (codes ")\n") ∷ [])
 
 -- the header of a stream, and the stream below it, indented
 unfoldable pub shown_stream : Styles → Text → OutputHeader → Text → Option Part → Text

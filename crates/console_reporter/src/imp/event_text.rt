@@ -6,7 +6,7 @@ ghost use Rattle.plain_text.specs.Writer.{Puts};
 ghost use Rattle.run_names.specs.Levels.{reason_rank};
 ghost use Rattle.report_words.specs.Parts.{paint};
 ghost use Rattle.text_parts.specs.Script.{script_of};
-ghost use Rattle.reporter_state.specs.Effects.{HasEndOutputIn, effect_of, end_of};
+ghost use Rattle.reporter_state.specs.Effects.{HasEndOutputIn, effect_of, test_end_of};
 ghost use Rattle.reporter_state.specs.Entries.{hiding_rank};
 ghost use Rattle.reporter_state.specs.Loads.{lacks_output};
 ghost use Rattle.reporter_state.specs.Refusals.{decider_by};
@@ -53,8 +53,8 @@ pub fn write_event_text<W: WriteStr>(
     event: &TestEvent<'_>,
     effect: &EventEffect<'_, '_>,
 ) -> Result<(), WriteFault>
-    requires ended { option_map end_of effect.now.ended ≡ (effect_of event.now.kind).ended state.now.settings (reason_rank state.now.cancel_status) }
-    requires loaded { HasEndOutputIn (option_map end_of effect.now.ended) }
+    requires ended { option_map test_end_of effect.now.ended ≡ (effect_of event.now.kind).ended state.now.settings (reason_rank state.now.cancel_status) }
+    requires loaded { HasEndOutputIn (option_map test_end_of effect.now.ended) }
     requires accepted { lacks_output (decider_by state.now.settings None) event.now.kind ≡ false }
     ensures { Puts W.meaning w.old (event_text state.now.settings (known_by state.now) event.now.elapsed.0 event.now.kind) result w.new }
 {
@@ -218,8 +218,8 @@ fn write_finished<W: WriteStr>(
     settings: &Settings,
     ended: &Option<EndedTest<'_, '_>>,
 ) -> Result<(), WriteFault>
-    requires { HasEndOutputIn (option_map end_of ended.now) }
-    ensures { Puts W.meaning w.old (paint settings.now.styles (finished_text settings.now (option_map end_of ended.now))) result w.new }
+    requires { HasEndOutputIn (option_map test_end_of ended.now) }
+    ensures { Puts W.meaning w.old (paint settings.now.styles (finished_text settings.now (option_map test_end_of ended.now))) result w.new }
 {
     match ended {
         Some(EndedTest::Finished(attempts)) => write_test_finished(w, settings, &attempts.finished),

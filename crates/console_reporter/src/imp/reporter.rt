@@ -11,7 +11,7 @@ ghost use Rattle.reporter_state.specs.declared.faults.WriteEventError.{WriteEven
 ghost use Rattle.console_reporter.specs.Configuration.{Configuration, settings_of};
 ghost use Rattle.reporter_state.specs.Refusals.{decider_by};
 ghost use Rattle.console_reporter.specs.Accepted.{AreAccepted, decider_of};
-ghost use Rattle.reporter_state.specs.Effects.{HasEndOutputIn, effect_of, end_of};
+ghost use Rattle.reporter_state.specs.Effects.{HasEndOutputIn, effect_of, test_end_of};
 ghost use Rattle.reporter_state.specs.Loads.{lacks_output};
 ghost use Rattle.console_reporter.specs.Exactness.{IsExact};
 ghost use Rattle.reporter_state.specs.Refusals.{refusal_in};
@@ -432,8 +432,8 @@ fn write_delivered<W: WriteStr>(
     event: &TestEvent<'_>,
     effect: &EventEffect<'_, '_>,
 ) -> Result<(), WriteFault>
-    requires ended { option_map end_of effect.now.ended ≡ (effect_of event.now.kind).ended state.now.settings (reason_rank state.now.cancel_status) }
-    requires loaded { HasEndOutputIn (option_map end_of effect.now.ended) }
+    requires ended { option_map test_end_of effect.now.ended ≡ (effect_of event.now.kind).ended state.now.settings (reason_rank state.now.cancel_status) }
+    requires loaded { HasEndOutputIn (option_map test_end_of effect.now.ended) }
     requires accepted { lacks_output (decider_by state.now.settings None) event.now.kind ≡ false }
     ensures text { Puts W.meaning w.old (event_text state.now.settings (known_by state.now) event.now.elapsed.0 event.now.kind) result w.new }
     ensures delivered { OnOk result (W.meaning.is_delivered w.new) }

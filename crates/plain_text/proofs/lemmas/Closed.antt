@@ -8,7 +8,7 @@ use Rattle.std.specs.List.{repeat}
 use Rattle.plain_text.specs.Texts.{Text, spaces, right_in}
 use Rattle.plain_text.specs.Escapes.{pieces, pieces_after, sequence_len, HasNoEscape}
 use Rattle.plain_text.specs.Fitting.{sequences, AreClosed}
-use Rattle.plain_text.specs.Style.{part_text, plain, styled, style_prefix, style_suffix, reset_color, PartText, Plain, Styled, paint}
+use Rattle.plain_text.specs.Style.{part_text, plain, styled, style_prefix, style_suffix, reset_color, PartText, Plain, Styled, part_texts}
 use Rattle.plain_text.proofs.lemmas.Marks.{AreHigh, encode-high}
 use Rattle.plain_text.proofs.lemmas.Widths.{free_both, sequences-joined, free_after, sequences-free, closed_both}
 use Rattle.plain_text.proofs.lemmas.Pieces.{joined-pieces}
@@ -72,9 +72,9 @@ abbrev pub AreFreeParts : List PartText → Type 0
 AreFreeParts [] = Unit {0}
 AreFreeParts (p ∷ ps) = HasNoEscape (words_of p) × AreFreeParts ps
 
-pub paint_closed : (ps : List PartText) → AreFreeParts ps → IsClosedText (paint ps)
+pub paint_closed : (ps : List PartText) → AreFreeParts ps → IsClosedText (part_texts ps)
 paint_closed [] h = closed-none
-paint_closed (p ∷ ps) h = closed-append (part_text p) (paint ps) (part_closed p h.0) (paint_closed ps h.1)
+paint_closed (p ∷ ps) h = closed-append (part_text p) (part_texts ps) (part_closed p h.0) (paint_closed ps h.1)
 
 -- words without escape characters
 glyph_free : (d : ℕ) (acc : Text) → HasNoEscape acc → HasNoEscape (digit_glyph false d ∷ acc)

@@ -7,7 +7,7 @@ use Rattle.plain_text.specs.Texts.{Text}
 use Rattle.plain_text.specs.Escapes.{HasNoEscape}
 use Rattle.report_text.specs.Instance.{HasPlainCounter, test_name_text, stress_parts, stress_text, stress_prefix, counter_text, counter_prefix, test_text, script_text, instance_text}
 use Rattle.report_words.specs.PlainTexts.{IsPlainInstance}
-use Rattle.plain_text.specs.Style.{paint, list_styles_of}
+use Rattle.plain_text.specs.Style.{part_texts, list_styles_of}
 use Rattle.report_text.specs.declared.helpers.instance.DisplayCounterIndex.{DisplayCounterIndex}
 use Rattle.report_text.specs.declared.helpers.instance.DisplayCounterIndex.TheVariants.{Counter, Padded}
 use Rattle.plain_text.specs.declared.style.Style.{Style}
@@ -28,7 +28,7 @@ colour_pair-stress_text : (k : Bool) (s : Style) (i : StressIndex) → IsColourP
 unfolding stress_text
 colour_pair-stress_text k s i = go i.total
   where
-    go : (total : _) → IsColourPair k (paint (stress_parts s (i.current + 1) total)) (paint (stress_parts style.Plain (i.current + 1) total))
+    go : (total : _) → IsColourPair k (part_texts (stress_parts s (i.current + 1) total)) (part_texts (stress_parts style.Plain (i.current + 1) total))
     go None = search colour_pairs depth 12
     go (Some total) = search colour_pairs depth 12
 

@@ -15,7 +15,7 @@ use Rattle.plain_text.specs.Fitting.{FitsWidth, IsPainted, ArePainted, columns, 
 use Rattle.plain_text.specs.Writer.{Meaning, WriterLaws, Puts}
 use Rattle.plain_text.specs.declared.write_str.WriteFault.{WriteFault}
 use Rattle.plain_text.proofs.lemmas.Steps.{puts_then}
-use Rattle.plain_text.specs.Style.{Plain, Styled, paint}
+use Rattle.plain_text.specs.Style.{Plain, Styled, part_texts}
 use Rattle.report_text.specs.Instance.{stress_parts, stress_text, stress_prefix, counter_text, counter_prefix, id_prefix, name_parts, test_name_text, HasPlainCounter, HasPlainWords}
 use Rattle.plain_text.proofs.lemmas.Closed.{IsClosedText, closed-append, closed-free, closed-none, paint_closed, decimal_free, right_free, char_free, repeat_free}
 use Rattle.plain_text.proofs.lemmas.Widths.{free_front, free_back, parts-columns, parts-sequences}
@@ -29,10 +29,10 @@ stress_closed : (s : Style) (o : Option StressIndex) → IsClosedText (stress_pr
 unfolding stress_prefix stress_text
 stress_closed s None = closed-none
 stress_closed s (Some i) =
-    closed-append (paint (Plain (codes "[") ∷ [])) (paint (stress_parts s (i.current + 1) i.total) ++ paint (Plain (codes "] ") ∷ [])) (paint_closed (Plain (codes "[") ∷ []) (refl, tt))
-    (closed-append (paint (stress_parts s (i.current + 1) i.total)) (paint (Plain (codes "] ") ∷ [])) (numbers (i.current + 1) i.total) (paint_closed (Plain (codes "] ") ∷ []) (refl, tt)))
+    closed-append (part_texts (Plain (codes "[") ∷ [])) (part_texts (stress_parts s (i.current + 1) i.total) ++ part_texts (Plain (codes "] ") ∷ [])) (paint_closed (Plain (codes "[") ∷ []) (refl, tt))
+    (closed-append (part_texts (stress_parts s (i.current + 1) i.total)) (part_texts (Plain (codes "] ") ∷ [])) (numbers (i.current + 1) i.total) (paint_closed (Plain (codes "] ") ∷ []) (refl, tt)))
   where
-    numbers : (n : ℕ) (o : Option NonZeroU32) → IsClosedText (paint (stress_parts s n o))
+    numbers : (n : ℕ) (o : Option NonZeroU32) → IsClosedText (part_texts (stress_parts s n o))
     numbers n None = paint_closed (stress_parts s n None) (decimal_free n, tt)
     numbers n (Some total) = paint_closed (stress_parts s n (Some total)) (right_free (length (decimal (non_zero_u32_get total))) (decimal n) (decimal_free n), (refl, (decimal_free (non_zero_u32_get total), tt)))
 
@@ -40,15 +40,15 @@ counter_closed : (o : Option DisplayCounterIndex) → HasPlainCounter o → IsCl
 unfolding counter_prefix counter_text
 counter_closed None h = closed-none
 counter_closed (Some (Counter current total)) h =
-    closed-append (counter_text (Counter current total)) (paint (Plain (codes " ") ∷ [])) (paint_closed (Plain (codes "(") ∷ Styled style.Plain (right_in (length (decimal total)) (decimal current)) ∷ Plain (codes "/") ∷ Plain (decimal total) ∷ Plain (codes ")") ∷ []) (refl, (right_free (length (decimal total)) (decimal current) (decimal_free current), (refl, (decimal_free total, (refl, tt)))))) (paint_closed (Plain (codes " ") ∷ []) (refl, tt))
+    closed-append (counter_text (Counter current total)) (part_texts (Plain (codes " ") ∷ [])) (paint_closed (Plain (codes "(") ∷ Styled style.Plain (right_in (length (decimal total)) (decimal current)) ∷ Plain (codes "/") ∷ Plain (decimal total) ∷ Plain (codes ")") ∷ []) (refl, (right_free (length (decimal total)) (decimal current) (decimal_free current), (refl, (decimal_free total, (refl, tt)))))) (paint_closed (Plain (codes " ") ∷ []) (refl, tt))
 counter_closed (Some (Padded character width)) h =
     let one = closed-free (encode_utf8 character) (char_free character h) in
     let line = closed-free (repeat width (encode_utf8 character)) (repeat_free width (encode_utf8 character) (char_free character h)) in
     let end = paint_closed (Plain (codes ")") ∷ []) (refl, tt) in
-    closed-append (counter_text (Padded character width)) (paint (Plain (codes " ") ∷ []))
-    (closed-append (paint (Plain (codes "(") ∷ [])) (repeat width (encode_utf8 character) ++ (repeat width (encode_utf8 character) ++ (encode_utf8 character ++ paint (Plain (codes ")") ∷ [])))) (paint_closed (Plain (codes "(") ∷ []) (refl, tt))
-    (closed-append (repeat width (encode_utf8 character)) (repeat width (encode_utf8 character) ++ (encode_utf8 character ++ paint (Plain (codes ")") ∷ []))) line
-    (closed-append (repeat width (encode_utf8 character)) (encode_utf8 character ++ paint (Plain (codes ")") ∷ [])) line (closed-append (encode_utf8 character) (paint (Plain (codes ")") ∷ [])) one end))))
+    closed-append (counter_text (Padded character width)) (part_texts (Plain (codes " ") ∷ []))
+    (closed-append (part_texts (Plain (codes "(") ∷ [])) (repeat width (encode_utf8 character) ++ (repeat width (encode_utf8 character) ++ (encode_utf8 character ++ part_texts (Plain (codes ")") ∷ [])))) (paint_closed (Plain (codes "(") ∷ []) (refl, tt))
+    (closed-append (repeat width (encode_utf8 character)) (repeat width (encode_utf8 character) ++ (encode_utf8 character ++ part_texts (Plain (codes ")") ∷ []))) line
+    (closed-append (repeat width (encode_utf8 character)) (encode_utf8 character ++ part_texts (Plain (codes ")") ∷ [])) line (closed-append (encode_utf8 character) (part_texts (Plain (codes ")") ∷ [])) one end))))
     (paint_closed (Plain (codes " ") ∷ []) (refl, tt))
 
 id_closed : (s : Style) (id : Text) → HasNoEscape id → IsClosedText (id_prefix s id)
@@ -64,7 +64,7 @@ name_closed s name h = go (last_colons name)
     back : (i : ℕ) → HasNoEscape (drop i name)
     back i = free_back (take i name) (drop i name) (subst HasNoEscape (sym (take-append-drop i name)) h)
 
-    go : (o : Option ℕ) → IsClosedText (paint (name_parts s (option_map (λ i. take i name) o) (option_map_or (λ i. drop (i + 2) name) o name)))
+    go : (o : Option ℕ) → IsClosedText (part_texts (name_parts s (option_map (λ i. take i name) o) (option_map_or (λ i. drop (i + 2) name) o name)))
     go None = paint_closed (Styled s.test_name name ∷ []) (h, tt)
     go (Some i) = paint_closed (name_parts s (Some (take i name)) (drop (i + 2) name)) (front i, (refl, (back (i + 2), tt)))
 

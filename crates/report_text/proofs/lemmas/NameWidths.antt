@@ -7,7 +7,7 @@ use Rattle.run_names.specs.Names.{last_colons}
 use Rattle.plain_text.specs.Texts.{Text}
 use Rattle.plain_text.specs.Escapes.{visible, visible_after, sequence_len}
 use Rattle.plain_text.specs.Fitting.{columns}
-use Rattle.plain_text.specs.Style.{part_text, styled, style_prefix, style_suffix, Styled, paint}
+use Rattle.plain_text.specs.Style.{part_text, styled, style_prefix, style_suffix, Styled, part_texts}
 use Rattle.report_text.specs.Instance.{name_parts, test_name_text}
 use Rattle.plain_text.specs.declared.style.Style.{Style}
 use Rattle.plain_text.specs.declared.style.Style.TheVariants as style
@@ -54,7 +54,7 @@ chars-le (b ∷ bs) = omega (arith, chars_after-le (continuation_len b) (lead_bi
 columns-le : (t : Text) → columns t ≤ 3 * length t
 columns-le t = omega (arith, columns_of-le (chars (visible t)), chars-le (visible t), visible_after-le 0 t)
 
-paint-le : (s r : Style) (path last : Text) (n : ℕ) → length path ≤ n → length last ≤ n → length (paint (Styled s path ∷ Styled s (codes "::") ∷ Styled r last ∷ [])) ≤ 2 * n + 35
+paint-le : (s r : Style) (path last : Text) (n : ℕ) → length path ≤ n → length last ≤ n → length (part_texts (Styled s path ∷ Styled s (codes "::") ∷ Styled r last ∷ [])) ≤ 2 * n + 35
 paint-le s r path last n h k = omega (
   arith,
   length-append (part_text (Styled s path)) (part_text (Styled s (codes "::")) ++ (part_text (Styled r last) ++ [])),
@@ -69,7 +69,7 @@ name-le : (s : ListStyles) (name : Text) → length (test_name_text s name) ≤ 
 unfolding test_name_text
 name-le s name = go (last_colons name)
   where
-    go : (o : Option ℕ) → length (paint (name_parts s (option_map (λ i. take i name) o) (option_map_or (λ i. drop (i + 2) name) o name))) ≤ 2 * length name + 35
+    go : (o : Option ℕ) → length (part_texts (name_parts s (option_map (λ i. take i name) o) (option_map_or (λ i. drop (i + 2) name) o name))) ≤ 2 * length name + 35
     go None = omega (arith, length-append (part_text (Styled s.test_name name)) [], styled-le s.test_name name)
     go (Some i) = paint-le s.module_path s.test_name (take i name) (drop (i + 2) name) (length name) (omega (arith, length-take i name)) (omega (arith, length-drop (i + 2) name))
 

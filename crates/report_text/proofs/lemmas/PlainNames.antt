@@ -3,7 +3,7 @@ use Rattle.std.proofs.Common.{◌≡◌, ℕ, zero, suc, ◌+◌, ◌==◌, ◌&
 use Rattle.std.specs.Option.{option_map, option_map_or}
 use Rattle.std.proofs.lemmas.Bool.Decides.{eqb_tells}
 use Rattle.run_names.specs.Names.{begins_with_colons, last_colons, place_after}
-use Rattle.plain_text.specs.Style.{paint, styled}
+use Rattle.plain_text.specs.Style.{part_texts, styled}
 use Rattle.plain_text.specs.Texts.{Text}
 use Rattle.plain_text.specs.declared.style.ListStyles.{ListStyles}
 use Rattle.plain_text.specs.declared.style.Style.TheVariants as style
@@ -41,7 +41,7 @@ rejoined [] i h = cc
 rejoined (c ∷ t) i h = rejoined_after c t (begins_with_colons (c ∷ t)) (last_colons t) refl (rejoined t) i h
 
 joined_parts : (s : ListStyles) (name : Text) (o : Option ℕ) → s.module_path ≡ style.Plain → s.test_name ≡ style.Plain → last_colons name ≡ o
-    → paint (name_parts s (option_map (λ i. take i name) o) (option_map_or (λ i. drop (i + 2) name) o name)) ≡ name
+    → part_texts (name_parts s (option_map (λ i. take i name) o) (option_map_or (λ i. drop (i + 2) name) o name)) ≡ name
 unfolding styled
 joined_parts s name None p q o = rw q (simp append-nil)
 joined_parts s name (Some i) p q o = simp (p, q, append-nil) (rejoined name i o)
