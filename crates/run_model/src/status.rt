@@ -1,11 +1,12 @@
 //! How the attempts of a test ended.
 
 ghost use Rattle.std.specs.Prelude.{◌≡◌, ◌≤◌, IfSome, IfNone, IfOk, IsOk, false, [], ◌∷◌, ◌++◌, map, IsTrue, ◌↔◌};
-ghost use Rattle.run_model.specs.Attempts.{attempt_with_output, attempt_with_retry_data, code_failure, execution_with_output, only_attempt, silent_attempt, silent_execution, silent_output};
-ghost use Rattle.std.specs.Option.{unwrap_or};
+ghost use Rattle.run_model.specs.Attempts.{attempt_with_output, attempt_with_retry_data, code_failure, only_attempt, silent_attempt};
 ghost use Rattle.run_model.specs.Statuses.{is_aborted, is_abort, is_success, is_leaky_success, is_success_case, case_of, summary_of, summary_by, described_case, described_last, described_prior, described_summary, final_level_of, final_level_by, status_level_of, status_level_by};
 ghost use Rattle.run_model.specs.Recorded.{recorded_attempt, recorded_attempts, recorded_script};
 ghost use Rattle.run_model.specs.Unloaded.{unloaded_attempt, unloaded_attempts, unloaded_script};
+
+mod in_place;
 
 use crate::output::{
     ChildExecutionOutputDescription, ChildOutputDescription, LiveSpec, OutputSpec, RecordingSpec,
@@ -119,32 +120,6 @@ impl ExecutionResultDescription {
                 result: LeakTimeoutResult::Pass,
             }
         )
-    }
-
-    /// Makes it a copy of another one and returns true, if that is a pass or a failure with an exit code, as most are; else it returns
-    /// false and stays as it is. It allocates nothing.
-    #[inline(always)]
-    pub fn replace(&mut self, other: &Self) -> bool
-        ensures copied { IsTrue result → self.new ≡ other.now }
-        ensures kept { result ≡ false → self.new ≡ self.old }
-    {
-        match other {
-            ExecutionResultDescription::Pass => {
-                *self = ExecutionResultDescription::Pass;
-                true
-            }
-            ExecutionResultDescription::Fail {
-                failure: FailureDescription::ExitCode { code },
-                leaked,
-            } => {
-                *self = ExecutionResultDescription::Fail {
-                    failure: FailureDescription::ExitCode { code: *code },
-                    leaked: *leaked,
-                };
-                true
-            }
-            _ => false,
-        }
     }
 
     /// Copies it; allocates only if it holds text.
@@ -627,41 +602,6 @@ impl ExecutionStatuses<LiveSpec> {
     {
         unload_attempts(self.earlier.as_mut_slice());
         self.last.unload();
-    }
-
-    /// Makes them those of a test whose only attempt ended so and wrote this, or nothing, and returns true. It allocates nothing, so that is
-    /// done only where they are of one attempt without errors, and the result is a pass or a failure with an exit code; else it returns
-    /// false, and what they hold then is not said.
-    #[inline(always)]
-    pub fn replace_only(
-        &mut self,
-        time_taken: Nanos,
-        retry_data: RetryData,
-        outcome: &ExecutionResultDescription,
-        captured: Option<ChildOutputDescription>,
-        is_slow: bool,
-        flaky_result: FlakyResult,
-    ) -> bool
-        ensures { IsTrue result → self.new ≡ record {
-          earlier = [];
-          last = record {
-            time_taken = time_taken;
-            retry_data = retry_data;
-            result = outcome.now;
-            output = execution_with_output (silent_execution outcome.now) (unwrap_or captured silent_output);
-            is_slow = is_slow;
-          };
-          flaky_result = flaky_result;
-        } }
-    {
-        if !self.earlier.is_empty() || !self.last.output.replace(outcome, captured) {
-            return false;
-        }
-        self.last.time_taken = time_taken;
-        self.last.retry_data = retry_data;
-        self.last.is_slow = is_slow;
-        self.flaky_result = flaky_result;
-        self.last.result.replace(outcome)
     }
 
     /// The attempts in the form of a recorded run. It copies their texts.

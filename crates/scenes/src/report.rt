@@ -19,10 +19,10 @@ use crate::read::{SceneSource, read_lines};
 use crate::reporter::{builder_of, decider_of, fault_at_call};
 use crate::scene::Scene;
 use crate::scene::event::SceneEvent;
-use crate::scene_reporter::{SceneReporter, call_in};
+use crate::scene_reporter::{CallBuffers, SceneReporter};
 use command_line::args::Options;
 use command_line::fault::Fault;
-use console_reporter::imp::{OutputLoadDecider, ReportCall, Store, give_back};
+use console_reporter::imp::{OutputLoadDecider, Store, give_back};
 use console_reporter::write_str::{TextBuffer, WriteStr};
 use run_model::memory::OutOfMemory;
 use scene_text::reader::LinesRead;
@@ -122,11 +122,11 @@ fn check_refusals(alloc: Global, options: &Options<'_>, scene: &Scene) -> Result
     ensures err { IfErr result (IsSceneRefused options.now scene.now) }
 {
     let decider = decider_of(alloc, options, &scene.config)?;
-    let mut buffer = Vec::new(alloc);
+    let mut buffers = CallBuffers::new(alloc);
     let mut refused = None;
     for place in 0..scene.events.len() {
         let line = scene.line_of(place);
-        let fault = check_refusal(alloc, &decider, line, &scene.events[place], &mut buffer)?;
+        let fault = check_refusal(alloc, &decider, line, &scene.events[place], &mut buffers)?;
         refused = refused.or(fault);
     }
     match refused {
@@ -136,21 +136,21 @@ fn check_refusals(alloc: Global, options: &Options<'_>, scene: &Scene) -> Result
 }
 
 // The fault of the line of this number, if the call of its event is refused. Where a reporter may refuse it, the call is made for this
-// alone, in this buffer.
+// alone, in these buffers.
 #[tactic(auto, using(crate::proofs::lemmas::Refusals::judged_unmade))]
 fn check_refusal<'a>(
     alloc: Global,
     decider: &OutputLoadDecider,
     line: u64,
     event: &'a SceneEvent,
-    buffer: &mut Vec<ReportCall<'a>>,
+    buffers: &mut CallBuffers<'a>,
 ) -> Result<Option<Fault<'static>>, OutOfMemory>
     ensures { IfOk result (ChecksEvent decider.now line event.now) }
 {
     if !event.may_be_refused() {
         return Ok(None);
     }
-    let call = call_in(alloc, event, buffer)?;
+    let call = buffers.call_of(alloc, event)?;
     match decider.refusal(call) {
         Some(error) => Ok(Some(fault_at_call(line, error))),
         None => Ok(None),

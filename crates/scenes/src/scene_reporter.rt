@@ -4,13 +4,13 @@ ghost use Rattle.std.specs.Prelude.{◌≡◌, ◌++◌, List, [], IfOk, IfErr, 
 ghost use Rattle.console_reporter.specs.HeldState.{HasFailed};
 ghost use Rattle.console_reporter.specs.OptionalStore.{config_of, store_delivered};
 ghost use Rattle.console_reporter.specs.Telling.{IsSameReporter};
-ghost use Rattle.scene_events.specs.Scenes.{IsCallOf};
+ghost use Rattle.scene_events.specs.Scenes.{IsCallOf, PushesCallOf};
 ghost use Rattle.scenes.specs.Reports.{builder_for, store_for, IsReadyCall};
 ghost use Rattle.scenes.specs.SceneReporter.{Follows, StopsAtEvent, writers};
 
 use crate::outcome::RunOutcome;
 use crate::reporter::{fault_at_call, surroundings_of};
-use crate::scene::event::SceneEvent;
+use crate::scene::event::{Calls, SceneEvent};
 use crate::scene::{SceneConfig, line_at};
 use command_line::args::Options;
 use command_line::fault::Fault;
@@ -68,9 +68,9 @@ impl<'a, W: WriteStr, S: WriteStr> SceneReporter<'a, W, S> {
         ensures failed { HasFailed self.old.reporter → (self.new ≡ self.old) × OnOk result (events.now ≡ []) }
     {
         let decider = self.reporter.output_load_decider();
-        let mut buffer = Vec::new(alloc);
+        let mut buffers = CallBuffers::new(alloc);
         for place in 0..events.len() {
-            let Ok(call) = ready_call(alloc, options, &decider, &events[place], &mut buffer) else {
+            let Ok(call) = ready_call(alloc, options, &decider, &events[place], &mut buffers) else {
                 return Err(Fault::OutOfMemory);
             };
             match self.reporter.make_call(alloc, call) {
@@ -82,35 +82,85 @@ impl<'a, W: WriteStr, S: WriteStr> SceneReporter<'a, W, S> {
     }
 }
 
-// The call of an event in a buffer, with its output left unread where that is asked for and the report does not show it.
+// The call of an event, with its output left unread where that is asked for and the report does not show it.
 fn ready_call<'r, 'a>(
     alloc: Global,
     options: &Options<'_>,
     decider: &OutputLoadDecider,
     event: &'a SceneEvent,
-    buffer: &'r mut Vec<ReportCall<'a>>,
+    buffers: &'r mut CallBuffers<'a>,
 ) -> Result<&'r ReportCall<'a>, OutOfMemory>
     ensures { IfOk result (λ call. IsReadyCall options.now decider.now event.now call.now) }
 {
-    let call = call_in(alloc, event, buffer)?;
+    let call = buffers.call_of(alloc, event)?;
     if options.unload_skipped {
         decider.unload(call);
     }
     Ok(call)
 }
 
-/// Makes the call of an event in a buffer, in place of what stood there: calls are large, and nothing is allocated for each.
-pub(crate) fn call_in<'r, 'a>(
+/// Where the calls of events are made, one at a time: calls are large, and one that has the form of the last takes its place, with what that
+/// has allocated. A test that finishes has a place of its own, since most events are such.
+#[derive(Drop)]
+pub(crate) struct CallBuffers<'a> {
+    finished: Calls<'a>,
+    others: Calls<'a>,
+}
+
+impl<'a> CallBuffers<'a> {
+    /// No call was made yet.
+    pub(crate) fn new(alloc: Global) -> CallBuffers<'a>
+        ensures finished { result.finished.items ≡ [] }
+        ensures others { result.others.items ≡ [] }
+    {
+        CallBuffers {
+            finished: Vec::new(alloc),
+            others: Vec::new(alloc),
+        }
+    }
+
+    /// The call of an event.
+    pub(crate) fn call_of<'r>(
+        &'r mut self,
+        alloc: Global,
+        event: &'a SceneEvent,
+    ) -> Result<&'r mut ReportCall<'a>, OutOfMemory>
+        ensures { IfOk result (λ call. IsCallOf event.now call.now) }
+    {
+        match event {
+            SceneEvent::TestFinished(_) => call_in(alloc, event, &mut self.finished),
+            _ => call_in(alloc, event, &mut self.others),
+        }
+    }
+}
+
+// Makes the call of an event in a buffer, in place of what stood there.
+fn call_in<'r, 'a>(
     alloc: Global,
     event: &'a SceneEvent,
-    buffer: &'r mut Vec<ReportCall<'a>>,
+    buffer: &'r mut Calls<'a>,
 ) -> Result<&'r mut ReportCall<'a>, OutOfMemory>
     ensures { IfOk result (λ call. IsCallOf event.now call.now) }
 {
-    buffer.clear();
-    event.push_call(alloc, buffer)?;
+    let is_replaced = !buffer.is_empty() && event.replace_call(&mut buffer[0])?;
+    if !is_replaced {
+        push_alone(alloc, event, buffer)?;
+    }
     match buffer.as_mut_slice().first_mut() {
         Some(call) => Ok(call),
         None => unreachable!(),
     }
+}
+
+// Makes it anew, alone in its buffer. Not inlined: the compiler zeroes all locals of a function at its entry.
+#[inline(never)]
+fn push_alone<'a>(
+    alloc: Global,
+    event: &'a SceneEvent,
+    buffer: &mut Calls<'a>,
+) -> Result<(), OutOfMemory>
+    ensures { PushesCallOf event.now [] result buffer.new.items }
+{
+    buffer.clear();
+    event.push_call(alloc, buffer)
 }
