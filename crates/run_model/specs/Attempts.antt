@@ -1,5 +1,5 @@
 -- The attempts of a test as a value, and the simplest of them.
-use Rattle.std.specs.Prelude.{ℕ, List, [], ℤ, false, None, Some}
+use Rattle.std.specs.Prelude.{List, [], ℤ, false, None, Some}
 use Rattle.run_model.specs.declared.output.ChildExecutionOutputDescription.{ChildExecutionOutputDescription}
 use Rattle.run_model.specs.declared.output.ChildExecutionOutputDescription.TheVariants.{Output, StartError}
 use Rattle.run_model.specs.declared.output.ChildOutputDescription.{ChildOutputDescription}

@@ -3,7 +3,7 @@ use Rattle.std.proofs.Common.{◌≡◌, ℕ, zero, suc, ◌+◌, ◌-◌, ◌<�
 use Rattle.std.proofs.lemmas.Bool.{cases_Bool, cases_lt, and_parts}
 use Rattle.std.proofs.lemmas.Bool.Decides.{nat_tests}
 use Rattle.std.proofs.lemmas.Str.{chars-append, chars-encodes, scalars-chars, encodes-chars, IsUtf8-append, IsUtf8-nil, chars-nil}
-use lib.Utf8.{scalar, scalars}
+use lib.Utf8.{scalar}
 use Rattle.std.specs.Str.{IsUtf8, all_scalars}
 use Rattle.plain_text.proofs.lemmas.Pieces.{stretches-pieces, joined-pieces, free_parts}
 use Rattle.plain_text.proofs.lemmas.Fits.{columns_of-cons, columns_of-append, AreTexts, texts, stretches-utf8, kept_stretch-before, kept_stretch-past}

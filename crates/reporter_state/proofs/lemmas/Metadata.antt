@@ -1,5 +1,5 @@
 -- The decision about an output by what its event says beside it is the one by its event (for `should_load`).
-use Rattle.std.proofs.Common.{◌≡◌, ℕ, Bool, true, false, ◌==◌, length, if◌then◌else◌, refl, ap, sym, ◌∙◌}
+use Rattle.std.proofs.Common.{◌≡◌, Bool, true, false, ◌==◌, length, if◌then◌else◌, refl, ap, sym}
 use Rattle.run_model.specs.Attempts.{Attempts}
 use Rattle.run_model.specs.Statuses.{is_success, is_success_case, summary_of}
 use Rattle.run_model.specs.declared.output_event.OutputEventKind.{OutputEventKind}

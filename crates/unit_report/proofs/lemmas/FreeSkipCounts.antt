@@ -1,5 +1,5 @@
 -- What a run skips, where its profile's name is handed in without escape characters (for the line of its start).
-use Rattle.std.proofs.Common.{ℕ, Bool, ◌++◌, codes, refl}
+use Rattle.std.proofs.Common.{ℕ, Bool, codes, refl}
 use Rattle.run_names.specs.declared.config.CompiledDefaultFilter.{CompiledDefaultFilter}
 use Rattle.run_names.specs.declared.config.CompiledDefaultFilterSection.{CompiledDefaultFilterSection}
 use Rattle.run_names.specs.declared.config.CompiledDefaultFilterSection.TheVariants.{Profile, Override}
