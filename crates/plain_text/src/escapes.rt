@@ -149,6 +149,7 @@ pub(crate) fn stretch_len(bytes: &[u8]) -> usize
 
 /// How many bytes of what follows an escape character belong to its sequence.
 #[tactic(auto, unfolding(crate::specs::Escapes::sequence_len))]
+#[inline(always)]
 pub(crate) fn sequence_len(after: &[u8]) -> usize
     ensures { result ≡ sequence_len after.now }
 {
@@ -159,6 +160,7 @@ pub(crate) fn sequence_len(after: &[u8]) -> usize
 }
 
 // The same, a step at a time.
+#[inline(never)]
 fn stepwise_len(after: &[u8]) -> usize
     ensures { result ≡ sequence_len after.now }
 {
@@ -177,6 +179,7 @@ fn stepwise_len(after: &[u8]) -> usize
 }
 
 // How many bytes of what follows `ESC [` belong to its sequence. Most are colours, which have no intermediates.
+#[inline(always)]
 fn control_len(after: &[u8]) -> usize
     ensures { result ≡ csi_len after.now }
 {
@@ -200,6 +203,7 @@ fn parameters_len(bytes: &[u8]) -> usize
 }
 
 // How many bytes of what follows its parameters belong to a control sequence.
+#[inline(never)]
 fn end_len(after: &[u8]) -> usize
     ensures { result ≡ csi_end_len after.now }
 {
@@ -212,6 +216,7 @@ fn end_len(after: &[u8]) -> usize
 }
 
 // How many bytes at the front lie from low to high.
+#[inline(never)]
 fn run_len(bytes: &[u8], low: u8, high: u8) -> usize
     ensures { result ≡ front_len (is_within low high) bytes.now }
 {

@@ -86,9 +86,8 @@ fn write_gathered<W: WriteStr>(w: &mut W, text: &str) -> Result<(), WriteFault>
     let mut rest = text;
     while !rest.is_empty() {
         let stretch = stretch_len(rest.as_bytes());
-        let after = after_sequence(rest, stretch);
         gathered.write_front(w, rest, stretch)?;
-        rest = after;
+        rest = after_sequence(rest, stretch);
     }
     gathered.flush(w)
 }
