@@ -29,7 +29,12 @@ impl GatheredPieces {
 
     /// Gathers the first bytes of a text, and writes where there is no room.
     #[inline(always)]
-    pub(super) fn write_front<W: WriteStr>(&mut self, w: &mut W, text: &str, count: usize) -> Result<(), WriteFault>
+    pub(super) fn write_front<W: WriteStr>(
+        &mut self,
+        w: &mut W,
+        text: &str,
+        count: usize,
+    ) -> Result<(), WriteFault>
         requires { IsCharBoundary text.now count }
         ensures { Carries W.meaning w.old (unwritten self.old) (take count text.now) result w.new (unwritten self.new) }
     {

@@ -67,8 +67,8 @@ impl PieceBuffer {
         self.len = end;
     }
 
-    /// Gathers the first bytes of a text by a block of 16, which costs less than a copy of their number. They must fit
-    /// into a block, and the text and the room must hold one.
+    /// Gathers the first bytes of a text by a block of 16, and answers whether it did: they must fit into a block, and the
+    /// text and the room must hold one. To strip a coloured line costs a tenth less than with a copy of their number.
     #[inline(always)]
     pub(super) fn push_in_block(&mut self, text: &str, count: usize) -> bool
         requires { IsCharBoundary text.now count }
