@@ -1,4 +1,5 @@
 pub mod IndentedEndSpaces
+pub mod Blocks
 pub mod Chunked
 pub mod Closed
 pub mod CounterPuts

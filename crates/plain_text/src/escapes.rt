@@ -11,13 +11,14 @@
 
 ghost use Rattle.std.specs.Prelude.{◌≡◌, ℕ, false, [], ◌∷◌, List, IfOk, MatchOption, string_bytes};
 ghost use Rattle.std.specs.Iterator.{YieldsFirstBy, item_count};
-ghost use Rattle.plain_text.specs.Escapes.{sequence_len, csi_len, csi_end_len, front_len, is_within, is_visible, pieces, visible, joined, stretches, HasNoEscape};
+ghost use Rattle.plain_text.specs.Escapes.{sequence_len, csi_len, csi_end_len, front_len, is_within, is_visible, is_parameter, pieces, visible, joined, stretches, HasNoEscape};
 ghost use Rattle.plain_text.specs.Piece.{piece_text};
 ghost use Rattle.plain_text.specs.Scanner.{rest_len, is_before_backslash, StepCounts, step_of, short_step_of, final_step_of, advanced};
 ghost use Rattle.plain_text.specs.Writer.{Puts};
 ghost use Rattle.plain_text.specs.declared.escapes.Mode.TheVariants.{Text};
 ghost use Rattle.plain_text.specs.declared.escapes.State.TheVariants.{Parameters, Intermediates, Command, Short};
 
+use crate::blocks::{parameters_in_block, stretch_in_block};
 use crate::write_str::{WriteFault, WriteStr};
 use memchr::memchr;
 use out_of_memory::OutOfMemory;
@@ -132,10 +133,14 @@ fn split_piece(text: &str) -> Option<(Piece<'_>, &str)>
     Some((Piece::Stretch(stretch), rest))
 }
 
-// How many bytes at the front are outside sequences.
-fn stretch_len(bytes: &[u8]) -> usize
+/// How many bytes at the front are outside sequences.
+#[inline(always)]
+pub(crate) fn stretch_len(bytes: &[u8]) -> usize
     ensures { result ≡ front_len is_visible bytes.now }
 {
+    if let Some(count) = stretch_in_block(bytes) {
+        return count;
+    }
     match memchr(ESCAPE, bytes) {
         Some(place) => place,
         None => bytes.len(),
@@ -144,6 +149,7 @@ fn stretch_len(bytes: &[u8]) -> usize
 
 /// How many bytes of what follows an escape character belong to its sequence.
 #[tactic(auto, unfolding(crate::specs::Escapes::sequence_len))]
+#[inline(always)]
 pub(crate) fn sequence_len(after: &[u8]) -> usize
     ensures { result ≡ sequence_len after.now }
 {
@@ -154,6 +160,7 @@ pub(crate) fn sequence_len(after: &[u8]) -> usize
 }
 
 // The same, a step at a time.
+#[inline(never)]
 fn stepwise_len(after: &[u8]) -> usize
     ensures { result ≡ sequence_len after.now }
 {
@@ -172,10 +179,11 @@ fn stepwise_len(after: &[u8]) -> usize
 }
 
 // How many bytes of what follows `ESC [` belong to its sequence. Most are colours, which have no intermediates.
+#[inline(always)]
 fn control_len(after: &[u8]) -> usize
     ensures { result ≡ csi_len after.now }
 {
-    let parameters = run_len(after, 0x30, 0x3F);
+    let parameters = parameters_len(after);
     let (_, rest) = after.split_at(parameters);
     match rest.first() {
         Some(0x40..=0x7E) => parameters + 1,
@@ -183,7 +191,19 @@ fn control_len(after: &[u8]) -> usize
     }
 }
 
+// How many parameters stand at the front.
+#[inline(always)]
+fn parameters_len(bytes: &[u8]) -> usize
+    ensures { result ≡ front_len is_parameter bytes.now }
+{
+    match parameters_in_block(bytes) {
+        Some(count) => count,
+        None => run_len(bytes, 0x30, 0x3F),
+    }
+}
+
 // How many bytes of what follows its parameters belong to a control sequence.
+#[inline(never)]
 fn end_len(after: &[u8]) -> usize
     ensures { result ≡ csi_end_len after.now }
 {
@@ -196,6 +216,7 @@ fn end_len(after: &[u8]) -> usize
 }
 
 // How many bytes at the front lie from low to high.
+#[inline(never)]
 fn run_len(bytes: &[u8], low: u8, high: u8) -> usize
     ensures { result ≡ front_len (is_within low high) bytes.now }
 {

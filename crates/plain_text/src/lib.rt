@@ -4,6 +4,7 @@
 //! where a fault came. No function here allocates while it writes.
 #![tactic(auto)]
 
+mod blocks;
 pub mod decimal;
 pub mod escapes;
 pub mod fitting;

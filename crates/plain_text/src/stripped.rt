@@ -10,11 +10,10 @@ ghost use Rattle.plain_text.specs.Writer.{Puts};
 mod gathered_pieces;
 mod piece_buffer;
 
-use crate::escapes::{ESCAPE, Mode, advance, sequence_len};
+use crate::escapes::{Mode, advance, sequence_len, stretch_len};
 use crate::trailing_newline::TrailingNewline;
 use crate::write_str::{WriteFault, WriteStr};
 use gathered_pieces::GatheredPieces;
-use memchr::memchr;
 
 /// Writes a text that comes in pieces without its escape sequences, and without one line feed that closes what is left.
 ///
@@ -86,24 +85,26 @@ fn write_gathered<W: WriteStr>(w: &mut W, text: &str) -> Result<(), WriteFault>
     let mut gathered = GatheredPieces::new();
     let mut rest = text;
     while !rest.is_empty() {
-        let (stretch, after) = split_sequence(rest);
-        gathered.write(w, stretch)?;
-        rest = after;
+        let stretch = stretch_len(rest.as_bytes());
+        gathered.write_front(w, rest, stretch)?;
+        rest = after_sequence(rest, stretch);
     }
     gathered.flush(w)
 }
 
-// The text before its first sequence, and what follows that sequence.
-fn split_sequence(text: &str) -> (&str, &str)
-    ensures visible { visible text.now ≡ result.0.now ++ visible result.1.now }
-    ensures shorter { 0 < length text.now → length result.1.now < length text.now }
+// What follows the first sequence of a text, which stands after so many bytes.
+#[inline(always)]
+fn after_sequence(text: &str, stretch: usize) -> &str
+    requires { stretch ≡ front_len is_visible text.now }
+    ensures visible { visible text.now ≡ take stretch text.now ++ visible result.now }
+    ensures shorter { 0 < length text.now → length result.now < length text.now }
 {
-    let (stretch, from_escape) = split_escape(text);
+    let (_, from_escape) = text.split_at(stretch);
     let Some((_, after)) = from_escape.as_bytes().split_first() else {
-        return (stretch, "");
+        return "";
     };
     let (_, rest) = from_escape.split_at(sequence_len(after) + 1);
-    (stretch, rest)
+    rest
 }
 
 // What the scan takes from the front of a text: a stretch that no sequence holds, or a character of a sequence, which
@@ -125,8 +126,5 @@ fn split_escape(text: &str) -> (&str, &str)
     ensures front { result.0.now ≡ take (front_len is_visible text.now) text.now }
     ensures back { result.1.now ≡ drop (front_len is_visible text.now) text.now }
 {
-    match memchr(ESCAPE, text.as_bytes()) {
-        Some(place) => text.split_at(place),
-        None => (text, ""),
-    }
+    text.split_at(stretch_len(text.as_bytes()))
 }

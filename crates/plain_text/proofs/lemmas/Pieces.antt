@@ -121,6 +121,17 @@ front_stops (x ∷ t) c r e = elim (eqb_tells x 27) [
   | inr n ↦ front_stops t c r (rw n.0 at e)
 ]
 
+-- so a text may be cut there
+front_ascii : (t : Text) → front_len is_visible t < length t → get_or t (front_len is_visible t) 0 < 128
+front_ascii [] l = absurd (omega (arith, l))
+front_ascii (c ∷ t) l = elim (eqb_tells c 27) [
+  | inl y ↦ rw y.0 (omega (arith, y.1))
+  | inr n ↦ rw n.0 (front_ascii t (let more = rw n.0 at l in omega arith))
+]
+
+pub front_boundary : (t : Text) → IsCharBoundary t (front_len is_visible t)
+front_boundary t = (front_len-le is_visible t, λ l a. absurd (omega (arith, front_ascii t l)))
+
 -- it begins a sequence, and what follows that is visible
 pub visible-sequence : (t after : Text) (c : ℕ) → t ≡ c ∷ after → c ≡ 27 → visible t ≡ visible (drop (sequence_len after + 1) t)
 unfolding visible_after

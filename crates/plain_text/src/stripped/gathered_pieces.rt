@@ -1,6 +1,7 @@
 //! Pieces of a text that are written together, without one line feed that closes the text.
 
-ghost use Rattle.std.specs.Prelude.{◌≡◌, [], false, OnOk};
+ghost use Rattle.std.specs.Prelude.{◌≡◌, [], false, take, OnOk};
+ghost use Rattle.std.specs.Str.{IsCharBoundary};
 ghost use Rattle.plain_text.specs.GatheredPieces.{unwritten, Carries};
 
 use super::piece_buffer::PieceBuffer;
@@ -26,9 +27,26 @@ impl GatheredPieces {
         }
     }
 
-    /// Gathers the next piece, and writes where there is no room.
-    #[inline]
-    pub(super) fn write<W: WriteStr>(&mut self, w: &mut W, piece: &str) -> Result<(), WriteFault>
+    /// Gathers the first bytes of a text, and writes where there is no room.
+    #[inline(always)]
+    pub(super) fn write_front<W: WriteStr>(
+        &mut self,
+        w: &mut W,
+        text: &str,
+        count: usize,
+    ) -> Result<(), WriteFault>
+        requires { IsCharBoundary text.now count }
+        ensures { Carries W.meaning w.old (unwritten self.old) (take count text.now) result w.new (unwritten self.new) }
+    {
+        if self.pending.push_in_block(text, count) {
+            return Ok(());
+        }
+        let (piece, _) = text.split_at(count);
+        self.write(w, piece)
+    }
+
+    // Gathers the next piece, and writes where there is no room.
+    fn write<W: WriteStr>(&mut self, w: &mut W, piece: &str) -> Result<(), WriteFault>
         ensures { Carries W.meaning w.old (unwritten self.old) piece.now result w.new (unwritten self.new) }
     {
         if self.pending.has_room(piece) {

@@ -1,8 +1,11 @@
 //! Room for a few pieces of a text.
 
-ghost use Rattle.std.specs.Prelude.{◌≡◌, ◌↔◌, ◌+◌, ◌≤◌, ◌++◌, [], length, IsTrue};
+ghost use Rattle.std.specs.Prelude.{◌≡◌, ◌↔◌, ◌+◌, ◌≤◌, ◌++◌, [], length, take, IsTrue};
+ghost use Rattle.std.specs.Bool.{MatchBool};
+ghost use Rattle.std.specs.Str.{IsCharBoundary};
 
 use std::marker::Model;
+use std::simd::prelude::*;
 use std::str;
 
 // How many bytes of pieces are gathered.
@@ -62,6 +65,21 @@ impl PieceBuffer {
         let end = self.len + piece.len();
         self.bytes[self.len..end].copy_from_slice(piece.as_bytes());
         self.len = end;
+    }
+
+    /// Gathers the first bytes of a text by a block of 16, and answers whether it did: they must fit into a block, and the
+    /// text and the room must hold one. To strip a coloured line costs a tenth less than with a copy of their number.
+    #[inline(always)]
+    pub(super) fn push_in_block(&mut self, text: &str, count: usize) -> bool
+        requires { IsCharBoundary text.now count }
+        ensures { MatchBool result (self.new ≡ self.old ++ take count text.now) (self.new ≡ self.old) }
+    {
+        if 16 < count || text.len() < 16 || CAPACITY - self.len < 16 {
+            return false;
+        }
+        u8x16::from_slice(text.as_bytes()).copy_to_slice(&mut self.bytes[self.len..]);
+        self.len += count;
+        true
     }
 
     /// Forgets the pieces.
