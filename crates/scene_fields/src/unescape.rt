@@ -3,9 +3,9 @@
 //! What a text stands for is never longer than the text, so a large output is read without a second memory of its size. It is
 //! moved by blocks: most of an output stands between escapes.
 
-ghost use Rattle.std.specs.Prelude.{◌≡◌, ◌≢◌, ◌<◌, ◌≤◌, ℕ, length, slice_index, take};
+ghost use Rattle.std.specs.Prelude.{◌≡◌, ◌≢◌, ◌<◌, ◌≤◌, ◌-◌, ℕ, IfSome, length, slice_index, take};
 ghost use Rattle.std.specs.Option.{option_map};
-ghost use Rattle.scene_fields.specs.Texts.{LacksEscapes, MovesPlain, bytes_in};
+ghost use Rattle.scene_fields.specs.Texts.{LacksEscapes, MovesPlain, bytes_in, escape_byte, escape_len};
 
 use super::marks::{first_place, load_block, match_mask};
 use super::texts::escape_at;
@@ -23,7 +23,7 @@ pub fn unescape_in_place(bytes: &mut [u8]) -> Option<usize>
     let mut to = 0;
     while from < bytes.len() {
         if bytes[from] == b'\\' {
-            let (byte, len) = escape_at(&bytes[from + 1..], u8::MAX)?;
+            let (byte, len) = output_escape_at(&bytes[from + 1..])?;
             bytes[to] = byte;
             to += 1;
             from += 1 + len;
@@ -34,6 +34,20 @@ pub fn unescape_in_place(bytes: &mut [u8]) -> Option<usize>
         }
     }
     Some(to)
+}
+
+// The byte that an escape of an output gives, and how many bytes it has behind its backslash. Most begin a colour or end a line, so these two
+// are looked at first: a twentieth of the work of a large coloured output.
+#[inline(always)]
+fn output_escape_at(escape: &[u8]) -> Option<(u8, usize)>
+    ensures byte { option_map (λ x. x.0) result ≡ escape_byte 255 escape.now }
+    ensures len { IfSome result (λ x. (x.1 ≡ escape_len escape.now) × (1 ≤ x.1) × (x.1 ≤ 3) × (x.1 ≤ length escape.now) × (slice_index escape.now (x.1 - 1) < 128)) }
+{
+    match escape {
+        [b'e', ..] => Some((b'\x1b', 1)),
+        [b'n', ..] => Some((b'\n', 1)),
+        _ => escape_at(escape, u8::MAX),
+    }
 }
 
 // Moves bytes that stand before the next escape down to a place, and answers how many: all of them, or as many as a block holds.
