@@ -1,5 +1,5 @@
 -- What the words of a command line ask for.
-use Rattle.std.specs.Prelude.{ℕ, List, [], ◌∷◌, ◌++◌, map, Bool, false, ◌&&◌, ◌||◌, if◌then◌else◌, Option, None, Some, is_none, is_some, unwrap_or, String, string_bytes, codes, bytes_eq}
+use Rattle.std.specs.Prelude.{ℕ, List, [], ◌∷◌, ◌++◌, map, Bool, true, false, not, ◌&&◌, ◌||◌, if◌then◌else◌, Option, None, Some, is_none, is_some, unwrap_or, String, string_bytes, codes, bytes_eq}
 use Rattle.std.specs.Option.{option_map, option_and_then, option_or}
 use Rattle.std.specs.declared.alloc.Global.{Global}
 use Rattle.run_names.specs.declared.level.StatusLevel.{StatusLevel}
