@@ -6,18 +6,18 @@ use Rattle.std.specs.declared.io.ErrorKind.TheVariants as error
 use Rattle.run_model.specs.declared.output.ChildOutputDescription.{ChildOutputDescription}
 use Rattle.run_model.specs.declared.output.ChildOutputDescription.TheVariants as captured
 use Rattle.recorded_outputs.specs.Outputs.{bytes_at}
-use Rattle.recorded_outputs.specs.References.{end_of}
+use Rattle.scene_fields.specs.References.{end_of}
 use Rattle.recorded_outputs.specs.declared.outputs.LoadFault.{LoadFault}
 use Rattle.recorded_outputs.specs.declared.outputs.LoadFault.TheVariants as load
-use Rattle.recorded_lines.specs.Lines.{field_of}
-use Rattle.recorded_lines.specs.Loads.{captured_stream_at, stream_in_field}
-use Rattle.recorded_lines.specs.declared.line.PlacedOutput.{PlacedOutput}
-use Rattle.recorded_lines.specs.declared.stored.StoredOutput.{StoredOutput}
-use Rattle.recorded_lines.specs.declared.stored.StoredOutput.TheVariants.{Split, Combined}
-use Rattle.recorded_lines.specs.declared.stored.StoredStream.{StoredStream}
-use Rattle.recorded_lines.specs.declared.stored.StoredStream.TheVariants.{NotCaptured, Empty, At}
-use Rattle.recorded_lines.specs.declared.stored.StreamField.{StreamField}
-use Rattle.recorded_lines.specs.declared.stored.StreamField.TheVariants.{First, Second}
+use Rattle.scene_fields.specs.Stored.{field_of, stream_in_field}
+use Rattle.recorded_lines.specs.Loads.{captured_stream_at}
+use Rattle.scene_fields.specs.declared.stored.PlacedOutput.{PlacedOutput}
+use Rattle.scene_fields.specs.declared.stored.StoredOutput.{StoredOutput}
+use Rattle.scene_fields.specs.declared.stored.StoredOutput.TheVariants.{Split, Combined}
+use Rattle.scene_fields.specs.declared.stored.StoredStream.{StoredStream}
+use Rattle.scene_fields.specs.declared.stored.StoredStream.TheVariants.{NotCaptured, Empty, At}
+use Rattle.scene_fields.specs.declared.stored.StreamField.{StreamField}
+use Rattle.scene_fields.specs.declared.stored.StreamField.TheVariants.{First, Second}
 use Rattle.reporter_state.specs.declared.decider.OutputLoadDecider.{OutputLoadDecider}
 use Rattle.scene_events.specs.Loads.{event_with}
 use Rattle.scene_events.specs.declared.scene.event.SceneEvent.{SceneEvent}

@@ -6,8 +6,8 @@ ghost use Rattle.recorded_events.specs.Loads.{IsFirstBad, IsReplayed, event_inli
 ghost use Rattle.recorded_events.specs.Skips.{skips};
 ghost use Rattle.scene_events.specs.Loads.{event_with};
 
-use recorded_lines::line::PlacedOutput;
-use recorded_lines::stored::{StoredStream, StreamFault, StreamField};
+use recorded_lines::stored::{StreamFault, load_output};
+use scene_fields::stored::{PlacedOutput, StoredStream, StreamField};
 use recorded_outputs::outputs::{LoadFault, RecordedOutputs};
 use recorded_outputs::read_at::ReadAt;
 use reporter_state::decider::{OutputLoadDecider, OutputMetadata};
@@ -232,7 +232,7 @@ fn load_placed<O: ReadAt + Drop>(
     ensures count { OnOk result (O.count outputs.new.source ≡ counted (O.count outputs.old.source) (output_len placed.now.output)) }
     ensures most { O.count outputs.new.source ≤ counted (O.count outputs.old.source) (output_len placed.now.output) }
 {
-    match placed.output.load(alloc, outputs) {
+    match load_output(&placed.output, alloc, outputs) {
         Ok(captured) => Ok(event.load(alloc, placed.place, captured)?),
         Err(StreamFault { stream, fault }) => {
             Err(LoadEventFault::of_stream(placed.field_of(stream), fault))

@@ -1,12 +1,10 @@
 -- The fields of a line of a recorded run, and what of it is stored elsewhere.
-use Rattle.std.specs.Prelude.{ℕ, ◌+◌, ◌-◌, ◌^◌, min, List, [], ◌∷◌, ◌++◌, length, take, drop, codes, bytes_eq, if◌then◌else◌, Option, None, Some}
+use Rattle.std.specs.Prelude.{ℕ, ◌+◌, min, List, [], ◌∷◌, ◌++◌, length, take, drop, codes, bytes_eq, if◌then◌else◌, Option, None, Some}
 use Rattle.std.specs.List.{join_with_byte}
 use Rattle.scene_fields.specs.Split.{split_on}
-use Rattle.recorded_lines.specs.Stored.{stored_output_in}
-use Rattle.recorded_lines.specs.declared.line.PlacedOutput.{PlacedOutput}
-use Rattle.recorded_lines.specs.declared.stored.StoredOutput.{StoredOutput}
-use Rattle.recorded_lines.specs.declared.stored.StreamField.{StreamField}
-use Rattle.recorded_lines.specs.declared.stored.StreamField.TheVariants.{First, Second}
+use Rattle.scene_fields.specs.Stored.{stored_output_in}
+use Rattle.scene_fields.specs.declared.stored.PlacedOutput.{PlacedOutput}
+use Rattle.scene_fields.specs.declared.stored.StoredOutput.{StoredOutput}
 
 -- how many fields stand before the outputs of a line of this event, its name among them: all of so many, if the event has no output
 abbrev pub start_of : List ℕ → ℕ → ℕ
@@ -57,8 +55,3 @@ stored_outputs fields = placed_outputs 0 (outputs_start fields + 5) (drop (outpu
 -- a line whose stored outputs stay unread
 abbrev pub unread_text : List ℕ → List ℕ
 unread_text line = join_with_byte 9 (unread_fields (split_on 9 line))
-
--- the number of the field of a stream
-abbrev pub field_of : PlacedOutput → StreamField → ℕ
-field_of output First = output.field
-field_of output Second = min (output.field + 1) (2 ^ 64 - 1)

@@ -5,13 +5,14 @@ use Rattle.run_model.specs.declared.output.ChildOutputDescription.{ChildOutputDe
 use Rattle.run_model.specs.declared.output.ChildOutputDescription.TheVariants as captured
 use Rattle.recorded_outputs.specs.Outputs.{IsCounted, IsLoaded, counted, stream_at}
 use Rattle.recorded_outputs.specs.declared.outputs.LoadFault.{LoadFault}
-use Rattle.recorded_lines.specs.declared.stored.StoredOutput.{StoredOutput}
-use Rattle.recorded_lines.specs.declared.stored.StoredOutput.TheVariants.{Split, Combined}
-use Rattle.recorded_lines.specs.declared.stored.StoredStream.{StoredStream}
-use Rattle.recorded_lines.specs.declared.stored.StoredStream.TheVariants.{NotCaptured, Empty, At}
+use Rattle.scene_fields.specs.declared.stored.StoredOutput.{StoredOutput}
+use Rattle.scene_fields.specs.declared.stored.StoredOutput.TheVariants.{Split, Combined}
+use Rattle.scene_fields.specs.declared.stored.StoredStream.{StoredStream}
+use Rattle.scene_fields.specs.declared.stored.StoredStream.TheVariants.{NotCaptured, Empty, At}
+use Rattle.scene_fields.specs.Stored.{stream_in_field}
 use Rattle.recorded_lines.specs.declared.stored.StreamFault.{StreamFault}
-use Rattle.recorded_lines.specs.declared.stored.StreamField.{StreamField}
-use Rattle.recorded_lines.specs.declared.stored.StreamField.TheVariants.{First, Second}
+use Rattle.scene_fields.specs.declared.stored.StreamField.{StreamField}
+use Rattle.scene_fields.specs.declared.stored.StreamField.TheVariants.{First, Second}
 
 -- what was captured of a stream: nothing, no bytes, or those at its place among all outputs, if they are not damaged
 abbrev pub captured_stream_at : List ℕ → StoredStream → Option (Option (List ℕ))
@@ -28,13 +29,6 @@ captured_split (Some stdout) (Some stderr) = Some (captured.Split stdout stderr)
 abbrev pub captured_at : List ℕ → StoredOutput → Option ChildOutputDescription
 captured_at all (Split stdout stderr) = captured_split (captured_stream_at all stdout) (captured_stream_at all stderr)
 captured_at all (Combined reference) = option_map (λ bytes. captured.Combined bytes) (stream_at all reference)
-
--- the stream in a field of an output; streams that were captured together stand in the first
-abbrev pub stream_in_field : StreamField → StoredOutput → StoredStream
-stream_in_field First (Split stdout stderr) = stdout
-stream_in_field Second (Split stdout stderr) = stderr
-stream_in_field First (Combined reference) = At reference
-stream_in_field Second (Combined reference) = NotCaptured
 
 -- a stream has this fault: only what has bytes can have one
 abbrev pub IsFaultOf : List ℕ → StoredStream → LoadFault → Type 0

@@ -3,12 +3,12 @@
 ghost use Rattle.std.specs.Prelude.{◌≡◌, ◌≤◌, ◌++◌, ◌↔◌, IfOk, IsOk, IsTrue, OnOk, length};
 ghost use Rattle.std.specs.Cow.{cow_str_bytes};
 ghost use Rattle.scene_fields.specs.Split.{Lacks, field_texts, split_on};
-ghost use Rattle.recorded_lines.specs.Lines.{field_of, outputs_start, placed, placed_outputs, start_of, stored_outputs, unread_fields, unread_groups, unread_output, unread_text};
+ghost use Rattle.recorded_lines.specs.Lines.{outputs_start, placed, placed_outputs, start_of, stored_outputs, unread_fields, unread_groups, unread_output, unread_text};
 
-use super::stored::{StoredOutput, StreamField};
 use run_model::memory::OutOfMemory;
 use scene_fields::fields::split_fields;
 use scene_fields::split::split_at_byte;
+use scene_fields::stored::{PlacedOutput, StoredOutput};
 use std::alloc::Global;
 use std::borrow::CowStr;
 
@@ -25,29 +25,6 @@ pub struct RecordedLine<'a> {
     pub text: CowStr<'a, Global>,
     /// The outputs that are stored, in order.
     pub outputs: Vec<PlacedOutput>,
-}
-
-/// A stored output, and where it stands in its line.
-#[derive(Clone, Copy)]
-pub struct PlacedOutput {
-    /// The place of its attempt, from 0. The only output of an event has the place 0.
-    pub place: usize,
-    /// The number of the field of its first stream, from 1 for the event's name.
-    pub field: usize,
-    /// What is stored.
-    pub output: StoredOutput,
-}
-
-impl PlacedOutput {
-    /// The number of the field of one of its streams, from 1 for the event's name. It stays at `usize::MAX` where it would pass that.
-    pub fn field_of(&self, stream: StreamField) -> usize
-        ensures { result ≡ field_of self.now stream }
-    {
-        match stream {
-            StreamField::First => self.field,
-            StreamField::Second => self.field.saturating_add(1),
-        }
-    }
 }
 
 impl<'a> RecordedLine<'a> {

@@ -4,11 +4,11 @@ ghost use Rattle.std.specs.Prelude.{◌≡◌, ◌≤◌, ◌↔◌, IsTrue, IfO
 ghost use Rattle.std.specs.Option.{ForSome};
 ghost use Rattle.recorded_outputs.specs.Outputs.{HasSum, IsCounted, IsLoaded, counted};
 ghost use Rattle.recorded_outputs.specs.ReadAt.{HasRead};
-ghost use Rattle.recorded_outputs.specs.References.{end_of};
+ghost use Rattle.scene_fields.specs.References.{end_of};
 
 use super::read_at::ReadAt;
-use super::reference::Reference;
 use bytes::Bytes;
+use scene_fields::reference::Reference;
 use std::alloc::{AllocError, AllocFailed, Global};
 use std::io;
 use std::io::ErrorKind;
@@ -110,7 +110,7 @@ impl<O: ReadAt + Drop> RecordedOutputs<O> {
     ///
     /// ```
     /// use recorded_outputs::read_at::Metered;
-    /// use recorded_outputs::reference::read_reference;
+    /// use scene_fields::reference::read_reference;
     /// let reference = read_reference("\\@7:7:ee2a98c236301c76").ok_or("no reference")?;
     /// let mut outputs = RecordedOutputs::new(Metered::new(b"passed\nfailed\n".as_slice()))?;
     /// let stream = outputs.load(alloc, &reference)?;

@@ -8,7 +8,7 @@ use Rattle.command_line.specs.declared.fault.Fault.TheVariants as program
 use Rattle.recorded_events.specs.Loads.{event_replayed}
 use Rattle.recorded_events.specs.declared.load.LoadEventFault.{LoadEventFault}
 use Rattle.recorded_events.specs.declared.load.LoadEventFault.TheVariants as load
-use Rattle.recorded_lines.specs.declared.line.PlacedOutput.{PlacedOutput}
+use Rattle.scene_fields.specs.declared.stored.PlacedOutput.{PlacedOutput}
 use Rattle.recorded_outputs.specs.Outputs.{counted}
 use Rattle.recorded_runs.specs.Runs.{needed_for, whole_lines}
 use Rattle.recorded_runs.specs.declared.lines.Taken.{Taken}

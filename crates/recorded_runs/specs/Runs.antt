@@ -4,7 +4,7 @@ use Rattle.std.specs.Str.{is_utf8}
 use Rattle.command_line.specs.declared.args.Options.{Options}
 use Rattle.recorded_events.specs.Loads.{event_inline, event_replayed, needed_of}
 use Rattle.recorded_lines.specs.Lines.{stored_outputs, unread_text}
-use Rattle.recorded_lines.specs.declared.line.PlacedOutput.{PlacedOutput}
+use Rattle.scene_fields.specs.declared.stored.PlacedOutput.{PlacedOutput}
 use Rattle.scene_fields.specs.Split.{split_on}
 use Rattle.scene_fields.specs.declared.fault.LineFault.{LineFault}
 use Rattle.scene_text.specs.SceneTexts.{ConfigLine, EventLine, LinesBefore, NoEvent, ParsedLine, RunLine, lines_before, no_lines, parsed_line}

@@ -4,14 +4,15 @@ use Rattle.recorded_outputs.specs.Outputs.{counted}
 use Rattle.recorded_outputs.specs.declared.outputs.LoadFault.{LoadFault}
 use Rattle.recorded_outputs.specs.declared.outputs.LoadFault.TheVariants.{CannotRead, PastEnd, WrongSum, OutOfMemory}
 use Rattle.run_model.specs.declared.output.ChildOutputDescription.{ChildOutputDescription}
-use Rattle.recorded_lines.specs.Loads.{IsCountedFault, IsCountedOf, counted_before, counted_output, counted_stream, stream_in_field}
-use Rattle.recorded_lines.specs.declared.stored.StoredOutput.{StoredOutput}
-use Rattle.recorded_lines.specs.declared.stored.StoredOutput.TheVariants.{Split, Combined}
-use Rattle.recorded_lines.specs.declared.stored.StoredStream.{StoredStream}
-use Rattle.recorded_lines.specs.declared.stored.StoredStream.TheVariants.{NotCaptured, Empty, At}
+use Rattle.recorded_lines.specs.Loads.{IsCountedFault, IsCountedOf, counted_before, counted_output, counted_stream}
+use Rattle.scene_fields.specs.Stored.{stream_in_field}
+use Rattle.scene_fields.specs.declared.stored.StoredOutput.{StoredOutput}
+use Rattle.scene_fields.specs.declared.stored.StoredOutput.TheVariants.{Split, Combined}
+use Rattle.scene_fields.specs.declared.stored.StoredStream.{StoredStream}
+use Rattle.scene_fields.specs.declared.stored.StoredStream.TheVariants.{NotCaptured, Empty, At}
 use Rattle.recorded_lines.specs.declared.stored.StreamFault.{StreamFault}
-use Rattle.recorded_lines.specs.declared.stored.StreamField.{StreamField}
-use Rattle.recorded_lines.specs.declared.stored.StreamField.TheVariants.{First, Second}
+use Rattle.scene_fields.specs.declared.stored.StreamField.{StreamField}
+use Rattle.scene_fields.specs.declared.stored.StreamField.TheVariants.{First, Second}
 use Rattle.recorded_events.specs.Loads.{output_len, stream_len}
 
 -- two counts in turn are one of the sum

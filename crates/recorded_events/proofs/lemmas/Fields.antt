@@ -1,7 +1,7 @@
 -- The outputs of a line that are left.
 use Rattle.std.proofs.Common.{◌≡◌, ℕ, List, Bool, Option, IfSome}
-use Rattle.recorded_lines.specs.declared.line.PlacedOutput.{PlacedOutput}
-use Rattle.recorded_lines.specs.declared.stored.StoredStream.{StoredStream}
+use Rattle.scene_fields.specs.declared.stored.PlacedOutput.{PlacedOutput}
+use Rattle.scene_fields.specs.declared.stored.StoredStream.{StoredStream}
 use Rattle.scene_events.specs.declared.scene.event.SceneEvent.{SceneEvent}
 use Rattle.recorded_events.specs.Loads.{event_inline, first_field_not}
 

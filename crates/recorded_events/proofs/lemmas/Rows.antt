@@ -3,11 +3,11 @@ use Rattle.std.proofs.Common.{◌≡◌, ℕ, List, [], ◌∷◌, codes, true, 
 use Rattle.run_model.specs.Attempts.{attempt_with_output}
 use Rattle.run_model.specs.Statuses.{is_success}
 use Rattle.run_model.specs.declared.output.ChildOutputDescription.TheVariants as captured
-use Rattle.recorded_lines.specs.declared.line.PlacedOutput.{PlacedOutput}
-use Rattle.recorded_lines.specs.declared.stored.StoredOutput.TheVariants.{Split, Combined}
-use Rattle.recorded_lines.specs.declared.stored.StoredStream.TheVariants.{NotCaptured, Empty, At}
+use Rattle.scene_fields.specs.declared.stored.PlacedOutput.{PlacedOutput}
+use Rattle.scene_fields.specs.declared.stored.StoredOutput.TheVariants.{Split, Combined}
+use Rattle.scene_fields.specs.declared.stored.StoredStream.TheVariants.{NotCaptured, Empty, At}
 use Rattle.recorded_outputs.specs.Outputs.{stream_at}
-use Rattle.recorded_outputs.specs.declared.reference.Reference.{Reference}
+use Rattle.scene_fields.specs.declared.reference.Reference.{Reference}
 use Rattle.reporter_state.specs.declared.decider.OutputLoadDecider.{OutputLoadDecider}
 use Rattle.scene_events.specs.declared.scene.event.SceneEvent.TheVariants as scene
 use Rattle.scene_events.specs.declared.scene.unit_events.SetupFinish.{SetupFinish}

@@ -5,9 +5,9 @@ use Rattle.std.specs.List.{join_by, join_with_byte}
 use Rattle.std.specs.Borrow.{Bor}
 use Rattle.scene_fields.specs.Split.{field_texts}
 use Rattle.recorded_lines.specs.Lines.{placed, placed_outputs, unread_groups, unread_output}
-use Rattle.recorded_lines.specs.Stored.{stored_output_in}
-use Rattle.recorded_lines.specs.declared.stored.StoredOutput.{StoredOutput}
-use Rattle.recorded_lines.specs.declared.line.PlacedOutput.{PlacedOutput}
+use Rattle.scene_fields.specs.Stored.{stored_output_in}
+use Rattle.scene_fields.specs.declared.stored.StoredOutput.{StoredOutput}
+use Rattle.scene_fields.specs.declared.stored.PlacedOutput.{PlacedOutput}
 
 -- std joins texts as fields are joined
 pub joined_by_tabs : (fs : List (Bor (List ℕ))) → join_by (λ f. f.now) (codes "\t") fs ≡ join_with_byte 9 (field_texts fs)

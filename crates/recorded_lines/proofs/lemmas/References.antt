@@ -5,15 +5,15 @@ use Rattle.std.proofs.lemmas.List.{take-append-drop}
 use Rattle.std.proofs.lemmas.List.Splits.{join_with_byte-slice_split}
 use Rattle.std.specs.List.{join_with_byte, onto_first}
 use Rattle.std.specs.Option.{option_map}
-use Rattle.recorded_outputs.specs.References.{after_mark, reference_in}
-use Rattle.recorded_outputs.specs.declared.reference.Reference.{Reference}
+use Rattle.scene_fields.specs.References.{after_mark, reference_in}
+use Rattle.scene_fields.specs.declared.reference.Reference.{Reference}
 use Rattle.scene_fields.specs.Split.{Lacks, split_on}
 use Rattle.recorded_lines.specs.Lines.{outputs_start, placed_outputs, stored_outputs, unread_groups, unread_fields, unread_text}
-use Rattle.recorded_lines.specs.Stored.{stored_output_in, stored_split}
-use Rattle.recorded_lines.specs.declared.stored.StoredOutput.{StoredOutput}
-use Rattle.recorded_lines.specs.declared.stored.StoredOutput.TheVariants.{Combined}
-use Rattle.recorded_lines.specs.declared.stored.StoredStream.{StoredStream}
-use Rattle.recorded_lines.specs.declared.stored.StoredStream.TheVariants.{NotCaptured, Empty, At}
+use Rattle.scene_fields.specs.Stored.{stored_output_in, stored_split}
+use Rattle.scene_fields.specs.declared.stored.StoredOutput.{StoredOutput}
+use Rattle.scene_fields.specs.declared.stored.StoredOutput.TheVariants.{Combined}
+use Rattle.scene_fields.specs.declared.stored.StoredStream.{StoredStream}
+use Rattle.scene_fields.specs.declared.stored.StoredStream.TheVariants.{NotCaptured, Empty, At}
 
 -- none of the fields has a backslash
 abbrev pub LackBackslash : List (List ℕ) → Type 0

@@ -1,14 +1,14 @@
 -- Worked rows: what the definitions say of fields and lines that are written out.
 use Rattle.std.proofs.Common.{◌≡◌, ℕ, List, [], ◌∷◌, ◌++◌, codes, refl, None, Some}
 use Rattle.run_model.specs.declared.output.ChildOutputDescription.TheVariants as captured
-use Rattle.recorded_outputs.specs.References.{reference_in}
-use Rattle.recorded_outputs.specs.declared.reference.Reference.{Reference}
+use Rattle.scene_fields.specs.References.{reference_in}
+use Rattle.scene_fields.specs.declared.reference.Reference.{Reference}
 use Rattle.recorded_lines.proofs.lemmas.References.{not_reference}
 use Rattle.recorded_lines.specs.Lines.{stored_outputs, unread_fields}
 use Rattle.recorded_lines.specs.Loads.{captured_at, counted_output}
-use Rattle.recorded_lines.specs.Stored.{stored_output_in}
-use Rattle.recorded_lines.specs.declared.stored.StoredOutput.TheVariants.{Split, Combined}
-use Rattle.recorded_lines.specs.declared.stored.StoredStream.TheVariants.{NotCaptured, Empty, At}
+use Rattle.scene_fields.specs.Stored.{stored_output_in}
+use Rattle.scene_fields.specs.declared.stored.StoredOutput.TheVariants.{Split, Combined}
+use Rattle.scene_fields.specs.declared.stored.StoredStream.TheVariants.{NotCaptured, Empty, At}
 
 -- a field that is some reference
 module _ (rest : List ℕ) (reference : Reference) (is : reference_in (codes "\\@" ++ rest) ≡ Some reference) where

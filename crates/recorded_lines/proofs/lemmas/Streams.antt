@@ -4,9 +4,9 @@ use Rattle.std.proofs.lemmas.Bool.{cases_Bool}
 use Rattle.std.proofs.lemmas.Bool.Decides.{nat_tests}
 use Rattle.recorded_outputs.specs.declared.outputs.LoadFault.{LoadFault}
 use Rattle.recorded_outputs.specs.declared.outputs.LoadFault.TheVariants.{OutOfMemory}
-use Rattle.recorded_outputs.specs.declared.reference.Reference.{Reference}
+use Rattle.scene_fields.specs.declared.reference.Reference.{Reference}
 use Rattle.recorded_outputs.specs.Outputs.{IsLoaded, stream_at}
-use Rattle.recorded_outputs.specs.References.{end_of}
+use Rattle.scene_fields.specs.References.{end_of}
 
 ends_within : (all : List ℕ) (r : Reference) (bytes : List ℕ) → stream_at all r ≡ Some bytes → end_of r ≤ length all
 unfolding stream_at

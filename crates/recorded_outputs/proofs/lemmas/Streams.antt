@@ -4,10 +4,10 @@ use Rattle.std.specs.Str.{bytes_eq}
 use Rattle.std.proofs.lemmas.Bool.{cases_Bool}
 use Rattle.std.proofs.lemmas.Bool.Decides.{nat_tests}
 use Rattle.std.proofs.lemmas.Slice.Eq.{bytes_eq-Decides}
-use Rattle.recorded_outputs.specs.declared.reference.Reference.{Reference}
+use Rattle.scene_fields.specs.declared.reference.Reference.{Reference}
 use Rattle.recorded_outputs.specs.Outputs.{bytes_at, stream_at}
 use Rattle.recorded_outputs.specs.ReadAt.{HasRead}
-use Rattle.recorded_outputs.specs.References.{end_of, sum_of}
+use Rattle.scene_fields.specs.References.{end_of, sum_of}
 
 -- no stream ends behind the last byte
 stream_at-past : (all : List ℕ) (r : Reference) → length all < end_of r → stream_at all r ≡ None

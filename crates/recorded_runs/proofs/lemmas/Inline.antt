@@ -7,7 +7,7 @@ use Rattle.std.proofs.lemmas.Slice.Zip.{all_zipped_more}
 use Rattle.command_line.specs.declared.args.Options.{Options}
 use Rattle.recorded_events.specs.Loads.{event_inline, event_replayed, first_field_not, is_there, is_undamaged, unless_bad}
 use Rattle.recorded_events.specs.Skips.{skips}
-use Rattle.recorded_lines.specs.declared.line.PlacedOutput.{PlacedOutput}
+use Rattle.scene_fields.specs.declared.stored.PlacedOutput.{PlacedOutput}
 use Rattle.recorded_runs.specs.Runs.{line_inline, line_replayed, line_unread, stored_in}
 use Rattle.reporter_state.specs.declared.decider.OutputLoadDecider.{OutputLoadDecider}
 use Rattle.scene_events.specs.declared.scene.event.SceneEvent.{SceneEvent}

@@ -14,7 +14,7 @@ use Rattle.recorded_events.specs.Loads.{IsReplayed, event_replayed, needed_of}
 use Rattle.recorded_events.specs.Skips.{skips}
 use Rattle.recorded_events.specs.declared.load.LoadEventFault.{LoadEventFault}
 use Rattle.recorded_events.specs.declared.load.LoadEventFault.TheVariants as load
-use Rattle.recorded_lines.specs.declared.line.PlacedOutput.{PlacedOutput}
+use Rattle.scene_fields.specs.declared.stored.PlacedOutput.{PlacedOutput}
 use Rattle.recorded_outputs.specs.Outputs.{counted}
 use Rattle.recorded_runs.specs.NextLines.{IsCounted, IsFaultOfLoad, IsLineFault, KeepsRead, LeavesLine, loaded_line}
 use Rattle.recorded_runs.specs.Runs.{needed_for}

@@ -9,7 +9,7 @@ use Rattle.scene_text.proofs.lemmas.Tellings.{reads_none}
 use Rattle.command_line.specs.Faults.{fault_of_read}
 use Rattle.command_line.specs.declared.args.Options.{Options}
 use Rattle.command_line.specs.declared.fault.Fault.{Fault}
-use Rattle.recorded_lines.specs.declared.line.PlacedOutput.{PlacedOutput}
+use Rattle.scene_fields.specs.declared.stored.PlacedOutput.{PlacedOutput}
 use Rattle.recorded_runs.specs.NextLines.{IsCounted, LeavesLine, loaded_line}
 use Rattle.recorded_runs.specs.Runs.{line_replayed, line_unread, stored_in}
 use Rattle.recorded_runs.proofs.lemmas.LoadedLines.{plain_counted, plain_leaves, plain_reads}

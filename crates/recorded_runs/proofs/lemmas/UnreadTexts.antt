@@ -8,9 +8,9 @@ use Rattle.scene_fields.proofs.lemmas.Cuts.{split_on-lacks}
 use Rattle.scene_fields.proofs.lemmas.Utf8.{utf8_fails, utf8_passes}
 use Rattle.scene_text.specs.SceneTexts.{plain_line, text_lines}
 use Rattle.recorded_lines.specs.Lines.{outputs_start, stored_outputs, unread_fields, unread_groups, unread_output, unread_text}
-use Rattle.recorded_lines.specs.Stored.{stored_output_in}
-use Rattle.recorded_lines.specs.declared.line.PlacedOutput.{PlacedOutput}
-use Rattle.recorded_lines.specs.declared.stored.StoredOutput.{StoredOutput}
+use Rattle.scene_fields.specs.Stored.{stored_output_in}
+use Rattle.scene_fields.specs.declared.stored.PlacedOutput.{PlacedOutput}
+use Rattle.scene_fields.specs.declared.stored.StoredOutput.{StoredOutput}
 use Rattle.recorded_runs.specs.Runs.{line_unread, stored_in}
 
 -- no field has a line feed

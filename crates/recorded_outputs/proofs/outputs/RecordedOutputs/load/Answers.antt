@@ -1,5 +1,5 @@
 use Rattle.std.proofs.Common.{◌≡◌, length, ap, ◌∙◌, rules}
-use Rattle.recorded_outputs.specs.References.{sum_of}
+use Rattle.scene_fields.specs.References.{sum_of}
 use Rattle.recorded_outputs.proofs.lemmas.Streams.{not_there, same_read, other_read}
 use Rattle.recorded_outputs.proofs.outputs.RecordedOutputs.load.Goals as goal
 

@@ -9,7 +9,7 @@ use Rattle.std.specs.Result.{result_ok}
 use Rattle.hex.specs.Hex.{decode_sized}
 use Rattle.scene_fields.specs.Numbers.{number_in}
 use Rattle.scene_fields.specs.Split.{cut}
-use Rattle.recorded_outputs.specs.declared.reference.Reference.{Reference}
+use Rattle.scene_fields.specs.declared.reference.Reference.{Reference}
 
 -- the place behind the last byte that a reference names
 abbrev pub end_of : Reference → ℕ

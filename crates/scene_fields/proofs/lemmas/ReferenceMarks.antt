@@ -4,7 +4,7 @@ use Rattle.std.specs.Option.{MatchOption, option_map}
 use Rattle.std.specs.Str.{IsCharBoundary}
 use Rattle.std.specs.Str.Pattern.{FindsTextPrefix, StripsPrefix}
 use Rattle.std.proofs.lemmas.Str.Pattern.{starts_text}
-use Rattle.recorded_outputs.specs.References.{mark, after_mark}
+use Rattle.scene_fields.specs.References.{mark, after_mark}
 
 -- where the mark is stripped, what is left follows it
 pub after_mark_by : (t : List ℕ) (r : Option (Bor (List ℕ))) → MatchOption r (FindsTextPrefix mark t None) (λ x. StripsPrefix (FindsTextPrefix mark) t x.now) → option_map (λ x. x.now) r ≡ after_mark t

@@ -4,11 +4,11 @@ ghost use Rattle.std.specs.Prelude.{◌≡◌, ◌≤◌, ◌↔◌, IsTrue};
 ghost use Rattle.std.specs.Char.{is_ascii_uppercase};
 ghost use Rattle.std.specs.List.{list_any};
 ghost use Rattle.std.specs.Option.{option_map};
-ghost use Rattle.recorded_outputs.specs.References.{after_mark, end_of, reference_in, sum_in, sum_of};
+ghost use Rattle.scene_fields.specs.References.{after_mark, end_of, reference_in, sum_in, sum_of};
 
+use super::numbers::read_count;
+use super::split::split_at_byte;
 use hex::FromHex;
-use scene_fields::numbers::read_count;
-use scene_fields::split::split_at_byte;
 use std::hash::{DefaultHasher, Hasher};
 
 /// Where a captured stream stands in the file of the outputs, and the sum by which its bytes are known.
@@ -72,7 +72,7 @@ pub fn read_reference(field: &str) -> Option<Reference>
 }
 
 // What follows the mark of a reference, where a field begins with it.
-#[tactic(auto, using(crate::proofs::lemmas::Marks::after_mark_by))]
+#[tactic(auto, using(crate::proofs::lemmas::ReferenceMarks::after_mark_by))]
 fn after_mark(field: &str) -> Option<&str>
     ensures { option_map (λ t. t.now) result ≡ after_mark field.now }
 {
