@@ -1,7 +1,8 @@
 //! Lines of a recorded run, what is left of them, and their outputs.
 
-use recorded_lines::line::{PlacedOutput, RecordedLine};
-use recorded_lines::stored::{StoredOutput, StreamFault, StreamField};
+use recorded_lines::line::RecordedLine;
+use recorded_lines::stored::{StreamFault, load_output};
+use scene_fields::stored::{PlacedOutput, StoredOutput, StreamField};
 use recorded_outputs::outputs::{LoadFault, RecordedOutputs};
 use recorded_outputs::read_at::Metered;
 use run_model::output::{ChildOutputDescription, ChildSingleOutput};
@@ -130,7 +131,7 @@ fn loads_outputs(rt: HostRuntime) -> Result<(), Fail> {
     for (first, second, want_stdout, want_stderr, count) in split {
         let stored = StoredOutput::read("split", first, second).ok_or("an output")?;
         let mut outputs = RecordedOutputs::new(Metered::new(OUTPUTS))?;
-        match stored.load(alloc, &mut outputs) {
+        match load_output(&stored, alloc, &mut outputs) {
             Ok(ChildOutputDescription::Split { stdout, stderr }) => {
                 assert_stream(&rt, &stdout, want_stdout);
                 assert_stream(&rt, &stderr, want_stderr);
@@ -140,7 +141,7 @@ fn loads_outputs(rt: HostRuntime) -> Result<(), Fail> {
         assert_eq!(rt; outputs.bytes_read(), count);
     }
     let stored = StoredOutput::read("comb", FAILED, "-").ok_or("an output")?;
-    match stored.load(alloc, &mut RecordedOutputs::new(Metered::new(OUTPUTS))?) {
+    match load_output(&stored, alloc, &mut RecordedOutputs::new(Metered::new(OUTPUTS))?) {
         Ok(ChildOutputDescription::Combined { output }) => {
             assert_eq!(rt; output.as_bytes(), b"failed\n".as_slice());
         }
@@ -198,7 +199,7 @@ fn tells_which_stream_is_damaged(rt: HostRuntime) -> Result<(), Fail> {
     for (form, first, second, stream, fault, count) in rows {
         let output = StoredOutput::read(form, first, second).ok_or("an output")?;
         let mut outputs = RecordedOutputs::new(Metered::new(OUTPUTS))?;
-        let loaded = output.load(rt.alloc(), &mut outputs);
+        let loaded = load_output(&output, rt.alloc(), &mut outputs);
         assert_eq!(rt; loaded.err(), Some(StreamFault { stream, fault }));
         assert_eq!(rt; outputs.bytes_read(), count);
         let placed = PlacedOutput {

@@ -4,7 +4,7 @@ pub mod sources;
 
 use recorded_outputs::outputs::{LoadFault, RecordedOutputs};
 use recorded_outputs::read_at::{Metered, ReadAt, Source};
-use recorded_outputs::reference::{Reference, read_reference};
+use scene_fields::reference::{Reference, read_reference};
 use sources::{Failing, Growing, Shortened};
 use std::alloc::Global;
 use std::fs::File;
