@@ -4,7 +4,6 @@ pub mod Inline
 pub mod LeftLines
 pub mod LoadedLines
 pub mod Loaded
-pub mod ReplayedLines
 pub mod Reports
 pub mod Rows
 pub mod Skipped

@@ -15,7 +15,7 @@ use Rattle.scene_events.specs.declared.scene.event.SceneEvent.{SceneEvent}
 use Rattle.scene_fields.specs.Split.{Lacks}
 use Rattle.scene_fields.specs.declared.fault.LineFault.TheVariants as line
 use Rattle.scene_fields.specs.declared.fault.ReadFault.{ReadFault}
-use Rattle.scene_text.specs.SceneTexts.{IsNextFault, LeavesLines, ReadsLines, RunLine, is_begun, lines_after, lines_before, parsed_lines, recorded_line}
+use Rattle.scene_text.specs.SceneTexts.{IsNextFault, LeavesLines, ReadsLines, RunLine, before_next, is_begun, lines_after, parsed_lines, recorded_line}
 use Rattle.scene_text.specs.declared.reader.LinesRead.{LinesRead}
 
 -- what was read of a text: its first line, which a line feed parts from what is left; or what stands behind the last line feed
@@ -39,17 +39,15 @@ IsLineFault file read line fault =
 abbrev pub LeavesLine : List ℕ → LinesRead → LinesRead → RunLine → Fault → Type 0
 LeavesLine file old new line fault = (IsUnread file fault × ReadsLines old new []) ⊎ ((f : ReadFault) × (fault ≡ fault_of_read f) × LeavesLines old new (line ∷ []) f)
 
--- what was read before still stands in front of what was added, whatever events were forgotten
+-- what was read before still stands in front of what was added
 pub record KeepsRead (old new : LinesRead) : Type 0 where
-  pub events : (base : List SceneEvent) → is_begun base ≡ old.is_begun → take (length old.run.events.items) new.run.events.items ≡ old.run.events.items
-  pub lines : (base : List SceneEvent) → is_begun base ≡ old.is_begun → take (length old.run.lines.items) new.run.lines.items ≡ old.run.lines.items
+  pub events : take (length old.run.events.items) new.run.events.items ≡ old.run.events.items
+  pub lines : take (length old.run.lines.items) new.run.lines.items ≡ old.run.lines.items
   pub begun : new.is_begun ≡ old.is_begun
 
 -- of a line behind those that were read the bytes that it needs were read, and no others: the count goes on from the old one with as many more
 abbrev pub CountsLine : Options → LinesRead → List ℕ → ℕ → ℕ → Type 0
-CountsLine options read line old new =
-    (base : List SceneEvent) → is_begun base ≡ read.is_begun → (more : ℕ) →
-    counted new more ≡ counted old (needed_for options (lines_before (lines_after base (parsed_lines read.run))) (recorded_line (lines_before (lines_after base (parsed_lines read.run))) line) + more)
+CountsLine options read line old new = (more : ℕ) → counted new more ≡ counted old (needed_for options (before_next read) (recorded_line (before_next read) line) + more)
 
 -- the fault of the line of this number whose outputs were not loaded
 abbrev pub IsFaultOfLoad : List ℕ → ℕ → LoadEventFault → Fault → Type 0

@@ -2,11 +2,10 @@
 use Rattle.std.specs.Prelude.{ℕ, ◌+◌, List, [], ◌∷◌, map, true, Result, Ok, Err}
 use Rattle.command_line.specs.declared.args.Options.{Options}
 use Rattle.recorded.specs.Events.{event_inline, event_replayed, needed_of}
-use Rattle.scene_events.specs.declared.scene.event.SceneEvent.{SceneEvent}
 use Rattle.scene_fields.specs.Split.{split_on}
 use Rattle.scene_fields.specs.declared.fault.LineFault.{LineFault}
 use Rattle.scene_fields.specs.declared.stored.PlacedOutput.{PlacedOutput}
-use Rattle.scene_text.specs.SceneTexts.{ConfigLine, EventLine, LinesBefore, NoEvent, ParsedLine, RunLine, lines_before, no_lines, recorded_line, with_event}
+use Rattle.scene_text.specs.SceneTexts.{ConfigLine, EventLine, LinesBefore, NoEvent, ParsedLine, RecordedLine, RunLine, lines_before, no_lines, recorded_line}
 use Rattle.scenes.specs.Reports.{decider_for}
 
 -- options that show a recorded run
@@ -22,21 +21,16 @@ without_last (x ∷ y ∷ ys) = x ∷ without_last (y ∷ ys)
 abbrev pub whole_lines : List ℕ → List (List ℕ)
 whole_lines text = without_last (split_on 10 text)
 
--- the value of a line with this made of its event, by the outputs that are stored of it
-abbrev pub line_made : (List PlacedOutput → SceneEvent → Result SceneEvent LineFault) → Result (ParsedLine × List PlacedOutput) LineFault → Result ParsedLine LineFault
-line_made make (Ok x) = with_event (make x.1) (Ok x.0)
-line_made make (Err f) = Err f
-
 -- a line as it is replayed: with the outputs that its report shows
 abbrev pub line_replayed : Options → List ℕ → List ℕ → RunLine
-line_replayed options all t = record { value = λ before. line_made (event_replayed all (decider_for options before.config)) (recorded_line before t) }
+line_replayed options all t = RecordedLine t (λ before stored e. event_replayed all (decider_for options before.config) stored e)
 
 abbrev pub lines_replayed : Options → List ℕ → List ℕ → List RunLine
 lines_replayed options all text = map (line_replayed options all) (whole_lines text)
 
 -- a line of the scene in which every output stands in its place
 abbrev pub line_inline : List ℕ → List ℕ → RunLine
-line_inline all t = record { value = λ before. line_made (λ stored e. Ok (event_inline all stored e)) (recorded_line before t) }
+line_inline all t = RecordedLine t (λ before stored e. Ok (event_inline all stored e))
 
 abbrev pub lines_inline : List ℕ → List ℕ → List RunLine
 lines_inline all text = map (line_inline all) (whole_lines text)
@@ -47,9 +41,9 @@ before_behind before NoEvent = before
 before_behind before (ConfigLine config) = record before { config = config }
 before_behind before (EventLine e) = record before { is_begun = true }
 
-abbrev pub before_next : LinesBefore → Result (ParsedLine × List PlacedOutput) LineFault → LinesBefore
-before_next before (Ok x) = before_behind before x.0
-before_next before (Err f) = before
+abbrev pub before_rest : LinesBefore → Result (ParsedLine × List PlacedOutput) LineFault → LinesBefore
+before_rest before (Ok x) = before_behind before x.0
+before_rest before (Err f) = before
 
 -- how many bytes of outputs a line needs that has this value and these stored outputs
 abbrev pub needed_by : Options → LinesBefore → List PlacedOutput → ParsedLine → ℕ
@@ -64,7 +58,7 @@ needed_for options before (Err f) = 0
 -- how many the lines behind these need: the lengths of what their report shows. No output is looked at
 unfoldable pub needed : Options → LinesBefore → List (List ℕ) → ℕ
 needed options before [] = 0
-needed options before (t ∷ ts) = needed_for options before (recorded_line before t) + needed options (before_next before (recorded_line before t)) ts
+needed options before (t ∷ ts) = needed_for options before (recorded_line before t) + needed options (before_rest before (recorded_line before t)) ts
 
 abbrev pub needed_bytes : Options → List ℕ → ℕ
 needed_bytes options text = needed options (lines_before no_lines) (whole_lines text)

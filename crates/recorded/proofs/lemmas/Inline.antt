@@ -8,11 +8,11 @@ use Rattle.command_line.specs.declared.args.Options.{Options}
 use Rattle.recorded.specs.Events.{event_inline, event_replayed, first_field_not, is_there, is_undamaged, unless_bad}
 use Rattle.recorded.specs.Skips.{skips}
 use Rattle.scene_fields.specs.declared.stored.PlacedOutput.{PlacedOutput}
-use Rattle.recorded.specs.Runs.{line_inline, line_replayed, line_unread, stored_in}
+use Rattle.recorded.specs.Runs.{line_inline, line_replayed}
 use Rattle.reporter_state.specs.declared.decider.OutputLoadDecider.{OutputLoadDecider}
 use Rattle.scene_events.specs.declared.scene.event.SceneEvent.{SceneEvent}
 use Rattle.scene_fields.specs.declared.fault.LineFault.{LineFault}
-use Rattle.scene_text.specs.SceneTexts.{ConfigLine, EventLine, NoEvent, ParsedLine, ParsedLines, is_begun, line_read, lines_before, lines_read, lines_read_after, lines_with, parsed_line, with_event, with_line}
+use Rattle.scene_text.specs.SceneTexts.{ConfigLine, EventLine, NoEvent, ParsedLine, ParsedLines, event_line, is_begun, line_read, lines_before, lines_read, lines_read_after, lines_with, recorded_line, with_line, with_made}
 use Rattle.scenes.specs.Reports.{decider_for}
 use Rattle.scenes.proofs.lemmas.ReadLines.{config_kept}
 
@@ -68,42 +68,42 @@ module _ (options : Options) (all : List ℕ) where
     same_before : lines_before inline ≡ lines_before replayed
     same_before = rw (are.config, same_begun _ replayed.events inline.events are.events) refl
 
-    -- what the inline line reads, by what the line says
-    reads_so : (says : Result ParsedLine LineFault) → parsed_line (lines_before replayed) (line_unread t) ≡ says →
-        line_read inline (line_inline all t) ≡ lines_with inline (with_event (λ e. Ok (event_inline all (stored_in t) e)) says)
-    unfolding line_read
-    reads_so says is = ap (λ b. lines_with inline (with_event (λ e. Ok (event_inline all (stored_in t) e)) (parsed_line b (line_unread t)))) same_before ∙ rw is refl
+    abbrev Says : Type 0
+    Says = Result (ParsedLine × List PlacedOutput) LineFault
 
-    replays_so : (says : Result ParsedLine LineFault) → parsed_line (lines_before replayed) (line_unread t) ≡ says → line_read replayed (line_replayed options all t) ≡ Ok after →
-        lines_with replayed (with_event (event_replayed all d (stored_in t)) says) ≡ Ok after
+    -- what the inline line reads, by what the line says
+    reads_so : (says : Says) → recorded_line (lines_before replayed) t ≡ says → line_read inline (line_inline all t) ≡ lines_with inline (with_made (λ stored e. Ok (event_inline all stored e)) says)
+    unfolding line_read
+    reads_so says is = ap (λ b. lines_with inline (with_made (λ stored e. Ok (event_inline all stored e)) (recorded_line b t))) same_before ∙ rw is refl
+
+    replays_so : (says : Says) → recorded_line (lines_before replayed) t ≡ says → line_read replayed (line_replayed options all t) ≡ Ok after → lines_with replayed (with_made (λ stored e. event_replayed all d stored e) says) ≡ Ok after
     unfolding line_read
     replays_so says is h = rw is at h
 
-    with_made : (e : SceneEvent) (r : Result SceneEvent LineFault) → event_replayed all d (stored_in t) e ≡ r → lines_with replayed (with_event (λ x. r) (Ok (EventLine e))) ≡ Ok after →
-        AreInline options all after (with_line inline (EventLine (event_inline all (stored_in t) e)))
-    with_made e (Ok made) is h =
+    line_made : (stored : List PlacedOutput) (e : SceneEvent) (r : Result SceneEvent LineFault) → event_replayed all d stored e ≡ r → lines_with replayed (event_line r) ≡ Ok after →
+        AreInline options all after (with_line inline (EventLine (event_inline all stored e)))
+    line_made stored e (Ok made) is h =
         let same : with_line replayed (EventLine made) ≡ after = cc in
-        subst (λ x. AreInline options all x (with_line inline (EventLine (event_inline all (stored_in t) e)))) same (record {
+        subst (λ x. AreInline options all x (with_line inline (EventLine (event_inline all stored e)))) same (record {
           config = are.config;
-          events = all_zipped_more (IsInline all d) replayed.events inline.events made (event_inline all (stored_in t) e) are.events (is_inline all d (stored_in t) e made is);
+          events = all_zipped_more (IsInline all d) replayed.events inline.events made (event_inline all stored e) are.events (is_inline all d stored e made is);
         })
-    with_made e (Err f) is h = absurd (cc)
+    line_made stored e (Err f) is h = absurd (cc)
 
-    line_goes : (says : Result ParsedLine LineFault) → parsed_line (lines_before replayed) (line_unread t) ≡ says → line_read replayed (line_replayed options all t) ≡ Ok after → Goes t inline after
-    line_goes (Ok NoEvent) is reads =
-        let h = replays_so (Ok NoEvent) is reads in
+    line_goes : (says : Says) → recorded_line (lines_before replayed) t ≡ says → line_read replayed (line_replayed options all t) ≡ Ok after → Goes t inline after
+    line_goes (Ok (NoEvent, stored)) is reads =
+        let h = replays_so (Ok (NoEvent, stored)) is reads in
         let same : replayed ≡ after = cc in
-        record { next = inline; reads = reads_so (Ok NoEvent) is; are = subst (λ x. AreInline options all x inline) same are }
-    line_goes (Ok (ConfigLine c)) is reads =
-        let h = replays_so (Ok (ConfigLine c)) is reads in
+        record { next = inline; reads = reads_so (Ok (NoEvent, stored)) is; are = subst (λ x. AreInline options all x inline) same are }
+    line_goes (Ok (ConfigLine c, stored)) is reads =
+        let h = replays_so (Ok (ConfigLine c, stored)) is reads in
         let same : with_line replayed (ConfigLine c) ≡ after = cc in
-        let begun_or = cases_Bool (is_begun replayed.events) in
         record {
           next = with_line inline (ConfigLine c);
-          reads = reads_so (Ok (ConfigLine c)) is;
+          reads = reads_so (Ok (ConfigLine c, stored)) is;
           are = subst (λ x. AreInline options all x (with_line inline (ConfigLine c))) same (record {
             config = refl;
-            events = elim begun_or [
+            events = elim (cases_Bool (is_begun replayed.events)) [
               | inl begun ↦
                   let kept : c ≡ replayed.config = ap (λ x. x.config) same ∙ config_kept replayed (line_replayed options all t ∷ []) after begun (after, reads, refl) in
                   subst (λ k. AllZip (IsInline all (decider_for options k)) replayed.events inline.events) (sym kept) are.events
@@ -111,16 +111,16 @@ module _ (options : Options) (all : List ℕ) where
             ];
           });
         }
-    line_goes (Ok (EventLine e)) is reads =
+    line_goes (Ok (EventLine e, stored)) is reads =
         record {
-          next = with_line inline (EventLine (event_inline all (stored_in t) e));
-          reads = reads_so (Ok (EventLine e)) is;
-          are = with_made e (event_replayed all d (stored_in t) e) refl (replays_so (Ok (EventLine e)) is reads);
+          next = with_line inline (EventLine (event_inline all stored e));
+          reads = reads_so (Ok (EventLine e, stored)) is;
+          are = line_made stored e (event_replayed all d stored e) refl (replays_so (Ok (EventLine e, stored)) is reads);
         }
     line_goes (Err f) is reads = (let h = replays_so (Err f) is reads in absurd (cc))
 
     pub goes : line_read replayed (line_replayed options all t) ≡ Ok after → Goes t inline after
-    goes reads = line_goes (parsed_line (lines_before replayed) (line_unread t)) refl reads
+    goes reads = line_goes (recorded_line (lines_before replayed) t) refl reads
 
   pub record GoOn (n : ℕ) (ts : List (List ℕ)) (inline run : ParsedLines) : Type 0 where
     pub all_inline : ParsedLines

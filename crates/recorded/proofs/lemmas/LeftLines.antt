@@ -3,46 +3,47 @@ use Rattle.std.proofs.Common.{◌≡◌, ℕ, ◌+◌, Bool, true, false, List, 
 use Rattle.std.proofs.lemmas.List.{length-append}
 use Rattle.command_line.specs.declared.args.Options.{Options}
 use Rattle.command_line.specs.declared.fault.Fault.{Fault}
-use Rattle.recorded.specs.Outputs.{counted}
-use Rattle.recorded.specs.NextLines.{IsCounted, IsNextLine, LeavesLine}
-use Rattle.recorded.specs.Runs.{before_next, line_replayed, line_unread, lines_replayed, needed, needed_for, stored_in, whole_lines}
-use Rattle.recorded.specs.Source.{IsLeft}
-use Rattle.recorded.proofs.lemmas.LoadedLines.{behind, one_read}
+use Rattle.recorded.proofs.lemmas.LoadedLines.{before_is, behind, one_read}
 use Rattle.recorded.proofs.lemmas.WholeLines.{whole_lines-more}
+use Rattle.recorded.specs.Events.{event_replayed}
+use Rattle.recorded.specs.NextLines.{CountsLine, IsNextLine, LeavesLine}
+use Rattle.recorded.specs.Outputs.{counted}
+use Rattle.recorded.specs.Runs.{before_behind, before_rest, line_replayed, lines_replayed, needed, needed_for, whole_lines}
+use Rattle.recorded.specs.Source.{IsLeft}
 use Rattle.scene_events.specs.declared.scene.event.SceneEvent.{SceneEvent}
-use Rattle.scene_fields.specs.Split.{Lacks}
 use Rattle.scene_fields.specs.declared.fault.LineFault.{LineFault}
 use Rattle.scene_fields.specs.declared.fault.ReadFault.{ReadFault}
 use Rattle.scene_fields.specs.declared.fault.ReadFault.TheVariants as fault
-use Rattle.scene_text.specs.SceneTexts.{ConfigLine, EventLine, IsNextFault, LinesBefore, NoEvent, ParsedLine, ParsedLines, ReadsLines, RunLine, event_line, event_lines, is_begun, line_read, lines_before, lines_with, parsed_line, with_event, with_line}
-use Rattle.scene_text.specs.declared.reader.LinesRead.{LinesRead}
+use Rattle.scene_fields.specs.declared.stored.PlacedOutput.{PlacedOutput}
 use Rattle.scene_text.proofs.lemmas.Tellings.{all_append, noted_append}
+use Rattle.scene_text.specs.SceneTexts.{ConfigLine, EventLine, IsNextFault, LinesBefore, NoEvent, ParsedLine, ParsedLines, ReadsLines, RunLine, before_next, event_line, event_lines, is_begun, line_read, lines_before, lines_with, recorded_line, with_line, with_made}
+use Rattle.scene_text.specs.declared.reader.LinesRead.{LinesRead}
 use Rattle.scenes.specs.Read.{HasReadLines, IsMore}
+use Rattle.scenes.specs.Reports.{decider_for}
 
 -- what stands before the line behind one that tells
 begun_more : (es : List SceneEvent) (e : SceneEvent) → is_begun (es ++ e ∷ []) ≡ true
 begun_more [] e = refl
 begun_more (x ∷ es) e = refl
 
-before_made : (run after : ParsedLines) (made : Result SceneEvent LineFault) (e : SceneEvent) → lines_with run (event_line made) ≡ Ok after → lines_before after ≡ before_next (lines_before run) (Ok (EventLine e))
+before_made : (run after : ParsedLines) (made : Result SceneEvent LineFault) (e : SceneEvent) → lines_with run (event_line made) ≡ Ok after → lines_before after ≡ before_behind (lines_before run) (EventLine e)
 before_made run after (Ok made) e h =
     let same : with_line run (EventLine made) ≡ after = cc in
     ap lines_before (sym same) ∙ ap (λ b. record { config = run.config; is_begun = b }) (begun_more run.events made)
 before_made run after (Err f) e h = absurd (cc)
 
-before_so : (run after : ParsedLines) (make : SceneEvent → Result SceneEvent LineFault) (says : Result ParsedLine LineFault) → lines_with run (with_event make says) ≡ Ok after → lines_before after ≡ before_next (lines_before run) says
-before_so run after make (Ok NoEvent) h = let same : run ≡ after = cc in ap lines_before (sym same)
-before_so run after make (Ok (ConfigLine c)) h = let same : with_line run (ConfigLine c) ≡ after = cc in ap lines_before (sym same)
-before_so run after make (Ok (EventLine e)) h = before_made run after (make e) e h
+before_so : (run after : ParsedLines) (make : List PlacedOutput → SceneEvent → Result SceneEvent LineFault) (says : Result (ParsedLine × List PlacedOutput) LineFault) → lines_with run (with_made make says) ≡ Ok after → lines_before after ≡ before_rest (lines_before run) says
+before_so run after make (Ok (NoEvent, stored)) h = let same : run ≡ after = cc in ap lines_before (sym same)
+before_so run after make (Ok (ConfigLine c, stored)) h = let same : with_line run (ConfigLine c) ≡ after = cc in ap lines_before (sym same)
+before_so run after make (Ok (EventLine e, stored)) h = before_made run after (make stored e) e h
 before_so run after make (Err f) h = absurd (cc)
 
-before_behind : (run after : ParsedLines) (line : RunLine) → line_read run line ≡ Ok after → lines_before after ≡ before_next (lines_before run) (parsed_line (lines_before run) line.text)
+before_others : (options : Options) (all : List ℕ) (run after : ParsedLines) (t : List ℕ) → line_read run (line_replayed options all t) ≡ Ok after → lines_before after ≡ before_rest (lines_before run) (recorded_line (lines_before run) t)
 unfolding line_read
-before_behind run after line h = before_so run after (line.made (lines_before run)) (parsed_line (lines_before run) line.text) h
+before_others options all run after t h = before_so run after (λ stored e. event_replayed all (decider_for options run.config) stored e) (recorded_line (lines_before run) t) h
 
 -- what the first line needs, and the others
-needed_first : (options : Options) (before : LinesBefore) (t : List ℕ) (ts : List (List ℕ)) →
-    needed options before (t ∷ ts) ≡ needed_for options before (stored_in t) (parsed_line before (line_unread t)) + needed options (before_next before (parsed_line before (line_unread t))) ts
+needed_first : (options : Options) (before : LinesBefore) (t : List ℕ) (ts : List (List ℕ)) → needed options before (t ∷ ts) ≡ needed_for options before (recorded_line before t) + needed options (before_rest before (recorded_line before t)) ts
 unfolding needed
 needed_first options before t ts = refl
 
@@ -114,9 +115,6 @@ module _ (file : List ℕ) (total : ℕ) (options : Options) (all front : List R
         abbrev others : List RunLine
         others = lines_replayed options all_outputs more
 
-        lacks : Lacks 10 line
-        lacks = (next has.more_is.text has.more_is.rest).3
-
         lines_are : whole_lines has.more_is.text ≡ line ∷ whole_lines more
         lines_are = let n = next has.more_is.text has.more_is.rest in ap whole_lines n.2 ∙ whole_lines-more line n.0 n.3
 
@@ -124,15 +122,16 @@ module _ (file : List ℕ) (total : ℕ) (options : Options) (all front : List R
         left_is = has.more_is.is ∙ ap (map (line_replayed options all_outputs)) lines_are
 
         -- and was read
-        pub line_is_read : (count_new : ℕ) → ((outputs : List ℕ) → recorded ≡ Some outputs → Lacks 10 line → ReadsLines old new (line_replayed options outputs line ∷ [])) →
-            ((outputs : List ℕ) → recorded ≡ Some outputs → Lacks 10 line → IsCounted options old (line_unread line) (stored_in line) count count_new) → HasReadLines file all front before new (Ok true) (IsLeft total options recorded_new remaining_new count_new)
+        pub line_is_read : (count_new : ℕ) → ((outputs : List ℕ) → recorded ≡ Some outputs → ReadsLines old new (line_replayed options outputs line ∷ [])) → CountsLine options old line count count_new →
+            HasReadLines file all front before new (Ok true) (IsLeft total options recorded_new remaining_new count_new)
         line_is_read count_new reads counts =
-            let read = reads all_outputs has.more_is.outputs lacks in
+            let read = reads all_outputs has.more_is.outputs in
             let b = lines_before (behind before.events old) in
-            let says = parsed_line b (line_unread line) in
-            let then : lines_before (behind before.events new) ≡ before_next b says =
-            before_behind (behind before.events old) (behind before.events new) (line_replayed options all_outputs line) (one_read old new (line_replayed options all_outputs line) read before.events has.begun) in
-            let needs : needed options b (whole_lines has.more_is.text) ≡ needed_for options b (stored_in line) says + needed options (before_next b says) (whole_lines more) = ap (needed options b) lines_are ∙ needed_first options b line (whole_lines more) in
+            let says = recorded_line b line in
+            let then : lines_before (behind before.events new) ≡ before_rest b says =
+            before_others options all_outputs (behind before.events old) (behind before.events new) line (one_read old new (line_replayed options all_outputs line) read before.events has.begun) in
+            let needs : needed options b (whole_lines has.more_is.text) ≡ needed_for options b says + needed options (before_rest b says) (whole_lines more) = ap (needed options b) lines_are ∙ needed_first options b line (whole_lines more) in
+            let here : needed_for options (before_next old) (recorded_line (before_next old) line) ≡ needed_for options b says = ap (λ x. needed_for options x (recorded_line x line)) (sym (before_is before.events old has.begun)) in
             further new (line_replayed options all_outputs line ∷ []) others left_is read (Ok true) (IsLeft total options recorded_new remaining_new count_new) (record {
               all = all_outputs;
               text = more;
@@ -140,13 +139,13 @@ module _ (file : List ℕ) (total : ℕ) (options : Options) (all front : List R
               rest = (next has.more_is.text has.more_is.rest).1;
               is = refl;
               counts =
-                  has.more_is.counts ∙ ap (counted count) needs ∙ sym (counts all_outputs has.more_is.outputs lacks before.events has.begun (needed options (before_next b says) (whole_lines more)))
-                  ∙ ap (λ x. counted count_new (needed options x (whole_lines more))) (sym then);
+                  has.more_is.counts ∙ ap (counted count) needs ∙ ap (λ n. counted count (n + needed options (before_rest b says) (whole_lines more))) (sym here)
+                  ∙ sym (counts (needed options (before_rest b says) (whole_lines more))) ∙ ap (λ x. counted count_new (needed options x (whole_lines more))) (sym then);
             })
 
         -- or it is wrong
-        pub line_is_left : (told : Fault) (Next : ParsedLines → List RunLine → Type 0) → ((outputs : List ℕ) → recorded ≡ Some outputs → Lacks 10 line → LeavesLine file old new (line_replayed options outputs line) told) → HasReadLines file all front before new (Err told) Next
-        line_is_left told Next leaves = elim (leaves all_outputs has.more_is.outputs lacks) [
+        pub line_is_left : (told : Fault) (Next : ParsedLines → List RunLine → Type 0) → ((outputs : List ℕ) → recorded ≡ Some outputs → LeavesLine file old new (line_replayed options outputs line) told) → HasReadLines file all front before new (Err told) Next
+        line_is_left told Next leaves = elim (leaves all_outputs has.more_is.outputs) [
           | inl h ↦ further new [] has.left refl h.1 (Err told) Next (inl h.0)
           | inr h ↦ (
               let l = h.2 in

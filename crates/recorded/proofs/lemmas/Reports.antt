@@ -1,14 +1,14 @@
 -- What a replay prints is the report of the run with every output in its place (for `RecordedRun::replay`).
-use Rattle.std.proofs.Common.{◌≡◌, ℕ, ◌^◌, ◌-◌, ◌≤◌, List, [], ◌∷◌, reverse, Option, Result, Ok, Err, IfOk, OnOk, refl, sym, ap, ◌∙◌, subst, inl, inr}
+use Rattle.std.proofs.Common.{◌≡◌, ℕ, ◌^◌, ◌-◌, ◌≤◌, List, [], ◌∷◌, map, reverse, Option, Result, Ok, Err, IfOk, OnOk, refl, sym, ap, ◌∙◌, subst, arith, inl, inr}
 use Rattle.std.specs.Io.KnownBytes.{Appends}
 use Rattle.std.specs.List.{AllZip}
 use Rattle.command_line.specs.declared.args.Options.{Options}
 use Rattle.command_line.specs.declared.fault.Fault.{Fault}
 use Rattle.console_reporter.proofs.lemmas.Isolation.{isolated}
 use Rattle.recorded.proofs.lemmas.Skipped.{skipped_call}
-use Rattle.recorded.specs.Runs.{lines_inline, lines_replayed, whole_lines}
+use Rattle.recorded.specs.Outputs.{counted}
+use Rattle.recorded.specs.Runs.{line_replayed, lines_inline, lines_replayed, needed, whole_lines}
 use Rattle.recorded.specs.Source.{IsLeft}
-use Rattle.recorded.proofs.lemmas.Counts.{read_all}
 use Rattle.recorded.proofs.lemmas.Inline.{AreInline, IsInline, go_on}
 use Rattle.reporter_state.specs.Refusals.{first_refused}
 use Rattle.reporter_state.specs.Unread.{unread, unread_call}
@@ -16,7 +16,7 @@ use Rattle.reporter_state.specs.declared.decider.OutputLoadDecider.{OutputLoadDe
 use Rattle.run_model.specs.declared.call.ReportCall.{ReportCall}
 use Rattle.scene_events.specs.Scenes.{IsCallOf}
 use Rattle.scene_events.specs.declared.scene.event.SceneEvent.{SceneEvent}
-use Rattle.scene_text.specs.SceneTexts.{ParsedLines, RunLine, no_lines}
+use Rattle.scene_text.specs.SceneTexts.{ParsedLines, RunLine, lines_before, no_lines}
 use Rattle.scenes.specs.Prints.{PrintsFollowed, device}
 use Rattle.scenes.specs.Outcomes.{run_outcome}
 use Rattle.scenes.specs.ParsedScenes.{OfLines}
@@ -93,6 +93,19 @@ pub prints_on_ok : (options : Options) (all text : List ℕ) (old new : Option (
     IfOk r (λ come_to. OfLines (lines_replayed options all text) (PrintsFollowed device device options old new come_to)) → IfOk r (λ come_to. OfLines (lines_inline all text) (PrintsFollowed device device options old new come_to))
 prints_on_ok options all text old new (Ok come_to) h = replay_prints options all text come_to old new h
 prints_on_ok options all text old new (Err f) h = tt
+
+none_mapped : {A B : Type 0} (f : A → B) (xs : List A) → [] ≡ map f xs → xs ≡ []
+none_mapped f [] h = refl
+none_mapped f (x ∷ xs) h = absurd (cc)
+
+-- where no line is left, as many were read as there are to read
+read_all : (total : ℕ) (options : Options) (recorded remaining : Option (List ℕ)) (bytes_read : ℕ) (before : ParsedLines) → bytes_read ≤ 2 ^ 64 - 1 → IsLeft total options recorded remaining bytes_read before [] → bytes_read ≡ total
+unfolding needed
+read_all total options recorded remaining bytes_read before fits left =
+    let none = none_mapped (line_replayed options left.all) (whole_lines left.text) left.is in
+    let nothing : needed options (lines_before before) (whole_lines left.text) ≡ 0 = ap (needed options (lines_before before)) none in
+    let counts = left.counts ∙ ap (counted bytes_read) nothing in
+    omega (arith, counts, fits)
 
 pub reads_on_ok : (total : ℕ) (options : Options) (recorded remaining : Option (List ℕ)) (bytes_read : ℕ) (lines : List RunLine) → bytes_read ≤ 2 ^ 64 - 1 → (r : Result RunOutcome Fault) →
     OnOk r (OfLines lines (λ run. IsLeft total options recorded remaining bytes_read run [])) → IfOk r (λ come_to. bytes_read ≡ total)

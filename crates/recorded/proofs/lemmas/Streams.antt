@@ -1,5 +1,6 @@
 -- When bytes that were read are the stream that a reference names.
-use Rattle.std.proofs.Common.{◌≡◌, ◌≢◌, ℕ, ◌<◌, ◌≤◌, ◌↔◌, IsTrue, List, length, take, drop, Bool, true, false, nat_le, Option, None, Some, IfSome, Result, Ok, Err, MatchResult, refl, ap, sym, inl, inr, ◌∙◌, arith}
+use Rattle.std.proofs.Common.{◌≡◌, ◌≢◌, ℕ, ◌<◌, ◌≤◌, ◌↔◌, IsTrue, List, length, take, drop, Bool, true, false, nat_le, Option, None, Some, IfSome, Result, Ok, Err, refl, ap, sym, inl, inr, ◌∙◌, arith}
+use Rattle.std.specs.Result.{IsErrAnd}
 use Rattle.std.specs.Str.{bytes_eq}
 use Rattle.std.proofs.lemmas.Bool.{cases_Bool}
 use Rattle.std.proofs.lemmas.Bool.Decides.{nat_tests}
@@ -65,8 +66,8 @@ ends_within all r bytes is =
       | inr past ↦ let none : ◌≡◌ {A = Option (List ℕ)} None (Some bytes) = rw past at is in cc
     ]
 
--- bytes that were loaded stay what was loaded, or memory is refused for their output
-pub loaded_single : (known : Option (List ℕ)) (r : Reference) (bytes : List ℕ) (result : Result (List ℕ) LoadFault) → MatchResult result (λ output. output ≡ bytes) (λ fault. fault ≡ OutOfMemory) → IfSome known (λ all. IsLoaded all r (Ok bytes)) → IfSome known (λ all. IsLoaded all r result)
-loaded_single None r bytes result same loaded = tt
-loaded_single (Some all) r bytes (Ok output) same loaded = rw same loaded
-loaded_single (Some all) r bytes (Err fault) same loaded = rw same (ends_within all r bytes loaded)
+-- bytes that were loaded were all there, also where memory is refused for their output
+pub refused : (known : Option (List ℕ)) (r : Reference) (bytes : List ℕ) (result : Result (List ℕ) LoadFault) → IsErrAnd result (λ fault. fault ≡ OutOfMemory) → IfSome known (λ all. IsLoaded all r (Ok bytes)) → IfSome known (λ all. IsLoaded all r result)
+refused None r bytes result is loaded = tt
+refused (Some all) r bytes (Ok output) is loaded = absurd is
+refused (Some all) r bytes (Err fault) is loaded = rw is (ends_within all r bytes loaded)

@@ -283,7 +283,7 @@ config_kept before [] after begun h = ap (λ x. x.config) (sym h)
 config_kept before (t ∷ ts) after begun h = (let one = one_kept before h.0 t begun h.1 in config_kept h.0 ts after one.1 h.2 ∙ one.0)
 
 -- lines tell further events
-grown : (before : ParsedLines) (ts : List RunLine) (after : ParsedLines) → AllRead before ts after → (more : List SceneEvent) × (after.events ≡ before.events ++ more)
+pub grown : (before : ParsedLines) (ts : List RunLine) (after : ParsedLines) → AllRead before ts after → (more : List SceneEvent) × (after.events ≡ before.events ++ more)
 grown before [] after h = ([], ap (λ x. x.events) (sym h) ∙ sym (append-nil before.events))
 grown before (t ∷ ts) after h =
     let next = grown h.0 ts after h.2 in
