@@ -1,5 +1,5 @@
 -- What a recorded run stores of an output, as the fields of a line say it.
-use Rattle.std.specs.Prelude.{ℕ, ◌+◌, ◌-◌, ◌^◌, min, List, Bool, true, false, ◌||◌, ◌&&◌, codes, bytes_eq, if◌then◌else◌, Option, None, Some}
+use Rattle.std.specs.Prelude.{ℕ, ◌+◌, ◌-◌, ◌^◌, min, List, [], ◌∷◌, Bool, true, false, ◌||◌, ◌&&◌, codes, bytes_eq, if◌then◌else◌, Option, None, Some}
 use Rattle.std.specs.Option.{option_map}
 use Rattle.scene_fields.specs.References.{reference_in}
 use Rattle.scene_fields.specs.declared.stored.PlacedOutput.{PlacedOutput}
@@ -47,3 +47,8 @@ stream_in_field Second (Combined reference) = NotCaptured
 abbrev pub field_of : PlacedOutput → StreamField → ℕ
 field_of output First = output.field
 field_of output Second = min (output.field + 1) (2 ^ 64 - 1)
+
+-- an output at its place, if it is stored
+abbrev pub placed : ℕ → ℕ → Option StoredOutput → List PlacedOutput
+placed place field None = []
+placed place field (Some output) = record { place = place; field = field; output = output } ∷ []
