@@ -1,11 +1,12 @@
 -- A line as it is read, and as it is replayed (for `read_line`, `read_and_load`).
-use Rattle.std.proofs.Common.{◌≡◌, ◌⊎◌, ℕ, ◌+◌, ◌<◌, ◌≤◌, Bool, true, false, List, [], ◌∷◌, ◌++◌, Option, Some, Result, Ok, Err, length, take, get_or, refl, sym, ap, ◌∙◌, subst, arith, append_assoc, append-nil, inl, inr, if◌then◌else◌}
+use Rattle.std.proofs.Common.{◌≡◌, ◌⊎◌, ℕ, ◌+◌, ◌<◌, ◌≤◌, Bool, true, false, List, [], ◌∷◌, ◌++◌, Option, Some, Result, Ok, Err, length, take, get_or, refl, sym, ap, ◌∙◌, subst, arith, ◌==◌, append_assoc, append-nil, inl, inr, if◌then◌else◌}
 use Rattle.std.specs.Prelude.{IfErr, IfSome, OnErr, nat_lt}
 use Rattle.std.specs.Result.{IsErrAnd}
 use Rattle.std.proofs.Math.ListN.{set}
 use Rattle.std.proofs.Math.Seq.{take-append_seam}
 use Rattle.std.proofs.lemmas.Bool.{cases_Bool}
-use Rattle.std.proofs.lemmas.List.{append_cancel_left, length-append, take-set}
+use Rattle.std.proofs.lemmas.Bool.Decides.{nat_tests}
+use Rattle.std.proofs.lemmas.List.{append_cancel_left, length-append, nil_from_length, take-set}
 use Rattle.command_line.specs.Faults.{fault_of_read}
 use Rattle.command_line.specs.Pieces.{IsUnread}
 use Rattle.command_line.specs.declared.args.Options.{Options}
@@ -142,6 +143,11 @@ nothing_made all d e = elim (cases_Bool (skips d e)) [ inl y ↦ rw y refl | inr
 none_needed : (d : OutputLoadDecider) (e : SceneEvent) → needed_of d e [] ≡ 0
 none_needed d e = elim (cases_Bool (skips d e)) [ inl y ↦ rw y refl | inr n ↦ rw n refl ]
 
+pub none_in : (ps : List PlacedOutput) (size : ℕ) (none : Bool) → none ≡ (size == 0) → none ≡ true → size ≡ length ps → ps ≡ []
+none_in ps size none says is same =
+    let zero_size : size ≡ 0 = (let tested = sym says ∙ is in grind (arith, nat_tests, tested)) in
+    nil_from_length ps (sym same ∙ zero_size)
+
 -- the event at the end of those that were read, and another in its place
 event_there : (es : List SceneEvent) (e d : SceneEvent) → get_or (es ++ e ∷ []) (length es) d ≡ e
 event_there [] e d = refl
@@ -250,87 +256,92 @@ module _ (options : Options) (t : List ℕ) (old mid : LinesRead) where
       place = omega (arith, next, reads.place);
     }
 
-    -- nothing is made of it
-    same_reads : (all : List ℕ) → ((e : SceneEvent) → read.0 ≡ EventLine e → makes all (before_next old) stored e ≡ Ok e) → ReadsLines old mid (line_replayed options all t ∷ [])
-    same_reads all same = reads_one mid (line_replayed options all t)
-        (λ base is.
-            value_is (makes all) base is ∙ ap (lines_with (behind base old)) (same_value (makes all (before_next old)) read.0 stored same) ∙ sym (value_is (λ before. as_read) base is) ∙ one_read old mid (unread_line t) reads base is)
-        refl refl refl refl
+    no_event : length mid.run.events.items ≤ length old.run.events.items → (e : SceneEvent) → read.0 ≡ EventLine e → ⊥
+    no_event none e is = elim what_added [
+      | inl h ↦ (let size : length mid.run.events.items ≡ length old.run.events.items + 1 = ap length h.events ∙ length-append old.run.events.items (h.event ∷ []) in omega (arith, none))
+      | inr h ↦ h.none e is
+    ]
 
-    -- so many events were there, and so many are there now
-    module _ (place count : ℕ) (at : place ≡ length old.run.events.items) (counts : count ≡ length mid.run.events.items) where
-      no_event : count ≤ place → (e : SceneEvent) → read.0 ≡ EventLine e → ⊥
-      no_event none e is = elim what_added [
-        | inl h ↦ (let size : length mid.run.events.items ≡ length old.run.events.items + 1 = ap length h.events ∙ length-append old.run.events.items (h.event ∷ []) in omega (arith, at, counts, none))
-        | inr h ↦ h.none e is
+    -- no output is stored, or no event was added
+    module _ (nothing : (stored ≡ []) ⊎ (length mid.run.events.items ≤ length old.run.events.items)) where
+      nothing_more : (all : List ℕ) (e : SceneEvent) → read.0 ≡ EventLine e → makes all (before_next old) stored e ≡ Ok e
+      nothing_more all e is = elim nothing [
+        | inl none ↦ ap (λ s. makes all (before_next old) s e) none ∙ nothing_made all (decider_for options old.run.config) e
+        | inr none ↦ absurd (no_event none e is)
       ]
 
-      -- no output is stored, or no event was added
-      pub nothing_reads : (stored ≡ []) ⊎ (count ≤ place) → (all : List ℕ) → ReadsLines old mid (line_replayed options all t ∷ [])
-      nothing_reads (inl nothing) all = same_reads all (λ e is. ap (λ s. makes all (before_next old) s e) nothing ∙ nothing_made all (decider_for options old.run.config) e)
-      nothing_reads (inr none) all = same_reads all (λ e is. absurd (no_event none e is))
+      none_by : (e : SceneEvent) → read.0 ≡ EventLine e → needed_of (decider_for options old.run.config) e stored ≡ 0
+      none_by e is = elim nothing [
+        | inl none ↦ ap (needed_of (decider_for options old.run.config) e) none ∙ none_needed (decider_for options old.run.config) e
+        | inr none ↦ absurd (no_event none e is)
+      ]
 
-      nothing_by : (stored ≡ []) ⊎ (count ≤ place) → needed_by options (before_next old) stored read.0 ≡ 0
-      nothing_by (inl nothing) = nothing_needed options (before_next old) stored read.0 (λ e is. ap (needed_of (decider_for options old.run.config) e) nothing ∙ none_needed (decider_for options old.run.config) e)
-      nothing_by (inr none) = nothing_needed options (before_next old) stored read.0 (λ e is. absurd (no_event none e is))
+      -- nothing is made of it
+      pub nothing_reads : (all : List ℕ) → ReadsLines old mid (line_replayed options all t ∷ [])
+      nothing_reads all = reads_one mid (line_replayed options all t)
+          (λ base is.
+              value_is (makes all) base is ∙ ap (lines_with (behind base old)) (same_value (makes all (before_next old)) read.0 stored (nothing_more all)) ∙ sym (value_is (λ before. as_read) base is) ∙ one_read old mid (unread_line t) reads base is)
+          refl refl refl refl
 
-      pub nothing_counted : (stored ≡ []) ⊎ (count ≤ place) → (bytes_read : ℕ) → CountsLine options old t bytes_read bytes_read
-      nothing_counted none bytes_read more = ap (λ needs. counted bytes_read (needs + more)) (sym (ap (needed_for options (before_next old)) read.1 ∙ nothing_by none))
+      pub nothing_counted : (bytes_read : ℕ) → CountsLine options old t bytes_read bytes_read
+      nothing_counted bytes_read more =
+          let none : needed_for options (before_next old) (recorded_line (before_next old) t) ≡ 0 = ap (needed_for options (before_next old)) read.1 ∙ nothing_needed options (before_next old) stored read.0 none_by in
+          ap (counted bytes_read) (omega (arith, none))
 
-      -- this event was, and this decides about its outputs
-      module _ (some : place < count) (d : OutputLoadDecider) (decides : d ≡ decider_for options mid.run.config) (event other : SceneEvent) (there : event ≡ get_or mid.run.events.items place other) (given : List PlacedOutput) (given_is : given ≡ stored) where
-        has_event : AddsEvent old mid read.0
-        has_event = elim what_added [
-          | inl h ↦ h
-          | inr h ↦ (let size : length mid.run.events.items ≡ length old.run.events.items = ap length h.events in absurd (omega (arith, at, counts, some)))
-        ]
+    -- this event was, and this decides about its outputs
+    module _ (some : length old.run.events.items < length mid.run.events.items) (place : ℕ) (at : place ≡ length old.run.events.items) (d : OutputLoadDecider) (decides : d ≡ decider_for options mid.run.config) (event other : SceneEvent) (there : event ≡ get_or mid.run.events.items place other) (given : List PlacedOutput) (given_is : given ≡ stored) where
+      has_event : AddsEvent old mid read.0
+      has_event = elim what_added [
+        | inl h ↦ h
+        | inr h ↦ (let size : length mid.run.events.items ≡ length old.run.events.items = ap length h.events in absurd (omega (arith, some)))
+      ]
 
-        is_it : has_event.event ≡ event
-        is_it =
-            sym (there ∙ ap (λ k. get_or mid.run.events.items k other) at ∙ ap (λ es. get_or es (length old.run.events.items) other) has_event.events ∙ event_there old.run.events.items has_event.event other)
+      is_it : has_event.event ≡ event
+      is_it =
+          sym (there ∙ ap (λ k. get_or mid.run.events.items k other) at ∙ ap (λ es. get_or es (length old.run.events.items) other) has_event.events ∙ event_there old.run.events.items has_event.event other)
 
-        says_it : read.0 ≡ EventLine event
-        says_it = has_event.is ∙ ap EventLine is_it
+      says_it : read.0 ≡ EventLine event
+      says_it = has_event.is ∙ ap EventLine is_it
 
-        decides_so : d ≡ decider_for options old.run.config
-        decides_so = decides ∙ ap (decider_for options) has_event.config
+      decides_so : d ≡ decider_for options old.run.config
+      decides_so = decides ∙ ap (decider_for options) has_event.config
 
-        value_by : (all : List ℕ) (r : Result SceneEvent LineFault) → event_replayed all d given event ≡ r → (base : List SceneEvent) → is_begun base ≡ old.is_begun → line_read (behind base old) (line_replayed options all t) ≡ lines_with (behind base old) (event_line r)
-        value_by all r loaded base is =
-            let made : event_replayed all (decider_for options old.run.config) stored event ≡ r = subst (λ x. event_replayed all x stored event ≡ r) decides_so (subst (λ s. event_replayed all d s event ≡ r) given_is loaded) in
-            value_is (makes all) base is ∙ ap (λ x. lines_with (behind base old) (with_made (makes all (before_next old)) (Ok (x, stored)))) says_it ∙ ap (λ x. lines_with (behind base old) (event_line x)) made
+      value_by : (all : List ℕ) (r : Result SceneEvent LineFault) → event_replayed all d given event ≡ r → (base : List SceneEvent) → is_begun base ≡ old.is_begun → line_read (behind base old) (line_replayed options all t) ≡ lines_with (behind base old) (event_line r)
+      value_by all r loaded base is =
+          let made : event_replayed all (decider_for options old.run.config) stored event ≡ r = subst (λ x. event_replayed all x stored event ≡ r) decides_so (subst (λ s. event_replayed all d s event ≡ r) given_is loaded) in
+          value_is (makes all) base is ∙ ap (λ x. lines_with (behind base old) (with_made (makes all (before_next old)) (Ok (x, stored)))) says_it ∙ ap (λ x. lines_with (behind base old) (event_line x)) made
 
-        -- its outputs were not loaded
-        not_loaded : (all file : List ℕ) (f : LineFault) (told : Fault) → told ≡ fault_of_read (fault.Line old.next f) → event_replayed all d given event ≡ Err f → IsLineFault file old (line_replayed options all t) told
-        not_loaded all file f told is loaded = inr (fault.Line old.next f, is, λ base begun. (refl, (line_replayed options all t, [], refl, value_by all (Err f) loaded base begun)))
+      -- its outputs were not loaded
+      not_loaded : (all file : List ℕ) (f : LineFault) (told : Fault) → told ≡ fault_of_read (fault.Line old.next f) → event_replayed all d given event ≡ Err f → IsLineFault file old (line_replayed options all t) told
+      not_loaded all file f told is loaded = inr (fault.Line old.next f, is, λ base begun. (refl, (line_replayed options all t, [], refl, value_by all (Err f) loaded base begun)))
 
-        left_by : (all file : List ℕ) (f : LoadEventFault) (told : Fault) (after : SceneEvent) → IsFaultOfLoad file old.next f told → IsReplayed all d given event (Err f) after → IsLineFault file old (line_replayed options all t) told
-        left_by all file (load.BadField field) told after is loaded = not_loaded all file (wrong.BadField field) told is loaded
-        left_by all file (load.CannotRead kind) told after is loaded = inl is
-        left_by all file load.OutOfMemory told after is loaded = inl (subst (IsUnread file) (sym is) tt)
+      left_by : (all file : List ℕ) (f : LoadEventFault) (told : Fault) (after : SceneEvent) → IsFaultOfLoad file old.next f told → IsReplayed all d given event (Err f) after → IsLineFault file old (line_replayed options all t) told
+      left_by all file (load.BadField field) told after is loaded = not_loaded all file (wrong.BadField field) told is loaded
+      left_by all file (load.CannotRead kind) told after is loaded = inl is
+      left_by all file load.OutOfMemory told after is loaded = inl (subst (IsUnread file) (sym is) tt)
 
-        pub load_left : (recorded : Option (List ℕ)) (file : List ℕ) (f : LoadEventFault) (told : Fault) (after : SceneEvent) → IsFaultOfLoad file old.next f told → IfSome recorded (λ all. IsReplayed all d given event (Err f) after) →
-            (all : List ℕ) → recorded ≡ Some all → IsLineFault file old (line_replayed options all t) told
-        load_left recorded file f told after is loaded all known = left_by all file f told after is (subst (λ r. IfSome r (λ outputs. IsReplayed outputs d given event (Err f) after)) known loaded)
+      pub load_left : (recorded : Option (List ℕ)) (file : List ℕ) (f : LoadEventFault) (told : Fault) (after : SceneEvent) → IsFaultOfLoad file old.next f told → IfSome recorded (λ all. IsReplayed all d given event (Err f) after) →
+          (all : List ℕ) → recorded ≡ Some all → IsLineFault file old (line_replayed options all t) told
+      load_left recorded file f told after is loaded all known = left_by all file f told after is (subst (λ r. IfSome r (λ outputs. IsReplayed outputs d given event (Err f) after)) known loaded)
 
-        pub loaded_counted : (old_count new_count : ℕ) → new_count ≡ counted old_count (needed_of d event given) → CountsLine options old t old_count new_count
-        loaded_counted old_count new_count is more =
-            let needs : needed_for options (before_next old) (recorded_line (before_next old) t) ≡ needed_of d event given =
-            ap (needed_for options (before_next old)) read.1 ∙ ap (needed_by options (before_next old) stored) says_it ∙ ap (λ x. needed_of x event stored) (sym decides_so) ∙ ap (needed_of d event) (sym given_is) in
-            ap (λ n. counted n more) is ∙ counted-twice old_count (needed_of d event given) more ∙ ap (λ n. counted old_count (n + more)) (sym needs)
+      pub loaded_counted : (old_count new_count : ℕ) → new_count ≡ counted old_count (needed_of d event given) → CountsLine options old t old_count new_count
+      loaded_counted old_count new_count is more =
+          let needs : needed_for options (before_next old) (recorded_line (before_next old) t) ≡ needed_of d event given =
+          ap (needed_for options (before_next old)) read.1 ∙ ap (needed_by options (before_next old) stored) says_it ∙ ap (λ x. needed_of x event stored) (sym decides_so) ∙ ap (needed_of d event) (sym given_is) in
+          ap (λ n. counted n more) is ∙ counted-twice old_count (needed_of d event given) more ∙ ap (λ n. counted old_count (n + more)) (sym needs)
 
-        -- they were
-        module _ (made : SceneEvent) (new : LinesRead) (config : new.run.config ≡ mid.run.config) (events : new.run.events.items ≡ set mid.run.events.items place made) (lines : new.run.lines.items ≡ mid.run.lines.items) (begun : new.is_begun ≡ mid.is_begun) (next : new.next ≡ mid.next) where
-          all_made : new.run.events.items ≡ old.run.events.items ++ made ∷ []
-          all_made = events ∙ ap (λ k. set mid.run.events.items k made) at ∙ ap (λ es. set es (length old.run.events.items) made) has_event.events ∙ event_set old.run.events.items has_event.event made
+      -- they were
+      module _ (made : SceneEvent) (new : LinesRead) (config : new.run.config ≡ mid.run.config) (events : new.run.events.items ≡ set mid.run.events.items place made) (lines : new.run.lines.items ≡ mid.run.lines.items) (begun : new.is_begun ≡ mid.is_begun) (next : new.next ≡ mid.next) where
+        all_made : new.run.events.items ≡ old.run.events.items ++ made ∷ []
+        all_made = events ∙ ap (λ k. set mid.run.events.items k made) at ∙ ap (λ es. set es (length old.run.events.items) made) has_event.events ∙ event_set old.run.events.items has_event.event made
 
-          same_run : (base : List SceneEvent) → with_line (behind base old) (EventLine made) ≡ behind base new
-          same_run base = rw (config, has_event.config, all_made) (ap (λ es. record { config = old.run.config; events = es }) (append_assoc base old.run.events.items (made ∷ [])))
+        same_run : (base : List SceneEvent) → with_line (behind base old) (EventLine made) ≡ behind base new
+        same_run base = rw (config, has_event.config, all_made) (ap (λ es. record { config = old.run.config; events = es }) (append_assoc base old.run.events.items (made ∷ [])))
 
-          same_size : length mid.run.events.items ≡ length new.run.events.items
-          same_size = ap length has_event.events ∙ length-append old.run.events.items (has_event.event ∷ []) ∙ sym (ap length all_made ∙ length-append old.run.events.items (made ∷ []))
+        same_size : length mid.run.events.items ≡ length new.run.events.items
+        same_size = ap length has_event.events ∙ length-append old.run.events.items (has_event.event ∷ []) ∙ sym (ap length all_made ∙ length-append old.run.events.items (made ∷ []))
 
-          pub loaded_reads : (recorded : Option (List ℕ)) → IfSome recorded (λ all. event_replayed all d given event ≡ Ok made) → (all : List ℕ) → recorded ≡ Some all → ReadsLines old new (line_replayed options all t ∷ [])
-          loaded_reads recorded loaded all known =
-              let is = subst (λ r. IfSome r (λ outputs. event_replayed outputs d given event ≡ Ok made)) known loaded in
-              reads_one new (line_replayed options all t) (λ base begun. value_by all (Ok made) is base begun ∙ ap Ok (same_run base)) same_size lines begun next
+        pub loaded_reads : (recorded : Option (List ℕ)) → IfSome recorded (λ all. event_replayed all d given event ≡ Ok made) → (all : List ℕ) → recorded ≡ Some all → ReadsLines old new (line_replayed options all t ∷ [])
+        loaded_reads recorded loaded all known =
+            let is = subst (λ r. IfSome r (λ outputs. event_replayed outputs d given event ≡ Ok made)) known loaded in
+            reads_one new (line_replayed options all t) (λ base begun. value_by all (Ok made) is base begun ∙ ap Ok (same_run base)) same_size lines begun next
