@@ -1,4 +1,3 @@
-pub mod Counts
 pub mod Fields
 pub mod Inline
 pub mod LeftLines

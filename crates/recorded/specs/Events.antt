@@ -1,14 +1,12 @@
 -- The event that a replay makes of one whose outputs are stored.
 use Rattle.std.specs.Prelude.{◌≡◌, ℕ, ◌+◌, List, [], ◌∷◌, length, Bool, true, not, nat_le, if◌then◌else◌, Option, None, Some, Result, Ok, Err, ⊤}
 use Rattle.std.specs.Option.{is_some, option_or}
-use Rattle.std.specs.declared.io.ErrorKind.{ErrorKind}
-use Rattle.std.specs.declared.io.ErrorKind.TheVariants as error
 use Rattle.run_model.specs.declared.output.ChildOutputDescription.{ChildOutputDescription}
 use Rattle.run_model.specs.declared.output.ChildOutputDescription.TheVariants as captured
 use Rattle.recorded.specs.Outputs.{bytes_at}
 use Rattle.scene_fields.specs.References.{end_of}
 use Rattle.recorded.specs.declared.outputs.LoadFault.{LoadFault}
-use Rattle.recorded.specs.declared.outputs.LoadFault.TheVariants as load
+use Rattle.recorded.specs.declared.outputs.LoadFault.TheVariants.{CannotRead, PastEnd, WrongSum, OutOfMemory}
 use Rattle.scene_fields.specs.Stored.{field_of, stream_in_field}
 use Rattle.recorded.specs.Captured.{captured_stream_at}
 use Rattle.scene_fields.specs.declared.stored.PlacedOutput.{PlacedOutput}
@@ -25,7 +23,6 @@ use Rattle.scene_fields.specs.declared.fault.LineFault.{LineFault}
 use Rattle.scene_fields.specs.declared.fault.LineFault.TheVariants.{BadField}
 use Rattle.recorded.specs.Skips.{skips}
 use Rattle.recorded.specs.declared.events.LoadEventFault.{LoadEventFault}
-use Rattle.recorded.specs.declared.events.LoadEventFault.TheVariants as fault
 
 -- the bytes of a stream at its place among all outputs, whatever their sum
 abbrev pub stream_inline : List ℕ → StoredStream → Option (List ℕ)
@@ -66,12 +63,17 @@ abbrev pub first_field_not : (StoredStream → Bool) → List PlacedOutput → O
 first_field_not so [] = None
 first_field_not so (p ∷ ps) = option_or (field_not so p) (first_field_not so ps)
 
--- what was accepted has no bad field, and what was refused for one has this first. Other faults say nothing of fields
+-- a fault of damage says this of its field; other faults say nothing of fields
+abbrev pub IfDamaged : LoadFault → Type 0 → Type 0
+IfDamaged PastEnd P = P
+IfDamaged WrongSum P = P
+IfDamaged (CannotRead kind) P = ⊤
+IfDamaged OutOfMemory P = ⊤
+
+-- what was accepted has no bad field, and what was refused for one has this first
 abbrev pub IsFirstBad : Option ℕ → Result ⊤ LoadEventFault → Type 0
 IsFirstBad field (Ok x) = field ≡ None
-IsFirstBad field (Err (fault.BadField n)) = field ≡ Some n
-IsFirstBad field (Err (fault.CannotRead kind)) = ⊤
-IsFirstBad field (Err fault.OutOfMemory) = ⊤
+IsFirstBad field (Err f) = IfDamaged f.fault (field ≡ Some f.field)
 
 -- an event, unless a field of its line is bad
 abbrev pub unless_bad : Option ℕ → Result SceneEvent LineFault → Result SceneEvent LineFault
@@ -88,20 +90,7 @@ event_replayed all d stored event =
 -- that was made, or is the fault, unless the outputs cannot be read or memory was refused
 abbrev pub IsReplayed : List ℕ → OutputLoadDecider → List PlacedOutput → SceneEvent → Result ⊤ LoadEventFault → SceneEvent → Type 0
 IsReplayed all d stored old (Ok x) new = event_replayed all d stored old ≡ Ok new
-IsReplayed all d stored old (Err (fault.BadField field)) new = event_replayed all d stored old ≡ Err (BadField field)
-IsReplayed all d stored old (Err (fault.CannotRead kind)) new = ⊤
-IsReplayed all d stored old (Err fault.OutOfMemory) new = ⊤
-
--- what an error of this kind means, and what the fault of a stream in this field means
-abbrev pub fault_of_kind : ErrorKind → LoadEventFault
-fault_of_kind error.OutOfMemory = fault.OutOfMemory
-fault_of_kind kind = fault.CannotRead kind
-
-abbrev pub fault_of_stream : ℕ → LoadFault → LoadEventFault
-fault_of_stream field (load.CannotRead kind) = fault_of_kind kind
-fault_of_stream field load.PastEnd = fault.BadField field
-fault_of_stream field load.WrongSum = fault.BadField field
-fault_of_stream field load.OutOfMemory = fault.OutOfMemory
+IsReplayed all d stored old (Err f) new = IfDamaged f.fault (event_replayed all d stored old ≡ Err (BadField f.field))
 
 -- how many bytes a stream and an output have, and all outputs together
 abbrev pub stream_len : StoredStream → ℕ

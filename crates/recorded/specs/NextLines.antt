@@ -5,8 +5,8 @@ use Rattle.command_line.specs.Pieces.{IsUnread}
 use Rattle.command_line.specs.declared.args.Options.{Options}
 use Rattle.command_line.specs.declared.fault.Fault.{Fault}
 use Rattle.command_line.specs.declared.fault.Fault.TheVariants as program
-use Rattle.recorded.specs.declared.events.LoadEventFault.{LoadEventFault}
-use Rattle.recorded.specs.declared.events.LoadEventFault.TheVariants as load
+use Rattle.recorded.specs.declared.outputs.LoadFault.{LoadFault}
+use Rattle.recorded.specs.declared.outputs.LoadFault.TheVariants as load
 use Rattle.recorded.specs.Outputs.{counted}
 use Rattle.recorded.specs.Runs.{needed_for, whole_lines}
 use Rattle.recorded.specs.declared.lines.Taken.{Taken}
@@ -49,8 +49,9 @@ pub record KeepsRead (old new : LinesRead) : Type 0 where
 abbrev pub CountsLine : Options → LinesRead → List ℕ → ℕ → ℕ → Type 0
 CountsLine options read line old new = (more : ℕ) → counted new more ≡ counted old (needed_for options (before_next read) (recorded_line (before_next read) line) + more)
 
--- the fault of the line of this number whose outputs were not loaded
-abbrev pub IsFaultOfLoad : List ℕ → ℕ → LoadEventFault → Fault → Type 0
-IsFaultOfLoad file n (load.BadField field) fault = fault ≡ program.Line n (line.BadField field)
-IsFaultOfLoad file n (load.CannotRead kind) fault = IsUnread file fault
-IsFaultOfLoad file n load.OutOfMemory fault = fault ≡ program.OutOfMemory
+-- the fault of the line of this number whose output in this field was not loaded
+abbrev pub IsFaultOfLoad : List ℕ → ℕ → ℕ → LoadFault → Fault → Type 0
+IsFaultOfLoad file n field load.PastEnd fault = fault ≡ program.Line n (line.BadField field)
+IsFaultOfLoad file n field load.WrongSum fault = fault ≡ program.Line n (line.BadField field)
+IsFaultOfLoad file n field (load.CannotRead kind) fault = IsUnread file fault
+IsFaultOfLoad file n field load.OutOfMemory fault = fault ≡ program.OutOfMemory

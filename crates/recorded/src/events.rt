@@ -2,7 +2,7 @@
 
 ghost use Rattle.std.specs.Prelude.{◌≡◌, ◌≤◌, ◌-◌, ◌^◌, IfOk, IfSome, OnOk};
 ghost use Rattle.recorded.specs.Outputs.{counted};
-ghost use Rattle.recorded.specs.Events.{IsFirstBad, IsReplayed, event_inline, fault_of_kind, fault_of_stream, field_not, first_field_not, is_there, is_undamaged, needed_of, output_inline, output_len, outputs_len, stream_field_not};
+ghost use Rattle.recorded.specs.Events.{IsFirstBad, IsReplayed, event_inline, field_not, first_field_not, is_there, is_undamaged, needed_of, output_inline, output_len, outputs_len, stream_field_not};
 ghost use Rattle.recorded.specs.Skips.{skips};
 ghost use Rattle.scene_events.specs.Loads.{event_with};
 
@@ -15,63 +15,14 @@ use scene_events::scene::event::SceneEvent;
 use scene_fields::stored::{PlacedOutput, StoredStream, StreamField};
 use std::alloc::Global;
 use std::io;
-use std::io::ErrorKind;
 
 /// Why the outputs of an event were not loaded.
 #[derive(Clone, Copy)]
-pub enum LoadEventFault {
-    /// This field of its line, from 1 for the event's name, names bytes that are not there, or others than were recorded.
-    BadField(usize),
-    /// The outputs could not be read, with what the system says of it.
-    CannotRead(ErrorKind),
-    /// A growth of memory was refused.
-    OutOfMemory,
-}
-
-impl From<OutOfMemory> for LoadEventFault {
-    ghost use Rattle.std.specs.Prelude.{◌≡◌};
-    ghost use Rattle.recorded.specs.declared.events.LoadEventFault.{LoadEventFault};
-
-    ghost from_gives = { λ _ fault. fault ≡ LoadEventFault.OutOfMemory };
-
-    fn from(_refused: OutOfMemory) -> LoadEventFault {
-        LoadEventFault::OutOfMemory
-    }
-}
-
-impl From<io::Error> for LoadEventFault {
-    ghost use Rattle.std.specs.Prelude.{◌≡◌};
-    ghost use Rattle.std.specs.IoError.{error_kind};
-    ghost use Rattle.recorded.specs.Events.{fault_of_kind};
-
-    ghost from_gives = { λ error fault. fault ≡ fault_of_kind (error_kind error) };
-
-    fn from(error: io::Error) -> LoadEventFault {
-        LoadEventFault::of_kind(error.kind())
-    }
-}
-
-impl LoadEventFault {
-    // What an error of this kind means: it can say that memory was refused.
-    fn of_kind(kind: ErrorKind) -> LoadEventFault
-        ensures { result ≡ fault_of_kind kind }
-    {
-        match kind {
-            ErrorKind::OutOfMemory => LoadEventFault::OutOfMemory,
-            _ => LoadEventFault::CannotRead(kind),
-        }
-    }
-
-    // What the fault of a stream means, which stands in this field of its line.
-    fn of_stream(field: usize, fault: LoadFault) -> LoadEventFault
-        ensures { result ≡ fault_of_stream field fault }
-    {
-        match fault {
-            LoadFault::CannotRead(kind) => LoadEventFault::of_kind(kind),
-            LoadFault::PastEnd | LoadFault::WrongSum => LoadEventFault::BadField(field),
-            LoadFault::OutOfMemory => LoadEventFault::OutOfMemory,
-        }
-    }
+pub struct LoadEventFault {
+    /// The field of a stream in the event's line, from 1 for its name.
+    pub field: usize,
+    /// Why that stream was not loaded, or its output not put into the event.
+    pub fault: LoadFault,
 }
 
 /// Puts the stored outputs of an event into it, if its report shows them: the decider says so by how its unit ended and by the settings, and
@@ -173,11 +124,13 @@ fn check_stream_there<O: ReadAt + Drop>(
     ensures kept { O.recorded outputs.new.source ≡ O.recorded outputs.old.source }
     ensures count { O.count outputs.new.source ≡ O.count outputs.old.source }
 {
-    if is_there(placed.output.stream(stream), outputs)? {
-        Ok(())
-    } else {
-        Err(LoadEventFault::BadField(placed.field_of(stream)))
-    }
+    let fault = match is_there(placed.output.stream(stream), outputs) {
+        Ok(true) => return Ok(()),
+        Ok(false) => LoadFault::PastEnd,
+        Err(error) => LoadFault::from(error),
+    };
+    let field = placed.field_of(stream);
+    Err(LoadEventFault { field, fault })
 }
 
 // Whether all bytes of a stream are there.
@@ -230,9 +183,16 @@ fn load_placed<O: ReadAt + Drop>(
     ensures most { O.count outputs.new.source ≤ counted (O.count outputs.old.source) (output_len placed.now.output) }
 {
     match outputs.load_output(alloc, &placed.output) {
-        Ok(captured) => Ok(event.load(alloc, placed.place, captured)?),
-        Err(StreamFault { stream, fault }) => {
-            Err(LoadEventFault::of_stream(placed.field_of(stream), fault))
-        }
+        Ok(captured) => match event.load(alloc, placed.place, captured) {
+            Ok(()) => Ok(()),
+            Err(OutOfMemory) => Err(LoadEventFault {
+                field: placed.field,
+                fault: LoadFault::OutOfMemory,
+            }),
+        },
+        Err(StreamFault { stream, fault }) => Err(LoadEventFault {
+            field: placed.field_of(stream),
+            fault,
+        }),
     }
 }

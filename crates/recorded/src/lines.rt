@@ -9,7 +9,7 @@ ghost use Rattle.recorded.specs.Runs.{line_replayed};
 ghost use Rattle.scene_text.specs.SceneTexts.{ReadsLines};
 
 use super::events::{LoadEventFault, load_outputs};
-use super::outputs::RecordedOutputs;
+use super::outputs::{LoadFault, RecordedOutputs};
 use super::read_at::ReadAt;
 use memchr::memchr;
 use run_model::memory::OutOfMemory;
@@ -146,16 +146,16 @@ fn read_and_load<'a, O: ReadAt + Drop>(
     }
 }
 
-// The fault of the line of this number, where the outputs of its event were not loaded.
+// The fault of the line of this number, where an output of its event was not loaded.
 fn fault_of_load<'a>(file: &'a str, line: u64, fault: LoadEventFault) -> Fault<'a>
-    ensures { IsFaultOfLoad file.now line fault result }
+    ensures { IsFaultOfLoad file.now line fault.field fault.fault result }
 {
-    match fault {
-        LoadEventFault::BadField(field) => Fault::Line {
+    match fault.fault {
+        LoadFault::PastEnd | LoadFault::WrongSum => Fault::Line {
             line,
-            fault: LineFault::BadField(field),
+            fault: LineFault::BadField(fault.field),
         },
-        LoadEventFault::CannotRead(kind) => Fault::CannotRead { file }.by_kind(kind),
-        LoadEventFault::OutOfMemory => Fault::OutOfMemory,
+        LoadFault::CannotRead(kind) => Fault::CannotRead { file }.by_kind(kind),
+        LoadFault::OutOfMemory => Fault::OutOfMemory,
     }
 }

@@ -11,14 +11,14 @@ use Rattle.command_line.specs.Faults.{fault_of_read}
 use Rattle.command_line.specs.Pieces.{IsUnread}
 use Rattle.command_line.specs.declared.args.Options.{Options}
 use Rattle.command_line.specs.declared.fault.Fault.{Fault}
-use Rattle.recorded.proofs.lemmas.Counts.{counted-twice}
-use Rattle.recorded.specs.Events.{IsReplayed, event_replayed, needed_of}
+use Rattle.recorded.specs.Events.{IfDamaged, IsReplayed, event_replayed, needed_of}
 use Rattle.recorded.specs.NextLines.{CountsLine, IsFaultOfLoad, IsLineFault, KeepsRead, LeavesLine}
 use Rattle.recorded.specs.Outputs.{counted}
 use Rattle.recorded.specs.Runs.{line_replayed, needed_by, needed_for}
 use Rattle.recorded.specs.Skips.{skips}
 use Rattle.recorded.specs.declared.events.LoadEventFault.{LoadEventFault}
-use Rattle.recorded.specs.declared.events.LoadEventFault.TheVariants as load
+use Rattle.recorded.specs.declared.outputs.LoadFault.{LoadFault}
+use Rattle.recorded.specs.declared.outputs.LoadFault.TheVariants as load
 use Rattle.reporter_state.specs.declared.decider.OutputLoadDecider.{OutputLoadDecider}
 use Rattle.scene_events.specs.declared.scene.event.SceneEvent.{SceneEvent}
 use Rattle.scene_events.specs.declared.scene.event.SceneEvent.TheVariants as scene
@@ -142,6 +142,10 @@ nothing_made all d e = elim (cases_Bool (skips d e)) [ inl y ↦ rw y refl | inr
 
 none_needed : (d : OutputLoadDecider) (e : SceneEvent) → needed_of d e [] ≡ 0
 none_needed d e = elim (cases_Bool (skips d e)) [ inl y ↦ rw y refl | inr n ↦ rw n refl ]
+
+-- two counts in turn are one of the sum
+counted-twice : (count a b : ℕ) → counted (counted count a) b ≡ counted count (a + b)
+counted-twice count a b = omega arith
 
 pub none_in : (ps : List PlacedOutput) (size : ℕ) (none : Bool) → none ≡ (size == 0) → none ≡ true → size ≡ length ps → ps ≡ []
 none_in ps size none says is same =
@@ -315,14 +319,15 @@ module _ (options : Options) (t : List ℕ) (old mid : LinesRead) where
       not_loaded : (all file : List ℕ) (f : LineFault) (told : Fault) → told ≡ fault_of_read (fault.Line old.next f) → event_replayed all d given event ≡ Err f → IsLineFault file old (line_replayed options all t) told
       not_loaded all file f told is loaded = inr (fault.Line old.next f, is, λ base begun. (refl, (line_replayed options all t, [], refl, value_by all (Err f) loaded base begun)))
 
-      left_by : (all file : List ℕ) (f : LoadEventFault) (told : Fault) (after : SceneEvent) → IsFaultOfLoad file old.next f told → IsReplayed all d given event (Err f) after → IsLineFault file old (line_replayed options all t) told
-      left_by all file (load.BadField field) told after is loaded = not_loaded all file (wrong.BadField field) told is loaded
-      left_by all file (load.CannotRead kind) told after is loaded = inl is
-      left_by all file load.OutOfMemory told after is loaded = inl (subst (IsUnread file) (sym is) tt)
+      left_by : (all file : List ℕ) (field : ℕ) (f : LoadFault) (told : Fault) → IsFaultOfLoad file old.next field f told → IfDamaged f (event_replayed all d given event ≡ Err (wrong.BadField field)) → IsLineFault file old (line_replayed options all t) told
+      left_by all file field load.PastEnd told is loaded = not_loaded all file (wrong.BadField field) told is loaded
+      left_by all file field load.WrongSum told is loaded = not_loaded all file (wrong.BadField field) told is loaded
+      left_by all file field (load.CannotRead kind) told is loaded = inl is
+      left_by all file field load.OutOfMemory told is loaded = inl (subst (IsUnread file) (sym is) tt)
 
-      pub load_left : (recorded : Option (List ℕ)) (file : List ℕ) (f : LoadEventFault) (told : Fault) (after : SceneEvent) → IsFaultOfLoad file old.next f told → IfSome recorded (λ all. IsReplayed all d given event (Err f) after) →
+      pub load_left : (recorded : Option (List ℕ)) (file : List ℕ) (f : LoadEventFault) (told : Fault) (after : SceneEvent) → IsFaultOfLoad file old.next f.field f.fault told → IfSome recorded (λ all. IsReplayed all d given event (Err f) after) →
           (all : List ℕ) → recorded ≡ Some all → IsLineFault file old (line_replayed options all t) told
-      load_left recorded file f told after is loaded all known = left_by all file f told after is (subst (λ r. IfSome r (λ outputs. IsReplayed outputs d given event (Err f) after)) known loaded)
+      load_left recorded file f told after is loaded all known = left_by all file f.field f.fault told is (subst (λ r. IfSome r (λ outputs. IsReplayed outputs d given event (Err f) after)) known loaded)
 
       pub loaded_counted : (old_count new_count : ℕ) → new_count ≡ counted old_count (needed_of d event given) → CountsLine options old t old_count new_count
       loaded_counted old_count new_count is more =

@@ -62,9 +62,9 @@ module _ (d : OutputLoadDecider) (e : SetupFinish) (sum : List ℕ) where
   unfolding event_replayed
   row_skipped passed = rw passed refl
 
-  row_past : event_replayed (codes "ab") d second (scene.SetupScriptFinished e) ≡ Err (BadField 11)
+  row_not_there : event_replayed (codes "ab") d second (scene.SetupScriptFinished e) ≡ Err (BadField 11)
   unfolding event_replayed
-  row_past = refl
+  row_not_there = refl
 
   -- that of one that failed is put into it, if it is what was recorded
   row_loaded : is_success e.attempt.result ≡ false → stream_at all here ≡ Some (codes "bc") →
