@@ -2,6 +2,9 @@ use Rattle.std.proofs.Common.{[], refl}
 use Rattle.scene_text.proofs.lemmas.Tellings.{leaves_here, leaves_refused, reads_more, reads_none}
 use Rattle.scene_text.proofs.reader.LinesRead.read_recorded.Goals as goal
 
+pub returns-then-number-clause-left : goal.returns-then-number-clause-left
+returns-then-number-clause-left c = leaves_refused _ _
+
 pub returns-in-Ok-clause-read : goal.returns-in-Ok-clause-read
 returns-in-Ok-clause-read c =
     let h = c.in-Ok.ensures.read in
