@@ -78,7 +78,7 @@ impl NotedOutputs {
 
     // Those that are stored.
     fn into_stored(self) -> Vec<PlacedOutput>
-        ensures { result.items ≡ self.entry.stored }
+        ensures { result.items ≡ self.stored }
     {
         self.stored
     }

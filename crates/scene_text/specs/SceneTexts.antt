@@ -146,8 +146,8 @@ abbrev pub lines_after : List SceneEvent → ParsedLines → ParsedLines
 lines_after base before = record { config = before.config; events = base ++ before.events }
 
 abbrev pub lines_read_after : (ParsedLines → Result ParsedLines (ℕ × LineFault)) → ℕ → Result ParsedLines LineFault → Result ParsedLines (ℕ × LineFault)
-lines_read_after next n (Ok after) = next after
-lines_read_after next n (Err f) = Err (n, f)
+lines_read_after others n (Ok after) = others after
+lines_read_after others n (Err f) = Err (n, f)
 
 -- the lines with these behind them, of which the first has this number; or the number and the fault of the first that has one
 unfoldable pub lines_read : ℕ → ParsedLines → List RunLine → Result ParsedLines (ℕ × LineFault)
@@ -163,8 +163,8 @@ abbrev pub line_here : ℕ → ParsedLines → ParsedLines → List ℕ
 line_here n before after = if nat_lt (length before.events) (length after.events) then n ∷ [] else []
 
 abbrev pub lines_from : ℕ → ParsedLines → (ParsedLines → List ℕ) → Result ParsedLines LineFault → List ℕ
-lines_from n before next (Ok after) = line_here n before after ++ next after
-lines_from n before next (Err f) = []
+lines_from n before others (Ok after) = line_here n before after ++ others after
+lines_from n before others (Err f) = []
 
 -- the numbers of the lines that are events; the first line has this number
 unfoldable pub event_lines : ℕ → ParsedLines → List RunLine → List ℕ

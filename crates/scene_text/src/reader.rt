@@ -228,7 +228,9 @@ impl LinesRead {
         let Ok(line) = str::from_utf8(line) else {
             return Err(LineError::Fault(LineFault::NotUtf8));
         };
-        let mut texts = Vec::with_capacity(alloc, FIELDS)?;
+        let Ok(mut texts) = Vec::with_capacity(alloc, FIELDS) else {
+            return Err(LineError::OutOfMemory);
+        };
         split_fields(line, &mut texts)?;
         let mut fields = Fields::recorded(alloc, texts.as_slice());
         self.read_fields(alloc, &mut fields)?;

@@ -30,14 +30,19 @@ three_taken n (form ∷ first ∷ []) (Some x) now s new h number behind same = 
 three_taken n (form ∷ first ∷ second ∷ left) (Some x) now s new h number behind same = ap (λ (p : Place). after_streams streams.NotLoaded p) (place_by new (n + 1 + 1 + 1) left now (omega (arith, number)) behind same)
 
 -- a stored output was noted, and its form and its streams were passed
-pub stored_taken : (old mid new : Place) (s : StoredOutput) → next_stored old ≡ Some s → mid ≡ noting (Some s) old → new.number ≡ mid.number + 3 → new.left ≡ drop 3 mid.left → new.noted ≡ mid.noted →
-    output_fields old ≡ after_streams streams.NotLoaded new
+pub stored_taken : (old mid new : Place) (stored : Option StoredOutput) (s : StoredOutput) → stored ≡ next_stored old → stored ≡ Some s → mid ≡ noting stored old →
+    new.number ≡ mid.number + 3 → new.left ≡ drop 3 mid.left → new.noted ≡ mid.noted → output_fields old ≡ after_streams streams.NotLoaded new
 unfolding output_fields
-stored_taken old mid new s is noted number left same =
-    rw is
-    (three_taken old.number old.left old.noted _ s new is (omega (arith, number, ap (λ (p : Place). p.number) noted)) (sym (left ∙ ap (λ (p : Place). drop 3 p.left) noted)) (sym (same ∙ ap (λ (p : Place). p.noted) noted)))
+stored_taken old mid new stored s asked is noted number left same =
+    let here : next_stored old ≡ Some s = sym asked ∙ is in
+    let behind : mid ≡ noting (Some s) old = noted ∙ ap (λ o. noting o old) is in
+    rw here
+    (three_taken old.number old.left old.noted _ s new here (omega (arith, number, ap (λ (p : Place). p.number) behind)) (sym (left ∙ ap (λ (p : Place). drop 3 p.left) behind)) (sym (same ∙ ap (λ (p : Place). p.noted) behind)))
 
 -- an output that is not stored was noted
-pub spelled_next : (old new : Place) → next_stored old ≡ None → new ≡ noting None old → output_fields old ≡ spelled_output_fields new
+pub spelled_next : (old new : Place) (stored : Option StoredOutput) → stored ≡ next_stored old → stored ≡ None → new ≡ noting stored old → output_fields old ≡ spelled_output_fields new
 unfolding output_fields
-spelled_next old new is noted = rw (is, noted) refl
+spelled_next old new stored asked is noted =
+    let here : next_stored old ≡ None = sym asked ∙ is in
+    let now : new ≡ noting None old = noted ∙ ap (λ o. noting o old) is in
+    rw (here, now) refl

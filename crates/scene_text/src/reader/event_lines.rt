@@ -378,11 +378,13 @@ fn take_stored_output(fields: &mut Fields<'_>) -> Result<bool, OutOfMemory>
 {
     let stored = fields.next_stored();
     fields.note(stored)?;
-    if stored.is_none() {
-        return Ok(false);
+    match stored {
+        Some(_) => {
+            fields.pass(3);
+            Ok(true)
+        }
+        None => Ok(false),
     }
-    fields.pass(3);
-    Ok(true)
 }
 
 // Reads an output as its fields spell it.

@@ -24,4 +24,4 @@ silence_by old mid new front rest whole silent noted number left same =
     (ap (λ (p : Place). Ok (no_output, p)) (place_by new _ _ _ n (sym behind) (sym (same ∙ ap (λ (p : Place). p.noted) noted))))
 
 pub returns : goal.returns
-returns c = silence_by _ _ _ _ _ c.borrowed.ensures (c.is_empty_output.ensures c.if-not-is_empty_output.false) c.note.ensures c.pass.ensures.number c.pass.ensures.left c.pass.ensures.noted
+returns c = silence_by _ _ _ _ _ c.borrowed.ensures (c.is_empty_output.ensures c.if-not-is_empty_output.false) c.in_ok-note.ensures c.pass.ensures.number c.pass.ensures.left c.pass.ensures.noted
