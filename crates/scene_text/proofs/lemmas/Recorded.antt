@@ -1,5 +1,5 @@
 -- The stored outputs of a recorded line that was read (for `read_recorded_line`).
-use Rattle.std.proofs.Common.{◌≡◌, List, Result, Ok, Err, IfOk, refl, ap, sym, ◌∙◌}
+use Rattle.std.proofs.Common.{◌≡◌, List, Result, Ok, Err, IfOk, ap, sym, ◌∙◌}
 use Rattle.std.specs.Result.{result_map_both}
 use Rattle.scene_fields.specs.Fields.{Place, stored_of}
 use Rattle.scene_fields.specs.declared.fault.LineFault.{LineFault}
