@@ -192,21 +192,27 @@ impl<O: ReadAt + Drop> RecordedOutputs<O> {
     {
         match stored {
             StoredOutput::Split { stdout, stderr } => {
-                let stdout = self.load_stream(alloc, stdout).map_err(|fault| StreamFault {
-                    stream: StreamField::First,
-                    fault,
-                })?;
-                let stderr = self.load_stream(alloc, stderr).map_err(|fault| StreamFault {
-                    stream: StreamField::Second,
-                    fault,
-                })?;
+                let stdout = self
+                    .load_stream(alloc, stdout)
+                    .map_err(|fault| StreamFault {
+                        stream: StreamField::First,
+                        fault,
+                    })?;
+                let stderr = self
+                    .load_stream(alloc, stderr)
+                    .map_err(|fault| StreamFault {
+                        stream: StreamField::Second,
+                        fault,
+                    })?;
                 Ok(ChildOutputDescription::Split { stdout, stderr })
             }
             StoredOutput::Combined { output } => {
-                let output = self.load_single(alloc, output).map_err(|fault| StreamFault {
-                    stream: StreamField::First,
-                    fault,
-                })?;
+                let output = self
+                    .load_single(alloc, output)
+                    .map_err(|fault| StreamFault {
+                        stream: StreamField::First,
+                        fault,
+                    })?;
                 Ok(ChildOutputDescription::Combined { output })
             }
         }

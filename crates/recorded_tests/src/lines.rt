@@ -99,7 +99,11 @@ fn reads_other_lines_as_those_of_a_scene(rt: HostRuntime) -> Result<(), Fail> {
         let outputs = recorded.read_recorded(alloc, line).map(|it| it.len());
         let same = plain.read_more(alloc, line).map(|()| 0);
         assert_eq!(rt; outputs, same, "of {short}");
-        assert_eq!(rt; recorded.run.events.len(), plain.run.events.len(), "of {short}");
+        assert_eq!(rt;
+            recorded.run.events.len(),
+            plain.run.events.len(),
+            "of {short}"
+        );
     }
     Ok(())
 }

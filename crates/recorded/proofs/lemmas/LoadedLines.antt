@@ -284,7 +284,7 @@ module _ (options : Options) (t : List ℕ) (old mid : LinesRead) where
       pub nothing_reads : (all : List ℕ) → ReadsLines old mid (line_replayed options all t ∷ [])
       nothing_reads all = reads_one mid (line_replayed options all t)
           (λ base is.
-              value_is (makes all) base is ∙ ap (lines_with (behind base old)) (same_value (makes all (before_next old)) read.0 stored (nothing_more all)) ∙ sym (value_is (λ before. as_read) base is) ∙ one_read old mid (unread_line t) reads base is)
+          value_is (makes all) base is ∙ ap (lines_with (behind base old)) (same_value (makes all (before_next old)) read.0 stored (nothing_more all)) ∙ sym (value_is (λ before. as_read) base is) ∙ one_read old mid (unread_line t) reads base is)
           refl refl refl refl
 
       pub nothing_counted : (bytes_read : ℕ) → CountsLine options old t bytes_read bytes_read
