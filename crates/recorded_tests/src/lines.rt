@@ -1,10 +1,9 @@
-//! Lines of a recorded run, what is left of them, and their outputs.
+//! Lines of a recorded run, the outputs that are stored of them, and their loading.
 
-use recorded_lines::line::{PlacedOutput, RecordedLine};
-use recorded_lines::stored::{StoredOutput, StreamFault, StreamField};
-use recorded_outputs::outputs::{LoadFault, RecordedOutputs};
-use recorded_outputs::read_at::Metered;
+use recorded::{LoadFault, Metered, RecordedOutputs, StreamFault};
 use run_model::output::{ChildOutputDescription, ChildSingleOutput};
+use scene_fields::stored::{PlacedOutput, StoredOutput, StreamField};
+use scene_text::reader::LinesRead;
 use std::process::Abort;
 use std::test::Fail;
 
@@ -16,54 +15,41 @@ const PASSED: &str = "\\@0:7:62cd0a585dc2fe91";
 
 const FAILED: &str = "\\@7:7:ee2a98c236301c76";
 
-// Lines, what is left of them, and the place and the first stream's field of each stored output.
-const STORED: [(&str, &str, &[(usize, usize)]); 8] = [
+// Lines, and the place and the first stream's field of each stored output.
+const STORED: [(&str, &[(usize, usize)]); 7] = [
     (
         "done\t-\ta\tt\tnever\tfinal\tpass\t-\t1\tfail:1\t5\t0\tsplit\tPASSED\tFAILED\t-\t-",
-        "done\t-\ta\tt\tnever\tfinal\tpass\t-\t1\tfail:1\t5\t0\tunloaded\t-\t-\t-\t-",
         &[(0, 14)],
     ),
     (
         "done\t-\ta\tt\tnever\tfinal\tpass\t-\t3\tfail:1\t5\t0\tsplit\t\tFAILED\tx\t-\tfail:1\t6\t1\tsplit\t\t\t-\t-\tpass\t7\t0\tcomb\tPASSED\t-\t-\tcomb:0:p",
-        "done\t-\ta\tt\tnever\tfinal\tpass\t-\t3\tfail:1\t5\t0\tunloaded\t-\t-\tx\t-\tfail:1\t6\t1\tsplit\t\t\t-\t-\tpass\t7\t0\tunloaded\t-\t-\t-\tcomb:0:p",
         &[(0, 14), (2, 30)],
     ),
     (
         "retry\t-\ta\tt\t1\t2\t5\tfinal\tfail:1\t5\t0\tsplit\tPASSED\t-\t-\t-",
-        "retry\t-\ta\tt\t1\t2\t5\tfinal\tfail:1\t5\t0\tunloaded\t-\t-\t-\t-",
         &[(0, 13)],
     ),
     (
         "setupdone\t-\tdb\tinit\t\tpass\t5\t0\tcomb\tPASSED\t-\t-\t-",
-        "setupdone\t-\tdb\tinit\t\tpass\t5\t0\tunloaded\t-\t-\t-\t-",
         &[(0, 10)],
     ),
     (
         "answer-test\t0\t2\t-\ta\tt\t1\t1\trunning:4:5:-\t-\tsplit\t-\tFAILED\t-\t-",
-        "answer-test\t0\t2\t-\ta\tt\t1\t1\trunning:4:5:-\t-\tunloaded\t-\t-\t-\t-",
         &[(0, 12)],
     ),
     (
         "answer-script\t0\t2\t-\tdb\tinit\t\trunning:4:5:-\t-\tsplit\tFAILED\t\t-\t-",
-        "answer-script\t0\t2\t-\tdb\tinit\t\trunning:4:5:-\t-\tunloaded\t-\t-\t-\t-",
         &[(0, 11)],
     ),
     // A text may have escapes of its own.
     (
         "retry\t-\ta\t\\x2d\t1\t2\t5\tfinal\tfail:1\t5\t0\tsplit\tPASSED\t\tc\\td\t-",
-        "retry\t-\ta\t\\x2d\t1\t2\t5\tfinal\tfail:1\t5\t0\tunloaded\t-\t-\tc\\td\t-",
-        &[(0, 13)],
-    ),
-    // The number of fields is not looked at: the reader of scenes does that.
-    (
-        "retry\t-\ta\tt\t1\t2\t5\tfinal\tfail:1\t5\t0\tsplit\tPASSED\t-\t-\t-\tx",
-        "retry\t-\ta\tt\t1\t2\t5\tfinal\tfail:1\t5\t0\tunloaded\t-\t-\t-\t-\tx",
         &[(0, 13)],
     ),
 ];
 
-// Lines that stay as they are.
-const KEPT: [&str; 12] = [
+// Lines that store nothing, or are wrong.
+const KEPT: [&str; 13] = [
     "",
     "end\t0\t-\t-",
     "skip\t-\ta\tPASSED",
@@ -76,19 +62,21 @@ const KEPT: [&str; 12] = [
     "retry\t-\ta\tt\t1\t2\t5\tfinal\tfail:1\t5\t0\tunloaded\tPASSED\t-\t-\t-",
     "retry\t-\ta\tt\t1\t2\t5\tfinal\tfail:1\t5\t0\tstart\tPASSED\t-\t-\t-",
     "retry\t-\ta\tt\t1\t2\t5\tfinal\tfail:1\t5\t0\tsplit\tPASSED\t-\t-",
+    "retry\t-\ta\tt\t1\t2\t5\tfinal\tfail:1\t5\t0\tsplit\tPASSED\t-\t-\t-\tx",
 ];
 
 #[test]
-fn takes_references_out_of_lines(rt: HostRuntime) -> Result<(), Fail> {
+fn notes_references_of_lines(rt: HostRuntime) -> Result<(), Fail> {
     let alloc = rt.alloc();
-    for (short, text, places) in STORED {
+    for (short, places) in STORED {
         let line = short
             .replace(alloc, "PASSED", PASSED)?
             .replace(alloc, "FAILED", FAILED)?;
-        let read = RecordedLine::read(alloc, line.as_str())?;
-        assert_eq!(rt; read.text.as_str(), text);
-        assert_eq!(rt; read.outputs.len(), places.len(), "of {short}");
-        for (output, (place, field)) in read.outputs.iter().zip(places.iter()) {
+        let mut read = LinesRead::new(alloc);
+        let outputs = read.read_recorded(alloc, line.as_str().as_bytes())?;
+        assert_eq!(rt; (read.run.events.len(), read.next), (1, 2), "of {short}");
+        assert_eq!(rt; outputs.len(), places.len(), "of {short}");
+        for (output, (place, field)) in outputs.iter().zip(places.iter()) {
             assert_eq!(rt;
                 (output.place, output.field),
                 (*place, *field),
@@ -100,15 +88,22 @@ fn takes_references_out_of_lines(rt: HostRuntime) -> Result<(), Fail> {
 }
 
 #[test]
-fn leaves_other_lines(rt: HostRuntime) -> Result<(), Fail> {
+fn reads_other_lines_as_those_of_a_scene(rt: HostRuntime) -> Result<(), Fail> {
     let alloc = rt.alloc();
     for short in KEPT {
         let line = short
             .replace(alloc, "PASSED", PASSED)?
             .replace(alloc, "FAILED", FAILED)?;
-        let read = RecordedLine::read(alloc, line.as_str())?;
-        assert_eq!(rt; read.text.as_str(), line.as_str());
-        assert!(rt; read.outputs.is_empty(), "of {short}");
+        let line = line.as_str().as_bytes();
+        let (mut recorded, mut plain) = (LinesRead::new(alloc), LinesRead::new(alloc));
+        let outputs = recorded.read_recorded(alloc, line).map(|it| it.len());
+        let same = plain.read_more(alloc, line).map(|()| 0);
+        assert_eq!(rt; outputs, same, "of {short}");
+        assert_eq!(rt;
+            recorded.run.events.len(),
+            plain.run.events.len(),
+            "of {short}"
+        );
     }
     Ok(())
 }
@@ -130,7 +125,7 @@ fn loads_outputs(rt: HostRuntime) -> Result<(), Fail> {
     for (first, second, want_stdout, want_stderr, count) in split {
         let stored = StoredOutput::read("split", first, second).ok_or("an output")?;
         let mut outputs = RecordedOutputs::new(Metered::new(OUTPUTS))?;
-        match stored.load(alloc, &mut outputs) {
+        match outputs.load_output(alloc, &stored) {
             Ok(ChildOutputDescription::Split { stdout, stderr }) => {
                 assert_stream(&rt, &stdout, want_stdout);
                 assert_stream(&rt, &stderr, want_stderr);
@@ -140,7 +135,7 @@ fn loads_outputs(rt: HostRuntime) -> Result<(), Fail> {
         assert_eq!(rt; outputs.bytes_read(), count);
     }
     let stored = StoredOutput::read("comb", FAILED, "-").ok_or("an output")?;
-    match stored.load(alloc, &mut RecordedOutputs::new(Metered::new(OUTPUTS))?) {
+    match RecordedOutputs::new(Metered::new(OUTPUTS))?.load_output(alloc, &stored) {
         Ok(ChildOutputDescription::Combined { output }) => {
             assert_eq!(rt; output.as_bytes(), b"failed\n".as_slice());
         }
@@ -198,7 +193,7 @@ fn tells_which_stream_is_damaged(rt: HostRuntime) -> Result<(), Fail> {
     for (form, first, second, stream, fault, count) in rows {
         let output = StoredOutput::read(form, first, second).ok_or("an output")?;
         let mut outputs = RecordedOutputs::new(Metered::new(OUTPUTS))?;
-        let loaded = output.load(rt.alloc(), &mut outputs);
+        let loaded = outputs.load_output(rt.alloc(), &output);
         assert_eq!(rt; loaded.err(), Some(StreamFault { stream, fault }));
         assert_eq!(rt; outputs.bytes_read(), count);
         let placed = PlacedOutput {

@@ -1,9 +1,7 @@
 //! Recorded runs that are replayed, with what is read of their outputs.
 
 use crate::tests::sources::Failing;
-use recorded_outputs::outputs::RecordedOutputs;
-use recorded_outputs::read_at::{Metered, Source};
-use recorded_runs::run::RecordedRun;
+use recorded::{Metered, RecordedOutputs, RecordedRun, Source};
 use run_model::level::StatusLevel;
 use scenes::args::{Options, StoreOptions};
 use scenes::fault::{Fault, LineFault};

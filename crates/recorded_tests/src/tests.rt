@@ -2,9 +2,8 @@
 
 pub mod sources;
 
-use recorded_outputs::outputs::{LoadFault, RecordedOutputs};
-use recorded_outputs::read_at::{Metered, ReadAt, Source};
-use recorded_outputs::reference::{Reference, read_reference};
+use recorded::{LoadFault, Metered, ReadAt, RecordedOutputs, Source};
+use scene_fields::reference::{Reference, read_reference};
 use sources::{Failing, Growing, Shortened};
 use std::alloc::Global;
 use std::fs::File;

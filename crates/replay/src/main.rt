@@ -5,9 +5,7 @@
 #![tactic(auto)]
 
 use plain_text::write_str::RetryInterrupted;
-use recorded_outputs::outputs::RecordedOutputs;
-use recorded_outputs::read_at::Metered;
-use recorded_runs::run::RecordedRun;
+use recorded::{Metered, RecordedOutputs, RecordedRun};
 use scenes::args::{Options, words};
 use scenes::fault::{Fault, Program};
 use scenes::follow::RunOutcome;

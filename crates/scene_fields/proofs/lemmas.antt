@@ -4,6 +4,8 @@ pub mod Moves
 pub mod NonZero
 pub mod Numbers
 pub mod Pairs
+pub mod ReferenceMarks
+pub mod ReferenceRows
 pub mod ShortNumbers
 pub mod Tabs
 pub mod Unescaped

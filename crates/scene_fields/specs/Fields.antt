@@ -1,15 +1,28 @@
 -- The fields of a line from left to right: their value, or the first fault that is met.
-use Rattle.std.specs.Prelude.{◌≡◌, ℕ, ◌+◌, ◌%◌, List, [], ◌∷◌, length, Bool, true, false, ◌==◌, ◌&&◌, nat_le, if◌then◌else◌, Option, None, Some, Result, Ok, Err, ⊤, ◌⊎◌}
+use Rattle.std.specs.Prelude.{◌≡◌, ℕ, ◌+◌, ◌%◌, List, [], ◌∷◌, ◌++◌, length, Bool, true, false, ◌==◌, ◌&&◌, nat_le, if◌then◌else◌, Option, None, Some, Result, Ok, Err, ⊤, ◌⊎◌}
 use Rattle.std.specs.Borrow.{Bor}
 use Rattle.scene_fields.specs.declared.fault.LineFault.{LineFault}
 use Rattle.scene_fields.specs.declared.fault.LineFault.TheVariants.{WrongNumberOfFields, BadField}
 use Rattle.scene_fields.specs.declared.fault.LineError.{LineError}
 use Rattle.scene_fields.specs.declared.fault.LineError.TheVariants as error
+use Rattle.scene_fields.specs.Stored.{placed, stored_output_in}
+use Rattle.scene_fields.specs.declared.stored.PlacedOutput.{PlacedOutput}
+use Rattle.scene_fields.specs.declared.stored.StoredOutput.{StoredOutput}
 
--- how many fields were taken, and those that are left
+-- how many outputs of a line were read, and those of them that are stored
+pub record Noted : Type 0 where
+  pub outputs : ℕ
+  pub stored : List PlacedOutput
+
+-- none of them
+abbrev pub none_noted : Noted
+none_noted = record { outputs = 0; stored = [] }
+
+-- how many fields were taken, those that are left, and the outputs among them, where some may be stored
 pub record Place : Type 0 where
   pub number : ℕ
   pub left : List (List ℕ)
+  pub noted : Option Noted
 
 -- the value of the fields from some place on, and the place after them; or the first fault
 abbrev pub Line : Type 0 → Type 0
@@ -27,12 +40,12 @@ abbrev pub says : {X : Type 0} → X → Line X
 says x p = Ok (x, p)
 
 -- the next field
-abbrev pub taken : ℕ → List (List ℕ) → Result (List ℕ × Place) LineFault
-taken n [] = Err WrongNumberOfFields
-taken n (t ∷ ts) = Ok (t, record { number = n + 1; left = ts })
+abbrev pub taken : ℕ → Option Noted → List (List ℕ) → Result (List ℕ × Place) LineFault
+taken n noted [] = Err WrongNumberOfFields
+taken n noted (t ∷ ts) = Ok (t, record { number = n + 1; left = ts; noted = noted })
 
 abbrev pub next : Line (List ℕ)
-next p = taken p.number p.left
+next p = taken p.number p.noted p.left
 
 -- the value of the field that was just taken, if it has one
 abbrev pub valued : {X : Type 0} → Option X → Line X
@@ -63,10 +76,37 @@ abbrev pub taken_text : Result (Bor (List ℕ)) LineFault → Result (List ℕ) 
 taken_text (Ok t) = Ok t.now
 taken_text (Err f) = Err f
 
--- the fields as they are where so many may be left, and else the fault of a wrong number
-abbrev pub IsKeptWhere : Bool → Place → Result Place LineFault → Type 0
-IsKeptWhere takes old (Ok new) = (takes ≡ true) × (new ≡ old)
-IsKeptWhere takes old (Err f) = (takes ≡ false) × (f ≡ WrongNumberOfFields)
+-- so many may be left, and else there is the fault of a wrong number
+abbrev pub IsRightNumber : {X : Type 0} → Bool → Result X LineFault → Type 0
+IsRightNumber right (Ok x) = right ≡ true
+IsRightNumber right (Err f) = (right ≡ false) × (f ≡ WrongNumberOfFields)
+
+-- the output whose form and streams these fields are, if it is stored
+abbrev pub stored_first : List (List ℕ) → Option StoredOutput
+stored_first (form ∷ first ∷ second ∷ fields) = stored_output_in form first second
+stored_first fields = None
+
+-- the same of the next fields, where an output may be stored
+abbrev pub stored_among : List (List ℕ) → Option Noted → Option StoredOutput
+stored_among fields None = None
+stored_among fields (Some noted) = stored_first fields
+
+abbrev pub next_stored : Place → Option StoredOutput
+next_stored p = stored_among p.left p.noted
+
+-- the outputs with one more, whose first stream is the field of this number
+abbrev pub with_output : Option StoredOutput → ℕ → Option Noted → Option Noted
+with_output output field None = None
+with_output output field (Some noted) = Some (record { outputs = noted.outputs + 1; stored = noted.stored ++ placed noted.outputs field output })
+
+-- the output that comes next is counted, and noted if it is stored
+abbrev pub noting : Option StoredOutput → Place → Place
+noting output p = record p { noted = with_output output (p.number + 2) p.noted }
+
+-- the outputs that are stored
+abbrev pub stored_of : Option Noted → List PlacedOutput
+stored_of None = []
+stored_of (Some noted) = noted.stored
 
 -- a line has the fault, unless memory was refused
 abbrev pub Fails : {Y : Type 0} → LineError → Result Y LineFault → Type 0

@@ -4,7 +4,9 @@ pub mod Fields
 pub mod Lists
 pub mod Marks
 pub mod Numbers
+pub mod References
 pub mod Results
 pub mod Split
+pub mod Stored
 pub mod Texts
 pub mod Values

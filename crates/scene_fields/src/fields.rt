@@ -1,12 +1,15 @@
 //! A line of a scene, taken apart from left to right.
 
-ghost use Rattle.std.specs.Prelude.{◌≡◌, ◌+◌, ◌++◌, ◌≤◌, ◌%◌, ◌^◌, ◌==◌, ◌&&◌, [], ◌∷◌, MatchOption, MatchResult, OnOk, drop, length, nat_le, Ok};
+ghost use Rattle.std.specs.Prelude.{◌≡◌, ◌+◌, ◌++◌, ◌≤◌, ◌%◌, ◌^◌, ◌==◌, ◌&&◌, [], ◌∷◌, MatchOption, MatchResult, None, OnOk, Some, drop, length, nat_le, Ok};
+ghost use Rattle.std.specs.Option.{ForSome};
 ghost use Rattle.scene_fields.specs.Split.{split_on, field_texts};
 ghost use Rattle.scene_fields.specs.declared.fault.LineFault.{LineFault};
-ghost use Rattle.scene_fields.specs.Fields.{IsKeptWhere, Place, ReadsBy, TriesBy, answered, next, taken_text};
+ghost use Rattle.scene_fields.specs.Fields.{IsRightNumber, Noted, Place, ReadsBy, TriesBy, answered, next, next_stored, none_noted, noting, stored_of, taken_text, with_output};
+ghost use Rattle.scene_fields.specs.Stored.{placed};
 
 use super::marks::{first_place, marks_from, shift_past};
 use super::owned_text::OwnedText;
+use super::stored::{PlacedOutput, StoredOutput};
 use crate::fault::{LineError, LineFault};
 use bytes::BytesMut;
 use run_model::memory::OutOfMemory;
@@ -42,64 +45,165 @@ pub fn split_fields<'a>(line: &'a str, fields: &mut Vec<&'a str>) -> Result<(), 
     Ok(())
 }
 
-/// The fields of a line, which are taken one after the other. Contracts see how many were taken, and those that are left.
+// How many outputs of a line were read, and those of them that are stored.
+#[derive(Drop)]
+struct NotedOutputs {
+    outputs: usize,
+    stored: Vec<PlacedOutput>,
+}
+
+impl Model for NotedOutputs {
+    ghost Value = { Noted };
+
+    ghost view = { λ n. record { outputs = n.outputs; stored = n.stored.items } };
+}
+
+impl NotedOutputs {
+    // Counts one more, whose first stream is the field of this number, and notes it if it is stored.
+    fn add(&mut self, field: usize, output: Option<StoredOutput>) -> Result<(), OutOfMemory>
+        ensures { OnOk result (Some self.new ≡ with_output output field (Some self.old)) }
+    {
+        let place = self.outputs;
+        // no line has so many outputs
+        self.outputs = place.checked_add(1).ok_or(OutOfMemory)?;
+        if let Some(output) = output {
+            self.stored.push(PlacedOutput {
+                place,
+                field,
+                output,
+            })?;
+        }
+        Ok(())
+    }
+
+    // Those that are stored.
+    fn into_stored(self) -> Vec<PlacedOutput>
+        ensures { result.items ≡ self.stored }
+    {
+        self.stored
+    }
+}
+
+/// The fields of a line, which are taken one after the other. Contracts see how many were taken, those that are left, and which outputs
+/// among them are stored.
 #[derive(Drop)]
 pub struct Fields<'a> {
     left: &'a [&'a str],
     // The fields of a large line. There are none behind fields that are borrowed.
     owned: &'a mut [OwnedText],
     number: usize,
+    // Where an output may be stored. No line of such a run is a large one.
+    noted: Option<NotedOutputs>,
     ghost counted: { number + length left.now + length owned.now ≤ 2 ^ 63 },
+    ghost borrowed: { ForSome noted (λ _. owned.now ≡ []) },
 }
 
 impl<'a> Model for Fields<'a> {
     ghost Value = { Place };
 
-    ghost view = { λ f. record { number = f.number; left = field_texts f.left.now ++ f.owned.now } };
+    ghost view = { λ f. record { number = f.number; left = field_texts f.left.now ++ f.owned.now; noted = f.noted } };
 }
 
 impl<'a> Fields<'a> {
     /// The fields of a line, none of them taken.
     pub fn new(fields: &'a [&'a str]) -> Fields<'a>
-        ensures { result ≡ record { number = 0; left = field_texts fields.now } }
+        ensures { result ≡ record { number = 0; left = field_texts fields.now; noted = None } }
     {
         Fields {
             left: fields,
             owned: &mut [],
             number: 0,
+            noted: None,
+        }
+    }
+
+    /// The fields of a line of a recorded run, none of them taken, of which outputs may be stored.
+    pub fn recorded(alloc: Global, fields: &'a [&'a str]) -> Fields<'a>
+        ensures { result ≡ record { number = 0; left = field_texts fields.now; noted = Some none_noted } }
+    {
+        Fields {
+            left: fields,
+            owned: &mut [],
+            number: 0,
+            noted: Some(NotedOutputs {
+                outputs: 0,
+                stored: Vec::new(alloc),
+            }),
         }
     }
 
     /// The fields of a large line, none of them taken.
     pub fn of_large_line(fields: &'a mut [OwnedText]) -> Fields<'a>
-        ensures { result ≡ record { number = 0; left = fields.old } }
+        ensures { result ≡ record { number = 0; left = fields.old; noted = None } }
     {
         Fields {
             left: &[],
             owned: fields,
             number: 0,
+            noted: None,
         }
     }
 
-    /// The fields, of which so many must be left to take.
-    pub fn exactly(self, count: usize) -> Result<Fields<'a>, LineFault>
-        ensures { IsKeptWhere (length self.entry.left == count) self.entry result }
+    /// That so many fields are left to take.
+    pub fn exactly(&self, count: usize) -> Result<(), LineFault>
+        ensures { IsRightNumber (length self.now.left == count) result }
     {
         if self.len() != count {
             return Err(LineFault::WrongNumberOfFields);
         }
-        Ok(self)
+        Ok(())
     }
 
-    /// The fields, of which eight must be left to take with one attempt or more: each has eight.
-    pub fn with_attempts(self) -> Result<Fields<'a>, LineFault>
-        ensures { IsKeptWhere (nat_le 16 (length self.entry.left) && (length self.entry.left % 8 == 0)) self.entry result }
+    /// That eight fields are left to take with one attempt or more: each has eight.
+    pub fn with_attempts(&self) -> Result<(), LineFault>
+        ensures { IsRightNumber (nat_le 16 (length self.now.left) && (length self.now.left % 8 == 0)) result }
     {
         let count = self.len();
         if count < 16 || count % 8 != 0 {
             return Err(LineFault::WrongNumberOfFields);
         }
-        Ok(self)
+        Ok(())
+    }
+
+    /// The output whose form and streams come next, if it is stored, and if outputs of this line may be.
+    ///
+    /// ```
+    /// let fields = ["comb", "\\@7:7:ee2a98c236301c76", "-"];
+    /// assert!(Fields::recorded(alloc, &fields).next_stored().is_some());
+    /// assert!(Fields::new(&fields).next_stored().is_none());
+    /// ```
+    pub fn next_stored(&self) -> Option<StoredOutput>
+        ensures { result ≡ next_stored self.now }
+    {
+        if self.noted.is_none() {
+            return None;
+        }
+        match self.left {
+            [form, first, second, ..] => StoredOutput::read(form, first, second),
+            _ => None,
+        }
+    }
+
+    /// Counts the output that comes next, and notes it if it is stored, where outputs may be.
+    #[inline(always)]
+    pub fn note(&mut self, output: Option<StoredOutput>) -> Result<(), OutOfMemory>
+        ensures { OnOk result (self.new ≡ noting output self.old) }
+    {
+        match &mut self.noted {
+            Some(noted) => noted.add(self.number + 2, output),
+            None => Ok(()),
+        }
+    }
+
+    /// The outputs that are stored of those that were noted, in order.
+    pub fn into_stored(self, alloc: Global) -> Vec<PlacedOutput>
+        ensures { result.items ≡ stored_of self.entry.noted }
+    {
+        let noted = self.noted;
+        match noted {
+            Some(noted) => noted.into_stored(),
+            None => Vec::new(alloc),
+        }
     }
 
     /// How many fields are left to take.
@@ -121,6 +225,7 @@ impl<'a> Fields<'a> {
         requires { count ≤ length self.old.left }
         ensures number { self.new.number ≡ self.old.number + count }
         ensures left { self.new.left ≡ drop count self.old.left }
+        ensures noted { self.new.noted ≡ self.old.noted }
     {
         let here = count.min(self.left.len());
         self.left = &self.left[here..];

@@ -26,12 +26,13 @@ use Rattle.scene_events.specs.declared.scene.unit_events.UnitAnswer.{UnitAnswer}
 use Rattle.scene_events.specs.declared.scene.outputs.SceneOutput.{SceneOutput}
 use Rattle.scene_events.specs.declared.scene.outputs.SceneOutput.TheVariants.{Output, StartError}
 use Rattle.scene_fields.specs.Counts.{stats_in, skips_in}
-use Rattle.scene_fields.specs.Fields.{◌>>=◌, Line, says, exactly, field, Place, next, valued, with_attempts}
+use Rattle.scene_fields.specs.Fields.{◌>>=◌, Line, says, exactly, field, Place, next, next_stored, noting, valued, with_attempts}
 use Rattle.scene_fields.specs.Lists.{words_of, instances_in, chain_in, errors_in}
 use Rattle.scene_fields.specs.Numbers.{nanos_in, number_in}
 use Rattle.scene_fields.specs.Results.{result_in}
 use Rattle.scene_fields.specs.Texts.{text_in, bytes_in}
 use Rattle.scene_fields.specs.Values.{absent_in, config_key_in, display_in, final_level_in, flag_in, flaky_in, mode_in, reason_or_none_in, stress_in}
+use Rattle.scene_fields.specs.declared.stored.StoredOutput.{StoredOutput}
 use Rattle.scene_fields.specs.declared.fault.LineFault.TheVariants.{UnknownEvent, WrongNumberOfFields}
 use Rattle.scene_fields.specs.declared.values.ConfigKey.{ConfigKey}
 use Rattle.scene_fields.specs.declared.values.ConfigKey.TheVariants as key
@@ -89,11 +90,32 @@ start_error_fields = do
   highlight ← field absent_in
   says (StartError error)
 
--- an output: its form, what that takes first and second, errors, and a highlight
-unfoldable pub output_fields : Line SceneOutput
-output_fields = do
+-- an output as its fields spell it: its form, what that takes first and second, errors, and a highlight
+unfoldable pub spelled_output_fields : Line SceneOutput
+spelled_output_fields = do
   form ← next
   by_row (valued None) ((codes "split", split_fields) ∷ (codes "comb", combined_fields) ∷ (codes "unloaded", unloaded_fields) ∷ (codes "start", start_error_fields) ∷ []) form
+
+-- an output that is stored and left unread: its form, its streams, errors, and a highlight
+unfoldable pub stored_output_fields : Line SceneOutput
+stored_output_fields = do
+  form ← next
+  first ← next
+  second ← next
+  after_streams streams.NotLoaded
+
+abbrev pub output_fields_of : Option StoredOutput → Line SceneOutput
+output_fields_of None = spelled_output_fields
+output_fields_of (Some output) = stored_output_fields
+
+-- an output, which is noted: one that is stored, or what its fields spell
+unfoldable pub output_fields : Line SceneOutput
+output_fields p = output_fields_of (next_stored p) (noting (next_stored p) p)
+
+-- the form and the streams of a stored output were taken, or none was; it is noted, and what is left of it follows
+abbrev pub TakesStoredOutput : Bool → Place → Place → Type 0
+TakesStoredOutput true old new = output_fields old ≡ after_streams streams.NotLoaded new
+TakesStoredOutput false old new = output_fields old ≡ spelled_output_fields new
 
 -- both streams were captured and hold nothing, and there is nothing else
 abbrev pub empty_output_fields : List (List ℕ)

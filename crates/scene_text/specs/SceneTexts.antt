@@ -1,15 +1,16 @@
 -- The scene that a text spells, or its first fault.
-use Rattle.std.specs.Prelude.{◌≡◌, ℕ, ◌+◌, List, [], ◌∷◌, ◌++◌, Bool, true, false, ◌==◌, ◌||◌, map, nat_lt, bytes_eq, codes, if◌then◌else◌, Result, Ok, Err, length, ⊤}
+use Rattle.std.specs.Prelude.{◌≡◌, ℕ, ◌+◌, List, [], ◌∷◌, ◌++◌, Bool, true, false, ◌==◌, ◌||◌, map, nat_lt, bytes_eq, codes, if◌then◌else◌, Option, None, Some, Result, Ok, Err, length, ⊤}
 use Rattle.std.specs.Result.{result_map_both}
 use Rattle.std.specs.Str.{is_utf8}
 use Rattle.scene_events.specs.Configs.{unconfigured}
 use Rattle.scene_fields.specs.Split.{split_on}
-use Rattle.scene_fields.specs.Fields.{Fails, Place, exactly}
-use Rattle.scene_text.specs.EventLines.{config_line_fields, event_line_fields}
+use Rattle.scene_fields.specs.Fields.{◌>>=◌, Fails, Line, Noted, Place, exactly, next, none_noted, says, stored_of}
+use Rattle.scene_fields.specs.declared.stored.PlacedOutput.{PlacedOutput}
+use Rattle.scene_text.specs.EventLines.{config_line_fields, event_line_fields, made}
 use Rattle.scene_fields.specs.declared.fault.LineError.{LineError}
 use Rattle.scene_fields.specs.declared.fault.LineError.TheVariants as error
 use Rattle.scene_fields.specs.declared.fault.LineFault.{LineFault}
-use Rattle.scene_fields.specs.declared.fault.LineFault.TheVariants.{NotUtf8, ConfigAfterEvent, WrongNumberOfFields}
+use Rattle.scene_fields.specs.declared.fault.LineFault.TheVariants.{NotUtf8, ConfigAfterEvent}
 use Rattle.scene_fields.specs.declared.fault.ReadFault.{ReadFault}
 use Rattle.scene_fields.specs.declared.fault.ReadFault.TheVariants as fault
 use Rattle.scene_text.specs.declared.reader.LinesRead.{LinesRead}
@@ -47,34 +48,49 @@ pub data ParsedLine : Type 0 where
   ConfigLine : SceneConfig → ParsedLine
   EventLine : SceneEvent → ParsedLine
 
--- the event of some fields, wherever they end
-abbrev pub event_of : Result (SceneEvent × Place) LineFault → Result SceneEvent LineFault
-event_of read = result_map_both (λ x. x.0) (λ f. f) read
+-- the value of some fields, wherever they end
+abbrev pub value_of : {X Y : Type 0} → Result (X × Y) LineFault → Result X LineFault
+value_of read = result_map_both (λ x. x.0) (λ f. f) read
 
 abbrev pub event_line : Result SceneEvent LineFault → Result ParsedLine LineFault
 event_line read = result_map_both EventLine (λ f. f) read
 
 -- a line that configures the run, which may not stand behind an event
-abbrev pub parsed_config : LinesBefore → Place → Result ParsedLine LineFault
-parsed_config before fields = if before.is_begun then Err ConfigAfterEvent else result_map_both (λ x. ConfigLine x.0) (λ f. f) (exactly 2 (config_line_fields before.config) fields)
+abbrev pub config_words : LinesBefore → Line ParsedLine
+config_words before p = if before.is_begun then Err ConfigAfterEvent else made ConfigLine (exactly 2 (config_line_fields before.config)) p
 
-abbrev pub parsed_word : LinesBefore → List ℕ → Place → Result ParsedLine LineFault
-parsed_word before word fields = if bytes_eq word (codes "config") then parsed_config before fields else event_line (event_of (event_line_fields word fields))
+-- the fields behind the first one
+abbrev pub words_behind : LinesBefore → List ℕ → Line ParsedLine
+words_behind before word p = if bytes_eq word (codes "config") then config_words before p else made EventLine (event_line_fields word) p
 
-abbrev pub parsed_words : LinesBefore → List (List ℕ) → Result ParsedLine LineFault
-parsed_words before [] = Err WrongNumberOfFields
-parsed_words before (word ∷ fields) = parsed_word before word (record { number = 1; left = fields })
+-- all fields of a line
+abbrev pub line_words : LinesBefore → Line ParsedLine
+line_words before = do
+  word ← next
+  words_behind before word
 
 -- an empty line, and one that begins with `#`, have no value
 abbrev pub is_passed_over : List ℕ → Bool
 is_passed_over [] = true
 is_passed_over (c ∷ t) = c == 35
 
+-- a line's fields, of which none is taken
+abbrev pub line_place : Option Noted → List ℕ → Place
+line_place noted t = record { number = 0; left = split_on 9 t; noted = noted }
+
+-- what a line says behind others, and where its fields were left; or its fault
+unfoldable pub line_from : Option Noted → LinesBefore → List ℕ → Result (ParsedLine × Place) LineFault
+line_from noted before t =
+    if is_passed_over t then says NoEvent (line_place noted t)
+    else (if is_utf8 t then line_words before (line_place noted t) else Err NotUtf8)
+
 -- the value of a line behind others, or its fault
-unfoldable pub parsed_line : LinesBefore → List ℕ → Result ParsedLine LineFault
-parsed_line before t =
-    if is_passed_over t then Ok NoEvent
-    else (if is_utf8 t then parsed_words before (split_on 9 t) else Err NotUtf8)
+abbrev pub parsed_line : LinesBefore → List ℕ → Result ParsedLine LineFault
+parsed_line before t = value_of (line_from None before t)
+
+-- the value of a line of a recorded run and its stored outputs, which its event leaves unread
+abbrev pub recorded_line : LinesBefore → List ℕ → Result (ParsedLine × List PlacedOutput) LineFault
+recorded_line before t = result_map_both (λ x. (x.0, stored_of x.1.noted)) (λ f. f) (line_from (Some none_noted) before t)
 
 -- the lines with one more, of this value
 abbrev pub with_line : ParsedLines → ParsedLine → ParsedLines
@@ -85,28 +101,33 @@ with_line before (EventLine e) = record before { events = before.events ++ e ∷
 abbrev pub lines_with : ParsedLines → Result ParsedLine LineFault → Result ParsedLines LineFault
 lines_with before read = result_map_both (with_line before) (λ f. f) read
 
--- a line of a run: its text, and what is made of the event that it spells, or its fault
-pub record RunLine : Type 0 where
-  pub text : List ℕ
-  pub made : LinesBefore → SceneEvent → Result SceneEvent LineFault
+-- a line of a run: the text of a scene's line, or that of a recorded one, and what is made of its stored outputs and its event
+pub data RunLine : Type 0 where
+  PlainLine : List ℕ → RunLine
+  RecordedLine : List ℕ → (LinesBefore → List PlacedOutput → SceneEvent → Result SceneEvent LineFault) → RunLine
 
 -- the line of a scene is what its text spells
 abbrev pub plain_line : List ℕ → RunLine
-plain_line t = record { text = t; made = λ before e. Ok e }
+plain_line t = PlainLine t
+
+-- a recorded line whose stored outputs are left unread
+abbrev pub unread_line : List ℕ → RunLine
+unread_line t = RecordedLine t (λ before stored e. Ok e)
 
 abbrev pub text_lines : List ℕ → List RunLine
 text_lines t = map plain_line (split_on 10 t)
 
--- a line's value with this made of its event
-abbrev pub with_event : (SceneEvent → Result SceneEvent LineFault) → Result ParsedLine LineFault → Result ParsedLine LineFault
-with_event make (Ok NoEvent) = Ok NoEvent
-with_event make (Ok (ConfigLine config)) = Ok (ConfigLine config)
-with_event make (Ok (EventLine e)) = event_line (make e)
-with_event make (Err f) = Err f
+-- a recorded line's value with this made of its stored outputs and its event
+abbrev pub with_made : (List PlacedOutput → SceneEvent → Result SceneEvent LineFault) → Result (ParsedLine × List PlacedOutput) LineFault → Result ParsedLine LineFault
+with_made make (Ok (NoEvent, stored)) = Ok NoEvent
+with_made make (Ok (ConfigLine config, stored)) = Ok (ConfigLine config)
+with_made make (Ok (EventLine e, stored)) = event_line (make stored e)
+with_made make (Err f) = Err f
 
 -- the value of a run's line behind others, or its fault
 abbrev pub line_value : LinesBefore → RunLine → Result ParsedLine LineFault
-line_value before line = with_event (line.made before) (parsed_line before line.text)
+line_value before (PlainLine t) = parsed_line before t
+line_value before (RecordedLine t make) = with_made (make before) (recorded_line before t)
 
 -- the lines with one more, or its fault
 unfoldable pub line_read : ParsedLines → RunLine → Result ParsedLines LineFault
@@ -125,8 +146,8 @@ abbrev pub lines_after : List SceneEvent → ParsedLines → ParsedLines
 lines_after base before = record { config = before.config; events = base ++ before.events }
 
 abbrev pub lines_read_after : (ParsedLines → Result ParsedLines (ℕ × LineFault)) → ℕ → Result ParsedLines LineFault → Result ParsedLines (ℕ × LineFault)
-lines_read_after next n (Ok after) = next after
-lines_read_after next n (Err f) = Err (n, f)
+lines_read_after others n (Ok after) = others after
+lines_read_after others n (Err f) = Err (n, f)
 
 -- the lines with these behind them, of which the first has this number; or the number and the fault of the first that has one
 unfoldable pub lines_read : ℕ → ParsedLines → List RunLine → Result ParsedLines (ℕ × LineFault)
@@ -142,8 +163,8 @@ abbrev pub line_here : ℕ → ParsedLines → ParsedLines → List ℕ
 line_here n before after = if nat_lt (length before.events) (length after.events) then n ∷ [] else []
 
 abbrev pub lines_from : ℕ → ParsedLines → (ParsedLines → List ℕ) → Result ParsedLines LineFault → List ℕ
-lines_from n before next (Ok after) = line_here n before after ++ next after
-lines_from n before next (Err f) = []
+lines_from n before others (Ok after) = line_here n before after ++ others after
+lines_from n before others (Err f) = []
 
 -- the numbers of the lines that are events; the first line has this number
 unfoldable pub event_lines : ℕ → ParsedLines → List RunLine → List ℕ

@@ -4,8 +4,8 @@
 //! the kind of the event. Each module knows one thing: `lines` which kinds there are, `event_lines` what fields each has,
 //! `parts` values that are in one field in parts, and `binary_ids` ids that lines share.
 
-ghost use Rattle.std.specs.Prelude.{◌≡◌, ◌++◌, [], false, IfErr, OnOk, Ok};
-ghost use Rattle.scene_text.specs.SceneTexts.{LeavesLines, NotesLine, ReadsLines, TakesLine, before_next, fault_at, is_begun_behind, is_passed_over, no_lines, parsed_line, parsed_lines, parsed_words, text_lines};
+ghost use Rattle.std.specs.Prelude.{◌≡◌, ◌++◌, [], ◌∷◌, false, IfErr, IfOk, OnOk, Ok};
+ghost use Rattle.scene_text.specs.SceneTexts.{LeavesLines, NotesLine, ReadsLines, ParsedLine, TakesLine, before_next, fault_at, is_begun_behind, is_passed_over, line_value, line_words, no_lines, parsed_line, parsed_lines, recorded_line, text_lines, unread_line, value_of};
 
 mod binary_ids;
 mod event_lines;
@@ -23,7 +23,11 @@ pub use scene_fields::fields::LARGE;
 use scene_fields::fields::{Fields, split_fields};
 use scene_fields::owned_text::OwnedText;
 use scene_fields::split::first_line;
+use scene_fields::stored::PlacedOutput;
 use std::alloc::Global;
+
+// Room for the fields of most recorded lines: those of a finished test with one attempt, and of a second one.
+const FIELDS: usize = 32;
 
 // What a field spells, where it spells something.
 type Field<T> = Result<Option<T>, OutOfMemory>;
@@ -136,9 +140,42 @@ impl LinesRead {
         }
     }
 
+    /// Reads the line of a recorded run that follows these, of which outputs may be stored, and answers with those that are, in order. The
+    /// event leaves them unread. The errors are those of `read_more`.
+    ///
+    /// A field that begins like a reference and is none, or stands where none may, is a bad field.
+    ///
+    /// ```
+    /// let line = "setupdone\t-\tdb\tinit\t\tpass\t5\t0\tcomb\t\\@7:7:ee2a98c236301c76\t-\t-\t-";
+    /// let mut read = LinesRead::new(alloc);
+    /// let stored = read.read_recorded(alloc, line.as_bytes())?;
+    /// assert_eq!(stored.as_slice()[0].field, 10);
+    /// ```
+    pub fn read_recorded(
+        &mut self,
+        alloc: Global,
+        line: &[u8],
+    ) -> Result<Vec<PlacedOutput>, ReadFault>
+        ensures read { OnOk result (ReadsLines self.old self.new (unread_line line.now ∷ [])) }
+        ensures stored { IfOk result (λ stored. (x : ParsedLine) × (recorded_line (before_next self.old) line.now ≡ Ok (x, stored.items))) }
+        ensures left { IfErr result (LeavesLines self.old self.new (unread_line line.now ∷ [])) }
+    {
+        let number = self.next;
+        if number == u64::MAX {
+            return Err(ReadFault::OutOfMemory);
+        }
+        match self.read_recorded_line(alloc, line) {
+            Ok(stored) => {
+                self.next = number + 1;
+                Ok(stored)
+            }
+            Err(error) => Err(fault_at(number, error)),
+        }
+    }
+
     // Reads the line that follows, and notes its number where it is an event. The list is for its fields.
     #[inline(always)]
-    #[tactic(auto, unfolding(crate::specs::SceneTexts::parsed_line), using(scene_fields::proofs::lemmas::Utf8::utf8_passes, scene_fields::proofs::lemmas::Utf8::utf8_fails))]
+    #[tactic(auto, unfolding(crate::specs::SceneTexts::line_from), using(scene_fields::proofs::lemmas::Utf8::utf8_passes, scene_fields::proofs::lemmas::Utf8::utf8_fails))]
     fn read_line<'a>(
         &mut self,
         alloc: Global,
@@ -155,11 +192,11 @@ impl LinesRead {
             return Err(LineError::Fault(LineFault::NotUtf8));
         };
         split_fields(line, fields)?;
-        self.read_fields(alloc, Fields::new(fields.as_slice()))
+        self.read_fields(alloc, &mut Fields::new(fields.as_slice()))
     }
 
     // Reads the line that follows, which has its own memory, as `read_line` does.
-    #[tactic(auto, unfolding(crate::specs::SceneTexts::parsed_line))]
+    #[tactic(auto, unfolding(crate::specs::SceneTexts::line_from))]
     fn read_owned_line(&mut self, alloc: Global, line: Vec<u8>) -> Result<(), LineError>
         ensures read { TakesLine self.old result self.new (parsed_line (before_next self.old) line.items) }
         ensures noted { OnOk result (NotesLine self.old self.new) }
@@ -171,24 +208,50 @@ impl LinesRead {
             return Err(LineError::Fault(LineFault::NotUtf8));
         };
         let mut fields = line.split_fields(alloc)?;
-        self.read_fields(alloc, Fields::of_large_line(fields.as_mut_slice()))
+        self.read_fields(alloc, &mut Fields::of_large_line(fields.as_mut_slice()))
+    }
+
+    // Reads the recorded line that follows, as `read_line` does, and answers with its stored outputs.
+    #[tactic(auto, unfolding(crate::specs::SceneTexts::line_from), using(scene_fields::proofs::lemmas::Utf8::utf8_passes, scene_fields::proofs::lemmas::Utf8::utf8_fails))]
+    fn read_recorded_line(
+        &mut self,
+        alloc: Global,
+        line: &[u8],
+    ) -> Result<Vec<PlacedOutput>, LineError>
+        ensures read { TakesLine self.old result self.new (line_value (before_next self.old) (unread_line line.now)) }
+        ensures noted { OnOk result (NotesLine self.old self.new) }
+        ensures stored { IfOk result (λ stored. (x : ParsedLine) × (recorded_line (before_next self.old) line.now ≡ Ok (x, stored.items))) }
+    {
+        if is_passed_over(line) {
+            return Ok(Vec::new(alloc));
+        }
+        let Ok(line) = str::from_utf8(line) else {
+            return Err(LineError::Fault(LineFault::NotUtf8));
+        };
+        let Ok(mut texts) = Vec::with_capacity(alloc, FIELDS) else {
+            return Err(LineError::OutOfMemory);
+        };
+        split_fields(line, &mut texts)?;
+        let mut fields = Fields::recorded(alloc, texts.as_slice());
+        self.read_fields(alloc, &mut fields)?;
+        Ok(fields.into_stored(alloc))
     }
 
     // Reads the fields of the line that follows. What is wrong leaves the lines as they were.
     #[inline(always)]
     #[tactic(auto, using(std::proofs::lemmas::Bool::Decides::nat_tests))]
-    fn read_fields(&mut self, alloc: Global, fields: Fields<'_>) -> Result<(), LineError>
-        requires { fields.number ≡ 0 }
-        ensures read { TakesLine self.old result self.new (parsed_words (before_next self.old) fields.entry.left) }
+    fn read_fields(&mut self, alloc: Global, fields: &mut Fields<'_>) -> Result<(), LineError>
+        ensures read { TakesLine self.old result self.new (value_of (line_words (before_next self.old) fields.old)) }
         ensures noted { OnOk result (NotesLine self.old self.new) }
+        ensures place { OnOk result (IfOk (line_words (before_next self.old) fields.old) (λ x. x.1 ≡ fields.new)) }
     {
-        let mut fields = fields;
         match fields.take()? {
             "config" if is_begun_behind(self.is_begun, self.run.events.as_slice()) => Err(
                 LineError::Fault(LineFault::ConfigAfterEvent),
             ),
             "config" => {
-                self.run.config = read_config(&mut fields.exactly(2)?, self.run.config)?;
+                fields.exactly(2)?;
+                self.run.config = read_config(fields, self.run.config)?;
                 Ok(())
             }
             word => {

@@ -1,6 +1,6 @@
 //! What outputs are read from in these tests: calls that fail, bytes that come later, and bytes that are told and missing.
 
-use recorded_outputs::read_at::Source;
+use recorded::Source;
 use std::io;
 use std::io::ErrorKind;
 

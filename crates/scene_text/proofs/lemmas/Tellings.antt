@@ -11,7 +11,7 @@ use Rattle.scene_fields.specs.declared.fault.LineError.TheVariants as error
 use Rattle.scene_fields.specs.declared.fault.LineFault.{LineFault}
 use Rattle.scene_fields.specs.declared.fault.ReadFault.{ReadFault}
 use Rattle.scene_fields.specs.declared.fault.ReadFault.TheVariants as fault
-use Rattle.scene_text.specs.SceneTexts.{AllRead, IsNextFault, LeavesLines, NotesLine, ParsedLine, ReadsLines, RunLine, ConfigLine, EventLine, NoEvent, ParsedLines, before_next, event_lines, fault_at, is_begun, is_begun_behind, line_here, parsed_line, line_read, lines_before, lines_read, parsed_lines, plain_line, lines_after, lines_with, with_event}
+use Rattle.scene_text.specs.SceneTexts.{AllRead, IsNextFault, LeavesLines, NotesLine, ParsedLine, ReadsLines, RunLine, ConfigLine, EventLine, NoEvent, ParsedLines, before_next, event_lines, fault_at, is_begun, is_begun_behind, line_here, line_read, line_value, lines_before, lines_read, parsed_lines, lines_after, lines_with}
 use Rattle.scene_text.specs.declared.reader.LinesRead.{LinesRead}
 
 -- lines tell, and others behind them
@@ -69,17 +69,17 @@ begun_behind (b ∷ bs) es = refl
 abbrev told_after : List SceneEvent → Result ParsedLines LineFault → Result ParsedLines LineFault
 told_after base read = result_map_both (lines_after base) (λ f. f) read
 
-with_after : (base : List SceneEvent) (before : ParsedLines) (r : Result ParsedLine LineFault) → lines_with (lines_after base before) (with_event (λ e. Ok e) r) ≡ told_after base (lines_with before r)
+with_after : (base : List SceneEvent) (before : ParsedLines) (r : Result ParsedLine LineFault) → lines_with (lines_after base before) r ≡ told_after base (lines_with before r)
 with_after base before (Ok NoEvent) = refl
 with_after base before (Ok (ConfigLine c)) = refl
 with_after base before (Ok (EventLine e)) = ap (λ es. told_after [] (Ok (record { config = before.config; events = es }))) (append_assoc base before.events (e ∷ []))
 with_after base before (Err f) = refl
 
-read_behind : (base : List SceneEvent) (old : LinesRead) (t : List ℕ) → is_begun base ≡ old.is_begun → line_read (lines_after base (parsed_lines old.run)) (plain_line t) ≡ told_after base (lines_with (parsed_lines old.run) (parsed_line (before_next old) t))
+read_behind : (base : List SceneEvent) (old : LinesRead) (t : RunLine) → is_begun base ≡ old.is_begun → line_read (lines_after base (parsed_lines old.run)) t ≡ told_after base (lines_with (parsed_lines old.run) (line_value (before_next old) t))
 unfolding line_read
 read_behind base old t is =
     let same : lines_before (lines_after base (parsed_lines old.run)) ≡ before_next old = rw (begun_behind base old.run.events.items, is) refl in
-    rw same (with_after base (parsed_lines old.run) (parsed_line (before_next old) t))
+    rw same (with_after base (parsed_lines old.run) (line_value (before_next old) t))
 
 -- more events are as many more behind these
 less_after : (n a b : ℕ) → nat_lt (n + a) (n + b) ≡ nat_lt a b
@@ -95,16 +95,16 @@ module _ (old new : LinesRead) (run : parsed_lines new.run ≡ parsed_lines old.
   reads_same = record { tells = λ base is. ap (lines_after base) (sym run); noted = λ base is. lines ∙ sym (append-nil old.run.lines.items); begun = begun; place = omega (arith, place) }
 
   -- the next one is wrong
-  module _ (t : List ℕ) (rest : List RunLine) where
-    next_fault : (e : LineError) → Fails e (parsed_line (before_next old) t) → (base : List SceneEvent) → is_begun base ≡ old.is_begun → IsNextFault new.next (lines_after base (parsed_lines new.run)) (plain_line t ∷ rest) (fault_at old.next e)
+  module _ (t : RunLine) (rest : List RunLine) where
+    next_fault : (e : LineError) → Fails e (line_value (before_next old) t) → (base : List SceneEvent) → is_begun base ≡ old.is_begun → IsNextFault new.next (lines_after base (parsed_lines new.run)) (t ∷ rest) (fault_at old.next e)
     next_fault (error.Fault f) wrong base is = (
       sym place,
-      (plain_line t, rest, refl, subst (λ x. line_read (lines_after base x) (plain_line t) ≡ Err f) (sym run) (read_behind base old t is ∙ ap (λ r. told_after base (lines_with (parsed_lines old.run) r)) wrong)),
+      (t, rest, refl, subst (λ x. line_read (lines_after base x) t ≡ Err f) (sym run) (read_behind base old t is ∙ ap (λ r. told_after base (lines_with (parsed_lines old.run) r)) wrong)),
     )
     next_fault error.OutOfMemory wrong base is = tt
 
-    pub leaves_here : (e : LineError) → Fails e (parsed_line (before_next old) t) → LeavesLines old new (plain_line t ∷ rest) (fault_at old.next e)
-    leaves_here e wrong = record { front = []; rest = plain_line t ∷ rest; whole = refl; reads = reads_same; wrong = next_fault e wrong }
+    pub leaves_here : (e : LineError) → Fails e (line_value (before_next old) t) → LeavesLines old new (t ∷ rest) (fault_at old.next e)
+    leaves_here e wrong = record { front = []; rest = t ∷ rest; whole = refl; reads = reads_same; wrong = next_fault e wrong }
 
 pub reads_none : (old : LinesRead) → ReadsLines old old []
 reads_none old = reads_same old old refl refl refl refl
@@ -115,13 +115,13 @@ pub record ReadsOn (first now : LinesRead) (lines left : List RunLine) : Type 0 
   pub leaves : (new : LinesRead) (f : ReadFault) → LeavesLines now new left f → LeavesLines first new lines f
 
 -- one line was read
-module _ (old mid : LinesRead) (t : List ℕ) (one : lines_with (parsed_lines old.run) (parsed_line (before_next old) t) ≡ Ok (parsed_lines mid.run)) (noted : NotesLine old mid)
+module _ (old mid : LinesRead) (t : RunLine) (one : lines_with (parsed_lines old.run) (line_value (before_next old) t) ≡ Ok (parsed_lines mid.run)) (noted : NotesLine old mid)
     (begun : mid.is_begun ≡ old.is_begun) (place : mid.next ≡ old.next + 1) where
   -- and others after it
-  pub reads_more : (new : LinesRead) (ts : List RunLine) → ReadsLines mid new ts → ReadsLines old new (plain_line t ∷ ts)
+  pub reads_more : (new : LinesRead) (ts : List RunLine) → ReadsLines mid new ts → ReadsLines old new (t ∷ ts)
   unfolding event_lines
   reads_more new ts more =
-      let behind : (base : List SceneEvent) → is_begun base ≡ old.is_begun → line_read (lines_after base (parsed_lines old.run)) (plain_line t) ≡ Ok (lines_after base (parsed_lines mid.run)) =
+      let behind : (base : List SceneEvent) → is_begun base ≡ old.is_begun → line_read (lines_after base (parsed_lines old.run)) t ≡ Ok (lines_after base (parsed_lines mid.run)) =
       λ base is. read_behind base old t is ∙ ap (told_after base) one in
       record {
         tells = λ base is. (lines_after base (parsed_lines mid.run), behind base is, more.tells base (is ∙ sym begun));
@@ -135,16 +135,16 @@ module _ (old mid : LinesRead) (t : List ℕ) (one : lines_with (parsed_lines ol
       }
 
   -- or the first of them, and these are left
-  pub leaves_more : (new : LinesRead) (ts : List RunLine) (f : ReadFault) → LeavesLines mid new ts f → LeavesLines old new (plain_line t ∷ ts) f
+  pub leaves_more : (new : LinesRead) (ts : List RunLine) (f : ReadFault) → LeavesLines mid new ts f → LeavesLines old new (t ∷ ts) f
   leaves_more new ts f left = record {
-    front = plain_line t ∷ left.front;
+    front = t ∷ left.front;
     rest = left.rest;
-    whole = ap (λ ls. plain_line t ∷ ls) left.whole;
+    whole = ap (λ ls. t ∷ ls) left.whole;
     reads = reads_more new left.front left.reads;
     wrong = λ base is. left.wrong base (is ∙ sym begun);
   }
 
-  pub reads_on : (first : LinesRead) (lines ts : List RunLine) → ReadsOn first old lines (plain_line t ∷ ts) → ReadsOn first mid lines ts
+  pub reads_on : (first : LinesRead) (lines ts : List RunLine) → ReadsOn first old lines (t ∷ ts) → ReadsOn first mid lines ts
   reads_on first lines ts on = record { reads = λ new r. on.reads new (reads_more new ts r); leaves = λ new f r. on.leaves new f (leaves_more new ts f r) }
 
 -- memory is refused before the next

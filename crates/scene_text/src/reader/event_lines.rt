@@ -6,7 +6,7 @@ ghost use Rattle.scene_fields.specs.Fields.{answered, field, Gives};
 ghost use Rattle.scene_fields.specs.Lists.{errors_in};
 ghost use Rattle.scene_fields.specs.Split.{field_texts};
 ghost use Rattle.scene_fields.specs.Texts.{bytes_in, text_in};
-ghost use Rattle.scene_text.specs.EventLines.{after_streams, all_attempts, answer_fields, answer_script_line_fields, answer_test_line_fields, attempt_fields, attempts_behind, cancel_line_fields, done_line_fields, empty_output_fields, end_line_fields, end_stress_line_fields, header_line_fields, info_line_fields, input_line_fields, made, not_seen_fields, output_fields, pause_line_fields, prefix_line_fields, retry_fields, retry_line_fields, retry_start_line_fields, run_line_fields, script_fields, setup_done_line_fields, setup_line_fields, setup_slow_line_fields, slow_line_fields, some_text_in, start_line_fields, state_fields, stream_in, sub_end_line_fields, TakesEmptyOutput, test_fields, unique_prefix_fields};
+ghost use Rattle.scene_text.specs.EventLines.{after_streams, all_attempts, answer_fields, answer_script_line_fields, answer_test_line_fields, attempt_fields, attempts_behind, cancel_line_fields, done_line_fields, empty_output_fields, end_line_fields, end_stress_line_fields, header_line_fields, info_line_fields, input_line_fields, made, not_seen_fields, output_fields, pause_line_fields, prefix_line_fields, retry_fields, retry_line_fields, retry_start_line_fields, run_line_fields, script_fields, setup_done_line_fields, setup_line_fields, setup_slow_line_fields, slow_line_fields, some_text_in, spelled_output_fields, start_line_fields, state_fields, stream_in, sub_end_line_fields, TakesEmptyOutput, TakesStoredOutput, test_fields, unique_prefix_fields};
 ghost use Rattle.std.specs.Prelude.{drop, IfOk, IsTrue, ◌++◌, ◌≡◌};
 
 use super::binary_ids::BinaryIds;
@@ -20,6 +20,7 @@ use run_model::abort::DescriptionText;
 use run_model::boxed::Boxed;
 use run_model::event::TestCounts;
 use run_model::info::UnitState;
+use run_model::memory::OutOfMemory;
 use run_model::not_seen::NotSeen;
 use run_model::output::{ChildOutputDescription, ChildSingleOutput, ErrorChain};
 use run_model::run_id::ShortestRunIdPrefix;
@@ -227,7 +228,7 @@ fn read_attempt(alloc: Global, fields: &mut Fields<'_>, retry_data: RetryData) -
 fn read_attempt_output(alloc: Global, fields: &mut Fields<'_>) -> Line<AttemptOutput>
     ensures { Gives (λ o. o) fields.old result fields.new output_fields }
 {
-    if take_empty_output(fields) {
+    if take_empty_output(fields)? {
         return Ok(AttemptOutput::empty());
     }
     read_written_output(alloc, fields)
@@ -360,10 +361,36 @@ fn read_unit_state(
     Ok((state, outcome))
 }
 
-/// Reads what a unit wrote.
-#[tactic(auto, unfolding(crate::specs::EventLines::output_fields))]
+/// Reads what a unit wrote. A stored output is noted, and left unread.
 pub fn read_output(alloc: Global, fields: &mut Fields<'_>) -> Line<SceneOutput>
     ensures { Gives (λ o. o) fields.old result fields.new output_fields }
+{
+    if take_stored_output(fields)? {
+        return read_after_streams(alloc, fields, ChildOutputDescription::NotLoaded);
+    }
+    read_spelled_output(alloc, fields)
+}
+
+// Notes the output that comes next, and takes its form and its streams if it is stored.
+#[inline(always)]
+fn take_stored_output(fields: &mut Fields<'_>) -> Result<bool, OutOfMemory>
+    ensures { IfOk result (λ taken. TakesStoredOutput taken fields.old fields.new) }
+{
+    let stored = fields.next_stored();
+    fields.note(stored)?;
+    match stored {
+        Some(_) => {
+            fields.pass(3);
+            Ok(true)
+        }
+        None => Ok(false),
+    }
+}
+
+// Reads an output as its fields spell it.
+#[tactic(auto, unfolding(crate::specs::EventLines::spelled_output_fields))]
+fn read_spelled_output(alloc: Global, fields: &mut Fields<'_>) -> Line<SceneOutput>
+    ensures { Gives (λ o. o) fields.old result fields.new spelled_output_fields }
 {
     match fields.take()? {
         "split" => {
@@ -394,16 +421,17 @@ pub fn read_output(alloc: Global, fields: &mut Fields<'_>) -> Line<SceneOutput>
     }
 }
 
-/// Takes the five fields of an empty output, if they come next.
+/// Takes the five fields of an empty output, if they come next, and counts it.
 #[inline(always)]
-pub fn take_empty_output(fields: &mut Fields<'_>) -> bool
-    ensures { TakesEmptyOutput result fields.old fields.new }
+pub fn take_empty_output(fields: &mut Fields<'_>) -> Result<bool, OutOfMemory>
+    ensures { IfOk result (λ taken. TakesEmptyOutput taken fields.old fields.new) }
 {
     if !is_empty_output(fields.borrowed()) {
-        return false;
+        return Ok(false);
     }
+    fields.note(None)?;
     fields.pass(5);
-    true
+    Ok(true)
 }
 
 // Whether an output that holds nothing comes first.

@@ -1,9 +1,8 @@
 //! The kinds of line that a scene has, and the fields of a `config` line.
 
 ghost use Rattle.std.specs.Prelude.{◌≡◌};
-ghost use Rattle.scene_fields.specs.Fields.{Reads, answered};
+ghost use Rattle.scene_fields.specs.Fields.{Gives, answered};
 ghost use Rattle.scene_text.specs.EventLines.{by_row, config_line_fields, event_line_fields, other_event_rows, run_event_rows, unknown};
-ghost use Rattle.scene_text.specs.SceneTexts.{event_of};
 
 use super::EventResult;
 use super::binary_ids::BinaryIds;
@@ -29,16 +28,39 @@ use std::alloc::Global;
 /// are theirs.
 #[inline(always)]
 #[tactic(auto, unfolding(crate::specs::EventLines::event_rows))]
-pub fn read_event(alloc: Global, ids: &mut BinaryIds, word: &str, fields: Fields<'_>) -> EventResult
-    ensures { Reads (λ e. e) result (event_of (event_line_fields word.now fields.entry)) }
+pub fn read_event(
+    alloc: Global,
+    ids: &mut BinaryIds,
+    word: &str,
+    fields: &mut Fields<'_>,
+) -> EventResult
+    ensures { Gives (λ e. e) fields.old result fields.new (event_line_fields word.now) }
 {
     match word {
-        "done" => read_done(alloc, ids, &mut fields.with_attempts()?),
-        "start" => read_start(alloc, ids, &mut fields.exactly(5)?),
-        "retrystart" => read_retry_start(alloc, ids, &mut fields.exactly(6)?),
-        "slow" => read_slow(alloc, ids, &mut fields.exactly(7)?),
-        "retry" => read_retry(alloc, ids, &mut fields.exactly(15)?),
-        "skip" => read_skip(alloc, ids, &mut fields.exactly(3)?),
+        "done" => {
+            fields.with_attempts()?;
+            read_done(alloc, ids, fields)
+        }
+        "start" => {
+            fields.exactly(5)?;
+            read_start(alloc, ids, fields)
+        }
+        "retrystart" => {
+            fields.exactly(6)?;
+            read_retry_start(alloc, ids, fields)
+        }
+        "slow" => {
+            fields.exactly(7)?;
+            read_slow(alloc, ids, fields)
+        }
+        "retry" => {
+            fields.exactly(15)?;
+            read_retry(alloc, ids, fields)
+        }
+        "skip" => {
+            fields.exactly(3)?;
+            read_skip(alloc, ids, fields)
+        }
         word => read_other_event(alloc, ids, word, fields),
     }
 }
@@ -51,21 +73,51 @@ fn read_other_event(
     alloc: Global,
     ids: &mut BinaryIds,
     word: &str,
-    fields: Fields<'_>,
+    fields: &mut Fields<'_>,
 ) -> EventResult
-    ensures { Reads (λ e. e) result (event_of (by_row unknown other_event_rows word.now fields.entry)) }
+    ensures { Gives (λ e. e) fields.old result fields.new (by_row unknown other_event_rows word.now) }
 {
     match word {
-        "prefix" => read_prefix(alloc, &mut fields.exactly(2)?),
-        "header" => read_header(alloc, &mut fields.exactly(5)?),
-        "run" => read_run(alloc, &mut fields.exactly(5)?),
-        "setup" => read_setup(alloc, &mut fields.exactly(6)?),
-        "setupslow" => read_setup_slow(alloc, &mut fields.exactly(6)?),
-        "setupdone" => read_setup_done(alloc, &mut fields.exactly(12)?),
-        "answer-script" => read_answer_script(alloc, &mut fields.exactly(13)?),
-        "answer-test" => read_answer_test(alloc, ids, &mut fields.exactly(14)?),
-        "end" => read_end(alloc, &mut fields.exactly(4)?),
-        "endstress" => read_end_stress(alloc, &mut fields.exactly(7)?),
+        "prefix" => {
+            fields.exactly(2)?;
+            read_prefix(alloc, fields)
+        }
+        "header" => {
+            fields.exactly(5)?;
+            read_header(alloc, fields)
+        }
+        "run" => {
+            fields.exactly(5)?;
+            read_run(alloc, fields)
+        }
+        "setup" => {
+            fields.exactly(6)?;
+            read_setup(alloc, fields)
+        }
+        "setupslow" => {
+            fields.exactly(6)?;
+            read_setup_slow(alloc, fields)
+        }
+        "setupdone" => {
+            fields.exactly(12)?;
+            read_setup_done(alloc, fields)
+        }
+        "answer-script" => {
+            fields.exactly(13)?;
+            read_answer_script(alloc, fields)
+        }
+        "answer-test" => {
+            fields.exactly(14)?;
+            read_answer_test(alloc, ids, fields)
+        }
+        "end" => {
+            fields.exactly(4)?;
+            read_end(alloc, fields)
+        }
+        "endstress" => {
+            fields.exactly(7)?;
+            read_end_stress(alloc, fields)
+        }
         word => read_run_event(alloc, word, fields),
     }
 }
@@ -73,22 +125,47 @@ fn read_other_event(
 // Reads the fields behind a word that names an event of the run as it goes on. They hold no text, so only the event allocates.
 #[inline(never)]
 #[tactic(auto, unfolding(crate::specs::EventLines::run_event_rows))]
-fn read_run_event(alloc: Global, word: &str, fields: Fields<'_>) -> EventResult
-    ensures { Reads (λ e. e) result (event_of (by_row unknown run_event_rows word.now fields.entry)) }
+fn read_run_event(alloc: Global, word: &str, fields: &mut Fields<'_>) -> EventResult
+    ensures { Gives (λ e. e) fields.old result fields.new (by_row unknown run_event_rows word.now) }
 {
     match word {
         "substart" => {
-            let progress = fields.exactly(1)?.read(read_progress)?;
+            fields.exactly(1)?;
+            let progress = fields.read(read_progress)?;
             Ok(SceneEvent::StressSubRunStarted(Boxed::new(alloc, progress)?))
         }
-        "cancel" => Ok(SceneEvent::RunBeginCancel(read_cancel(alloc, &mut fields.exactly(3)?)?)),
-        "kill" => Ok(SceneEvent::RunBeginKill(read_cancel(alloc, &mut fields.exactly(3)?)?)),
-        "pause" => Ok(SceneEvent::RunPaused(read_pause(alloc, &mut fields.exactly(2)?)?)),
-        "continue" => Ok(SceneEvent::RunContinued(read_pause(alloc, &mut fields.exactly(2)?)?)),
-        "info" => read_info(alloc, &mut fields.exactly(3)?),
-        "infoend" => Ok(SceneEvent::InfoFinished(fields.exactly(1)?.read(read_count)?)),
-        "input" => read_input(alloc, &mut fields.exactly(3)?),
-        "subend" => read_sub_end(alloc, &mut fields.exactly(3)?),
+        "cancel" => {
+            fields.exactly(3)?;
+            Ok(SceneEvent::RunBeginCancel(read_cancel(alloc, fields)?))
+        }
+        "kill" => {
+            fields.exactly(3)?;
+            Ok(SceneEvent::RunBeginKill(read_cancel(alloc, fields)?))
+        }
+        "pause" => {
+            fields.exactly(2)?;
+            Ok(SceneEvent::RunPaused(read_pause(alloc, fields)?))
+        }
+        "continue" => {
+            fields.exactly(2)?;
+            Ok(SceneEvent::RunContinued(read_pause(alloc, fields)?))
+        }
+        "info" => {
+            fields.exactly(3)?;
+            read_info(alloc, fields)
+        }
+        "infoend" => {
+            fields.exactly(1)?;
+            Ok(SceneEvent::InfoFinished(fields.read(read_count)?))
+        }
+        "input" => {
+            fields.exactly(3)?;
+            read_input(alloc, fields)
+        }
+        "subend" => {
+            fields.exactly(3)?;
+            read_sub_end(alloc, fields)
+        }
         _ => Err(LineError::Fault(LineFault::UnknownEvent)),
     }
 }

@@ -1,12 +1,14 @@
 -- Lines that were read piece by piece, and which of them says an event (for `read_next`, `read_lines`, `read_whole`, `follow_lines`).
-use Rattle.std.proofs.Common.{bytes_eq, codes, if◌then◌else◌, ◌≡◌, ◌⊎◌, ℕ, ◌+◌, true, List, [], ◌∷◌, ◌++◌, Result, Ok, Err, length, get_or, refl, sym, ap, ◌∙◌, subst, arith, append-nil, append_assoc, inl, inr, Bool, false, Option, Some, map, ◌==◌}
+use Rattle.std.proofs.Common.{bytes_eq, codes, if◌then◌else◌, ◌≡◌, ◌⊎◌, ℕ, ◌+◌, true, List, [], ◌∷◌, ◌++◌, Result, Ok, Err, length, get_or, refl, sym, ap, ◌∙◌, subst, arith, append-nil, append_assoc, inl, inr, Bool, false, Option, None, Some, map, ◌==◌}
 use native.Mathlib.Numerals.{unary_clauses}
 use Rattle.scenes.proofs.Common.{AllRead, AtLine, EventLine, is_begun, length-append, line_value, LineFault, lines_before, lines_with, nat_lt, nat_tests, ParsedLine, ParsedLines, RunLine, SceneConfig, SceneEvent, with_line, all_append, AreLeft, AreLeftOf, begun_behind, cases_Bool, false≢true, Fault, fault_of_read, HasReadLines, is_begun_behind, IsMore, IsNextFault, IsNextPiece, IsUnread, lines_after, LinesRead, map-append, no_lines, parsed_lines, ReadFault, text_lines, text_read}
 use Rattle.std.proofs.lemmas.List.{append_cancel_left}
-use Rattle.scene_text.specs.SceneTexts.{ConfigLine, NoEvent, event_lines, is_passed_over, line_read, LinesBefore, event_of, parsed_line, event_line, with_event, parsed_words, parsed_config, LeavesLines, ReadsLines, lines_read, plain_line}
+use Rattle.scene_text.specs.SceneTexts.{ConfigLine, NoEvent, event_lines, is_passed_over, line_read, LinesBefore, PlainLine, RecordedLine, config_words, event_line, line_from, line_place, line_words, value_of, with_made, LeavesLines, ReadsLines, lines_read, plain_line}
 use Rattle.std.proofs.lemmas.Bool.{cond_both}
-use Rattle.scene_text.specs.EventLines.{event_line_fields}
-use Rattle.scene_fields.specs.Fields.{Place}
+use Rattle.scene_text.specs.EventLines.{event_line_fields, made}
+use Rattle.scene_fields.specs.Fields.{Noted, Place, goes_on, none_noted, says, stored_of}
+use Rattle.scene_fields.specs.declared.stored.PlacedOutput.{PlacedOutput}
+use Rattle.std.specs.Result.{result_map_both}
 use Rattle.std.specs.Str.{is_utf8}
 use Rattle.scene_fields.specs.declared.fault.LineFault.TheVariants.{NotUtf8}
 use Rattle.scene_fields.specs.Split.{split_on}
@@ -152,7 +154,7 @@ not_less n = grind (arith, nat_tests)
 
 -- where no line is left but an empty one, that tells nothing
 last_tells : (n : ℕ) (run : ParsedLines) (left : List RunLine) → AreLeft left [] → AllRead run left run × (event_lines n run left ≡ [])
-unfolding event_lines line_read parsed_line split_on
+unfolding event_lines line_read line_from split_on
 last_tells n run left (inl last) = rw (last, not_less (length run.events)) ((run, refl, refl), refl)
 last_tells n run left (inr none) = rw none.0 (refl, refl)
 
@@ -224,26 +226,43 @@ abbrev SaysNone : Said → Type 0
 SaysNone (Ok (ConfigLine c)) = ⊥
 SaysNone other = Unit {0}
 
-by_event : (r : Result SceneEvent LineFault) → SaysNone (event_line r)
+-- the same of what its fields say, wherever they end
+abbrev Read : Type 0
+Read = Result (ParsedLine × Place) LineFault
+
+abbrev ReadsNone : Read → Type 0
+ReadsNone r = SaysNone (value_of r)
+
+by_event : (r : Result (SceneEvent × Place) LineFault) → ReadsNone (goes_on (λ e. says (EventLine e)) r)
 by_event (Ok x) = tt
 by_event (Err f) = tt
 
-by_line : (config : SceneConfig) (words : List (List ℕ)) → SaysNone (parsed_words (behind config) words)
-by_line config [] = tt
-by_line config (word ∷ fields) =
-    let place : Place = record { number = 1; left = fields } in
-    let event : Said = event_line (event_of (event_line_fields word place)) in
-    cond_both (bytes_eq word (codes "config")) (parsed_config (behind config) place) event SaysNone (λ configures. tt) (λ tells. by_event (event_of (event_line_fields word place)))
+by_line : (config : SceneConfig) (number : ℕ) (noted : Option Noted) (words : List (List ℕ)) → ReadsNone (line_words (behind config) (record { number = number; left = words; noted = noted }))
+by_line config number noted [] = tt
+by_line config number noted (word ∷ fields) =
+    let place : Place = record { number = number + 1; left = fields; noted = noted } in
+    cond_both (bytes_eq word (codes "config")) (config_words (behind config) place) (made EventLine (event_line_fields word) place) ReadsNone (λ configures. tt) (λ tells. by_event (event_line_fields word place))
 
-says_none : (config : SceneConfig) (t : List ℕ) → SaysNone (parsed_line (behind config) t)
-unfolding parsed_line
-says_none config t =
-    let words : Said = parsed_words (behind config) (split_on 9 t) in
-    cond_both (is_passed_over t) (Ok NoEvent) (if is_utf8 t then words else Err NotUtf8) SaysNone (λ passed. tt) (λ told. cond_both (is_utf8 t) words (Err NotUtf8) SaysNone (λ good. by_line config (split_on 9 t)) (λ bad. tt))
+reads_none_behind : (config : SceneConfig) (noted : Option Noted) (t : List ℕ) → ReadsNone (line_from noted (behind config) t)
+unfolding line_from
+reads_none_behind config noted t =
+    let words : Read = line_words (behind config) (line_place noted t) in
+    cond_both (is_passed_over t) (says NoEvent (line_place noted t)) (if is_utf8 t then words else Err NotUtf8) ReadsNone (λ passed. tt)
+    (λ told. cond_both (is_utf8 t) words (Err NotUtf8) ReadsNone (λ good. by_line config 0 noted (split_on 9 t)) (λ bad. tt))
 
-with_none_made : (make : SceneEvent → Result SceneEvent LineFault) (r : Said) → SaysNone r → SaysNone (with_event make r)
-with_none_made make (Ok (EventLine e)) none = by_event (make e)
-with_none_made make other none = none
+made_none : (r : Result SceneEvent LineFault) → SaysNone (event_line r)
+made_none (Ok x) = tt
+made_none (Err f) = tt
+
+with_none_made : (make : List PlacedOutput → SceneEvent → Result SceneEvent LineFault) (r : Read) → ReadsNone r → SaysNone (with_made make (result_map_both (λ x. (x.0, stored_of x.1.noted)) (λ f. f) r))
+with_none_made make (Ok (NoEvent, p)) none = tt
+with_none_made make (Ok (ConfigLine c, p)) none = none
+with_none_made make (Ok (EventLine e, p)) none = made_none (make (stored_of p.noted) e)
+with_none_made make (Err f) none = tt
+
+says_none : (config : SceneConfig) (t : RunLine) → SaysNone (line_value (behind config) t)
+says_none config (PlainLine t) = reads_none_behind config None t
+says_none config (RecordedLine t make) = with_none_made (make (behind config)) (line_from (Some none_noted) (behind config) t) (reads_none_behind config (Some none_noted) t)
 
 begun_by : (es : List SceneEvent) (e : SceneEvent) → is_begun (es ++ e ∷ []) ≡ true
 begun_by [] e = refl
@@ -269,7 +288,7 @@ with_cases before after t (Err f) says none h = absurd (cc)
 cases : (before after : ParsedLines) (t : RunLine) → line_read before t ≡ Ok after → Does before after t
 unfolding line_read
 cases before after t h =
-    with_cases before after t (line_value (lines_before before) t) refl (λ begun. rw begun (with_none_made (t.made (behind before.config)) (parsed_line (behind before.config) t.text) (says_none before.config t.text))) h
+    with_cases before after t (line_value (lines_before before) t) refl (λ begun. rw begun (says_none before.config t)) h
 
 one_kept : (before after : ParsedLines) (t : RunLine) → is_begun before.events ≡ true → line_read before t ≡ Ok after → (after.config ≡ before.config) × (is_begun after.events ≡ true)
 one_kept before after t begun h = elim (cases before after t h) [
@@ -283,7 +302,7 @@ config_kept before [] after begun h = ap (λ x. x.config) (sym h)
 config_kept before (t ∷ ts) after begun h = (let one = one_kept before h.0 t begun h.1 in config_kept h.0 ts after one.1 h.2 ∙ one.0)
 
 -- lines tell further events
-grown : (before : ParsedLines) (ts : List RunLine) (after : ParsedLines) → AllRead before ts after → (more : List SceneEvent) × (after.events ≡ before.events ++ more)
+pub grown : (before : ParsedLines) (ts : List RunLine) (after : ParsedLines) → AllRead before ts after → (more : List SceneEvent) × (after.events ≡ before.events ++ more)
 grown before [] after h = ([], ap (λ x. x.events) (sym h) ∙ sym (append-nil before.events))
 grown before (t ∷ ts) after h =
     let next = grown h.0 ts after h.2 in

@@ -1,0 +1,12 @@
+use Rattle.std.proofs.Common.{◌≡◌, drop}
+use Rattle.recorded.specs.Events.{is_there}
+use Rattle.recorded.proofs.lemmas.Fields.{IsLeft}
+use Rattle.recorded.proofs.events.check_all_there.Given as goal
+
+-- the outputs so far are there
+abbrev pub invariant-loop-placed : goal.invariant-loop-placed
+invariant-loop-placed g l = record {
+  there : IsLeft is_there (g.O.ReadAt.recorded l.fn.outputs.source) (drop l.placed-index l.stored) l.stored;
+  kept : g.O.ReadAt.recorded l.outputs.source ≡ g.O.ReadAt.recorded l.fn.outputs.source;
+  count : g.O.ReadAt.count l.outputs.source ≡ g.O.ReadAt.count l.fn.outputs.source;
+}

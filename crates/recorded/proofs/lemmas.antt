@@ -1,0 +1,12 @@
+pub mod Fields
+pub mod Inline
+pub mod LeftLines
+pub mod LoadedLines
+pub mod Loaded
+pub mod Reports
+pub mod Rows
+pub mod Skipped
+pub mod Skips
+pub mod Streams
+pub mod Unloaded
+pub mod WholeLines

@@ -1,0 +1,155 @@
+-- What is left of a recorded run, line by line (for `read_next`).
+use Rattle.std.proofs.Common.{◌≡◌, ℕ, ◌+◌, Bool, true, false, List, [], ◌∷◌, ◌++◌, Option, Some, Result, Ok, Err, length, map, refl, sym, ap, ◌∙◌, subst, arith, append_assoc, inl, inr}
+use Rattle.std.proofs.lemmas.List.{length-append}
+use Rattle.command_line.specs.declared.args.Options.{Options}
+use Rattle.command_line.specs.declared.fault.Fault.{Fault}
+use Rattle.recorded.proofs.lemmas.LoadedLines.{before_is, behind, one_read}
+use Rattle.recorded.proofs.lemmas.WholeLines.{whole_lines-more}
+use Rattle.recorded.specs.Events.{event_replayed}
+use Rattle.recorded.specs.NextLines.{CountsLine, IsNextLine, LeavesLine}
+use Rattle.recorded.specs.Outputs.{counted}
+use Rattle.recorded.specs.Runs.{before_behind, before_rest, line_replayed, lines_replayed, needed, needed_for, whole_lines}
+use Rattle.recorded.specs.Source.{IsLeft}
+use Rattle.scene_events.specs.declared.scene.event.SceneEvent.{SceneEvent}
+use Rattle.scene_fields.specs.declared.fault.LineFault.{LineFault}
+use Rattle.scene_fields.specs.declared.fault.ReadFault.{ReadFault}
+use Rattle.scene_fields.specs.declared.fault.ReadFault.TheVariants as fault
+use Rattle.scene_fields.specs.declared.stored.PlacedOutput.{PlacedOutput}
+use Rattle.scene_text.proofs.lemmas.Tellings.{all_append, noted_append}
+use Rattle.scene_text.specs.SceneTexts.{ConfigLine, EventLine, IsNextFault, LinesBefore, NoEvent, ParsedLine, ParsedLines, ReadsLines, RunLine, before_next, event_line, event_lines, is_begun, line_read, lines_before, lines_with, recorded_line, with_line, with_made}
+use Rattle.scene_text.specs.declared.reader.LinesRead.{LinesRead}
+use Rattle.scenes.specs.Read.{HasReadLines, IsMore}
+use Rattle.scenes.specs.Reports.{decider_for}
+
+-- what stands before the line behind one that tells
+begun_more : (es : List SceneEvent) (e : SceneEvent) → is_begun (es ++ e ∷ []) ≡ true
+begun_more [] e = refl
+begun_more (x ∷ es) e = refl
+
+before_made : (run after : ParsedLines) (made : Result SceneEvent LineFault) (e : SceneEvent) → lines_with run (event_line made) ≡ Ok after → lines_before after ≡ before_behind (lines_before run) (EventLine e)
+before_made run after (Ok made) e h =
+    let same : with_line run (EventLine made) ≡ after = cc in
+    ap lines_before (sym same) ∙ ap (λ b. record { config = run.config; is_begun = b }) (begun_more run.events made)
+before_made run after (Err f) e h = absurd (cc)
+
+before_so : (run after : ParsedLines) (make : List PlacedOutput → SceneEvent → Result SceneEvent LineFault) (says : Result (ParsedLine × List PlacedOutput) LineFault) → lines_with run (with_made make says) ≡ Ok after → lines_before after ≡ before_rest (lines_before run) says
+before_so run after make (Ok (NoEvent, stored)) h = let same : run ≡ after = cc in ap lines_before (sym same)
+before_so run after make (Ok (ConfigLine c, stored)) h = let same : with_line run (ConfigLine c) ≡ after = cc in ap lines_before (sym same)
+before_so run after make (Ok (EventLine e, stored)) h = before_made run after (make stored e) e h
+before_so run after make (Err f) h = absurd (cc)
+
+before_others : (options : Options) (all : List ℕ) (run after : ParsedLines) (t : List ℕ) → line_read run (line_replayed options all t) ≡ Ok after → lines_before after ≡ before_rest (lines_before run) (recorded_line (lines_before run) t)
+unfolding line_read
+before_others options all run after t h = before_so run after (λ stored e. event_replayed all (decider_for options run.config) stored e) (recorded_line (lines_before run) t) h
+
+-- what the first line needs, and the others
+needed_first : (options : Options) (before : LinesBefore) (t : List ℕ) (ts : List (List ℕ)) → needed options before (t ∷ ts) ≡ needed_for options before (recorded_line before t) + needed options (before_rest before (recorded_line before t)) ts
+unfolding needed
+needed_first options before t ts = refl
+
+next_fault : (n : ℕ) (run : ParsedLines) (lines others : List RunLine) (f : ReadFault) → IsNextFault n run lines f → IsNextFault n run (lines ++ others) f
+next_fault n run lines others (fault.Line m f) h = (h.0, (h.1.0, h.1.1 ++ others, ap (λ ls. ls ++ others) h.1.2, h.1.3))
+next_fault n run lines others fault.OutOfMemory h = tt
+
+module _ (file : List ℕ) (total : ℕ) (options : Options) (all front : List RunLine) (before : ParsedLines) (old : LinesRead) (recorded remaining : Option (List ℕ)) (count : ℕ) where
+  abbrev Left : ParsedLines → List RunLine → Type 0
+  Left = IsLeft total options recorded remaining count
+
+  module _ (has : HasReadLines file all front before old (Ok true) Left) where
+    -- further lines were read
+    further : (new : LinesRead) (lines left : List RunLine) → has.left ≡ lines ++ left → ReadsLines old new lines → (more : Result Bool Fault) (Next : ParsedLines → List RunLine → Type 0) → IsMore file more (behind before.events new) left new.next Next →
+        HasReadLines file all front before new more Next
+    further new lines left is reads more Next more_is =
+        let size = length-append has.lines lines in
+        record {
+          lines = has.lines ++ lines;
+          left = left;
+          whole = has.whole ∙ ap (λ ls. front ++ ls) (ap (λ ls. has.lines ++ ls) is ∙ sym (append_assoc has.lines lines left));
+          forgotten = has.forgotten;
+          tells = all_append before has.lines (behind before.events old) lines (behind before.events new) has.tells (reads.tells before.events has.begun);
+          noted =
+              reads.noted before.events has.begun ∙ ap (λ ls. ls ++ event_lines old.next (behind before.events old) lines) has.noted
+              ∙ sym (noted_append (length front + 1) old.next before has.lines (behind before.events old) lines has.place has.tells);
+          place = omega (arith, size, reads.place, has.place);
+          begun = has.begun ∙ sym reads.begun;
+          more_is = more_is;
+        }
+
+    module _ (recorded_new remaining_new : Option (List ℕ)) (kept : recorded_new ≡ recorded) (line : List ℕ) where
+      -- no line is left
+      pub none_left : ((text : List ℕ) → remaining ≡ Some text → IsNextLine text false line remaining_new) → (new : LinesRead) → new ≡ old → HasReadLines file all front before new (Ok false) (IsLeft total options recorded_new remaining_new count)
+      none_left next new same =
+          let left = has.more_is in
+          let ends = next left.text left.rest in
+          let none : has.left ≡ [] = left.is ∙ ap (map (line_replayed options left.all)) ends.0 in
+          subst (λ r. HasReadLines file all front before r (Ok false) (IsLeft total options recorded_new remaining_new count)) (sym same) (record {
+            lines = has.lines;
+            left = has.left;
+            whole = has.whole;
+            forgotten = has.forgotten;
+            tells = has.tells;
+            noted = has.noted;
+            place = has.place;
+            begun = has.begun;
+            more_is = (
+              inr (none, refl),
+              record {
+                all = left.all;
+                text = ends.1.0;
+                outputs = kept ∙ left.outputs;
+                rest = ends.1.1;
+                is = ap (map (line_replayed options left.all)) (sym ends.1.2);
+                counts = left.counts ∙ ap (λ ts. counted count (needed options (lines_before (behind before.events old)) ts)) (ends.0 ∙ sym ends.1.2);
+              },
+            );
+          })
+
+      -- the next one is there
+      module _ (next : (text : List ℕ) → remaining ≡ Some text → IsNextLine text true line remaining_new) (new : LinesRead) where
+        abbrev all_outputs : List ℕ
+        all_outputs = has.more_is.all
+
+        abbrev more : List ℕ
+        more = (next has.more_is.text has.more_is.rest).0
+
+        abbrev others : List RunLine
+        others = lines_replayed options all_outputs more
+
+        lines_are : whole_lines has.more_is.text ≡ line ∷ whole_lines more
+        lines_are = let n = next has.more_is.text has.more_is.rest in ap whole_lines n.2 ∙ whole_lines-more line n.0 n.3
+
+        left_is : has.left ≡ line_replayed options all_outputs line ∷ others
+        left_is = has.more_is.is ∙ ap (map (line_replayed options all_outputs)) lines_are
+
+        -- and was read
+        pub line_is_read : (count_new : ℕ) → ((outputs : List ℕ) → recorded ≡ Some outputs → ReadsLines old new (line_replayed options outputs line ∷ [])) → CountsLine options old line count count_new →
+            HasReadLines file all front before new (Ok true) (IsLeft total options recorded_new remaining_new count_new)
+        line_is_read count_new reads counts =
+            let read = reads all_outputs has.more_is.outputs in
+            let b = lines_before (behind before.events old) in
+            let says = recorded_line b line in
+            let then : lines_before (behind before.events new) ≡ before_rest b says =
+            before_others options all_outputs (behind before.events old) (behind before.events new) line (one_read old new (line_replayed options all_outputs line) read before.events has.begun) in
+            let needs : needed options b (whole_lines has.more_is.text) ≡ needed_for options b says + needed options (before_rest b says) (whole_lines more) = ap (needed options b) lines_are ∙ needed_first options b line (whole_lines more) in
+            let here : needed_for options (before_next old) (recorded_line (before_next old) line) ≡ needed_for options b says = ap (λ x. needed_for options x (recorded_line x line)) (sym (before_is before.events old has.begun)) in
+            further new (line_replayed options all_outputs line ∷ []) others left_is read (Ok true) (IsLeft total options recorded_new remaining_new count_new) (record {
+              all = all_outputs;
+              text = more;
+              outputs = kept ∙ has.more_is.outputs;
+              rest = (next has.more_is.text has.more_is.rest).1;
+              is = refl;
+              counts =
+                  has.more_is.counts ∙ ap (counted count) needs ∙ ap (λ n. counted count (n + needed options (before_rest b says) (whole_lines more))) (sym here)
+                  ∙ sym (counts (needed options (before_rest b says) (whole_lines more))) ∙ ap (λ x. counted count_new (needed options x (whole_lines more))) (sym then);
+            })
+
+        -- or it is wrong
+        pub line_is_left : (told : Fault) (Next : ParsedLines → List RunLine → Type 0) → ((outputs : List ℕ) → recorded ≡ Some outputs → LeavesLine file old new (line_replayed options outputs line) told) → HasReadLines file all front before new (Err told) Next
+        line_is_left told Next leaves = elim (leaves all_outputs has.more_is.outputs) [
+          | inl h ↦ further new [] has.left refl h.1 (Err told) Next (inl h.0)
+          | inr h ↦ (
+              let l = h.2 in
+              further new l.front (l.rest ++ others) (left_is ∙ ap (λ ls. ls ++ others) l.whole ∙ append_assoc l.front l.rest others) l.reads (Err told) Next
+              (inr (h.0, h.1, next_fault new.next (behind before.events new) l.rest others h.0 (l.wrong before.events has.begun)))
+              )
+        ]

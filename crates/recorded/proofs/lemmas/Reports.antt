@@ -1,0 +1,113 @@
+-- What a replay prints is the report of the run with every output in its place (for `RecordedRun::replay`).
+use Rattle.std.proofs.Common.{◌≡◌, ℕ, ◌^◌, ◌-◌, ◌≤◌, List, [], ◌∷◌, map, reverse, Option, Result, Ok, Err, IfOk, OnOk, refl, sym, ap, ◌∙◌, subst, arith, inl, inr}
+use Rattle.std.specs.Io.KnownBytes.{Appends}
+use Rattle.std.specs.List.{AllZip}
+use Rattle.command_line.specs.declared.args.Options.{Options}
+use Rattle.command_line.specs.declared.fault.Fault.{Fault}
+use Rattle.console_reporter.proofs.lemmas.Isolation.{isolated}
+use Rattle.recorded.proofs.lemmas.Skipped.{skipped_call}
+use Rattle.recorded.specs.Outputs.{counted}
+use Rattle.recorded.specs.Runs.{line_replayed, lines_inline, lines_replayed, needed, whole_lines}
+use Rattle.recorded.specs.Source.{IsLeft}
+use Rattle.recorded.proofs.lemmas.Inline.{AreInline, IsInline, go_on}
+use Rattle.reporter_state.specs.Refusals.{first_refused}
+use Rattle.reporter_state.specs.Unread.{unread, unread_call}
+use Rattle.reporter_state.specs.declared.decider.OutputLoadDecider.{OutputLoadDecider}
+use Rattle.run_model.specs.declared.call.ReportCall.{ReportCall}
+use Rattle.scene_events.specs.Scenes.{IsCallOf}
+use Rattle.scene_events.specs.declared.scene.event.SceneEvent.{SceneEvent}
+use Rattle.scene_text.specs.SceneTexts.{ParsedLines, RunLine, lines_before, no_lines}
+use Rattle.scenes.specs.Prints.{PrintsFollowed, device}
+use Rattle.scenes.specs.Outcomes.{run_outcome}
+use Rattle.scenes.specs.ParsedScenes.{OfLines}
+use Rattle.scenes.specs.Reports.{configuration_for, report_of, stored_of, decider_for}
+use Rattle.scenes.specs.declared.outcome.RunOutcome.{RunOutcome}
+use Rattle.scenes.proofs.lemmas.ReadyCalls.{outcome_unread}
+
+-- calls of the events with every output in their place, which are the same once what is skipped is unread
+record HasCalls (d : OutputLoadDecider) (events : List SceneEvent) (calls : List ReportCall) : Type 0 where
+  pub inline : List ReportCall
+  pub of_events : AllZip IsCallOf events inline
+  pub same : unread d inline ≡ unread d calls
+
+module _ (all : List ℕ) (d : OutputLoadDecider) where
+  record HasCall (event : SceneEvent) (call : ReportCall) : Type 0 where
+    pub inline : ReportCall
+    pub of_event : IsCallOf event inline
+    pub same : unread_call d inline ≡ unread_call d call
+
+  has_call : (replayed inline : SceneEvent) (call : ReportCall) → IsInline all d replayed inline → IsCallOf replayed call → HasCall inline call
+  has_call replayed inline call (inl same) of_event = record { inline = call; of_event = subst (λ e. IsCallOf e call) (sym same) of_event; same = refl }
+  has_call replayed inline call (inr h) of_event =
+      let other = skipped_call d all h.0 replayed call of_event h.1 in
+      record { inline = other.0; of_event = subst (λ e. IsCallOf e other.0) (sym h.2) other.1; same = other.2 }
+
+  has_calls : (replayed inline : List SceneEvent) (calls : List ReportCall) → AllZip (IsInline all d) replayed inline → AllZip IsCallOf replayed calls → HasCalls d inline calls
+  has_calls [] [] [] are of_events = record { inline = []; of_events = tt; same = refl }
+  has_calls [] [] (c ∷ cs) are of_events = absurd of_events
+  has_calls [] (f ∷ fs) calls are of_events = absurd are
+  has_calls (e ∷ es) [] calls are of_events = absurd are
+  has_calls (e ∷ es) (f ∷ fs) [] are of_events = absurd of_events
+  has_calls (e ∷ es) (f ∷ fs) (c ∷ cs) are of_events =
+      let one = has_call e f c are.0 of_events.0 in
+      let more = has_calls es fs cs are.1 of_events.1 in
+      record { inline = one.inline ∷ more.inline; of_events = (one.of_event, more.of_events); same = rw (one.same, more.same) refl }
+
+-- lists that are the same once what is skipped is unread have the same report
+module _ (options : Options) (all : List ℕ) (run inline : ParsedLines) (are : AreInline options all run inline) where
+  abbrev d : OutputLoadDecider
+  d = decider_for options run.config
+
+  prints_inline : (come_to : RunOutcome) (old new : Option (List ℕ) × Option (List ℕ)) → PrintsFollowed device device options old new come_to run → PrintsFollowed device device options old new come_to inline
+  prints_inline come_to old new prints =
+      let printed = prints.holds.0 in
+      let has = has_calls all d run.events inline.events prints.calls are.events prints.of_run in
+      let left = isolated d has.inline in
+      let right = isolated d prints.calls in
+      let config = configuration_for options run.config in
+      let same_report : report_of options run.config has.inline ≡ report_of options run.config prints.calls = sym (left.1 config refl) ∙ ap (λ calls. report_of options run.config calls) has.same ∙ right.1 config refl in
+      let same_record : stored_of options has.inline ≡ stored_of options prints.calls = sym (left.3 config refl) ∙ ap (λ calls. stored_of options calls) has.same ∙ right.3 config refl in
+      subst (λ c. PrintsFollowed device device options old new come_to (record { config = c; events = inline.events })) (sym are.config) (record {
+        calls = has.inline;
+        of_run = has.of_events;
+        accepted = sym left.5 ∙ ap (λ calls. first_refused d calls) has.same ∙ right.5 ∙ prints.accepted;
+        holds = (
+          record {
+            printed = subst (λ text. Appends old.0 new.0 text) (sym same_report) printed.printed;
+            kept = subst (λ text. Appends old.1 new.1 text) (sym same_record) printed.kept;
+            delivered = printed.delivered;
+          },
+          prints.holds.1 ∙ sym (outcome_unread d prints.calls) ∙ ap (λ calls. run_outcome (reverse calls)) (sym has.same) ∙ outcome_unread d has.inline,
+        );
+      })
+
+-- a run that was replayed
+pub replay_prints : (options : Options) (all text : List ℕ) (come_to : RunOutcome) (old new : Option (List ℕ) × Option (List ℕ)) →
+    OfLines (lines_replayed options all text) (PrintsFollowed device device options old new come_to) → OfLines (lines_inline all text) (PrintsFollowed device device options old new come_to)
+replay_prints options all text come_to old new h =
+    let go = go_on options all 1 (whole_lines text) no_lines no_lines h.run (record { config = refl; events = tt }) h.spelled in
+    record { run = go.all_inline; spelled = go.reads; holds = prints_inline options all h.run go.all_inline go.are come_to old new h.holds }
+
+-- where it came to its end
+pub prints_on_ok : (options : Options) (all text : List ℕ) (old new : Option (List ℕ) × Option (List ℕ)) (r : Result RunOutcome Fault) →
+    IfOk r (λ come_to. OfLines (lines_replayed options all text) (PrintsFollowed device device options old new come_to)) → IfOk r (λ come_to. OfLines (lines_inline all text) (PrintsFollowed device device options old new come_to))
+prints_on_ok options all text old new (Ok come_to) h = replay_prints options all text come_to old new h
+prints_on_ok options all text old new (Err f) h = tt
+
+none_mapped : {A B : Type 0} (f : A → B) (xs : List A) → [] ≡ map f xs → xs ≡ []
+none_mapped f [] h = refl
+none_mapped f (x ∷ xs) h = absurd (cc)
+
+-- where no line is left, as many were read as there are to read
+read_all : (total : ℕ) (options : Options) (recorded remaining : Option (List ℕ)) (bytes_read : ℕ) (before : ParsedLines) → bytes_read ≤ 2 ^ 64 - 1 → IsLeft total options recorded remaining bytes_read before [] → bytes_read ≡ total
+unfolding needed
+read_all total options recorded remaining bytes_read before fits left =
+    let none = none_mapped (line_replayed options left.all) (whole_lines left.text) left.is in
+    let nothing : needed options (lines_before before) (whole_lines left.text) ≡ 0 = ap (needed options (lines_before before)) none in
+    let counts = left.counts ∙ ap (counted bytes_read) nothing in
+    omega (arith, counts, fits)
+
+pub reads_on_ok : (total : ℕ) (options : Options) (recorded remaining : Option (List ℕ)) (bytes_read : ℕ) (lines : List RunLine) → bytes_read ≤ 2 ^ 64 - 1 → (r : Result RunOutcome Fault) →
+    OnOk r (OfLines lines (λ run. IsLeft total options recorded remaining bytes_read run [])) → IfOk r (λ come_to. bytes_read ≡ total)
+reads_on_ok total options recorded remaining bytes_read lines fits (Ok come_to) h = read_all total options recorded remaining bytes_read h.run fits h.holds
+reads_on_ok total options recorded remaining bytes_read lines fits (Err f) h = tt

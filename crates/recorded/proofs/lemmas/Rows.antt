@@ -1,0 +1,80 @@
+-- Worked rows: what the definitions say of outputs that are written out, and what a replay makes of a setup script whose output is stored.
+use Rattle.std.proofs.Common.{◌≡◌, ℕ, List, [], ◌∷◌, codes, true, false, refl, None, Some, Ok, Err}
+use Rattle.run_model.specs.Attempts.{attempt_with_output}
+use Rattle.run_model.specs.Statuses.{is_success}
+use Rattle.run_model.specs.declared.output.ChildOutputDescription.TheVariants as captured
+use Rattle.recorded.specs.Captured.{captured_at, counted_output}
+use Rattle.recorded.specs.Events.{event_replayed, outputs_len}
+use Rattle.recorded.specs.Outputs.{stream_at}
+use Rattle.reporter_state.specs.declared.decider.OutputLoadDecider.{OutputLoadDecider}
+use Rattle.scene_events.specs.declared.scene.event.SceneEvent.TheVariants as scene
+use Rattle.scene_events.specs.declared.scene.unit_events.SetupFinish.{SetupFinish}
+use Rattle.scene_fields.specs.References.{sum_of}
+use Rattle.scene_fields.specs.declared.fault.LineFault.TheVariants.{BadField}
+use Rattle.scene_fields.specs.declared.reference.Reference.{Reference}
+use Rattle.scene_fields.specs.declared.stored.PlacedOutput.{PlacedOutput}
+use Rattle.scene_fields.specs.declared.stored.StoredOutput.TheVariants.{Split, Combined}
+use Rattle.scene_fields.specs.declared.stored.StoredStream.TheVariants.{NotCaptured, Empty, At}
+
+-- the sum of no byte
+abbrev sum_bytes : List ℕ
+sum_bytes = 209 ∷ 251 ∷ 167 ∷ 98 ∷ 21 ∷ 12 ∷ 83 ∷ 44 ∷ []
+
+-- bytes that have the sum, bytes that have another, and places past the end, of a stream of no byte too
+row_stream : sum_of (codes "bc") ≡ sum_bytes → stream_at (codes "abcd") (record { offset = 1; len = 2; sum = sum_bytes }) ≡ Some (codes "bc")
+unfolding stream_at
+row_stream same = rw same refl
+
+row_other : sum_of (codes "bc") ≡ sum_bytes → stream_at (codes "abcd") (record { offset = 1; len = 2; sum = 0 ∷ [] }) ≡ None
+unfolding stream_at
+row_other same = rw same refl
+
+row_past : stream_at (codes "abcd") (record { offset = 3; len = 2; sum = sum_bytes }) ≡ None
+unfolding stream_at
+row_past = refl
+
+row_behind : stream_at (codes "abcd") (record { offset = 5; len = 0; sum = sum_bytes }) ≡ None
+unfolding stream_at
+row_behind = refl
+
+row_counted : (reference : Reference) → reference.len ≡ 7 → counted_output 3 (Split (At reference) (At reference)) ≡ 17
+row_counted reference seven = rw seven refl
+
+row_nothing : (all : List ℕ) → captured_at all (Split Empty NotCaptured) ≡ Some (captured.Split (Some []) None)
+row_nothing all = refl
+
+module _ (d : OutputLoadDecider) (e : SetupFinish) (sum : List ℕ) where
+  -- two bytes of these
+  abbrev all : List ℕ
+  all = codes "abcd"
+
+  abbrev here : Reference
+  here = record { offset = 1; len = 2; sum = sum }
+
+  abbrev combined : List PlacedOutput
+  combined = record { place = 0; field = 10; output = Combined here } ∷ []
+
+  abbrev second : List PlacedOutput
+  second = record { place = 0; field = 10; output = Split Empty (At here) } ∷ []
+
+  -- of a script that succeeded it is not looked at, but must be there
+  row_skipped : is_success e.attempt.result ≡ true → event_replayed all d combined (scene.SetupScriptFinished e) ≡ Ok (scene.SetupScriptFinished e)
+  unfolding event_replayed
+  row_skipped passed = rw passed refl
+
+  row_not_there : event_replayed (codes "ab") d second (scene.SetupScriptFinished e) ≡ Err (BadField 11)
+  unfolding event_replayed
+  row_not_there = refl
+
+  -- that of one that failed is put into it, if it is what was recorded
+  row_loaded : is_success e.attempt.result ≡ false → stream_at all here ≡ Some (codes "bc") →
+      event_replayed all d second (scene.SetupScriptFinished e) ≡ Ok (scene.SetupScriptFinished (record e { attempt = attempt_with_output e.attempt (captured.Split (Some []) (Some (codes "bc"))) }))
+  unfolding event_replayed
+  row_loaded failed is = rw (failed, is) refl
+
+  row_damaged : is_success e.attempt.result ≡ false → stream_at all here ≡ None → event_replayed all d second (scene.SetupScriptFinished e) ≡ Err (BadField 11)
+  unfolding event_replayed
+  row_damaged failed is = rw (failed, is) refl
+
+  row_len : outputs_len (record { place = 0; field = 14; output = Combined here } ∷ record { place = 2; field = 30; output = Split (At here) NotCaptured } ∷ []) ≡ 4
+  row_len = refl

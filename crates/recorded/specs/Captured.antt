@@ -1,0 +1,82 @@
+-- What was captured of a stored output, and how many bytes are read for it.
+use Rattle.std.specs.Prelude.{◌≡◌, ℕ, List, [], true, Option, None, Some, Result, Ok, Err, ⊤}
+use Rattle.std.specs.Option.{is_some, option_map}
+use Rattle.run_model.specs.declared.output.ChildOutputDescription.{ChildOutputDescription}
+use Rattle.run_model.specs.declared.output.ChildOutputDescription.TheVariants as captured
+use Rattle.recorded.specs.Outputs.{IsCounted, IsLoaded, counted, stream_at}
+use Rattle.recorded.specs.declared.outputs.LoadFault.{LoadFault}
+use Rattle.recorded.specs.declared.outputs.StreamFault.{StreamFault}
+use Rattle.scene_fields.specs.Stored.{stream_in_field}
+use Rattle.scene_fields.specs.declared.stored.StoredOutput.{StoredOutput}
+use Rattle.scene_fields.specs.declared.stored.StoredOutput.TheVariants.{Split, Combined}
+use Rattle.scene_fields.specs.declared.stored.StoredStream.{StoredStream}
+use Rattle.scene_fields.specs.declared.stored.StoredStream.TheVariants.{NotCaptured, Empty, At}
+use Rattle.scene_fields.specs.declared.stored.StreamField.{StreamField}
+use Rattle.scene_fields.specs.declared.stored.StreamField.TheVariants.{First, Second}
+
+-- what was captured of a stream: nothing, no bytes, or those at its place among all outputs, if they are not damaged
+abbrev pub captured_stream_at : List ℕ → StoredStream → Option (Option (List ℕ))
+captured_stream_at all NotCaptured = Some None
+captured_stream_at all Empty = Some (Some [])
+captured_stream_at all (At reference) = option_map (λ bytes. Some bytes) (stream_at all reference)
+
+abbrev pub captured_split : Option (Option (List ℕ)) → Option (Option (List ℕ)) → Option ChildOutputDescription
+captured_split None stderr = None
+captured_split (Some stdout) None = None
+captured_split (Some stdout) (Some stderr) = Some (captured.Split stdout stderr)
+
+-- what was captured of an output, if none of its streams is damaged
+abbrev pub captured_at : List ℕ → StoredOutput → Option ChildOutputDescription
+captured_at all (Split stdout stderr) = captured_split (captured_stream_at all stdout) (captured_stream_at all stderr)
+captured_at all (Combined reference) = option_map (λ bytes. captured.Combined bytes) (stream_at all reference)
+
+-- a stream has this fault: only what has bytes can have one
+abbrev pub IsFaultOf : List ℕ → StoredStream → LoadFault → Type 0
+IsFaultOf all NotCaptured fault = ⊥
+IsFaultOf all Empty fault = ⊥
+IsFaultOf all (At reference) fault = IsLoaded all reference (Err fault)
+
+-- the stream before the one in this field is not damaged
+abbrev pub IsWholeBefore : List ℕ → StreamField → StoredOutput → Type 0
+IsWholeBefore all First output = ⊤
+IsWholeBefore all Second output = is_some (captured_stream_at all (stream_in_field First output)) ≡ true
+
+-- what was loaded of a stream, or of an output, is what was captured; what was not has a fault
+abbrev pub IsCapturedStream : List ℕ → StoredStream → Result (Option (List ℕ)) LoadFault → Type 0
+IsCapturedStream all stream (Ok loaded) = captured_stream_at all stream ≡ Some loaded
+IsCapturedStream all stream (Err fault) = IsFaultOf all stream fault
+
+abbrev pub IsCaptured : List ℕ → StoredOutput → Result ChildOutputDescription StreamFault → Type 0
+IsCaptured all output (Ok loaded) = captured_at all output ≡ Some loaded
+IsCaptured all output (Err f) = IsFaultOf all (stream_in_field f.stream output) f.fault × IsWholeBefore all f.stream output
+
+-- a count of bytes once the bytes of a stream, or of an output, are read: those of its references
+abbrev pub counted_stream : ℕ → StoredStream → ℕ
+counted_stream count NotCaptured = count
+counted_stream count Empty = count
+counted_stream count (At reference) = counted count reference.len
+
+abbrev pub counted_output : ℕ → StoredOutput → ℕ
+counted_output count (Split stdout stderr) = counted_stream (counted_stream count stdout) stderr
+counted_output count (Combined reference) = counted count reference.len
+
+-- the same before the stream in this field is read
+abbrev pub counted_before : StreamField → ℕ → StoredOutput → ℕ
+counted_before First count output = count
+counted_before Second count (Split stdout stderr) = counted_stream count stdout
+counted_before Second count (Combined reference) = counted count reference.len
+
+-- a stream with a fault was read as far as that fault says
+abbrev pub IsCountedFault : ℕ → StoredStream → LoadFault → ℕ → Type 0
+IsCountedFault before NotCaptured fault after = ⊥
+IsCountedFault before Empty fault after = ⊥
+IsCountedFault before (At reference) fault after = IsCounted before reference (Err fault) after
+
+-- what was read of a stream, or of an output, is counted
+abbrev pub IsCountedOfStream : ℕ → StoredStream → Result (Option (List ℕ)) LoadFault → ℕ → Type 0
+IsCountedOfStream before stream (Ok loaded) after = after ≡ counted_stream before stream
+IsCountedOfStream before stream (Err fault) after = IsCountedFault before stream fault after
+
+abbrev pub IsCountedOf : ℕ → StoredOutput → Result ChildOutputDescription StreamFault → ℕ → Type 0
+IsCountedOf before output (Ok loaded) after = after ≡ counted_output before output
+IsCountedOf before output (Err f) after = IsCountedFault (counted_before f.stream before output) (stream_in_field f.stream output) f.fault after

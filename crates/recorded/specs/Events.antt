@@ -1,0 +1,111 @@
+-- The event that a replay makes of one whose outputs are stored.
+use Rattle.std.specs.Prelude.{◌≡◌, ℕ, ◌+◌, List, [], ◌∷◌, length, Bool, true, not, nat_le, if◌then◌else◌, Option, None, Some, Result, Ok, Err, ⊤}
+use Rattle.std.specs.Option.{is_some, option_or}
+use Rattle.run_model.specs.declared.output.ChildOutputDescription.{ChildOutputDescription}
+use Rattle.run_model.specs.declared.output.ChildOutputDescription.TheVariants as captured
+use Rattle.recorded.specs.Outputs.{bytes_at}
+use Rattle.scene_fields.specs.References.{end_of}
+use Rattle.recorded.specs.declared.outputs.LoadFault.{LoadFault}
+use Rattle.recorded.specs.declared.outputs.LoadFault.TheVariants.{CannotRead, PastEnd, WrongSum, OutOfMemory}
+use Rattle.scene_fields.specs.Stored.{field_of, stream_in_field}
+use Rattle.recorded.specs.Captured.{captured_stream_at}
+use Rattle.scene_fields.specs.declared.stored.PlacedOutput.{PlacedOutput}
+use Rattle.scene_fields.specs.declared.stored.StoredOutput.{StoredOutput}
+use Rattle.scene_fields.specs.declared.stored.StoredOutput.TheVariants.{Split, Combined}
+use Rattle.scene_fields.specs.declared.stored.StoredStream.{StoredStream}
+use Rattle.scene_fields.specs.declared.stored.StoredStream.TheVariants.{NotCaptured, Empty, At}
+use Rattle.scene_fields.specs.declared.stored.StreamField.{StreamField}
+use Rattle.scene_fields.specs.declared.stored.StreamField.TheVariants.{First, Second}
+use Rattle.reporter_state.specs.declared.decider.OutputLoadDecider.{OutputLoadDecider}
+use Rattle.scene_events.specs.Loads.{event_with}
+use Rattle.scene_events.specs.declared.scene.event.SceneEvent.{SceneEvent}
+use Rattle.scene_fields.specs.declared.fault.LineFault.{LineFault}
+use Rattle.scene_fields.specs.declared.fault.LineFault.TheVariants.{BadField}
+use Rattle.recorded.specs.Skips.{skips}
+use Rattle.recorded.specs.declared.events.LoadEventFault.{LoadEventFault}
+
+-- the bytes of a stream at its place among all outputs, whatever their sum
+abbrev pub stream_inline : List ℕ → StoredStream → Option (List ℕ)
+stream_inline all NotCaptured = None
+stream_inline all Empty = Some []
+stream_inline all (At reference) = Some (bytes_at all reference)
+
+abbrev pub output_inline : List ℕ → StoredOutput → ChildOutputDescription
+output_inline all (Split stdout stderr) = captured.Split (stream_inline all stdout) (stream_inline all stderr)
+output_inline all (Combined reference) = captured.Combined (bytes_at all reference)
+
+-- an event with these outputs in it
+abbrev pub event_inline : List ℕ → List PlacedOutput → SceneEvent → SceneEvent
+event_inline all [] event = event
+event_inline all (p ∷ ps) event = event_inline all ps (event_with p.place (output_inline all p.output) event)
+
+-- whether all bytes of a stream are there, and whether they are those that were recorded
+abbrev pub is_there : List ℕ → StoredStream → Bool
+is_there all NotCaptured = true
+is_there all Empty = true
+is_there all (At reference) = nat_le (end_of reference) (length all)
+
+abbrev pub is_undamaged : List ℕ → StoredStream → Bool
+is_undamaged all stream = is_some (captured_stream_at all stream)
+
+-- the field of a stream, if that is not so
+abbrev pub stream_field_not : (StoredStream → Bool) → PlacedOutput → StreamField → Option ℕ
+stream_field_not so p stream = if not (so (stream_in_field stream p.output)) then Some (field_of p stream) else None
+
+-- the field of an output's first stream that is not so
+abbrev pub field_not : (StoredStream → Bool) → PlacedOutput → Option ℕ
+field_not so p =
+    if not (so (stream_in_field First p.output)) then Some (field_of p First)
+    else (if not (so (stream_in_field Second p.output)) then Some (field_of p Second) else None)
+
+-- the first such field of a line
+abbrev pub first_field_not : (StoredStream → Bool) → List PlacedOutput → Option ℕ
+first_field_not so [] = None
+first_field_not so (p ∷ ps) = option_or (field_not so p) (first_field_not so ps)
+
+-- a fault of damage says this of its field; other faults say nothing of fields
+abbrev pub IfDamaged : LoadFault → Type 0 → Type 0
+IfDamaged PastEnd P = P
+IfDamaged WrongSum P = P
+IfDamaged (CannotRead kind) P = ⊤
+IfDamaged OutOfMemory P = ⊤
+
+-- what was accepted has no bad field, and what was refused for one has this first
+abbrev pub IsFirstBad : Option ℕ → Result ⊤ LoadEventFault → Type 0
+IsFirstBad field (Ok x) = field ≡ None
+IsFirstBad field (Err f) = IfDamaged f.fault (field ≡ Some f.field)
+
+-- an event, unless a field of its line is bad
+abbrev pub unless_bad : Option ℕ → Result SceneEvent LineFault → Result SceneEvent LineFault
+unless_bad (Some field) event = Err (BadField field)
+unless_bad None event = event
+
+-- what a replay makes of an event: its outputs must be there, and where its report shows them, they are in it, and must be those that were
+-- recorded
+unfoldable pub event_replayed : List ℕ → OutputLoadDecider → List PlacedOutput → SceneEvent → Result SceneEvent LineFault
+event_replayed all d stored event =
+    unless_bad (first_field_not (is_there all) stored)
+    (if skips d event then Ok event else unless_bad (first_field_not (is_undamaged all) stored) (Ok (event_inline all stored event)))
+
+-- that was made, or is the fault, unless the outputs cannot be read or memory was refused
+abbrev pub IsReplayed : List ℕ → OutputLoadDecider → List PlacedOutput → SceneEvent → Result ⊤ LoadEventFault → SceneEvent → Type 0
+IsReplayed all d stored old (Ok x) new = event_replayed all d stored old ≡ Ok new
+IsReplayed all d stored old (Err f) new = IfDamaged f.fault (event_replayed all d stored old ≡ Err (BadField f.field))
+
+-- how many bytes a stream and an output have, and all outputs together
+abbrev pub stream_len : StoredStream → ℕ
+stream_len NotCaptured = 0
+stream_len Empty = 0
+stream_len (At reference) = reference.len
+
+abbrev pub output_len : StoredOutput → ℕ
+output_len (Split stdout stderr) = stream_len stdout + stream_len stderr
+output_len (Combined reference) = reference.len
+
+abbrev pub outputs_len : List PlacedOutput → ℕ
+outputs_len [] = 0
+outputs_len (p ∷ ps) = output_len p.output + outputs_len ps
+
+-- how many bytes are read for an event: all of its outputs, or none. No output is looked at
+abbrev pub needed_of : OutputLoadDecider → SceneEvent → List PlacedOutput → ℕ
+needed_of d event stored = if skips d event then 0 else outputs_len stored

@@ -1,0 +1,64 @@
+-- A recorded run as lines of a run: as they are replayed, and with every output in its place.
+use Rattle.std.specs.Prelude.{ℕ, ◌+◌, List, [], ◌∷◌, map, true, Result, Ok, Err}
+use Rattle.command_line.specs.declared.args.Options.{Options}
+use Rattle.recorded.specs.Events.{event_inline, event_replayed, needed_of}
+use Rattle.scene_fields.specs.Split.{split_on}
+use Rattle.scene_fields.specs.declared.fault.LineFault.{LineFault}
+use Rattle.scene_fields.specs.declared.stored.PlacedOutput.{PlacedOutput}
+use Rattle.scene_text.specs.SceneTexts.{ConfigLine, EventLine, LinesBefore, NoEvent, ParsedLine, RecordedLine, RunLine, lines_before, no_lines, recorded_line}
+use Rattle.scenes.specs.Reports.{decider_for}
+
+-- options that show a recorded run
+abbrev pub replayed : Options → Options
+replayed options = record options { is_replay = true }
+
+-- the lines of a text, each of which ends in a line feed: what stands behind the last one is none
+abbrev pub without_last : {X : Type 0} → List X → List X
+without_last [] = []
+without_last (x ∷ []) = []
+without_last (x ∷ y ∷ ys) = x ∷ without_last (y ∷ ys)
+
+abbrev pub whole_lines : List ℕ → List (List ℕ)
+whole_lines text = without_last (split_on 10 text)
+
+-- a line as it is replayed: with the outputs that its report shows
+abbrev pub line_replayed : Options → List ℕ → List ℕ → RunLine
+line_replayed options all t = RecordedLine t (λ before stored e. event_replayed all (decider_for options before.config) stored e)
+
+abbrev pub lines_replayed : Options → List ℕ → List ℕ → List RunLine
+lines_replayed options all text = map (line_replayed options all) (whole_lines text)
+
+-- a line of the scene in which every output stands in its place
+abbrev pub line_inline : List ℕ → List ℕ → RunLine
+line_inline all t = RecordedLine t (λ before stored e. Ok (event_inline all stored e))
+
+abbrev pub lines_inline : List ℕ → List ℕ → List RunLine
+lines_inline all text = map (line_inline all) (whole_lines text)
+
+-- what stands before the line behind one of this value
+abbrev pub before_behind : LinesBefore → ParsedLine → LinesBefore
+before_behind before NoEvent = before
+before_behind before (ConfigLine config) = record before { config = config }
+before_behind before (EventLine e) = record before { is_begun = true }
+
+abbrev pub before_rest : LinesBefore → Result (ParsedLine × List PlacedOutput) LineFault → LinesBefore
+before_rest before (Ok x) = before_behind before x.0
+before_rest before (Err f) = before
+
+-- how many bytes of outputs a line needs that has this value and these stored outputs
+abbrev pub needed_by : Options → LinesBefore → List PlacedOutput → ParsedLine → ℕ
+needed_by options before stored NoEvent = 0
+needed_by options before stored (ConfigLine config) = 0
+needed_by options before stored (EventLine e) = needed_of (decider_for options before.config) e stored
+
+abbrev pub needed_for : Options → LinesBefore → Result (ParsedLine × List PlacedOutput) LineFault → ℕ
+needed_for options before (Ok x) = needed_by options before x.1 x.0
+needed_for options before (Err f) = 0
+
+-- how many the lines behind these need: the lengths of what their report shows. No output is looked at
+unfoldable pub needed : Options → LinesBefore → List (List ℕ) → ℕ
+needed options before [] = 0
+needed options before (t ∷ ts) = needed_for options before (recorded_line before t) + needed options (before_rest before (recorded_line before t)) ts
+
+abbrev pub needed_bytes : Options → List ℕ → ℕ
+needed_bytes options text = needed options (lines_before no_lines) (whole_lines text)

@@ -1,0 +1,15 @@
+-- What is left of a recorded run.
+use Rattle.std.specs.Prelude.{◌≡◌, ℕ, List, Option, Some}
+use Rattle.command_line.specs.declared.args.Options.{Options}
+use Rattle.recorded.specs.Outputs.{counted}
+use Rattle.recorded.specs.Runs.{lines_replayed, needed, whole_lines}
+use Rattle.scene_text.specs.SceneTexts.{ParsedLines, RunLine, lines_before}
+
+-- These lines are left behind those before. So many bytes of outputs were read, and once these lines are read, so many in all.
+pub record IsLeft (total : ℕ) (options : Options) (recorded remaining : Option (List ℕ)) (bytes_read : ℕ) (before : ParsedLines) (lines : List RunLine) : Type 0 where
+  pub all : List ℕ
+  pub text : List ℕ
+  pub outputs : recorded ≡ Some all
+  pub rest : remaining ≡ Some text
+  pub is : lines ≡ lines_replayed options all text
+  pub counts : total ≡ counted bytes_read (needed options (lines_before before) (whole_lines text))

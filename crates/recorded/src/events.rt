@@ -1,0 +1,198 @@
+//! The stored outputs of an event, loaded where the report shows them.
+
+ghost use Rattle.std.specs.Prelude.{◌≡◌, ◌≤◌, ◌-◌, ◌^◌, IfOk, IfSome, OnOk};
+ghost use Rattle.recorded.specs.Outputs.{counted};
+ghost use Rattle.recorded.specs.Events.{IsFirstBad, IsReplayed, event_inline, field_not, first_field_not, is_there, is_undamaged, needed_of, output_inline, output_len, outputs_len, stream_field_not};
+ghost use Rattle.recorded.specs.Skips.{skips};
+ghost use Rattle.scene_events.specs.Loads.{event_with};
+
+use super::outputs::{LoadFault, RecordedOutputs, StreamFault};
+use super::read_at::ReadAt;
+use reporter_state::decider::{OutputLoadDecider, OutputMetadata};
+use run_model::memory::OutOfMemory;
+use run_model::output_event::LoadOutput;
+use scene_events::scene::event::SceneEvent;
+use scene_fields::stored::{PlacedOutput, StoredStream, StreamField};
+use std::alloc::Global;
+use std::io;
+
+/// Why the outputs of an event were not loaded.
+#[derive(Clone, Copy)]
+pub struct LoadEventFault {
+    /// The field of a stream in the event's line, from 1 for its name.
+    pub field: usize,
+    /// Why that stream was not loaded, or its output not put into the event.
+    pub fault: LoadFault,
+}
+
+/// Puts the stored outputs of an event into it, if its report shows them: the decider says so by how its unit ended and by the settings, and
+/// no output is read for the answer. Of an answer of a unit all is loaded, since no decider is asked about it. Where they are skipped, the
+/// event stays as it is, and nothing is read.
+///
+/// Every output must be there, also one that is skipped. After an error the event is not to be used: some of its outputs may be in it.
+///
+/// ```
+/// use scene_events::scene::event::SceneEvent;
+/// let mut event = SceneEvent::InfoFinished(0);
+/// let mut outputs = RecordedOutputs::new(Metered::new(b"passed\nfailed\n".as_slice()))?;
+/// assert!(load_outputs(alloc, &decider, &[], &mut outputs, &mut event).is_ok());
+/// assert_eq!(outputs.bytes_read(), 0); // the event has no output
+/// ```
+#[tactic(auto, unfolding(crate::specs::Events::event_replayed))]
+pub fn load_outputs<O: ReadAt + Drop>(
+    alloc: Global,
+    decider: &OutputLoadDecider,
+    stored: &[PlacedOutput],
+    outputs: &mut RecordedOutputs<O>,
+    event: &mut SceneEvent,
+) -> Result<(), LoadEventFault>
+    ensures loaded { IfSome (O.recorded outputs.old.source) (λ all. IsReplayed all decider.now stored.now event.old result event.new) }
+    ensures kept { O.recorded outputs.new.source ≡ O.recorded outputs.old.source }
+    ensures count { OnOk result (O.count outputs.new.source ≡ counted (O.count outputs.old.source) (needed_of decider.now event.old stored.now)) }
+    ensures most { O.count outputs.new.source ≤ counted (O.count outputs.old.source) (needed_of decider.now event.old stored.now) }
+{
+    let _count = outputs.bytes_read(); // it is a `u64`, which a proof learns by reading it
+    check_all_there(stored, outputs)?;
+    if skips(decider, event) {
+        return Ok(());
+    }
+    load_all(alloc, stored, outputs, event)
+}
+
+// Whether the decider skips the outputs of an event, by what the event says beside them. Of others, as of a unit's answer, it is not asked.
+#[tactic(auto, using(crate::proofs::lemmas::Skips::loads_by_last))]
+fn skips(decider: &OutputLoadDecider, event: &SceneEvent) -> bool
+    ensures { result ≡ skips decider.now event.now }
+{
+    let metadata = match event {
+        SceneEvent::SetupScriptFinished(finish) => {
+            let result = finish.get().attempt.result();
+            OutputMetadata::SetupScriptFinished { result }
+        }
+        SceneEvent::TestAttemptFailedWillRetry(failed) => {
+            let failure_output = failed.get().failure_output;
+            OutputMetadata::TestAttemptFailedWillRetry { failure_output }
+        }
+        SceneEvent::TestFinished(finish) => {
+            let finish = finish.get();
+            OutputMetadata::TestFinished {
+                success_output: finish.success_output,
+                failure_output: finish.failure_output,
+                last_result: finish.attempts.last_result(),
+            }
+        }
+        _ => return false,
+    };
+    decider.should_load(metadata) == LoadOutput::Skip
+}
+
+// Checks that all stored outputs are there. It reads none of them.
+fn check_all_there<O: ReadAt + Drop>(
+    stored: &[PlacedOutput],
+    outputs: &mut RecordedOutputs<O>,
+) -> Result<(), LoadEventFault>
+    ensures there { IfSome (O.recorded outputs.old.source) (λ all. IsFirstBad (first_field_not (is_there all) stored.now) result) }
+    ensures kept { O.recorded outputs.new.source ≡ O.recorded outputs.old.source }
+    ensures count { O.count outputs.new.source ≡ O.count outputs.old.source }
+{
+    for placed in stored {
+        check_output_there(placed, outputs)?;
+    }
+    Ok(())
+}
+
+// The same of one output. Standard output comes first.
+fn check_output_there<O: ReadAt + Drop>(
+    placed: &PlacedOutput,
+    outputs: &mut RecordedOutputs<O>,
+) -> Result<(), LoadEventFault>
+    ensures there { IfSome (O.recorded outputs.old.source) (λ all. IsFirstBad (field_not (is_there all) placed.now) result) }
+    ensures kept { O.recorded outputs.new.source ≡ O.recorded outputs.old.source }
+    ensures count { O.count outputs.new.source ≡ O.count outputs.old.source }
+{
+    check_stream_there(placed, StreamField::First, outputs)?;
+    check_stream_there(placed, StreamField::Second, outputs)
+}
+
+// The same of one of its streams.
+fn check_stream_there<O: ReadAt + Drop>(
+    placed: &PlacedOutput,
+    stream: StreamField,
+    outputs: &mut RecordedOutputs<O>,
+) -> Result<(), LoadEventFault>
+    ensures there { IfSome (O.recorded outputs.old.source) (λ all. IsFirstBad (stream_field_not (is_there all) placed.now stream) result) }
+    ensures kept { O.recorded outputs.new.source ≡ O.recorded outputs.old.source }
+    ensures count { O.count outputs.new.source ≡ O.count outputs.old.source }
+{
+    let fault = match is_there(placed.output.stream(stream), outputs) {
+        Ok(true) => return Ok(()),
+        Ok(false) => LoadFault::PastEnd,
+        Err(error) => LoadFault::from(error),
+    };
+    let field = placed.field_of(stream);
+    Err(LoadEventFault { field, fault })
+}
+
+// Whether all bytes of a stream are there.
+fn is_there<O: ReadAt + Drop>(
+    stream: StoredStream,
+    outputs: &mut RecordedOutputs<O>,
+) -> io::Result<bool>
+    ensures there { IfSome (O.recorded outputs.old.source) (λ all. IfOk result (λ is. is ≡ is_there all stream)) }
+    ensures kept { O.recorded outputs.new.source ≡ O.recorded outputs.old.source }
+    ensures count { O.count outputs.new.source ≡ O.count outputs.old.source }
+{
+    match stream {
+        StoredStream::NotCaptured | StoredStream::Empty => Ok(true),
+        StoredStream::At(reference) => outputs.holds(&reference),
+    }
+}
+
+// Puts all stored outputs into an event.
+fn load_all<O: ReadAt + Drop>(
+    alloc: Global,
+    stored: &[PlacedOutput],
+    outputs: &mut RecordedOutputs<O>,
+    event: &mut SceneEvent,
+) -> Result<(), LoadEventFault>
+    requires { O.count outputs.old.source ≤ 2 ^ 64 - 1 }
+    ensures undamaged { IfSome (O.recorded outputs.old.source) (λ all. IsFirstBad (first_field_not (is_undamaged all) stored.now) result) }
+    ensures loaded { IfSome (O.recorded outputs.old.source) (λ all. OnOk result (event.new ≡ event_inline all stored.now event.old)) }
+    ensures kept { O.recorded outputs.new.source ≡ O.recorded outputs.old.source }
+    ensures count { OnOk result (O.count outputs.new.source ≡ counted (O.count outputs.old.source) (outputs_len stored.now)) }
+    ensures most { O.count outputs.new.source ≤ counted (O.count outputs.old.source) (outputs_len stored.now) }
+{
+    for placed in stored {
+        load_placed(alloc, placed, outputs, event)?;
+    }
+    Ok(())
+}
+
+// Puts one of them into it.
+fn load_placed<O: ReadAt + Drop>(
+    alloc: Global,
+    placed: &PlacedOutput,
+    outputs: &mut RecordedOutputs<O>,
+    event: &mut SceneEvent,
+) -> Result<(), LoadEventFault>
+    requires { O.count outputs.old.source ≤ 2 ^ 64 - 1 }
+    ensures undamaged { IfSome (O.recorded outputs.old.source) (λ all. IsFirstBad (field_not (is_undamaged all) placed.now) result) }
+    ensures loaded { IfSome (O.recorded outputs.old.source) (λ all. OnOk result (event.new ≡ event_with placed.now.place (output_inline all placed.now.output) event.old)) }
+    ensures kept { O.recorded outputs.new.source ≡ O.recorded outputs.old.source }
+    ensures count { OnOk result (O.count outputs.new.source ≡ counted (O.count outputs.old.source) (output_len placed.now.output)) }
+    ensures most { O.count outputs.new.source ≤ counted (O.count outputs.old.source) (output_len placed.now.output) }
+{
+    match outputs.load_output(alloc, &placed.output) {
+        Ok(captured) => match event.load(alloc, placed.place, captured) {
+            Ok(()) => Ok(()),
+            Err(OutOfMemory) => Err(LoadEventFault {
+                field: placed.field,
+                fault: LoadFault::OutOfMemory,
+            }),
+        },
+        Err(StreamFault { stream, fault }) => Err(LoadEventFault {
+            field: placed.field_of(stream),
+            fault,
+        }),
+    }
+}

@@ -1,0 +1,251 @@
+//! The outputs of a recorded run. A stream is loaded by its reference, and an output by what is stored of it: none but their bytes are read,
+//! which are never spelled as text.
+
+ghost use Rattle.std.specs.Prelude.{◌≡◌, ◌≤◌, ◌↔◌, IsTrue, IfOk, IfSome, OnOk, if◌then◌else◌, is_ok, length, vec_len};
+ghost use Rattle.std.specs.Option.{ForSome};
+ghost use Rattle.recorded.specs.Captured.{IsCaptured, IsCapturedStream, IsCountedOf, IsCountedOfStream};
+ghost use Rattle.recorded.specs.Outputs.{HasSum, IsCounted, IsLoaded, counted};
+ghost use Rattle.recorded.specs.ReadAt.{HasRead};
+ghost use Rattle.scene_fields.specs.References.{end_of};
+
+use super::read_at::ReadAt;
+use bytes::Bytes;
+use run_model::memory::OutOfMemory;
+use run_model::output::{ChildOutputDescription, ChildSingleOutput};
+use scene_fields::reference::Reference;
+use scene_fields::stored::{StoredOutput, StoredStream, StreamField};
+use std::alloc::{AllocError, AllocFailed, Global};
+use std::io;
+use std::io::ErrorKind;
+use thiserror::Error;
+
+/// Why a stream was not loaded.
+#[derive(Clone, Copy, Debug, PartialEq, Eq, Error)]
+pub enum LoadFault {
+    /// The outputs could not be read, with what the system says of it.
+    #[error("the outputs cannot be read")]
+    CannotRead(ErrorKind),
+    /// Not all of its bytes are there.
+    #[error("the output lies past the end")]
+    PastEnd,
+    /// The bytes at its place have another sum.
+    #[error("the output has another sum")]
+    WrongSum,
+    /// A growth of memory was refused.
+    #[error("out of memory")]
+    OutOfMemory,
+}
+
+impl From<io::Error> for LoadFault {
+    ghost use Rattle.std.specs.Prelude.{◌≡◌};
+    ghost use Rattle.std.specs.IoError.{error_kind};
+    ghost use Rattle.recorded.specs.declared.outputs.LoadFault.{LoadFault};
+
+    ghost from_gives = { λ error fault. fault ≡ LoadFault.CannotRead (error_kind error) };
+
+    fn from(error: io::Error) -> LoadFault {
+        LoadFault::CannotRead(error.kind())
+    }
+}
+
+impl From<AllocError> for LoadFault {
+    ghost use Rattle.std.specs.Prelude.{◌≡◌};
+    ghost use Rattle.recorded.specs.declared.outputs.LoadFault.{LoadFault};
+
+    ghost from_gives = { λ _ fault. fault ≡ LoadFault.OutOfMemory };
+
+    fn from(_refused: AllocError) -> LoadFault {
+        LoadFault::OutOfMemory
+    }
+}
+
+impl<T: Drop> From<AllocFailed<T>> for LoadFault {
+    ghost use Rattle.std.specs.Prelude.{◌≡◌};
+    ghost use Rattle.recorded.specs.declared.outputs.LoadFault.{LoadFault};
+
+    ghost from_gives = { λ _ fault. fault ≡ LoadFault.OutOfMemory };
+
+    fn from(_refused: AllocFailed<T>) -> LoadFault {
+        LoadFault::OutOfMemory
+    }
+}
+
+impl From<OutOfMemory> for LoadFault {
+    ghost use Rattle.std.specs.Prelude.{◌≡◌};
+    ghost use Rattle.recorded.specs.declared.outputs.LoadFault.{LoadFault};
+
+    ghost from_gives = { λ _ fault. fault ≡ LoadFault.OutOfMemory };
+
+    fn from(_refused: OutOfMemory) -> LoadFault {
+        LoadFault::OutOfMemory
+    }
+}
+
+/// Which stream of an output could not be loaded, and why.
+#[derive(Clone, Copy, Debug, PartialEq, Eq, Error)]
+#[error("{fault}")]
+pub struct StreamFault {
+    /// The stream.
+    pub stream: StreamField,
+    /// Why.
+    pub fault: LoadFault,
+}
+
+/// The outputs of a recorded run.
+#[derive(Drop)]
+pub struct RecordedOutputs<O: ReadAt> {
+    source: O,
+    // How many bytes there were when that was last asked.
+    len: u64,
+    ghost known: { ForSome (O.recorded source) (λ all. len ≡ length all) },
+}
+
+impl<O: ReadAt + Drop> RecordedOutputs<O> {
+    /// The outputs in this source, of which nothing is read. It asks how many bytes there are, and an error is that of this question.
+    pub fn new(mut source: O) -> io::Result<RecordedOutputs<O>>
+        ensures recorded { IfOk result (λ outputs. O.recorded outputs.source ≡ O.recorded source) }
+        ensures count { IfOk result (λ outputs. O.count outputs.source ≡ O.count source) }
+    {
+        let len = source.len()?;
+        Ok(RecordedOutputs { source, len })
+    }
+
+    /// How many bytes of the source were read. It stays at `u64::MAX` where it would pass that.
+    pub fn bytes_read(&self) -> u64
+        ensures { result ≡ O.count self.now.source }
+    {
+        self.source.bytes_read()
+    }
+
+    /// Whether all bytes that a reference names are there, of which none is read. Where they end behind the last byte that is known, it
+    /// asks anew how many there are, since a run that is still recorded writes more.
+    pub fn holds(&mut self, reference: &Reference) -> io::Result<bool>
+        ensures holds { IfSome (O.recorded self.old.source) (λ all. IfOk result (λ holds. IsTrue holds ↔ (end_of reference.now ≤ length all))) }
+        ensures kept { O.recorded self.new.source ≡ O.recorded self.old.source }
+        ensures count { O.count self.new.source ≡ O.count self.old.source }
+    {
+        if !reference.ends_within(self.len) {
+            self.len = self.source.len()?;
+        }
+        Ok(reference.ends_within(self.len))
+    }
+
+    /// Reads the bytes that a reference names, and no others, into memory of just their size, and checks their sum.
+    ///
+    /// Where they are not all there no memory is asked for. [`LoadFault`] says what each fault is.
+    ///
+    /// ```
+    /// use scene_fields::reference::read_reference;
+    /// let reference = read_reference("\\@7:7:ee2a98c236301c76").ok_or("no reference")?;
+    /// let mut outputs = RecordedOutputs::new(Metered::new(b"passed\nfailed\n".as_slice()))?;
+    /// let stream = outputs.load(alloc, &reference)?;
+    /// assert_eq!(stream.as_slice(), b"failed\n".as_slice());
+    /// assert_eq!(outputs.bytes_read(), 7);
+    /// ```
+    pub fn load(&mut self, alloc: Global, reference: &Reference) -> Result<Bytes, LoadFault>
+        ensures loaded { IfSome (O.recorded self.old.source) (λ all. IsLoaded all reference.now result) }
+        ensures sum { IfOk result (HasSum reference.now) }
+        ensures kept { O.recorded self.new.source ≡ O.recorded self.old.source }
+        ensures count { IsCounted (O.count self.old.source) reference.now result (O.count self.new.source) }
+    {
+        if !self.holds(reference)? {
+            return Err(LoadFault::PastEnd);
+        }
+        let mut bytes = vec![in alloc; 0u8; reference.len]?;
+        self.fill(reference.offset, &mut bytes)?;
+        if !reference.has_sum_of(bytes.as_slice()) {
+            return Err(LoadFault::WrongSum);
+        }
+        Ok(Bytes::from_vec(bytes)?)
+    }
+
+    // Fills a vector with the bytes from this place on.
+    fn fill(&mut self, offset: u64, bytes: &mut Vec<u8>) -> io::Result<()>
+        ensures read { OnOk result (IfSome (O.recorded self.old.source) (HasRead offset bytes.new.items)) }
+        ensures len { OnOk result (vec_len bytes.new ≡ vec_len bytes.old) }
+        ensures kept { O.recorded self.new.source ≡ O.recorded self.old.source }
+        ensures count { O.count self.new.source ≡ (if is_ok result then counted (O.count self.old.source) (vec_len bytes.old) else O.count self.old.source) }
+    {
+        self.source.read_at(offset, bytes.as_mut_slice())
+    }
+
+    /// Loads what was captured of an output. It reads the bytes of its streams and no others, and allocates for these.
+    ///
+    /// A fault says which stream is damaged, cannot be read or finds no memory; standard output comes first.
+    ///
+    /// ```
+    /// use scene_fields::stored::StoredOutput;
+    /// let reference = "\\@7:7:ee2a98c236301c76";
+    /// let stored = StoredOutput::read("comb", reference, "-").ok_or("no output")?;
+    /// let mut outputs = RecordedOutputs::new(Metered::new(b"passed\nfailed\n".as_slice()))?;
+    /// assert!(outputs.load_output(alloc, &stored)?.is_loaded());
+    /// assert_eq!(outputs.bytes_read(), 7);
+    /// ```
+    pub fn load_output(
+        &mut self,
+        alloc: Global,
+        stored: &StoredOutput,
+    ) -> Result<ChildOutputDescription, StreamFault>
+        ensures loaded { IfSome (O.recorded self.old.source) (λ all. IsCaptured all stored.now result) }
+        ensures kept { O.recorded self.new.source ≡ O.recorded self.old.source }
+        ensures count { IsCountedOf (O.count self.old.source) stored.now result (O.count self.new.source) }
+    {
+        match stored {
+            StoredOutput::Split { stdout, stderr } => {
+                let stdout = self
+                    .load_stream(alloc, stdout)
+                    .map_err(|fault| StreamFault {
+                        stream: StreamField::First,
+                        fault,
+                    })?;
+                let stderr = self
+                    .load_stream(alloc, stderr)
+                    .map_err(|fault| StreamFault {
+                        stream: StreamField::Second,
+                        fault,
+                    })?;
+                Ok(ChildOutputDescription::Split { stdout, stderr })
+            }
+            StoredOutput::Combined { output } => {
+                let output = self
+                    .load_single(alloc, output)
+                    .map_err(|fault| StreamFault {
+                        stream: StreamField::First,
+                        fault,
+                    })?;
+                Ok(ChildOutputDescription::Combined { output })
+            }
+        }
+    }
+
+    // Loads a stream, if it was captured.
+    fn load_stream(
+        &mut self,
+        alloc: Global,
+        stored: &StoredStream,
+    ) -> Result<Option<ChildSingleOutput>, LoadFault>
+        ensures loaded { IfSome (O.recorded self.old.source) (λ all. IsCapturedStream all stored.now result) }
+        ensures kept { O.recorded self.new.source ≡ O.recorded self.old.source }
+        ensures count { IsCountedOfStream (O.count self.old.source) stored.now result (O.count self.new.source) }
+    {
+        match stored {
+            StoredStream::NotCaptured => Ok(None),
+            StoredStream::Empty => Ok(Some(ChildSingleOutput::empty())),
+            StoredStream::At(reference) => Ok(Some(self.load_single(alloc, reference)?)),
+        }
+    }
+
+    // Loads the bytes that a reference names, as the output of one stream or of both together.
+    fn load_single(
+        &mut self,
+        alloc: Global,
+        reference: &Reference,
+    ) -> Result<ChildSingleOutput, LoadFault>
+        ensures loaded { IfSome (O.recorded self.old.source) (λ all. IsLoaded all reference.now result) }
+        ensures kept { O.recorded self.new.source ≡ O.recorded self.old.source }
+        ensures count { IsCounted (O.count self.old.source) reference.now result (O.count self.new.source) }
+    {
+        let bytes = self.load(alloc, reference)?;
+        Ok(ChildSingleOutput::new(alloc, bytes)?)
+    }
+}

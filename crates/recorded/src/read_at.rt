@@ -1,0 +1,159 @@
+//! Bytes that are read at their place, and a meter that counts them.
+//!
+//! The kit's `Read` and `Seek` do not say that what is read after a seek stands at the place that was sought; [`Source`] says so. What is read
+//! through [`ReadAt`] is counted as well: [`Metered`] is the meter, and stands in front of any source.
+
+ghost use Rattle.std.specs.Prelude.{◌≡◌, ℕ, List, Option, None, Some, IfOk, IfSome, OnOk, if◌then◌else◌, is_ok, length};
+ghost use Rattle.std.specs.Io.Cursor.{cursor_inner};
+ghost use Rattle.recorded.specs.Outputs.{counted};
+ghost use Rattle.recorded.specs.ReadAt.{HasRead};
+
+use std::fs::File;
+use std::io;
+use std::io::{AsBytes, Cursor, ErrorKind, Read, Seek, SeekFrom};
+use std::os::unix::fs::FileExt;
+
+/// Bytes that are read at their place, as those of a file are.
+///
+/// Contracts know the bytes of a slice and of a cursor, and nothing of those of a file.
+pub trait Source {
+    // All the bytes, where they are known.
+    ghost recorded: { Self → Option (List ℕ) } = { λ _. None };
+
+    /// How many bytes there are now. A file may grow between two calls.
+    fn len(&mut self) -> io::Result<u64>
+        ensures kept { recorded self.new ≡ recorded self.old }
+        ensures len { IfOk result (λ n. IfSome (recorded self.old) (λ all. n ≡ length all)) };
+
+    /// Fills the buffer with the bytes from this place on, which is counted in bytes. Where there are fewer of them, that is an error, and
+    /// so is a read that fails. What the buffer holds after an error is not said.
+    ///
+    /// ```
+    /// let mut outputs = b"passed failed".as_slice();
+    /// let mut buffer = [0; 6];
+    /// outputs.read_at(7, &mut buffer)?;
+    /// assert_eq!(&buffer, b"failed");
+    /// assert!(outputs.read_at(8, &mut buffer).is_err());
+    /// ```
+    fn read_at(&mut self, offset: u64, buffer: &mut [u8]) -> io::Result<()>
+        ensures kept { recorded self.new ≡ recorded self.old }
+        ensures read { OnOk result (IfSome (recorded self.old) (HasRead offset buffer.new)) };
+}
+
+/// Bytes in memory.
+impl Source for &[u8] {
+    ghost recorded = { λ s. Some s.now };
+
+    fn len(&mut self) -> io::Result<u64> {
+        let all: &[u8] = *self;
+        Ok(all.len() as u64)
+    }
+
+    fn read_at(&mut self, offset: u64, buffer: &mut [u8]) -> io::Result<()> {
+        Cursor::new(*self).read_at(offset, buffer)
+    }
+}
+
+/// The bytes under a cursor, wherever it stands. Both calls move it.
+impl<T: AsBytes> Source for Cursor<T> {
+    ghost recorded = { λ c. T.bytes (cursor_inner c) };
+
+    fn len(&mut self) -> io::Result<u64> {
+        self.seek(SeekFrom::End(0))
+    }
+
+    fn read_at(&mut self, offset: u64, buffer: &mut [u8]) -> io::Result<()> {
+        self.seek(SeekFrom::Start(offset))?;
+        let len = buffer.len();
+        // All the bytes are at hand, so one read gives what there is.
+        if self.read(buffer)? < len {
+            return Err(ErrorKind::UnexpectedEof.into());
+        }
+        Ok(())
+    }
+}
+
+/// The bytes of a file, wherever it stands. No call moves it.
+impl Source for File {
+    fn len(&mut self) -> io::Result<u64> {
+        // A seek to the end of a folder would answer a number that no file has.
+        Ok(self.metadata()?.len())
+    }
+
+    fn read_at(&mut self, offset: u64, buffer: &mut [u8]) -> io::Result<()> {
+        self.read_exact_at(buffer, offset)
+    }
+}
+
+/// Bytes that are read at their place, of which each read is counted.
+///
+/// What a contract says of [`bytes_read`](ReadAt::bytes_read) it says of every read, wherever it stands: there is no other way to the bytes.
+pub trait ReadAt {
+    // All the bytes, where they are known.
+    ghost recorded: { Self → Option (List ℕ) } = { λ _. None };
+    // How many bytes were read.
+    ghost count: { Self → ℕ };
+
+    /// How many bytes there are now, as [`Source::len`] answers it. None is read.
+    fn len(&mut self) -> io::Result<u64>
+        ensures kept { recorded self.new ≡ recorded self.old }
+        ensures len { IfOk result (λ n. IfSome (recorded self.old) (λ all. n ≡ length all)) }
+        ensures count { count self.new ≡ count self.old };
+
+    /// Fills the buffer with the bytes from this place on, as [`Source::read_at`] does, and counts them. A read that fails is not counted.
+    fn read_at(&mut self, offset: u64, buffer: &mut [u8]) -> io::Result<()>
+        ensures kept { recorded self.new ≡ recorded self.old }
+        ensures read { OnOk result (IfSome (recorded self.old) (HasRead offset buffer.new)) }
+        ensures count { count self.new ≡ (if is_ok result then counted (count self.old) (length buffer.old) else count self.old) };
+
+    /// How many bytes were read. It stays at `u64::MAX` where it would pass that.
+    fn bytes_read(&self) -> u64
+        ensures { result ≡ count self.now };
+}
+
+/// A source with a meter in front of it.
+///
+/// ```
+/// let mut outputs = Metered::new(b"passed failed".as_slice());
+/// outputs.read_at(7, &mut [0; 6])?;
+/// assert!(outputs.read_at(8, &mut [0; 6]).is_err());
+/// assert_eq!(outputs.bytes_read(), 6);
+/// ```
+#[derive(Drop)]
+pub struct Metered<S> {
+    source: S,
+    bytes_read: u64,
+}
+
+impl<S: Source> Metered<S> {
+    /// A source of which nothing was read.
+    pub fn new(source: S) -> Metered<S>
+        ensures source { S.recorded result.source ≡ S.recorded source }
+        ensures count { result.bytes_read ≡ 0 }
+    {
+        Metered {
+            source,
+            bytes_read: 0,
+        }
+    }
+}
+
+impl<S: Source> ReadAt for Metered<S> {
+    ghost recorded = { λ metered. S.recorded metered.source };
+
+    ghost count = { λ metered. metered.bytes_read };
+
+    fn len(&mut self) -> io::Result<u64> {
+        self.source.len()
+    }
+
+    fn read_at(&mut self, offset: u64, buffer: &mut [u8]) -> io::Result<()> {
+        self.source.read_at(offset, buffer)?;
+        self.bytes_read = self.bytes_read.saturating_add(buffer.len() as u64);
+        Ok(())
+    }
+
+    fn bytes_read(&self) -> u64 {
+        self.bytes_read
+    }
+}

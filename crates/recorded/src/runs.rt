@@ -1,0 +1,134 @@
+//! A recorded run as a source of lines.
+
+ghost use Rattle.std.specs.Prelude.{◌≡◌, ℕ, List, None, Some, IfErr, IfOk};
+ghost use Rattle.std.specs.Io.Buffered.{reader_remaining};
+ghost use Rattle.recorded.specs.Outputs.{counted};
+ghost use Rattle.recorded.specs.Runs.{lines_inline, lines_replayed, needed_bytes, replayed};
+ghost use Rattle.recorded.specs.Source.{IsLeft};
+ghost use Rattle.scene_text.specs.SceneTexts.{no_lines};
+ghost use Rattle.scenes.specs.Follow.{StopsBy};
+ghost use Rattle.scenes.specs.ParsedScenes.{OfLines};
+ghost use Rattle.scenes.specs.Prints.{Begins, Prints, PrintsFollowed, device};
+
+use super::lines::{next_line, read_line};
+use super::outputs::RecordedOutputs;
+use super::read_at::ReadAt;
+use run_model::memory::OutOfMemory;
+use scene_text::reader::LinesRead;
+use scenes::args::Options;
+use scenes::fault::Fault;
+use scenes::follow::{RunOutcome, follow_source};
+use scenes::read::RunSource;
+use std::alloc::Global;
+use std::io::{BufReader, Read, Write};
+
+/// How many bytes are read of the lines at once.
+const BYTES_AT_ONCE: usize = 16_384;
+
+/// A recorded run: its lines, and its outputs. Those that the decider skips are not read.
+///
+/// ```
+/// use scenes::args::words;
+/// use scenes::follow::RunOutcome;
+/// let given = CommandLine::from_words(alloc, &["--level", "pass", "DIR"])?;
+/// let options = words(given.words()).ok_or("no options")?;
+/// let lines = "done\t-\talpha\tt1\tnever\tnever\tpass\tinitial=1 finished=1 passed=1\t1\tpass\t5000000\t0\tcomb\t\\@0:7:62cd0a585dc2fe91\t-\t-\t-\n";
+/// let outputs = RecordedOutputs::new(Metered::new(b"passed\n".as_slice()))?;
+/// let mut run = RecordedRun::new(alloc, options, lines.as_bytes(), outputs)?;
+/// let (outcome, printed, _records) = run.replay(alloc, Vec::new(alloc), Vec::new(alloc));
+/// assert!(outcome? == RunOutcome::NotEnded);
+/// assert!(!printed.is_empty());
+/// assert_eq!(run.bytes_read(), 0); // the decider skips the output of a test that passed
+/// ```
+#[derive(Drop)]
+pub struct RecordedRun<'a, R, O: ReadAt> {
+    options: Options<'a>,
+    reader: BufReader<R>,
+    line: Vec<u8>,
+    outputs: RecordedOutputs<O>,
+}
+
+impl<'a, R: Read + Drop, O: ReadAt + Drop> RecordedRun<'a, R, O> {
+    /// The run whose lines this reader has, and whose outputs these are. It is reported as nextest shows a recorded run, whether or not the
+    /// options say so.
+    pub fn new(
+        alloc: Global,
+        options: Options<'a>,
+        reader: R,
+        outputs: RecordedOutputs<O>,
+    ) -> Result<RecordedRun<'a, R, O>, OutOfMemory>
+        ensures options { IfOk result (λ run. run.options ≡ replayed options.entry) }
+        ensures lines { IfOk result (λ run. reader_remaining R.remaining run.reader ≡ R.remaining reader) }
+        ensures outputs { IfOk result (λ run. run.outputs ≡ outputs) }
+    {
+        let Ok(reader) = BufReader::with_capacity(alloc, BYTES_AT_ONCE, reader) else {
+            return Err(OutOfMemory);
+        };
+        Ok(RecordedRun {
+            options: Options {
+                is_replay: true,
+                ..options
+            },
+            reader,
+            line: Vec::new(alloc),
+            outputs,
+        })
+    }
+
+    /// How many bytes of outputs were read. It stays at `u64::MAX` where it would pass that.
+    pub fn bytes_read(&self) -> u64
+        ensures { result ≡ O.count self.now.outputs.source }
+    {
+        self.outputs.bytes_read()
+    }
+
+    /// Prints the report of the run, each line of it once it was read, and its records to a second device, if the options ask for them. Both
+    /// devices are given back.
+    ///
+    /// On `Ok` the first device has what `follow` prints of the events of the run, with every output put into its event (`ok`), and the outputs
+    /// that the report does not show were not read (`reads`, which speaks of the count of the outputs' source). That reading a scene with the
+    /// outputs spelled out gives these events is not proved: `scripts/check-recorded` tests it. The error is that of the first line that is
+    /// wrong; the report of the lines before it stands.
+    pub fn replay<W: Write, S: Write>(
+        &mut self,
+        alloc: Global,
+        writer: W,
+        store_writer: S,
+    ) -> (Result<RunOutcome, Fault<'a>>, W, S)
+        ensures ok { (text all : List ℕ) → reader_remaining R.remaining self.old.reader ≡ Some text → O.recorded self.old.outputs.source ≡ Some all → IfOk result.0 (λ come_to.
+            OfLines (lines_inline all text) (PrintsFollowed device device self.old.options (W.contents writer, S.contents store_writer) (W.contents result.1, S.contents result.2) come_to)) }
+        ensures err { (text all : List ℕ) → reader_remaining R.remaining self.old.reader ≡ Some text → O.recorded self.old.outputs.source ≡ Some all → IfErr result.0 (StopsBy self.old.options (lines_replayed self.old.options all text)
+            (Prints device device self.old.options (W.contents writer, S.contents store_writer) (W.contents result.1, S.contents result.2))
+            (Begins device device self.old.options (W.contents writer, S.contents store_writer) (W.contents result.1, S.contents result.2))) }
+        ensures reads { (text all : List ℕ) → reader_remaining R.remaining self.old.reader ≡ Some text → O.recorded self.old.outputs.source ≡ Some all → IfOk result.0 (λ _.
+            O.count self.new.outputs.source ≡ counted (O.count self.old.outputs.source) (needed_bytes self.old.options text)) }
+        ensures no_store { self.old.options.store ≡ None → result.2 ≡ store_writer }
+    {
+        let options = self.options;
+        let followed = follow_source(alloc, &options, self, writer, store_writer);
+        let _count = self.bytes_read(); // it is a `u64`, which a proof learns by reading it
+        followed
+    }
+}
+
+impl<'o, R: Read, O: ReadAt + Drop> RunSource for RecordedRun<'o, R, O> {
+    ghost left = { λ total run. IsLeft total run.options (O.recorded run.outputs.source) (reader_remaining R.remaining run.reader) (O.count run.outputs.source) };
+
+    fn read_next<'a>(
+        &mut self,
+        alloc: Global,
+        file: &'a str,
+        read: &mut LinesRead,
+    ) -> Result<bool, Fault<'a>> {
+        match next_line(file, &mut self.reader, &mut self.line) {
+            Ok(true) => {}
+            Ok(false) => return Ok(false),
+            Err(fault) => return Err(fault),
+        }
+        let (options, line) = (&self.options, self.line.as_slice());
+        match read_line(alloc, file, options, line, &mut self.outputs, read) {
+            Ok(()) => Ok(true),
+            Err(fault) => Err(fault),
+        }
+    }
+}

@@ -1,4 +1,0 @@
-pub mod Fields
-pub mod References
-pub mod Rows
-pub mod Streams

@@ -1,5 +1,0 @@
-use Rattle.recorded_lines.proofs.lemmas.Streams.{loaded_single}
-use Rattle.recorded_lines.proofs.stored.load_single.Goals as goal
-
-pub returns-clause-loaded : goal.returns-clause-loaded
-returns-clause-loaded g c = loaded_single _ _ _ _ c.single.ensures c.in_ok-bytes.ensures.loaded

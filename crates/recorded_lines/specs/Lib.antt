@@ -1,3 +1,0 @@
-pub mod Lines
-pub mod Loads
-pub mod Stored

@@ -1,3 +1,0 @@
-pub mod NextLines
-pub mod Runs
-pub mod Source

@@ -1,0 +1,63 @@
+-- Worked rows: what the definitions say of references that are written out.
+use Rattle.std.proofs.Common.{◌≡◌, ℕ, List, [], ◌∷◌, ◌++◌, codes, refl, None, Some}
+use Rattle.hex.proofs.OnLiterals.{hex_on_literals}
+use Rattle.scene_fields.specs.Numbers.{number_in}
+use Rattle.scene_fields.specs.Split.{cut}
+use Rattle.scene_fields.specs.References.{after_mark, reference_in, sum_in}
+
+-- the sum of no byte, as text and as bytes
+abbrev sum_text : List ℕ
+sum_text = codes "d1fba762150c532c"
+
+abbrev sum_bytes : List ℕ
+sum_bytes = 209 ∷ 251 ∷ 167 ∷ 98 ∷ 21 ∷ 12 ∷ 83 ∷ 44 ∷ []
+
+row_sum : sum_in sum_text ≡ Some sum_bytes
+unfolding sum_in hex_on_literals
+row_sum = refl
+
+-- a letter is upper case, a digit is missing, one is too many, and one is none
+row_upper : sum_in (codes "D1fba762150c532c") ≡ None
+unfolding sum_in hex_on_literals
+row_upper = refl
+
+row_short : sum_in (codes "d1fba762150c532") ≡ None
+unfolding sum_in hex_on_literals
+row_short = refl
+
+row_long : sum_in (codes "d1fba762150c532c00") ≡ None
+unfolding sum_in hex_on_literals
+row_long = refl
+
+row_no_digit : sum_in (codes "g1fba762150c532c") ≡ None
+unfolding sum_in hex_on_literals
+row_no_digit = refl
+
+row_reference : reference_in (codes "\\@70:007:" ++ sum_text) ≡ Some (record { offset = 70; len = 7; sum = sum_bytes })
+unfolding reference_in after_mark sum_in cut number_in hex_on_literals
+row_reference = refl
+
+-- text, a number that has a plus, one that is empty, one that is too large, no sum, and text behind the sum
+row_text : reference_in (codes "passed") ≡ None
+unfolding reference_in after_mark sum_in cut number_in hex_on_literals
+row_text = refl
+
+row_plus : reference_in (codes "\\@+70:7:" ++ sum_text) ≡ None
+unfolding reference_in after_mark sum_in cut number_in hex_on_literals
+row_plus = refl
+
+row_empty : reference_in (codes "\\@70::" ++ sum_text) ≡ None
+unfolding reference_in after_mark sum_in cut number_in hex_on_literals
+row_empty = refl
+
+row_large : reference_in (codes "\\@18446744073709551616:7:" ++ sum_text) ≡ None
+unfolding reference_in after_mark sum_in cut number_in hex_on_literals
+row_large = refl
+
+row_no_sum : reference_in (codes "\\@70:7") ≡ None
+unfolding reference_in after_mark sum_in cut number_in hex_on_literals
+row_no_sum = refl
+
+row_more : reference_in ((codes "\\@70:7:" ++ sum_text) ++ codes ":") ≡ None
+unfolding reference_in after_mark sum_in cut number_in hex_on_literals
+row_more = refl

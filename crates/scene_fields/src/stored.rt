@@ -1,0 +1,133 @@
+//! What a recorded run stores of an output, by the fields of a line, and where it stands in that line.
+
+ghost use Rattle.std.specs.Prelude.{◌≡◌};
+ghost use Rattle.scene_fields.specs.Stored.{field_of, is_reference, stored_output_in, stored_stream_in, stream_in_field};
+
+use super::reference::{Reference, read_reference};
+
+/// What a recorded run stores of a stream.
+#[derive(Clone, Copy, Debug, PartialEq, Eq)]
+pub enum StoredStream {
+    /// It was not captured.
+    NotCaptured,
+    /// It was captured, and holds nothing.
+    Empty,
+    /// Its bytes stand among the outputs of the run.
+    At(Reference),
+}
+
+/// What a recorded run stores of an output.
+#[derive(Clone, Copy, Debug, PartialEq, Eq)]
+pub enum StoredOutput {
+    /// Each stream by itself.
+    Split {
+        /// Standard output.
+        stdout: StoredStream,
+        /// Standard error.
+        stderr: StoredStream,
+    },
+    /// Both streams together, in the order in which they were written.
+    Combined {
+        /// Their bytes.
+        output: Reference,
+    },
+}
+
+/// The one of an output's two fields of streams that is meant.
+#[derive(Clone, Copy, Debug, PartialEq, Eq)]
+pub enum StreamField {
+    /// Standard output, or both streams together.
+    First,
+    /// Standard error.
+    Second,
+}
+
+/// A stored output, and where it stands in its line.
+#[derive(Clone, Copy)]
+pub struct PlacedOutput {
+    /// The place of its attempt, from 0. The only output of an event has the place 0.
+    pub place: usize,
+    /// The number of the field of its first stream, from 1 for the event's name.
+    pub field: usize,
+    /// What is stored.
+    pub output: StoredOutput,
+}
+
+impl StoredStream {
+    // Reads the field of a stream that is stored, empty or not captured.
+    fn read(field: &str) -> Option<StoredStream>
+        ensures { result ≡ stored_stream_in field.now }
+    {
+        match field {
+            "" => Some(StoredStream::Empty),
+            "-" => Some(StoredStream::NotCaptured),
+            _ => Some(StoredStream::At(read_reference(field)?)),
+        }
+    }
+
+    // Whether its bytes stand among the outputs of the run.
+    fn is_reference(&self) -> bool
+        ensures { result ≡ is_reference self.now }
+    {
+        matches!(self, StoredStream::At(_))
+    }
+}
+
+impl StoredOutput {
+    /// Reads what is stored of an output from the fields of its form and of its streams. `None` means that nothing of it is stored.
+    ///
+    /// ```
+    /// assert_eq!(StoredOutput::read("split", "it failed", ""), None);
+    /// ```
+    pub fn read(form: &str, first: &str, second: &str) -> Option<StoredOutput>
+        ensures { result ≡ stored_output_in form.now first.now second.now }
+    {
+        match form {
+            "split" => {
+                let stdout = StoredStream::read(first)?;
+                let stderr = StoredStream::read(second)?;
+                if !stdout.is_reference() && !stderr.is_reference() {
+                    return None;
+                }
+                Some(StoredOutput::Split { stdout, stderr })
+            }
+            "comb" => {
+                if second != "-" {
+                    return None;
+                }
+                let output = read_reference(first)?;
+                Some(StoredOutput::Combined { output })
+            }
+            _ => None,
+        }
+    }
+
+    /// The stream in one of its two fields. Streams that were captured together stand in the first.
+    ///
+    /// ```
+    /// let stored = StoredOutput::read("comb", "\\@7:7:ee2a98c236301c76", "-").ok_or("no output")?;
+    /// assert_eq!(stored.stream(StreamField::Second), StoredStream::NotCaptured);
+    /// ```
+    pub fn stream(&self, field: StreamField) -> StoredStream
+        ensures { result ≡ stream_in_field field self.now }
+    {
+        match (field, self) {
+            (StreamField::First, StoredOutput::Split { stdout, .. }) => *stdout,
+            (StreamField::Second, StoredOutput::Split { stderr, .. }) => *stderr,
+            (StreamField::First, StoredOutput::Combined { output }) => StoredStream::At(*output),
+            (StreamField::Second, StoredOutput::Combined { .. }) => StoredStream::NotCaptured,
+        }
+    }
+}
+
+impl PlacedOutput {
+    /// The number of the field of one of its streams, from 1 for the event's name. It stays at `usize::MAX` where it would pass that.
+    pub fn field_of(&self, stream: StreamField) -> usize
+        ensures { result ≡ field_of self.now stream }
+    {
+        match stream {
+            StreamField::First => self.field,
+            StreamField::Second => self.field.saturating_add(1),
+        }
+    }
+}
