@@ -31,10 +31,10 @@ captured_at all (Split stdout stderr) = captured_split (captured_stream_at all s
 captured_at all (Combined reference) = option_map (λ bytes. captured.Combined bytes) (stream_at all reference)
 
 -- a stream has this fault: only what has bytes can have one
-abbrev pub IsFaultOf : List ℕ → StoredStream → LoadFault → Type 0
-IsFaultOf all NotCaptured fault = ⊥
-IsFaultOf all Empty fault = ⊥
-IsFaultOf all (At reference) fault = IsLoaded all reference (Err fault)
+abbrev pub IsStreamFault : List ℕ → StoredStream → LoadFault → Type 0
+IsStreamFault all NotCaptured fault = ⊥
+IsStreamFault all Empty fault = ⊥
+IsStreamFault all (At reference) fault = IsLoaded all reference (Err fault)
 
 -- the stream before the one in this field is not damaged
 abbrev pub IsWholeBefore : List ℕ → StreamField → StoredOutput → Type 0
@@ -44,11 +44,11 @@ IsWholeBefore all Second output = is_some (captured_stream_at all (stream_in_fie
 -- what was loaded of a stream, or of an output, is what was captured; what was not has a fault
 abbrev pub IsCapturedStream : List ℕ → StoredStream → Result (Option (List ℕ)) LoadFault → Type 0
 IsCapturedStream all stream (Ok loaded) = captured_stream_at all stream ≡ Some loaded
-IsCapturedStream all stream (Err fault) = IsFaultOf all stream fault
+IsCapturedStream all stream (Err fault) = IsStreamFault all stream fault
 
 abbrev pub IsCaptured : List ℕ → StoredOutput → Result ChildOutputDescription StreamFault → Type 0
 IsCaptured all output (Ok loaded) = captured_at all output ≡ Some loaded
-IsCaptured all output (Err f) = IsFaultOf all (stream_in_field f.stream output) f.fault × IsWholeBefore all f.stream output
+IsCaptured all output (Err f) = IsStreamFault all (stream_in_field f.stream output) f.fault × IsWholeBefore all f.stream output
 
 -- a count of bytes once the bytes of a stream, or of an output, are read: those of its references
 abbrev pub counted_stream : ℕ → StoredStream → ℕ

@@ -8,7 +8,7 @@ use Rattle.command_line.specs.declared.fault.Fault.TheVariants as program
 use Rattle.recorded.specs.declared.outputs.LoadFault.{LoadFault}
 use Rattle.recorded.specs.declared.outputs.LoadFault.TheVariants as load
 use Rattle.recorded.specs.Outputs.{counted}
-use Rattle.recorded.specs.Runs.{needed_for, whole_lines}
+use Rattle.recorded.specs.Runs.{needed_for, ended_lines}
 use Rattle.recorded.specs.declared.lines.Taken.{Taken}
 use Rattle.recorded.specs.declared.lines.Taken.TheVariants as taken
 use Rattle.scene_events.specs.declared.scene.event.SceneEvent.{SceneEvent}
@@ -21,7 +21,7 @@ use Rattle.scene_text.specs.declared.reader.LinesRead.{LinesRead}
 -- what was read of a text: its first line, which a line feed parts from what is left; or what stands behind the last line feed
 abbrev pub IsNextLine : List ℕ → Bool → List ℕ → Option (List ℕ) → Type 0
 IsNextLine text true line rest = (more : List ℕ) × (rest ≡ Some more) × (text ≡ line ++ 10 ∷ more) × Lacks 10 line
-IsNextLine text false line rest = (whole_lines text ≡ []) × ((more : List ℕ) × (rest ≡ Some more) × (whole_lines more ≡ []))
+IsNextLine text false line rest = (ended_lines text ≡ []) × ((more : List ℕ) × (rest ≡ Some more) × (ended_lines more ≡ []))
 
 -- what was taken of a text whose first bytes are at hand, after what was taken before: the end of a line and its line feed, a part of a line, or
 -- nothing, where none are at hand; and what is left of it

@@ -18,22 +18,22 @@ without_last [] = []
 without_last (x ∷ []) = []
 without_last (x ∷ y ∷ ys) = x ∷ without_last (y ∷ ys)
 
-abbrev pub whole_lines : List ℕ → List (List ℕ)
-whole_lines text = without_last (split_on 10 text)
+abbrev pub ended_lines : List ℕ → List (List ℕ)
+ended_lines text = without_last (split_on 10 text)
 
 -- a line as it is replayed: with the outputs that its report shows
 abbrev pub line_replayed : Options → List ℕ → List ℕ → RunLine
 line_replayed options all t = RecordedLine t (λ before stored e. event_replayed all (decider_for options before.config) stored e)
 
 abbrev pub lines_replayed : Options → List ℕ → List ℕ → List RunLine
-lines_replayed options all text = map (line_replayed options all) (whole_lines text)
+lines_replayed options all text = map (line_replayed options all) (ended_lines text)
 
 -- a line of the scene in which every output stands in its place
 abbrev pub line_inline : List ℕ → List ℕ → RunLine
 line_inline all t = RecordedLine t (λ before stored e. Ok (event_inline all stored e))
 
 abbrev pub lines_inline : List ℕ → List ℕ → List RunLine
-lines_inline all text = map (line_inline all) (whole_lines text)
+lines_inline all text = map (line_inline all) (ended_lines text)
 
 -- what stands before the line behind one of this value
 abbrev pub before_behind : LinesBefore → ParsedLine → LinesBefore
@@ -61,4 +61,4 @@ needed options before [] = 0
 needed options before (t ∷ ts) = needed_for options before (recorded_line before t) + needed options (before_rest before (recorded_line before t)) ts
 
 abbrev pub needed_bytes : Options → List ℕ → ℕ
-needed_bytes options text = needed options (lines_before no_lines) (whole_lines text)
+needed_bytes options text = needed options (lines_before no_lines) (ended_lines text)

@@ -2,7 +2,7 @@
 use Rattle.std.specs.Prelude.{◌≡◌, ℕ, List, Option, Some}
 use Rattle.command_line.specs.declared.args.Options.{Options}
 use Rattle.recorded.specs.Outputs.{counted}
-use Rattle.recorded.specs.Runs.{lines_replayed, needed, whole_lines}
+use Rattle.recorded.specs.Runs.{lines_replayed, needed, ended_lines}
 use Rattle.scene_text.specs.SceneTexts.{ParsedLines, RunLine, lines_before}
 
 -- These lines are left behind those before. So many bytes of outputs were read, and once these lines are read, so many in all.
@@ -12,4 +12,4 @@ pub record IsLeft (total : ℕ) (options : Options) (recorded remaining : Option
   pub outputs : recorded ≡ Some all
   pub rest : remaining ≡ Some text
   pub is : lines ≡ lines_replayed options all text
-  pub counts : total ≡ counted bytes_read (needed options (lines_before before) (whole_lines text))
+  pub counts : total ≡ counted bytes_read (needed options (lines_before before) (ended_lines text))

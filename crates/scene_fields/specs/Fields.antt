@@ -95,18 +95,18 @@ abbrev pub next_stored : Place → Option StoredOutput
 next_stored p = stored_among p.left p.noted
 
 -- the outputs with one more, whose first stream is the field of this number
-abbrev pub with_output : Option StoredOutput → ℕ → Option Noted → Option Noted
-with_output output field None = None
-with_output output field (Some noted) = Some (record { outputs = noted.outputs + 1; stored = noted.stored ++ placed noted.outputs field output })
+abbrev pub with_noted : Option StoredOutput → ℕ → Option Noted → Option Noted
+with_noted output field None = None
+with_noted output field (Some noted) = Some (record { outputs = noted.outputs + 1; stored = noted.stored ++ placed noted.outputs field output })
 
 -- the output that comes next is counted, and noted if it is stored
 abbrev pub noting : Option StoredOutput → Place → Place
-noting output p = record p { noted = with_output output (p.number + 2) p.noted }
+noting output p = record p { noted = with_noted output (p.number + 2) p.noted }
 
 -- the outputs that are stored
-abbrev pub stored_of : Option Noted → List PlacedOutput
-stored_of None = []
-stored_of (Some noted) = noted.stored
+abbrev pub noted_outputs : Option Noted → List PlacedOutput
+noted_outputs None = []
+noted_outputs (Some noted) = noted.stored
 
 -- a line has the fault, unless memory was refused
 abbrev pub Fails : {Y : Type 0} → LineError → Result Y LineFault → Type 0

@@ -4,7 +4,7 @@ ghost use Rattle.std.specs.Prelude.{◌≡◌, ◌+◌, ◌++◌, ◌≤◌, ◌
 ghost use Rattle.std.specs.Option.{ForSome};
 ghost use Rattle.scene_fields.specs.Split.{split_on, field_texts};
 ghost use Rattle.scene_fields.specs.declared.fault.LineFault.{LineFault};
-ghost use Rattle.scene_fields.specs.Fields.{IsRightNumber, Noted, Place, ReadsBy, TriesBy, answered, next, next_stored, none_noted, noting, stored_of, taken_text, with_output};
+ghost use Rattle.scene_fields.specs.Fields.{IsRightNumber, Noted, Place, ReadsBy, TriesBy, answered, next, next_stored, none_noted, noting, noted_outputs, taken_text, with_noted};
 ghost use Rattle.scene_fields.specs.Stored.{placed};
 
 use super::marks::{first_place, marks_from, shift_past};
@@ -61,7 +61,7 @@ impl Model for NotedOutputs {
 impl NotedOutputs {
     // Counts one more, whose first stream is the field of this number, and notes it if it is stored.
     fn add(&mut self, field: usize, output: Option<StoredOutput>) -> Result<(), OutOfMemory>
-        ensures { OnOk result (Some self.new ≡ with_output output field (Some self.old)) }
+        ensures { OnOk result (Some self.new ≡ with_noted output field (Some self.old)) }
     {
         let place = self.outputs;
         // no line has so many outputs
@@ -197,7 +197,7 @@ impl<'a> Fields<'a> {
 
     /// The outputs that are stored of those that were noted, in order.
     pub fn into_stored(self, alloc: Global) -> Vec<PlacedOutput>
-        ensures { result.items ≡ stored_of self.entry.noted }
+        ensures { result.items ≡ noted_outputs self.entry.noted }
     {
         let noted = self.noted;
         match noted {

@@ -4,7 +4,7 @@ use Rattle.std.specs.Result.{result_map_both}
 use Rattle.std.specs.Str.{is_utf8}
 use Rattle.scene_events.specs.Configs.{unconfigured}
 use Rattle.scene_fields.specs.Split.{split_on}
-use Rattle.scene_fields.specs.Fields.{◌>>=◌, Fails, Line, Noted, Place, exactly, next, none_noted, says, stored_of}
+use Rattle.scene_fields.specs.Fields.{◌>>=◌, Fails, Line, Noted, Place, exactly, next, none_noted, says, noted_outputs}
 use Rattle.scene_fields.specs.declared.stored.PlacedOutput.{PlacedOutput}
 use Rattle.scene_text.specs.EventLines.{config_line_fields, event_line_fields, made}
 use Rattle.scene_fields.specs.declared.fault.LineError.{LineError}
@@ -90,7 +90,7 @@ parsed_line before t = value_of (line_from None before t)
 
 -- the value of a line of a recorded run and its stored outputs, which its event leaves unread
 abbrev pub recorded_line : LinesBefore → List ℕ → Result (ParsedLine × List PlacedOutput) LineFault
-recorded_line before t = result_map_both (λ x. (x.0, stored_of x.1.noted)) (λ f. f) (line_from (Some none_noted) before t)
+recorded_line before t = result_map_both (λ x. (x.0, noted_outputs x.1.noted)) (λ f. f) (line_from (Some none_noted) before t)
 
 -- the lines with one more, of this value
 abbrev pub with_line : ParsedLines → ParsedLine → ParsedLines

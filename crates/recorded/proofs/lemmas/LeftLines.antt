@@ -8,7 +8,7 @@ use Rattle.recorded.proofs.lemmas.WholeLines.{whole_lines-more}
 use Rattle.recorded.specs.Events.{event_replayed}
 use Rattle.recorded.specs.NextLines.{CountsLine, IsNextLine, LeavesLine}
 use Rattle.recorded.specs.Outputs.{counted}
-use Rattle.recorded.specs.Runs.{before_behind, before_rest, line_replayed, lines_replayed, needed, needed_for, whole_lines}
+use Rattle.recorded.specs.Runs.{before_behind, before_rest, line_replayed, lines_replayed, needed, needed_for, ended_lines}
 use Rattle.recorded.specs.Source.{IsLeft}
 use Rattle.scene_events.specs.declared.scene.event.SceneEvent.{SceneEvent}
 use Rattle.scene_fields.specs.declared.fault.LineFault.{LineFault}
@@ -115,8 +115,8 @@ module _ (file : List ℕ) (total : ℕ) (options : Options) (all front : List R
         abbrev others : List RunLine
         others = lines_replayed options all_outputs more
 
-        lines_are : whole_lines has.more_is.text ≡ line ∷ whole_lines more
-        lines_are = let n = next has.more_is.text has.more_is.rest in ap whole_lines n.2 ∙ whole_lines-more line n.0 n.3
+        lines_are : ended_lines has.more_is.text ≡ line ∷ ended_lines more
+        lines_are = let n = next has.more_is.text has.more_is.rest in ap ended_lines n.2 ∙ whole_lines-more line n.0 n.3
 
         left_is : has.left ≡ line_replayed options all_outputs line ∷ others
         left_is = has.more_is.is ∙ ap (map (line_replayed options all_outputs)) lines_are
@@ -130,7 +130,7 @@ module _ (file : List ℕ) (total : ℕ) (options : Options) (all front : List R
             let says = recorded_line b line in
             let then : lines_before (behind before.events new) ≡ before_rest b says =
             before_others options all_outputs (behind before.events old) (behind before.events new) line (one_read old new (line_replayed options all_outputs line) read before.events has.begun) in
-            let needs : needed options b (whole_lines has.more_is.text) ≡ needed_for options b says + needed options (before_rest b says) (whole_lines more) = ap (needed options b) lines_are ∙ needed_first options b line (whole_lines more) in
+            let needs : needed options b (ended_lines has.more_is.text) ≡ needed_for options b says + needed options (before_rest b says) (ended_lines more) = ap (needed options b) lines_are ∙ needed_first options b line (ended_lines more) in
             let here : needed_for options (before_next old) (recorded_line (before_next old) line) ≡ needed_for options b says = ap (λ x. needed_for options x (recorded_line x line)) (sym (before_is before.events old has.begun)) in
             further new (line_replayed options all_outputs line ∷ []) others left_is read (Ok true) (IsLeft total options recorded_new remaining_new count_new) (record {
               all = all_outputs;
@@ -139,8 +139,8 @@ module _ (file : List ℕ) (total : ℕ) (options : Options) (all front : List R
               rest = (next has.more_is.text has.more_is.rest).1;
               is = refl;
               counts =
-                  has.more_is.counts ∙ ap (counted count) needs ∙ ap (λ n. counted count (n + needed options (before_rest b says) (whole_lines more))) (sym here)
-                  ∙ sym (counts (needed options (before_rest b says) (whole_lines more))) ∙ ap (λ x. counted count_new (needed options x (whole_lines more))) (sym then);
+                  has.more_is.counts ∙ ap (counted count) needs ∙ ap (λ n. counted count (n + needed options (before_rest b says) (ended_lines more))) (sym here)
+                  ∙ sym (counts (needed options (before_rest b says) (ended_lines more))) ∙ ap (λ x. counted count_new (needed options x (ended_lines more))) (sym then);
             })
 
         -- or it is wrong

@@ -7,7 +7,7 @@ use Rattle.command_line.specs.declared.fault.Fault.{Fault}
 use Rattle.console_reporter.proofs.lemmas.Isolation.{isolated}
 use Rattle.recorded.proofs.lemmas.Skipped.{skipped_call}
 use Rattle.recorded.specs.Outputs.{counted}
-use Rattle.recorded.specs.Runs.{line_replayed, lines_inline, lines_replayed, needed, whole_lines}
+use Rattle.recorded.specs.Runs.{line_replayed, lines_inline, lines_replayed, needed, ended_lines}
 use Rattle.recorded.specs.Source.{IsLeft}
 use Rattle.recorded.proofs.lemmas.Inline.{AreInline, IsInline, go_on}
 use Rattle.reporter_state.specs.Refusals.{first_refused}
@@ -85,7 +85,7 @@ module _ (options : Options) (all : List ℕ) (run inline : ParsedLines) (are : 
 pub replay_prints : (options : Options) (all text : List ℕ) (come_to : RunOutcome) (old new : Option (List ℕ) × Option (List ℕ)) →
     OfLines (lines_replayed options all text) (PrintsFollowed device device options old new come_to) → OfLines (lines_inline all text) (PrintsFollowed device device options old new come_to)
 replay_prints options all text come_to old new h =
-    let go = go_on options all 1 (whole_lines text) no_lines no_lines h.run (record { config = refl; events = tt }) h.spelled in
+    let go = go_on options all 1 (ended_lines text) no_lines no_lines h.run (record { config = refl; events = tt }) h.spelled in
     record { run = go.all_inline; spelled = go.reads; holds = prints_inline options all h.run go.all_inline go.are come_to old new h.holds }
 
 -- where it came to its end
@@ -102,8 +102,8 @@ none_mapped f (x ∷ xs) h = absurd (cc)
 read_all : (total : ℕ) (options : Options) (recorded remaining : Option (List ℕ)) (bytes_read : ℕ) (before : ParsedLines) → bytes_read ≤ 2 ^ 64 - 1 → IsLeft total options recorded remaining bytes_read before [] → bytes_read ≡ total
 unfolding needed
 read_all total options recorded remaining bytes_read before fits left =
-    let none = none_mapped (line_replayed options left.all) (whole_lines left.text) left.is in
-    let nothing : needed options (lines_before before) (whole_lines left.text) ≡ 0 = ap (needed options (lines_before before)) none in
+    let none = none_mapped (line_replayed options left.all) (ended_lines left.text) left.is in
+    let nothing : needed options (lines_before before) (ended_lines left.text) ≡ 0 = ap (needed options (lines_before before)) none in
     let counts = left.counts ∙ ap (counted bytes_read) nothing in
     omega (arith, counts, fits)
 

@@ -7,7 +7,7 @@ use Rattle.memchr.specs.Find.{IsFirstByte, is_byte}
 use Rattle.scene_fields.specs.Split.{Lacks, split_on}
 use Rattle.scene_fields.proofs.lemmas.Cuts.{Lacks-from_each, cut_at, split_on-lacks, split_on-parts}
 use Rattle.recorded.specs.NextLines.{IsNextLine, TakesOf}
-use Rattle.recorded.specs.Runs.{whole_lines, without_last}
+use Rattle.recorded.specs.Runs.{ended_lines, without_last}
 use Rattle.recorded.specs.declared.lines.Taken.TheVariants as taken
 
 -- a text has a first piece
@@ -25,12 +25,12 @@ has_piece (c ∷ t) = elim (cases_Bool (c == 10)) [
 ]
 
 -- the first line and the others
-pub whole_lines-more : (line more : List ℕ) → Lacks 10 line → whole_lines (line ++ 10 ∷ more) ≡ line ∷ whole_lines more
+pub whole_lines-more : (line more : List ℕ) → Lacks 10 line → ended_lines (line ++ 10 ∷ more) ≡ line ∷ ended_lines more
 whole_lines-more line more lacks =
     let h = has_piece more in
     ap without_last (split_on-parts 10 line more lacks) ∙ ap (λ ts. without_last (line ∷ ts)) h.is ∙ ap (λ ts. line ∷ without_last ts) (sym h.is)
 
-pub whole_lines-none : (text : List ℕ) → Lacks 10 text → whole_lines text ≡ []
+pub whole_lines-none : (text : List ℕ) → Lacks 10 text → ended_lines text ≡ []
 whole_lines-none text lacks = ap without_last (split_on-lacks 10 text lacks)
 
 lacks-append : (t u : List ℕ) → Lacks 10 t → Lacks 10 u → Lacks 10 (t ++ u)
