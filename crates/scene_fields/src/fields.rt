@@ -92,7 +92,7 @@ pub struct Fields<'a> {
     // The fields of a large line. There are none behind fields that are borrowed.
     owned: &'a mut [OwnedText],
     number: usize,
-    // Where an output may be stored. No line of such a run is a large one.
+    // Where outputs may be stored. No field of such a line has its own memory.
     noted: Option<NotedOutputs>,
     ghost counted: { number + length left.now + length owned.now ≤ 2 ^ 63 },
     ghost borrowed: { ForSome noted (λ _. owned.now ≡ []) },
@@ -144,7 +144,7 @@ impl<'a> Fields<'a> {
         }
     }
 
-    /// That so many fields are left to take.
+    /// Checks that so many fields are left to take.
     pub fn exactly(&self, count: usize) -> Result<(), LineFault>
         ensures { IsRightNumber (length self.now.left == count) result }
     {
@@ -154,7 +154,7 @@ impl<'a> Fields<'a> {
         Ok(())
     }
 
-    /// That eight fields are left to take with one attempt or more: each has eight.
+    /// Checks that eight fields are left to take with one attempt or more: each has eight.
     pub fn with_attempts(&self) -> Result<(), LineFault>
         ensures { IsRightNumber (nat_le 16 (length self.now.left) && (length self.now.left % 8 == 0)) result }
     {
@@ -165,13 +165,14 @@ impl<'a> Fields<'a> {
         Ok(())
     }
 
-    /// The output whose form and streams come next, if it is stored, and if outputs of this line may be.
+    /// The output whose form and streams come next, if it is stored and outputs of this line may be.
     ///
     /// ```
     /// let fields = ["comb", "\\@7:7:ee2a98c236301c76", "-"];
     /// assert!(Fields::recorded(alloc, &fields).next_stored().is_some());
     /// assert!(Fields::new(&fields).next_stored().is_none());
     /// ```
+    #[inline(always)]
     pub fn next_stored(&self) -> Option<StoredOutput>
         ensures { result ≡ next_stored self.now }
     {
@@ -195,7 +196,7 @@ impl<'a> Fields<'a> {
         }
     }
 
-    /// The outputs that are stored of those that were noted, in order.
+    /// The stored ones of the outputs that were noted, in order.
     pub fn into_stored(self, alloc: Global) -> Vec<PlacedOutput>
         ensures { result.items ≡ stored_of self.entry.noted }
     {
