@@ -1,7 +1,7 @@
 //! A line of a scene, taken apart from left to right.
 
 ghost use Rattle.std.specs.Prelude.{◌≡◌, ◌+◌, ◌++◌, ◌≤◌, ◌%◌, ◌^◌, ◌==◌, ◌&&◌, [], ◌∷◌, MatchOption, MatchResult, None, OnOk, Some, drop, length, nat_le, Ok};
-ghost use Rattle.std.specs.Option.{ForSome};
+ghost use Rattle.std.specs.Option.{ForSome, is_some};
 ghost use Rattle.scene_fields.specs.Split.{split_on, field_texts};
 ghost use Rattle.scene_fields.specs.declared.fault.LineFault.{LineFault};
 ghost use Rattle.scene_fields.specs.Fields.{IsRightNumber, Noted, Place, ReadsBy, TriesBy, answered, next, next_stored, none_noted, noting, stored_of, taken_text, with_output};
@@ -165,6 +165,14 @@ impl<'a> Fields<'a> {
         Ok(())
     }
 
+    /// Whether outputs of this line may be stored.
+    #[inline(always)]
+    pub fn notes_outputs(&self) -> bool
+        ensures { result ≡ is_some self.now.noted }
+    {
+        self.noted.is_some()
+    }
+
     /// The output whose form and streams come next, if it is stored and outputs of this line may be.
     ///
     /// ```
@@ -172,7 +180,6 @@ impl<'a> Fields<'a> {
     /// assert!(Fields::recorded(alloc, &fields).next_stored().is_some());
     /// assert!(Fields::new(&fields).next_stored().is_none());
     /// ```
-    #[inline(always)]
     pub fn next_stored(&self) -> Option<StoredOutput>
         ensures { result ≡ next_stored self.now }
     {
