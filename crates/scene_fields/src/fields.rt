@@ -1,7 +1,7 @@
 //! A line of a scene, taken apart from left to right.
 
 ghost use Rattle.std.specs.Prelude.{◌≡◌, ◌+◌, ◌++◌, ◌≤◌, ◌%◌, ◌^◌, ◌==◌, ◌&&◌, [], ◌∷◌, MatchOption, MatchResult, None, OnOk, Some, drop, length, nat_le, Ok};
-ghost use Rattle.std.specs.Option.{ForSome};
+ghost use Rattle.std.specs.Option.{ForSome, is_some};
 ghost use Rattle.scene_fields.specs.Split.{split_on, field_texts};
 ghost use Rattle.scene_fields.specs.declared.fault.LineFault.{LineFault};
 ghost use Rattle.scene_fields.specs.Fields.{IsRightNumber, Noted, Place, ReadsBy, TriesBy, answered, next, next_stored, none_noted, noting, noted_outputs, taken_text, with_noted};
@@ -92,7 +92,7 @@ pub struct Fields<'a> {
     // The fields of a large line. There are none behind fields that are borrowed.
     owned: &'a mut [OwnedText],
     number: usize,
-    // Where an output may be stored. No line of such a run is a large one.
+    // Where outputs may be stored. No field of such a line has its own memory.
     noted: Option<NotedOutputs>,
     ghost counted: { number + length left.now + length owned.now ≤ 2 ^ 63 },
     ghost borrowed: { ForSome noted (λ _. owned.now ≡ []) },
@@ -144,7 +144,7 @@ impl<'a> Fields<'a> {
         }
     }
 
-    /// That so many fields are left to take.
+    /// Checks that so many fields are left to take.
     pub fn exactly(&self, count: usize) -> Result<(), LineFault>
         ensures { IsRightNumber (length self.now.left == count) result }
     {
@@ -154,7 +154,7 @@ impl<'a> Fields<'a> {
         Ok(())
     }
 
-    /// That eight fields are left to take with one attempt or more: each has eight.
+    /// Checks that eight fields are left to take with one attempt or more: each has eight.
     pub fn with_attempts(&self) -> Result<(), LineFault>
         ensures { IsRightNumber (nat_le 16 (length self.now.left) && (length self.now.left % 8 == 0)) result }
     {
@@ -165,7 +165,15 @@ impl<'a> Fields<'a> {
         Ok(())
     }
 
-    /// The output whose form and streams come next, if it is stored, and if outputs of this line may be.
+    /// Whether outputs of this line may be stored.
+    #[inline(always)]
+    pub fn notes_outputs(&self) -> bool
+        ensures { result ≡ is_some self.now.noted }
+    {
+        self.noted.is_some()
+    }
+
+    /// The output whose form and streams come next, if it is stored and outputs of this line may be.
     ///
     /// ```
     /// let fields = ["comb", "\\@7:7:ee2a98c236301c76", "-"];
@@ -195,7 +203,7 @@ impl<'a> Fields<'a> {
         }
     }
 
-    /// The outputs that are stored of those that were noted, in order.
+    /// The stored ones of the outputs that were noted, in order.
     pub fn into_stored(self, alloc: Global) -> Vec<PlacedOutput>
         ensures { result.items ≡ noted_outputs self.entry.noted }
     {

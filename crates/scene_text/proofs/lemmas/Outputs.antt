@@ -1,5 +1,6 @@
--- Outputs that are noted, and the fields that are taken then (for `take_empty_output`, `take_stored_output`).
-use Rattle.std.proofs.Common.{◌≡◌, ℕ, ◌+◌, ◌≤◌, List, [], ◌∷◌, length, drop, Option, None, Some, refl, ap, sym, ◌∙◌, arith}
+-- Outputs that are noted, and the fields that are taken then (for `take_empty_output`, `take_stored_output`, `take_noted_output`).
+use Rattle.std.proofs.Common.{◌≡◌, ℕ, ◌+◌, ◌≤◌, List, [], ◌∷◌, length, drop, false, Option, None, Some, refl, ap, sym, ◌∙◌, arith}
+use Rattle.std.specs.Option.{is_some}
 use Rattle.run_model.specs.declared.output.ChildOutputDescription.TheVariants as streams
 use Rattle.scene_fields.specs.Fields.{Noted, Place, next_stored, noting, stored_among}
 use Rattle.scene_fields.specs.declared.stored.StoredOutput.{StoredOutput}
@@ -38,6 +39,15 @@ stored_taken old mid new stored s asked is noted number left same =
     let behind : mid ≡ noting (Some s) old = noted ∙ ap (λ o. noting o old) is in
     rw here
     (three_taken old.number old.left old.noted _ s new here (omega (arith, number, ap (λ (p : Place). p.number) behind)) (sym (left ∙ ap (λ (p : Place). drop 3 p.left) behind)) (sym (same ∙ ap (λ (p : Place). p.noted) behind)))
+
+-- where outputs are not noted
+plain_by : (n : ℕ) (left : List (List ℕ)) (noted : Option Noted) → is_some noted ≡ false → output_fields (record { number = n; left = left; noted = noted }) ≡ spelled_output_fields (record { number = n; left = left; noted = noted })
+unfolding output_fields
+plain_by n left None h = refl
+plain_by n left (Some noted) h = absurd (cc)
+
+pub plain_next : (p : Place) → is_some p.noted ≡ false → output_fields p ≡ spelled_output_fields p
+plain_next p h = plain_by p.number p.left p.noted h
 
 -- an output that is not stored was noted
 pub spelled_next : (old new : Place) (stored : Option StoredOutput) → stored ≡ next_stored old → stored ≡ None → new ≡ noting stored old → output_fields old ≡ spelled_output_fields new

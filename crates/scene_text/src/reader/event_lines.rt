@@ -376,6 +376,17 @@ pub fn read_output(alloc: Global, fields: &mut Fields<'_>) -> Line<SceneOutput>
 fn take_stored_output(fields: &mut Fields<'_>) -> Result<bool, OutOfMemory>
     ensures { IfOk result (λ taken. TakesStoredOutput taken fields.old fields.new) }
 {
+    if !fields.notes_outputs() {
+        return Ok(false);
+    }
+    take_noted_output(fields)
+}
+
+// The same where outputs may be stored. Not inlined, like `read_more_attempts`.
+#[inline(never)]
+fn take_noted_output(fields: &mut Fields<'_>) -> Result<bool, OutOfMemory>
+    ensures { IfOk result (λ taken. TakesStoredOutput taken fields.old fields.new) }
+{
     let stored = fields.next_stored();
     fields.note(stored)?;
     match stored {
