@@ -4,7 +4,7 @@ use Rattle.std.proofs.lemmas.List.{length-append}
 use Rattle.command_line.specs.declared.args.Options.{Options}
 use Rattle.command_line.specs.declared.fault.Fault.{Fault}
 use Rattle.recorded.proofs.lemmas.LoadedLines.{before_is, behind, one_read}
-use Rattle.recorded.proofs.lemmas.WholeLines.{whole_lines-more}
+use Rattle.recorded.proofs.lemmas.WholeLines.{ended_lines-more}
 use Rattle.recorded.specs.Events.{event_replayed}
 use Rattle.recorded.specs.NextLines.{CountsLine, IsNextLine, LeavesLine}
 use Rattle.recorded.specs.Outputs.{counted}
@@ -116,7 +116,7 @@ module _ (file : List ℕ) (total : ℕ) (options : Options) (all front : List R
         others = lines_replayed options all_outputs more
 
         lines_are : ended_lines has.more_is.text ≡ line ∷ ended_lines more
-        lines_are = let n = next has.more_is.text has.more_is.rest in ap ended_lines n.2 ∙ whole_lines-more line n.0 n.3
+        lines_are = let n = next has.more_is.text has.more_is.rest in ap ended_lines n.2 ∙ ended_lines-more line n.0 n.3
 
         left_is : has.left ≡ line_replayed options all_outputs line ∷ others
         left_is = has.more_is.is ∙ ap (map (line_replayed options all_outputs)) lines_are

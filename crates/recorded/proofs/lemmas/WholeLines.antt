@@ -25,13 +25,13 @@ has_piece (c ∷ t) = elim (cases_Bool (c == 10)) [
 ]
 
 -- the first line and the others
-pub whole_lines-more : (line more : List ℕ) → Lacks 10 line → ended_lines (line ++ 10 ∷ more) ≡ line ∷ ended_lines more
-whole_lines-more line more lacks =
+pub ended_lines-more : (line more : List ℕ) → Lacks 10 line → ended_lines (line ++ 10 ∷ more) ≡ line ∷ ended_lines more
+ended_lines-more line more lacks =
     let h = has_piece more in
     ap without_last (split_on-parts 10 line more lacks) ∙ ap (λ ts. without_last (line ∷ ts)) h.is ∙ ap (λ ts. line ∷ without_last ts) (sym h.is)
 
-pub whole_lines-none : (text : List ℕ) → Lacks 10 text → ended_lines text ≡ []
-whole_lines-none text lacks = ap without_last (split_on-lacks 10 text lacks)
+pub ended_lines-none : (text : List ℕ) → Lacks 10 text → ended_lines text ≡ []
+ended_lines-none text lacks = ap without_last (split_on-lacks 10 text lacks)
 
 lacks-append : (t u : List ℕ) → Lacks 10 t → Lacks 10 u → Lacks 10 (t ++ u)
 lacks-append [] u h k = k
@@ -54,7 +54,7 @@ module _ (text old left at_hand new : List ℕ) (rest : Option (List ℕ)) (so_f
   pub none_taken : left ≡ [] → rest ≡ Some left → IsNextLine text false new rest
   none_taken end is =
       let whole : text ≡ old = so_far ∙ ap (λ t. old ++ t) end ∙ append-nil old in
-      (whole_lines-none text (subst (Lacks 10) (sym whole) lacks), ([], is ∙ ap Some end, whole_lines-none [] tt))
+      (ended_lines-none text (subst (Lacks 10) (sym whole) lacks), ([], is ∙ ap Some end, ended_lines-none [] tt))
 
 -- what is at hand up to its first line feed, or all of it
 module _ (old at_hand text : List ℕ) (first : (left : List ℕ) × (at_hand ++ left ≡ text)) (rest : Option (List ℕ)) where

@@ -6,7 +6,7 @@ use Rattle.std.proofs.lemmas.List.{append_cancel_left}
 use Rattle.scene_text.specs.SceneTexts.{ConfigLine, NoEvent, event_lines, is_passed_over, line_read, LinesBefore, PlainLine, RecordedLine, config_words, event_line, line_from, line_place, line_words, value_of, with_made, LeavesLines, ReadsLines, lines_read, plain_line}
 use Rattle.std.proofs.lemmas.Bool.{cond_both}
 use Rattle.scene_text.specs.EventLines.{event_line_fields, made}
-use Rattle.scene_fields.specs.Fields.{Noted, Place, goes_on, none_noted, says, stored_of}
+use Rattle.scene_fields.specs.Fields.{Noted, Place, goes_on, none_noted, says, noted_outputs}
 use Rattle.scene_fields.specs.declared.stored.PlacedOutput.{PlacedOutput}
 use Rattle.std.specs.Result.{result_map_both}
 use Rattle.std.specs.Str.{is_utf8}
@@ -254,10 +254,10 @@ made_none : (r : Result SceneEvent LineFault) → SaysNone (event_line r)
 made_none (Ok x) = tt
 made_none (Err f) = tt
 
-with_none_made : (make : List PlacedOutput → SceneEvent → Result SceneEvent LineFault) (r : Read) → ReadsNone r → SaysNone (with_made make (result_map_both (λ x. (x.0, stored_of x.1.noted)) (λ f. f) r))
+with_none_made : (make : List PlacedOutput → SceneEvent → Result SceneEvent LineFault) (r : Read) → ReadsNone r → SaysNone (with_made make (result_map_both (λ x. (x.0, noted_outputs x.1.noted)) (λ f. f) r))
 with_none_made make (Ok (NoEvent, p)) none = tt
 with_none_made make (Ok (ConfigLine c, p)) none = none
-with_none_made make (Ok (EventLine e, p)) none = made_none (make (stored_of p.noted) e)
+with_none_made make (Ok (EventLine e, p)) none = made_none (make (noted_outputs p.noted) e)
 with_none_made make (Err f) none = tt
 
 says_none : (config : SceneConfig) (t : RunLine) → SaysNone (line_value (behind config) t)
