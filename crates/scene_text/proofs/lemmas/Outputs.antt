@@ -1,4 +1,4 @@
--- Outputs that are noted, and the fields that are taken then (for `take_empty_output`, `take_stored_output`, `take_noted_output`).
+-- Outputs that are noted, and the fields that are taken then (for `read_output`, `take_empty_output`, `take_stored_output`).
 use Rattle.std.proofs.Common.{◌≡◌, ℕ, ◌+◌, ◌≤◌, List, [], ◌∷◌, length, drop, false, Option, None, Some, refl, ap, sym, ◌∙◌, arith}
 use Rattle.std.specs.Option.{is_some}
 use Rattle.run_model.specs.declared.output.ChildOutputDescription.TheVariants as streams

@@ -365,6 +365,17 @@ fn read_unit_state(
 pub fn read_output(alloc: Global, fields: &mut Fields<'_>) -> Line<SceneOutput>
     ensures { Gives (λ o. o) fields.old result fields.new output_fields }
 {
+    if fields.notes_outputs() {
+        return read_noted_output(alloc, fields);
+    }
+    read_spelled_output(alloc, fields)
+}
+
+// The same where outputs may be stored. Not inlined, like `read_more_attempts`.
+#[inline(never)]
+fn read_noted_output(alloc: Global, fields: &mut Fields<'_>) -> Line<SceneOutput>
+    ensures { Gives (λ o. o) fields.old result fields.new output_fields }
+{
     if take_stored_output(fields)? {
         return read_after_streams(alloc, fields, ChildOutputDescription::NotLoaded);
     }
@@ -372,19 +383,7 @@ pub fn read_output(alloc: Global, fields: &mut Fields<'_>) -> Line<SceneOutput>
 }
 
 // Notes the output that comes next, and takes its form and its streams if it is stored.
-#[inline(always)]
 fn take_stored_output(fields: &mut Fields<'_>) -> Result<bool, OutOfMemory>
-    ensures { IfOk result (λ taken. TakesStoredOutput taken fields.old fields.new) }
-{
-    if !fields.notes_outputs() {
-        return Ok(false);
-    }
-    take_noted_output(fields)
-}
-
-// The same where outputs may be stored. Not inlined, like `read_more_attempts`.
-#[inline(never)]
-fn take_noted_output(fields: &mut Fields<'_>) -> Result<bool, OutOfMemory>
     ensures { IfOk result (λ taken. TakesStoredOutput taken fields.old fields.new) }
 {
     let stored = fields.next_stored();

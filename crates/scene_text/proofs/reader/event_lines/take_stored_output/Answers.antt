@@ -1,6 +1,8 @@
-use Rattle.std.proofs.Common.{sym, ◌∙◌}
-use Rattle.scene_text.proofs.lemmas.Outputs.{plain_next}
+use Rattle.scene_text.proofs.lemmas.Outputs.{spelled_next, stored_taken}
 use Rattle.scene_text.proofs.reader.event_lines.take_stored_output.Goals as goal
 
-pub returns-then-not-notes_outputs : goal.returns-then-not-notes_outputs
-returns-then-not-notes_outputs c = plain_next _ (sym c.notes_outputs.ensures ∙ c.if-not-notes_outputs.true)
+pub returns-in-Some : goal.returns-in-Some
+returns-in-Some c = stored_taken _ _ _ _ _ c.next_stored-stored.ensures c.in-Some.is c.in_ok-note.ensures c.pass.ensures.number c.pass.ensures.left c.pass.ensures.noted
+
+pub returns-in-None : goal.returns-in-None
+returns-in-None c = spelled_next _ _ _ c.next_stored-stored.ensures c.in-None.is c.in_ok-note.ensures
