@@ -80,7 +80,7 @@ pub enum SceneEvent {
 const _: () = prove!(size_of::<SceneEvent>() == 16);
 
 impl SceneEvent {
-    ghost use Rattle.scene_events.specs.Loads.{event_with};
+    ghost use Rattle.scene_events.specs.Loads.{event_with, event_with_only};
     ghost use Rattle.scene_events.specs.Scenes.{may_be_refused};
 
     /// Whether its call has to be looked at to know whether a reporter refuses it: output of it was left unread, or an attempt that
@@ -133,18 +133,54 @@ impl SceneEvent {
         if place > 0 {
             return Ok(());
         }
+        self.load_only(alloc, captured)
+    }
+
+    // The same of an event with only one output. Every other kind has its name here, so that the compiler asks whoever adds one.
+    fn load_only(
+        &mut self,
+        alloc: Global,
+        captured: ChildOutputDescription,
+    ) -> Result<(), OutOfMemory>
+        ensures loaded { OnOk result (self.new ≡ event_with_only captured self.old) }
+        ensures kept { OnErr result (self.new ≡ self.old) }
+    {
         match self {
             SceneEvent::TestAttemptFailedWillRetry(failed) => {
-                failed.get_mut().attempt.load(alloc, captured)?;
+                failed.get_mut().attempt.load(alloc, captured)
             }
             SceneEvent::SetupScriptFinished(finish) => {
-                finish.get_mut().attempt.load(alloc, captured)?;
+                finish.get_mut().attempt.load(alloc, captured)
             }
-            SceneEvent::ScriptAnswered(answer) => answer.get_mut().answer.load(captured),
-            SceneEvent::TestAnswered(answer) => answer.get_mut().answer.load(captured),
-            _ => {}
+            SceneEvent::ScriptAnswered(answer) => {
+                answer.get_mut().answer.load(captured);
+                Ok(())
+            }
+            SceneEvent::TestAnswered(answer) => {
+                answer.get_mut().answer.load(captured);
+                Ok(())
+            }
+            SceneEvent::Prefix(_)
+            | SceneEvent::Header(_)
+            | SceneEvent::RunStarted(_)
+            | SceneEvent::StressSubRunStarted(_)
+            | SceneEvent::SetupScriptStarted(_)
+            | SceneEvent::SetupScriptSlow(_)
+            | SceneEvent::TestStarted(_)
+            | SceneEvent::TestSlow(_)
+            | SceneEvent::TestRetryStarted(_)
+            | SceneEvent::TestFinished(_)
+            | SceneEvent::TestSkipped(_)
+            | SceneEvent::RunBeginCancel(_)
+            | SceneEvent::RunBeginKill(_)
+            | SceneEvent::RunPaused(_)
+            | SceneEvent::RunContinued(_)
+            | SceneEvent::InfoStarted(_)
+            | SceneEvent::InfoFinished(_)
+            | SceneEvent::InputEnter(_)
+            | SceneEvent::StressSubRunFinished(_)
+            | SceneEvent::RunFinished(_) => Ok(()),
         }
-        Ok(())
     }
 
     /// Makes a call that of this event and returns true, if the event is of a test that finished in one attempt, the call is of such a test, and nothing
