@@ -91,7 +91,7 @@ never-kept s f last h =
     ap (λ (o : FinalOutput). if is_kept s f then Some (record { test = kept_test f.test; output = o }) else None) (never-output f last h)
 
 -- attempts come to the same, whatever they wrote
-unloaded-summary : (a : Attempts LiveSpec ChildOutputDescription) → summary_of (unloaded_attempts a) ≡ summary_of a
+pub unloaded-summary : (a : Attempts LiveSpec ChildOutputDescription) → summary_of (unloaded_attempts a) ≡ summary_of a
 unloaded-summary a = rw (length-map a.earlier unloaded_attempt) refl
 
 -- the same of its event

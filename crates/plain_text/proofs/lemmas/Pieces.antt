@@ -132,6 +132,11 @@ front_ascii (c ∷ t) l = elim (eqb_tells c 27) [
 pub front_boundary : (t : Text) → IsCharBoundary t (front_len is_visible t)
 front_boundary t = (front_len-le is_visible t, λ l a. absurd (omega (arith, front_ascii t l)))
 
+-- and what stands before it has no escape character
+pub front_free : (t : Text) → HasNoEscape (take (front_len is_visible t) t)
+front_free [] = refl
+front_free (c ∷ t) = elim (cases_Bool (c == 27)) [ inl y ↦ rw y refl | inr n ↦ rw n (rw n (front_free t)) ]
+
 -- it begins a sequence, and what follows that is visible
 pub visible-sequence : (t after : Text) (c : ℕ) → t ≡ c ∷ after → c ≡ 27 → visible t ≡ visible (drop (sequence_len after + 1) t)
 unfolding visible_after

@@ -3,7 +3,7 @@ use Rattle.std.proofs.Common.{◌≡◌, ℕ, zero, suc, ◌<◌, Bool, true, fa
 use Rattle.std.proofs.lemmas.Bool.{cases_Bool, cases_lt}
 use Rattle.std.proofs.lemmas.Bool.Decides.{eqb_tells, nat_tests}
 use Rattle.std.proofs.lemmas.Str.{chars-append, chars-nil, chars_past_char, encode_ascii, encodes-chars, length-encode, len_utf8_bounds, IsUtf8-take}
-use Rattle.std.specs.Str.{IsUtf8, IsCharBoundary}
+use Rattle.std.specs.Str.{IsUtf8}
 use Rattle.std.specs.Result.{IsErrAnd}
 use Rattle.plain_text.specs.Texts.{Text}
 use Rattle.plain_text.specs.TrailingNewline.{without_trailing_newline, ends_in_line_feed, held}
@@ -23,7 +23,7 @@ use Rattle.plain_text.specs.declared.escapes.Step.{Step}
 use Rattle.plain_text.specs.declared.escapes.Step.TheVariants.{Inside, Ends}
 use Rattle.plain_text.proofs.lemmas.Fits.{AreTexts, texts}
 use Rattle.plain_text.proofs.lemmas.Marks.{Mark, marks, tagged, piece_marks, marks-pieces, encode-high}
-use Rattle.plain_text.proofs.lemmas.Pieces.{free_parts, front_len-le, stretches-pieces}
+use Rattle.plain_text.proofs.lemmas.Pieces.{free_parts, front_boundary, front_free, front_len-le, stretches-pieces}
 
 -- characters in two parts
 pub visible_from-append : (m : Mode) (cs ds : List ℕ) → visible_from m (cs ++ ds) ≡ visible_from m cs ++ visible_from (modes_after m cs) ds
@@ -141,17 +141,6 @@ taken_char m n t rest c u e h = record {
 }
 
 -- or the bytes before the first escape character
-front_boundary : (t : Text) → IsCharBoundary t (front_len is_visible t)
-front_boundary [] = (omega arith, λ l h. absurd (omega arith))
-front_boundary (c ∷ t) = elim (eqb_tells c 27) [
-  | inl y ↦ rw y.0 (omega arith, λ l h. absurd (omega (arith, y.1)))
-  | inr n ↦ (let more = front_boundary t in rw n.0 (omega arith, λ l h. more.1 (omega arith) h))
-]
-
-front_free : (t : Text) → HasNoEscape (take (front_len is_visible t) t)
-front_free [] = refl
-front_free (c ∷ t) = elim (cases_Bool (c == 27)) [ inl y ↦ rw y refl | inr n ↦ rw n (rw n (front_free t)) ]
-
 front_first : (c : ℕ) (rest : Text) → (c == 27) ≡ false → 0 < front_len is_visible (encode_utf8 c ++ rest)
 front_first c rest h = elim (cases_lt c 128) [
   | inl l ↦ rw (encode_ascii c l) (rw h (omega arith))

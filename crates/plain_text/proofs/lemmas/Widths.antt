@@ -1,11 +1,11 @@
 -- How wide a cut text is (for `width_laws`).
-use Rattle.std.proofs.Common.{◌≡◌, ℕ, zero, suc, ◌+◌, ◌-◌, ◌<◌, ◌≤◌, Bool, true, false, not, ◌&&◌, ◌==◌, ◌⊎◌, inl, inr, List, [], ◌∷◌, ◌++◌, refl, sym, ap, ◌∙◌, arith, min, nat_le, take, chars, encode_utf8, encode_utf8_all, append-nil, append_assoc}
+use Rattle.std.proofs.Common.{◌≡◌, ℕ, zero, suc, ◌+◌, ◌-◌, ◌<◌, ◌≤◌, Bool, true, false, not, ◌&&◌, ◌==◌, ◌⊎◌, inl, inr, List, [], ◌∷◌, ◌++◌, refl, sym, ap, ◌∙◌, arith, min, nat_le, chars, encode_utf8, encode_utf8_all, append-nil, append_assoc}
 use Rattle.std.proofs.lemmas.Bool.{cases_Bool, cases_lt, and_parts}
 use Rattle.std.proofs.lemmas.Bool.Decides.{nat_tests}
 use Rattle.std.proofs.lemmas.Str.{chars-append, chars-encodes, scalars-chars, encodes-chars, IsUtf8-append, IsUtf8-nil, chars-nil}
 use lib.Utf8.{scalar}
 use Rattle.std.specs.Str.{IsUtf8, all_scalars}
-use Rattle.plain_text.proofs.lemmas.Pieces.{stretches-pieces, joined-pieces, free_parts}
+use Rattle.plain_text.proofs.lemmas.Pieces.{front_free, stretches-pieces, joined-pieces, free_parts}
 use Rattle.plain_text.proofs.lemmas.Fits.{columns_of-cons, columns_of-append, AreTexts, texts, stretches-utf8, kept_stretch-before, kept_stretch-past}
 use Rattle.plain_text.specs.Texts.{Text}
 use Rattle.plain_text.specs.Escapes.{PieceText, pieces, pieces_after, stretches, joined, visible, visible_after, sequence_len, front_len, is_visible, has_no_escape, HasNoEscape}
@@ -84,13 +84,6 @@ AreFree [] = Unit {0}
 AreFree (SequenceText s ∷ ps) = AreFree ps
 AreFree (StretchText s ∷ ps) = HasNoEscape s × AreFree ps
 
-stretch-free : (t : Text) → HasNoEscape (take (front_len is_visible t) t)
-stretch-free [] = refl
-stretch-free (c ∷ t) = elim (cases_Bool (c == 27)) [
-  | inl y ↦ rw y refl
-  | inr n ↦ rw n (rw (n, stretch-free t) refl)
-]
-
 pub free_after : (n : ℕ) (t : Text) → AreFree (pieces_after n t)
 unfolding pieces_after
 free_after zero [] = tt
@@ -98,7 +91,7 @@ free_after (suc n) [] = tt
 free_after (suc n) (c ∷ t) = free_after n t
 free_after zero (c ∷ t) = elim (cases_Bool (c == 27)) [
   | inl y ↦ rw y (free_after (sequence_len t) t)
-  | inr n ↦ rw n (rw (n, stretch-free t) refl, free_after (front_len is_visible t) t)
+  | inr n ↦ rw n (rw (n, front_free t) refl, free_after (front_len is_visible t) t)
 ]
 
 -- a visible character before a text

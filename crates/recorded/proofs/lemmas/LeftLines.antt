@@ -18,18 +18,15 @@ use Rattle.scene_fields.specs.declared.stored.PlacedOutput.{PlacedOutput}
 use Rattle.scene_text.proofs.lemmas.Tellings.{all_append, noted_append}
 use Rattle.scene_text.specs.SceneTexts.{ConfigLine, EventLine, IsNextFault, LinesBefore, NoEvent, ParsedLine, ParsedLines, ReadsLines, RunLine, before_next, event_line, event_lines, is_begun, line_read, lines_before, lines_with, recorded_line, with_line, with_made}
 use Rattle.scene_text.specs.declared.reader.LinesRead.{LinesRead}
+use Rattle.scenes.proofs.lemmas.ReadLines.{begun_by}
 use Rattle.scenes.specs.Read.{HasReadLines, IsMore}
 use Rattle.scenes.specs.Reports.{decider_for}
 
 -- what stands before the line behind one that tells
-begun_more : (es : List SceneEvent) (e : SceneEvent) → is_begun (es ++ e ∷ []) ≡ true
-begun_more [] e = refl
-begun_more (x ∷ es) e = refl
-
 before_made : (run after : ParsedLines) (made : Result SceneEvent LineFault) (e : SceneEvent) → lines_with run (event_line made) ≡ Ok after → lines_before after ≡ before_behind (lines_before run) (EventLine e)
 before_made run after (Ok made) e h =
     let same : with_line run (EventLine made) ≡ after = cc in
-    ap lines_before (sym same) ∙ ap (λ b. record { config = run.config; is_begun = b }) (begun_more run.events made)
+    ap lines_before (sym same) ∙ ap (λ b. record { config = run.config; is_begun = b }) (begun_by run.events made)
 before_made run after (Err f) e h = absurd (cc)
 
 before_so : (run after : ParsedLines) (make : List PlacedOutput → SceneEvent → Result SceneEvent LineFault) (says : Result (ParsedLine × List PlacedOutput) LineFault) → lines_with run (with_made make says) ≡ Ok after → lines_before after ≡ before_rest (lines_before run) says

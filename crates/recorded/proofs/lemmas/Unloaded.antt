@@ -2,7 +2,6 @@
 use Rattle.std.proofs.Common.{◌≡◌, ℕ, zero, suc, List, [], ◌∷◌, length, map, ◌==◌, Bool, true, false, if◌then◌else◌, Option, None, Some, refl, ap, sym, ◌∙◌}
 use Rattle.std.specs.Prelude.{slice_get, slice_set}
 use Rattle.std.specs.Option.{option_map_or}
-use Rattle.std.proofs.lemmas.List.{length-map}
 use Rattle.std.proofs.lemmas.Option.{none-some, same_Some}
 use Rattle.run_model.specs.Attempts.{Attempt, Attempts, Written, attempt_with_output, execution_with_output}
 use Rattle.run_model.specs.Statuses.{summary_of}
@@ -10,6 +9,7 @@ use Rattle.run_model.specs.Unloaded.{unloaded_attempt, unloaded_attempts, unload
 use Rattle.run_model.specs.declared.output.ChildExecutionOutputDescription.TheVariants.{Output, StartError}
 use Rattle.run_model.specs.declared.output.ChildOutputDescription.{ChildOutputDescription}
 use Rattle.run_model.specs.declared.output.LiveSpec.{LiveSpec}
+use Rattle.console_reporter.proofs.lemmas.Isolation.{unloaded-summary}
 use Rattle.scene_events.specs.SceneOutputs.{with_output_at}
 use Rattle.scene_events.specs.Loads.{attempts_with}
 use Rattle.scene_events.specs.SceneAttempts.{script_status}
@@ -49,9 +49,6 @@ unloaded-chosen false place captured a = ap (λ (xs : List Attempt). record (unl
 pub unloaded-attempts : (place : ℕ) (captured : ChildOutputDescription) (a : Attempts LiveSpec ChildOutputDescription) → unloaded_attempts (attempts_with place captured a) ≡ unloaded_attempts a
 unloaded-attempts place captured a = unloaded-chosen (place == length a.earlier) place captured a
 
--- attempts come to the same, whatever they wrote
-unloaded-summary : (a : Attempts LiveSpec ChildOutputDescription) → summary_of (unloaded_attempts a) ≡ summary_of a
-unloaded-summary a = rw (length-map a.earlier unloaded_attempt) refl
-
+-- attempts come to the same, whatever they captured
 pub same-summary : (place : ℕ) (captured : ChildOutputDescription) (a : Attempts LiveSpec ChildOutputDescription) → summary_of (attempts_with place captured a) ≡ summary_of a
 same-summary place captured a = sym (unloaded-summary (attempts_with place captured a)) ∙ ap summary_of (unloaded-attempts place captured a) ∙ unloaded-summary a

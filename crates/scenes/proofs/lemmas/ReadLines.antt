@@ -264,7 +264,7 @@ says_none : (config : SceneConfig) (t : RunLine) → SaysNone (line_value (behin
 says_none config (PlainLine t) = reads_none_behind config None t
 says_none config (RecordedLine t make) = with_none_made (make (behind config)) (line_from (Some none_noted) (behind config) t) (reads_none_behind config (Some none_noted) t)
 
-begun_by : (es : List SceneEvent) (e : SceneEvent) → is_begun (es ++ e ∷ []) ≡ true
+pub begun_by : (es : List SceneEvent) (e : SceneEvent) → is_begun (es ++ e ∷ []) ≡ true
 begun_by [] e = refl
 begun_by (x ∷ es) e = refl
 
