@@ -5,7 +5,7 @@ use Rattle.run_names.specs.Levels.{final_rank, reason_rank}
 use Rattle.run_model.specs.declared.event.TestEventKind.{TestEventKind}
 use Rattle.run_model.specs.declared.event.TestEventKind.TheVariants.{TestFinished, TestSkipped, RunBeginCancel, RunBeginKill}
 use Rattle.run_names.specs.declared.level.FinalStatusLevel.TheVariants as final
-use Rattle.test_text.specs.TestFinished.{HasShownOutput, TestFinish, finish_of, test_finish}
+use Rattle.test_text.specs.TestFinished.{HasShownOutput, FinishReport, finish_of, test_finish}
 use Rattle.text_parts.specs.Finish.{is_final_wanted, timed_at_end, timed_listed}
 use Rattle.text_parts.specs.Instance.{padded_instance}
 use Rattle.text_parts.specs.declared.instance.CountedInstance.{CountedInstance}
@@ -19,7 +19,7 @@ use Rattle.reporter_state.specs.declared.final_output.FinalOutputEntry.{FinalOut
 
 -- how a test ended: it finished, or it was not to run
 pub data TestEnd : Type 0 where
-  Finished : TestFinish → TestEnd
+  Finished : FinishReport → TestEnd
   Skipped : CountedInstance → TestEnd
 
 -- what the code hands on of it
@@ -37,18 +37,18 @@ HasEndOutputIn None = Unit {0}
 HasEndOutputIn (Some end) = HasEndOutput end
 
 -- what the summary shows of a finished test: its line, and the output of its last attempt where that is shown at the end
-unfoldable pub final_output : TestFinish → FinalOutput
+unfoldable pub final_output : FinishReport → FinalOutput
 final_output f = if timed_at_end f.row f.display then output.ExecutedWithOutput f.summary f.last.output else output.Executed f.summary
 
 -- the entry of a finished test, and that of a skipped one
-abbrev pub finished_entry : TestFinish → FinalOutputEntry
+abbrev pub finished_entry : FinishReport → FinalOutputEntry
 finished_entry f = record { test = kept_test f.test; output = final_output f }
 
 abbrev pub skipped_entry : CountedInstance → FinalOutputEntry
 skipped_entry test = record { test = kept_test test; output = output.Skipped }
 
 -- the summary lists the finished test
-abbrev pub is_kept : Settings → TestFinish → Bool
+abbrev pub is_kept : Settings → FinishReport → Bool
 is_kept s f = timed_listed f.row (is_final_wanted s f.display f.summary)
 
 -- the summary lists skipped tests: from their final level upwards

@@ -24,14 +24,14 @@ use Rattle.test_text.specs.declared.test_finished.FinishedTest.{FinishedTest}
 
 -- a finished test under a reason: as its line names it, when its output is shown, what becomes of it, what its attempts came
 -- to, and the last of them
-pub record TestFinish : Type 0 where
+pub record FinishReport : Type 0 where
   pub test : CountedInstance
   pub display : TestOutputDisplay
   pub row : OutputTiming
   pub summary : StatusSummary
   pub last : ExecuteStatus LiveSpec ChildOutputDescription
 
-abbrev pub test_finish : Settings → ℕ → Option StressIndex → TestInstanceId → TestOutputDisplay → TestOutputDisplay → Attempts LiveSpec ChildOutputDescription → RunStats → TestFinish
+abbrev pub test_finish : Settings → ℕ → Option StressIndex → TestInstanceId → TestOutputDisplay → TestOutputDisplay → Attempts LiveSpec ChildOutputDescription → RunStats → FinishReport
 test_finish s reason stress instance success failure statuses stats = record {
   test = record { stress_index = stress; counter = finished_counter s stats; instance = instance };
   display = display_of s success failure (summary_of statuses);
@@ -41,7 +41,7 @@ test_finish s reason stress instance success failure statuses stats = record {
 }
 
 -- what the code hands on of it
-abbrev pub finish_of : FinishedTest → TestFinish
+abbrev pub finish_of : FinishedTest → FinishReport
 finish_of f = record {
   test = f.test;
   display = f.display;
@@ -51,17 +51,17 @@ finish_of f = record {
 }
 
 -- the output of its last attempt is there, if it is shown, at once or at the end of the run
-abbrev pub HasShownOutput : TestFinish → Type 0
+abbrev pub HasShownOutput : FinishReport → Type 0
 HasShownOutput f = is_ever_shown f.display ≡ true → has_loaded_output f.last.output ≡ true
 
 -- the line of a finished test, where the status level is at least the test's
-unfoldable pub line_at_once : Settings → TestFinish → Parts false Lines
+unfoldable pub line_at_once : Settings → FinishReport → Parts false Lines
 line_at_once s f = choice (is_line_shown s f.summary) (status_line Intermediate f.test f.summary) none
 
 -- the output of its last attempt, where that is shown at once, whatever the status level
-unfoldable pub output_at_once : Settings → TestFinish → Parts false Lines
+unfoldable pub output_at_once : Settings → FinishReport → Parts false Lines
 output_at_once s f = choice (timed_at_once f.row f.display) (attempt_output s false f.last.result f.last.output) none
 
 -- a finished test: its line and its output
-unfoldable pub test_finished_text : Settings → TestFinish → Parts false Lines
+unfoldable pub test_finished_text : Settings → FinishReport → Parts false Lines
 test_finished_text s f = line_at_once s f ⧺ output_at_once s f

@@ -27,7 +27,7 @@ use Rattle.store_text.specs.Netstring.{netstring}
 use Rattle.store_text.specs.Record.{record_text}
 use Rattle.store_text.specs.StoredOutput.{is_stored, stored_output}
 use Rattle.store_text.specs.declared.config.StoreConfig.{StoreConfig}
-use Rattle.test_text.specs.TestFinished.{TestFinish, line_at_once, output_at_once, test_finish, test_finished_text}
+use Rattle.test_text.specs.TestFinished.{FinishReport, line_at_once, output_at_once, test_finish, test_finished_text}
 use Rattle.text_parts.specs.Finish.{display_of, is_ever_shown, timed_at_end, timed_at_once}
 use Rattle.test_text.specs.TestRetry.{attempt_failed_text, attempt_failed_line, failed_output, is_failed_output_shown}
 use Rattle.text_parts.specs.Settings.{is_level_shown}
@@ -78,15 +78,15 @@ never-at_end Shown display h = never-final display h
 never-at_end ShownOnce display h = rw (never-final display h) refl
 
 -- a finished test whose output is not shown has one text and one entry, whatever its last attempt wrote
-never-text : (s : Settings) (f : TestFinish) (last : Attempt) → is_ever_shown f.display ≡ false → paint s.styles (test_finished_text s (record f { last = last })) ≡ paint s.styles (test_finished_text s f)
+never-text : (s : Settings) (f : FinishReport) (last : Attempt) → is_ever_shown f.display ≡ false → paint s.styles (test_finished_text s (record f { last = last })) ≡ paint s.styles (test_finished_text s f)
 unfolding test_finished_text line_at_once output_at_once
 never-text s f last h = rw (never-at_once f.row f.display h) refl
 
-never-output : (f : TestFinish) (last : Attempt) → is_ever_shown f.display ≡ false → final_output (record f { last = last }) ≡ final_output f
+never-output : (f : FinishReport) (last : Attempt) → is_ever_shown f.display ≡ false → final_output (record f { last = last }) ≡ final_output f
 unfolding final_output
 never-output f last h = rw (never-at_end f.row f.display h) refl
 
-never-kept : (s : Settings) (f : TestFinish) (last : Attempt) → is_ever_shown f.display ≡ false → kept_entry s (Finished (record f { last = last })) ≡ kept_entry s (Finished f)
+never-kept : (s : Settings) (f : FinishReport) (last : Attempt) → is_ever_shown f.display ≡ false → kept_entry s (Finished (record f { last = last })) ≡ kept_entry s (Finished f)
 never-kept s f last h =
     ap (λ (o : FinalOutput). if is_kept s f then Some (record { test = kept_test f.test; output = o }) else None) (never-output f last h)
 
@@ -97,7 +97,7 @@ unloaded-summary a = rw (length-map a.earlier unloaded_attempt) refl
 -- the same of its event
 module _ (s : Settings) (stress : Option StressIndex) (test : TestInstanceId) (success failure : TestOutputDisplay) (statuses : Attempts LiveSpec ChildOutputDescription) (stats : RunStats)
     (never : is_ever_shown (display_for s.unit_output.overrides success failure (summary_of statuses)) ≡ false) where
-  abbrev finish : ℕ → TestFinish
+  abbrev finish : ℕ → FinishReport
   finish reason = test_finish s reason stress test success failure statuses stats
 
   finish-unloaded : (reason : ℕ) → test_finish s reason stress test success failure (unloaded_attempts statuses) stats ≡ record (finish reason) { last = unloaded_attempt statuses.last }

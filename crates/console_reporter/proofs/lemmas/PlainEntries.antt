@@ -11,7 +11,7 @@ use Rattle.report_text.specs.PlainResults.{IsPlainResult}
 use Rattle.report_words.specs.Parts.{paint}
 use Rattle.report_words.proofs.lemmas.PartsInColour.{AreFree}
 use Rattle.unit_report.specs.PlainOutputs.{IsPlainWritten}
-use Rattle.test_text.specs.TestFinished.{TestFinish, test_finish}
+use Rattle.test_text.specs.TestFinished.{FinishReport, test_finish}
 use Rattle.text_parts.specs.AttemptOutput.{unit_output}
 use Rattle.text_parts.specs.Finish.{display_of, is_final_wanted, timed_at_end}
 use Rattle.text_parts.specs.declared.instance.CountedInstance.{CountedInstance}
@@ -63,7 +63,7 @@ pub All-final_order : (P : FinalOutputEntry → Type 0) (es : List FinalOutputEn
 All-final_order P es h = All-ordered_by is_before is_before-ranks P es h
 
 -- what is kept of a test that finished
-plain-finished : (k : Bool) (f : TestFinish) → IsPlainFinish k f → IsPlainFinal k (final_output f)
+plain-finished : (k : Bool) (f : FinishReport) → IsPlainFinish k f → IsPlainFinal k (final_output f)
 unfolding final_output
 plain-finished k f h = go (timed_at_end f.row f.display)
   where

@@ -15,7 +15,7 @@ use Rattle.text_parts.proofs.lemmas.LineColourPairs.{IsPlainTest}
 use Rattle.text_parts.proofs.lemmas.OutputColourPairs.{free-unit_output}
 use Rattle.text_parts.proofs.lemmas.ResultColourPairs.{free-long_word, free-short_word, free-abort_line}
 use Rattle.test_text.specs.StatusLine.{status_words, status_prefix, status_line}
-use Rattle.test_text.specs.TestFinished.{TestFinish, line_at_once, output_at_once, test_finished_text}
+use Rattle.test_text.specs.TestFinished.{FinishReport, line_at_once, output_at_once, test_finished_text}
 use Rattle.test_text.specs.declared.status_line.StatusLineKind.{StatusLineKind}
 use Rattle.test_text.specs.declared.status_line.StatusLineKind.TheVariants.{Intermediate}
 
@@ -33,13 +33,13 @@ unfolding status_line
 free-status_line k kind test x h j = (free-status_prefix k kind x j, (tt, (colour_pair-instance_text k test.stress_index test.counter test.instance h.0 h.1, (tt, (free-abort_line k x.result j, tt)))))
 
 -- what is shown of a finished test holds no escape character, but for its output where it need not
-pub record IsPlainFinish (k : Bool) (f : TestFinish) : Type 0 where
+pub record IsPlainFinish (k : Bool) (f : FinishReport) : Type 0 where
   pub test : IsPlainTest f.test
   pub summary : IsPlainResult f.summary.result
   pub last : IsPlainResult f.last.result
   pub output : IsPlainWritten k f.last.output
 
-pub free-test_finished_text : (k : Bool) (s : Settings) (f : TestFinish) → IsPlainFinish k f → AreFree k (test_finished_text s f)
+pub free-test_finished_text : (k : Bool) (s : Settings) (f : FinishReport) → IsPlainFinish k f → AreFree k (test_finished_text s f)
 unfolding test_finished_text line_at_once output_at_once
 free-test_finished_text k s f h =
     ((free-status_line k Intermediate f.test f.summary h.test h.summary, tt), (free-unit_output k s unit.Test false f.last.result f.last.output h.last h.output, tt))
