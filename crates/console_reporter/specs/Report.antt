@@ -1,5 +1,5 @@
 -- The report: the text of each call, from the call, the configuration and the calls before it.
-use Rattle.std.specs.Prelude.{ℕ, Bool, false, List, [], ◌∷◌, ◌++◌, Option, None, Some, nat_lt, reverse, take, slice_get}
+use Rattle.std.specs.Prelude.{ℕ, Bool, false, List, [], ◌∷◌, ◌++◌, Option, nat_lt, reverse, take, slice_get}
 use Rattle.std.specs.Option.{option_map_or}
 use Rattle.run_model.specs.Stats.{final_stats_of_run}
 use Rattle.run_names.specs.UniquePrefixes.{UniquePrefix}
@@ -30,19 +30,12 @@ use Rattle.info_text.specs.Start.{info_finished_text, info_started_text}
 use Rattle.text_parts.specs.Script.{Script}
 use Rattle.text_parts.specs.declared.settings.Settings.{Settings}
 use Rattle.console_reporter.specs.Configuration.{Configuration, settings_of}
-use Rattle.reporter_state.specs.Effects.{TestEnd}
-use Rattle.reporter_state.specs.Effects.TestEnd.{Finished, Skipped}
 use Rattle.reporter_state.specs.Entries.{cancel, entries_text, final_order, hiding_rank, kept, prefix}
 use Rattle.run_model.specs.declared.call.ReportCall.{ReportCall}
 use Rattle.run_model.specs.declared.call.ReportCall.TheVariants.{Event, Header, Prefix}
 use Rattle.reporter_state.specs.declared.final_output.FinalOutputEntry.{FinalOutputEntry}
 
 -- the text of the test that an event finishes
-abbrev pub finished_text : Settings → Option TestEnd → Parts false Lines
-finished_text s None = plainly none
-finished_text s (Some (Finished f)) = test_finished_text s f
-finished_text s (Some (Skipped test)) = plainly none
-
 -- what a text may read of the calls before it: the prefix of the run's id, the rank of the reason, and the entries as they stand
 pub record Known : Type 0 where
   pub prefix : Option UniquePrefix

@@ -1,18 +1,18 @@
 -- What an event does beside its text: one equation for each kind that does something.
-use Rattle.std.specs.Prelude.{ℕ, nat_le, Bool, Option, None, Some, if◌then◌else◌}
-use Rattle.std.specs.Option.{is_some, option_and_then}
+use Rattle.std.specs.Prelude.{◌≡◌, ℕ, nat_le, Bool, Option, None, Some, if◌then◌else◌}
+use Rattle.std.specs.Borrow.{Bor}
+use Rattle.std.specs.Option.{is_some, option_and_then, option_map}
 use Rattle.run_names.specs.Levels.{final_rank, reason_rank}
 use Rattle.run_model.specs.declared.event.TestEventKind.{TestEventKind}
 use Rattle.run_model.specs.declared.event.TestEventKind.TheVariants.{TestFinished, TestSkipped, RunBeginCancel, RunBeginKill}
 use Rattle.run_names.specs.declared.level.FinalStatusLevel.TheVariants as final
-use Rattle.test_text.specs.TestFinished.{HasShownOutput, FinishReport, finish_of, test_finish}
+use Rattle.test_text.specs.TestFinished.{FinishReport, finish_of, test_finish}
 use Rattle.text_parts.specs.Finish.{is_final_wanted, timed_at_end, timed_listed}
 use Rattle.text_parts.specs.Instance.{padded_instance}
 use Rattle.text_parts.specs.declared.instance.CountedInstance.{CountedInstance}
 use Rattle.text_parts.specs.declared.settings.Settings.{Settings}
 use Rattle.reporter_state.specs.KeptTests.{kept_test}
-use Rattle.reporter_state.specs.declared.effect.EndedTest.{EndedTest}
-use Rattle.reporter_state.specs.declared.effect.EndedTest.TheVariants as ended
+use Rattle.reporter_state.specs.declared.finished_attempts.FinishedAttempts.{FinishedAttempts}
 use Rattle.reporter_state.specs.declared.final_output.FinalOutput.{FinalOutput}
 use Rattle.reporter_state.specs.declared.final_output.FinalOutput.TheVariants as output
 use Rattle.reporter_state.specs.declared.final_output.FinalOutputEntry.{FinalOutputEntry}
@@ -21,20 +21,6 @@ use Rattle.reporter_state.specs.declared.final_output.FinalOutputEntry.{FinalOut
 pub data TestEnd : Type 0 where
   Finished : FinishReport → TestEnd
   Skipped : CountedInstance → TestEnd
-
--- what the code hands on of it
-abbrev pub test_end_of : EndedTest → TestEnd
-test_end_of (ended.Finished f) = Finished (finish_of f.finished)
-test_end_of (ended.Skipped test) = Skipped test
-
--- output that is shown of it was not left unread
-abbrev pub HasEndOutput : TestEnd → Type 0
-HasEndOutput (Finished f) = HasShownOutput f
-HasEndOutput (Skipped test) = Unit {0}
-
-abbrev pub HasEndOutputIn : Option TestEnd → Type 0
-HasEndOutputIn None = Unit {0}
-HasEndOutputIn (Some end) = HasEndOutput end
 
 -- what the summary shows of a finished test: its line, and the output of its last attempt where that is shown at the end
 unfoldable pub final_output : FinishReport → FinalOutput
@@ -76,6 +62,15 @@ effect_of (TestSkipped stress instance) = record no_effect { ended = λ s reason
 effect_of (RunBeginCancel scripts stats running) = record no_effect { reason = reason_rank stats.cancel_reason }
 effect_of (RunBeginKill scripts stats running) = record no_effect { reason = reason_rank stats.cancel_reason }
 effect_of _ = no_effect
+
+-- the test that an event finishes under a reason, if it finishes one
+abbrev pub finish_by : Settings → ℕ → TestEventKind → Option FinishReport
+finish_by s reason (TestFinished stress instance success failure statuses stats) = Some (test_finish s reason stress instance success failure statuses stats)
+finish_by s reason other = None
+
+-- that test is handed on with the event
+abbrev pub IsFinishOf : Settings → ℕ → TestEventKind → Option (Bor FinishedAttempts) → Type 0
+IsFinishOf s reason e handed = option_map (λ f. finish_of f.now.finished) handed ≡ finish_by s reason e
 
 -- what is kept of an event under a reason
 abbrev pub entry_of : Settings → ℕ → TestEventKind → Option FinalOutputEntry

@@ -8,7 +8,6 @@
 
 pub mod binary_ids;
 pub mod decider;
-pub mod effect;
 pub mod faults;
 pub mod final_output;
 pub mod finished_attempts;

@@ -1,18 +1,20 @@
 //! What a reporter knows of the calls before, and what an event makes of that.
 
 ghost use Rattle.std.specs.Prelude.{◌≡◌, ◌++◌, ◌∷◌, List, [], OnOk, OnErr, None, max, true, false};
-ghost use Rattle.std.specs.Option.{is_some, option_and_then, option_map, option_to_list};
+ghost use Rattle.std.specs.Option.{is_some, option_to_list};
 ghost use Rattle.run_names.specs.Levels.{reason_rank};
 ghost use Rattle.test_text.specs.TestFinished.{HasShownOutput, finish_of};
 ghost use Rattle.reporter_state.specs.declared.final_output.FinalOutputEntry.{FinalOutputEntry};
-ghost use Rattle.reporter_state.specs.Effects.{HasEndOutput, HasEndOutputIn, TestEnd, test_end_of, finished_entry, kept_entry};
+ghost use Rattle.reporter_state.specs.Effects.{IsFinishOf, TestEnd, effect_of, entry_of, finished_entry, kept_entry, may_grow_for};
+ghost use Rattle.reporter_state.specs.Loads.{lacks_output};
+ghost use Rattle.reporter_state.specs.Refusals.{decider_by};
 ghost use Rattle.reporter_state.specs.Entries.{final_order};
 
 use crate::binary_ids::BinaryIds;
-use crate::effect::{EndedTest, EventEffect, greater_reason};
 use crate::final_output::FinalOutputEntry;
 use crate::finished_attempts::FinishedAttempts;
 use crate::kept::KeptEntries;
+use run_model::event::{TestEvent, TestEventKind};
 use run_model::level::{CancelReason, FinalStatusLevel};
 use run_model::memory::OutOfMemory;
 use run_model::run_id::ShortestRunIdPrefix;
@@ -59,40 +61,44 @@ impl ReporterState {
         }
     }
 
-    /// Does what an event does: it may cancel the run, and finish a test.
+    /// Does what an event does beside its text: it may cancel the run, and end a test. A test that it finishes is handed on with it, whose
+    /// output was not left unread where it is shown.
     #[inline(always)]
-    pub fn apply(&mut self, effect: &EventEffect<'_, '_>) -> Result<(), OutOfMemory>
-        requires { HasEndOutputIn (option_map test_end_of effect.now.ended) }
+    pub fn apply(
+        &mut self,
+        event: &TestEvent<'_>,
+        finished: Option<&FinishedAttempts<'_, '_>>,
+    ) -> Result<(), OutOfMemory>
+        requires finished { IsFinishOf self.old.settings (reason_rank self.old.cancel_status) event.now.kind finished }
+        requires accepted { lacks_output (decider_by self.old.settings None) event.now.kind ≡ false }
         ensures settings { self.new.settings ≡ self.old.settings }
         ensures prefix { self.new.unique_prefix ≡ self.old.unique_prefix }
-        ensures reason { OnOk result (reason_rank self.new.cancel_status ≡ max (reason_rank effect.now.reason) (reason_rank self.old.cancel_status)) }
+        ensures reason { OnOk result (reason_rank self.new.cancel_status ≡ max (effect_of event.now.kind).reason (reason_rank self.old.cancel_status)) }
         ensures works { self.new.has_failed ≡ self.old.has_failed }
         ensures kept { OnOk result ((before : List FinalOutputEntry) → self.old.kept ≡ final_order before →
-            self.new.kept ≡ final_order (before ++ option_to_list (option_and_then (kept_entry self.old.settings) (option_map test_end_of effect.now.ended)))) }
-        ensures needed { OnErr result (is_some (option_and_then (kept_entry self.old.settings) (option_map test_end_of effect.now.ended)) ≡ true) }
+            self.new.kept ≡ final_order (before ++ option_to_list (entry_of self.old.settings (reason_rank self.old.cancel_status) event.now.kind))) }
+        ensures needed { OnErr result (may_grow_for self.old.settings (reason_rank self.old.cancel_status) event.now.kind ≡ true) }
     {
-        if let Some(ended) = &effect.ended {
-            self.keep_test(ended)?;
-        }
-        self.cancel_status = greater_reason(self.cancel_status, effect.reason);
-        Ok(())
-    }
-
-    // Keeps a test where the summary lists it.
-    #[inline(always)]
-    fn keep_test(&mut self, ended: &EndedTest<'_, '_>) -> Result<(), OutOfMemory>
-        requires { HasEndOutput (test_end_of ended.now) }
-        ensures settings { self.new.settings ≡ self.old.settings }
-        ensures prefix { self.new.unique_prefix ≡ self.old.unique_prefix }
-        ensures reason { self.new.cancel_status ≡ self.old.cancel_status }
-        ensures works { self.new.has_failed ≡ self.old.has_failed }
-        ensures kept { OnOk result ((before : List FinalOutputEntry) → self.old.kept ≡ final_order before →
-            self.new.kept ≡ final_order (before ++ option_to_list (kept_entry self.old.settings (test_end_of ended.now)))) }
-        ensures needed { OnErr result (is_some (kept_entry self.old.settings (test_end_of ended.now)) ≡ true) }
-    {
-        match ended {
-            EndedTest::Finished(attempts) => self.keep_finished(attempts),
-            EndedTest::Skipped(test) => self.keep_skipped(*test),
+        match &event.kind {
+            TestEventKind::TestFinished { .. } => match finished {
+                Some(attempts) => self.keep_finished(attempts),
+                None => Ok(()),
+            },
+            TestEventKind::TestSkipped {
+                stress_index,
+                test_instance,
+            } => {
+                let settings = &self.settings;
+                let test = settings.padded_instance(*stress_index, *test_instance);
+                self.keep_skipped(test)
+            }
+            TestEventKind::RunBeginCancel { current_stats, .. }
+            | TestEventKind::RunBeginKill { current_stats, .. } => {
+                let reason = greater_reason(self.cancel_status, current_stats.cancel_reason);
+                self.cancel_status = reason;
+                Ok(())
+            }
+            _ => Ok(()),
         }
     }
 
@@ -152,5 +158,16 @@ impl ReporterState {
         let entry = FinalOutputEntry::skipped(self.alloc, &mut self.ids, test)?;
         self.kept.keep(self.alloc, entry)?;
         Ok(())
+    }
+}
+
+// The greater of two reasons, where there is one.
+fn greater_reason(old: Option<CancelReason>, new: Option<CancelReason>) -> Option<CancelReason>
+    ensures { reason_rank result ≡ max (reason_rank new) (reason_rank old) }
+{
+    match (old, new) {
+        (Some(old), Some(new)) => Some(if new.is_above(old) { new } else { old }),
+        (Some(old), None) => Some(old),
+        (None, new) => new,
     }
 }

@@ -1,5 +1,5 @@
 -- Calls in turn (for `DisplayReporter::make_calls`, `DisplayReporter::report_event`, `run_report`, `write_delivered`).
-use Rattle.std.proofs.Common.{◌≡◌, ℕ, ◌+◌, ◌<◌, ◌≤◌, List, [], ◌∷◌, ◌++◌, length, reverse, take, get_or, sym, ap, ◌∙◌, subst, Result, Ok, Err, IfErr, OnOk, inl, inr, refl, append-nil}
+use Rattle.std.proofs.Common.{◌≡◌, ℕ, ◌+◌, ◌<◌, ◌≤◌, List, [], ◌∷◌, ◌++◌, length, reverse, take, get_or, sym, ap, ◌∙◌, subst, Result, Ok, Err, IfErr, OnOk, Some, ◌⊎◌, inl, inr, refl, append-nil}
 use Rattle.std.specs.Result.{IsErrOf}
 use Rattle.std.proofs.lemmas.List.{take_more, take_all, reverse-append}
 use Rattle.plain_text.specs.Writer.{Meaning, WriterLaws, successor}
@@ -8,13 +8,18 @@ use Rattle.reporter_state.specs.declared.faults.WriteEventError.{WriteEventError
 use Rattle.reporter_state.specs.declared.faults.WriteEventError.TheVariants.{RetriedSuccess, OutputNotLoaded, Io, Memory, Failed, StoreIo}
 use Rattle.reporter_state.specs.declared.faults.RunFault.{RunFault}
 use Rattle.console_reporter.specs.Accepted.{AreAccepted, IsAccepted}
-use Rattle.console_reporter.specs.Report.{past_at}
+use Rattle.console_reporter.specs.OptionalStore.{store_meaning}
+use Rattle.console_reporter.specs.Report.{past_at, text}
+use Rattle.console_reporter.specs.Stored.{stored_text}
+use Rattle.console_reporter.specs.Telling.{Breaks}
+use Rattle.run_model.specs.declared.event.TestEvent.{TestEvent}
+use Rattle.run_model.specs.declared.call.ReportCall.TheVariants.{Event}
 use Rattle.console_reporter.specs.Configuration.{Configuration}
 use Rattle.run_model.specs.declared.call.ReportCall.{ReportCall}
 use Rattle.plain_text.specs.declared.write_str.WriteFault.TheVariants.{Device, Memory as RefusedMemory}
 use Rattle.console_reporter.specs.Outcomes.{IsOfConsole, Side, Stops, error_for}
 use Rattle.console_reporter.specs.Outcomes.Side.{Report, Records}
-use Rattle.console_reporter.specs.HeldState.{StandsAfter}
+use Rattle.console_reporter.specs.HeldState.{MayGrow, StandsAfter}
 use Rattle.console_reporter.specs.declared.imp.reporter.DisplayReporter.{DisplayReporter}
 
 -- one call more is accepted
@@ -81,6 +86,25 @@ console_not_store Io is h = cc
 console_not_store Memory is h = cc
 console_not_store Failed is h = is
 console_not_store StoreIo is h = is
+
+-- where the report of an event stops, the call breaks, and its record was not begun
+module _ {W S : Type 0} (m : Meaning W) (n : Meaning S) (laws : WriterLaws (store_meaning n)) (old new : DisplayReporter W S) (event : TestEvent) (r : Result (Unit {0}) WriteEventError) (error : WriteEventError) (is : r ≡ Err error) where
+  abbrev IsStopped : WriteEventError → Type 0
+  IsStopped e = (config : Configuration) (past : List ReportCall) → StandsAfter config past old → Stops Report m old.writer.now (text config past (Event event)) e new.writer.now
+
+  pub report_breaks : new.store ≡ old.store → IfErr r IsOfConsole → IfErr r IsStopped → (IsErrOf r Io → m.failures new.writer.now ≡ successor (m.failures old.writer.now)) →
+      (IsErrOf r Memory → m.may_refuse old.writer.now ⊎ MayGrow old event) → Breaks m n old (Some (Event event)) error new
+  report_breaks store console stops io memory =
+      let of_console : IsOfConsole error = subst (λ x. IfErr x IsOfConsole) is console in
+      record {
+        stopped = subst (λ x. IfErr x IsStopped) is stops;
+        store_stopped = λ config past stands. record_untouched laws _ _ (stored_text config.store (Event event)) error of_console store;
+        order = λ config past stands. inl store;
+        io = λ same. io (is ∙ ap Err same);
+        store_io = λ same. absurd (console_not_store error of_console (ap Err same));
+        memory = λ same. (elim (memory (is ∙ ap Err same)) [ inl a ↦ inl a | inr b ↦ inr (inl b) ]);
+        delivered = λ same. absurd (console_not_store error of_console (ap Err same));
+      }
 
 -- what holds after a run for each configuration after which its reporter stood holds for this one
 module _ {W S : Type 0} (config : Configuration) (reporter : DisplayReporter W S) (stands : StandsAfter config [] reporter) where

@@ -1,22 +1,21 @@
 //! The text of an event. Each event's own text is in the crates `test_text`, `run_text` or `info_text`.
 
 ghost use Rattle.std.specs.Prelude.{◌≡◌, None, false, nat_lt};
-ghost use Rattle.std.specs.Option.{option_map};
 ghost use Rattle.plain_text.specs.Writer.{Puts};
 ghost use Rattle.run_names.specs.Levels.{reason_rank};
 ghost use Rattle.report_words.specs.Parts.{paint};
 ghost use Rattle.text_parts.specs.Script.{script_of};
-ghost use Rattle.reporter_state.specs.Effects.{HasEndOutputIn, effect_of, test_end_of};
+ghost use Rattle.reporter_state.specs.Effects.{IsFinishOf};
 ghost use Rattle.reporter_state.specs.Entries.{hiding_rank};
 ghost use Rattle.reporter_state.specs.Loads.{lacks_output};
 ghost use Rattle.reporter_state.specs.Refusals.{decider_by};
 ghost use Rattle.console_reporter.specs.HeldState.{known_by};
-ghost use Rattle.console_reporter.specs.Report.{end_of_run_text, event_text, finished_text, listed_text, script_by};
+ghost use Rattle.console_reporter.specs.Report.{end_of_run_text, event_text, listed_text, script_by};
 
 use info_text::response::write_info_response;
 use info_text::start::{write_info_finished, write_info_started};
 use plain_text::write_str::{WriteFault, WriteStr};
-use reporter_state::effect::{EndedTest, EventEffect};
+use reporter_state::finished_attempts::FinishedAttempts;
 use reporter_state::state::ReporterState;
 use run_model::command::CommandLine;
 use run_model::event::{TestEvent, TestEventKind};
@@ -45,16 +44,15 @@ use text_parts::script::ScriptInstance;
 use text_parts::settings::Settings;
 use unit_report::formatters::write_final_warnings;
 
-/// Writes the text of an event: one arm for each kind, in the order of `event_text`.
+/// Writes the text of an event: one arm for each kind, in the order of `event_text`. A test that it finishes is handed on with it.
 #[tactic(auto, unfolding(crate::specs::Report::event_text))]
 pub fn write_event_text<W: WriteStr>(
     w: &mut W,
     state: &ReporterState,
     event: &TestEvent<'_>,
-    effect: &EventEffect<'_, '_>,
+    finished: Option<&FinishedAttempts<'_, '_>>,
 ) -> Result<(), WriteFault>
-    requires ended { option_map test_end_of effect.now.ended ≡ (effect_of event.now.kind).ended state.now.settings (reason_rank state.now.cancel_status) }
-    requires loaded { HasEndOutputIn (option_map test_end_of effect.now.ended) }
+    requires finished { IsFinishOf state.now.settings (reason_rank state.now.cancel_status) event.now.kind finished }
     requires accepted { lacks_output (decider_by state.now.settings None) event.now.kind ≡ false }
     ensures { Puts W.meaning w.old (event_text state.now.settings (known_by state.now) event.now.elapsed.0 event.now.kind) result w.new }
 {
@@ -129,7 +127,10 @@ pub fn write_event_text<W: WriteStr>(
             retry_data: retry,
             command_line: command,
         } => write_test_retry_started(w, settings, *stress_index, *test, *retry, command),
-        TestEventKind::TestFinished { .. } => write_finished(w, settings, &effect.ended),
+        TestEventKind::TestFinished { .. } => match finished {
+            Some(attempts) => write_test_finished(w, settings, &attempts.finished),
+            None => Ok(()),
+        },
         TestEventKind::TestSkipped {
             stress_index,
             test_instance,
@@ -210,21 +211,6 @@ fn write_end_of_run<W: WriteStr>(
     write_listed(w, state)?;
     write_not_seen(w, settings, outstanding_not_seen)?;
     write_final_warnings(settings.mode, run_stats.final_stats(), &settings.styles, w)
-}
-
-// Writes the test that an event finishes.
-fn write_finished<W: WriteStr>(
-    w: &mut W,
-    settings: &Settings,
-    ended: &Option<EndedTest<'_, '_>>,
-) -> Result<(), WriteFault>
-    requires { HasEndOutputIn (option_map test_end_of ended.now) }
-    ensures { Puts W.meaning w.old (paint settings.now.styles (finished_text settings.now (option_map test_end_of ended.now))) result w.new }
-{
-    match ended {
-        Some(EndedTest::Finished(attempts)) => write_test_finished(w, settings, &attempts.finished),
-        Some(EndedTest::Skipped(_)) | None => Ok(()),
-    }
 }
 
 // Writes the entries, unless the run was interrupted.

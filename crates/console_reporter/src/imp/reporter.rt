@@ -11,7 +11,7 @@ ghost use Rattle.reporter_state.specs.declared.faults.WriteEventError.{WriteEven
 ghost use Rattle.console_reporter.specs.Configuration.{Configuration, settings_of};
 ghost use Rattle.reporter_state.specs.Refusals.{decider_by};
 ghost use Rattle.console_reporter.specs.Accepted.{AreAccepted, decider_of};
-ghost use Rattle.reporter_state.specs.Effects.{HasEndOutputIn, effect_of, test_end_of};
+ghost use Rattle.reporter_state.specs.Effects.{IsFinishOf};
 ghost use Rattle.reporter_state.specs.Loads.{lacks_output};
 ghost use Rattle.console_reporter.specs.Exactness.{IsExact};
 ghost use Rattle.reporter_state.specs.Refusals.{refusal_in};
@@ -27,11 +27,11 @@ use super::event_text::write_event_text;
 use super::store::Store;
 use plain_text::write_str::{WriteFault, WriteStr};
 use reporter_state::decider::OutputLoadDecider;
-use reporter_state::effect::EventEffect;
 use reporter_state::faults::{RunFault, WriteEventError};
+use reporter_state::finished_attempts::FinishedAttempts;
 use reporter_state::state::ReporterState;
 use run_model::call::ReportCall;
-use run_model::event::TestEvent;
+use run_model::event::{TestEvent, TestEventKind};
 use run_model::memory::OutOfMemory;
 use run_model::replay::ReplayHeader;
 use run_model::run_id::ShortestRunIdPrefix;
@@ -140,7 +140,25 @@ impl<'a, W: WriteStr, S: WriteStr> DisplayReporter<'a, W, S> {
         ensures err { IfErr result (λ e. Breaks W.meaning S.meaning self.old (Some (ReportCall.Event event.now)) e self.new) }
         ensures unrefused { IfErr result (λ e. refusal_in e ≡ None) }
     {
-        if let Err(error) = self.report_event(event) {
+        let told = match &event.kind {
+            TestEventKind::TestFinished {
+                stress_index,
+                test_instance: test,
+                success_output: success,
+                failure_output: failure,
+                run_statuses: statuses,
+                current_stats: stats,
+            } => {
+                let (settings, reason) = (&self.state.settings, self.state.cancel_status);
+                let stress = *stress_index;
+                let finished = FinishedAttempts::new(
+                    settings, reason, stress, *test, *success, *failure, statuses, stats,
+                );
+                self.report_event(event, Some(&finished))
+            }
+            _ => self.report_event(event, None),
+        };
+        if let Err(error) = told {
             return Err(error);
         }
         match self.deliver_record(event) {
@@ -149,9 +167,16 @@ impl<'a, W: WriteStr, S: WriteStr> DisplayReporter<'a, W, S> {
         }
     }
 
-    // Writes and delivers the text of an event, and does what it does.
-    fn report_event(&mut self, event: &TestEvent<'_>) -> Result<(), WriteEventError>
-        requires { lacks_output (decider_by self.old.state.settings None) event.now.kind ≡ false }
+    // Writes and delivers the text of an event, and does what it does. A test that it finishes is handed on with it. Inlined, so that of
+    // most events no more is looked at.
+    #[inline(always)]
+    fn report_event(
+        &mut self,
+        event: &TestEvent<'_>,
+        finished: Option<&FinishedAttempts<'_, '_>>,
+    ) -> Result<(), WriteEventError>
+        requires finished { IsFinishOf self.old.state.settings (reason_rank self.old.state.cancel_status) event.now.kind finished }
+        requires accepted { lacks_output (decider_by self.old.state.settings None) event.now.kind ≡ false }
         ensures same_writer { IsSameWriter self.old self.new }
         ensures store { self.new.store ≡ self.old.store }
         ensures settings { self.new.state.settings ≡ self.old.state.settings }
@@ -167,11 +192,10 @@ impl<'a, W: WriteStr, S: WriteStr> DisplayReporter<'a, W, S> {
         ensures of_console { IfErr result IsOfConsole }
         ensures unrefused { IfErr result (λ e. refusal_in e ≡ None) }
     {
-        let effect = EventEffect::of_event(&self.state.settings, self.state.cancel_status, event);
-        if let Err(fault) = write_delivered(self.writer, &self.state, event, &effect) {
+        if let Err(fault) = write_delivered(self.writer, &self.state, event, finished) {
             return Err(error_of(fault));
         }
-        match self.state.apply(&effect) {
+        match self.state.apply(event, finished) {
             Ok(()) => Ok(()),
             Err(OutOfMemory) => Err(WriteEventError::Memory),
         }
@@ -430,14 +454,13 @@ fn write_delivered<W: WriteStr>(
     w: &mut W,
     state: &ReporterState,
     event: &TestEvent<'_>,
-    effect: &EventEffect<'_, '_>,
+    finished: Option<&FinishedAttempts<'_, '_>>,
 ) -> Result<(), WriteFault>
-    requires ended { option_map test_end_of effect.now.ended ≡ (effect_of event.now.kind).ended state.now.settings (reason_rank state.now.cancel_status) }
-    requires loaded { HasEndOutputIn (option_map test_end_of effect.now.ended) }
+    requires finished { IsFinishOf state.now.settings (reason_rank state.now.cancel_status) event.now.kind finished }
     requires accepted { lacks_output (decider_by state.now.settings None) event.now.kind ≡ false }
     ensures text { Puts W.meaning w.old (event_text state.now.settings (known_by state.now) event.now.elapsed.0 event.now.kind) result w.new }
     ensures delivered { OnOk result (W.meaning.is_delivered w.new) }
 {
-    write_event_text(w, state, event, effect)?;
+    write_event_text(w, state, event, finished)?;
     w.write_str_flush()
 }

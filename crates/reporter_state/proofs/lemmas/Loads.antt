@@ -1,7 +1,8 @@
--- What is known of outputs once an event is accepted (for `EventEffect::of_event`, and for the writers of events that show output).
-use Rattle.std.proofs.Common.{◌≡◌, ℕ, Bool, true, false, not, Option, None, Some, if◌then◌else◌, refl, sym, inl, inr}
+-- What is known of outputs once an event is accepted (for `ReporterState::apply`, and for the writers of events that show output).
+use Rattle.std.proofs.Common.{◌≡◌, ℕ, Bool, true, false, not, Option, None, Some, if◌then◌else◌, refl, subst, sym, inl, inr}
 use Rattle.std.specs.Option.{option_map_or}
 use Rattle.std.proofs.lemmas.Bool.{cases_Bool, false≢true}
+use Rattle.std.proofs.lemmas.Option.{none-some, same_Some}
 use Rattle.run_model.specs.Attempts.{Attempt, Attempts, Written}
 use Rattle.run_model.specs.Outputs.{has_loaded_output}
 use Rattle.run_model.specs.Statuses.{summary_of}
@@ -17,11 +18,12 @@ use Rattle.run_names.specs.declared.stress.StressIndex.{StressIndex}
 use Rattle.run_names.specs.declared.time.Nanos.{Nanos}
 use Rattle.unit_report.specs.Overrides.{display_for}
 use Rattle.store_text.specs.declared.config.StoreConfig.{StoreConfig}
-use Rattle.test_text.specs.TestFinished.{HasShownOutput, test_finish}
+use Rattle.test_text.specs.TestFinished.{FinishReport, HasShownOutput, test_finish}
 use Rattle.text_parts.specs.Finish.{display_of, is_ever_shown}
 use Rattle.test_text.specs.TestRetry.{HasFailedAttemptOutput, is_failed_output_shown}
 use Rattle.text_parts.specs.Settings.{is_level_shown}
 use Rattle.text_parts.specs.declared.settings.Settings.{Settings}
+use Rattle.reporter_state.specs.Effects.{finish_by}
 use Rattle.reporter_state.specs.Refusals.{decider_by}
 use Rattle.reporter_state.specs.Loads.{lacks_output, loads_attempt, loads_finish}
 
@@ -42,6 +44,12 @@ pub finish_loaded : (s : Settings) (reason : ℕ) (stress : Option StressIndex) 
 unfolding display_of
 finish_loaded s reason stress test success failure statuses stats lacks shown =
     loaded_where (loads_finish (decider_by s None) success failure (summary_of statuses)) statuses.last.output lacks (rw shown refl)
+
+-- so of the test that it finishes
+pub handed_loaded : (s : Settings) (reason : ℕ) (e : TestEventKind) (f : FinishReport) → Some f ≡ finish_by s reason e → lacks_output (decider_by s None) e ≡ false → HasShownOutput f
+handed_loaded s reason (TestFinished stress test success failure statuses stats) f is lacks =
+    subst HasShownOutput (same_Some _ _ (sym is)) (finish_loaded s reason stress test success failure statuses stats lacks)
+handed_loaded s reason other f is lacks = absurd (none-some f (sym is))
 
 -- what is not lacking for a report and a store is not for the report alone
 pub lacks_less : (s : Settings) (store : Option StoreConfig) (e : TestEventKind) → lacks_output (decider_by s store) e ≡ false → lacks_output (decider_by s None) e ≡ false

@@ -1,6 +1,5 @@
-use Rattle.std.proofs.Common.{rules, [], ap₂, sym, append-nil, inr, max, ◌∙◌}
-use Rattle.std.specs.Option.{option_map}
-use Rattle.reporter_state.specs.Effects.{test_end_of}
+use Rattle.std.proofs.Common.{rules, [], ap, sym, append-nil, inr, max, ◌∙◌}
+use Rattle.reporter_state.specs.Effects.{effect_of}
 use Rattle.console_reporter.proofs.lemmas.Calls.{stops_error}
 use Rattle.console_reporter.proofs.lemmas.Pasts.{kept-more, text-held}
 use Rattle.reporter_state.specs.Entries.{cancel, prefix}
@@ -23,8 +22,8 @@ unfolding cancel prefix
 returns-in-Ok-clause-stands g c = λ config past stands. record {
   settings = c.apply.ensures.settings ∙ stands.settings;
   prefix = c.apply.ensures.prefix ∙ stands.prefix;
-  reason = c.in-Ok.ensures.reason ∙ ap₂ max c.of_event-effect.ensures.reason stands.reason;
-  kept = kept-more config past c.args.self.now c.args.event.now (option_map test_end_of c.of_event-effect.result.ended) _ stands c.of_event-effect.ensures.ended c.in-Ok.ensures.kept;
+  reason = c.in-Ok.ensures.reason ∙ ap (max (effect_of c.args.event.now.kind).reason) stands.reason;
+  kept = kept-more config past c.args.self.now c.args.event.now _ stands c.in-Ok.ensures.kept;
   store = stands.store;
   works = search rules;
 }
