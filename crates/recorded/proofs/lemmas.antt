@@ -1,5 +1,6 @@
 pub mod Fields
 pub mod Inline
+pub mod KeptFields
 pub mod LeftLines
 pub mod LoadedLines
 pub mod Loaded
@@ -7,6 +8,7 @@ pub mod Reports
 pub mod Rows
 pub mod Skipped
 pub mod Skips
+pub mod SpelledBytes
 pub mod Streams
 pub mod Unloaded
 pub mod WholeLines
