@@ -9,6 +9,7 @@ pub mod Rows
 pub mod Skipped
 pub mod Skips
 pub mod SpelledBytes
+pub mod SpelledTexts
 pub mod Streams
 pub mod Unloaded
 pub mod WholeLines
