@@ -8,7 +8,11 @@ pub mod Reports
 pub mod Rows
 pub mod Skipped
 pub mod Skips
+pub mod SpelledAttempts
 pub mod SpelledBytes
+pub mod SpelledLines
+pub mod SpelledOutputs
+pub mod SpelledPlaces
 pub mod SpelledTexts
 pub mod Streams
 pub mod Unloaded

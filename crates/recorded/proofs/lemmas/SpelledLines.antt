@@ -1,0 +1,238 @@
+-- A recorded line, spelled out, is read to the event with its outputs in it (`line_law`).
+use Rattle.std.proofs.Common.{◌≡◌, ℕ, Bool, true, false, List, [], ◌∷◌, map, Option, None, Some, Result, Ok, Err, refl, sym, ap, ◌∙◌, bytes_eq, codes, if◌then◌else◌}
+use Rattle.recorded.proofs.lemmas.KeptFields.{begins, keeps_absent, keeps_config_key, keeps_display, keeps_final_level, keeps_flag, keeps_flaky, keeps_instances, keeps_iteration, keeps_mode, keeps_moment, keeps_nanos, keeps_number, keeps_progress, keeps_reason, keeps_result_or_none, keeps_run_id, keeps_skips, keeps_some_text, keeps_state, keeps_stats, keeps_stress, keeps_text, keeps_words}
+use Rattle.recorded.proofs.lemmas.SpelledAttempts.{attempts_inline, attempts_spelled}
+use Rattle.recorded.proofs.lemmas.SpelledOutputs.{attempt_loads, attempt_reads, output_loads, output_reads}
+use Rattle.recorded.proofs.lemmas.SpelledPlaces.{ReadsAlike, ReadsNoted, ReadsOutput, Refuses, exactly-alike, exactly-spells, field_alike, field_output, field_spells, field_then, if_alike, if_spells, made_alike, next-alike, noted_alike, noted_output, output_says, place_spelled, says-alike, spelled_says, then_alike, then_output, then_spelled, valued-alike, with_attempts-spells, with_put}
+use Rattle.recorded.specs.Events.{event_inline, output_inline}
+use Rattle.recorded.specs.SpelledOut.{AreBytes, line_spelled}
+use Rattle.run_model.specs.Attempts.{Attempts}
+use Rattle.run_model.specs.declared.info.UnitState.{UnitState}
+use Rattle.run_model.specs.declared.output.ChildOutputDescription.{ChildOutputDescription}
+use Rattle.run_model.specs.declared.status.ExecutionResultDescription.{ExecutionResultDescription}
+use Rattle.run_names.specs.UniquePrefixes.{UniquePrefix}
+use Rattle.scene_events.specs.Loads.{answer_with, attempts_with, event_with}
+use Rattle.scene_events.specs.SceneOutputs.{written}
+use Rattle.scene_events.specs.declared.scene.SceneConfig.{SceneConfig}
+use Rattle.scene_events.specs.declared.scene.event.SceneEvent.{SceneEvent}
+use Rattle.scene_events.specs.declared.scene.event.SceneEvent.TheVariants as event
+use Rattle.scene_events.specs.declared.scene.outputs.SceneOutput.{SceneOutput}
+use Rattle.scene_events.specs.declared.scene.outputs.SceneOutput.TheVariants.{Output, StartError}
+use Rattle.scene_events.specs.declared.scene.unit_events.TestFinish.{TestFinish}
+use Rattle.scene_events.specs.declared.scene.unit_events.UnitAnswer.{UnitAnswer}
+use Rattle.scene_fields.specs.Fields.{◌>>=◌, Line, Place, exactly, field, goes_on, says, valued}
+use Rattle.scene_fields.specs.References.{reference_in}
+use Rattle.scene_fields.specs.Texts.{text_in}
+use Rattle.scene_fields.specs.Values.{absent_in}
+use Rattle.scene_fields.specs.declared.reference.Reference.{Reference}
+use Rattle.scene_fields.specs.declared.stored.PlacedOutput.{PlacedOutput}
+use Rattle.scene_fields.specs.declared.stored.StoredOutput.{StoredOutput}
+use Rattle.scene_fields.specs.declared.values.ConfigKey.{ConfigKey}
+use Rattle.scene_fields.specs.declared.values.ConfigKey.TheVariants as key
+use Rattle.scene_fields.specs.Stored.{placed}
+use Rattle.scene_text.specs.Parts.{state_with}
+use Rattle.scene_text.specs.EventLines.{all_attempts, answer_fields, answer_script_line_fields, answer_test_line_fields, by_row, cancel_line_fields, config_line_fields, done_line_fields, end_line_fields, end_stress_line_fields, event_line_fields, event_rows, header_line_fields, info_line_fields, input_line_fields, made, not_seen_fields, other_event_rows, output_fields, pause_line_fields, prefix_line_fields, retry_fields, retry_line_fields, retry_numbered, retry_start_line_fields, run_event_rows, run_line_fields, script_fields, set_field, setup_done_line_fields, setup_line_fields, setup_slow_line_fields, slow_line_fields, some_text_in, start_line_fields, state_fields, sub_end_line_fields, test_fields, unique_prefix_fields, unknown}
+
+-- lines without outputs
+module _ (all : List ℕ) where
+  test_alike : ReadsAlike all test_fields
+  unfolding test_fields
+  test_alike = field_then all _ keeps_stress (λ stress_index. field_then all _ keeps_text (λ binary_id. field_then all _ keeps_text (λ test_name. says-alike all _)))
+
+  retry_alike : ReadsAlike all retry_fields
+  unfolding retry_fields
+  retry_alike = field_then all _ (keeps_number 32) (λ attempt. field_then all _ (keeps_number 32) (λ total. says-alike all _))
+
+  start_alike : ReadsAlike all start_line_fields
+  start_alike = then_alike all test_alike (λ test. field_then all _ keeps_stats (λ stats. field_then all _ keeps_words (λ command. says-alike all _)))
+
+  retry_start_alike : ReadsAlike all retry_start_line_fields
+  retry_start_alike = then_alike all test_alike (λ test. then_alike all retry_alike (λ retry_data. field_then all _ keeps_words (λ command. says-alike all _)))
+
+  slow_alike : ReadsAlike all slow_line_fields
+  slow_alike = then_alike all test_alike (λ test. then_alike all retry_alike (λ retry_data. field_then all _ keeps_nanos (λ elapsed. field_then all _ keeps_flag (λ will_terminate. says-alike all _))))
+
+  script_alike : ReadsAlike all script_fields
+  unfolding script_fields
+  script_alike = field_then all _ keeps_text (λ script_id. field_then all _ keeps_text (λ program. field_then all _ keeps_words (λ args. says-alike all _)))
+
+  setup_alike : ReadsAlike all setup_line_fields
+  setup_alike = field_then all _ keeps_stress (λ stress_index. field_then all _ (keeps_number 64) (λ index. field_then all _ (keeps_number 64) (λ total. then_alike all script_alike (λ script. says-alike all _))))
+
+  setup_slow_alike : ReadsAlike all setup_slow_line_fields
+  setup_slow_alike = field_then all _ keeps_stress (λ stress_index. then_alike all script_alike (λ script. field_then all _ keeps_nanos (λ elapsed. field_then all _ keeps_flag (λ will_terminate. says-alike all _))))
+
+  info_alike : ReadsAlike all info_line_fields
+  info_alike = field_then all _ keeps_nanos (λ elapsed. field_then all _ (keeps_number 64) (λ total. field_then all _ keeps_stats (λ stats. says-alike all _)))
+
+  state_alike : ReadsAlike all state_fields
+  unfolding state_fields
+  state_alike = field_then all _ keeps_state (λ begun. field_then all _ keeps_result_or_none (λ result. then_alike all (valued-alike all (state_with result begun)) (λ state. says-alike all _)))
+
+  run_alike : ReadsAlike all run_line_fields
+  run_alike = field_then all _ keeps_run_id (λ run_id. field_then all _ keeps_text (λ profile. field_then all _ (keeps_number 64) (λ tests. field_then all _ (keeps_number 64) (λ binaries. field_then all _ keeps_skips (λ skips. says-alike all _)))))
+
+  cancel_alike : ReadsAlike all cancel_line_fields
+  cancel_alike = field_then all _ (keeps_number 64) (λ scripts. field_then all _ (keeps_number 64) (λ tests. field_then all _ keeps_reason (λ reason. says-alike all _)))
+
+  pause_alike : ReadsAlike all pause_line_fields
+  pause_alike = field_then all _ (keeps_number 64) (λ scripts. field_then all _ (keeps_number 64) (λ tests. says-alike all _))
+
+  input_alike : ReadsAlike all input_line_fields
+  input_alike = field_then all _ keeps_nanos (λ elapsed. field_then all _ keeps_stats (λ stats. field_then all _ (keeps_number 64) (λ running. says-alike all _)))
+
+  not_seen_alike : ReadsAlike all not_seen_fields
+  not_seen_alike = field_then all _ (keeps_number 64) (λ count. field_then all _ keeps_instances (λ listed. says-alike all _))
+
+  end_alike : ReadsAlike all end_line_fields
+  end_alike = field_then all _ keeps_nanos (λ elapsed. field_then all _ keeps_stats (λ stats. then_alike all not_seen_alike (λ not_seen. says-alike all _)))
+
+  sub_end_alike : ReadsAlike all sub_end_line_fields
+  sub_end_alike = field_then all _ keeps_progress (λ progress. field_then all _ keeps_nanos (λ elapsed. field_then all _ keeps_stats (λ stats. says-alike all _)))
+
+  end_stress_alike : ReadsAlike all end_stress_line_fields
+  end_stress_alike = field_then all _ keeps_nanos (λ elapsed. field_then all _ keeps_iteration (λ completed. field_then all _ (keeps_number 32) (λ succeeded. field_then all _ (keeps_number 32) (λ failed. field_then all _ keeps_stats (λ stats.
+      then_alike all not_seen_alike (λ outstanding. says-alike all _))))))
+
+  prefix_alike : ReadsAlike all prefix_line_fields
+  prefix_alike = field_then all _ keeps_text (λ prefix. field_then all _ keeps_text (λ rest. says-alike all _))
+
+  -- a prefix that is read is no reference
+  abbrev unique_prefix_behind : List ℕ → Line (Option UniquePrefix)
+  unique_prefix_behind t =
+      if bytes_eq t (codes "-") then made (λ none. None) (field absent_in)
+      else (valued (text_in t) >>= (λ prefix. field some_text_in >>= (λ rest. says (Some (record { prefix = prefix; rest = rest })))))
+
+  prefix_refuses : (t : List ℕ) (r : Reference) → reference_in t ≡ Some r → (o : Option (List ℕ)) → text_in t ≡ o → (p : Place) (x : Option UniquePrefix × Place) →
+      goes_on (λ prefix. field some_text_in >>= (λ rest. says (Some (record { prefix = prefix; rest = rest })))) (valued o p) ≡ Ok x → ⊥
+  prefix_refuses t r is None there p x h = absurd (cc)
+  prefix_refuses t r is (Some prefix) there p x h = (let none = keeps_text t prefix there in cc)
+
+  unique_prefix_refuses : Refuses unique_prefix_behind
+  unique_prefix_refuses t r is p x h =
+      let no_dash : bytes_eq t (codes "-") ≡ false = ap (λ u. bytes_eq u (codes "-")) (begins t r is) in
+      prefix_refuses t r is (text_in t) refl p x (rw no_dash at h)
+
+  unique_prefix_alike : ReadsAlike all unique_prefix_fields
+  unique_prefix_alike = next-alike all unique_prefix_behind unique_prefix_refuses (λ t.
+      if_alike all (bytes_eq t (codes "-")) _ _ (made_alike all _ (field_alike all absent_in keeps_absent))
+      (then_alike all (valued-alike all (text_in t)) (λ prefix. field_then all some_text_in keeps_some_text (λ rest. says-alike all _))))
+
+  header_alike : ReadsAlike all header_line_fields
+  header_alike = field_then all _ keeps_run_id (λ run_id. then_alike all unique_prefix_alike (λ unique_prefix. field_then all _ keeps_moment (λ started_at. field_then all _ keeps_text (λ status. says-alike all _))))
+
+  -- configuration
+  set_alike : (config : SceneConfig) (k : ConfigKey) → ReadsAlike all (set_field config k)
+  set_alike config key.Final = made_alike all _ (field_alike all _ keeps_final_level)
+  set_alike config key.Runs = made_alike all _ (field_alike all _ (keeps_number 64))
+  set_alike config key.Bench = made_alike all _ (field_alike all _ keeps_mode)
+  set_alike config key.Success = made_alike all _ (field_alike all _ keeps_display)
+  set_alike config key.Failure = made_alike all _ (field_alike all _ keeps_display)
+  set_alike config key.NoCapture = made_alike all _ (field_alike all _ keeps_flag)
+  set_alike config key.Verbose = made_alike all _ (field_alike all _ keeps_flag)
+  set_alike config key.NoIndent = made_alike all _ (field_alike all _ keeps_flag)
+  set_alike config key.Unicode = made_alike all _ (field_alike all _ keeps_flag)
+  set_alike config key.Empty = made_alike all _ (field_alike all _ keeps_flag)
+
+  config_alike : (config : SceneConfig) → ReadsAlike all (config_line_fields config)
+  unfolding config_line_fields
+  config_alike config = field_then all _ keeps_config_key (λ k. set_alike config k)
+
+-- lines with outputs
+abbrev pub answer_loads : ChildOutputDescription → UnitAnswer → UnitAnswer
+answer_loads captured answer = answer_with captured answer
+
+abbrev answer_made : UnitState × Option ExecutionResultDescription → SceneOutput → UnitAnswer
+answer_made read output = record { state = read.0; output = written read.1 output }
+
+answer_puts : (read : UnitState × Option ExecutionResultDescription) (captured : ChildOutputDescription) (output : SceneOutput) → answer_made read (output_loads captured output) ≡ answer_loads captured (answer_made read output)
+answer_puts read captured (Output output errors highlight) = refl
+answer_puts read captured (StartError error) = refl
+
+-- each line of a table is read so
+abbrev AreSpelled : {X : Type 0} → List ℕ → (List PlacedOutput → X → X) → List (List ℕ × Line X) → Type 0
+AreSpelled all put [] = Unit {0}
+AreSpelled all put (row ∷ rows) = ReadsNoted all put row.1 × AreSpelled all put rows
+
+row_spells : {X : Type 0} (all : List ℕ) (put : List PlacedOutput → X → X) (otherwise : Line X) (rows : List (List ℕ × Line X)) (word : List ℕ) → ReadsNoted all put otherwise → AreSpelled all put rows → ReadsNoted all put (by_row otherwise rows word)
+row_spells all put otherwise [] word none are = none
+row_spells all put otherwise (row ∷ rows) word none are = if_spells all (bytes_eq word row.0) row.1 (by_row otherwise rows word) are.0 (row_spells all put otherwise rows word none are.1)
+
+module _ (all : List ℕ) (bytes : AreBytes all) where
+  answer_reads : ReadsOutput all answer_loads answer_fields
+  unfolding answer_fields
+  answer_reads = then_output all (state_alike all) (λ read. output_says all output_loads answer_loads output_fields (output_reads all bytes) (answer_made read) (answer_puts read))
+
+  retry_reads : ReadsOutput all (event_with 0) retry_line_fields
+  retry_reads = then_output all (test_alike all) (λ test. then_output all (retry_alike all) (λ retry_data. field_output all _ keeps_nanos (λ delay. field_output all _ keeps_display (λ on_failure.
+      output_says all attempt_loads (event_with 0) _ (attempt_reads all bytes retry_data) _ (λ captured attempt. refl)))))
+
+  setup_done_reads : ReadsOutput all (event_with 0) setup_done_line_fields
+  setup_done_reads = field_output all _ keeps_stress (λ stress_index. then_output all (script_alike all) (λ script. output_says all attempt_loads (event_with 0) _ (attempt_reads all bytes (retry_numbered 1 1)) _ (λ captured attempt. refl)))
+
+  answer_script_reads : ReadsOutput all (event_with 0) answer_script_line_fields
+  answer_script_reads = field_output all _ (keeps_number 64) (λ index. field_output all _ (keeps_number 64) (λ total. field_output all _ keeps_stress (λ stress_index. then_output all (script_alike all) (λ script.
+      output_says all answer_loads (event_with 0) _ answer_reads _ (λ captured answer. refl)))))
+
+  answer_test_reads : ReadsOutput all (event_with 0) answer_test_line_fields
+  answer_test_reads = field_output all _ (keeps_number 64) (λ index. field_output all _ (keeps_number 64) (λ total. then_output all (test_alike all) (λ test. then_output all (retry_alike all) (λ retry_data.
+      output_says all answer_loads (event_with 0) _ answer_reads _ (λ captured answer. refl)))))
+
+  -- a finished test has those of its attempts
+  finish_inline : (stored : List PlacedOutput) (e : TestFinish) → event.TestFinished (record e { attempts = attempts_inline all stored e.attempts }) ≡ event_inline all stored (event.TestFinished e)
+  finish_inline [] e = refl
+  finish_inline (p ∷ ps) e = finish_inline ps (record e { attempts = attempts_with p.place (output_inline all p.output) e.attempts })
+
+  done_spells : ReadsNoted all (event_inline all) done_line_fields
+  done_spells = then_spelled all (test_alike all) (λ test. field_spells all _ keeps_display (λ on_success. field_spells all _ keeps_display (λ on_failure. field_spells all _ keeps_flaky (λ flaky. field_spells all _ keeps_stats (λ stats. field_spells all _ (keeps_number 32) (λ total.
+      spelled_says all (attempts_inline all) (event_inline all) (all_attempts flaky total) (attempts_spelled all bytes flaky total)
+      (λ attempts. event.TestFinished (record { attempts = attempts; current_stats = stats; test = test; success_output = on_success; failure_output = on_failure }))
+      (λ stored attempts. finish_inline stored (record { attempts = attempts; current_stats = stats; test = test; success_output = on_success; failure_output = on_failure }))))))))
+
+  -- the rows of the table of lines
+  only_output : (o : Option StoredOutput) (number : ℕ) (e : SceneEvent) → event_inline all (placed 0 number o) e ≡ with_put all (event_with 0) o e
+  only_output None number e = refl
+  only_output (Some output) number e = refl
+
+  one : {line : Line SceneEvent} (n : ℕ) → ReadsOutput all (event_with 0) line → ReadsNoted all (event_inline all) (exactly n line)
+  one {line} n output = exactly-spells all (event_inline all) line (noted_output all (event_with 0) only_output output) n
+
+  none : {line : Line SceneEvent} (n : ℕ) → ReadsAlike all line → ReadsNoted all (event_inline all) (exactly n line)
+  none {line} n alike = exactly-spells all (event_inline all) line (noted_alike all (λ e. refl) alike) n
+
+  run_rows_spell : AreSpelled all (event_inline all) run_event_rows
+  unfolding run_event_rows
+  run_rows_spell = (
+    none 1 (made_alike all _ (field_alike all _ keeps_progress)),
+    (none 3 (made_alike all _ (cancel_alike all)),
+    (none 3 (made_alike all _ (cancel_alike all)),
+    (none 2 (made_alike all _ (pause_alike all)),
+    (none 2 (made_alike all _ (pause_alike all)),
+    (none 3 (info_alike all),
+    (none 1 (made_alike all _ (field_alike all _ (keeps_number 64))),
+    (none 3 (input_alike all),
+    (none 3 (sub_end_alike all), tt)))))))))
+
+  other_rows_spell : AreSpelled all (event_inline all) other_event_rows
+  unfolding other_event_rows
+  other_rows_spell = (
+    none 2 (prefix_alike all),
+    (none 5 (header_alike all),
+    (none 5 (run_alike all),
+    (none 6 (setup_alike all),
+    (none 6 (setup_slow_alike all),
+    (one 12 setup_done_reads,
+    (one 13 answer_script_reads,
+    (one 14 answer_test_reads,
+    (none 4 (end_alike all),
+    (none 7 (end_stress_alike all), run_rows_spell))))))))))
+
+  rows_spell : AreSpelled all (event_inline all) event_rows
+  unfolding event_rows
+  rows_spell = (
+    with_attempts-spells all (event_inline all) done_line_fields done_spells,
+    (none 5 (start_alike all),
+    (none 6 (retry_start_alike all),
+    (none 7 (slow_alike all),
+    (one 15 retry_reads,
+    (none 3 (made_alike all _ (test_alike all)), other_rows_spell))))))
