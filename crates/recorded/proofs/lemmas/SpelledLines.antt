@@ -1,11 +1,16 @@
 -- A recorded line, spelled out, is read to the event with its outputs in it (`line_law`).
-use Rattle.std.proofs.Common.{◌≡◌, ℕ, Bool, true, false, List, [], ◌∷◌, map, Option, None, Some, Result, Ok, Err, refl, sym, ap, ◌∙◌, bytes_eq, codes, if◌then◌else◌}
+use Rattle.std.proofs.Common.{◌≡◌, ℕ, Bool, true, false, List, [], ◌∷◌, map, Option, None, Some, Result, Ok, Err, refl, sym, ap, ◌∙◌, bytes_eq, codes, if◌then◌else◌, inl, inr}
+use Rattle.std.specs.Result.{result_map_both}
+use Rattle.std.specs.Str.{is_utf8}
+use Rattle.std.proofs.lemmas.Bool.{cases_Bool}
 use Rattle.recorded.proofs.lemmas.KeptFields.{begins, keeps_absent, keeps_config_key, keeps_display, keeps_final_level, keeps_flag, keeps_flaky, keeps_instances, keeps_iteration, keeps_mode, keeps_moment, keeps_nanos, keeps_number, keeps_progress, keeps_reason, keeps_result_or_none, keeps_run_id, keeps_skips, keeps_some_text, keeps_state, keeps_stats, keeps_stress, keeps_text, keeps_words}
 use Rattle.recorded.proofs.lemmas.SpelledAttempts.{attempts_inline, attempts_spelled}
 use Rattle.recorded.proofs.lemmas.SpelledOutputs.{attempt_loads, attempt_reads, output_loads, output_reads}
-use Rattle.recorded.proofs.lemmas.SpelledPlaces.{ReadsAlike, ReadsNoted, ReadsOutput, Refuses, exactly-alike, exactly-spells, field_alike, field_output, field_spells, field_then, if_alike, if_spells, made_alike, next-alike, noted_alike, noted_output, output_says, place_spelled, says-alike, spelled_says, then_alike, then_output, then_spelled, valued-alike, with_attempts-spells, with_put}
+use Rattle.recorded.proofs.lemmas.SpelledPlaces.{ReadsAlike, ReadsNoted, ReadsOutput, Refuses, exactly-alike, exactly-spells, field_alike, field_output, field_spells, field_then, has_first, if_alike, if_spells, made_alike, next-alike, next-spells, noted_alike, noted_output, output_says, place_spelled, refuses_marked, says-alike, spelled_says, then_alike, then_output, then_spelled, valued-alike, with_attempts-spells, with_put}
+use Rattle.recorded.proofs.lemmas.SpelledTexts.{line_fields, line_passed_over, line_utf8, passed_over_line, scene_reads}
 use Rattle.recorded.specs.Events.{event_inline, output_inline}
-use Rattle.recorded.specs.SpelledOut.{AreBytes, line_spelled}
+use Rattle.recorded.specs.Runs.{lines_inline}
+use Rattle.recorded.specs.SpelledOut.{AreBytes, line_spelled, scene_spelled}
 use Rattle.run_model.specs.Attempts.{Attempts}
 use Rattle.run_model.specs.declared.info.UnitState.{UnitState}
 use Rattle.run_model.specs.declared.output.ChildOutputDescription.{ChildOutputDescription}
@@ -20,7 +25,10 @@ use Rattle.scene_events.specs.declared.scene.outputs.SceneOutput.{SceneOutput}
 use Rattle.scene_events.specs.declared.scene.outputs.SceneOutput.TheVariants.{Output, StartError}
 use Rattle.scene_events.specs.declared.scene.unit_events.TestFinish.{TestFinish}
 use Rattle.scene_events.specs.declared.scene.unit_events.UnitAnswer.{UnitAnswer}
-use Rattle.scene_fields.specs.Fields.{◌>>=◌, Line, Place, exactly, field, goes_on, says, valued}
+use Rattle.scene_fields.specs.Fields.{◌>>=◌, Line, Place, exactly, field, goes_on, none_noted, noted_outputs, says, valued}
+use Rattle.scene_fields.specs.Split.{split_on}
+use Rattle.scene_fields.specs.declared.fault.LineFault.{LineFault}
+use Rattle.scene_fields.specs.declared.fault.LineFault.TheVariants.{ConfigAfterEvent, NotUtf8, UnknownEvent}
 use Rattle.scene_fields.specs.References.{reference_in}
 use Rattle.scene_fields.specs.Texts.{text_in}
 use Rattle.scene_fields.specs.Values.{absent_in}
@@ -32,6 +40,7 @@ use Rattle.scene_fields.specs.declared.values.ConfigKey.TheVariants as key
 use Rattle.scene_fields.specs.Stored.{placed}
 use Rattle.scene_text.specs.Parts.{state_with}
 use Rattle.scene_text.specs.EventLines.{all_attempts, answer_fields, answer_script_line_fields, answer_test_line_fields, by_row, cancel_line_fields, config_line_fields, done_line_fields, end_line_fields, end_stress_line_fields, event_line_fields, event_rows, header_line_fields, info_line_fields, input_line_fields, made, not_seen_fields, other_event_rows, output_fields, pause_line_fields, prefix_line_fields, retry_fields, retry_line_fields, retry_numbered, retry_start_line_fields, run_event_rows, run_line_fields, script_fields, set_field, setup_done_line_fields, setup_line_fields, setup_slow_line_fields, slow_line_fields, some_text_in, start_line_fields, state_fields, sub_end_line_fields, test_fields, unique_prefix_fields, unknown}
+use Rattle.scene_text.specs.SceneTexts.{ConfigLine, EventLine, LinesBefore, NoEvent, ParsedLine, ParsedLines, config_words, is_passed_over, line_from, line_place, line_words, lines_read, no_lines, parsed_line, recorded_line, text_lines, with_made, words_behind}
 
 -- lines without outputs
 module _ (all : List ℕ) where
@@ -236,3 +245,90 @@ module _ (all : List ℕ) (bytes : AreBytes all) where
     (none 7 (slow_alike all),
     (one 15 retry_reads,
     (none 3 (made_alike all _ (test_alike all)), other_rows_spell))))))
+
+  fails : {X : Type 0} {put : List PlacedOutput → X → X} (f : LineFault) → ReadsNoted all put (λ p. Err f)
+  fails f = record { reads = λ p x at h. absurd (cc) }
+
+  event_spells : (word : List ℕ) → ReadsNoted all (event_inline all) (event_line_fields word)
+  event_spells word = row_spells all (event_inline all) unknown event_rows word (fails UnknownEvent) rows_spell
+
+  -- whole lines
+  abbrev line_inlined : List PlacedOutput → ParsedLine → ParsedLine
+  line_inlined stored NoEvent = NoEvent
+  line_inlined stored (ConfigLine config) = ConfigLine config
+  line_inlined stored (EventLine e) = EventLine (event_inline all stored e)
+
+  none_inlined : (x : ParsedLine) → line_inlined [] x ≡ x
+  none_inlined NoEvent = refl
+  none_inlined (ConfigLine config) = refl
+  none_inlined (EventLine e) = refl
+
+  with_inlined : (x : ParsedLine) (stored : List PlacedOutput) → with_made (λ ps e. Ok (event_inline all ps e)) (Ok (x, stored)) ≡ Ok (line_inlined stored x)
+  with_inlined NoEvent stored = refl
+  with_inlined (ConfigLine config) stored = refl
+  with_inlined (EventLine e) stored = refl
+
+  if_here : {X : Type 0} {put : List PlacedOutput → X → X} (b : Bool) (line other : Line X) → ReadsNoted all put line → ReadsNoted all put other → ReadsNoted all put (λ p. if b then line p else other p)
+  if_here true line other first second = first
+  if_here false line other first second = second
+
+  config_spells : (before : LinesBefore) → ReadsNoted all line_inlined (config_words before)
+  config_spells before = if_here before.is_begun (λ p. Err ConfigAfterEvent) (made ConfigLine (exactly 2 (config_line_fields before.config))) (fails ConfigAfterEvent)
+      (noted_alike all none_inlined (made_alike all ConfigLine (exactly-alike all (config_line_fields before.config) (config_alike all before.config) 2)))
+
+  words_spell : (before : LinesBefore) (word : List ℕ) → ReadsNoted all line_inlined (words_behind before word)
+  words_spell before word = if_here (bytes_eq word (codes "config")) (config_words before) (made EventLine (event_line_fields word)) (config_spells before)
+      (spelled_says all (event_inline all) line_inlined (event_line_fields word) (event_spells word) EventLine (λ stored e. refl))
+
+  -- no reference is a line's word
+  words_refuse : (before : LinesBefore) → Refuses (words_behind before)
+  unfolding event_rows other_event_rows run_event_rows
+  words_refuse before = refuses_marked (words_behind before) (λ u p x h. absurd (cc))
+
+  line_spells : (before : LinesBefore) → ReadsNoted all line_inlined (line_words before)
+  line_spells before = next-spells all line_inlined (words_behind before) (words_refuse before) (words_spell before)
+
+  module _ (before : LinesBefore) (t : List ℕ) where
+    abbrev place : Place
+    place = line_place (Some none_noted) t
+
+    abbrev spelled : List ℕ
+    spelled = line_spelled all t
+
+    same_place : place_spelled all place ≡ line_place None spelled
+    same_place = ap (λ ts. record { number = 0; left = ts; noted = None }) (sym (line_fields all t))
+
+    words_read : (x : ParsedLine × List PlacedOutput) → is_passed_over t ≡ false → is_utf8 t ≡ true → (r : Result (ParsedLine × Place) LineFault) → line_words before place ≡ r → result_map_both (λ y. (y.0, noted_outputs y.1.noted)) (λ f. f) r ≡ Ok x →
+        parsed_line before spelled ≡ with_made (λ stored e. Ok (event_inline all stored e)) (Ok x)
+    unfolding line_from
+    words_read x passed utf8 (Ok y) is h =
+        let same : (y.0, noted_outputs y.1.noted) ≡ x = cc in
+        let first = has_first (words_behind before) (words_refuse before) 0 (Some none_noted) (split_on 9 t) y is in
+        let not_passed : is_passed_over spelled ≡ false = line_passed_over all t first.first first.more first.is first.no_reference ∙ passed in
+        let text : is_utf8 spelled ≡ true = line_utf8 all t utf8 in
+        let read : line_words before (line_place None spelled) ≡ Ok (line_inlined (noted_outputs y.1.noted) y.0, place_spelled all y.1) = ap (line_words before) (sym same_place) ∙ (line_spells before).reads place y refl is in
+        rw (not_passed, text, read) (sym (with_inlined y.0 (noted_outputs y.1.noted)) ∙ ap (λ z. with_made (λ stored e. Ok (event_inline all stored e)) (Ok z)) same)
+    words_read x passed utf8 (Err f) is h = absurd (cc)
+
+    -- what a recorded line says, with the stored outputs put into its event, is what the line says as it is spelled out
+    pub line_law : (x : ParsedLine × List PlacedOutput) → recorded_line before t ≡ Ok x → parsed_line before spelled ≡ with_made (λ stored e. Ok (event_inline all stored e)) (Ok x)
+    unfolding line_from
+    line_law x h = elim (cases_Bool (is_passed_over t)) [
+      | inl passed ↦ (
+          let says : ◌≡◌ {A = Result (ParsedLine × List PlacedOutput) LineFault} (Ok (NoEvent, [])) (Ok x) = rw passed at h in
+          let same : (NoEvent, []) ≡ x = cc in
+          let over = passed_over_line all t passed in
+          rw over (ap (λ z. with_made (λ stored e. Ok (event_inline all stored e)) (Ok z)) same)
+          )
+      | inr passed ↦ elim (cases_Bool (is_utf8 t)) [
+          | inl utf8 ↦ words_read x passed utf8 (line_words before place) refl (rw (passed, utf8) at h)
+          | inr no_text ↦ (
+              let wrong : ◌≡◌ {A = Result (ParsedLine × List PlacedOutput) LineFault} (Err NotUtf8) (Ok x) = rw (passed, no_text) at h in
+              absurd (cc)
+              )
+        ]
+    ]
+
+-- a recorded run with its outputs put in is read as the text of a scene in which they are spelled out
+pub scene_law : (all text : List ℕ) → AreBytes all → (run : ParsedLines) → lines_read 1 no_lines (lines_inline all text) ≡ Ok run → lines_read 1 no_lines (text_lines (scene_spelled all text)) ≡ Ok run
+scene_law all text bytes run h = scene_reads all (line_law all bytes) text run h
