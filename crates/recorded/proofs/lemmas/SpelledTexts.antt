@@ -11,7 +11,7 @@ use Rattle.recorded.proofs.lemmas.KeptFields.{begins}
 use Rattle.recorded.proofs.lemmas.SpelledBytes.{field_lacks_feed, field_lacks_tab, field_utf8}
 use Rattle.recorded.specs.Events.{event_inline}
 use Rattle.recorded.specs.Runs.{ended_lines, line_inline, lines_inline, without_last}
-use Rattle.recorded.specs.SpelledOut.{field_spelled, line_spelled, scene_spelled, tabbed, text_of_lines}
+use Rattle.recorded.specs.SpelledOut.{AreBytes, field_spelled, line_spelled, scene_spelled, tabbed, text_of_lines}
 use Rattle.scene_fields.proofs.lemmas.Cuts.{split_on-lacks, split_on-parts}
 use Rattle.scene_fields.specs.References.{after_mark, reference_in}
 use Rattle.scene_fields.specs.Split.{Lacks, split_on}
@@ -206,8 +206,12 @@ module _ (all : List ℕ) (line_law : LineLaw all) where
   lines_alike before after [] h = (before, empty_read before, h)
   lines_alike before after (t ∷ ts) h = (h.0, line_alike before h.0 t (recorded_line (lines_before before) t) refl h.1, lines_alike h.0 after ts h.2)
 
-  -- a recorded run with its outputs put in is read as the text of a scene in which they are spelled out
-  pub scene_reads : (text : List ℕ) (run : ParsedLines) → lines_read 1 no_lines (lines_inline all text) ≡ Ok run → lines_read 1 no_lines (text_lines (scene_spelled all text)) ≡ Ok run
-  scene_reads text run h =
+  spelled_reads : (text : List ℕ) (run : ParsedLines) → lines_read 1 no_lines (lines_inline all text) ≡ Ok run → lines_read 1 no_lines (text_lines (scene_spelled all text)) ≡ Ok run
+  spelled_reads text run h =
       let whole = all_tell 1 no_lines (lines_inline all text) run h in
       ap (λ ts. lines_read 1 no_lines (map plain_line ts)) (lines_of_scene all text) ∙ all_told 1 no_lines _ run (lines_alike no_lines run (ended_lines text) whole)
+
+-- a recorded run with its outputs put in is read as the text of a scene in which they are spelled out
+module _ (line_law : (all : List ℕ) → AreBytes all → LineLaw all) where
+  pub scene_reads : (all text : List ℕ) → AreBytes all → (run : ParsedLines) → lines_read 1 no_lines (lines_inline all text) ≡ Ok run → lines_read 1 no_lines (text_lines (scene_spelled all text)) ≡ Ok run
+  scene_reads all text bytes run h = spelled_reads all (line_law all bytes) text run h
