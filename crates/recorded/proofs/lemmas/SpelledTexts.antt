@@ -1,5 +1,5 @@
 -- Lines whose outputs are spelled out, and the text that they make.
-use Rattle.std.proofs.Common.{◌≡◌, ℕ, zero, suc, ◌+◌, ◌<◌, List, [], ◌∷◌, ◌++◌, map, length, true, get_or, take, drop, refl, ap, sym, ◌∙◌, subst, arith, add-one, Option, None, Some, inl, inr, ◌==◌}
+use Rattle.std.proofs.Common.{◌≡◌, ℕ, zero, suc, ◌+◌, ◌<◌, List, [], ◌∷◌, ◌++◌, map, length, true, get_or, take, drop, refl, ap, sym, ◌∙◌, subst, arith, add-one, Option, None, Some, Result, Ok, Err, inl, inr, ◌==◌}
 use Rattle.std.specs.Prelude.{⊤}
 use Rattle.std.specs.List.{onto_first}
 use Rattle.std.specs.Str.{IsAscii, IsUtf8, is_utf8}
@@ -9,13 +9,17 @@ use Rattle.std.proofs.lemmas.List.{length-append, length-map}
 use Rattle.std.proofs.lemmas.Str.{IsCharBoundary-after_ascii, IsCharBoundary-before_ascii, IsUtf8-append, IsUtf8-drop, IsUtf8-from_ascii, IsUtf8-from_is_utf8, IsUtf8-take, is_utf8-from_IsUtf8}
 use Rattle.recorded.proofs.lemmas.KeptFields.{begins}
 use Rattle.recorded.proofs.lemmas.SpelledBytes.{field_lacks_feed, field_lacks_tab, field_utf8}
-use Rattle.recorded.specs.Runs.{ended_lines, without_last}
-use Rattle.recorded.specs.SpelledOut.{field_spelled, line_spelled, scene_spelled, tabbed, text_of_lines}
+use Rattle.recorded.specs.Events.{event_inline}
+use Rattle.recorded.specs.Runs.{ended_lines, line_inline, lines_inline, without_last}
+use Rattle.recorded.specs.SpelledOut.{AreBytes, field_spelled, line_spelled, scene_spelled, tabbed, text_of_lines}
 use Rattle.scene_fields.proofs.lemmas.Cuts.{split_on-lacks, split_on-parts}
 use Rattle.scene_fields.specs.References.{after_mark, reference_in}
 use Rattle.scene_fields.specs.Split.{Lacks, split_on}
+use Rattle.scene_fields.specs.declared.fault.LineFault.{LineFault}
 use Rattle.scene_fields.specs.declared.reference.Reference.{Reference}
-use Rattle.scene_text.specs.SceneTexts.{is_passed_over}
+use Rattle.scene_fields.specs.declared.stored.PlacedOutput.{PlacedOutput}
+use Rattle.scene_text.proofs.lemmas.Tellings.{all_tell, all_told}
+use Rattle.scene_text.specs.SceneTexts.{AllRead, LinesBefore, ParsedLine, ParsedLines, is_passed_over, line_from, line_read, lines_before, lines_read, lines_with, no_lines, parsed_line, plain_line, recorded_line, text_lines, with_made}
 
 -- a byte is in none of these texts
 abbrev pub NoneHas : ℕ → List (List ℕ) → Type 0
@@ -181,3 +185,33 @@ lines_lack_feeds all (t ∷ ts) h = (line_lacks_feed all t h.0, lines_lack_feeds
 
 pub lines_of_scene : (all text : List ℕ) → split_on 10 (scene_spelled all text) ≡ map (line_spelled all) (ended_lines text) ++ [] ∷ []
 lines_of_scene all text = scene_lines (map (line_spelled all) (ended_lines text)) (lines_lack_feeds all (ended_lines text) (ended_lines_lack text))
+
+-- what is read of an empty line, which stands behind the last one
+empty_read : (before : ParsedLines) → line_read before (plain_line []) ≡ Ok before
+unfolding line_read line_from
+empty_read before = refl
+
+-- a line with its outputs put in, and the same line spelled out
+abbrev pub LineLaw : List ℕ → Type 0
+LineLaw all = (before : LinesBefore) (t : List ℕ) (x : ParsedLine × List PlacedOutput) → recorded_line before t ≡ Ok x → parsed_line before (line_spelled all t) ≡ with_made (λ stored e. Ok (event_inline all stored e)) (Ok x)
+
+module _ (all : List ℕ) (line_law : LineLaw all) where
+  line_alike : (before after : ParsedLines) (t : List ℕ) (found : Result (ParsedLine × List PlacedOutput) LineFault) → recorded_line (lines_before before) t ≡ found → line_read before (line_inline all t) ≡ Ok after → line_read before (plain_line (line_spelled all t)) ≡ Ok after
+  unfolding line_read
+  line_alike before after t (Ok x) is h =
+      ap (lines_with before) (line_law (lines_before before) t x is ∙ ap (with_made (λ stored e. Ok (event_inline all stored e))) (sym is)) ∙ h
+  line_alike before after t (Err f) is h = let wrong : ◌≡◌ {A = Result ParsedLines LineFault} (Err f) (Ok after) = rw is at h in absurd (cc)
+
+  lines_alike : (before after : ParsedLines) (ts : List (List ℕ)) → AllRead before (map (line_inline all) ts) after → AllRead before (map plain_line (map (line_spelled all) ts ++ [] ∷ [])) after
+  lines_alike before after [] h = (before, empty_read before, h)
+  lines_alike before after (t ∷ ts) h = (h.0, line_alike before h.0 t (recorded_line (lines_before before) t) refl h.1, lines_alike h.0 after ts h.2)
+
+  spelled_reads : (text : List ℕ) (run : ParsedLines) → lines_read 1 no_lines (lines_inline all text) ≡ Ok run → lines_read 1 no_lines (text_lines (scene_spelled all text)) ≡ Ok run
+  spelled_reads text run h =
+      let whole = all_tell 1 no_lines (lines_inline all text) run h in
+      ap (λ ts. lines_read 1 no_lines (map plain_line ts)) (lines_of_scene all text) ∙ all_told 1 no_lines _ run (lines_alike no_lines run (ended_lines text) whole)
+
+-- a recorded run with its outputs put in is read as the text of a scene in which they are spelled out
+module _ (line_law : (all : List ℕ) → AreBytes all → LineLaw all) where
+  pub scene_reads : (all text : List ℕ) → AreBytes all → (run : ParsedLines) → lines_read 1 no_lines (lines_inline all text) ≡ Ok run → lines_read 1 no_lines (text_lines (scene_spelled all text)) ≡ Ok run
+  scene_reads all text bytes run h = spelled_reads all (line_law all bytes) text run h
