@@ -1,5 +1,5 @@
 -- The attempts of a test, spelled out: each is read with its own output in it.
-use Rattle.std.proofs.Common.{◌≡◌, ℕ, zero, suc, ◌+◌, ◌/◌, ◌^◌, ◌<◌, ◌≤◌, Bool, true, false, ◌==◌, if◌then◌else◌, List, [], ◌∷◌, ◌++◌, length, Option, None, Some, Result, Ok, Err, refl, sym, ap, ◌∙◌, subst, arith, inl, inr}
+use Rattle.std.proofs.Common.{◌≡◌, ℕ, zero, suc, ◌+◌, ◌/◌, ◌^◌, ◌<◌, ◌≤◌, true, false, ◌==◌, List, [], ◌∷◌, ◌++◌, length, Option, None, Some, Result, Ok, Err, refl, sym, ap, ◌∙◌, subst, arith, inl, inr}
 use Rattle.std.specs.Option.{option_map_or}
 use Rattle.std.specs.Prelude.{nat_lt, slice_get, slice_set, ⊤}
 use Rattle.std.proofs.lemmas.Bool.{cases_Bool}
@@ -18,7 +18,6 @@ use Rattle.scene_events.specs.SceneOutputs.{with_output_at}
 use Rattle.scene_fields.specs.Fields.{◌>>=◌, Line, Noted, Place, goes_on, none_noted, noted_outputs}
 use Rattle.scene_fields.specs.Stored.{placed}
 use Rattle.scene_fields.specs.declared.fault.LineFault.{LineFault}
-use Rattle.scene_fields.specs.declared.fault.LineFault.TheVariants.{WrongNumberOfFields}
 use Rattle.scene_fields.specs.declared.stored.PlacedOutput.{PlacedOutput}
 use Rattle.scene_fields.specs.declared.stored.StoredOutput.{StoredOutput}
 use Rattle.scene_text.specs.EventLines.{all_attempts, attempt_fields, attempt_number, attempts_behind, attempts_from, retry_numbered}
@@ -119,6 +118,9 @@ module _ (all : List ℕ) where
   inline_flaky [] a = refl
   inline_flaky (p ∷ ps) a = inline_flaky ps (attempts_with p.place (output_inline all p.output) a) ∙ same_flaky (output_inline all p.output) p.place a
 
+  inline_whole : (ps : List PlacedOutput) (a : TestAttempts) → ◌≡◌ {A = TestAttempts} (record { earlier = (attempts_inline all ps a).earlier; last = (attempts_inline all ps a).last; flaky_result = a.flaky_result }) (attempts_inline all ps a)
+  inline_whole ps a = ap (λ f. record { earlier = (attempts_inline all ps a).earlier; last = (attempts_inline all ps a).last; flaky_result = f }) (sym (inline_flaky ps a))
+
   -- one more attempt behind those whose outputs are put in
   inline_more : (ps : List PlacedOutput) (a : TestAttempts) (next : Attempt) → AreWithin (length a.earlier) ps → attempts_inline all ps (attempts_more a next) ≡ attempts_more (attempts_inline all ps a) next
   inline_more [] a next h = refl
@@ -128,12 +130,12 @@ module _ (all : List ℕ) where
       ∙ inline_more ps (attempts_with p.place captured a) next (subst (λ n. AreWithin n ps) (sym (as_many_earlier captured p.place a)) h.1)
 
   -- and then its own output
-  is_place : (place n : ℕ) → place ≡ n → (place == n) ≡ true
-  is_place place n h = grind (arith, nat_tests)
+  is_its_place : (place n : ℕ) → place ≡ n → (place == n) ≡ true
+  is_its_place place n h = grind (arith, nat_tests)
 
   inline_last : (place field : ℕ) (a : TestAttempts) (next : Attempt) (o : Option StoredOutput) → place ≡ length a.earlier + 1 → attempts_inline all (placed place field o) (attempts_more a next) ≡ attempts_more a (with_put all attempt_loads o next)
   inline_last place field a next None h = refl
-  inline_last place field a next (Some output) h = rw (is_place place (length (a.earlier ++ a.last ∷ [])) (h ∙ sym (length-append a.earlier (a.last ∷ [])))) refl
+  inline_last place field a next (Some output) h = rw (is_its_place place (length (a.earlier ++ a.last ∷ [])) (h ∙ sym (length-append a.earlier (a.last ∷ [])))) refl
 
   -- the notes of these attempts
   record AreNoted (n : Noted) (earlier : List Attempt) : Type 0 where
@@ -151,8 +153,8 @@ module _ (all : List ℕ) where
 
     -- one attempt more
     module _ (more : ℕ) (others : GoesOn more) (number : ℕ) (earlier : List Attempt) (last : Attempt) (n : Noted) (are : AreNoted n earlier) (p : Place) (x : TestAttempts × Place) (at : p.noted ≡ Some n) where
-      abbrev put_in : TestAttempts
-      put_in = attempts_inline all n.stored (so_far earlier last)
+      abbrev with_outputs : TestAttempts
+      with_outputs = attempts_inline all n.stored (so_far earlier last)
 
       more_noted : (field : ℕ) (o : Option StoredOutput) → AreNoted (record { outputs = n.outputs + 1; stored = n.stored ++ placed n.outputs field o }) (earlier ++ last ∷ [])
       more_noted field o =
@@ -165,36 +167,42 @@ module _ (all : List ℕ) where
                 (within_append (length earlier + 1) n.stored (placed n.outputs field o) (within_more (length earlier) n.stored are.within) (within_placed (length earlier + 1) n.outputs field o (omega (arith, outputs))));
           }
 
-      more_put : (field : ℕ) (o : Option StoredOutput) (next : Attempt) → attempts_inline all (n.stored ++ placed n.outputs field o) (so_far (earlier ++ last ∷ []) next) ≡ attempts_more put_in (with_put all attempt_loads o next)
+      more_put : (field : ℕ) (o : Option StoredOutput) (next : Attempt) → attempts_inline all (n.stored ++ placed n.outputs field o) (so_far (earlier ++ last ∷ []) next) ≡ attempts_more with_outputs (with_put all attempt_loads o next)
       more_put field o next =
           let size = inline_as_many n.stored (so_far earlier last) in
           let outputs = are.outputs in
           inline_append n.stored (placed n.outputs field o) (attempts_more (so_far earlier last) next)
           ∙ ap (attempts_inline all (placed n.outputs field o)) (inline_more n.stored (so_far earlier last) next are.within)
-          ∙ inline_last n.outputs field put_in next o (omega (arith, size, outputs))
+          ∙ inline_last n.outputs field with_outputs next o (omega (arith, size, outputs))
 
-      one_more : (r : Result (Attempt × Place) LineFault) → attempt_fields (retry_numbered total number) p ≡ r → goes_on (λ next. attempts_from flaky total (number + 1) more (earlier ++ last ∷ []) next) r ≡ Ok x →
-          goes_on (λ next. attempts_from flaky total (number + 1) more (put_in.earlier ++ put_in.last ∷ []) next) (attempt_fields (retry_numbered total number) (place_spelled all p)) ≡ Ok (attempts_inline all (noted_outputs x.1.noted) x.0, place_spelled all x.1)
-      one_more (Ok a) is h =
+      attempt_more_read : (r : Result (Attempt × Place) LineFault) → attempt_fields (retry_numbered total number) p ≡ r → goes_on (λ next. attempts_from flaky total (number + 1) more (earlier ++ last ∷ []) next) r ≡ Ok x →
+          goes_on (λ next. attempts_from flaky total (number + 1) more (with_outputs.earlier ++ with_outputs.last ∷ []) next) (attempt_fields (retry_numbered total number) (place_spelled all p)) ≡ Ok (attempts_inline all (noted_outputs x.1.noted) x.0, place_spelled all x.1)
+      attempt_more_read (Ok a) is h =
           let read = (attempt_reads all bytes (retry_numbered total number)).each n p a at is in
           let behind = others (number + 1) (earlier ++ last ∷ []) a.0 (record { outputs = n.outputs + 1; stored = n.stored ++ placed n.outputs read.number read.output }) (more_noted read.number read.output) a.1 x read.noted h in
-          ap (goes_on (λ next. attempts_from flaky total (number + 1) more (put_in.earlier ++ put_in.last ∷ []) next)) read.reads
+          ap (goes_on (λ next. attempts_from flaky total (number + 1) more (with_outputs.earlier ++ with_outputs.last ∷ []) next)) read.reads
           ∙ ap (λ (b : TestAttempts). attempts_from flaky total (number + 1) more b.earlier b.last (place_spelled all a.1)) (sym (more_put read.number read.output a.0)) ∙ behind
-      one_more (Err f) is h = absurd (cc)
+      attempt_more_read (Err f) is h = absurd (cc)
+
+    -- no attempt more
+    ended : (n : Noted) (earlier : List Attempt) (last : Attempt) (p : Place) (x : TestAttempts × Place) → p.noted ≡ Some n → (so_far earlier last, p) ≡ x →
+        ◌≡◌ {A = Result (TestAttempts × Place) LineFault} (Ok (so_far (attempts_inline all n.stored (so_far earlier last)).earlier (attempts_inline all n.stored (so_far earlier last)).last, place_spelled all p)) (Ok (attempts_inline all (noted_outputs x.1.noted) x.0, place_spelled all x.1))
+    ended n earlier last p x at same =
+        let notes : n.stored ≡ noted_outputs x.1.noted = sym (ap noted_outputs at) ∙ ap (λ (z : TestAttempts × Place). noted_outputs z.1.noted) same in
+        let read : so_far earlier last ≡ x.0 = ap (λ (z : TestAttempts × Place). z.0) same in
+        let left : place_spelled all p ≡ place_spelled all x.1 = ap (λ (z : TestAttempts × Place). place_spelled all z.1) same in
+        rw (inline_whole n.stored (so_far earlier last), notes, read, left) refl
 
     goes_on_to : (more : ℕ) → GoesOn more
     unfolding attempts_from
     goes_on_to zero number earlier last n are p x at h =
         let same : (so_far earlier last, p) ≡ x = cc in
-        let put_in = attempts_inline all n.stored (so_far earlier last) in
-        let whole : so_far put_in.earlier put_in.last ≡ put_in = ap (λ f. record { earlier = put_in.earlier; last = put_in.last; flaky_result = f }) (sym (inline_flaky n.stored (so_far earlier last))) in
-        ap (λ (a : TestAttempts). Ok (a, place_spelled all p)) (whole ∙ ap (λ o. attempts_inline all (noted_outputs o) (so_far earlier last)) (sym at))
-        ∙ ap (λ (z : TestAttempts × Place). Ok (attempts_inline all (noted_outputs z.1.noted) z.0, place_spelled all z.1)) same
+        ended n earlier last p x at same
     goes_on_to (suc more) number earlier last n are p x at h =
-        let put_in = attempts_inline all n.stored (so_far earlier last) in
+        let with_outputs = attempts_inline all n.stored (so_far earlier last) in
         let good = number_good number (λ attempt. attempt_fields (retry_numbered total attempt) >>= (λ next. attempts_from flaky total (number + 1) more (earlier ++ last ∷ []) next))
-            (λ attempt. attempt_fields (retry_numbered total attempt) >>= (λ next. attempts_from flaky total (number + 1) more (put_in.earlier ++ put_in.last ∷ []) next)) p (place_spelled all p) x h in
-        good.1 ∙ one_more more (goes_on_to more) number earlier last n are p x at (attempt_fields (retry_numbered total number) p) refl good.0
+        (λ attempt. attempt_fields (retry_numbered total attempt) >>= (λ next. attempts_from flaky total (number + 1) more (with_outputs.earlier ++ with_outputs.last ∷ []) next)) p (place_spelled all p) x h in
+        good.1 ∙ attempt_more_read more (goes_on_to more) number earlier last n are p x at (attempt_fields (retry_numbered total number) p) refl good.0
 
     -- the first attempt
     first_put : (field : ℕ) (o : Option StoredOutput) (first : Attempt) → attempts_inline all (placed 0 field o) (so_far [] first) ≡ so_far [] (with_put all attempt_loads o first)

@@ -1,17 +1,16 @@
 -- A recorded line, spelled out, is read to the event with its outputs in it (`line_law`).
-use Rattle.std.proofs.Common.{◌≡◌, ℕ, Bool, true, false, List, [], ◌∷◌, map, Option, None, Some, Result, Ok, Err, refl, sym, ap, ◌∙◌, bytes_eq, codes, if◌then◌else◌, inl, inr}
+use Rattle.std.proofs.Common.{◌≡◌, ℕ, Bool, true, false, List, [], ◌∷◌, Option, None, Some, Result, Ok, Err, refl, sym, ap, ◌∙◌, bytes_eq, codes, if◌then◌else◌, inl, inr}
 use Rattle.std.specs.Result.{result_map_both}
 use Rattle.std.specs.Str.{is_utf8}
 use Rattle.std.proofs.lemmas.Bool.{cases_Bool}
 use Rattle.recorded.proofs.lemmas.KeptFields.{begins, keeps_absent, keeps_config_key, keeps_display, keeps_final_level, keeps_flag, keeps_flaky, keeps_instances, keeps_iteration, keeps_mode, keeps_moment, keeps_nanos, keeps_number, keeps_progress, keeps_reason, keeps_result_or_none, keeps_run_id, keeps_skips, keeps_some_text, keeps_state, keeps_stats, keeps_stress, keeps_text, keeps_words}
 use Rattle.recorded.proofs.lemmas.SpelledAttempts.{attempts_inline, attempts_spelled}
 use Rattle.recorded.proofs.lemmas.SpelledOutputs.{attempt_loads, attempt_reads, output_loads, output_reads}
-use Rattle.recorded.proofs.lemmas.SpelledPlaces.{ReadsAlike, ReadsNoted, ReadsOutput, Refuses, exactly-alike, exactly-spells, field_alike, field_output, field_spells, field_then, has_first, if_alike, if_spells, made_alike, next-alike, next-spells, noted_alike, noted_output, output_says, place_spelled, refuses_marked, says-alike, spelled_says, then_alike, then_output, then_spelled, valued-alike, with_attempts-spells, with_put}
+use Rattle.recorded.proofs.lemmas.SpelledPlaces.{ReadsAlike, ReadsNoted, ReadsOutput, RefusesMarks, exactly-alike, exactly-spells, field_alike, field_output, field_spells, field_then, has_first, if_alike, if_spells, made_alike, next-alike, next-spells, noted_alike, noted_output, output_says, place_spelled, refuses_by_mark, says-alike, spelled_says, then_alike, then_output, then_spelled, valued-alike, with_attempts-spells, with_put}
 use Rattle.recorded.proofs.lemmas.SpelledTexts.{line_fields, line_passed_over, line_utf8, passed_over_line, scene_reads}
 use Rattle.recorded.specs.Events.{event_inline, output_inline}
 use Rattle.recorded.specs.Runs.{lines_inline}
 use Rattle.recorded.specs.SpelledOut.{AreBytes, line_spelled, scene_spelled}
-use Rattle.run_model.specs.Attempts.{Attempts}
 use Rattle.run_model.specs.declared.info.UnitState.{UnitState}
 use Rattle.run_model.specs.declared.output.ChildOutputDescription.{ChildOutputDescription}
 use Rattle.run_model.specs.declared.status.ExecutionResultDescription.{ExecutionResultDescription}
@@ -117,7 +116,7 @@ module _ (all : List ℕ) where
   prefix_refuses t r is None there p x h = absurd (cc)
   prefix_refuses t r is (Some prefix) there p x h = (let none = keeps_text t prefix there in cc)
 
-  unique_prefix_refuses : Refuses unique_prefix_behind
+  unique_prefix_refuses : RefusesMarks unique_prefix_behind
   unique_prefix_refuses t r is p x h =
       let no_dash : bytes_eq t (codes "-") ≡ false = ap (λ u. bytes_eq u (codes "-")) (begins t r is) in
       prefix_refuses t r is (text_in t) refl p x (rw no_dash at h)
@@ -163,6 +162,11 @@ abbrev AreSpelled : {X : Type 0} → List ℕ → (List PlacedOutput → X → X
 AreSpelled all put [] = Unit {0}
 AreSpelled all put (row ∷ rows) = ReadsNoted all put row.1 × AreSpelled all put rows
 
+-- what holds of a line and of those behind it
+infixr 10 ◌&&&◌
+◌&&&◌ : {A B : Type 0} → A → B → A × B
+a &&& b = (a, b)
+
 row_spells : {X : Type 0} (all : List ℕ) (put : List PlacedOutput → X → X) (otherwise : Line X) (rows : List (List ℕ × Line X)) (word : List ℕ) → ReadsNoted all put otherwise → AreSpelled all put rows → ReadsNoted all put (by_row otherwise rows word)
 row_spells all put otherwise [] word none are = none
 row_spells all put otherwise (row ∷ rows) word none are = if_spells all (bytes_eq word row.0) row.1 (by_row otherwise rows word) are.0 (row_spells all put otherwise rows word none are.1)
@@ -203,54 +207,57 @@ module _ (all : List ℕ) (bytes : AreBytes all) where
   only_output None number e = refl
   only_output (Some output) number e = refl
 
-  one : {line : Line SceneEvent} (n : ℕ) → ReadsOutput all (event_with 0) line → ReadsNoted all (event_inline all) (exactly n line)
-  one {line} n output = exactly-spells all (event_inline all) line (noted_output all (event_with 0) only_output output) n
+  exactly_one : {line : Line SceneEvent} (n : ℕ) → ReadsOutput all (event_with 0) line → ReadsNoted all (event_inline all) (exactly n line)
+  exactly_one {line} n output = exactly-spells all (event_inline all) line (noted_output all (event_with 0) only_output output) n
 
-  none : {line : Line SceneEvent} (n : ℕ) → ReadsAlike all line → ReadsNoted all (event_inline all) (exactly n line)
-  none {line} n alike = exactly-spells all (event_inline all) line (noted_alike all (λ e. refl) alike) n
+  exactly_none : {line : Line SceneEvent} (n : ℕ) → ReadsAlike all line → ReadsNoted all (event_inline all) (exactly n line)
+  exactly_none {line} n alike = exactly-spells all (event_inline all) line (noted_alike all (λ e. refl) alike) n
 
   run_rows_spell : AreSpelled all (event_inline all) run_event_rows
   unfolding run_event_rows
-  run_rows_spell = (
-    none 1 (made_alike all _ (field_alike all _ keeps_progress)),
-    (none 3 (made_alike all _ (cancel_alike all)),
-    (none 3 (made_alike all _ (cancel_alike all)),
-    (none 2 (made_alike all _ (pause_alike all)),
-    (none 2 (made_alike all _ (pause_alike all)),
-    (none 3 (info_alike all),
-    (none 1 (made_alike all _ (field_alike all _ (keeps_number 64))),
-    (none 3 (input_alike all),
-    (none 3 (sub_end_alike all), tt)))))))))
+  run_rows_spell =
+      exactly_none 1 (made_alike all _ (field_alike all _ keeps_progress))
+      &&& exactly_none 3 (made_alike all _ (cancel_alike all))
+      &&& exactly_none 3 (made_alike all _ (cancel_alike all))
+      &&& exactly_none 2 (made_alike all _ (pause_alike all))
+      &&& exactly_none 2 (made_alike all _ (pause_alike all))
+      &&& exactly_none 3 (info_alike all)
+      &&& exactly_none 1 (made_alike all _ (field_alike all _ (keeps_number 64)))
+      &&& exactly_none 3 (input_alike all)
+      &&& exactly_none 3 (sub_end_alike all)
+      &&& tt
 
   other_rows_spell : AreSpelled all (event_inline all) other_event_rows
   unfolding other_event_rows
-  other_rows_spell = (
-    none 2 (prefix_alike all),
-    (none 5 (header_alike all),
-    (none 5 (run_alike all),
-    (none 6 (setup_alike all),
-    (none 6 (setup_slow_alike all),
-    (one 12 setup_done_reads,
-    (one 13 answer_script_reads,
-    (one 14 answer_test_reads,
-    (none 4 (end_alike all),
-    (none 7 (end_stress_alike all), run_rows_spell))))))))))
+  other_rows_spell =
+      exactly_none 2 (prefix_alike all)
+      &&& exactly_none 5 (header_alike all)
+      &&& exactly_none 5 (run_alike all)
+      &&& exactly_none 6 (setup_alike all)
+      &&& exactly_none 6 (setup_slow_alike all)
+      &&& exactly_one 12 setup_done_reads
+      &&& exactly_one 13 answer_script_reads
+      &&& exactly_one 14 answer_test_reads
+      &&& exactly_none 4 (end_alike all)
+      &&& exactly_none 7 (end_stress_alike all)
+      &&& run_rows_spell
 
   rows_spell : AreSpelled all (event_inline all) event_rows
   unfolding event_rows
-  rows_spell = (
-    with_attempts-spells all (event_inline all) done_line_fields done_spells,
-    (none 5 (start_alike all),
-    (none 6 (retry_start_alike all),
-    (none 7 (slow_alike all),
-    (one 15 retry_reads,
-    (none 3 (made_alike all _ (test_alike all)), other_rows_spell))))))
+  rows_spell =
+      with_attempts-spells all (event_inline all) done_line_fields done_spells
+      &&& exactly_none 5 (start_alike all)
+      &&& exactly_none 6 (retry_start_alike all)
+      &&& exactly_none 7 (slow_alike all)
+      &&& exactly_one 15 retry_reads
+      &&& exactly_none 3 (made_alike all _ (test_alike all))
+      &&& other_rows_spell
 
-  fails : {X : Type 0} {put : List PlacedOutput → X → X} (f : LineFault) → ReadsNoted all put (λ p. Err f)
-  fails f = record { reads = λ p x at h. absurd (cc) }
+  fails_spelled : {X : Type 0} {put : List PlacedOutput → X → X} (f : LineFault) → ReadsNoted all put (λ p. Err f)
+  fails_spelled f = record { reads = λ p x at h. absurd (cc) }
 
   event_spells : (word : List ℕ) → ReadsNoted all (event_inline all) (event_line_fields word)
-  event_spells word = row_spells all (event_inline all) unknown event_rows word (fails UnknownEvent) rows_spell
+  event_spells word = row_spells all (event_inline all) unknown event_rows word (fails_spelled UnknownEvent) rows_spell
 
   -- whole lines
   abbrev line_inlined : List PlacedOutput → ParsedLine → ParsedLine
@@ -273,7 +280,7 @@ module _ (all : List ℕ) (bytes : AreBytes all) where
   if_here false line other first second = second
 
   config_spells : (before : LinesBefore) → ReadsNoted all line_inlined (config_words before)
-  config_spells before = if_here before.is_begun (λ p. Err ConfigAfterEvent) (made ConfigLine (exactly 2 (config_line_fields before.config))) (fails ConfigAfterEvent)
+  config_spells before = if_here before.is_begun (λ p. Err ConfigAfterEvent) (made ConfigLine (exactly 2 (config_line_fields before.config))) (fails_spelled ConfigAfterEvent)
       (noted_alike all none_inlined (made_alike all ConfigLine (exactly-alike all (config_line_fields before.config) (config_alike all before.config) 2)))
 
   words_spell : (before : LinesBefore) (word : List ℕ) → ReadsNoted all line_inlined (words_behind before word)
@@ -281,37 +288,37 @@ module _ (all : List ℕ) (bytes : AreBytes all) where
       (spelled_says all (event_inline all) line_inlined (event_line_fields word) (event_spells word) EventLine (λ stored e. refl))
 
   -- no reference is a line's word
-  words_refuse : (before : LinesBefore) → Refuses (words_behind before)
+  words_refuse : (before : LinesBefore) → RefusesMarks (words_behind before)
   unfolding event_rows other_event_rows run_event_rows
-  words_refuse before = refuses_marked (words_behind before) (λ u p x h. absurd (cc))
+  words_refuse before = refuses_by_mark (words_behind before) (λ u p x h. absurd (cc))
 
   line_spells : (before : LinesBefore) → ReadsNoted all line_inlined (line_words before)
   line_spells before = next-spells all line_inlined (words_behind before) (words_refuse before) (words_spell before)
 
   module _ (before : LinesBefore) (t : List ℕ) where
-    abbrev place : Place
-    place = line_place (Some none_noted) t
+    abbrev recorded_place : Place
+    recorded_place = line_place (Some none_noted) t
 
-    abbrev spelled : List ℕ
-    spelled = line_spelled all t
+    abbrev spelled_line : List ℕ
+    spelled_line = line_spelled all t
 
-    same_place : place_spelled all place ≡ line_place None spelled
+    same_place : place_spelled all recorded_place ≡ line_place None spelled_line
     same_place = ap (λ ts. record { number = 0; left = ts; noted = None }) (sym (line_fields all t))
 
-    words_read : (x : ParsedLine × List PlacedOutput) → is_passed_over t ≡ false → is_utf8 t ≡ true → (r : Result (ParsedLine × Place) LineFault) → line_words before place ≡ r → result_map_both (λ y. (y.0, noted_outputs y.1.noted)) (λ f. f) r ≡ Ok x →
-        parsed_line before spelled ≡ with_made (λ stored e. Ok (event_inline all stored e)) (Ok x)
+    words_read : (x : ParsedLine × List PlacedOutput) → is_passed_over t ≡ false → is_utf8 t ≡ true → (r : Result (ParsedLine × Place) LineFault) → line_words before recorded_place ≡ r → result_map_both (λ y. (y.0, noted_outputs y.1.noted)) (λ f. f) r ≡ Ok x →
+        parsed_line before spelled_line ≡ with_made (λ stored e. Ok (event_inline all stored e)) (Ok x)
     unfolding line_from
     words_read x passed utf8 (Ok y) is h =
         let same : (y.0, noted_outputs y.1.noted) ≡ x = cc in
         let first = has_first (words_behind before) (words_refuse before) 0 (Some none_noted) (split_on 9 t) y is in
-        let not_passed : is_passed_over spelled ≡ false = line_passed_over all t first.first first.more first.is first.no_reference ∙ passed in
-        let text : is_utf8 spelled ≡ true = line_utf8 all t utf8 in
-        let read : line_words before (line_place None spelled) ≡ Ok (line_inlined (noted_outputs y.1.noted) y.0, place_spelled all y.1) = ap (line_words before) (sym same_place) ∙ (line_spells before).reads place y refl is in
+        let not_passed : is_passed_over spelled_line ≡ false = line_passed_over all t first.first first.more first.is first.no_reference ∙ passed in
+        let text : is_utf8 spelled_line ≡ true = line_utf8 all t utf8 in
+        let read : line_words before (line_place None spelled_line) ≡ Ok (line_inlined (noted_outputs y.1.noted) y.0, place_spelled all y.1) = ap (line_words before) (sym same_place) ∙ (line_spells before).reads recorded_place y refl is in
         rw (not_passed, text, read) (sym (with_inlined y.0 (noted_outputs y.1.noted)) ∙ ap (λ z. with_made (λ stored e. Ok (event_inline all stored e)) (Ok z)) same)
     words_read x passed utf8 (Err f) is h = absurd (cc)
 
     -- what a recorded line says, with the stored outputs put into its event, is what the line says as it is spelled out
-    pub line_law : (x : ParsedLine × List PlacedOutput) → recorded_line before t ≡ Ok x → parsed_line before spelled ≡ with_made (λ stored e. Ok (event_inline all stored e)) (Ok x)
+    pub line_law : (x : ParsedLine × List PlacedOutput) → recorded_line before t ≡ Ok x → parsed_line before (line_spelled all t) ≡ with_made (λ stored e. Ok (event_inline all stored e)) (Ok x)
     unfolding line_from
     line_law x h = elim (cases_Bool (is_passed_over t)) [
       | inl passed ↦ (
@@ -321,14 +328,14 @@ module _ (all : List ℕ) (bytes : AreBytes all) where
           rw over (ap (λ z. with_made (λ stored e. Ok (event_inline all stored e)) (Ok z)) same)
           )
       | inr passed ↦ elim (cases_Bool (is_utf8 t)) [
-          | inl utf8 ↦ words_read x passed utf8 (line_words before place) refl (rw (passed, utf8) at h)
-          | inr no_text ↦ (
-              let wrong : ◌≡◌ {A = Result (ParsedLine × List PlacedOutput) LineFault} (Err NotUtf8) (Ok x) = rw (passed, no_text) at h in
-              absurd (cc)
-              )
-        ]
+        | inl utf8 ↦ words_read x passed utf8 (line_words before recorded_place) refl (rw (passed, utf8) at h)
+        | inr no_text ↦ (
+            let wrong : ◌≡◌ {A = Result (ParsedLine × List PlacedOutput) LineFault} (Err NotUtf8) (Ok x) = rw (passed, no_text) at h in
+            absurd (cc)
+            )
+      ]
     ]
 
 -- a recorded run with its outputs put in is read as the text of a scene in which they are spelled out
 pub scene_law : (all text : List ℕ) → AreBytes all → (run : ParsedLines) → lines_read 1 no_lines (lines_inline all text) ≡ Ok run → lines_read 1 no_lines (text_lines (scene_spelled all text)) ≡ Ok run
-scene_law all text bytes run h = scene_reads all (line_law all bytes) text run h
+scene_law = scene_reads line_law

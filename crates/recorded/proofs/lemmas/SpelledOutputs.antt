@@ -1,11 +1,11 @@
 -- The fields of an output, spelled out.
-use Rattle.std.proofs.Common.{◌≡◌, ℕ, ◌+◌, Bool, true, false, List, [], ◌∷◌, map, Option, None, Some, Result, Ok, Err, refl, sym, ap, ◌∙◌, bytes_eq, codes, ◌||◌, ◌&&◌, if◌then◌else◌, subst, drop, take, inl, inr}
+use Rattle.std.proofs.Common.{◌≡◌, ℕ, ◌+◌, Bool, true, false, List, [], ◌∷◌, map, Option, None, Some, Result, Ok, Err, refl, sym, ap, ◌∙◌, bytes_eq, codes, ◌||◌, ◌&&◌, if◌then◌else◌, subst, take, inl, inr}
 use Rattle.std.specs.Option.{option_map}
 use Rattle.std.proofs.lemmas.Bool.{cases_Bool, false≢true}
 use Rattle.std.proofs.lemmas.Slice.Eq.{bytes_eq-Decides}
 use Rattle.recorded.proofs.lemmas.KeptFields.{begins, kept, keeps_absent, keeps_bytes, keeps_chain, keeps_errors, keeps_flag, keeps_nanos, keeps_result, keeps_highlight, keeps_stream}
 use Rattle.recorded.proofs.lemmas.SpelledBytes.{bytes_at_bytes, bytes_read_back, stream_read_back}
-use Rattle.recorded.proofs.lemmas.SpelledPlaces.{OutputRead, ReadsAlike, ReadsOutput, field_alike, if_alike, next-alike, output_says, place_spelled, refuses_marked, says-alike, then_alike, then_output, valued-alike}
+use Rattle.recorded.proofs.lemmas.SpelledPlaces.{OutputRead, ReadsAlike, ReadsOutput, field_output, field_then, if_alike, next-alike, output_says, place_spelled, refuses_by_mark, says-alike, valued-alike}
 use Rattle.recorded.specs.Events.{output_inline, stream_inline}
 use Rattle.recorded.specs.Outputs.{bytes_at}
 use Rattle.recorded.specs.SpelledOut.{AreBytes, field_spelled}
@@ -21,13 +21,11 @@ use Rattle.scene_events.specs.SceneOutputs.{loaded, written}
 use Rattle.scene_events.specs.declared.scene.outputs.SceneOutput.{SceneOutput}
 use Rattle.scene_events.specs.declared.scene.outputs.SceneOutput.TheVariants.{Output, StartError}
 use Rattle.scene_fields.specs.Fields.{◌>>=◌, Line, Noted, Place, field, goes_on, says, stored_first, valued, with_noted}
-use Rattle.scene_fields.specs.Lists.{chain_in, errors_in}
-use Rattle.scene_fields.specs.Numbers.{nanos_in}
+use Rattle.scene_fields.specs.Lists.{errors_in}
 use Rattle.scene_fields.specs.References.{reference_in}
-use Rattle.scene_fields.specs.Results.{result_in}
-use Rattle.scene_fields.specs.Stored.{is_reference, stored_output_in, stored_split, stored_stream_in}
+use Rattle.scene_fields.specs.Stored.{is_reference, stored_split, stored_stream_in}
 use Rattle.scene_fields.specs.Texts.{bytes_in, unescaped_after}
-use Rattle.scene_fields.specs.Values.{absent_in, flag_in}
+use Rattle.scene_fields.specs.Values.{absent_in}
 use Rattle.scene_fields.specs.declared.fault.LineFault.{LineFault}
 use Rattle.scene_fields.specs.declared.reference.Reference.{Reference}
 use Rattle.scene_fields.specs.declared.stored.StoredOutput.{StoredOutput}
@@ -88,24 +86,23 @@ attempt_made retry_data result time_taken is_slow output = record { retry_data =
 module _ (all : List ℕ) where
   after_alike : (output : ChildOutputDescription) → ReadsAlike all (after_streams output)
   unfolding after_streams
-  after_alike output = then_alike all (field_alike all errors_in keeps_errors) (λ errors. then_alike all (field_alike all highlight_in keeps_highlight) (λ highlight. says-alike all (Output output errors highlight)))
+  after_alike output = field_then all _ keeps_errors (λ errors. field_then all _ keeps_highlight (λ highlight. says-alike all _))
 
   split_alike : ReadsAlike all split_fields
-  split_alike = then_alike all (field_alike all stream_in keeps_stream) (λ stdout. then_alike all (field_alike all stream_in keeps_stream) (λ stderr. after_alike (streams.Split stdout stderr)))
+  split_alike = field_then all _ keeps_stream (λ stdout. field_then all _ keeps_stream (λ stderr. after_alike (streams.Split stdout stderr)))
 
   combined_alike : ReadsAlike all combined_fields
-  combined_alike = then_alike all (field_alike all bytes_in keeps_bytes) (λ output. then_alike all (field_alike all absent_in keeps_absent) (λ none. after_alike (streams.Combined output)))
+  combined_alike = field_then all _ keeps_bytes (λ output. field_then all _ keeps_absent (λ none. after_alike (streams.Combined output)))
 
   unloaded_alike : ReadsAlike all unloaded_fields
-  unloaded_alike = then_alike all (field_alike all absent_in keeps_absent) (λ first. then_alike all (field_alike all absent_in keeps_absent) (λ second. after_alike streams.NotLoaded))
+  unloaded_alike = field_then all _ keeps_absent (λ first. field_then all _ keeps_absent (λ second. after_alike streams.NotLoaded))
 
   start_error_alike : ReadsAlike all start_error_fields
-  start_error_alike = then_alike all (field_alike all chain_in keeps_chain) (λ error. then_alike all (field_alike all absent_in keeps_absent) (λ second.
-      then_alike all (field_alike all absent_in keeps_absent) (λ errors. then_alike all (field_alike all absent_in keeps_absent) (λ highlight. says-alike all (StartError error)))))
+  start_error_alike = field_then all _ keeps_chain (λ error. field_then all _ keeps_absent (λ second. field_then all _ keeps_absent (λ errors. field_then all _ keeps_absent (λ highlight. says-alike all _))))
 
   spelled_alike : ReadsAlike all spelled_output_fields
   unfolding spelled_output_fields
-  spelled_alike = next-alike all (by_row (valued None) output_rows) (refuses_marked (by_row (valued None) output_rows) (λ u p x h. absurd (cc)))
+  spelled_alike = next-alike all (by_row (valued None) output_rows) (refuses_by_mark (by_row (valued None) output_rows) (λ u p x h. absurd (cc)))
       (λ form. by_row-alike all (valued None) output_rows form (valued-alike all None) (split_alike, (combined_alike, (unloaded_alike, (start_error_alike, tt)))))
 
   -- what is stored
@@ -129,13 +126,13 @@ module _ (all : List ℕ) where
           stream_kept t stream (ap stream_in at ∙ ap (λ s. Some (stream_inline all s)) same)
           )
       | inr n ↦ elim (cases_Bool (bytes_eq t (codes "-"))) [
-          | inl y ↦ (
-              let is : Some NotCaptured ≡ Some stream = rw (n, y) at h in
-              let same : NotCaptured ≡ stream = cc in
-              stream_kept t stream (rw y (ap (λ s. Some (stream_inline all s)) same))
-              )
-          | inr m ↦ stream_is t stream (reference_in t) refl (rw (n, m) at h)
-        ]
+        | inl y ↦ (
+            let is : Some NotCaptured ≡ Some stream = rw (n, y) at h in
+            let same : NotCaptured ≡ stream = cc in
+            stream_kept t stream (rw y (ap (λ s. Some (stream_inline all s)) same))
+            )
+        | inr m ↦ stream_is t stream (reference_in t) refl (rw (n, m) at h)
+      ]
     ]
 
     -- the output as it is spelled out, with what follows its streams
@@ -194,11 +191,10 @@ module _ (all : List ℕ) where
     stored_read n number output (form ∷ []) x is h = absurd (cc)
     stored_read n number output (form ∷ first ∷ []) x is h = absurd (cc)
     stored_read n number output (form ∷ first ∷ second ∷ fields) x is h =
-        let behind : Place = record { number = number + 1 + 1 + 1; left = fields; noted = with_noted (Some output) (number + 2) (Some n) } in
-        (
+        let behind : Place = record { number = number + 1 + 1 + 1; left = fields; noted = with_noted (Some output) (number + 2) (Some n) } in (
           (after_alike streams.NotLoaded).noted behind x h,
           stored_so form first second output (bytes_eq form (codes "split")) (bytes_eq form (codes "comb")) (bytes_eq second (codes "-")) refl refl refl is number (map (field_spelled all) fields)
-          ∙ after_is (output_inline all output) (place_spelled all behind) ∙ ap (goes_on (λ o. says (loaded o (output_inline all output)))) ((after_alike streams.NotLoaded).reads behind x h),
+              ∙ after_is (output_inline all output) (place_spelled all behind) ∙ ap (goes_on (λ o. says (loaded o (output_inline all output)))) ((after_alike streams.NotLoaded).reads behind x h),
         )
 
     output_by : (n : Noted) (number : ℕ) (left : List (List ℕ)) (x : SceneOutput × Place) (o : Option StoredOutput) → stored_first left ≡ o →
@@ -232,5 +228,5 @@ module _ (all : List ℕ) where
     pub attempt_reads : (retry_data : RetryData) → ReadsOutput all attempt_loads (attempt_fields retry_data)
     unfolding attempt_fields
     attempt_reads retry_data =
-        then_output all (field_alike all result_in keeps_result) (λ result. then_output all (field_alike all nanos_in keeps_nanos) (λ time_taken. then_output all (field_alike all flag_in keeps_flag) (λ is_slow.
+        field_output all _ keeps_result (λ result. field_output all _ keeps_nanos (λ time_taken. field_output all _ keeps_flag (λ is_slow.
         output_says all output_loads attempt_loads output_fields output_reads (attempt_made retry_data result time_taken is_slow) (attempt_puts retry_data result time_taken is_slow))))

@@ -1,12 +1,12 @@
 -- The fields of a recorded line, spelled out: what reads them, reads the same of them, and of an output what stands at its place.
-use Rattle.std.proofs.Common.{◌≡◌, ℕ, ◌+◌, ◌%◌, Bool, true, false, List, [], ◌∷◌, ◌++◌, map, length, Option, None, Some, Result, Ok, Err, refl, sym, ap, ◌∙◌, bytes_eq, ◌==◌, ◌&&◌, if◌then◌else◌, subst, drop}
+use Rattle.std.proofs.Common.{◌≡◌, ℕ, ◌+◌, ◌%◌, Bool, true, false, List, [], ◌∷◌, ◌++◌, map, length, Option, None, Some, Result, Ok, Err, refl, sym, ap, ◌∙◌, ◌==◌, ◌&&◌, if◌then◌else◌, subst, drop}
 use Rattle.std.specs.Prelude.{nat_le}
 use Rattle.std.proofs.lemmas.List.{length-map}
 use Rattle.scene_fields.specs.Fields.{◌>>=◌, Line, Noted, Place, exactly, field, goes_on, next, none_noted, noted_outputs, says, taken, valued, with_attempts}
 use Rattle.scene_fields.specs.References.{reference_in}
 use Rattle.scene_fields.specs.Stored.{placed}
 use Rattle.scene_fields.specs.declared.fault.LineFault.{LineFault}
-use Rattle.scene_fields.specs.declared.fault.LineFault.TheVariants.{BadField, WrongNumberOfFields}
+use Rattle.scene_fields.specs.declared.fault.LineFault.TheVariants.{WrongNumberOfFields}
 use Rattle.scene_fields.specs.declared.reference.Reference.{Reference}
 use Rattle.scene_fields.specs.declared.stored.PlacedOutput.{PlacedOutput}
 use Rattle.scene_fields.specs.declared.stored.StoredOutput.{StoredOutput}
@@ -20,11 +20,11 @@ abbrev pub place_spelled : List ℕ → Place → Place
 place_spelled all p = record { number = p.number; left = map (field_spelled all) p.left; noted = None }
 
 -- no reference is a good field here
-abbrev pub Refuses : {X : Type 0} → (List ℕ → Line X) → Type 0
-Refuses {X} f = (t : List ℕ) (r : Reference) → reference_in t ≡ Some r → (p : Place) (x : X × Place) → f t p ≡ Ok x → ⊥
+abbrev pub RefusesMarks : {X : Type 0} → (List ℕ → Line X) → Type 0
+RefusesMarks {X} f = (t : List ℕ) (r : Reference) → reference_in t ≡ Some r → (p : Place) (x : X × Place) → f t p ≡ Ok x → ⊥
 
-pub refuses_marked : {X : Type 0} (f : List ℕ → Line X) → ((u : List ℕ) (p : Place) (x : X × Place) → f (92 ∷ 64 ∷ u) p ≡ Ok x → ⊥) → Refuses f
-refuses_marked f none t r is p x h = none (drop 2 t) p x (subst (λ u. f u p ≡ Ok x) (begins t r is) h)
+pub refuses_by_mark : {X : Type 0} (f : List ℕ → Line X) → ((u : List ℕ) (p : Place) (x : X × Place) → f (92 ∷ 64 ∷ u) p ≡ Ok x → ⊥) → RefusesMarks f
+refuses_by_mark f none t r is p x h = none (drop 2 t) p x (subst (λ u. f u p ≡ Ok x) (begins t r is) h)
 
 -- so the first of fields that are read is none
 pub record HasFirst (fields : List (List ℕ)) : Type 0 where
@@ -33,11 +33,11 @@ pub record HasFirst (fields : List (List ℕ)) : Type 0 where
   pub is : fields ≡ first ∷ more
   pub no_reference : reference_in first ≡ None
 
-first_so : {X : Type 0} (f : List ℕ → Line X) → Refuses f → (p : Place) (t : List ℕ) (ts : List (List ℕ)) (o : Option Reference) → reference_in t ≡ o → (x : X × Place) → f t p ≡ Ok x → HasFirst (t ∷ ts)
+first_so : {X : Type 0} (f : List ℕ → Line X) → RefusesMarks f → (p : Place) (t : List ℕ) (ts : List (List ℕ)) (o : Option Reference) → reference_in t ≡ o → (x : X × Place) → f t p ≡ Ok x → HasFirst (t ∷ ts)
 first_so f refuses p t ts None is x h = record { first = t; more = ts; is = refl; no_reference = is }
 first_so f refuses p t ts (Some r) is x h = absurd (refuses t r is p x h)
 
-pub has_first : {X : Type 0} (f : List ℕ → Line X) → Refuses f → (n : ℕ) (noted : Option Noted) (ts : List (List ℕ)) (x : X × Place) → goes_on f (taken n noted ts) ≡ Ok x → HasFirst ts
+pub has_first : {X : Type 0} (f : List ℕ → Line X) → RefusesMarks f → (n : ℕ) (noted : Option Noted) (ts : List (List ℕ)) (x : X × Place) → goes_on f (taken n noted ts) ≡ Ok x → HasFirst ts
 has_first f refuses n noted [] x h = absurd (cc)
 has_first f refuses n noted (t ∷ ts) x h = first_so f refuses (record { number = n + 1; left = ts; noted = noted }) t ts (reference_in t) refl x h
 
@@ -78,11 +78,11 @@ module _ (all : List ℕ) where
   then_alike {A} {B} {line} {f} first others = bind-alike line f first others
 
   -- the next field, which stays as it is
-  next_same : {X : Type 0} (f : List ℕ → Line X) → Refuses f → (t : List ℕ) (o : Option Reference) → reference_in t ≡ o → (p : Place) (x : X × Place) → f t p ≡ Ok x → field_spelled all t ≡ t
+  next_same : {X : Type 0} (f : List ℕ → Line X) → RefusesMarks f → (t : List ℕ) (o : Option Reference) → reference_in t ≡ o → (p : Place) (x : X × Place) → f t p ≡ Ok x → field_spelled all t ≡ t
   next_same f refuses t None is p x h = rw is refl
   next_same f refuses t (Some r) is p x h = absurd (refuses t r is p x h)
 
-  module _ {X : Type 0} (f : List ℕ → Line X) (refuses : Refuses f) (each : (t : List ℕ) → ReadsAlike (f t)) where
+  module _ {X : Type 0} (f : List ℕ → Line X) (refuses : RefusesMarks f) (each : (t : List ℕ) → ReadsAlike (f t)) where
     next_noted : (n : ℕ) (noted : Option Noted) (ts : List (List ℕ)) (x : X × Place) → goes_on f (taken n noted ts) ≡ Ok x → x.1.noted ≡ noted
     next_noted n noted [] x h = absurd (cc)
     next_noted n noted (t ∷ ts) x h = (each t).noted (record { number = n + 1; left = ts; noted = noted }) x h
@@ -235,7 +235,7 @@ module _ (all : List ℕ) where
     spelled_says = record { reads = λ p x at h. makes_spelled p x at (line p) refl h }
 
   -- the next field
-  module _ {X : Type 0} (put : List PlacedOutput → X → X) (f : List ℕ → Line X) (refuses : Refuses f) (each : (t : List ℕ) → ReadsNoted put (f t)) where
+  module _ {X : Type 0} (put : List PlacedOutput → X → X) (f : List ℕ → Line X) (refuses : RefusesMarks f) (each : (t : List ℕ) → ReadsNoted put (f t)) where
     next_spelled : (n : ℕ) (noted : Option Noted) (ts : List (List ℕ)) (x : X × Place) → noted ≡ Some none_noted → goes_on f (taken n noted ts) ≡ Ok x →
         goes_on f (taken n None (map (field_spelled all) ts)) ≡ Ok (put (noted_outputs x.1.noted) x.0, place_spelled all x.1)
     next_spelled n noted [] x at h = absurd (cc)
