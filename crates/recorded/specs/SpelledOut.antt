@@ -1,5 +1,5 @@
 -- A recorded run as the text of a scene, in which every output is spelled out.
-use Rattle.std.specs.Prelude.{ℕ, ◌/◌, ◌%◌, ◌<◌, List, [], ◌∷◌, ◌++◌, map, codes, slice_index, Option, ⊤}
+use Rattle.std.specs.Prelude.{ℕ, ◌/◌, ◌%◌, ◌<◌, List, [], ◌∷◌, ◌++◌, map, codes, slice_index, ⊤}
 use Rattle.std.specs.Option.{option_map_or}
 use Rattle.hex.specs.Hex.{lower_digits}
 use Rattle.recorded.specs.Outputs.{bytes_at}
