@@ -185,9 +185,9 @@ module _ (all : List ℕ) where
       attempt_more_read (Err f) is h = absurd (cc)
 
     -- no attempt more
-    ended : (n : Noted) (earlier : List Attempt) (last : Attempt) (p : Place) (x : TestAttempts × Place) → p.noted ≡ Some n → (so_far earlier last, p) ≡ x →
+    attempts_ended : (n : Noted) (earlier : List Attempt) (last : Attempt) (p : Place) (x : TestAttempts × Place) → p.noted ≡ Some n → (so_far earlier last, p) ≡ x →
         ◌≡◌ {A = Result (TestAttempts × Place) LineFault} (Ok (so_far (attempts_inline all n.stored (so_far earlier last)).earlier (attempts_inline all n.stored (so_far earlier last)).last, place_spelled all p)) (Ok (attempts_inline all (noted_outputs x.1.noted) x.0, place_spelled all x.1))
-    ended n earlier last p x at same =
+    attempts_ended n earlier last p x at same =
         let notes : n.stored ≡ noted_outputs x.1.noted = sym (ap noted_outputs at) ∙ ap (λ (z : TestAttempts × Place). noted_outputs z.1.noted) same in
         let read : so_far earlier last ≡ x.0 = ap (λ (z : TestAttempts × Place). z.0) same in
         let left : place_spelled all p ≡ place_spelled all x.1 = ap (λ (z : TestAttempts × Place). place_spelled all z.1) same in
@@ -197,7 +197,7 @@ module _ (all : List ℕ) where
     unfolding attempts_from
     goes_on_to zero number earlier last n are p x at h =
         let same : (so_far earlier last, p) ≡ x = cc in
-        ended n earlier last p x at same
+        attempts_ended n earlier last p x at same
     goes_on_to (suc more) number earlier last n are p x at h =
         let with_outputs = attempts_inline all n.stored (so_far earlier last) in
         let good = number_good number (λ attempt. attempt_fields (retry_numbered total attempt) >>= (λ next. attempts_from flaky total (number + 1) more (earlier ++ last ∷ []) next))
