@@ -1,5 +1,6 @@
 pub mod Fields
 pub mod Inline
+pub mod KeptFields
 pub mod LeftLines
 pub mod LoadedLines
 pub mod Loaded
@@ -7,6 +8,12 @@ pub mod Reports
 pub mod Rows
 pub mod Skipped
 pub mod Skips
+pub mod SpelledAttempts
+pub mod SpelledBytes
+pub mod SpelledLines
+pub mod SpelledOutputs
+pub mod SpelledPlaces
+pub mod SpelledTexts
 pub mod Streams
 pub mod Unloaded
 pub mod WholeLines

@@ -6,3 +6,4 @@ pub mod ReadAt
 pub mod Runs
 pub mod Skips
 pub mod Source
+pub mod SpelledOut

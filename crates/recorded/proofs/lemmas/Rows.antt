@@ -1,15 +1,20 @@
--- Worked rows: what the definitions say of outputs that are written out, and what a replay makes of a setup script whose output is stored.
-use Rattle.std.proofs.Common.{◌≡◌, ℕ, List, [], ◌∷◌, codes, true, false, refl, None, Some, Ok, Err}
+-- Worked rows: what the definitions say of outputs that are written out, what a replay makes of a setup script whose output is stored, and a
+-- text whose outputs are spelled out.
+use Rattle.std.proofs.Common.{◌≡◌, ℕ, List, [], ◌∷◌, ◌++◌, codes, true, false, refl, None, Some, Ok, Err}
+use Rattle.hex.proofs.OnLiterals.{hex_on_literals}
 use Rattle.run_model.specs.Attempts.{attempt_with_output}
 use Rattle.run_model.specs.Statuses.{is_success}
 use Rattle.run_model.specs.declared.output.ChildOutputDescription.TheVariants as captured
 use Rattle.recorded.specs.Captured.{captured_at, counted_output}
 use Rattle.recorded.specs.Events.{event_replayed, outputs_len}
 use Rattle.recorded.specs.Outputs.{stream_at}
+use Rattle.recorded.specs.SpelledOut.{line_spelled, scene_spelled, tabbed}
 use Rattle.reporter_state.specs.declared.decider.OutputLoadDecider.{OutputLoadDecider}
 use Rattle.scene_events.specs.declared.scene.event.SceneEvent.TheVariants as scene
 use Rattle.scene_events.specs.declared.scene.unit_events.SetupFinish.{SetupFinish}
-use Rattle.scene_fields.specs.References.{sum_of}
+use Rattle.scene_fields.specs.Numbers.{number_in}
+use Rattle.scene_fields.specs.References.{after_mark, reference_in, sum_in, sum_of}
+use Rattle.scene_fields.specs.Split.{cut, split_on}
 use Rattle.scene_fields.specs.declared.fault.LineFault.TheVariants.{BadField}
 use Rattle.scene_fields.specs.declared.reference.Reference.{Reference}
 use Rattle.scene_fields.specs.declared.stored.PlacedOutput.{PlacedOutput}
@@ -78,3 +83,20 @@ module _ (d : OutputLoadDecider) (e : SetupFinish) (sum : List ℕ) where
 
   row_len : outputs_len (record { place = 0; field = 14; output = Combined here } ∷ record { place = 2; field = 30; output = Split (At here) NotCaptured } ∷ []) ≡ 4
   row_len = refl
+
+-- bytes, and a reference to two of them
+abbrev some_bytes : List ℕ
+some_bytes = codes "a" ++ 10 ∷ codes "~d"
+
+abbrev two_bytes : List ℕ
+two_bytes = codes "\\@1:2:d1fba762150c532c"
+
+-- the reference is spelled out, and what is none stays
+row_spelled : line_spelled some_bytes (tabbed (codes "comb" ∷ two_bytes ∷ codes "-" ∷ codes "\\@1:2" ∷ [])) ≡ tabbed (codes "comb" ∷ codes "\\x0a\\x7e" ∷ codes "-" ∷ codes "\\@1:2" ∷ [])
+unfolding split_on reference_in after_mark sum_in cut number_in hex_on_literals
+row_spelled = refl
+
+-- the same of a text, of whose lines the last is not ended
+row_scene : scene_spelled some_bytes (codes "# " ++ 10 ∷ (two_bytes ++ 10 ∷ 10 ∷ codes "pau")) ≡ codes "# " ++ 10 ∷ (codes "\\x0a\\x7e" ++ 10 ∷ 10 ∷ [])
+unfolding split_on reference_in after_mark sum_in cut number_in hex_on_literals
+row_scene = refl
