@@ -21,4 +21,5 @@ pub mod split;
 pub mod stored;
 pub mod texts;
 pub mod unescape;
+mod usual_stats;
 pub mod values;
