@@ -56,11 +56,11 @@ pub(crate) fn leading_number(text: &[u8]) -> Option<(u64, &[u8])>
     let mut number = 0;
     let mut len = 0;
     for byte in &text[..text.len().min(MOST_DIGITS)] {
-        let digit = byte.wrapping_sub(b'0');
+        let digit = u64::from(*byte).wrapping_sub(u64::from(b'0'));
         if digit > 9 {
             break;
         }
-        number = number * 10 + u64::from(digit);
+        number = number * 10 + digit;
         len += 1;
     }
     if len == 0 {

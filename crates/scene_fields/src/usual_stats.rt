@@ -33,18 +33,23 @@ pub(crate) fn read_usual_stats(field: &str) -> Option<RunStats>
     })
 }
 
-// The number that follows a key at the front, and what follows the number.
+// The number that follows a key at the front, and what follows the number. The key is an array, so that its length is known where it is
+// compared: that takes a test or two.
 #[inline(always)]
-fn number_after<'a>(key: &[u8], text: &'a [u8]) -> Option<(usize, &'a [u8])>
+fn number_after<'a, const N: usize>(key: &[u8; N], text: &'a [u8]) -> Option<(usize, &'a [u8])>
     ensures { MatchOption result (HasNoNumberAfter key.now text.now) (λ x. IsNumberAfter key.now text.now x.0 x.1.now) }
 {
-    let (number, rest) = leading_number(text.strip_prefix(key)?)?;
+    let (front, behind) = text.split_first_chunk::<N>()?;
+    if *front != *key {
+        return None;
+    }
+    let (number, rest) = leading_number(behind)?;
     Some((number as usize, rest))
 }
 
 // The same, or 0 and the whole text.
 #[inline(always)]
-fn number_after_or_zero<'a>(key: &[u8], text: &'a [u8]) -> (usize, &'a [u8])
+fn number_after_or_zero<'a, const N: usize>(key: &[u8; N], text: &'a [u8]) -> (usize, &'a [u8])
     ensures { IsNumberOrZero key.now text.now result.0 result.1.now }
 {
     number_after(key, text).unwrap_or((0, text))

@@ -1,20 +1,35 @@
--- Statistics in their usual order (for `read_usual_stats`).
-use Rattle.std.proofs.Common.{◌≡◌, ◌⊎◌, ℕ, zero, suc, ◌+◌, ◌^◌, ◌<◌, ◌≤◌, ◌≢◌, List, [], ◌∷◌, ◌++◌, Bool, true, false, ◌==◌, length, length-set, get_or, set, get_or-set_other, rules, replicate, codes, Option, None, Some, refl, ap, sym, subst, ◌∙◌, append_assoc, arith, inl, inr}
+-- Statistics in their usual order (for `number_after`, `read_usual_stats`).
+use Rattle.std.proofs.Common.{◌≡◌, ℕ, zero, suc, ◌+◌, ◌^◌, ◌<◌, ◌≤◌, ◌≢◌, List, [], ◌∷◌, ◌++◌, Bool, true, false, not, ◌==◌, length, length-set, take, take-append-drop, take_all, drop, get_or, set, get_or-set_other, rules, replicate, codes, Option, Some, refl, ap, sym, ◌∙◌, append_assoc, arith, inl, inr}
 use native.Mathlib.Nat.{pow-le-pow_right}
+use Rattle.std.specs.Bool.{Decides}
 use Rattle.std.specs.Char.{digit_value}
 use Rattle.std.specs.Option.{option_map}
-use Rattle.std.specs.Str.Parse.{AllDigits, IsNumeral, digits_value}
+use Rattle.std.specs.Str.Parse.{AllDigits, digits_value}
 use Rattle.std.proofs.lemmas.Int.Digits.{digits_value-lt}
 use Rattle.std.proofs.lemmas.Bool.{cases_Bool}
 use Rattle.std.proofs.lemmas.Bool.Decides.{nat_tests}
-use Rattle.std.proofs.lemmas.List.{append-nil}
+use Rattle.std.proofs.lemmas.List.{append-nil, take-append-le}
 use Rattle.run_model.specs.Stats.{planned_stats}
 use Rattle.run_model.specs.declared.stats.RunStats.{RunStats}
 use Rattle.scene_fields.specs.Counts.{in_turn, pair_in, row_in, stats_in, stats_rows}
 use Rattle.scene_fields.specs.Numbers.{IsLeadingNumber, IsNumberAfter, IsNumberOrZero, number_in}
-use Rattle.scene_fields.specs.Split.{Lacks, cut, split_on}
+use Rattle.scene_fields.specs.Split.{Lacks, split_on}
 use Rattle.scene_fields.proofs.lemmas.Cuts.{cut-parts, split_on-lacks, split_on-parts}
 use Rattle.scene_fields.proofs.lemmas.Numbers.{number_by}
+
+-- what follows a key of so many bytes
+pub behind_key : (key t front behind : List ℕ) (n : ℕ) → front ≡ take n t → behind ≡ drop n t → front ≡ key → t ≡ key ++ behind
+behind_key key t front behind n is rest same = let parts = sym (take-append-drop n t) in cc
+
+differs : {P : Type 0} (is_same : Bool) → Decides is_same P → true ≡ not is_same → P → ⊥
+differs true same e h = cc
+differs false same e h = let equal = same.1 h in cc
+
+-- and nothing where other bytes stand in its place
+pub has_no_key : (key t front : List ℕ) (n : ℕ) (is_same : Bool) → length key ≡ n → front ≡ take n t → Decides is_same (front ≡ key) → true ≡ not is_same → (behind : List ℕ) → t ≡ key ++ behind → ⊥
+has_no_key key t front n is_same size is same other behind e =
+    let first : front ≡ key = is ∙ ap (λ u. take n u) e ∙ take-append-le n key behind (omega arith) ∙ take_all n key (omega arith) in
+    differs is_same same other first
 
 -- what the pairs of a text say, after those of these keys
 said : RunStats → List Bool → List ℕ → Option RunStats

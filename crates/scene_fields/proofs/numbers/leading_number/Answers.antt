@@ -1,5 +1,4 @@
-use Rattle.std.proofs.Common.{◌≡◌, ◌+◌, ◌<◌, ◌≤◌, ◌-◌, true, length, length-take, get_or, take, drop, get_or-take, arith, sym, subst}
-use Rattle.std.specs.Int.{IsInRange}
+use Rattle.std.proofs.Common.{◌≡◌, ◌<◌, true, length-take, drop, get_or-take, arith}
 use Rattle.scene_fields.specs.Numbers.{starts_with_digit}
 use Rattle.scene_fields.proofs.lemmas.Cuts.{rest_is}
 use Rattle.scene_fields.proofs.lemmas.ShortNumbers.{stays_small, one_digit_more, leading, digit_in}
@@ -22,7 +21,7 @@ loop-byte-preserved c =
     let same = get_or-take c.min.result c.args.text.now c.loop-byte.byte-index 0 (omega arith) in
     let byte = c.type_inv.text c.loop-byte.byte-index in
     record {
-      so_far = one_digit_more _ _ _ c.loop-byte.invariant.so_far c.from.result (omega arith) (omega arith, omega arith) (omega arith);
+      so_far = one_digit_more _ _ _ c.loop-byte.invariant.so_far _ (omega arith) (omega arith, omega arith) (omega arith);
       counted = omega arith;
     }
 

@@ -1,16 +1,22 @@
-use Rattle.std.proofs.Common.{None, Some}
+use Rattle.std.proofs.Common.{◌≡◌, refl, rules}
 use Rattle.std.proofs.lemmas.Bool.Decides.{Decides-eqb}
-use Rattle.std.proofs.lemmas.Slice.Eq.{strip_prefix_is}
+use Rattle.std.proofs.lemmas.Slice.Eq.{slice_eq-Decides}
+use Rattle.scene_fields.proofs.lemmas.UsualStats.{behind_key, has_no_key}
 use Rattle.scene_fields.proofs.usual_stats.number_after.Goals as goal
 
-pub returns-in_err-strip_prefix : goal.returns-in_err-strip_prefix
-returns-in_err-strip_prefix c =
-    let missed = strip_prefix_is Decides-eqb c.args.text.now c.args.key.now None c.in_err-strip_prefix.ensures.cases in
-    rw c.from_residual.ensures (λ behind is. absurd (missed behind is))
+pub returns-then-ne : goal.returns-then-ne
+returns-then-ne g c =
+    let at_front = c.in_ok-front.ensures.cases in
+    let same = slice_eq-Decides Decides-eqb c.in_ok-front.front.now c.args.key.now _ refl in
+    λ behind is. absurd (has_no_key c.args.key.now c.args.text.now c.in_ok-front.front.now _ _ c.told-key at_front.0 same c.if-ne.ensures behind is)
 
 pub returns : goal.returns
-returns c = record {
-  behind = c.in_ok-strip_prefix.field-0.now;
-  front = strip_prefix_is Decides-eqb c.args.text.now c.args.key.now (Some c.in_ok-strip_prefix.field-0) c.in_ok-strip_prefix.ensures.cases;
-  number = c.in_ok-number.ensures;
-}
+returns g c =
+    let at_front = c.in_ok-front.ensures.cases in
+    let same = slice_eq-Decides Decides-eqb c.in_ok-front.front.now c.args.key.now _ refl in
+    let equal : c.in_ok-front.front.now ≡ c.args.key.now = same.0 (search rules) in
+    record {
+      behind = c.in_ok-front.behind.now;
+      front = behind_key c.args.key.now c.args.text.now c.in_ok-front.front.now c.in_ok-front.behind.now _ at_front.0 at_front.1 equal;
+      number = c.in_ok-number.ensures;
+    }
