@@ -9,5 +9,6 @@ pub mod ReferenceRows
 pub mod ShortNumbers
 pub mod Tabs
 pub mod Unescaped
+pub mod UsualStats
 pub mod Utf8
 pub mod WordLists

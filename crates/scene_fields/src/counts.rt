@@ -11,6 +11,7 @@ ghost use Rattle.scene_fields.specs.Counts.{Row, counts_in, has_space, pair_in, 
 
 use super::numbers::read_count;
 use super::split::{first_piece, split_at_byte};
+use super::usual_stats::read_usual_stats;
 use super::values::read_reason;
 use run_model::event::SkipCounts;
 use run_model::stats::RunStats;
@@ -132,8 +133,19 @@ impl Counts for SkipCounts {
 /// assert_eq!(read_stats("initial=2 finished=1 failed=1 cancel=signal"), Some(stats));
 /// ```
 #[inline(never)] // so that the statistics are copied once on their way out
-#[tactic(auto, unfolding(crate::specs::Counts::stats_in))]
 pub fn read_stats(field: &str) -> Option<RunStats>
+    ensures { result ≡ stats_in field.now }
+{
+    match read_usual_stats(field) {
+        Some(stats) => Some(stats),
+        None => read_any_stats(field),
+    }
+}
+
+// Reads statistics in any order.
+#[inline(never)]
+#[tactic(auto, unfolding(crate::specs::Counts::stats_in))]
+fn read_any_stats(field: &str) -> Option<RunStats>
     ensures { result ≡ stats_in field.now }
 {
     read_pairs(RunStats::new(0), field)

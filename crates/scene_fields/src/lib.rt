@@ -3,8 +3,8 @@
 //! `fields` takes a line apart from left to right, and `owned_text` is a text that has its own memory, as the fields of a large line
 //! have. A field is read by `values`, `numbers`, `names`, `counts` (of several), `results` (how an attempt ended), `lists` (of words) or
 //! `texts`; `stored` is an output of which a recorded run says by each `reference` where its bytes stand. `marks` is where a byte stands,
-//! `split` a text cut at a byte, `unescape` a text decoded in its own memory, and `fault` what can be wrong. Which fields the line of an
-//! event has is not known here.
+//! `split` a text cut at a byte, `usual_stats` the counts of most lines, `unescape` a text decoded in its own memory, and `fault` what can
+//! be wrong. Which fields the line of an event has is not known here.
 #![tactic(auto)]
 
 pub mod counts;
@@ -21,4 +21,5 @@ pub mod split;
 pub mod stored;
 pub mod texts;
 pub mod unescape;
+mod usual_stats;
 pub mod values;

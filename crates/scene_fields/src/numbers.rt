@@ -2,12 +2,15 @@
 //!
 //! They are decimal, and zeros may stand in front. A plus never does, and a minus only where a number may be negative.
 
-ghost use Rattle.std.specs.Prelude.{◌≡◌, ◌<◌, ◌≤◌, ◌^◌, length};
+ghost use Rattle.std.specs.Prelude.{◌≡◌, ◌<◌, ◌≤◌, ◌^◌, length, false, MatchOption};
 ghost use Rattle.std.specs.Option.{SomeIff};
 ghost use Rattle.std.specs.Str.Parse.{IsNumeral, digits_value, signed_digits_value};
-ghost use Rattle.scene_fields.specs.Numbers.{IsSigned, code_in, nanos_in, number_in};
+ghost use Rattle.scene_fields.specs.Numbers.{IsLeadingNumber, IsSigned, code_in, nanos_in, number_in, starts_with_digit};
 
 use run_model::time::Nanos;
+
+// So many digits fit 64 bits whatever they are.
+const MOST_DIGITS: usize = 19;
 
 /// Reads a count, which is anything that a `usize` holds.
 ///
@@ -35,23 +38,35 @@ fn parse_count(text: &str) -> Option<usize>
     text.parse().ok()
 }
 
-// The number that at most nineteen digits write. It fits 64 bits whatever they are, so that no digit needs a test of overflow.
+// The number that at most nineteen digits write.
 #[inline]
 fn short_number(text: &[u8]) -> Option<u64>
     ensures { SomeIff result (IsNumeral 10 text.now × (length text.now ≤ 19)) (digits_value 10 text.now) }
 {
-    if text.is_empty() || text.len() > 19 {
+    let (number, rest) = leading_number(text)?;
+    if rest.is_empty() { Some(number) } else { None }
+}
+
+// The number that digits at the front write, nineteen at most, and what follows them. It fits 64 bits whatever they are, so that no digit
+// needs a test of overflow.
+#[inline(always)]
+pub(crate) fn leading_number(text: &[u8]) -> Option<(u64, &[u8])>
+    ensures { MatchOption result (starts_with_digit text.now ≡ false) (λ x. IsLeadingNumber text.now x.0 x.1.now) }
+{
+    let mut number = 0;
+    let mut len = 0;
+    for byte in &text[..text.len().min(MOST_DIGITS)] {
+        let digit = u64::from(*byte).wrapping_sub(u64::from(b'0'));
+        if digit > 9 {
+            break;
+        }
+        number = number * 10 + digit;
+        len += 1;
+    }
+    if len == 0 {
         return None;
     }
-    let mut number = 0;
-    for byte in text {
-        let digit = byte.wrapping_sub(b'0');
-        if digit > 9 {
-            return None;
-        }
-        number = number * 10 + u64::from(digit);
-    }
-    Some(number)
+    Some((number, &text[len..]))
 }
 
 /// Reads a number of attempts or the like, which is anything that a `u32` holds.

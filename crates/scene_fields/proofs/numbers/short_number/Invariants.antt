@@ -1,6 +1,0 @@
-use Rattle.scene_fields.proofs.lemmas.ShortNumbers.{IsNumberSoFar}
-use Rattle.scene_fields.proofs.numbers.short_number.Given as goal
-
--- the bytes so far are digits, and write the number
-abbrev pub invariant-loop-byte : goal.invariant-loop-byte
-invariant-loop-byte l = IsNumberSoFar l.text l.byte-index l.number

@@ -1,0 +1,56 @@
+//! Statistics as most lines have them: some of the keys, in their usual order.
+//!
+//! Nearly every line of a run has them so, and they are the longest field of most. Here each byte is looked at once: a key is compared as a
+//! whole and its digits are read where they stand, while `counts` looks for the `=` and the space of each pair and then for its key.
+
+ghost use Rattle.std.specs.Prelude.{◌≡◌, Some, IfSome, MatchOption};
+ghost use Rattle.scene_fields.specs.Numbers.{HasNoNumberAfter, IsNumberAfter, IsNumberOrZero};
+ghost use Rattle.scene_fields.specs.Counts.{stats_in};
+
+use super::numbers::leading_number;
+use run_model::stats::RunStats;
+
+// Reads how many tests were to run and have finished, and then how many passed, failed and were skipped, where that is said. None is any
+// other field, which may be a good one.
+#[inline(always)]
+pub(crate) fn read_usual_stats(field: &str) -> Option<RunStats>
+    ensures { IfSome result (λ stats. stats_in field.now ≡ Some stats) }
+{
+    let (initial_run_count, rest) = number_after(b"initial=", field.as_bytes())?;
+    let (finished_count, rest) = number_after(b" finished=", rest)?;
+    let (passed, rest) = number_after_or_zero(b" passed=", rest);
+    let (failed, rest) = number_after_or_zero(b" failed=", rest);
+    let (skipped, rest) = number_after_or_zero(b" skipped=", rest);
+    if !rest.is_empty() {
+        return None;
+    }
+    Some(RunStats {
+        finished_count,
+        passed,
+        failed,
+        skipped,
+        ..RunStats::new(initial_run_count)
+    })
+}
+
+// The number that follows a key at the front, and what follows the number. The key is an array, so that its length is known where it is
+// compared: that takes a test or two.
+#[inline(always)]
+fn number_after<'a, const N: usize>(key: &[u8; N], text: &'a [u8]) -> Option<(usize, &'a [u8])>
+    ensures { MatchOption result (HasNoNumberAfter key.now text.now) (λ x. IsNumberAfter key.now text.now x.0 x.1.now) }
+{
+    let (front, behind) = text.split_first_chunk::<N>()?;
+    if *front != *key {
+        return None;
+    }
+    let (number, rest) = leading_number(behind)?;
+    Some((number as usize, rest))
+}
+
+// The same, or 0 and the whole text.
+#[inline(always)]
+fn number_after_or_zero<'a, const N: usize>(key: &[u8; N], text: &'a [u8]) -> (usize, &'a [u8])
+    ensures { IsNumberOrZero key.now text.now result.0 result.1.now }
+{
+    number_after(key, text).unwrap_or((0, text))
+}
