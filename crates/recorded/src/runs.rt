@@ -5,9 +5,10 @@ ghost use Rattle.std.specs.Io.Buffered.{reader_remaining};
 ghost use Rattle.recorded.specs.Outputs.{counted};
 ghost use Rattle.recorded.specs.Runs.{lines_inline, lines_replayed, needed_bytes, replayed};
 ghost use Rattle.recorded.specs.Source.{IsLeft};
+ghost use Rattle.recorded.specs.SpelledOut.{AreBytes, scene_spelled};
 ghost use Rattle.scene_text.specs.SceneTexts.{no_lines};
 ghost use Rattle.scenes.specs.Follow.{StopsBy};
-ghost use Rattle.scenes.specs.ParsedScenes.{OfLines};
+ghost use Rattle.scenes.specs.ParsedScenes.{OfLines, OfText};
 ghost use Rattle.scenes.specs.Prints.{Begins, Prints, PrintsFollowed, device};
 
 use super::lines::{next_line, read_line};
@@ -85,10 +86,10 @@ impl<'a, R: Read + Drop, O: ReadAt + Drop> RecordedRun<'a, R, O> {
     /// Prints the report of the run, each line of it once it was read, and its records to a second device, if the options ask for them. Both
     /// devices are given back.
     ///
-    /// On `Ok` the first device has what `follow` prints of the events of the run, with every output put into its event (`ok`), and the outputs
-    /// that the report does not show were not read (`reads`, which speaks of the count of the outputs' source). That reading a scene with the
-    /// outputs spelled out gives these events is not proved: `scripts/check-recorded` tests it. The error is that of the first line that is
-    /// wrong; the report of the lines before it stands.
+    /// On `Ok` the first device has what `follow` prints of the scene that the run is once each reference is spelled out, as the bytes at its
+    /// place (`spelled`), or of the events with every output put in (`ok`); and the outputs that the report does not show were not read
+    /// (`reads`, which speaks of the count of the outputs' source). The error is that of the first line that is wrong; the report of the lines
+    /// before it stands.
     pub fn replay<W: Write, S: Write>(
         &mut self,
         alloc: Global,
@@ -97,6 +98,9 @@ impl<'a, R: Read + Drop, O: ReadAt + Drop> RecordedRun<'a, R, O> {
     ) -> (Result<RunOutcome, Fault<'a>>, W, S)
         ensures ok { (text all : List ℕ) → reader_remaining R.remaining self.old.reader ≡ Some text → O.recorded self.old.outputs.source ≡ Some all → IfOk result.0 (λ come_to.
             OfLines (lines_inline all text) (PrintsFollowed device device self.old.options (W.contents writer, S.contents store_writer) (W.contents result.1, S.contents result.2) come_to)) }
+        // What a proof knows of the outputs are numbers, and those of all outputs are bytes.
+        ensures spelled { (text all : List ℕ) → reader_remaining R.remaining self.old.reader ≡ Some text → O.recorded self.old.outputs.source ≡ Some all → AreBytes all → IfOk result.0 (λ come_to.
+            OfText (scene_spelled all text) (PrintsFollowed device device self.old.options (W.contents writer, S.contents store_writer) (W.contents result.1, S.contents result.2) come_to)) }
         ensures err { (text all : List ℕ) → reader_remaining R.remaining self.old.reader ≡ Some text → O.recorded self.old.outputs.source ≡ Some all → IfErr result.0 (StopsBy self.old.options (lines_replayed self.old.options all text)
             (Prints device device self.old.options (W.contents writer, S.contents store_writer) (W.contents result.1, S.contents result.2))
             (Begins device device self.old.options (W.contents writer, S.contents store_writer) (W.contents result.1, S.contents result.2))) }

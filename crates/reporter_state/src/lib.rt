@@ -1,9 +1,9 @@
 //! What a reporter knows of the calls before, and what it decides of the next one.
 //!
-//! One module a concern: `decider` says what is decided of an event by its metadata, `faults` how a call fails, `effect` what an event
-//! does beside its text, `finished_attempts` a finished test with its attempts, `final_output` what is kept of a test for the summary,
-//! `loaded_output` the output in it, `kept_test` the test with names of its own, `binary_ids` the ids of binaries that tests share,
-//! `placed_entry` the key at which an entry is kept, `kept` how entries are held and listed, and `state` what is known of the calls before.
+//! One module a concern: `decider` says what is decided of an event by its metadata, `faults` how a call fails, `finished_attempts` a
+//! finished test with its attempts, `final_output` what is kept of a test for the summary, `loaded_output` the output in it, `kept_test` the
+//! test with names of its own, `binary_ids` the ids of binaries that tests share, `placed_entry` the key at which an entry is kept, `kept`
+//! how entries are held and listed, and `state` what is known of the calls before, and what an event does beside its text.
 #![tactic(auto)]
 
 pub mod binary_ids;

@@ -140,8 +140,8 @@ impl LinesRead {
         }
     }
 
-    /// Reads the line of a recorded run that follows these, of which outputs may be stored, and answers with those that are, in order. The
-    /// event leaves them unread. The errors are those of `read_more`.
+    /// Reads the line of a recorded run that follows these, of which outputs may be stored, and returns those that are, in order. The event
+    /// leaves them unread. The errors are those of `read_more`.
     ///
     /// A field that begins like a reference and is none, or stands where none may, is a bad field.
     ///
@@ -211,7 +211,7 @@ impl LinesRead {
         self.read_fields(alloc, &mut Fields::of_large_line(fields.as_mut_slice()))
     }
 
-    // Reads the recorded line that follows, as `read_line` does, and answers with its stored outputs.
+    // Reads the recorded line that follows, as `read_line` does, and returns its stored outputs.
     #[tactic(auto, unfolding(crate::specs::SceneTexts::line_from), using(scene_fields::proofs::lemmas::Utf8::utf8_passes, scene_fields::proofs::lemmas::Utf8::utf8_fails))]
     fn read_recorded_line(
         &mut self,

@@ -9,6 +9,8 @@ use Rattle.recorded.proofs.lemmas.Skipped.{skipped_call}
 use Rattle.recorded.specs.Outputs.{counted}
 use Rattle.recorded.specs.Runs.{line_replayed, lines_inline, lines_replayed, needed, ended_lines}
 use Rattle.recorded.specs.Source.{IsLeft}
+use Rattle.recorded.specs.SpelledOut.{AreBytes, scene_spelled}
+use Rattle.recorded.proofs.lemmas.SpelledLines.{scene_law}
 use Rattle.recorded.proofs.lemmas.Inline.{AreInline, IsInline, go_on}
 use Rattle.reporter_state.specs.Refusals.{first_refused}
 use Rattle.reporter_state.specs.Unread.{unread, unread_call}
@@ -19,7 +21,7 @@ use Rattle.scene_events.specs.declared.scene.event.SceneEvent.{SceneEvent}
 use Rattle.scene_text.specs.SceneTexts.{ParsedLines, RunLine, lines_before, no_lines}
 use Rattle.scenes.specs.Prints.{PrintsFollowed, device}
 use Rattle.scenes.specs.Outcomes.{run_outcome}
-use Rattle.scenes.specs.ParsedScenes.{OfLines}
+use Rattle.scenes.specs.ParsedScenes.{OfLines, OfText}
 use Rattle.scenes.specs.Reports.{configuration_for, report_of, stored_of, decider_for}
 use Rattle.scenes.specs.declared.outcome.RunOutcome.{RunOutcome}
 use Rattle.scenes.proofs.lemmas.ReadyCalls.{outcome_unread}
@@ -111,3 +113,9 @@ pub reads_on_ok : (total : ℕ) (options : Options) (recorded remaining : Option
     OnOk r (OfLines lines (λ run. IsLeft total options recorded remaining bytes_read run [])) → IfOk r (λ come_to. bytes_read ≡ total)
 reads_on_ok total options recorded remaining bytes_read lines fits (Ok come_to) h = read_all total options recorded remaining bytes_read h.run fits h.holds
 reads_on_ok total options recorded remaining bytes_read lines fits (Err f) h = tt
+
+-- what holds of the run that the events are holds of the run that the text spells
+pub spelled_on_ok : {E : Type 0} (all text : List ℕ) → AreBytes all → (P : RunOutcome → ParsedLines → Type 0) (result : Result RunOutcome E) →
+    IfOk result (λ come_to. OfLines (lines_inline all text) (P come_to)) → IfOk result (λ come_to. OfText (scene_spelled all text) (P come_to))
+spelled_on_ok all text bytes P (Ok come_to) of_lines = record { run = of_lines.run; spelled = scene_law all text bytes of_lines.run of_lines.spelled; holds = of_lines.holds }
+spelled_on_ok all text bytes P (Err fault) of_lines = tt

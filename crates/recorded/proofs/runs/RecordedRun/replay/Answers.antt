@@ -1,7 +1,8 @@
 use Rattle.std.proofs.Common.{arith, refl}
 use Rattle.recorded.specs.Outputs.{counted}
 use Rattle.recorded.specs.Runs.{lines_replayed, needed_bytes}
-use Rattle.recorded.proofs.lemmas.Reports.{prints_on_ok, reads_on_ok}
+use Rattle.recorded.proofs.lemmas.Reports.{prints_on_ok, reads_on_ok, spelled_on_ok}
+use Rattle.scenes.specs.Prints.{PrintsFollowed, device}
 use Rattle.recorded.proofs.runs.RecordedRun.replay.Goals as goal
 
 pub returns-clause-ok : goal.returns-clause-ok
@@ -9,6 +10,10 @@ returns-clause-ok g c = λ text all lines outputs.
     let run = c.args.self.now in
     prints_on_ok run.options all text _ _ _ (c.follow_source-followed.ensures.ok (counted (g.O.ReadAt.count run.outputs.source) (needed_bytes run.options text)) (lines_replayed run.options all text)
     (record { all = all; text = text; outputs = outputs; rest = lines; is = refl; counts = refl }))
+
+pub returns-clause-spelled : goal.returns-clause-spelled
+returns-clause-spelled g c = λ text all lines outputs bytes.
+    spelled_on_ok all text bytes (PrintsFollowed device device c.args.self.now.options _ _) _ (returns-clause-ok g c text all lines outputs)
 
 pub returns-clause-err : goal.returns-clause-err
 returns-clause-err g c = λ text all lines outputs.
