@@ -1,5 +1,5 @@
 -- Statistics in their usual order (for `number_after`, `read_usual_stats`).
-use Rattle.std.proofs.Common.{◌≡◌, ℕ, zero, suc, ◌+◌, ◌^◌, ◌<◌, ◌≤◌, ◌≢◌, List, [], ◌∷◌, ◌++◌, Bool, true, false, not, ◌==◌, length, length-set, take, take-append-drop, take_all, drop, get_or, set, get_or-set_other, rules, replicate, codes, Option, Some, refl, ap, sym, ◌∙◌, append_assoc, arith, inl, inr}
+use Rattle.std.proofs.Common.{◌≡◌, ℕ, zero, suc, ◌+◌, ◌^◌, ◌<◌, ◌≤◌, ◌≢◌, List, [], ◌∷◌, ◌++◌, Bool, true, false, not, ◌==◌, length, take, take-append-drop, take_all, drop, get_or, set, get_or-set_other, rules, replicate, codes, Option, Some, refl, ap, sym, ◌∙◌, append_assoc, arith, inl, inr}
 use native.Mathlib.Nat.{pow-le-pow_right}
 use Rattle.std.specs.Bool.{Decides}
 use Rattle.std.specs.Char.{digit_value}
@@ -38,7 +38,6 @@ said s keys t = option_map (λ read. read.0) (in_turn (pair_in stats_rows) (s, k
 -- the pairs before the rest said so, and none of them had the key of a row from this one on
 pub record SaidBefore (all : Option RunStats) (place : ℕ) (s : RunStats) (rest : List ℕ) : Type 0 where
   keys : List Bool
-  enough : length keys ≡ 15
   free : (k : ℕ) → place ≤ k → get_or keys k false ≡ false
   ends : rest ≡ [] → all ≡ Some s
   goes_on : (t : List ℕ) → rest ≡ 32 ∷ t → all ≡ said s keys t
@@ -75,7 +74,6 @@ count_by t n rest r =
 record IsCounted (s : RunStats) (key : List ℕ) (place : ℕ) (counted : ℕ → RunStats) : Type 0 where
   no_space : Lacks 32 key
   no_equals : Lacks 61 key
-  within : place < 15
   row : (digits : List ℕ) (n : ℕ) → number_in 64 digits ≡ Some n → row_in 0 (stats_rows s) key digits ≡ Some (place, counted n)
 
 module _ (all : Option RunStats) (s : RunStats) (key : List ℕ) (place : ℕ) (counted : ℕ → RunStats) (is : IsCounted s key place counted) where
@@ -85,7 +83,7 @@ module _ (all : Option RunStats) (s : RunStats) (key : List ℕ) (place : ℕ) (
       let row = is.row digits n e in
       rw (cut-parts 61 key digits is.no_equals, row, new) refl
 
-  module _ (bound : ℕ) (low : bound ≤ place) (keys : List Bool) (enough : length keys ≡ 15) (free : (k : ℕ) → bound ≤ k → get_or keys k false ≡ false) where
+  module _ (bound : ℕ) (low : bound ≤ place) (keys : List Bool) (free : (k : ℕ) → bound ≤ k → get_or keys k false ≡ false) where
     -- a pair at the front was read
     pair_read : (behind : List ℕ) (n : ℕ) (rest : List ℕ) → all ≡ said s keys (key ++ (61 ∷ behind)) → IsLeadingNumber behind n rest → SaidBefore all (place + 1) (counted n) rest
     unfolding said in_turn
@@ -96,7 +94,6 @@ module _ (all : Option RunStats) (s : RunStats) (key : List ℕ) (place : ℕ) (
         let joined : key ++ (61 ∷ behind) ≡ (key ++ (61 ∷ r.digits)) ++ rest = ap (λ u. key ++ (61 ∷ u)) r.parts ∙ sym (append_assoc key (61 ∷ r.digits) rest) in
         record {
           keys = set keys place true;
-          enough = simp length-set enough;
           free = λ k l. let other : k ≢ place = omega arith in get_or-set_other keys place k true false other ∙ free k (omega arith);
           ends = λ end.
               let whole : key ++ (61 ∷ behind) ≡ key ++ (61 ∷ r.digits) = joined ∙ ap (λ u. (key ++ (61 ∷ r.digits)) ++ u) end ∙ append-nil _ in
@@ -111,26 +108,23 @@ module _ (all : Option RunStats) (s : RunStats) (key : List ℕ) (place : ℕ) (
     next_pair : (n : ℕ) (rest : List ℕ) → IsNumberAfter (32 ∷ (key ++ (61 ∷ []))) left n rest → SaidBefore all (place + 1) (counted n) rest
     next_pair n rest r =
         let front : left ≡ 32 ∷ (key ++ (61 ∷ r.behind)) = r.front ∙ ap (λ u. 32 ∷ u) (append_assoc key (61 ∷ []) r.behind) in
-        pair_read bound low before.keys before.enough before.free r.behind n rest (before.goes_on _ front) r.number
+        pair_read bound low before.keys before.free r.behind n rest (before.goes_on _ front) r.number
 
     -- or none
     next_or_zero : counted 0 ≡ s → (n : ℕ) (rest : List ℕ) → IsNumberOrZero (32 ∷ (key ++ (61 ∷ []))) left n rest → SaidBefore all (place + 1) (counted n) rest
     next_or_zero same n rest (inl r) = next_pair n rest r
     next_or_zero same n rest (inr r) =
-        let it : SaidBefore all (place + 1) s left = record { keys = before.keys; enough = before.enough; free = λ k l. before.free k (omega arith); ends = before.ends; goes_on = before.goes_on } in
+        let it : SaidBefore all (place + 1) s left = record { keys = before.keys; free = λ k l. before.free k (omega arith); ends = before.ends; goes_on = before.goes_on } in
         let there : counted n ≡ s = ap counted r.1 ∙ same in
         rw (there, r.2) it
-
-none_had : (k : ℕ) → get_or (replicate 15 false) k false ≡ false
-none_had k = get_or-replicate k 15
 
 -- the first pair of a field
 first_pair : (t : List ℕ) (n : ℕ) (rest : List ℕ) → IsNumberAfter (codes "initial=") t n rest → SaidBefore (stats_in t) 1 (planned_stats n) rest
 unfolding stats_in said
 first_pair t n rest r =
-    let is : IsCounted (planned_stats 0) (codes "initial") 0 planned_stats = record { no_space = search rules; no_equals = search rules; within = omega arith; row = λ digits m e. rw e refl } in
+    let is : IsCounted (planned_stats 0) (codes "initial") 0 planned_stats = record { no_space = search rules; no_equals = search rules; row = λ digits m e. rw e refl } in
     let said_so : stats_in t ≡ said (planned_stats 0) (replicate 15 false) (codes "initial" ++ (61 ∷ r.behind)) = rw r.front refl in
-    pair_read (stats_in t) (planned_stats 0) (codes "initial") 0 planned_stats is 0 (omega arith) (replicate 15 false) refl (λ k l. none_had k) r.behind n rest said_so r.number
+    pair_read (stats_in t) (planned_stats 0) (codes "initial") 0 planned_stats is 0 (omega arith) (replicate 15 false) (λ k l. get_or-replicate k 15) r.behind n rest said_so r.number
 
 abbrev usual_stats : ℕ → ℕ → ℕ → ℕ → ℕ → RunStats
 usual_stats initial finished passed failed skipped = record (planned_stats initial) { finished_count = finished; passed = passed; failed = failed; skipped = skipped }
@@ -139,8 +133,8 @@ usual_stats initial finished passed failed skipped = record (planned_stats initi
 pub usual_pairs : (t : List ℕ) (initial finished passed failed skipped : ℕ) (r1 r2 r3 r4 r5 : List ℕ) → IsNumberAfter (codes "initial=") t initial r1 → IsNumberAfter (codes " finished=") r1 finished r2 → IsNumberOrZero (codes " passed=") r2 passed r3 → IsNumberOrZero (codes " failed=") r3 failed r4 → IsNumberOrZero (codes " skipped=") r4 skipped r5 → r5 ≡ [] → stats_in t ≡ Some (usual_stats initial finished passed failed skipped)
 usual_pairs t initial finished passed failed skipped r1 r2 r3 r4 r5 h1 h2 h3 h4 h5 end =
     let s1 = first_pair t initial r1 h1 in
-    let s2 = next_pair (stats_in t) (planned_stats initial) (codes "finished") 1 (λ n. usual_stats initial n 0 0 0) (record { no_space = search rules; no_equals = search rules; within = omega arith; row = λ digits m e. rw e refl }) 1 (omega arith) r1 s1 finished r2 h2 in
-    let s3 = next_or_zero (stats_in t) (usual_stats initial finished 0 0 0) (codes "passed") 2 (λ n. usual_stats initial finished n 0 0) (record { no_space = search rules; no_equals = search rules; within = omega arith; row = λ digits m e. rw e refl }) 2 (omega arith) r2 s2 refl passed r3 h3 in
-    let s4 = next_or_zero (stats_in t) (usual_stats initial finished passed 0 0) (codes "failed") 6 (λ n. usual_stats initial finished passed n 0) (record { no_space = search rules; no_equals = search rules; within = omega arith; row = λ digits m e. rw e refl }) 3 (omega arith) r3 s3 refl failed r4 h4 in
-    let s5 = next_or_zero (stats_in t) (usual_stats initial finished passed failed 0) (codes "skipped") 10 (λ n. usual_stats initial finished passed failed n) (record { no_space = search rules; no_equals = search rules; within = omega arith; row = λ digits m e. rw e refl }) 7 (omega arith) r4 s4 refl skipped r5 h5 in
+    let s2 = next_pair (stats_in t) (planned_stats initial) (codes "finished") 1 (λ n. usual_stats initial n 0 0 0) (record { no_space = search rules; no_equals = search rules; row = λ digits m e. rw e refl }) 1 (omega arith) r1 s1 finished r2 h2 in
+    let s3 = next_or_zero (stats_in t) (usual_stats initial finished 0 0 0) (codes "passed") 2 (λ n. usual_stats initial finished n 0 0) (record { no_space = search rules; no_equals = search rules; row = λ digits m e. rw e refl }) 2 (omega arith) r2 s2 refl passed r3 h3 in
+    let s4 = next_or_zero (stats_in t) (usual_stats initial finished passed 0 0) (codes "failed") 6 (λ n. usual_stats initial finished passed n 0) (record { no_space = search rules; no_equals = search rules; row = λ digits m e. rw e refl }) 3 (omega arith) r3 s3 refl failed r4 h4 in
+    let s5 = next_or_zero (stats_in t) (usual_stats initial finished passed failed 0) (codes "skipped") 10 (λ n. usual_stats initial finished passed failed n) (record { no_space = search rules; no_equals = search rules; row = λ digits m e. rw e refl }) 7 (omega arith) r4 s4 refl skipped r5 h5 in
     s5.ends end
