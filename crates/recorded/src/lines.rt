@@ -129,15 +129,15 @@ fn read_and_load<'a, O: ReadAt + Drop>(
     ensures count { OnOk result (CountsLine options.now read.old line.now (O.count outputs.old.source) (O.count outputs.new.source)) }
 {
     let (number, place) = (read.next, read.run.events.len());
-    let stored = read.read_recorded(alloc, line)?;
-    if stored.is_empty() || read.run.events.len() <= place {
+    read.read_recorded(alloc, line)?;
+    if read.stored.is_empty() || read.run.events.len() <= place {
         return Ok(());
     }
     let decider = decider_of(alloc, options, &read.run.config)?;
     match load_outputs(
         alloc,
         &decider,
-        stored.as_slice(),
+        read.stored.as_slice(),
         outputs,
         &mut read.run.events[place],
     ) {

@@ -73,7 +73,8 @@ fn notes_references_of_lines(rt: HostRuntime) -> Result<(), Fail> {
             .replace(alloc, "PASSED", PASSED)?
             .replace(alloc, "FAILED", FAILED)?;
         let mut read = LinesRead::new(alloc);
-        let outputs = read.read_recorded(alloc, line.as_str().as_bytes())?;
+        read.read_recorded(alloc, line.as_str().as_bytes())?;
+        let outputs = &read.stored;
         assert_eq!(rt; (read.run.events.len(), read.next), (1, 2), "of {short}");
         assert_eq!(rt; outputs.len(), places.len(), "of {short}");
         for (output, (place, field)) in outputs.iter().zip(places.iter()) {
@@ -96,9 +97,9 @@ fn reads_other_lines_as_those_of_a_scene(rt: HostRuntime) -> Result<(), Fail> {
             .replace(alloc, "FAILED", FAILED)?;
         let line = line.as_str().as_bytes();
         let (mut recorded, mut plain) = (LinesRead::new(alloc), LinesRead::new(alloc));
-        let outputs = recorded.read_recorded(alloc, line).map(|it| it.len());
-        let same = plain.read_more(alloc, line).map(|()| 0);
-        assert_eq!(rt; outputs, same, "of {short}");
+        let told = recorded.read_recorded(alloc, line);
+        assert_eq!(rt; told, plain.read_more(alloc, line), "of {short}");
+        assert!(rt; recorded.stored.is_empty(), "of {short}");
         assert_eq!(rt;
             recorded.run.events.len(),
             plain.run.events.len(),

@@ -117,18 +117,18 @@ impl<'a> Fields<'a> {
         }
     }
 
-    /// The fields of a line of a recorded run, none of them taken, of which outputs may be stored.
-    pub fn recorded(alloc: Global, fields: &'a [&'a str]) -> Fields<'a>
+    /// The fields of a line of a recorded run, none of them taken, of which outputs may be stored. Those are noted in this list, in place of
+    /// what it holds.
+    pub fn recorded(fields: &'a [&'a str], stored: Vec<PlacedOutput>) -> Fields<'a>
         ensures { result ≡ record { number = 0; left = field_texts fields.now; noted = Some none_noted } }
     {
+        let mut stored = stored;
+        stored.clear();
         Fields {
             left: fields,
             owned: &mut [],
             number: 0,
-            noted: Some(NotedOutputs {
-                outputs: 0,
-                stored: Vec::new(alloc),
-            }),
+            noted: Some(NotedOutputs { outputs: 0, stored }),
         }
     }
 
@@ -177,7 +177,7 @@ impl<'a> Fields<'a> {
     ///
     /// ```
     /// let fields = ["comb", "\\@7:7:ee2a98c236301c76", "-"];
-    /// assert!(Fields::recorded(alloc, &fields).next_stored().is_some());
+    /// assert!(Fields::recorded(&fields, Vec::new(alloc)).next_stored().is_some());
     /// assert!(Fields::new(&fields).next_stored().is_none());
     /// ```
     pub fn next_stored(&self) -> Option<StoredOutput>

@@ -25,6 +25,7 @@ use scene_fields::owned_text::OwnedText;
 use scene_fields::split::first_line;
 use scene_fields::stored::PlacedOutput;
 use std::alloc::Global;
+use std::mem;
 
 // Room for the fields of most recorded lines: those of a finished test with one attempt, and of a second one.
 const FIELDS: usize = 32;
@@ -54,6 +55,8 @@ pub struct LinesRead {
     pub is_begun: bool,
     /// The number of the line that follows.
     pub next: u64,
+    /// The stored outputs of the recorded line that was read last, in order.
+    pub stored: Vec<PlacedOutput>,
     // The binaries of their tests.
     binaries: BinaryIds,
 }
@@ -74,6 +77,7 @@ impl LinesRead {
             },
             is_begun: false,
             next: 1,
+            stored: Vec::new(alloc),
             binaries: BinaryIds::new(alloc),
         }
     }
@@ -140,7 +144,7 @@ impl LinesRead {
         }
     }
 
-    /// Reads the line of a recorded run that follows these, of which outputs may be stored, and returns those that are, in order. The event
+    /// Reads the line of a recorded run that follows these, of which outputs may be stored: those that are stand in `stored` then, and the event
     /// leaves them unread. The errors are those of `read_more`.
     ///
     /// A field that begins like a reference and is none, or stands where none may, is a bad field.
@@ -148,16 +152,12 @@ impl LinesRead {
     /// ```
     /// let line = "setupdone\t-\tdb\tinit\t\tpass\t5\t0\tcomb\t\\@7:7:ee2a98c236301c76\t-\t-\t-";
     /// let mut read = LinesRead::new(alloc);
-    /// let stored = read.read_recorded(alloc, line.as_bytes())?;
-    /// assert_eq!(stored.as_slice()[0].field, 10);
+    /// read.read_recorded(alloc, line.as_bytes())?;
+    /// assert_eq!(read.stored.as_slice()[0].field, 10);
     /// ```
-    pub fn read_recorded(
-        &mut self,
-        alloc: Global,
-        line: &[u8],
-    ) -> Result<Vec<PlacedOutput>, ReadFault>
+    pub fn read_recorded(&mut self, alloc: Global, line: &[u8]) -> Result<(), ReadFault>
         ensures read { OnOk result (ReadsLines self.old self.new (unread_line line.now ∷ [])) }
-        ensures stored { IfOk result (λ stored. (x : ParsedLine) × (recorded_line (before_next self.old) line.now ≡ Ok (x, stored.items))) }
+        ensures stored { OnOk result ((x : ParsedLine) × (recorded_line (before_next self.old) line.now ≡ Ok (x, self.new.stored.items))) }
         ensures left { IfErr result (LeavesLines self.old self.new (unread_line line.now ∷ [])) }
     {
         let number = self.next;
@@ -165,9 +165,9 @@ impl LinesRead {
             return Err(ReadFault::OutOfMemory);
         }
         match self.read_recorded_line(alloc, line) {
-            Ok(stored) => {
+            Ok(()) => {
                 self.next = number + 1;
-                Ok(stored)
+                Ok(())
             }
             Err(error) => Err(fault_at(number, error)),
         }
@@ -211,19 +211,16 @@ impl LinesRead {
         self.read_fields(alloc, &mut Fields::of_large_line(fields.as_mut_slice()))
     }
 
-    // Reads the recorded line that follows, as `read_line` does, and returns its stored outputs.
+    // Reads the recorded line that follows, as `read_line` does. The list of stored outputs is used again, which saves an allocation a line.
     #[tactic(auto, unfolding(crate::specs::SceneTexts::line_from), using(scene_fields::proofs::lemmas::Utf8::utf8_passes, scene_fields::proofs::lemmas::Utf8::utf8_fails))]
-    fn read_recorded_line(
-        &mut self,
-        alloc: Global,
-        line: &[u8],
-    ) -> Result<Vec<PlacedOutput>, LineError>
+    fn read_recorded_line(&mut self, alloc: Global, line: &[u8]) -> Result<(), LineError>
         ensures read { TakesLine self.old result self.new (line_value (before_next self.old) (unread_line line.now)) }
         ensures noted { OnOk result (NotesLine self.old self.new) }
-        ensures stored { IfOk result (λ stored. (x : ParsedLine) × (recorded_line (before_next self.old) line.now ≡ Ok (x, stored.items))) }
+        ensures stored { OnOk result ((x : ParsedLine) × (recorded_line (before_next self.old) line.now ≡ Ok (x, self.new.stored.items))) }
     {
         if is_passed_over(line) {
-            return Ok(Vec::new(alloc));
+            self.stored.clear();
+            return Ok(());
         }
         let Ok(line) = str::from_utf8(line) else {
             return Err(LineError::Fault(LineFault::NotUtf8));
@@ -232,9 +229,11 @@ impl LinesRead {
             return Err(LineError::OutOfMemory);
         };
         split_fields(line, &mut texts)?;
-        let mut fields = Fields::recorded(alloc, texts.as_slice());
+        let stored = mem::replace(&mut self.stored, Vec::new(alloc));
+        let mut fields = Fields::recorded(texts.as_slice(), stored);
         self.read_fields(alloc, &mut fields)?;
-        Ok(fields.into_stored(alloc))
+        self.stored = fields.into_stored(alloc);
+        Ok(())
     }
 
     // Reads the fields of the line that follows. What is wrong leaves the lines as they were.
