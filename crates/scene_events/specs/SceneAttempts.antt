@@ -9,6 +9,8 @@ use Rattle.scene_events.specs.declared.scene.attempts.EndedAttempt.{EndedAttempt
 use Rattle.scene_events.specs.declared.scene.attempts.Marks.{Marks}
 use Rattle.scene_events.specs.declared.scene.attempts.MoreAttempts.{MoreAttempts}
 use Rattle.scene_events.specs.declared.scene.attempts.MoreAttempts.TheVariants as more
+use Rattle.scene_events.specs.declared.scene.attempts.Written.{Written}
+use Rattle.scene_events.specs.declared.scene.attempts.Written.TheVariants as wrote
 use Rattle.scene_events.specs.declared.scene.outputs.SceneOutput.{SceneOutput}
 
 -- an attempt that ended so, was slow or not, and wrote this
@@ -26,6 +28,15 @@ abbrev pub marks_of : MoreAttempts → Marks
 marks_of (more.Nothing marks) = marks
 marks_of (more.Output marks output) = marks
 marks_of (more.Earlier marks earlier) = marks
+
+-- whether an attempt was slow, and what it wrote
+abbrev pub was_slow : Written → Bool
+was_slow (wrote.Nothing is_slow) = is_slow
+was_slow (wrote.Output is_slow output) = is_slow
+
+abbrev pub output_of : Written → SceneOutput
+output_of (wrote.Nothing is_slow) = no_output
+output_of (wrote.Output is_slow output) = output
 
 -- an attempt as that of a setup script, which has no other
 abbrev pub script_status : Attempt → SetupScriptExecuteStatus LiveSpec ChildOutputDescription

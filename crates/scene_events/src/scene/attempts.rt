@@ -108,12 +108,13 @@ impl SceneAttempts {
     ) -> Result<Self, OutOfMemory>
         ensures { IfOk result (λ attempts. attempts ≡ record { earlier = earlier.items; last = last; flaky_result = flaky_result }) }
     {
+        let ended = last.ended;
+        let written = last.written;
         let marks = Marks {
-            is_slow: last.is_slow,
+            is_slow: written.is_slow(),
             flaky_result,
         };
-        let ended = last.ended;
-        let output = last.output;
+        let output = written.into_output();
         let more = if earlier.is_empty() {
             match output.output {
                 None => MoreAttempts::Nothing { marks },
@@ -336,8 +337,23 @@ fn statuses_of(
 #[derive(Drop)]
 pub struct SceneAttempt {
     ended: EndedAttempt,
-    output: AttemptOutput,
-    is_slow: bool,
+    written: Written,
+}
+
+const _: () = prove!(size_of::<SceneAttempt>() == 72);
+
+// What an attempt wrote, and before it whether it was slow, where the tag leaves room.
+#[derive(Drop)]
+enum Written {
+    // Nothing, as most.
+    Nothing {
+        is_slow: bool,
+    },
+    // This.
+    Output {
+        is_slow: bool,
+        output: Boxed<SceneOutput>,
+    },
 }
 
 impl Model for SceneAttempt {
@@ -345,9 +361,9 @@ impl Model for SceneAttempt {
 
     ghost Value = { Attempt };
 
-    ghost use Rattle.scene_events.specs.SceneAttempts.{attempt_of};
+    ghost use Rattle.scene_events.specs.SceneAttempts.{attempt_of, output_of, was_slow};
 
-    ghost view = { λ a. attempt_of a.ended a.is_slow a.output };
+    ghost view = { λ a. attempt_of a.ended (was_slow a.written) (output_of a.written) };
 }
 
 impl SceneAttempt {
@@ -380,8 +396,7 @@ impl SceneAttempt {
                 result: outcome,
                 retry_data,
             },
-            output,
-            is_slow,
+            written: Written::new(is_slow, output),
         }
     }
 
@@ -403,7 +418,7 @@ impl SceneAttempt {
     pub fn has_loaded_output(&self) -> bool
         ensures { result ≡ has_loaded_output self.now.output }
     {
-        self.output.get().is_none_or(SceneOutput::is_loaded)
+        self.written.output().is_none_or(SceneOutput::is_loaded)
     }
 
     /// Puts this in place of what it captured; errors and highlight stay. An attempt that could not be started stays as it is. It
@@ -416,14 +431,15 @@ impl SceneAttempt {
         ensures loaded { OnOk result (self.new ≡ attempt_with_output self.old captured) }
         ensures kept { OnErr result (self.new ≡ self.old) }
     {
-        self.output.load(alloc, captured)
+        self.written.load(alloc, captured)
     }
 
     /// The attempt as an event has it. Copies its texts and shares the bytes of its output.
     pub fn status(&self, alloc: Global) -> Result<ExecuteStatus<LiveSpec>, OutOfMemory>
         ensures { IfOk result (λ status. status ≡ self.now) }
     {
-        self.ended.status(alloc, self.is_slow, self.output.get())
+        self.ended
+            .status(alloc, self.written.is_slow(), self.written.output())
     }
 
     /// The attempt of a setup script as an event has it. Copies its texts and shares the bytes of its output.
@@ -440,6 +456,75 @@ impl SceneAttempt {
             output: status.output,
             is_slow: status.is_slow,
         })
+    }
+}
+
+impl Written {
+    ghost use Rattle.scene_events.specs.SceneAttempts.{output_of, was_slow};
+    ghost use Rattle.scene_events.specs.SceneOutputs.{loaded};
+
+    // This output of an attempt that was slow or not.
+    #[inline(always)]
+    fn new(is_slow: bool, output: AttemptOutput) -> Self
+        ensures slow { was_slow result ≡ is_slow }
+        ensures wrote { output_of result ≡ output }
+    {
+        match output.output {
+            None => Written::Nothing { is_slow },
+            Some(output) => Written::Output { is_slow, output },
+        }
+    }
+
+    // Whether the attempt was slow.
+    #[inline(always)]
+    fn is_slow(&self) -> bool
+        ensures { result ≡ was_slow self.now }
+    {
+        match self {
+            Written::Nothing { is_slow } => *is_slow,
+            Written::Output { is_slow, .. } => *is_slow,
+        }
+    }
+
+    // What it wrote, unless that is nothing.
+    #[inline(always)]
+    fn output(&self) -> Option<&SceneOutput>
+        ensures { unwrap_or (option_copied result) no_output ≡ output_of self.now }
+    {
+        match self {
+            Written::Nothing { .. } => None,
+            Written::Output { output, .. } => Some(output.get()),
+        }
+    }
+
+    // What it wrote, alone.
+    #[inline(always)]
+    fn into_output(self) -> AttemptOutput
+        ensures { result ≡ output_of self }
+    {
+        match self {
+            Written::Nothing { .. } => AttemptOutput::empty(),
+            Written::Output { output, .. } => AttemptOutput {
+                output: Some(output),
+            },
+        }
+    }
+
+    // `SceneAttempt::load`.
+    fn load(&mut self, alloc: Global, captured: ChildOutputDescription) -> Result<(), OutOfMemory>
+        ensures slow { was_slow self.new ≡ was_slow self.old }
+        ensures loaded { OnOk result (output_of self.new ≡ loaded (output_of self.old) captured) }
+        ensures kept { OnErr result (self.new ≡ self.old) }
+    {
+        match self {
+            Written::Output { output, .. } => output.get_mut().load(captured),
+            Written::Nothing { is_slow } => {
+                let is_slow = *is_slow;
+                let output = Boxed::new(alloc, SceneOutput::of(captured))?;
+                *self = Written::Output { is_slow, output };
+            }
+        }
+        Ok(())
     }
 }
 
