@@ -2,7 +2,7 @@
 
 ghost use Rattle.std.specs.Option.{option_copied, unwrap_or};
 ghost use Rattle.std.specs.Prelude.{◌≡◌, IfOk, IsTrue, OnErr, OnOk};
-ghost use Rattle.scene_events.specs.SceneAttempts.{attempt_of, before_last};
+ghost use Rattle.scene_events.specs.SceneAttempts.{attempt_of, before_last, marks_of};
 ghost use Rattle.scene_events.specs.SceneOutputs.{no_output};
 
 use super::outputs::{AttemptOutput, SceneOutput};
@@ -25,28 +25,41 @@ pub struct SceneAttempts {
 }
 
 // A scene may hold a million.
-const _: () = prove!(size_of::<SceneAttempts>() == 80);
+const _: () = prove!(size_of::<SceneAttempts>() == 72);
 
-// How an attempt ended. What a success counts as after other attempts stands here too, where there is room; only that of the last one
-// says anything.
+// How an attempt ended.
 #[derive(Drop)]
 struct EndedAttempt {
-    time_taken: Nanos,
+    time_taken: HalvedNanos,
     result: ExecutionResultDescription,
     retry_data: RetryData,
-    is_slow: bool,
-    flaky_result: FlakyResult,
 }
 
-// What there is beside how the last attempt ended.
+// What there is beside how the last attempt ended. The marks stand first, where the tag leaves room.
 #[derive(Drop)]
 enum MoreAttempts {
     // Nothing: it is the only attempt, and wrote nothing, as most.
-    Nothing,
+    Nothing {
+        marks: Marks,
+    },
     // It is the only attempt, and wrote this.
-    Output(Boxed<SceneOutput>),
+    Output {
+        marks: Marks,
+        output: Boxed<SceneOutput>,
+    },
     // There are others before it.
-    Earlier(Boxed<EarlierAttempts>),
+    Earlier {
+        marks: Marks,
+        earlier: Boxed<EarlierAttempts>,
+    },
+}
+
+// What is said of the last attempt in a byte each.
+#[derive(Clone, Copy)]
+struct Marks {
+    is_slow: bool,
+    // What a success counts as after other attempts.
+    flaky_result: FlakyResult,
 }
 
 // The attempts before the last one, and what that one wrote.
@@ -71,12 +84,12 @@ impl Model for SceneAttempts {
 
     ghost Value = { Attempts LiveSpec ChildOutputDescription };
 
-    ghost use Rattle.scene_events.specs.SceneAttempts.{attempt_of, before_last};
+    ghost use Rattle.scene_events.specs.SceneAttempts.{attempt_of, before_last, marks_of};
 
     ghost view = { λ a. record {
       earlier = (before_last a.more).attempts;
-      last = attempt_of a.last (before_last a.more).last_output;
-      flaky_result = a.last.flaky_result;
+      last = attempt_of a.last (marks_of a.more).is_slow (before_last a.more).last_output;
+      flaky_result = (marks_of a.more).flaky_result;
     } };
 }
 
@@ -95,26 +108,29 @@ impl SceneAttempts {
     ) -> Result<Self, OutOfMemory>
         ensures { IfOk result (λ attempts. attempts ≡ record { earlier = earlier.items; last = last; flaky_result = flaky_result }) }
     {
-        let output = last.output;
+        let ended = last.ended;
+        let written = last.written;
+        let marks = Marks {
+            is_slow: written.is_slow(),
+            flaky_result,
+        };
+        let output = written.into_output();
         let more = if earlier.is_empty() {
             match output.output {
-                None => MoreAttempts::Nothing,
-                Some(output) => MoreAttempts::Output(output),
+                None => MoreAttempts::Nothing { marks },
+                Some(output) => MoreAttempts::Output { marks, output },
             }
         } else {
             let earlier = EarlierAttempts {
                 attempts: earlier,
                 last_output: output,
             };
-            MoreAttempts::Earlier(Boxed::new(alloc, earlier)?)
+            MoreAttempts::Earlier {
+                marks,
+                earlier: Boxed::new(alloc, earlier)?,
+            }
         };
-        Ok(SceneAttempts {
-            last: EndedAttempt {
-                flaky_result,
-                ..last.ended
-            },
-            more,
-        })
+        Ok(SceneAttempts { last: ended, more })
     }
 
     /// How the last attempt ended.
@@ -144,11 +160,15 @@ impl SceneAttempts {
         ensures kept { OnErr result (self.new ≡ self.old) }
     {
         match &mut self.more {
-            MoreAttempts::Earlier(earlier) => earlier.get_mut().load(alloc, place, captured)?,
+            MoreAttempts::Earlier { earlier, .. } => {
+                earlier.get_mut().load(alloc, place, captured)?
+            }
             _ if place > 0 => {}
-            MoreAttempts::Output(output) => output.get_mut().load(captured),
-            MoreAttempts::Nothing => {
-                self.more = MoreAttempts::Output(Boxed::new(alloc, SceneOutput::of(captured))?);
+            MoreAttempts::Output { output, .. } => output.get_mut().load(captured),
+            MoreAttempts::Nothing { marks } => {
+                let marks = *marks;
+                let output = Boxed::new(alloc, SceneOutput::of(captured))?;
+                self.more = MoreAttempts::Output { marks, output };
             }
         }
         Ok(())
@@ -165,8 +185,8 @@ impl SceneAttempts {
         ensures { IfOk result (λ is_replaced. IsTrue is_replaced → statuses.new ≡ self.now) }
     {
         let captured = match &self.more {
-            MoreAttempts::Nothing => None,
-            MoreAttempts::Output(output) => match output.get() {
+            MoreAttempts::Nothing { .. } => None,
+            MoreAttempts::Output { output, .. } => match output.get() {
                 SceneOutput::Output {
                     output,
                     errors: None,
@@ -174,16 +194,17 @@ impl SceneAttempts {
                 } => Some(output.copy()?),
                 _ => return Ok(false),
             },
-            MoreAttempts::Earlier(_) => return Ok(false),
+            MoreAttempts::Earlier { .. } => return Ok(false),
         };
         let last = &self.last;
+        let marks = self.more.marks();
         Ok(statuses.replace_only(
-            last.time_taken,
+            last.time_taken.get(),
             last.retry_data,
             &last.result,
             captured,
-            last.is_slow,
-            last.flaky_result,
+            marks.is_slow,
+            marks.flaky_result,
         ))
     }
 
@@ -192,11 +213,16 @@ impl SceneAttempts {
         ensures { IfOk result (λ statuses. statuses ≡ self.now) }
     {
         let earlier = match &self.more {
-            MoreAttempts::Earlier(more) => statuses_of(alloc, more.get().attempts.as_slice())?,
+            MoreAttempts::Earlier { earlier, .. } => {
+                statuses_of(alloc, earlier.get().attempts.as_slice())?
+            }
             _ => Vec::new(alloc),
         };
-        let last = self.last.status(alloc, self.more.last_output())?;
-        Ok(ExecutionStatuses::with_last(earlier, last, self.last.flaky_result))
+        let marks = self.more.marks();
+        let last = self
+            .last
+            .status(alloc, marks.is_slow, self.more.last_output())?;
+        Ok(ExecutionStatuses::with_last(earlier, last, marks.flaky_result))
     }
 }
 
@@ -207,9 +233,21 @@ impl MoreAttempts {
         ensures { unwrap_or (option_copied result) no_output ≡ (before_last self.now).last_output }
     {
         match self {
-            MoreAttempts::Nothing => None,
-            MoreAttempts::Output(output) => Some(output.get()),
-            MoreAttempts::Earlier(earlier) => earlier.get().last_output.get(),
+            MoreAttempts::Nothing { .. } => None,
+            MoreAttempts::Output { output, .. } => Some(output.get()),
+            MoreAttempts::Earlier { earlier, .. } => earlier.get().last_output.get(),
+        }
+    }
+
+    // The marks of the last attempt.
+    #[inline(always)]
+    fn marks(&self) -> Marks
+        ensures { result ≡ marks_of self.now }
+    {
+        match self {
+            MoreAttempts::Nothing { marks } => *marks,
+            MoreAttempts::Output { marks, .. } => *marks,
+            MoreAttempts::Earlier { marks, .. } => *marks,
         }
     }
 }
@@ -220,19 +258,20 @@ impl EndedAttempt {
     fn status(
         &self,
         alloc: Global,
+        is_slow: bool,
         output: Option<&SceneOutput>,
     ) -> Result<ExecuteStatus<LiveSpec>, OutOfMemory>
-        ensures { IfOk result (λ status. status ≡ attempt_of self.now (unwrap_or (option_copied output.entry) no_output)) }
+        ensures { IfOk result (λ status. status ≡ attempt_of self.now is_slow (unwrap_or (option_copied output.entry) no_output)) }
     {
         if let Some(output) = output {
-            return self.status_with(alloc, output);
+            return self.status_with(alloc, is_slow, output);
         }
         Ok(ExecuteStatus {
-            time_taken: self.time_taken,
+            time_taken: self.time_taken.get(),
             retry_data: self.retry_data,
             result: self.result.copy(alloc)?,
             output: ChildExecutionOutputDescription::silent(self.result.copy(alloc)?),
-            is_slow: self.is_slow,
+            is_slow,
         })
     }
 
@@ -241,16 +280,17 @@ impl EndedAttempt {
     fn status_with(
         &self,
         alloc: Global,
+        is_slow: bool,
         output: &SceneOutput,
     ) -> Result<ExecuteStatus<LiveSpec>, OutOfMemory>
-        ensures { IfOk result (λ status. status ≡ attempt_of self.now output.now) }
+        ensures { IfOk result (λ status. status ≡ attempt_of self.now is_slow output.now) }
     {
         Ok(ExecuteStatus {
-            time_taken: self.time_taken,
+            time_taken: self.time_taken.get(),
             retry_data: self.retry_data,
             result: self.result.copy(alloc)?,
             output: output.description(alloc, Some(self.result.copy(alloc)?))?,
-            is_slow: self.is_slow,
+            is_slow,
         })
     }
 }
@@ -297,7 +337,23 @@ fn statuses_of(
 #[derive(Drop)]
 pub struct SceneAttempt {
     ended: EndedAttempt,
-    output: AttemptOutput,
+    written: Written,
+}
+
+const _: () = prove!(size_of::<SceneAttempt>() == 72);
+
+// What an attempt wrote, and before it whether it was slow, where the tag leaves room.
+#[derive(Drop)]
+enum Written {
+    // Nothing, as most.
+    Nothing {
+        is_slow: bool,
+    },
+    // This.
+    Output {
+        is_slow: bool,
+        output: Boxed<SceneOutput>,
+    },
 }
 
 impl Model for SceneAttempt {
@@ -305,9 +361,9 @@ impl Model for SceneAttempt {
 
     ghost Value = { Attempt };
 
-    ghost use Rattle.scene_events.specs.SceneAttempts.{attempt_of};
+    ghost use Rattle.scene_events.specs.SceneAttempts.{attempt_of, output_of, was_slow};
 
-    ghost view = { λ a. attempt_of a.ended a.output };
+    ghost view = { λ a. attempt_of a.ended (was_slow a.written) (output_of a.written) };
 }
 
 impl SceneAttempt {
@@ -336,13 +392,11 @@ impl SceneAttempt {
     {
         SceneAttempt {
             ended: EndedAttempt {
-                time_taken,
+                time_taken: HalvedNanos::new(time_taken),
                 result: outcome,
                 retry_data,
-                is_slow,
-                flaky_result: FlakyResult::Pass,
             },
-            output,
+            written: Written::new(is_slow, output),
         }
     }
 
@@ -364,7 +418,7 @@ impl SceneAttempt {
     pub fn has_loaded_output(&self) -> bool
         ensures { result ≡ has_loaded_output self.now.output }
     {
-        self.output.get().is_none_or(SceneOutput::is_loaded)
+        self.written.output().is_none_or(SceneOutput::is_loaded)
     }
 
     /// Puts this in place of what it captured; errors and highlight stay. An attempt that could not be started stays as it is. It
@@ -377,14 +431,15 @@ impl SceneAttempt {
         ensures loaded { OnOk result (self.new ≡ attempt_with_output self.old captured) }
         ensures kept { OnErr result (self.new ≡ self.old) }
     {
-        self.output.load(alloc, captured)
+        self.written.load(alloc, captured)
     }
 
     /// The attempt as an event has it. Copies its texts and shares the bytes of its output.
     pub fn status(&self, alloc: Global) -> Result<ExecuteStatus<LiveSpec>, OutOfMemory>
         ensures { IfOk result (λ status. status ≡ self.now) }
     {
-        self.ended.status(alloc, self.output.get())
+        self.ended
+            .status(alloc, self.written.is_slow(), self.written.output())
     }
 
     /// The attempt of a setup script as an event has it. Copies its texts and shares the bytes of its output.
@@ -401,5 +456,113 @@ impl SceneAttempt {
             output: status.output,
             is_slow: status.is_slow,
         })
+    }
+}
+
+impl Written {
+    ghost use Rattle.scene_events.specs.SceneAttempts.{output_of, was_slow};
+    ghost use Rattle.scene_events.specs.SceneOutputs.{loaded};
+
+    // This output of an attempt that was slow or not.
+    #[inline(always)]
+    fn new(is_slow: bool, output: AttemptOutput) -> Self
+        ensures slow { was_slow result ≡ is_slow }
+        ensures wrote { output_of result ≡ output }
+    {
+        match output.output {
+            None => Written::Nothing { is_slow },
+            Some(output) => Written::Output { is_slow, output },
+        }
+    }
+
+    // Whether the attempt was slow.
+    #[inline(always)]
+    fn is_slow(&self) -> bool
+        ensures { result ≡ was_slow self.now }
+    {
+        match self {
+            Written::Nothing { is_slow } => *is_slow,
+            Written::Output { is_slow, .. } => *is_slow,
+        }
+    }
+
+    // What it wrote, unless that is nothing.
+    #[inline(always)]
+    fn output(&self) -> Option<&SceneOutput>
+        ensures { unwrap_or (option_copied result) no_output ≡ output_of self.now }
+    {
+        match self {
+            Written::Nothing { .. } => None,
+            Written::Output { output, .. } => Some(output.get()),
+        }
+    }
+
+    // What it wrote, alone.
+    #[inline(always)]
+    fn into_output(self) -> AttemptOutput
+        ensures { result ≡ output_of self }
+    {
+        match self {
+            Written::Nothing { .. } => AttemptOutput::empty(),
+            Written::Output { output, .. } => AttemptOutput {
+                output: Some(output),
+            },
+        }
+    }
+
+    // `SceneAttempt::load`.
+    fn load(&mut self, alloc: Global, captured: ChildOutputDescription) -> Result<(), OutOfMemory>
+        ensures slow { was_slow self.new ≡ was_slow self.old }
+        ensures loaded { OnOk result (output_of self.new ≡ loaded (output_of self.old) captured) }
+        ensures kept { OnErr result (self.new ≡ self.old) }
+    {
+        match self {
+            Written::Output { output, .. } => output.get_mut().load(captured),
+            Written::Nothing { is_slow } => {
+                let is_slow = *is_slow;
+                let output = Boxed::new(alloc, SceneOutput::of(captured))?;
+                *self = Written::Output { is_slow, output };
+            }
+        }
+        Ok(())
+    }
+}
+
+// A duration in two halves: a `u128` is aligned to 16 bytes, and an attempt that held one would lose eight. Contracts see the duration.
+#[derive(Drop)]
+struct HalvedNanos {
+    high: u64,
+    low: u64,
+}
+
+impl Model for HalvedNanos {
+    ghost use Rattle.std.specs.Prelude.{◌+◌, ◌*◌, ◌^◌};
+    ghost use Rattle.run_names.specs.declared.time.Nanos.{Nanos};
+
+    ghost Value = { Nanos };
+
+    ghost view = { λ h. record { 0 = h.high * 2 ^ 64 + h.low } };
+}
+
+const HALF: u128 = 1 << 64;
+
+impl HalvedNanos {
+    // The halves of this duration.
+    #[inline(always)]
+    fn new(nanos: Nanos) -> Self
+        ensures { result ≡ nanos }
+    {
+        HalvedNanos {
+            high: (nanos.0 / HALF) as u64,
+            low: (nanos.0 % HALF) as u64,
+        }
+    }
+
+    // The duration.
+    #[inline(always)]
+    fn get(&self) -> Nanos
+        ensures { result ≡ self.now }
+    {
+        Nanos(self.high as u128 * HALF + self.low as u128)
     }
 }

@@ -70,13 +70,13 @@ pub struct SlowTest {
     pub will_terminate: bool,
 }
 
-/// An attempt of a test that failed, after which another one follows.
+/// An attempt of a test that failed, after which another one follows. The delay stands first, since a `u128` is aligned to 16 bytes.
 #[derive(Drop)]
 pub struct FailedAttempt {
-    /// The attempt.
-    pub attempt: SceneAttempt,
     /// How long the next attempt waits.
     pub delay_before_next_attempt: Nanos,
+    /// The attempt.
+    pub attempt: SceneAttempt,
     /// The test.
     pub test: SceneTest,
     /// When its output is to be shown.
