@@ -12,13 +12,11 @@ use Rattle.recorded.specs.Runs.{before_behind, before_rest, line_replayed, lines
 use Rattle.recorded.specs.Source.{IsLeft}
 use Rattle.scene_events.specs.declared.scene.event.SceneEvent.{SceneEvent}
 use Rattle.scene_fields.specs.declared.fault.LineFault.{LineFault}
-use Rattle.scene_fields.specs.declared.fault.ReadFault.{ReadFault}
-use Rattle.scene_fields.specs.declared.fault.ReadFault.TheVariants as fault
 use Rattle.scene_fields.specs.declared.stored.PlacedOutput.{PlacedOutput}
 use Rattle.scene_text.proofs.lemmas.Tellings.{all_append, noted_append}
-use Rattle.scene_text.specs.SceneTexts.{ConfigLine, EventLine, IsNextFault, LinesBefore, NoEvent, ParsedLine, ParsedLines, ReadsLines, RunLine, before_next, event_line, event_lines, is_begun, line_read, lines_before, lines_with, recorded_line, with_line, with_made}
+use Rattle.scene_text.specs.SceneTexts.{ConfigLine, EventLine, LinesBefore, NoEvent, ParsedLine, ParsedLines, ReadsLines, RunLine, before_next, event_line, event_lines, is_begun, line_read, lines_before, lines_with, recorded_line, with_line, with_made}
 use Rattle.scene_text.specs.declared.reader.LinesRead.{LinesRead}
-use Rattle.scenes.proofs.lemmas.ReadLines.{begun_by}
+use Rattle.scenes.proofs.lemmas.ReadLines.{begun_by, next_fault}
 use Rattle.scenes.specs.Read.{HasReadLines, IsMore}
 use Rattle.scenes.specs.Reports.{decider_for}
 
@@ -43,10 +41,6 @@ before_others options all run after t h = before_so run after (λ stored e. even
 needed_first : (options : Options) (before : LinesBefore) (t : List ℕ) (ts : List (List ℕ)) → needed options before (t ∷ ts) ≡ needed_for options before (recorded_line before t) + needed options (before_rest before (recorded_line before t)) ts
 unfolding needed
 needed_first options before t ts = refl
-
-next_fault : (n : ℕ) (run : ParsedLines) (lines others : List RunLine) (f : ReadFault) → IsNextFault n run lines f → IsNextFault n run (lines ++ others) f
-next_fault n run lines others (fault.Line m f) h = (h.0, (h.1.0, h.1.1 ++ others, ap (λ ls. ls ++ others) h.1.2, h.1.3))
-next_fault n run lines others fault.OutOfMemory h = tt
 
 module _ (file : List ℕ) (total : ℕ) (options : Options) (all front : List RunLine) (before : ParsedLines) (old : LinesRead) (recorded remaining : Option (List ℕ)) (count : ℕ) where
   abbrev Left : ParsedLines → List RunLine → Type 0

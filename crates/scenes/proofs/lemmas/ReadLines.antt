@@ -47,6 +47,11 @@ cut left rest piece remaining (inl lines) (more, remains, inr end) = ([], lines 
 cut left rest piece remaining (inr none) (more, remains, inl feed) = absurd (omega (arith, ap length (sym none.1 ∙ feed), length-append piece (10 ∷ more)))
 cut left rest piece remaining (inr none) (more, remains, inr end) = absurd (omega (arith, ap length (sym none.1 ∙ end.0), end.2))
 
+-- the first of these lines has the fault, also where others stand behind them
+pub next_fault : (n : ℕ) (run : ParsedLines) (lines others : List RunLine) (f : ReadFault) → IsNextFault n run lines f → IsNextFault n run (lines ++ others) f
+next_fault n run lines others (reading.Line m f) h = (h.0, (h.1.0, h.1.1 ++ others, ap (λ ls. ls ++ others) h.1.2, h.1.3))
+next_fault n run lines others reading.OutOfMemory h = tt
+
 -- none of the lines that a source has was read
 pub none_read : (file : List ℕ) (all : List RunLine) (read : LinesRead) (Has : ParsedLines → List RunLine → Type 0) → parsed_lines read.run ≡ no_lines → read.run.lines.items ≡ [] → read.is_begun ≡ false → read.next ≡ 1 → Has no_lines all →
     HasReadLines file all [] no_lines read (Ok true) Has
@@ -80,10 +85,6 @@ module _ (file : List ℕ) (all front : List RunLine) (before : ParsedLines) (ol
       begun = has.begun ∙ sym reads.begun;
       more_is = more_is;
     }
-
-  next_fault : (n : ℕ) (run : ParsedLines) (lines others : List RunLine) (f : ReadFault) → IsNextFault n run lines f → IsNextFault n run (lines ++ others) f
-  next_fault n run lines others (reading.Line m f) h = (h.0, (h.1.0, h.1.1 ++ others, ap (λ ls. ls ++ others) h.1.2, h.1.3))
-  next_fault n run lines others reading.OutOfMemory h = tt
 
   module _ (remaining : Option (List ℕ)) (has : HasReadLines file all front before old (Ok true) (λ run. AreLeftOf remaining)) (piece : List ℕ) (after : Option (List ℕ)) (next : (rest : List ℕ) → remaining ≡ Some rest → IsNextPiece rest true piece after) where
     here : IsCut has.left piece after
