@@ -1,6 +1,5 @@
 -- What is left of a recorded run, line by line (for `read_next`).
-use Rattle.std.proofs.Common.{◌≡◌, ℕ, ◌+◌, Bool, true, false, List, [], ◌∷◌, ◌++◌, Option, Some, Result, Ok, Err, length, map, refl, sym, ap, ◌∙◌, subst, arith, append_assoc, inl, inr}
-use Rattle.std.proofs.lemmas.List.{length-append}
+use Rattle.std.proofs.Common.{◌≡◌, ℕ, ◌+◌, Bool, true, false, List, [], ◌∷◌, ◌++◌, Option, Some, Result, Ok, Err, map, refl, sym, ap, ◌∙◌, subst, append_assoc, inl, inr}
 use Rattle.command_line.specs.declared.args.Options.{Options}
 use Rattle.command_line.specs.declared.fault.Fault.{Fault}
 use Rattle.recorded.proofs.lemmas.LoadedLines.{before_is, behind, one_read}
@@ -13,10 +12,9 @@ use Rattle.recorded.specs.Source.{IsLeft}
 use Rattle.scene_events.specs.declared.scene.event.SceneEvent.{SceneEvent}
 use Rattle.scene_fields.specs.declared.fault.LineFault.{LineFault}
 use Rattle.scene_fields.specs.declared.stored.PlacedOutput.{PlacedOutput}
-use Rattle.scene_text.proofs.lemmas.Tellings.{all_append, noted_append}
-use Rattle.scene_text.specs.SceneTexts.{ConfigLine, EventLine, LinesBefore, NoEvent, ParsedLine, ParsedLines, ReadsLines, RunLine, before_next, event_line, event_lines, is_begun, line_read, lines_before, lines_with, recorded_line, with_line, with_made}
+use Rattle.scene_text.specs.SceneTexts.{ConfigLine, EventLine, LinesBefore, NoEvent, ParsedLine, ParsedLines, ReadsLines, RunLine, before_next, event_line, is_begun, line_read, lines_before, lines_with, recorded_line, with_line, with_made}
 use Rattle.scene_text.specs.declared.reader.LinesRead.{LinesRead}
-use Rattle.scenes.proofs.lemmas.ReadLines.{begun_by, next_fault}
+use Rattle.scenes.proofs.lemmas.ReadLines.{begun_by, further as with_more, next_fault}
 use Rattle.scenes.specs.Read.{HasReadLines, IsMore}
 use Rattle.scenes.specs.Reports.{decider_for}
 
@@ -50,21 +48,7 @@ module _ (file : List ℕ) (total : ℕ) (options : Options) (all front : List R
     -- further lines were read
     further : (new : LinesRead) (lines left : List RunLine) → has.left ≡ lines ++ left → ReadsLines old new lines → (more : Result Bool Fault) (Next : ParsedLines → List RunLine → Type 0) → IsMore file more (behind before.events new) left new.next Next →
         HasReadLines file all front before new more Next
-    further new lines left is reads more Next more_is =
-        let size = length-append has.lines lines in
-        record {
-          lines = has.lines ++ lines;
-          left = left;
-          whole = has.whole ∙ ap (λ ls. front ++ ls) (ap (λ ls. has.lines ++ ls) is ∙ sym (append_assoc has.lines lines left));
-          forgotten = has.forgotten;
-          tells = all_append before has.lines (behind before.events old) lines (behind before.events new) has.tells (reads.tells before.events has.begun);
-          noted =
-              reads.noted before.events has.begun ∙ ap (λ ls. ls ++ event_lines old.next (behind before.events old) lines) has.noted
-              ∙ sym (noted_append (length front + 1) old.next before has.lines (behind before.events old) lines has.place has.tells);
-          place = omega (arith, size, reads.place, has.place);
-          begun = has.begun ∙ sym reads.begun;
-          more_is = more_is;
-        }
+    further new lines left is reads more Next more_is = with_more file all front before old new Left Next has lines left is reads more more_is
 
     module _ (recorded_new remaining_new : Option (List ℕ)) (kept : recorded_new ≡ recorded) (line : List ℕ) where
       -- no line is left
