@@ -11,7 +11,7 @@ pub returns-in_err-read_recorded-clause-still : goal.returns-in_err-read_recorde
 returns-in_err-read_recorded-clause-still g c = on_error c.from_residual.result _ (keeps_read c.args.read.now c.read_recorded.new.self _ c.in_err-read_recorded.ensures.left.reads)
 
 pub returns-then-is_empty-clause-read : goal.returns-then-is_empty-clause-read
-returns-then-is_empty-clause-read g c = λ all known. nothing_reads c.args.options.now c.args.line.now c.args.read.now _ c.in_ok-read_recorded.ensures.read _ c.in_ok-read_recorded.ensures.stored 
+returns-then-is_empty-clause-read g c = λ all known. nothing_reads c.args.options.now c.args.line.now c.args.read.now _ c.in_ok-read_recorded.ensures.read _ c.in_ok-read_recorded.ensures.stored
     (elim c.then-is_empty.branch [
       | then-is_empty-via-then-is_empty w ↦ inl (none_in _ _ _ c.is_empty.ensures w.if-is_empty.true c.read_recorded.new.self.stored.ok.0)
       | then-is_empty-via-else-is_empty+then-len-place w ↦ inr (omega (arith, w.len.ensures, c.len-place.ensures, w.if-len-place.true, c.args.read.now.run.events.ok.0, c.read_recorded.new.self.run.events.ok.0))
@@ -19,7 +19,7 @@ returns-then-is_empty-clause-read g c = λ all known. nothing_reads c.args.optio
     all
 
 pub returns-then-is_empty-clause-count : goal.returns-then-is_empty-clause-count
-returns-then-is_empty-clause-count g c = nothing_counted c.args.options.now c.args.line.now c.args.read.now _ c.in_ok-read_recorded.ensures.read _ c.in_ok-read_recorded.ensures.stored 
+returns-then-is_empty-clause-count g c = nothing_counted c.args.options.now c.args.line.now c.args.read.now _ c.in_ok-read_recorded.ensures.read _ c.in_ok-read_recorded.ensures.stored
     (elim c.then-is_empty.branch [
       | then-is_empty-via-then-is_empty w ↦ inl (none_in _ _ _ c.is_empty.ensures w.if-is_empty.true c.read_recorded.new.self.stored.ok.0)
       | then-is_empty-via-else-is_empty+then-len-place w ↦ inr (omega (arith, w.len.ensures, c.len-place.ensures, w.if-len-place.true, c.args.read.now.run.events.ok.0, c.read_recorded.new.self.run.events.ok.0))
