@@ -15,6 +15,7 @@ use Rattle.run_names.specs.declared.unit.UnitKind.TheVariants as unit
 use Rattle.plain_text.specs.Escapes.{HasNoEscape}
 use Rattle.plain_text.specs.Style.{plain}
 use Rattle.plain_text.specs.Texts.{Text, spaces}
+use Rattle.plain_text.proofs.lemmas.Closed.{spaces_free}
 use Rattle.plain_text.proofs.lemmas.Widths.{free_both}
 use Rattle.report_words.specs.Parts.{Parts, Fixed, Line, Lines, Open, Count, none, words, Word, Verbatim, number, ◌⧺◌, choice, indented_line, drawn_given_line}
 use Rattle.report_words.specs.Theme.{hbar_text}
@@ -45,12 +46,8 @@ free-separator theme index = free-if (index == 0) [] _ refl (free_both (hbar_tex
 abbrev pub number_padding : ℕ → ℕ → Text
 number_padding place total = spaces (8 - (length (decimal place) + length (decimal total) + 3))
 
-free-spaces : (n : ℕ) → HasNoEscape (spaces n)
-free-spaces zero = refl
-free-spaces (suc n) = free-spaces n
-
 pub free-number_padding : (place total : ℕ) → HasNoEscape (number_padding place total)
-free-number_padding place total = free-spaces (8 - (length (decimal place) + length (decimal total) + 3))
+free-number_padding place total = spaces_free (8 - (length (decimal place) + length (decimal total) + 3))
 
 -- which of so many answers it is, counted from 1
 unfoldable pub response_number : ℕ → ℕ → Fixed Open

@@ -21,7 +21,7 @@ use Rattle.plain_text.specs.Texts.{Text}
 use Rattle.plain_text.proofs.lemmas.Closed.{decimal_free}
 use Rattle.plain_text.proofs.lemmas.Widths.{free_both}
 use Rattle.report_words.proofs.lemmas.FreeWords.{free-seconds}
-use Rattle.report_words.specs.Parts.{Parts, Fixed, Line, Lines, Open, Tone, Count, Fail, Pass, Skip, none, words, Verbatim, toned, Toned, number, given, ◌⧺◌, choice, openly, plainly}
+use Rattle.report_words.specs.Parts.{Parts, Fixed, Line, Lines, Open, Tone, Count, Fail, Pass, Skip, none, words, Verbatim, toned, Toned, number, given, ◌⧺◌, choice, loosely, openly, plainly}
 use Rattle.unit_report.specs.UnitKind.{unit_part}
 use Rattle.text_parts.specs.InfoResult.{info_text}
 use Rattle.info_text.specs.Seconds.{seconds_between, seconds_part}
@@ -177,12 +177,22 @@ delay_note mode u waiting remaining =
     ⧺ unit_part mode u.kind
     ⧺ words (codes "\n")
 
+-- the line of a state
+unfoldable pub state_line : NextestRunMode → InfoUnit → UnitState → Parts false Open
+state_line mode u (Running pid taken mark) = plainly (running_line mode u pid taken.0 mark)
+state_line mode u (Exiting pid taken mark result waiting remaining) = exiting_line mode u result taken.0 mark
+state_line mode u (Terminating x) = plainly (openly (terminating_line mode u x))
+state_line mode u (Exited result taken mark) = exited_text mode u result taken.0 mark
+state_line mode u (DelayBeforeNextAttempt result is_slow waiting remaining) = openly (waiting_line mode u result is_slow)
+
+-- the note below it, which says for how long something is waited for
+unfoldable pub state_note : NextestRunMode → InfoUnit → UnitState → Parts false Lines
+state_note mode u (Running pid taken mark) = plainly none
+state_note mode u (Exiting pid taken mark result waiting remaining) = plainly (exiting_note mode u pid waiting.0 remaining.0)
+state_note mode u (Terminating x) = loosely (terminating_note mode u x)
+state_note mode u (Exited result taken mark) = plainly none
+state_note mode u (DelayBeforeNextAttempt result is_slow waiting remaining) = plainly (loosely (delay_note mode u waiting.0 remaining.0))
+
 -- what a unit is doing
 unfoldable pub state_text : NextestRunMode → InfoUnit → UnitState → Parts false Open
-state_text mode u (Running pid taken mark) = plainly (running_line mode u pid taken.0 mark)
-state_text mode u (Exiting pid taken mark result waiting remaining) =
-    exiting_line mode u result taken.0 mark ⧺ exiting_note mode u pid waiting.0 remaining.0
-state_text mode u (Terminating x) = openly (terminating_line mode u x ⧺ terminating_note mode u x)
-state_text mode u (Exited result taken mark) = exited_text mode u result taken.0 mark
-state_text mode u (DelayBeforeNextAttempt result is_slow waiting remaining) =
-    openly (waiting_line mode u result is_slow ⧺ delay_note mode u waiting.0 remaining.0)
+state_text mode u x = state_line mode u x ⧺ state_note mode u x

@@ -4,7 +4,7 @@ ghost use Rattle.std.specs.Prelude.{◌≡◌};
 ghost use Rattle.std.specs.Option.{is_some};
 ghost use Rattle.plain_text.specs.Writer.{Puts};
 ghost use Rattle.report_words.specs.Parts.{paint, style_of};
-ghost use Rattle.info_text.specs.State.{attempt_text, waiting_line, delay_note, exited_text, exiting_line, exiting_note, leak_note, nanos_of, note_start, process_of, running_tone, running_line, signal_of, marked_slow_end, state_text, status_start, taken_end, tentative_info, terminating_line, terminating_note, unit_start, unknown_info};
+ghost use Rattle.info_text.specs.State.{attempt_text, waiting_line, delay_note, exited_text, exiting_line, exiting_note, leak_note, nanos_of, note_start, process_of, running_tone, running_line, signal_of, marked_slow_end, state_line, state_note, state_text, status_start, taken_end, tentative_info, terminating_line, terminating_note, unit_start, unknown_info};
 ghost use Rattle.unit_report.specs.UnitKind.{unit_word};
 
 use crate::seconds::write_seconds;
@@ -30,7 +30,7 @@ pub struct InfoUnit {
     pub has_errors: bool,
 }
 
-/// Writes what a unit is doing.
+/// Writes what a unit is doing: a line, and a note below it where it is told what is waited for.
 #[tactic(auto, unfolding(crate::specs::State::state_text))]
 pub fn write_state<W: WriteStr>(
     w: &mut W,
@@ -40,6 +40,20 @@ pub fn write_state<W: WriteStr>(
 ) -> Result<(), WriteFault>
     ensures { Puts W.meaning w.old (paint settings.now.styles (state_text settings.now.mode unit state.now)) result w.new }
 {
+    write_state_line(w, settings, unit, state)?;
+    write_state_note(w, settings, unit, state)
+}
+
+// Writes the line of a state.
+#[tactic(auto, unfolding(crate::specs::State::state_line))]
+fn write_state_line<W: WriteStr>(
+    w: &mut W,
+    settings: &Settings,
+    unit: InfoUnit,
+    state: &UnitState,
+) -> Result<(), WriteFault>
+    ensures { Puts W.meaning w.old (paint settings.now.styles (state_line settings.now.mode unit state.now)) result w.new }
+{
     match state {
         UnitState::Running {
             pid,
@@ -47,27 +61,12 @@ pub fn write_state<W: WriteStr>(
             slow_after,
         } => write_running_line(w, settings, unit, *pid, *time_taken, *slow_after),
         UnitState::Exiting {
-            pid,
             time_taken,
             slow_after,
-            tentative_result,
-            waiting_duration,
-            remaining,
-        } => {
-            write_exiting_line(
-                w,
-                settings,
-                unit,
-                tentative_result,
-                *time_taken,
-                *slow_after,
-            )?;
-            write_exiting_note(w, settings, unit, *pid, *waiting_duration, *remaining)
-        }
-        UnitState::Terminating(state) => {
-            write_terminating_line(w, settings, unit, state)?;
-            write_terminating_note(w, settings, unit, state)
-        }
+            tentative_result: result,
+            ..
+        } => write_exiting_line(w, settings, unit, result, *time_taken, *slow_after),
+        UnitState::Terminating(state) => write_terminating_line(w, settings, unit, state),
         UnitState::Exited {
             result,
             time_taken,
@@ -76,12 +75,35 @@ pub fn write_state<W: WriteStr>(
         UnitState::DelayBeforeNextAttempt {
             previous_result,
             previous_slow,
+            ..
+        } => write_waiting_line(w, settings, unit, previous_result, *previous_slow),
+    }
+}
+
+// Writes the note of a state, where it has one.
+#[tactic(auto, unfolding(crate::specs::State::state_note))]
+fn write_state_note<W: WriteStr>(
+    w: &mut W,
+    settings: &Settings,
+    unit: InfoUnit,
+    state: &UnitState,
+) -> Result<(), WriteFault>
+    ensures { Puts W.meaning w.old (paint settings.now.styles (state_note settings.now.mode unit state.now)) result w.new }
+{
+    match state {
+        UnitState::Running { .. } | UnitState::Exited { .. } => Ok(()),
+        UnitState::Exiting {
+            pid,
             waiting_duration,
             remaining,
-        } => {
-            write_waiting_line(w, settings, unit, previous_result, *previous_slow)?;
-            write_delay_note(w, settings, unit, *waiting_duration, *remaining)
-        }
+            ..
+        } => write_exiting_note(w, settings, unit, *pid, *waiting_duration, *remaining),
+        UnitState::Terminating(state) => write_terminating_note(w, settings, unit, state),
+        UnitState::DelayBeforeNextAttempt {
+            waiting_duration,
+            remaining,
+            ..
+        } => write_delay_note(w, settings, unit, *waiting_duration, *remaining),
     }
 }
 

@@ -21,28 +21,36 @@ use Rattle.text_parts.proofs.lemmas.LineColourPairs.{free-instance_end, free-sho
 use Rattle.text_parts.proofs.lemmas.ResultColourPairs.{free-info_text}
 use Rattle.info_text.specs.PlainResponses.{IsPlainResponse, IsPlainState}
 use Rattle.info_text.specs.Response.{info_layout, valid_output, unit_answer, answering_script, script_unit, script_answer, test_unit, test_answer, info_response_text}
-use Rattle.info_text.specs.State.{tentative_info, exited_text, exiting_line, terminating_note, waiting_line, state_text}
+use Rattle.info_text.specs.State.{tentative_info, exited_text, exiting_line, terminating_note, waiting_line, state_line, state_note, state_text}
 use Rattle.info_text.specs.declared.state.InfoUnit.{InfoUnit}
 
 free-tentative_info : (k is_slow : Bool) (result : Option ExecutionResultDescription) → HoldsIf IsPlainResult result → AreFree k (tentative_info is_slow result)
 free-tentative_info k is_slow None h = tt
 free-tentative_info k is_slow (Some result) h = free-info_text k is_slow result h
 
-free-state_text : (k : Bool) (mode : NextestRunMode) (u : InfoUnit) (x : UnitState) → IsPlainState x → AreFree k (state_text mode u x)
-unfolding state_text exited_text exiting_line terminating_note waiting_line
-free-state_text k mode u (Running pid taken mark) h = tt
-free-state_text k mode u (Exiting pid taken mark result waiting remaining) h = ((tt, (free-tentative_info k (is_some mark) result h, tt)), tt)
-free-state_text k mode u (Terminating x) h = (tt, (tt, (tt, (h, tt))))
-free-state_text k mode u (Exited result taken mark) h = (tt, (free-info_text k (is_some mark) result h, tt))
-free-state_text k mode u (DelayBeforeNextAttempt result is_slow waiting remaining) h = ((tt, (free-info_text k is_slow result h, tt)), tt)
+free-state_line : (k : Bool) (mode : NextestRunMode) (u : InfoUnit) (x : UnitState) → IsPlainState x → AreFree k (state_line mode u x)
+unfolding state_line exited_text exiting_line waiting_line
+free-state_line k mode u (Running pid taken mark) h = tt
+free-state_line k mode u (Exiting pid taken mark result waiting remaining) h = (tt, (free-tentative_info k (is_some mark) result h, tt))
+free-state_line k mode u (Terminating x) h = tt
+free-state_line k mode u (Exited result taken mark) h = (tt, (free-info_text k (is_some mark) result h, tt))
+free-state_line k mode u (DelayBeforeNextAttempt result is_slow waiting remaining) h = (tt, (free-info_text k is_slow result h, tt))
+
+free-state_note : (k : Bool) (mode : NextestRunMode) (u : InfoUnit) (x : UnitState) → IsPlainState x → AreFree k (state_note mode u x)
+unfolding state_note terminating_note
+free-state_note k mode u (Running pid taken mark) h = tt
+free-state_note k mode u (Exiting pid taken mark result waiting remaining) h = tt
+free-state_note k mode u (Terminating x) h = (tt, (tt, (h, tt)))
+free-state_note k mode u (Exited result taken mark) h = tt
+free-state_note k mode u (DelayBeforeNextAttempt result is_slow waiting remaining) h = tt
 
 colour_pair-info_layout : (k : Bool) (kind : UnitKind) → IsColourPairOfLayout k (info_layout (styles_of true) kind) (info_layout (styles_of false) kind)
 unfolding without_end_spaces
 colour_pair-info_layout k kind = record { stdout = colour_pair-label k _ _; stderr = colour_pair-label k _ _; combined = colour_pair-label k _ _; exec_fail = colour_pair-label k _ _; margin = refl; free = refl; blank = refl }
 
 free-unit_answer : (k : Bool) (s : Settings) (u : InfoUnit) (x : UnitState) (w : Written) → IsPlainState x → IsPlainWritten k w → AreFree k (unit_answer s u x w)
-unfolding unit_answer valid_output
-free-unit_answer k s u x w h j = (free-state_text k s.mode u x h, (colour_pair-execution_output k s.unit_output _ _ (colour_pair-info_layout k u.kind) w j, tt))
+unfolding unit_answer valid_output state_text
+free-unit_answer k s u x w h j = ((free-state_line k s.mode u x h, free-state_note k s.mode u x h), (colour_pair-execution_output k s.unit_output _ _ (colour_pair-info_layout k u.kind) w j, tt))
 
 pub free-info_response_text : (k : Bool) (s : Settings) (index total : ℕ) (x : InfoResponse) → IsPlainResponse k x → AreFree k (info_response_text s index total x)
 unfolding info_response_text script_answer test_answer

@@ -94,7 +94,7 @@ pub decimal_free : (n : ℕ) → HasNoEscape (decimal n)
 unfolding digits
 decimal_free n = digits_free 64 n [] refl
 
-spaces_free : (n : ℕ) → HasNoEscape (spaces n)
+pub spaces_free : (n : ℕ) → HasNoEscape (spaces n)
 spaces_free zero = refl
 spaces_free (suc n) = spaces_free n
 

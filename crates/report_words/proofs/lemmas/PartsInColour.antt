@@ -5,7 +5,7 @@ use Rattle.plain_text.specs.Texts.{Text, spaces}
 use Rattle.plain_text.specs.Escapes.{HasNoEscape}
 use Rattle.plain_text.specs.Style.{plain, styled, styles_of}
 use Rattle.plain_text.specs.declared.style.Styles.{Styles}
-use Rattle.plain_text.proofs.lemmas.Closed.{decimal_free, right_free}
+use Rattle.plain_text.proofs.lemmas.Closed.{decimal_free, right_free, spaces_free}
 use Rattle.report_words.proofs.lemmas.ColourPairs.{colour_pair-none, colour_pair-append, colour_pair-styled, colour_pair-if, colour_pair-free, colour_pair-whole, colour_pair-indent, colour_pair-indented_line}
 use Rattle.report_words.specs.InColour.{IsColourPair, IsColourPairOfLine}
 use Rattle.plain_text.specs.Indent.{indent}
@@ -91,11 +91,6 @@ ends-either Lines Open b t u h j = tt
 ends-either Lines Lines true t u h j = h
 ends-either Lines Lines false t u h j = j
 
--- spaces
-free-spaces : (n : ℕ) → HasNoEscape (spaces n)
-free-spaces zero = refl
-free-spaces (suc n) = free-spaces n
-
 blank-spaces : (n : ℕ) → IsBlank (spaces n)
 unfolding without_end_spaces
 blank-spaces zero = refl
@@ -142,7 +137,7 @@ unfed k c u h = record {
 
 indented-pair : (k : Bool) (n : ℕ) (b : Bool) (c u : Text) → EndsLine c → EndsLine u → IsColourPair k c u → IsColourPair k (indent (spaces n) b c) (indent (spaces n) b u)
 indented-pair k n b c u p q h =
-    rw (p.1, q.1) (colour_pair-indent k (spaces n) b p.0 q.0 (free-spaces n) (blank-spaces n) (unfed k p.0 q.0 (rw (p.1, q.1) at h)))
+    rw (p.1, q.1) (colour_pair-indent k (spaces n) b p.0 q.0 (spaces_free n) (blank-spaces n) (unfed k p.0 q.0 (rw (p.1, q.1) at h)))
 
 each-pair : {X : Type 0} (k : Bool) (f g : X → Text) (xs : List X) → ((x : X) → IsColourPair k (f x) (g x)) → IsColourPair k (flat_map f xs) (flat_map g xs)
 each-pair k f g [] h = colour_pair-none k
@@ -175,8 +170,8 @@ in_colour k (each {a = true} f xs) h = each-pair k (λ x. paint (styles_of true)
 in_colour k (each {a = false} f xs) h = each-pair_all k (λ x. paint (styles_of true) (f x)) (λ x. paint (styles_of false) (f x)) (λ x. AreFreeGiven k (f x)) xs h (λ x j. in_colour k (f x) j)
 in_colour k (indented {a = true} n b x) h = indented-pair k n b _ _ (ends (styles_of true) x) (ends (styles_of false) x) (in_colour k x tt)
 in_colour k (indented {a = false} n b x) h = indented-pair k n b _ _ (ends (styles_of true) x) (ends (styles_of false) x) (in_colour k x h)
-in_colour k (indented_line {a = true} n b x) h = colour_pair-indented_line k (spaces n) b _ _ (free-spaces n) (blank-spaces n) (colour_pair-whole k _ _ (in_colour k x tt))
-in_colour k (indented_line {a = false} n b x) h = colour_pair-indented_line k (spaces n) b _ _ (free-spaces n) (blank-spaces n) (colour_pair-whole k _ _ (in_colour k x h))
+in_colour k (indented_line {a = true} n b x) h = colour_pair-indented_line k (spaces n) b _ _ (spaces_free n) (blank-spaces n) (colour_pair-whole k _ _ (in_colour k x tt))
+in_colour k (indented_line {a = false} n b x) h = colour_pair-indented_line k (spaces n) b _ _ (spaces_free n) (blank-spaces n) (colour_pair-whole k _ _ (in_colour k x h))
 in_colour k (plainly x) h = in_colour k x h
 in_colour k (openly {a = true} x) h = in_colour k x tt
 in_colour k (openly {a = false} x) h = in_colour k x h
