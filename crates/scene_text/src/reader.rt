@@ -55,7 +55,7 @@ pub struct LinesRead {
     pub is_begun: bool,
     /// The number of the line that follows.
     pub next: u64,
-    /// The stored outputs of the recorded line that was read last, in order.
+    /// The stored outputs of the recorded line that was read last, in order. Other lines leave them as they are.
     pub stored: Vec<PlacedOutput>,
     // The binaries of their tests.
     binaries: BinaryIds,
@@ -68,6 +68,7 @@ impl LinesRead {
         ensures lines { result.run.lines.items ≡ [] }
         ensures begun { result.is_begun ≡ false }
         ensures next { result.next ≡ 1 }
+        ensures stored { result.stored.items ≡ [] }
     {
         LinesRead {
             run: ParsedRun {
@@ -89,6 +90,7 @@ impl LinesRead {
         ensures lines { self.new.run.lines.items ≡ [] }
         ensures begun { self.new.is_begun ≡ is_begun_behind self.old.is_begun self.old.run.events.items }
         ensures next { self.new.next ≡ self.old.next }
+        ensures stored { self.new.stored ≡ self.old.stored }
     {
         self.is_begun = is_begun_behind(self.is_begun, self.run.events.as_slice());
         self.run.events.clear();
@@ -100,6 +102,7 @@ impl LinesRead {
     pub fn read_more(&mut self, alloc: Global, text: &[u8]) -> Result<(), ReadFault>
         ensures read { OnOk result (ReadsLines self.old self.new (text_lines text.now)) }
         ensures left { IfErr result (LeavesLines self.old self.new (text_lines text.now)) }
+        ensures stored { self.new.stored ≡ self.old.stored }
     {
         let mut fields = Vec::new(alloc);
         let mut rest = Some(text);
@@ -130,6 +133,7 @@ impl LinesRead {
     pub fn read_owned(&mut self, alloc: Global, text: Vec<u8>) -> Result<(), ReadFault>
         ensures read { OnOk result (ReadsLines self.old self.new (text_lines text.items)) }
         ensures left { IfErr result (LeavesLines self.old self.new (text_lines text.items)) }
+        ensures stored { self.new.stored ≡ self.old.stored }
     {
         if memchr(b'\n', text.as_slice()).is_some() || self.next == u64::MAX {
             return self.read_more(alloc, text.as_slice());
@@ -145,7 +149,7 @@ impl LinesRead {
     }
 
     /// Reads the line of a recorded run that follows these, of which outputs may be stored: those that are stand in `stored` then, and the event
-    /// leaves them unread. The errors are those of `read_more`.
+    /// leaves them unread. The errors are those of `read_more`, and leave `stored` empty.
     ///
     /// A field that begins like a reference and is none, or stands where none may, is a bad field.
     ///
@@ -159,7 +163,9 @@ impl LinesRead {
         ensures read { OnOk result (ReadsLines self.old self.new (unread_line line.now ∷ [])) }
         ensures stored { OnOk result ((x : ParsedLine) × (recorded_line (before_next self.old) line.now ≡ Ok (x, self.new.stored.items))) }
         ensures left { IfErr result (LeavesLines self.old self.new (unread_line line.now ∷ [])) }
+        ensures none_stored { IfErr result (λ fault. self.new.stored.items ≡ []) }
     {
+        self.stored.clear();
         let number = self.next;
         if number == u64::MAX {
             return Err(ReadFault::OutOfMemory);
@@ -184,6 +190,7 @@ impl LinesRead {
     ) -> Result<(), LineError>
         ensures read { TakesLine self.old result self.new (parsed_line (before_next self.old) line.now) }
         ensures noted { OnOk result (NotesLine self.old self.new) }
+        ensures stored { self.new.stored ≡ self.old.stored }
     {
         if is_passed_over(line) {
             return Ok(());
@@ -200,6 +207,7 @@ impl LinesRead {
     fn read_owned_line(&mut self, alloc: Global, line: Vec<u8>) -> Result<(), LineError>
         ensures read { TakesLine self.old result self.new (parsed_line (before_next self.old) line.items) }
         ensures noted { OnOk result (NotesLine self.old self.new) }
+        ensures stored { self.new.stored ≡ self.old.stored }
     {
         if is_passed_over(line.as_slice()) {
             return Ok(());
@@ -214,12 +222,13 @@ impl LinesRead {
     // Reads the recorded line that follows, as `read_line` does. The list of stored outputs is used again, which saves an allocation a line.
     #[tactic(auto, unfolding(crate::specs::SceneTexts::line_from), using(scene_fields::proofs::lemmas::Utf8::utf8_passes, scene_fields::proofs::lemmas::Utf8::utf8_fails))]
     fn read_recorded_line(&mut self, alloc: Global, line: &[u8]) -> Result<(), LineError>
+        requires none_stored { self.old.stored.items ≡ [] }
         ensures read { TakesLine self.old result self.new (line_value (before_next self.old) (unread_line line.now)) }
         ensures noted { OnOk result (NotesLine self.old self.new) }
         ensures stored { OnOk result ((x : ParsedLine) × (recorded_line (before_next self.old) line.now ≡ Ok (x, self.new.stored.items))) }
+        ensures none_stored { IfErr result (λ fault. self.new.stored.items ≡ []) }
     {
         if is_passed_over(line) {
-            self.stored.clear();
             return Ok(());
         }
         let Ok(line) = str::from_utf8(line) else {
@@ -243,6 +252,7 @@ impl LinesRead {
         ensures read { TakesLine self.old result self.new (value_of (line_words (before_next self.old) fields.old)) }
         ensures noted { OnOk result (NotesLine self.old self.new) }
         ensures place { OnOk result (IfOk (line_words (before_next self.old) fields.old) (λ x. x.1 ≡ fields.new)) }
+        ensures stored { self.new.stored ≡ self.old.stored }
     {
         match fields.take()? {
             "config" if is_begun_behind(self.is_begun, self.run.events.as_slice()) => Err(

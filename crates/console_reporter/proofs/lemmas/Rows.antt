@@ -10,6 +10,7 @@ use Rattle.unit_report.specs.SkipCounts.{skip_note}
 use Rattle.unit_report.specs.declared.unit_output.DisplayerKind.TheVariants.{Live}
 use Rattle.run_model.specs.declared.event.TestEvent.{TestEvent}
 use Rattle.run_model.specs.declared.event.TestEventKind.TheVariants.{TestFinished, RunFinished}
+use Rattle.run_model.specs.Stats.{planned_stats}
 use Rattle.run_names.specs.Levels.{reason_rank}
 use Rattle.run_names.specs.declared.abort.AbortDescription.TheVariants.{UnixSignal}
 use Rattle.run_names.specs.declared.level.CancelReason.TheVariants as cause
@@ -98,23 +99,7 @@ start = refl
 
 -- two tests ran, one passed and one failed
 abbrev stats : RunStats
-stats = record {
-  initial_run_count = 2;
-  finished_count = 2;
-  passed = 1;
-  passed_slow = 0;
-  flaky = 0;
-  leaky = 0;
-  failed = 1;
-  leaky_failed = 0;
-  exec_failed = 0;
-  timed_out = 0;
-  skipped = 0;
-  setup_scripts_failed = 0;
-  setup_scripts_exec_failed = 0;
-  setup_scripts_timed_out = 0;
-  cancel_reason = None;
-}
+stats = record (planned_stats 2) { finished_count = 2; passed = 1; failed = 1 }
 
 summary : paint settings.styles (run_finished_text settings.theme_characters settings.mode 1520000000 (Single stats)) ≡ codes "------------\n     Summary [   1.520s] 2 tests run: 1 passed, 1 failed, 0 skipped\n"
 unfolding run_finished_text summary_line run_counts_text initial_count_text hbar_text lib.Utf8.encode plain styled right_in chars digits tests_word_if bracketed_duration seconds with_point

@@ -38,6 +38,7 @@ use run_model::run_id::ShortestRunIdPrefix;
 use run_text::header::write_replay_header;
 use std::alloc::Global;
 use store_text::config::StoreConfig;
+use test_text::test_finished::FinishedTest;
 use text_parts::settings::Settings;
 
 /// Reports events to a writer, and writes a record of each finished test to a store, if it has one.
@@ -151,9 +152,10 @@ impl<'a, W: WriteStr, S: WriteStr> DisplayReporter<'a, W, S> {
             } => {
                 let (settings, reason) = (&self.state.settings, self.state.cancel_status);
                 let stress = *stress_index;
-                let finished = FinishedAttempts::new(
+                let test = FinishedTest::new(
                     settings, reason, stress, *test, *success, *failure, statuses, stats,
                 );
+                let finished = FinishedAttempts::new(test, statuses);
                 self.report_event(event, Some(&finished))
             }
             _ => self.report_event(event, None),

@@ -94,6 +94,10 @@ module _ (old new : LinesRead) (run : parsed_lines new.run ≡ parsed_lines old.
   unfolding event_lines
   reads_same = record { tells = λ base is. ap (lines_after base) (sym run); noted = λ base is. lines ∙ sym (append-nil old.run.lines.items); begun = begun; place = omega (arith, place) }
 
+  -- memory is refused before the next
+  pub leaves_refused : (ts : List RunLine) → LeavesLines old new ts fault.OutOfMemory
+  leaves_refused ts = record { front = []; rest = ts; whole = refl; reads = reads_same; wrong = λ base is. tt }
+
   -- the next one is wrong
   module _ (t : RunLine) (rest : List RunLine) where
     next_fault : (e : LineError) → Fails e (line_value (before_next old) t) → (base : List SceneEvent) → is_begun base ≡ old.is_begun → IsNextFault new.next (lines_after base (parsed_lines new.run)) (t ∷ rest) (fault_at old.next e)
@@ -146,7 +150,3 @@ module _ (old mid : LinesRead) (t : RunLine) (one : lines_with (parsed_lines old
 
   pub reads_on : (first : LinesRead) (lines ts : List RunLine) → ReadsOn first old lines (t ∷ ts) → ReadsOn first mid lines ts
   reads_on first lines ts on = record { reads = λ new r. on.reads new (reads_more new ts r); leaves = λ new f r. on.leaves new f (leaves_more new ts f r) }
-
--- memory is refused before the next
-pub leaves_refused : (old : LinesRead) (lines : List RunLine) → LeavesLines old old lines fault.OutOfMemory
-leaves_refused old lines = record { front = []; rest = lines; whole = refl; reads = reads_none old; wrong = λ base is. tt }

@@ -3,7 +3,7 @@ use Rattle.scene_text.proofs.lemmas.Tellings.{leaves_here, leaves_refused, reads
 use Rattle.scene_text.proofs.reader.LinesRead.read_recorded.Goals as goal
 
 pub returns-then-number-clause-left : goal.returns-then-number-clause-left
-returns-then-number-clause-left c = leaves_refused _ _
+returns-then-number-clause-left c = leaves_refused _ _ refl refl refl refl _
 
 pub returns-in-Ok-clause-read : goal.returns-in-Ok-clause-read
 returns-in-Ok-clause-read c =
