@@ -1,4 +1,5 @@
 pub mod Deferred
+pub mod Devices
 pub mod Follow
 pub mod Judged
 pub mod Outcomes

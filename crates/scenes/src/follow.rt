@@ -14,6 +14,7 @@ ghost use Rattle.scenes.specs.Read.{HasReadLines};
 ghost use Rattle.scenes.specs.Reports.{store_for};
 ghost use Rattle.scenes.specs.SceneReporter.{Follows, writers};
 
+use crate::devices::{RecordDevice, buffered};
 pub use crate::outcome::RunOutcome;
 use crate::read::{RunSource, SceneSource, read_lines};
 use crate::reporter::builder_of;
@@ -21,10 +22,10 @@ use crate::scene_reporter::SceneReporter;
 use command_line::args::Options;
 use command_line::fault::Fault;
 use console_reporter::imp::{Store, give_back};
-use console_reporter::write_str::{TextBuffer, WriteStr};
+use console_reporter::write_str::WriteStr;
 use run_model::memory::OutOfMemory;
 use scene_text::reader::LinesRead;
-use std::alloc::{AllocError, Global};
+use std::alloc::Global;
 use std::io::{Read, Write};
 
 /// Follows the lines of a reader: those that it has at hand are read, the text of each event is written and delivered, and then the next are
@@ -69,34 +70,31 @@ pub fn follow_source<'a, L: RunSource, W: Write, S: Write>(
         (Begins device device options.now (W.contents writer, S.contents store_writer) (W.contents result.1, S.contents result.2))) }
     ensures no_store { options.now.store ≡ None → result.2 ≡ store_writer }
 {
-    let mut out = match TextBuffer::new(alloc, writer) {
-        Ok(out) => out,
-        Err((AllocError, writer)) => return (Err(Fault::OutOfMemory), writer, store_writer),
+    let (mut out, records) = match buffered(alloc, options, writer, store_writer) {
+        Ok(devices) => devices,
+        Err((writer, store_writer)) => return (Err(Fault::OutOfMemory), writer, store_writer),
     };
-    let Some(store) = options.store else {
-        let no_store = None::<Store<'_, String>>;
-        let (outcome, _lent, _) = follow_to(alloc, options, source, &mut out, no_store);
-        let (writer, _pending) = out.into_inner();
-        return (outcome, writer, store_writer);
-    };
-    let mut records = match TextBuffer::new(alloc, store_writer) {
-        Ok(records) => records,
-        Err((AllocError, store_writer)) => {
+    match records {
+        RecordDevice::Unused(store_writer) => {
+            let no_store = None::<Store<'_, String>>;
+            let (outcome, _lent, _) = follow_to(alloc, options, source, &mut out, no_store);
             let (writer, _pending) = out.into_inner();
-            return (Err(Fault::OutOfMemory), writer, store_writer);
+            (outcome, writer, store_writer)
         }
-    };
-    let store = Store::new(&mut records, store.config);
-    let (outcome, lent, store) = follow_to(alloc, options, source, &mut out, Some(store));
-    let Some(store) = store else { unreachable!() };
-    let Store {
-        writer: store_writer,
-        config: _,
-    } = store;
-    give_back(lent, store_writer);
-    let (writer, _pending) = out.into_inner();
-    let (store_writer, _unstored) = records.into_inner();
-    (outcome, writer, store_writer)
+        RecordDevice::Buffered(mut records, config) => {
+            let store = Store::new(&mut records, config);
+            let (outcome, lent, store) = follow_to(alloc, options, source, &mut out, Some(store));
+            let Some(store) = store else { unreachable!() };
+            let Store {
+                writer: store_writer,
+                ..
+            } = store;
+            give_back(lent, store_writer);
+            let (writer, _pending) = out.into_inner();
+            let (store_writer, _unstored) = records.into_inner();
+            (outcome, writer, store_writer)
+        }
+    }
 }
 
 // Follows the lines to a writer, and to a store where there is one. It gives both back.

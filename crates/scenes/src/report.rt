@@ -14,6 +14,7 @@ ghost use Rattle.scene_text.specs.SceneTexts.{AllRead, event_lines, no_lines, te
 ghost use Rattle.scenes.specs.ParsedScenes.{IsReadFault, IsSceneRead, OfText, scene_lines};
 
 use crate::deferred::{Deferred, deliver_rest};
+use crate::devices::{RecordDevice, buffered};
 use crate::plain::{refused_call, write_calls, write_calls_and_records};
 use crate::read::{SceneSource, read_lines};
 use crate::reporter::{builder_of, decider_of, fault_at_call};
@@ -23,10 +24,10 @@ use crate::scene_reporter::{CallBuffers, SceneReporter};
 use command_line::args::Options;
 use command_line::fault::Fault;
 use console_reporter::imp::{OutputLoadDecider, Store, give_back};
-use console_reporter::write_str::{TextBuffer, WriteStr};
+use console_reporter::write_str::WriteStr;
 use run_model::memory::OutOfMemory;
 use scene_text::reader::LinesRead;
-use std::alloc::{AllocError, Global};
+use std::alloc::Global;
 use std::io::{Read, Write};
 use std::marker::Model;
 
@@ -232,37 +233,34 @@ pub fn report_accepted<W: Write, S: Write>(
     ensures no_store { judged.now.options.store ≡ None → result.2 ≡ store_writer }
 {
     let (options, scene) = (judged.options, judged.scene);
-    let mut out = match TextBuffer::new(alloc, writer) {
-        Ok(out) => out,
-        Err((AllocError, writer)) => return (Err(Fault::OutOfMemory), writer, store_writer),
+    let (mut out, records) = match buffered(alloc, options, writer, store_writer) {
+        Ok(devices) => devices,
+        Err((writer, store_writer)) => return (Err(Fault::OutOfMemory), writer, store_writer),
     };
-    let Some(store) = options.store else {
-        let no_store = None::<Store<'_, String>>;
-        let mut deferred = Deferred { writer: out };
-        let (reported, _lent, _) = report_to(alloc, options, scene, &mut deferred, no_store);
-        let mut out = deferred.writer;
-        let outcome = deliver_rest(&mut out, reported);
-        let (writer, _pending) = out.into_inner();
-        return (outcome, writer, store_writer);
-    };
-    let mut records = match TextBuffer::new(alloc, store_writer) {
-        Ok(records) => records,
-        Err((AllocError, store_writer)) => {
+    match records {
+        RecordDevice::Unused(store_writer) => {
+            let no_store = None::<Store<'_, String>>;
+            let mut deferred = Deferred { writer: out };
+            let (reported, _lent, _) = report_to(alloc, options, scene, &mut deferred, no_store);
+            let mut out = deferred.writer;
+            let outcome = deliver_rest(&mut out, reported);
             let (writer, _pending) = out.into_inner();
-            return (Err(Fault::OutOfMemory), writer, store_writer);
+            (outcome, writer, store_writer)
         }
-    };
-    let store = Store::new(&mut records, store.config);
-    let (outcome, lent, store) = report_to(alloc, options, scene, &mut out, Some(store));
-    let Some(store) = store else { unreachable!() };
-    let Store {
-        writer: store_writer,
-        config: _,
-    } = store;
-    give_back(lent, store_writer);
-    let (writer, _pending) = out.into_inner();
-    let (store_writer, _unstored) = records.into_inner();
-    (outcome, writer, store_writer)
+        RecordDevice::Buffered(mut records, config) => {
+            let store = Store::new(&mut records, config);
+            let (outcome, lent, store) = report_to(alloc, options, scene, &mut out, Some(store));
+            let Some(store) = store else { unreachable!() };
+            let Store {
+                writer: store_writer,
+                ..
+            } = store;
+            give_back(lent, store_writer);
+            let (writer, _pending) = out.into_inner();
+            let (store_writer, _unstored) = records.into_inner();
+            (outcome, writer, store_writer)
+        }
+    }
 }
 
 // Writes the report of a scene that is accepted, and its records where there is a store, and delivers both. On a fault the writers have

@@ -1,6 +1,6 @@
 -- A run of all calls that stopped at one of them, and calls whose output was left unread (for `write_calls`, `write_calls_and_records`,
 -- `write_report`).
-use Rattle.std.proofs.Common.{◌≡◌, ◌⊎◌, ℕ, suc, ◌<◌, ◌≤◌, true, false, Bool, List, [], ◌∷◌, ◌++◌, Option, None, Some, length, take, drop, get_or, reverse, refl, sym, ap, ◌∙◌, subst, ap₂, append-nil, append_assoc, arith, inl, inr, if◌then◌else◌, not}
+use Rattle.std.proofs.Common.{◌≡◌, ◌⊎◌, ℕ, suc, ◌<◌, true, false, Bool, List, [], ◌∷◌, ◌++◌, Option, None, Some, length, take, drop, get_or, reverse, refl, sym, ap, ◌∙◌, subst, ap₂, append-nil, append_assoc, arith, inl, inr, if◌then◌else◌}
 use Rattle.std.proofs.Math.Seq.{drop-cons, take-append_seam}
 use Rattle.std.proofs.lemmas.List.{get_or-take, length-take-le, take-append-drop, take-map}
 use Rattle.std.proofs.lemmas.List.Quantifiers.{position-Some}
@@ -28,7 +28,7 @@ use Rattle.scenes.proofs.lemmas.Devices.{alone_begun, alone_whole, beginning_her
 use Rattle.scenes.specs.Prints.{AreBegun, IsStop}
 use Rattle.scenes.proofs.lemmas.Prints.{Begun, begun_longer, front_of_more, memory_no_device, memory_no_store, write_no_store}
 use Rattle.scenes.proofs.lemmas.ReadyCalls.{report_ready, stored_ready}
-use Rattle.scenes.proofs.lemmas.Refusals.{HasChecked, all_judged, fails_behind, mapped_none}
+use Rattle.scenes.proofs.lemmas.Refusals.{all_judged, fails_behind, mapped_none}
 
 -- the call at a place, between those before it and those behind
 around : (calls : List ReportCall) (i : ℕ) (c : ReportCall) → i < length calls → get_or calls i c ≡ c → calls ≡ take i calls ++ c ∷ drop (suc i) calls

@@ -1,5 +1,5 @@
-use Rattle.std.proofs.Common.{◌≡◌, ◌∙◌, [], ℕ, List, None, Some, ap, refl, rules, subst, sym}
-use Rattle.scenes.proofs.Common.{Appends-nil, Begins, buffer_meaning, device, Followed, no_lines, OutOfMemory, Prints, RunLine, StopsBy, store_for, store_meaning}
+use Rattle.std.proofs.Common.{◌∙◌, [], ℕ, List, Some, ap, refl, rules, subst, sym}
+use Rattle.scenes.proofs.Common.{Appends-nil, Begins, buffer_meaning, device, Followed, no_lines, OutOfMemory, Prints, RunLine, StopsBy, store_meaning}
 use Rattle.scenes.proofs.lemmas.Devices.{alone_begun, alone_whole, begun_here, both_begun, both_whole, same_there, whole_here}
 use Rattle.scenes.proofs.lemmas.FollowedRuns.{followed_so, nothing_stops}
 use Rattle.scenes.proofs.lemmas.Prints.{calls_so, moved, pair}
@@ -9,61 +9,56 @@ use Rattle.scenes.proofs.follow.follow_source.Goals.{After-into_inner-writer, Af
 
 -- without a store
 alone : (g : given.Over) (c : After-into_inner-writer g) (total : ℕ) (all : List RunLine) → g.L.RunSource.left total c.args.source.now no_lines all →
-    Followed device device c.args.options.now all (g.W.Write.contents c.args.writer, g.S.Write.contents c.args.store_writer) (g.W.Write.contents c.into_inner-writer.result.0, g.S.Write.contents c.args.store_writer)
+    Followed device device c.args.options.now all (g.W.Write.contents c.args.writer, g.S.Write.contents c.args.store_writer) (g.W.Write.contents c.into_inner-writer.result.0, g.S.Write.contents c.in-Unused.store_writer)
     (λ run. g.L.RunSource.left total c.follow_to-lent.new.source run []) c.follow_to-lent.result.0
 alone g c total all known =
     let options = c.args.options.now in
-    let held = g.S.Write.contents c.args.store_writer in
+    let held = g.S.Write.contents c.in-Unused.store_writer in
     let out = c.in-Ok.ensures.ok in
+    let unused = rw c.in-Unused.is at out.2 in
     let made = c.follow_to-lent in
-    let off : store_for options ≡ None = search rules in
-    moved (λ old new. Followed device device options all old new (λ run. g.L.RunSource.left total made.new.source run []) made.result.0) (pair (ap g.W.Write.contents out.0) refl) (pair (ap g.W.Write.contents (search rules)) refl)
-    (followed_so options all _ (λ config calls h. alone_whole options off _ _ held config calls (whole_here g.W.Write.contents c.in-Ok.out made.result.1.now out.1 _ h.printed h.delivered.0))
-    (λ run f. calls_so (λ calls h. alone_begun options off _ _ held run.config calls f h.0 (begun_here g.W.Write.contents c.in-Ok.out made.result.1.now out.1 _ _ h.1.begun))) made.result.0 (made.ensures.ends total all known))
+    moved (λ old new. Followed device device options all old new (λ run. g.L.RunSource.left total made.new.source run []) made.result.0) (pair (ap g.W.Write.contents out.0) (ap g.S.Write.contents unused.0)) (pair (ap g.W.Write.contents (search rules)) refl)
+    (followed_so options all _ (λ config calls h. alone_whole options unused.1 _ _ held config calls (whole_here g.W.Write.contents c.in-Ok.devices.0 made.result.1.now out.1 _ h.printed h.delivered.0))
+    (λ run f. calls_so (λ calls h. alone_begun options unused.1 _ _ held run.config calls f h.0 (begun_here g.W.Write.contents c.in-Ok.devices.0 made.result.1.now out.1 _ _ h.1.begun))) made.result.0 (made.ensures.ends total all known))
 
 -- with one
 both : (g : given.Over) (c : After-into_inner-store_writer g) (total : ℕ) (all : List RunLine) → g.L.RunSource.left total c.args.source.now no_lines all →
-    Followed device device c.args.options.now all (g.W.Write.contents c.args.writer, g.S.Write.contents c.args.store_writer) (g.W.Write.contents c.into_inner-writer-2.result.0, g.S.Write.contents c.into_inner-store_writer.result.0)
-    (λ run. g.L.RunSource.left total c.follow_to-lent-2.new.source run []) c.follow_to-lent-2.result.0
+    Followed device device c.args.options.now all (g.W.Write.contents c.args.writer, g.S.Write.contents c.args.store_writer) (g.W.Write.contents c.into_inner-writer-in-Buffered.result.0, g.S.Write.contents c.into_inner-store_writer.result.0)
+    (λ run. g.L.RunSource.left total c.follow_to-lent-in-Buffered.new.source run []) c.follow_to-lent-in-Buffered.result.0
 both g c total all known =
     let options = c.args.options.now in
     let out = c.in-Ok.ensures.ok in
-    let records = c.in-Ok-new.ensures.ok in
+    let records = rw c.in-Buffered.is at out.2 in
     let store = c.new-store in
-    let made = c.follow_to-lent-2 in
-    let names = same_there store.result c.in-Some-store.store made.result.2 c.in-Some-store.is made.ensures.same_store ∙ ap (λ s. s.writer.ghost_name) store.ensures in
+    let made = c.follow_to-lent-in-Buffered in
+    let names = same_there store.result c.in-Some.store made.result.2 c.in-Some.is made.ensures.same_store ∙ ap (λ s. s.writer.ghost_name) store.ensures in
     let empty = ap (λ s. s.writer.now.pending) store.ensures ∙ records.1 in
     moved (λ old new. Followed device device options all old new (λ run. g.L.RunSource.left total made.new.source run []) made.result.0)
     (pair (ap g.W.Write.contents out.0) (ap g.S.Write.contents (ap (λ s. s.writer.now.writer) store.ensures ∙ records.0))) (pair (ap g.W.Write.contents (search rules)) (ap g.S.Write.contents (search rules)))
-    (followed_so options all _ (both_whole options g.W.Write.contents g.S.Write.contents c.in-Ok.out made.result.1.now store.result c.in-Some-store.store out.1 empty)
-    (both_begun options g.W.Write.contents g.S.Write.contents c.in-Ok.out made.result.1.now store.result c.in-Some-store.store out.1 empty) made.result.0
-    (subst (λ y. Followed (buffer_meaning g.W.Write.contents) (store_meaning (buffer_meaning g.S.Write.contents)) options all (c.in-Ok.out, Some store.result) (made.result.1.now, y) (λ run. g.L.RunSource.left total made.new.source run []) made.result.0) c.in-Some-store.is (made.ensures.ends total all known)))
+    (followed_so options all _ (both_whole options g.W.Write.contents g.S.Write.contents c.in-Ok.devices.0 made.result.1.now store.result c.in-Some.store out.1 empty)
+    (both_begun options g.W.Write.contents g.S.Write.contents c.in-Ok.devices.0 made.result.1.now store.result c.in-Some.store out.1 empty) made.result.0
+    (subst (λ y. Followed (buffer_meaning g.W.Write.contents) (store_meaning (buffer_meaning g.S.Write.contents)) options all (c.in-Ok.devices.0, Some store.result) (made.result.1.now, y) (λ run. g.L.RunSource.left total made.new.source run []) made.result.0) c.in-Some.is (made.ensures.ends total all known)))
 
 pub returns-in-Err-clause-err : goal.returns-in-Err-clause-err
 returns-in-Err-clause-err g c = λ total all known.
-    moved (λ old new. StopsBy c.args.options.now all (Prints device device c.args.options.now old new) (Begins device device c.args.options.now old new) OutOfMemory) refl (pair (ap g.W.Write.contents (sym c.in-Err.ensures.err)) refl)
-    (nothing_stops device device c.args.options.now all _ (Appends-nil _) (Appends-nil _) _ OutOfMemory refl)
-
-pub returns-in-Err-new-clause-err : goal.returns-in-Err-new-clause-err
-returns-in-Err-new-clause-err g c = λ total all known.
     moved (λ old new. StopsBy c.args.options.now all (Prints device device c.args.options.now old new) (Begins device device c.args.options.now old new) OutOfMemory) refl
-    (pair (ap g.W.Write.contents (sym (c.into_inner-writer-in-Err-new.ensures.writer ∙ c.in-Ok.ensures.ok.0))) (ap g.S.Write.contents (sym c.in-Err-new.ensures.err)))
+    (ap (λ refused. (g.W.Write.contents refused.0, g.S.Write.contents refused.1)) (sym c.in-Err.ensures.err))
     (nothing_stops device device c.args.options.now all _ (Appends-nil _) (Appends-nil _) _ OutOfMemory refl)
 
-pub returns-in_default-clause-ok : goal.returns-in_default-clause-ok
-returns-in_default-clause-ok g c = λ total all known. (alone g (goal.at.returns-in_default-clause-ok g c).After-into_inner-writer total all known).0
+pub returns-in-Unused-clause-ok : goal.returns-in-Unused-clause-ok
+returns-in-Unused-clause-ok g c = λ total all known. (alone g (goal.at.returns-in-Unused-clause-ok g c).After-into_inner-writer total all known).0
 
-pub returns-in_default-clause-rest : goal.returns-in_default-clause-rest
-returns-in_default-clause-rest g c = λ total all known. (alone g (goal.at.returns-in_default-clause-rest g c).After-into_inner-writer total all known).1
+pub returns-in-Unused-clause-rest : goal.returns-in-Unused-clause-rest
+returns-in-Unused-clause-rest g c = λ total all known. (alone g (goal.at.returns-in-Unused-clause-rest g c).After-into_inner-writer total all known).1
 
-pub returns-in_default-clause-err : goal.returns-in_default-clause-err
-returns-in_default-clause-err g c = λ total all known. (alone g (goal.at.returns-in_default-clause-err g c).After-into_inner-writer total all known).2
+pub returns-in-Unused-clause-err : goal.returns-in-Unused-clause-err
+returns-in-Unused-clause-err g c = λ total all known. (alone g (goal.at.returns-in-Unused-clause-err g c).After-into_inner-writer total all known).2
 
-pub returns-clause-ok : goal.returns-clause-ok
-returns-clause-ok g c = λ total all known. (both g (goal.at.returns-clause-ok g c).After-into_inner-store_writer total all known).0
+pub returns-in-Some-clause-ok : goal.returns-in-Some-clause-ok
+returns-in-Some-clause-ok g c = λ total all known. (both g (goal.at.returns-in-Some-clause-ok g c).After-into_inner-store_writer total all known).0
 
-pub returns-clause-rest : goal.returns-clause-rest
-returns-clause-rest g c = λ total all known. (both g (goal.at.returns-clause-rest g c).After-into_inner-store_writer total all known).1
+pub returns-in-Some-clause-rest : goal.returns-in-Some-clause-rest
+returns-in-Some-clause-rest g c = λ total all known. (both g (goal.at.returns-in-Some-clause-rest g c).After-into_inner-store_writer total all known).1
 
-pub returns-clause-err : goal.returns-clause-err
-returns-clause-err g c = λ total all known. (both g (goal.at.returns-clause-err g c).After-into_inner-store_writer total all known).2
+pub returns-in-Some-clause-err : goal.returns-in-Some-clause-err
+returns-in-Some-clause-err g c = λ total all known. (both g (goal.at.returns-in-Some-clause-err g c).After-into_inner-store_writer total all known).2

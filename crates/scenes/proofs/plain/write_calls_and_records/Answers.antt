@@ -1,4 +1,4 @@
-use Rattle.std.proofs.Common.{Some, subst, sym, get_or, ℕ, List, Option, ap, ap₂, ◌≡◌}
+use Rattle.std.proofs.Common.{Some, subst, sym, get_or, ℕ, List, Option, ap}
 use Rattle.scenes.proofs.Common.{AreWhole, device, fault_at_call}
 use Rattle.scenes.specs.Prints.{AreBegun}
 use Rattle.scenes.proofs.lemmas.PlainReports.{both_end, both_stop, configured_so, untouched}

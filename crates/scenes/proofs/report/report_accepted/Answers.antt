@@ -8,45 +8,46 @@ use Rattle.scenes.proofs.report.report_accepted.Goals as goal
 use Rattle.scenes.proofs.report.report_accepted.Goals.{After-into_inner-writer, After-into_inner-store_writer}
 
 -- without a store
-alone : (g : given.Over) (c : After-into_inner-writer g) → Reported device device c.judged.inside.options.now (g.W.Write.contents c.args.writer, g.S.Write.contents c.args.store_writer) (g.W.Write.contents c.into_inner-writer.result.0, g.S.Write.contents c.args.store_writer)
+alone : (g : given.Over) (c : After-into_inner-writer g) → Reported device device c.judged.inside.options.now (g.W.Write.contents c.args.writer, g.S.Write.contents c.args.store_writer) (g.W.Write.contents c.into_inner-writer.result.0, g.S.Write.contents c.in-Unused.store_writer)
     (scene_lines c.judged.inside.scene.now) c.deliver_rest-outcome.result
 alone g c =
     let out = c.in-Ok.ensures.ok in
+    let unused = rw c.in-Unused.is at out.2 in
     let made = c.report_to-lent in
     let rest = c.deliver_rest-outcome in
-    let settled : c.deferred-in_default-1.given.0 ≡ made.result.1.now = search rules in
+    let settled : c.deferred-in-Unused-1.given.0 ≡ made.result.1.now = search rules in
     let ends = rest.ensures in
     let after = rw settled at ends in
-    moved (λ old new. Reported device device c.judged.inside.options.now old new (scene_lines c.judged.inside.scene.now) rest.result) (pair {T = Option (List ℕ)} (ap g.W.Write.contents out.0) refl) (pair {T = Option (List ℕ)} (ap g.W.Write.contents (search rules)) refl)
-    (delivered g.W.Write.contents (record { writer = c.in-Ok.out }) made.result.1.now rest.new.out string_meaning c.judged.inside.options.now (search rules) (scene_lines c.judged.inside.scene.now) out.1 (g.S.Write.contents c.args.store_writer)
+    moved (λ old new. Reported device device c.judged.inside.options.now old new (scene_lines c.judged.inside.scene.now) rest.result) (pair (ap g.W.Write.contents out.0) (ap g.S.Write.contents unused.0)) (pair {T = Option (List ℕ)} (ap g.W.Write.contents (search rules)) refl)
+    (delivered g.W.Write.contents (record { writer = c.in-Ok.devices.0 }) made.result.1.now rest.new.out string_meaning c.judged.inside.options.now unused.1 (scene_lines c.judged.inside.scene.now) out.1 (g.S.Write.contents c.in-Unused.store_writer)
     made.result.2 made.ensures.same_store made.result.0 rest.result made.ensures.ends after.ok after.err)
 
 -- with one
 both : (g : given.Over) (c : After-into_inner-store_writer g) → Reported device device c.judged.inside.options.now (g.W.Write.contents c.args.writer, g.S.Write.contents c.args.store_writer)
-    (g.W.Write.contents c.into_inner-writer-2.result.0, g.S.Write.contents c.into_inner-store_writer.result.0) (scene_lines c.judged.inside.scene.now) c.report_to-lent-2.result.0
+    (g.W.Write.contents c.into_inner-writer-in-Buffered.result.0, g.S.Write.contents c.into_inner-store_writer.result.0) (scene_lines c.judged.inside.scene.now) c.report_to-lent-in-Buffered.result.0
 both g c =
     let options = c.judged.inside.options.now in
     let run = scene_lines c.judged.inside.scene.now in
     let out = c.in-Ok.ensures.ok in
-    let records = c.in-Ok-new.ensures.ok in
+    let records = rw c.in-Buffered.is at out.2 in
     let store = c.new-store in
-    let made = c.report_to-lent-2 in
-    let names = same_there store.result c.in-Some-store.store made.result.2 c.in-Some-store.is made.ensures.same_store ∙ ap (λ s. s.writer.ghost_name) store.ensures in
+    let made = c.report_to-lent-in-Buffered in
+    let names = same_there store.result c.in-Some.store made.result.2 c.in-Some.is made.ensures.same_store ∙ ap (λ s. s.writer.ghost_name) store.ensures in
     let empty = ap (λ s. s.writer.now.pending) store.ensures ∙ records.1 in
     moved (λ old new. Reported device device options old new run made.result.0)
     (pair (ap g.W.Write.contents out.0) (ap g.S.Write.contents (ap (λ s. s.writer.now.writer) store.ensures ∙ records.0))) (pair (ap g.W.Write.contents (search rules)) (ap g.S.Write.contents (search rules)))
-    (reported_so run (both_whole options g.W.Write.contents g.S.Write.contents c.in-Ok.out made.result.1.now store.result c.in-Some-store.store out.1 empty run.config)
-    (both_begun options g.W.Write.contents g.S.Write.contents c.in-Ok.out made.result.1.now store.result c.in-Some-store.store out.1 empty run) made.result.0
-    (subst (λ y. Reported (buffer_meaning g.W.Write.contents) (store_meaning (buffer_meaning g.S.Write.contents)) options (c.in-Ok.out, Some store.result) (made.result.1.now, y) run made.result.0) c.in-Some-store.is made.ensures.ends))
+    (reported_so run (both_whole options g.W.Write.contents g.S.Write.contents c.in-Ok.devices.0 made.result.1.now store.result c.in-Some.store out.1 empty run.config)
+    (both_begun options g.W.Write.contents g.S.Write.contents c.in-Ok.devices.0 made.result.1.now store.result c.in-Some.store out.1 empty run) made.result.0
+    (subst (λ y. Reported (buffer_meaning g.W.Write.contents) (store_meaning (buffer_meaning g.S.Write.contents)) options (c.in-Ok.devices.0, Some store.result) (made.result.1.now, y) run made.result.0) c.in-Some.is made.ensures.ends))
 
-pub returns-in_default-clause-ok : goal.returns-in_default-clause-ok
-returns-in_default-clause-ok g c = rw (← c.judged.view_is) ((alone g (goal.at.returns-in_default-clause-ok g c).After-into_inner-writer).0)
+pub returns-in-Unused-clause-ok : goal.returns-in-Unused-clause-ok
+returns-in-Unused-clause-ok g c = rw (← c.judged.view_is) ((alone g (goal.at.returns-in-Unused-clause-ok g c).After-into_inner-writer).0)
 
-pub returns-in_default-clause-err : goal.returns-in_default-clause-err
-returns-in_default-clause-err g c = rw (← c.judged.view_is) ((alone g (goal.at.returns-in_default-clause-err g c).After-into_inner-writer).1)
+pub returns-in-Unused-clause-err : goal.returns-in-Unused-clause-err
+returns-in-Unused-clause-err g c = rw (← c.judged.view_is) ((alone g (goal.at.returns-in-Unused-clause-err g c).After-into_inner-writer).1)
 
-pub returns-clause-ok : goal.returns-clause-ok
-returns-clause-ok g c = rw (← c.judged.view_is) ((both g (goal.at.returns-clause-ok g c).After-into_inner-store_writer).0)
+pub returns-in-Some-clause-ok : goal.returns-in-Some-clause-ok
+returns-in-Some-clause-ok g c = rw (← c.judged.view_is) ((both g (goal.at.returns-in-Some-clause-ok g c).After-into_inner-store_writer).0)
 
-pub returns-clause-err : goal.returns-clause-err
-returns-clause-err g c = rw (← c.judged.view_is) ((both g (goal.at.returns-clause-err g c).After-into_inner-store_writer).1)
+pub returns-in-Some-clause-err : goal.returns-in-Some-clause-err
+returns-in-Some-clause-err g c = rw (← c.judged.view_is) ((both g (goal.at.returns-in-Some-clause-err g c).After-into_inner-store_writer).1)
