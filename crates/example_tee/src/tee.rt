@@ -1,6 +1,6 @@
 //! Two reporters over one stream of events.
 
-ghost use Rattle.std.specs.Prelude.{◌≡◌, OnOk, IfErr, None, Some};
+ghost use Rattle.std.specs.Prelude.{OnOk, IfErr, None, Some};
 ghost use Rattle.plain_text.specs.StringWriter.{string_meaning};
 ghost use Rattle.run_model.specs.declared.call.ReportCall.{ReportCall};
 ghost use Rattle.console_reporter.specs.Telling.{Breaks, Tells};

@@ -5,7 +5,6 @@ ghost use Rattle.std.specs.Option.{is_some};
 ghost use Rattle.plain_text.specs.Writer.{Puts};
 ghost use Rattle.report_words.specs.Parts.{paint, style_of};
 ghost use Rattle.info_text.specs.State.{attempt_text, waiting_line, delay_note, exited_text, exiting_line, exiting_note, leak_note, nanos_of, note_start, process_of, running_tone, running_line, signal_of, marked_slow_end, state_line, state_note, state_text, status_start, taken_end, tentative_info, terminating_line, terminating_note, unit_start, unknown_info};
-ghost use Rattle.unit_report.specs.UnitKind.{unit_word};
 
 use crate::seconds::write_seconds;
 use itoa::Buffer;

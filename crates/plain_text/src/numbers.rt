@@ -1,7 +1,6 @@
 //! Numbers and spaces as text.
 
 ghost use Rattle.std.specs.Prelude.{◌≡◌, ◌+◌, ◌/◌, ◌%◌, ◌<◌, ◌≤◌, ◌∷◌, [], ◌++◌, ◌-◌, length, chars, codes};
-ghost use Rattle.std.specs.Fmt.{decimal};
 ghost use Rattle.plain_text.specs.Texts.{spaces, right_in};
 ghost use Rattle.plain_text.specs.Numbers.{digit_column, last_digits, rounded, seconds};
 ghost use Rattle.plain_text.specs.Writer.{Puts};

@@ -3,10 +3,10 @@
 //! A style is a sequence before a text and one after it. A plain style has neither, so that one function writes both
 //! kinds of report.
 
-ghost use Rattle.std.specs.Prelude.{◌≡◌, ◌++◌, ◌∷◌, [], true, false, codes};
+ghost use Rattle.std.specs.Prelude.{◌≡◌, ◌++◌, [], true};
 ghost use Rattle.std.specs.Fmt.{decimal};
 ghost use Rattle.plain_text.specs.Texts.{right_in};
-ghost use Rattle.plain_text.specs.Style.{PartText, style_prefix, style_suffix, reset_color, plain, styled, part_text, painted_part, painted, styles_of, list_styles_of};
+ghost use Rattle.plain_text.specs.Style.{PartText, style_prefix, style_suffix, plain, styled, part_text, painted_part, painted, styles_of, list_styles_of};
 ghost use Rattle.plain_text.specs.Writer.{Puts};
 
 use crate::numbers::{write_right, write_right_joined};

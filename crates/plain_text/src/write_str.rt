@@ -3,7 +3,7 @@
 //! A writer says what it accepted, also where a device fails in the middle of a text, so that what reaches a terminal
 //! or a file is always a beginning of the text that was meant.
 
-ghost use Rattle.std.specs.Prelude.{◌≡◌, ℕ, List, Bool, [], ◌++◌, take, MatchResult, OnOk, encode_utf8, string_bytes};
+ghost use Rattle.std.specs.Prelude.{◌≡◌, [], OnOk, encode_utf8};
 ghost use Rattle.plain_text.specs.StringWriter.{string_meaning, string_laws};
 ghost use Rattle.plain_text.specs.Texts.{strs};
 ghost use Rattle.plain_text.specs.Writer.{Meaning, WriterLaws, Puts};

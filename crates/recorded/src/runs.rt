@@ -6,7 +6,6 @@ ghost use Rattle.recorded.specs.Outputs.{counted};
 ghost use Rattle.recorded.specs.Runs.{lines_inline, lines_replayed, needed_bytes, replayed};
 ghost use Rattle.recorded.specs.Source.{IsLeft};
 ghost use Rattle.recorded.specs.SpelledOut.{AreBytes, scene_spelled};
-ghost use Rattle.scene_text.specs.SceneTexts.{no_lines};
 ghost use Rattle.scenes.specs.Follow.{StopsBy};
 ghost use Rattle.scenes.specs.ParsedScenes.{OfLines, OfText};
 ghost use Rattle.scenes.specs.Prints.{Begins, Prints, PrintsFollowed, device};

@@ -6,7 +6,7 @@ ghost use Rattle.run_model.specs.declared.output_event.OutputEventKind.{OutputEv
 ghost use Rattle.std.specs.Prelude.{◌≡◌, IfSome, None, Some, false};
 ghost use Rattle.std.specs.Option.{is_some, option_map};
 ghost use Rattle.run_model.specs.Recorded.{recorded_kind};
-ghost use Rattle.run_model.specs.Statuses.{described_summary, summary_of};
+ghost use Rattle.run_model.specs.Statuses.{summary_of};
 ghost use Rattle.run_model.specs.declared.event.TestEventKind.{TestEventKind};
 ghost use Rattle.reporter_state.specs.Refusals.{decider_by, event_refusal, first_refused, is_retried_success, refusal_by};
 ghost use Rattle.reporter_state.specs.Metadata.{HasMetadata, loads_by_metadata, loads_last};

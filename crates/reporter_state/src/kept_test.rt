@@ -1,7 +1,6 @@
 //! A test that is kept: it has names of its own, so that the event that named it need not last.
 
 ghost use Rattle.std.specs.Prelude.{◌≡◌, IfOk};
-ghost use Rattle.std.specs.Cmp.Lexicographic.{slice_cmp};
 ghost use Rattle.reporter_state.specs.Entries.{instance_key};
 ghost use Rattle.reporter_state.specs.KeptTests.{kept_test};
 ghost use Rattle.reporter_state.specs.Order.{key_cmp};

@@ -1,6 +1,5 @@
 //! The iterations of a stress run: that one has started or has finished.
 
-ghost use Rattle.std.specs.Prelude.{◌≡◌};
 ghost use Rattle.std.specs.Option.{option_map};
 ghost use Rattle.std.specs.Int.NonZero.{non_zero_u32_get};
 ghost use Rattle.run_names.specs.Stress.{remaining_value};

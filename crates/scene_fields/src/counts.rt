@@ -3,7 +3,7 @@
 //! Single spaces part the pairs, as in `passed=2 failed=1`, and each key stands there once. What has no pair is 0, and `-`
 //! stands for no pair at all. Each function answers None for a bad field.
 
-ghost use Rattle.std.specs.Prelude.{◌≡◌, ◌<◌, false, ℕ, List, Option, IfSome};
+ghost use Rattle.std.specs.Prelude.{◌≡◌, ◌<◌, false, List, Option, IfSome};
 ghost use Rattle.std.specs.List.{list_any};
 ghost use Rattle.std.specs.Option.{option_map};
 ghost use Rattle.scene_fields.specs.Numbers.{number_in};

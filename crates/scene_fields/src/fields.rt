@@ -5,7 +5,6 @@ ghost use Rattle.std.specs.Option.{ForSome, is_some};
 ghost use Rattle.scene_fields.specs.Split.{split_on, field_texts};
 ghost use Rattle.scene_fields.specs.declared.fault.LineFault.{LineFault};
 ghost use Rattle.scene_fields.specs.Fields.{IsRightNumber, Noted, Place, ReadsBy, TriesBy, answered, next, next_stored, none_noted, noting, noted_outputs, taken_text, with_noted};
-ghost use Rattle.scene_fields.specs.Stored.{placed};
 
 use super::marks::{first_place, marks_from, shift_past};
 use super::owned_text::OwnedText;

@@ -4,7 +4,7 @@
 //! the kind of the event. Each module knows one thing: `lines` which kinds there are, `event_lines` what fields each has,
 //! `parts` values that are in one field in parts, and `binary_ids` ids that lines share.
 
-ghost use Rattle.std.specs.Prelude.{◌≡◌, ◌++◌, [], ◌∷◌, false, IfErr, IfOk, OnOk, Ok};
+ghost use Rattle.std.specs.Prelude.{◌≡◌, [], ◌∷◌, false, IfErr, IfOk, OnOk, Ok};
 ghost use Rattle.scene_text.specs.SceneTexts.{LeavesLines, NotesLine, ReadsLines, ParsedLine, TakesLine, before_next, fault_at, is_begun_behind, is_passed_over, line_value, line_words, no_lines, parsed_line, parsed_lines, recorded_line, text_lines, unread_line, value_of};
 
 mod binary_ids;

@@ -6,7 +6,7 @@
 ghost use Rattle.std.specs.Prelude.{◌≡◌, ℕ, List, [], true, Option, None, Some, Ok, IfOk, IfErr, OnOk};
 ghost use Rattle.console_reporter.specs.OptionalStore.{IsSameStore, config_of, store_delivered, store_meaning};
 ghost use Rattle.console_reporter.specs.Telling.{IsSameReporter};
-ghost use Rattle.scene_text.specs.SceneTexts.{ParsedLines, RunLine, is_begun, no_lines, text_lines};
+ghost use Rattle.scene_text.specs.SceneTexts.{RunLine, is_begun, no_lines, text_lines};
 ghost use Rattle.scenes.specs.Follow.{Followed, StopsBy};
 ghost use Rattle.scenes.specs.ParsedScenes.{OfLines, OfText};
 ghost use Rattle.scenes.specs.Prints.{Begins, Prints, PrintsFollowed, device};

@@ -1,6 +1,5 @@
 //! Netstrings: a text after the number of its bytes, so that it may hold any byte.
 
-ghost use Rattle.std.specs.Prelude.{◌≡◌, ◌++◌};
 ghost use Rattle.plain_text.specs.Writer.{Puts};
 ghost use Rattle.store_text.specs.Netstring.{joined_netstring, netstring, netstring_head};
 

@@ -1,6 +1,5 @@
 //! The record of a finished test.
 
-ghost use Rattle.std.specs.Prelude.{◌≡◌, ◌++◌};
 ghost use Rattle.text_parts.specs.ResultWords.{short_word};
 ghost use Rattle.plain_text.specs.Writer.{Puts};
 ghost use Rattle.store_text.specs.Netstring.{netstring};

@@ -1,10 +1,9 @@
 //! A test that starts, and another attempt of one: shown where output is not captured, or with commands.
 
-ghost use Rattle.std.specs.Prelude.{◌≡◌};
 ghost use Rattle.plain_text.specs.Writer.{Puts};
 ghost use Rattle.text_parts.specs.Instance.{padded_instance};
 ghost use Rattle.report_words.specs.Parts.{paint};
-ghost use Rattle.test_text.specs.TestStarted.{command_text, retry_start_line, start_line, started_instance, test_retry_started_text, test_started_text};
+ghost use Rattle.test_text.specs.TestStarted.{command_text, retry_start_line, start_line, test_retry_started_text, test_started_text};
 
 use itoa::Buffer;
 use plain_text::style::write_plain;

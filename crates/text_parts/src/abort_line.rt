@@ -1,6 +1,5 @@
 //! The line that follows the line of a test whose process was ended from outside, on Windows.
 
-ghost use Rattle.std.specs.Prelude.{◌≡◌};
 ghost use Rattle.report_text.specs.Failure.{nt_status_text};
 ghost use Rattle.plain_text.specs.Style.{styled};
 ghost use Rattle.plain_text.specs.Writer.{Puts};

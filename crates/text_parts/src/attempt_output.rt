@@ -5,7 +5,7 @@ ghost use Rattle.run_model.specs.Outputs.{has_loaded_output};
 ghost use Rattle.plain_text.specs.Writer.{Puts};
 ghost use Rattle.report_words.specs.Parts.{paint};
 ghost use Rattle.unit_report.specs.UnitOutput.{layout_of};
-ghost use Rattle.text_parts.specs.AttemptOutput.{attempt_output, exec_fail_header, finished_layout, has_info_after_failure, has_info_line, header_style, info_line, info_line_start, layout_in, output_margin, result_style, script_output, shown_info_line, stream_header, unit_output};
+ghost use Rattle.text_parts.specs.AttemptOutput.{attempt_output, exec_fail_header, finished_layout, has_info_after_failure, has_info_line, info_line, info_line_start, layout_in, output_margin, result_style, script_output, shown_info_line, stream_header, unit_output};
 
 use crate::info_result::write_info_result;
 use crate::settings::Settings;

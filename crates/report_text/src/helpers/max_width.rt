@@ -3,7 +3,7 @@
 //! Its four parts take of the width in turn: the iteration of a stress run, the counter and the binary's id, each cut at
 //! its end, and the name, cut at its beginning. So nothing is left after a part that is cut.
 
-ghost use Rattle.std.specs.Prelude.{◌≡◌, ◌<◌, ◌^◌, ◌∷◌, [], List};
+ghost use Rattle.std.specs.Prelude.{◌<◌, ◌^◌, ◌∷◌, []};
 ghost use Rattle.plain_text.specs.Fitting.{FitsWidth, columns, shrunk_parts};
 ghost use Rattle.report_text.specs.Instance.{HasPlainWords, counter_prefix, id_prefix, test_name_text, stress_prefix};
 ghost use Rattle.plain_text.specs.Writer.{Puts};

@@ -1,7 +1,6 @@
 //! Durations as the lines of a report show them.
 
-ghost use Rattle.std.specs.Prelude.{◌≡◌, ◌++◌, Some, codes};
-ghost use Rattle.plain_text.specs.Texts.{right_in};
+ghost use Rattle.std.specs.Prelude.{Some};
 ghost use Rattle.plain_text.specs.Numbers.{seconds};
 ghost use Rattle.plain_text.specs.Writer.{Puts};
 ghost use Rattle.unit_report.specs.Durations.{bracketed_clock, bracketed_duration, duration_by, slow_duration};

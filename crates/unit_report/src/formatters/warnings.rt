@@ -1,6 +1,5 @@
 //! What a run left undone.
 
-ghost use Rattle.std.specs.Prelude.{◌≡◌};
 ghost use Rattle.plain_text.specs.Writer.{Puts};
 ghost use Rattle.report_words.specs.Parts.{paint};
 ghost use Rattle.unit_report.specs.Warnings.{due_to, final_warnings, hint_after, not_run_count, not_run_warning, options_hint, warning_of};

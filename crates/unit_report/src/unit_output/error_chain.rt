@@ -1,6 +1,6 @@
 //! An error and its causes, as text.
 
-ghost use Rattle.std.specs.Prelude.{◌≡◌, false, codes};
+ghost use Rattle.std.specs.Prelude.{false, codes};
 ghost use Rattle.std.specs.List.{flat_map};
 ghost use Rattle.plain_text.specs.Indent.{indent};
 ghost use Rattle.plain_text.specs.Writer.{Puts};

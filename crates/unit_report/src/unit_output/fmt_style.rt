@@ -1,6 +1,6 @@
 //! What begins and what ends a style, for formatting.
 
-ghost use Rattle.std.specs.Prelude.{◌≡◌, Some};
+ghost use Rattle.std.specs.Prelude.{Some};
 ghost use Rattle.plain_text.specs.Style.{style_prefix, style_suffix};
 
 use plain_text::style::Style;

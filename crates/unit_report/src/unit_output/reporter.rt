@@ -8,7 +8,7 @@ ghost use Rattle.plain_text.specs.Lossy.{decoded_text};
 ghost use Rattle.plain_text.specs.Writer.{Puts};
 ghost use Rattle.unit_report.specs.Captured.{captured};
 ghost use Rattle.unit_report.specs.ErrorChain.{error_chain_text};
-ghost use Rattle.unit_report.specs.UnitOutput.{both_streams, child_output, errors_block, errors_text, execution_output, is_replay, layout_of, not_captured_text, present_stream, shown_stream, split_text, stream_text};
+ghost use Rattle.unit_report.specs.UnitOutput.{both_streams, child_output, errors_block, errors_text, execution_output, layout_of, not_captured_text, present_stream, shown_stream, split_text, stream_text};
 
 use super::DisplayerKind;
 use super::captured::write_captured;
