@@ -13,9 +13,4 @@ returns-in_err-write g c = let laws = g.met.W.WriteStr.laws in rw (ne_eqb _ _ c.
 
 pub returns : goal.returns
 unfolding leaky_failed_note
-returns g c =
-    let laws = g.met.W.WriteStr.laws in rw (ne_eqb _ _ c.if-count-eq0.false)
-    (puts_then laws _ _ _ _ _ _ c.in_ok-write_plain.ensures
-    (puts_then laws _ _ _ _ _ _ c.in_ok-write_number.ensures
-    (puts_then laws _ _ _ _ _ _ c.in_ok-write_plain-2.ensures
-    (puts_then laws _ _ _ _ _ _ c.in_ok-write.ensures c.write_plain-3.ensures))))
+returns g c = let laws = g.met.W.WriteStr.laws in rw (ne_eqb _ _ c.if-count-eq0.false) (puts_then laws _ _ _ _ _ _ c.in_ok-write_plain.ensures (search (puts_then laws, c.in_ok-write_number.ensures, c.in_ok-write_plain-2.ensures, c.in_ok-write.ensures, c.write_plain-3.ensures)))

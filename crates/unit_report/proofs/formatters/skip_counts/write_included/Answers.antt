@@ -25,7 +25,4 @@ pub returns : goal.returns
 unfolding included_text
 returns g c =
     let laws = g.met.W.WriteStr.laws in let some : ((c.args.counts.now.skipped_tests_rerun == 0) && has_no_filtered c.args.counts.now) ≡ false = search rules in
-    rw some
-    (puts_then laws _ _ _ _ _ _ c.in_ok-write_plain.ensures
-    (puts_then laws _ _ _ _ _ _ c.in_ok-write_rerun.ensures
-    (puts_then laws _ _ _ _ _ _ (rw c.has_no_filtered-has_no_filtered.ensures at c.in_ok-write_between.ensures) c.write_filtered.ensures)))
+    rw some (puts_then laws _ _ _ _ _ _ c.in_ok-write_plain.ensures (search (puts_then laws, c.in_ok-write_rerun.ensures, (rw c.has_no_filtered-has_no_filtered.ensures at c.in_ok-write_between.ensures), c.write_filtered.ensures)))
