@@ -61,7 +61,7 @@ fn write_missing_note<W: WriteStr>(
 }
 
 // Writes how many answers are missing.
-#[tactic(auto, unfolding(crate::specs::Start::missing_line))]
+#[tactic(auto, using(plain_text::proofs::lemmas::Steps::puts_then), unfolding(crate::specs::Start::missing_line))]
 fn write_missing_line<W: WriteStr>(
     w: &mut W,
     styles: &Styles,

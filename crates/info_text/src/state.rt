@@ -172,7 +172,7 @@ fn write_tentative_info<W: WriteStr>(
 }
 
 // Writes that it is not known how a unit ended.
-#[tactic(auto, unfolding(crate::specs::State::unknown_info))]
+#[tactic(auto, using(plain_text::proofs::lemmas::Steps::puts_then), unfolding(crate::specs::State::unknown_info))]
 fn write_unknown_info<W: WriteStr>(w: &mut W, styles: &Styles) -> Result<(), WriteFault>
     ensures { Puts W.meaning w.old (paint styles.now unknown_info) result w.new }
 {

@@ -92,7 +92,7 @@ fn write_of_iterations<W: WriteStr>(
 }
 
 // Writes how long the run has taken, and of how long where that is known.
-#[tactic(auto, unfolding(crate::specs::Stress::elapsed_text))]
+#[tactic(auto, using(plain_text::proofs::lemmas::Steps::puts_then), unfolding(crate::specs::Stress::elapsed_text))]
 fn write_elapsed<W: WriteStr>(
     w: &mut W,
     styles: &Styles,

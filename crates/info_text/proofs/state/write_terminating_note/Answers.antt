@@ -4,31 +4,12 @@ use Rattle.info_text.proofs.state.write_terminating_note.Goals as goal
 
 pub returns-in_err-write_seconds : goal.returns-in_err-write_seconds
 unfolding terminating_note
-returns-in_err-write_seconds g c =
-    let laws = g.met.W.WriteStr.laws in
-    at_exit laws _ _ _ _ _ c.from_residual-in_err-write_seconds.ensures.1
-    (laws.goes_on _ _ _ _ _ _ c.in_ok-write_note_start.ensures
-    (laws.goes_on _ _ _ _ _ _ c.in_ok-write_plain.ensures
-    (laws.goes_on _ _ _ _ _ _ (rw c.signal_of.ensures at c.in_ok-write_plain-2.ensures)
-    (laws.stops_within _ _ _ _ _ c.in_err-write_seconds.ensures))))
+returns-in_err-write_seconds g c = let laws = g.met.W.WriteStr.laws in at_exit laws _ _ _ _ _ c.from_residual-in_err-write_seconds.ensures.1 (search (laws.goes_on, laws.stops_within, c.in_ok-write_note_start.ensures, c.in_ok-write_plain.ensures, (rw c.signal_of.ensures at c.in_ok-write_plain-2.ensures), c.in_err-write_seconds.ensures))
 
 pub returns-in_err-write_to : goal.returns-in_err-write_to
 unfolding terminating_note
-returns-in_err-write_to g c =
-    let laws = g.met.W.WriteStr.laws in
-    at_exit laws _ _ _ _ _ c.from_residual-in_err-write_to.ensures.1
-    (laws.goes_on _ _ _ _ _ _ c.in_ok-write_note_start.ensures
-    (laws.goes_on _ _ _ _ _ _ c.in_ok-write_plain.ensures
-    (laws.goes_on _ _ _ _ _ _ (rw c.signal_of.ensures at c.in_ok-write_plain-2.ensures)
-    (laws.goes_on _ _ _ _ _ _ c.in_ok-write_seconds.ensures
-    (laws.stops_within _ _ _ _ _ (rw (c.new.ensures.mode, c.new.ensures.kind) at c.in_err-write_to.ensures))))))
+returns-in_err-write_to g c = let laws = g.met.W.WriteStr.laws in at_exit laws _ _ _ _ _ c.from_residual-in_err-write_to.ensures.1 (search (laws.goes_on, laws.stops_within, c.in_ok-write_note_start.ensures, c.in_ok-write_plain.ensures, (rw c.signal_of.ensures at c.in_ok-write_plain-2.ensures), c.in_ok-write_seconds.ensures, (rw (c.new.ensures.mode, c.new.ensures.kind) at c.in_err-write_to.ensures)) depth 6)
 
 pub returns : goal.returns
 unfolding terminating_note
-returns g c =
-    let laws = g.met.W.WriteStr.laws in
-    puts_then laws _ _ _ _ _ _ c.in_ok-write_note_start.ensures
-    (puts_then laws _ _ _ _ _ _ c.in_ok-write_plain.ensures
-    (puts_then laws _ _ _ _ _ _ (rw c.signal_of.ensures at c.in_ok-write_plain-2.ensures)
-    (puts_then laws _ _ _ _ _ _ c.in_ok-write_seconds.ensures
-    (puts_then laws _ _ _ _ _ _ (rw (c.new.ensures.mode, c.new.ensures.kind) at c.in_ok-write_to.ensures) c.write_seconds-2.ensures))))
+returns g c = let laws = g.met.W.WriteStr.laws in search (puts_then laws, c.in_ok-write_note_start.ensures, c.in_ok-write_plain.ensures, (rw c.signal_of.ensures at c.in_ok-write_plain-2.ensures), c.in_ok-write_seconds.ensures, (rw (c.new.ensures.mode, c.new.ensures.kind) at c.in_ok-write_to.ensures), c.write_seconds-2.ensures) depth 7
