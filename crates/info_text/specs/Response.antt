@@ -1,5 +1,5 @@
 -- The answer of a unit that is asked what it is doing.
-use Rattle.std.specs.Prelude.{◌≡◌, ℕ, ◌+◌, ◌-◌, ◌==◌, Bool, true, false, ◌&&◌, ◌||◌, Option, None, Some, zero, suc, [], ◌++◌, length, codes, nat_lt, if◌then◌else◌, refl}
+use Rattle.std.specs.Prelude.{◌≡◌, ℕ, ◌+◌, ◌-◌, ◌==◌, Bool, true, false, ◌&&◌, ◌||◌, Option, None, Some, [], ◌++◌, length, codes, nat_lt, if◌then◌else◌, refl}
 use Rattle.std.specs.Fmt.{decimal}
 use Rattle.run_model.specs.Infos.{has_valid_output}
 use Rattle.run_model.specs.Outputs.{has_errors, has_loaded_output}

@@ -4,7 +4,9 @@ use Rattle.run_text.proofs.cancel.write_terminating_words.Goals as goal
 
 pub returns-in_err-write : goal.returns-in_err-write
 unfolding terminating_words
-returns-in_err-write g c = let laws = g.met.W.WriteStr.laws in at_exit laws _ _ _ _ _ c.from_residual-in_err-write.ensures.1 (search (laws.goes_on, laws.stops_within, c.in_ok-write_plain.ensures, c.in_err-write.ensures))
+returns-in_err-write g c =
+    let laws = g.met.W.WriteStr.laws in
+    at_exit laws _ _ _ _ _ c.from_residual-in_err-write.ensures.1 (search (laws.goes_on, laws.stops_within, c.in_ok-write_plain.ensures, c.in_err-write.ensures))
 
 pub returns : goal.returns
 unfolding terminating_words

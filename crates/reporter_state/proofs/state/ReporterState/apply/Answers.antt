@@ -1,5 +1,4 @@
 use Rattle.run_names.specs.Levels.{reason_rank}
-use Rattle.std.proofs.Common.{sym}
 use Rattle.test_text.specs.TestFinished.{finish_of}
 use Rattle.reporter_state.proofs.lemmas.Loads.{handed_loaded}
 use Rattle.reporter_state.proofs.state.ReporterState.apply.Goals as goal
