@@ -3,7 +3,7 @@ use Rattle.std.proofs.Common.{◌≡◌, ◌⊎◌, ℕ, ◌+◌, ◌<◌, ◌�
 use Rattle.std.specs.Prelude.{IfErr, IfSome, OnErr, nat_lt}
 use Rattle.std.specs.Result.{IsErrAnd}
 use Rattle.std.proofs.Math.ListN.{set}
-use Rattle.std.proofs.Math.Seq.{take-append_seam}
+use Rattle.std.proofs.Math.Seq.{get_or-append_seam, set-append_seam, take-append_seam}
 use Rattle.std.proofs.lemmas.Bool.{cases_Bool}
 use Rattle.std.proofs.lemmas.Bool.Decides.{nat_tests}
 use Rattle.std.proofs.lemmas.List.{append_cancel_left, length-append, nil_from_length, take-set}
@@ -119,29 +119,22 @@ as_read stored e = Ok e
 
 -- a line that is wrong as it is read is as wrong with more made of it
 wrong_value : (make : Makes) (says : Result (ParsedLine × List PlacedOutput) LineFault) (run : ParsedLines) (f : LineFault) → lines_with run (with_made as_read says) ≡ Err f → lines_with run (with_made make says) ≡ Err f
-wrong_value make (Ok (NoEvent, stored)) run f h = absurd (cc)
-wrong_value make (Ok (ConfigLine c, stored)) run f h = absurd (cc)
-wrong_value make (Ok (EventLine e, stored)) run f h = absurd (cc)
-wrong_value make (Err g) run f h = h
+wrong_value make says run f h = grind arith
 
 -- where no more is made of its event, it is as it is read
 same_value : (make : Makes) (x : ParsedLine) (stored : List PlacedOutput) → ((e : SceneEvent) → x ≡ EventLine e → make stored e ≡ Ok e) → with_made make (Ok (x, stored)) ≡ with_made as_read (Ok (x, stored))
-same_value make NoEvent stored same = refl
-same_value make (ConfigLine c) stored same = refl
-same_value make (EventLine e) stored same = ap (λ r. with_made (λ s x. r) (Ok (EventLine e, stored))) (same e refl)
+same_value make x stored same = grind (arith, same)
 
 nothing_needed : (options : Options) (before : LinesBefore) (stored : List PlacedOutput) (x : ParsedLine) → ((e : SceneEvent) → x ≡ EventLine e → needed_of (decider_for options before.config) e stored ≡ 0) → needed_by options before stored x ≡ 0
-nothing_needed options before stored NoEvent none = refl
-nothing_needed options before stored (ConfigLine c) none = refl
-nothing_needed options before stored (EventLine e) none = none e refl
+nothing_needed options before stored x none = grind (arith, none)
 
 -- of no stored outputs nothing is made, and nothing is needed
 nothing_made : (all : List ℕ) (d : OutputLoadDecider) (e : SceneEvent) → event_replayed all d [] e ≡ Ok e
 unfolding event_replayed
-nothing_made all d e = elim (cases_Bool (skips d e)) [ inl y ↦ rw y refl | inr n ↦ rw n refl ]
+nothing_made all d e = grind arith
 
 none_needed : (d : OutputLoadDecider) (e : SceneEvent) → needed_of d e [] ≡ 0
-none_needed d e = elim (cases_Bool (skips d e)) [ inl y ↦ rw y refl | inr n ↦ rw n refl ]
+none_needed d e = grind arith
 
 -- two counts in turn are one of the sum
 counted-twice : (count a b : ℕ) → counted (counted count a) b ≡ counted count (a + b)
@@ -152,51 +145,28 @@ none_in ps size none says is same =
     let zero_size : size ≡ 0 = (let tested = sym says ∙ is in grind (arith, nat_tests, tested)) in
     nil_from_length ps (sym same ∙ zero_size)
 
--- the event at the end of those that were read, and another in its place
-event_there : (es : List SceneEvent) (e d : SceneEvent) → get_or (es ++ e ∷ []) (length es) d ≡ e
-event_there [] e d = refl
-event_there (x ∷ es) e d = event_there es e d
+-- the events that a value adds
+abbrev events_of : ParsedLine → List SceneEvent
+events_of NoEvent = []
+events_of (ConfigLine c) = []
+events_of (EventLine e) = e ∷ []
 
-event_set : (es : List SceneEvent) (e made : SceneEvent) → set (es ++ e ∷ []) (length es) made ≡ es ++ made ∷ []
-event_set [] e made = refl
-event_set (x ∷ es) e made = ap (λ ys. x ∷ ys) (event_set es e made)
+as_read_is : (x : ParsedLine) (stored : List PlacedOutput) → with_made as_read (Ok (x, stored)) ≡ Ok x
+as_read_is x stored = grind arith
 
--- what was added by a line that was read
-record AddsEvent (old mid : LinesRead) (x : ParsedLine) : Type 0 where
+events_with : (run : ParsedLines) (x : ParsedLine) → (with_line run x).events ≡ run.events ++ events_of x
+events_with run x = grind (arith, append-nil)
+
+-- where there are more events now, an event was added, and the configuration is as it was
+record IsEvent (run : ParsedLines) (x : ParsedLine) : Type 0 where
   pub event : SceneEvent
   pub is : x ≡ EventLine event
-  pub config : mid.run.config ≡ old.run.config
-  pub events : mid.run.events.items ≡ old.run.events.items ++ event ∷ []
+  pub config : (with_line run x).config ≡ run.config
 
-record AddsNone (old mid : LinesRead) (x : ParsedLine) : Type 0 where
-  pub none : (e : SceneEvent) → x ≡ EventLine e → ⊥
-  pub events : mid.run.events.items ≡ old.run.events.items
-
-added : (base : List SceneEvent) (old mid : LinesRead) (x : ParsedLine) (stored : List PlacedOutput) → lines_with (behind base old) (with_made as_read (Ok (x, stored))) ≡ Ok (behind base mid) → AddsEvent old mid x ⊎ AddsNone old mid x
-added base old mid NoEvent stored h =
-    let same : behind base old ≡ behind base mid = cc in
-    inr (record { none = λ e is. absurd (cc); events = append_cancel_left base mid.run.events.items old.run.events.items (ap (λ (x : ParsedLines). x.events) (sym same)) })
-added base old mid (ConfigLine c) stored h =
-    let same : with_line (behind base old) (ConfigLine c) ≡ behind base mid = cc in
-    inr (record { none = λ e is. absurd (cc); events = append_cancel_left base mid.run.events.items old.run.events.items (ap (λ (x : ParsedLines). x.events) (sym same)) })
-added base old mid (EventLine e) stored h =
-    let same : with_line (behind base old) (EventLine e) ≡ behind base mid = cc in
-    inl (record {
-      event = e;
-      is = refl;
-      config = ap (λ (x : ParsedLines). x.config) (sym same);
-      events = append_cancel_left base mid.run.events.items (old.run.events.items ++ e ∷ []) (ap (λ (x : ParsedLines). x.events) (sym same) ∙ append_assoc base old.run.events.items (e ∷ []));
-    })
-
-first_is : (t u : RunLine) (ts us : List RunLine) → t ∷ ts ≡ u ∷ us → t ≡ u
-first_is t u ts us h = cc
-
-others_are : (t u : RunLine) (ts us : List RunLine) → t ∷ ts ≡ u ∷ us → ts ≡ us
-others_are t u ts us h = cc
-
-nothing_behind : (front rest : List RunLine) (t : RunLine) (more : List RunLine) → [] ≡ front ++ rest → rest ≡ t ∷ more → ⊥
-nothing_behind [] rest t more none is = (let first : ◌≡◌ {A = List RunLine} [] (t ∷ more) = none ∙ is in cc)
-nothing_behind (u ∷ front) rest t more none is = cc
+is_event : (run : ParsedLines) (x : ParsedLine) → 0 < length (events_of x) → IsEvent run x
+is_event run NoEvent some = absurd (omega arith)
+is_event run (ConfigLine c) some = absurd (omega arith)
+is_event run (EventLine e) some = record { event = e; is = refl; config = refl }
 
 -- a line, and what a replay with these options makes of its event
 module _ (options : Options) (t : List ℕ) (old mid : LinesRead) where
@@ -211,9 +181,8 @@ module _ (options : Options) (t : List ℕ) (old mid : LinesRead) where
 
     next_wrong : (n : ℕ) (run : ParsedLines) (f : ReadFault) → IsNextFault n run (unread_line t ∷ []) f → IsNextFault n run (line_replayed options all t ∷ []) f
     next_wrong n run (fault.Line m f) h =
-        let here = h.1 in
-        let same : here.0 ≡ unread_line t = sym (first_is (unread_line t) here.0 [] here.1 here.2) in
-        (h.0, (line_replayed options all t, [], refl, wrong_so run f (subst (λ u. line_read run u ≡ Err f) same here.3)))
+        let same : h.1.0 ≡ unread_line t = cc in
+        (h.0, (line_replayed options all t, [], refl, wrong_so run f (subst (λ u. line_read run u ≡ Err f) same h.1.3)))
     next_wrong n run fault.OutOfMemory h = tt
 
     not_read : (f : ReadFault) (front rest : List RunLine) → unread_line t ∷ [] ≡ front ++ rest → ReadsLines old mid front → (base : List SceneEvent) → is_begun base ≡ old.is_begun →
@@ -223,10 +192,8 @@ module _ (options : Options) (t : List ℕ) (old mid : LinesRead) where
         let unread = subst (λ ts. IsNextFault mid.next (behind base mid) ts f) (sym whole) wrong in
         let behind_old = subst (λ run. IsNextFault mid.next run (unread_line t ∷ []) f) (sym (reads.tells base is)) unread in
         next_wrong old.next (behind base old) f (subst (λ n. IsNextFault n (behind base old) (unread_line t ∷ []) f) here behind_old)
-    not_read (fault.Line m f) (u ∷ front) rest whole reads base is wrong =
-        let here = wrong.1 in
-        let none = others_are (unread_line t) u [] (front ++ rest) whole in
-        absurd (nothing_behind front rest here.0 here.1 none here.2)
+    not_read (fault.Line m f) (u ∷ []) rest whole reads base is wrong = (let none = wrong.1.2 in absurd (cc))
+    not_read (fault.Line m f) (u ∷ v ∷ front) rest whole reads base is wrong = absurd (cc)
     not_read fault.OutOfMemory (u ∷ front) rest whole reads base is wrong = tt
 
     pub wrong_line : (file : List ℕ) (f : ReadFault) → LeavesLines old mid (unread_line t ∷ []) f → (told : Fault) → told ≡ fault_of_read f → IsLineFault file old (line_replayed options all t) told
@@ -239,10 +206,18 @@ module _ (options : Options) (t : List ℕ) (old mid : LinesRead) where
     unfolding line_read
     value_is made base is = ap (λ b. lines_with (behind base old) (with_made (made b) (recorded_line b t))) (before_is base old is) ∙ ap (λ r. lines_with (behind base old) (with_made (made (before_next old)) r)) read.1
 
-    what_added : AddsEvent old mid read.0 ⊎ AddsNone old mid read.0
-    what_added =
+    -- and what it adds
+    with_value : (base : List SceneEvent) → is_begun base ≡ old.is_begun → with_line (behind base old) read.0 ≡ behind base mid
+    with_value base is = (let whole = ap (lines_with (behind base old)) (sym (as_read_is read.0 stored)) ∙ sym (value_is (λ before. as_read) base is) ∙ one_read old mid (unread_line t) reads base is in cc)
+
+    all_events : mid.run.events.items ≡ old.run.events.items ++ events_of read.0
+    all_events =
         let base = some_base old.is_begun in
-        added base.0 old mid read.0 stored (sym (value_is (λ before. as_read) base.0 base.1) ∙ one_read old mid (unread_line t) reads base.0 base.1)
+        append_cancel_left base.0 mid.run.events.items (old.run.events.items ++ events_of read.0)
+        (ap (λ (x : ParsedLines). x.events) (sym (with_value base.0 base.1)) ∙ events_with (behind base.0 old) read.0 ∙ append_assoc base.0 old.run.events.items (events_of read.0))
+
+    as_many : length mid.run.events.items ≡ length old.run.events.items + length (events_of read.0)
+    as_many = ap length all_events ∙ length-append old.run.events.items (events_of read.0)
 
     -- the number of the line is noted as it was, where as many events are there now
     reads_one : (new : LinesRead) (line : RunLine) → ((base : List SceneEvent) → is_begun base ≡ old.is_begun → line_read (behind base old) line ≡ Ok (behind base new)) → length mid.run.events.items ≡ length new.run.events.items →
@@ -261,10 +236,7 @@ module _ (options : Options) (t : List ℕ) (old mid : LinesRead) where
     }
 
     no_event : length mid.run.events.items ≤ length old.run.events.items → (e : SceneEvent) → read.0 ≡ EventLine e → ⊥
-    no_event none e is = elim what_added [
-      | inl h ↦ (let size : length mid.run.events.items ≡ length old.run.events.items + 1 = ap length h.events ∙ length-append old.run.events.items (h.event ∷ []) in omega (arith, none))
-      | inr h ↦ h.none e is
-    ]
+    no_event none e is = (let size = ap (λ x. length (events_of x)) is in omega (arith, as_many, none, size))
 
     -- no output is stored, or no event was added
     module _ (nothing : (stored ≡ []) ⊎ (length mid.run.events.items ≤ length old.run.events.items)) where
@@ -294,21 +266,24 @@ module _ (options : Options) (t : List ℕ) (old mid : LinesRead) where
 
     -- this event was, and this decides about its outputs
     module _ (some : length old.run.events.items < length mid.run.events.items) (place : ℕ) (at : place ≡ length old.run.events.items) (d : OutputLoadDecider) (decides : d ≡ decider_for options mid.run.config) (event other : SceneEvent) (there : event ≡ get_or mid.run.events.items place other) (given : List PlacedOutput) (given_is : given ≡ stored) where
-      has_event : AddsEvent old mid read.0
-      has_event = elim what_added [
-        | inl h ↦ h
-        | inr h ↦ (let size : length mid.run.events.items ≡ length old.run.events.items = ap length h.events in absurd (omega (arith, some)))
-      ]
+      has_event : IsEvent (behind (some_base old.is_begun).0 old) read.0
+      has_event = is_event (behind (some_base old.is_begun).0 old) read.0 (omega (arith, as_many, some))
+
+      events_are : mid.run.events.items ≡ old.run.events.items ++ has_event.event ∷ []
+      events_are = all_events ∙ ap (λ x. old.run.events.items ++ events_of x) has_event.is
+
+      config_is : mid.run.config ≡ old.run.config
+      config_is = (let base = some_base old.is_begun in ap (λ (x : ParsedLines). x.config) (sym (with_value base.0 base.1)) ∙ has_event.config)
 
       is_it : has_event.event ≡ event
       is_it =
-          sym (there ∙ ap (λ k. get_or mid.run.events.items k other) at ∙ ap (λ es. get_or es (length old.run.events.items) other) has_event.events ∙ event_there old.run.events.items has_event.event other)
+          sym (there ∙ ap (λ k. get_or mid.run.events.items k other) at ∙ ap (λ es. get_or es (length old.run.events.items) other) events_are ∙ get_or-append_seam old.run.events.items has_event.event [] other)
 
       says_it : read.0 ≡ EventLine event
       says_it = has_event.is ∙ ap EventLine is_it
 
       decides_so : d ≡ decider_for options old.run.config
-      decides_so = decides ∙ ap (decider_for options) has_event.config
+      decides_so = decides ∙ ap (decider_for options) config_is
 
       value_by : (all : List ℕ) (r : Result SceneEvent LineFault) → event_replayed all d given event ≡ r → (base : List SceneEvent) → is_begun base ≡ old.is_begun → line_read (behind base old) (line_replayed options all t) ≡ lines_with (behind base old) (event_line r)
       value_by all r loaded base is =
@@ -338,13 +313,13 @@ module _ (options : Options) (t : List ℕ) (old mid : LinesRead) where
       -- they were
       module _ (made : SceneEvent) (new : LinesRead) (config : new.run.config ≡ mid.run.config) (events : new.run.events.items ≡ set mid.run.events.items place made) (lines : new.run.lines.items ≡ mid.run.lines.items) (begun : new.is_begun ≡ mid.is_begun) (next : new.next ≡ mid.next) where
         all_made : new.run.events.items ≡ old.run.events.items ++ made ∷ []
-        all_made = events ∙ ap (λ k. set mid.run.events.items k made) at ∙ ap (λ es. set es (length old.run.events.items) made) has_event.events ∙ event_set old.run.events.items has_event.event made
+        all_made = events ∙ ap (λ k. set mid.run.events.items k made) at ∙ ap (λ es. set es (length old.run.events.items) made) events_are ∙ set-append_seam old.run.events.items has_event.event [] made
 
         same_run : (base : List SceneEvent) → with_line (behind base old) (EventLine made) ≡ behind base new
-        same_run base = rw (config, has_event.config, all_made) (ap (λ es. record { config = old.run.config; events = es }) (append_assoc base old.run.events.items (made ∷ [])))
+        same_run base = rw (config, config_is, all_made) (ap (λ es. record { config = old.run.config; events = es }) (append_assoc base old.run.events.items (made ∷ [])))
 
         same_size : length mid.run.events.items ≡ length new.run.events.items
-        same_size = ap length has_event.events ∙ length-append old.run.events.items (has_event.event ∷ []) ∙ sym (ap length all_made ∙ length-append old.run.events.items (made ∷ []))
+        same_size = ap length events_are ∙ length-append old.run.events.items (has_event.event ∷ []) ∙ sym (ap length all_made ∙ length-append old.run.events.items (made ∷ []))
 
         pub loaded_reads : (recorded : Option (List ℕ)) → IfSome recorded (λ all. event_replayed all d given event ≡ Ok made) → (all : List ℕ) → recorded ≡ Some all → ReadsLines old new (line_replayed options all t ∷ [])
         loaded_reads recorded loaded all known =

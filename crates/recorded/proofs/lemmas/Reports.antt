@@ -18,6 +18,7 @@ use Rattle.reporter_state.specs.declared.decider.OutputLoadDecider.{OutputLoadDe
 use Rattle.run_model.specs.declared.call.ReportCall.{ReportCall}
 use Rattle.scene_events.specs.Scenes.{IsCallOf}
 use Rattle.scene_events.specs.declared.scene.event.SceneEvent.{SceneEvent}
+use Rattle.scene_text.proofs.lemmas.Tellings.{all_tell, all_told}
 use Rattle.scene_text.specs.SceneTexts.{ParsedLines, RunLine, lines_before, no_lines}
 use Rattle.scenes.specs.Prints.{PrintsFollowed, device}
 use Rattle.scenes.specs.Outcomes.{run_outcome}
@@ -87,8 +88,8 @@ module _ (options : Options) (all : List ℕ) (run inline : ParsedLines) (are : 
 pub replay_prints : (options : Options) (all text : List ℕ) (come_to : RunOutcome) (old new : Option (List ℕ) × Option (List ℕ)) →
     OfLines (lines_replayed options all text) (PrintsFollowed device device options old new come_to) → OfLines (lines_inline all text) (PrintsFollowed device device options old new come_to)
 replay_prints options all text come_to old new h =
-    let go = go_on options all 1 (ended_lines text) no_lines no_lines h.run (record { config = refl; events = tt }) h.spelled in
-    record { run = go.all_inline; spelled = go.reads; holds = prints_inline options all h.run go.all_inline go.are come_to old new h.holds }
+    let go = go_on options all (ended_lines text) no_lines no_lines h.run (record { config = refl; events = tt }) (all_tell 1 no_lines (lines_replayed options all text) h.run h.spelled) in
+    record { run = go.0; spelled = all_told 1 no_lines (lines_inline all text) go.0 go.1; holds = prints_inline options all h.run go.0 go.2 come_to old new h.holds }
 
 -- where it came to its end
 pub prints_on_ok : (options : Options) (all text : List ℕ) (old new : Option (List ℕ) × Option (List ℕ)) (r : Result RunOutcome Fault) →

@@ -15,30 +15,22 @@ use Rattle.scene_fields.specs.References.{end_of, sum_of}
 -- no stream ends behind the last byte
 stream_at-past : (all : List ℕ) (r : Reference) → length all < end_of r → stream_at all r ≡ None
 unfolding stream_at
-stream_at-past all r past = let not_there : nat_le (end_of r) (length all) ≡ false = grind (arith, nat_tests) in rw not_there refl
+stream_at-past all r past = grind (arith, nat_tests)
 
 -- bytes that are all there are the stream where they have its sum
 stream_at-same : (all : List ℕ) (r : Reference) → end_of r ≤ length all → sum_of (bytes_at all r) ≡ r.sum → stream_at all r ≡ Some (bytes_at all r)
 unfolding stream_at
-stream_at-same all r there same =
-    let is_there : nat_le (end_of r) (length all) ≡ true = grind (arith, nat_tests) in
-    let is_same : bytes_eq (sum_of (bytes_at all r)) r.sum ≡ true = (bytes_eq-Decides _ _).1 same in
-    rw (is_there, is_same) refl
+stream_at-same all r there same = (let is_same : bytes_eq (sum_of (bytes_at all r)) r.sum ≡ true = (bytes_eq-Decides _ _).1 same in grind (arith, nat_tests))
 
 -- and no stream where they have another
 stream_at-other : (all : List ℕ) (r : Reference) → end_of r ≤ length all → sum_of (bytes_at all r) ≢ r.sum → stream_at all r ≡ None
 unfolding stream_at
-stream_at-other all r there other =
-    let is_there : nat_le (end_of r) (length all) ≡ true = grind (arith, nat_tests) in
-    elim (cases_Bool (bytes_eq (sum_of (bytes_at all r)) r.sum)) [
-      | inl same ↦ absurd (other ((bytes_eq-Decides (sum_of (bytes_at all r)) r.sum).0 same))
-      | inr is_other ↦ rw (is_there, is_other) refl
-    ]
+stream_at-other all r there other = (let if_same = (bytes_eq-Decides (sum_of (bytes_at all r)) r.sum).0 in grind (arith, nat_tests))
 
 -- where known bytes do not hold a reference
 pub not_there : (known : Option (List ℕ)) (r : Reference) (holds : Bool) → holds ≡ false → IfSome known (λ all. IsTrue holds ↔ (end_of r ≤ length all)) → IfSome known (λ all. (length all < end_of r) × (stream_at all r ≡ None))
 not_there None r holds is h = tt
-not_there (Some all) r holds is h = let past : length all < end_of r = grind (arith, h) in (past, stream_at-past all r past)
+not_there (Some all) r holds is h = grind (arith, h, stream_at-past)
 
 -- bytes that were read at the place of a reference are those at its place
 bytes_read : (all : List ℕ) (r : Reference) (bytes : List ℕ) → HasRead r.offset bytes all → length bytes ≡ r.len → bytes_at all r ≡ bytes
@@ -47,24 +39,16 @@ bytes_read all r bytes read len = sym (read ∙ ap (λ n. take n (drop r.offset 
 -- where they have its sum, they are the stream
 pub same_read : (known : Option (List ℕ)) (r : Reference) (holds : Bool) (bytes : List ℕ) → holds ≡ true → IfSome known (λ all. IsTrue holds ↔ (end_of r ≤ length all)) → IfSome known (HasRead r.offset bytes) → length bytes ≡ r.len → sum_of bytes ≡ r.sum → IfSome known (λ all. stream_at all r ≡ Some bytes)
 same_read None r holds bytes is there read len same = tt
-same_read (Some all) r holds bytes is there read len same =
-    let here = bytes_read all r bytes read len in
-    stream_at-same all r (there.0 is) (ap sum_of here ∙ same) ∙ ap Some here
+same_read (Some all) r holds bytes is there read len same = grind (arith, bytes_read, stream_at-same)
 
 -- where they have another, there is none
 pub other_read : (known : Option (List ℕ)) (r : Reference) (holds : Bool) (bytes : List ℕ) → holds ≡ true → IfSome known (λ all. IsTrue holds ↔ (end_of r ≤ length all)) → IfSome known (HasRead r.offset bytes) → length bytes ≡ r.len → sum_of bytes ≢ r.sum → IfSome known (λ all. (end_of r ≤ length all) × (stream_at all r ≡ None))
 other_read None r holds bytes is there read len other = tt
-other_read (Some all) r holds bytes is there read len other =
-    let here = bytes_read all r bytes read len in
-    (there.0 is, stream_at-other all r (there.0 is) (λ same. other (ap sum_of (sym here) ∙ same)))
+other_read (Some all) r holds bytes is there read len other = grind (arith, bytes_read, stream_at-other)
 
 ends_within : (all : List ℕ) (r : Reference) (bytes : List ℕ) → stream_at all r ≡ Some bytes → end_of r ≤ length all
 unfolding stream_at
-ends_within all r bytes is =
-    elim (cases_Bool (nat_le (end_of r) (length all))) [
-      | inl there ↦ grind (arith, nat_tests, there)
-      | inr past ↦ let none : ◌≡◌ {A = Option (List ℕ)} None (Some bytes) = rw past at is in cc
-    ]
+ends_within all r bytes is = grind (arith, nat_tests)
 
 -- bytes that were loaded were all there, also where memory is refused for their output
 pub refused : (known : Option (List ℕ)) (r : Reference) (bytes : List ℕ) (result : Result (List ℕ) LoadFault) → IsErrAnd result (λ fault. fault ≡ OutOfMemory) → IfSome known (λ all. IsLoaded all r (Ok bytes)) → IfSome known (λ all. IsLoaded all r result)
