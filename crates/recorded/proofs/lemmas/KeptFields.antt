@@ -1,24 +1,19 @@
 -- A field that says anything but an output is no reference, and stays as it is where outputs are spelled out.
-use Rattle.std.proofs.Common.{◌≡◌, ℕ, List, [], ◌∷◌, Bool, true, false, drop, length, replicate, refl, ap, sym, ◌∙◌, arith, Option, None, Some, inl, inr, ◌⊎◌, ◌==◌, ◌&&◌, if◌then◌else◌}
+use Rattle.std.proofs.Common.{◌≡◌, ℕ, List, [], ◌∷◌, true, false, drop, replicate, refl, ap, ◌∙◌, arith, Option, None, Some, inl, inr, ◌⊎◌}
 use Rattle.std.specs.Prelude.{nat_eq}
 use Rattle.std.specs.List.{list_all, onto_first, starts_with}
-use Rattle.std.specs.Option.{option_and_then, option_flatten, option_map}
+use Rattle.std.specs.Option.{option_flatten}
 use Rattle.std.proofs.lemmas.Bool.{and_right, cases_Bool}
 use Rattle.std.proofs.lemmas.Bool.Decides.{nat_tests}
-use Rattle.std.proofs.lemmas.Option.{none-some}
-use Rattle.uuid.specs.Text.{by_index, byte_of_digits, digits_of, has_hyphens, is_hex_digit, parsed, parsed_braced, parsed_hyphenated, parsed_simple, parsed_urn}
+use Rattle.uuid.specs.Text.{by_index, digits_of, is_hex_digit, parsed, parsed_braced, parsed_hyphenated, parsed_simple, parsed_urn}
 use Rattle.recorded.specs.SpelledOut.{field_spelled}
 use Rattle.run_model.specs.Stats.{planned_stats}
 use Rattle.scene_fields.specs.Counts.{Counted, Row, counts_in, in_turn, no_skips, pair_in, row_in, skips_in, skips_rows, stats_in, stats_rows}
-use Rattle.scene_fields.specs.Lists.{chain_in, errors_in, instances_in, words_of}
-use Rattle.scene_fields.specs.Numbers.{code_in, is_numeral, nanos_in, number_in}
+use Rattle.scene_fields.specs.Numbers.{code_in, nanos_in, number_in}
 use Rattle.scene_fields.specs.References.{after_mark, mark, reference_in}
-use Rattle.scene_fields.specs.Results.{result_cut, result_in}
+use Rattle.scene_fields.specs.Results.{result_in}
 use Rattle.scene_fields.specs.Split.{cut, split_on}
-use Rattle.scene_fields.specs.Texts.{bytes_in, text_in, unescaped_after}
-use Rattle.scene_fields.specs.Values.{absent_in, config_key_in, display_in, final_level_in, flag_in, flaky_in, mode_in, reason_or_none_in, stress_cut, stress_in}
-use Rattle.scene_fields.specs.declared.reference.Reference.{Reference}
-use Rattle.scene_text.specs.EventLines.{some_text_in, stream_in}
+use Rattle.scene_fields.specs.Values.{stress_in}
 use Rattle.scene_text.specs.Parts.{highlight_in, highlight_of, moment_in, progress_in, result_or_none_in, state_in}
 
 -- what a reference begins with

@@ -1,17 +1,13 @@
 -- What was loaded of an output is what stands at its places.
-use Rattle.std.proofs.Common.{◌≡◌, ℕ, List, Bool, true, false, if◌then◌else◌, Option, None, Some, IfSome, Ok, refl, ap, ◌∙◌}
+use Rattle.std.proofs.Common.{◌≡◌, ℕ, List, Option, None, Some, IfSome, Ok, ap, ◌∙◌}
 use native.Mathlib.Omega.{arith}
-use Rattle.std.specs.Option.{option_map}
 use Rattle.run_model.specs.declared.output.ChildOutputDescription.{ChildOutputDescription}
-use Rattle.run_model.specs.declared.output.ChildOutputDescription.TheVariants as captured
 use Rattle.recorded.specs.Outputs.{bytes_at, stream_at}
 use Rattle.scene_fields.specs.declared.reference.Reference.{Reference}
-use Rattle.recorded.specs.Captured.{IsCaptured, captured_at, captured_split, captured_stream_at}
+use Rattle.recorded.specs.Captured.{IsCaptured, captured_at, captured_stream_at}
 use Rattle.scene_fields.specs.declared.stored.PlacedOutput.{PlacedOutput}
 use Rattle.scene_fields.specs.declared.stored.StoredOutput.{StoredOutput}
-use Rattle.scene_fields.specs.declared.stored.StoredOutput.TheVariants.{Split, Combined}
 use Rattle.scene_fields.specs.declared.stored.StoredStream.{StoredStream}
-use Rattle.scene_fields.specs.declared.stored.StoredStream.TheVariants.{NotCaptured, Empty, At}
 use Rattle.scene_events.specs.Loads.{event_with}
 use Rattle.scene_events.specs.declared.scene.event.SceneEvent.{SceneEvent}
 use Rattle.recorded.specs.Events.{output_inline, stream_inline}

@@ -4,7 +4,6 @@ use Rattle.std.specs.Prelude.{IfErr, IfSome, OnErr, nat_lt}
 use Rattle.std.specs.Result.{IsErrAnd}
 use Rattle.std.proofs.Math.ListN.{set}
 use Rattle.std.proofs.Math.Seq.{get_or-append_seam, set-append_seam, take-append_seam}
-use Rattle.std.proofs.lemmas.Bool.{cases_Bool}
 use Rattle.std.proofs.lemmas.Bool.Decides.{nat_tests}
 use Rattle.std.proofs.lemmas.List.{append_cancel_left, length-append, nil_from_length, take-set}
 use Rattle.command_line.specs.Faults.{fault_of_read}
@@ -15,7 +14,6 @@ use Rattle.recorded.specs.Events.{IfDamaged, IsReplayed, event_replayed, needed_
 use Rattle.recorded.specs.NextLines.{CountsLine, IsFaultOfLoad, IsLineFault, KeepsRead, LeavesLine}
 use Rattle.recorded.specs.Outputs.{counted}
 use Rattle.recorded.specs.Runs.{line_replayed, needed_by, needed_for}
-use Rattle.recorded.specs.Skips.{skips}
 use Rattle.recorded.specs.declared.events.LoadEventFault.{LoadEventFault}
 use Rattle.recorded.specs.declared.outputs.LoadFault.{LoadFault}
 use Rattle.recorded.specs.declared.outputs.LoadFault.TheVariants as load

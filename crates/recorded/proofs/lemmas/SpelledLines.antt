@@ -1,10 +1,10 @@
 -- A recorded line, spelled out, is read to the event with its outputs in it (`line_law`).
-use Rattle.std.proofs.Common.{◌≡◌, ℕ, Bool, true, false, List, [], ◌∷◌, Option, None, Some, Result, Ok, Err, refl, sym, ap, ◌∙◌, bytes_eq, codes, if◌then◌else◌, inl, inr}
+use Rattle.std.proofs.Common.{◌≡◌, ℕ, true, false, List, [], ◌∷◌, Option, None, Some, Result, Ok, Err, refl, sym, ap, ◌∙◌, bytes_eq, codes, inl, inr}
 use native.Mathlib.Omega.{arith}
 use Rattle.std.specs.Result.{result_map_both}
 use Rattle.std.specs.Str.{is_utf8}
 use Rattle.std.proofs.lemmas.Bool.{cases_Bool}
-use Rattle.recorded.proofs.lemmas.KeptFields.{marked, marked_highlight, marked_iteration, marked_moment, marked_nanos, marked_number, marked_progress, marked_result_or_none, marked_run_id, marked_skips, marked_state, marked_stats, marked_stress}
+use Rattle.recorded.proofs.lemmas.KeptFields.{marked_iteration, marked_moment, marked_nanos, marked_number, marked_progress, marked_result_or_none, marked_run_id, marked_skips, marked_state, marked_stats, marked_stress}
 use Rattle.recorded.proofs.lemmas.SpelledAttempts.{TestAttempts, attempts_inline, attempts_read}
 use Rattle.recorded.proofs.lemmas.SpelledOutputs.{attempt_loads, attempt_reads, output_loads, output_reads}
 use Rattle.recorded.proofs.lemmas.SpelledPlaces.{Change, Follows, HasNoted, HasOutput, Read, Reads, Refused, RowsRead, Same, by_row_reads, either_reads, exactly_reads, fields_read, if_reads, made_reads, next_reads, next_unmarked, output_made_reads, place_spelled, then_spells, turned_follows, with_attempts_reads, with_put}
@@ -29,21 +29,16 @@ use Rattle.scene_events.specs.declared.scene.outputs.SceneOutput.{SceneOutput}
 use Rattle.scene_events.specs.declared.scene.outputs.SceneOutput.TheVariants.{Output, StartError}
 use Rattle.scene_events.specs.declared.scene.unit_events.SceneTest.{SceneTest}
 use Rattle.scene_events.specs.declared.scene.unit_events.UnitAnswer.{UnitAnswer}
-use Rattle.scene_fields.specs.Fields.{◌>>=◌, Line, Place, exactly, field, goes_on, none_noted, noted_outputs, says, valued}
+use Rattle.scene_fields.specs.Fields.{◌>>=◌, Line, Place, exactly, none_noted, noted_outputs, says}
 use Rattle.scene_fields.specs.Split.{split_on}
 use Rattle.scene_fields.specs.declared.fault.LineFault.{LineFault}
-use Rattle.scene_fields.specs.declared.fault.LineFault.TheVariants.{ConfigAfterEvent, NotUtf8, UnknownEvent}
-use Rattle.scene_fields.specs.References.{reference_in}
-use Rattle.scene_fields.specs.Texts.{text_in, unescaped_after}
-use Rattle.scene_fields.specs.Values.{absent_in}
-use Rattle.scene_fields.specs.declared.reference.Reference.{Reference}
+use Rattle.scene_fields.specs.Texts.{unescaped_after}
 use Rattle.scene_fields.specs.declared.stored.PlacedOutput.{PlacedOutput}
 use Rattle.scene_fields.specs.declared.stored.StoredOutput.{StoredOutput}
 use Rattle.scene_fields.specs.declared.values.ConfigKey.{ConfigKey}
 use Rattle.scene_fields.specs.declared.values.ConfigKey.TheVariants as key
 use Rattle.scene_fields.specs.Stored.{placed}
-use Rattle.scene_text.specs.Parts.{state_with}
-use Rattle.scene_text.specs.EventLines.{all_attempts, attempt_fields, answer_fields, answer_script_line_fields, answer_test_line_fields, by_row, cancel_line_fields, config_line_fields, done_line_fields, end_line_fields, end_stress_line_fields, event_line_fields, event_rows, header_line_fields, info_line_fields, input_line_fields, made, not_seen_fields, other_event_rows, output_fields, pause_line_fields, prefix_line_fields, retry_fields, retry_line_fields, retry_numbered, retry_start_line_fields, run_event_rows, run_line_fields, script_fields, set_field, setup_done_line_fields, setup_line_fields, setup_slow_line_fields, slow_line_fields, some_text_in, start_line_fields, state_fields, sub_end_line_fields, test_fields, unique_prefix_fields, unknown}
+use Rattle.scene_text.specs.EventLines.{all_attempts, attempt_fields, answer_fields, config_line_fields, event_line_fields, event_rows, made, other_event_rows, retry_fields, run_event_rows, script_fields, set_field, state_fields, test_fields, unique_prefix_fields, unknown}
 use Rattle.scene_text.specs.SceneTexts.{ConfigLine, EventLine, LinesBefore, NoEvent, ParsedLine, ParsedLines, config_words, is_passed_over, line_from, line_place, line_words, lines_read, no_lines, parsed_line, recorded_line, text_lines, with_made, words_behind}
 
 -- the values of all kinds of field

@@ -1,5 +1,5 @@
 -- The fields of a recorded line, spelled out: what reads them, reads the same of them, and of an output what stands at its place.
-use Rattle.std.proofs.Common.{◌≡◌, ℕ, ◌+◌, ◌%◌, Bool, true, false, List, [], ◌∷◌, map, length, Option, None, Some, Result, Ok, Err, refl, sym, ap, ◌∙◌, ◌==◌, ◌&&◌, if◌then◌else◌, bytes_eq, drop, inl, inr, subst}
+use Rattle.std.proofs.Common.{◌≡◌, ℕ, ◌+◌, ◌%◌, Bool, true, false, List, [], ◌∷◌, map, length, Option, None, Some, Result, Ok, Err, refl, ap, ◌∙◌, ◌==◌, ◌&&◌, if◌then◌else◌, bytes_eq, drop, inl, inr, subst}
 use Rattle.std.specs.Prelude.{nat_le, ⊤}
 use Rattle.std.proofs.lemmas.List.{length-map}
 use Rattle.scene_fields.specs.Fields.{◌>>=◌, Line, Noted, Place, exactly, field, goes_on, next, none_noted, noted_outputs, says, taken, valued, with_attempts, with_noted}

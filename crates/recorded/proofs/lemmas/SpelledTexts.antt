@@ -1,12 +1,10 @@
 -- Lines whose outputs are spelled out, and the text that they make.
-use Rattle.std.proofs.Common.{◌≡◌, ℕ, zero, suc, ◌+◌, ◌<◌, List, [], ◌∷◌, ◌++◌, map, length, true, false, get_or, take, drop, refl, ap, sym, ◌∙◌, subst, arith, add-one, Option, None, Some, Result, Ok, Err, inl, inr, ◌==◌}
-use Rattle.std.specs.Prelude.{⊤}
-use Rattle.std.specs.List.{onto_first}
-use Rattle.std.specs.Str.{IsAscii, IsUtf8, is_utf8}
+use Rattle.std.proofs.Common.{◌≡◌, ℕ, ◌+◌, ◌<◌, List, [], ◌∷◌, ◌++◌, map, length, true, false, get_or, drop, refl, ap, sym, ◌∙◌, subst, arith, None, Result, Ok, Err, inl, inr, ◌==◌}
+use Rattle.std.specs.Str.{IsUtf8, is_utf8}
 use Rattle.std.proofs.Math.Seq.{drop-append-add, get_or-append_seam, take-append_seam}
 use Rattle.std.proofs.lemmas.Bool.{cases_Bool}
 use Rattle.std.proofs.lemmas.Bool.Decides.{nat_tests}
-use Rattle.std.proofs.lemmas.List.{length-append, length-map}
+use Rattle.std.proofs.lemmas.List.{length-append}
 use Rattle.std.proofs.lemmas.Str.{IsCharBoundary-after_ascii, IsCharBoundary-before_ascii, IsUtf8-append, IsUtf8-drop, IsUtf8-from_ascii, IsUtf8-from_is_utf8, IsUtf8-take, is_utf8-from_IsUtf8}
 use Rattle.recorded.proofs.lemmas.KeptFields.{marked}
 use Rattle.recorded.proofs.lemmas.SpelledBytes.{field_lacks_feed, field_lacks_tab, field_utf8}
@@ -15,10 +13,9 @@ use Rattle.recorded.specs.Events.{event_inline}
 use Rattle.recorded.specs.Runs.{ended_lines, line_inline, lines_inline, without_last}
 use Rattle.recorded.specs.SpelledOut.{AreBytes, field_spelled, line_spelled, scene_spelled, tabbed, text_of_lines}
 use Rattle.scene_fields.proofs.lemmas.Cuts.{split_on-lacks, split_on-parts}
-use Rattle.scene_fields.specs.References.{after_mark, reference_in}
+use Rattle.scene_fields.specs.References.{reference_in}
 use Rattle.scene_fields.specs.Split.{Lacks, split_on}
 use Rattle.scene_fields.specs.declared.fault.LineFault.{LineFault}
-use Rattle.scene_fields.specs.declared.reference.Reference.{Reference}
 use Rattle.scene_fields.specs.declared.stored.PlacedOutput.{PlacedOutput}
 use Rattle.scene_text.proofs.lemmas.Tellings.{all_tell, all_told}
 use Rattle.scene_text.specs.SceneTexts.{AllRead, LinesBefore, ParsedLine, ParsedLines, is_passed_over, line_from, line_read, lines_before, lines_read, lines_with, no_lines, parsed_line, plain_line, recorded_line, text_lines, with_made}
