@@ -1,5 +1,5 @@
 -- What is left of a recorded run, line by line (for `read_next`).
-use Rattle.std.proofs.Common.{◌≡◌, ℕ, ◌+◌, Bool, true, false, List, [], ◌∷◌, ◌++◌, Option, Some, Result, Ok, Err, map, refl, sym, ap, ◌∙◌, subst, append_assoc, inl, inr}
+use Rattle.std.proofs.Common.{◌≡◌, ℕ, ◌+◌, Bool, true, false, List, [], ◌∷◌, ◌++◌, Option, Some, Result, Ok, Err, map, refl, sym, ap, ◌∙◌, subst, append_assoc, arith, inl, inr}
 use Rattle.command_line.specs.declared.args.Options.{Options}
 use Rattle.command_line.specs.declared.fault.Fault.{Fault}
 use Rattle.recorded.proofs.lemmas.LoadedLines.{before_is, behind, one_read}
@@ -19,26 +19,12 @@ use Rattle.scenes.specs.Read.{HasReadLines, IsMore}
 use Rattle.scenes.specs.Reports.{decider_for}
 
 -- what stands before the line behind one that tells
-before_made : (run after : ParsedLines) (made : Result SceneEvent LineFault) (e : SceneEvent) → lines_with run (event_line made) ≡ Ok after → lines_before after ≡ before_behind (lines_before run) (EventLine e)
-before_made run after (Ok made) e h =
-    let same : with_line run (EventLine made) ≡ after = cc in
-    ap lines_before (sym same) ∙ ap (λ b. record { config = run.config; is_begun = b }) (begun_by run.events made)
-before_made run after (Err f) e h = absurd (cc)
-
 before_so : (run after : ParsedLines) (make : List PlacedOutput → SceneEvent → Result SceneEvent LineFault) (says : Result (ParsedLine × List PlacedOutput) LineFault) → lines_with run (with_made make says) ≡ Ok after → lines_before after ≡ before_rest (lines_before run) says
-before_so run after make (Ok (NoEvent, stored)) h = let same : run ≡ after = cc in ap lines_before (sym same)
-before_so run after make (Ok (ConfigLine c, stored)) h = let same : with_line run (ConfigLine c) ≡ after = cc in ap lines_before (sym same)
-before_so run after make (Ok (EventLine e, stored)) h = before_made run after (make stored e) e h
-before_so run after make (Err f) h = absurd (cc)
+before_so run after make says h = grind (arith, begun_by)
 
 before_others : (options : Options) (all : List ℕ) (run after : ParsedLines) (t : List ℕ) → line_read run (line_replayed options all t) ≡ Ok after → lines_before after ≡ before_rest (lines_before run) (recorded_line (lines_before run) t)
 unfolding line_read
 before_others options all run after t h = before_so run after (λ stored e. event_replayed all (decider_for options run.config) stored e) (recorded_line (lines_before run) t) h
-
--- what the first line needs, and the others
-needed_first : (options : Options) (before : LinesBefore) (t : List ℕ) (ts : List (List ℕ)) → needed options before (t ∷ ts) ≡ needed_for options before (recorded_line before t) + needed options (before_rest before (recorded_line before t)) ts
-unfolding needed
-needed_first options before t ts = refl
 
 module _ (file : List ℕ) (total : ℕ) (options : Options) (all front : List RunLine) (before : ParsedLines) (old : LinesRead) (recorded remaining : Option (List ℕ)) (count : ℕ) where
   abbrev Left : ParsedLines → List RunLine → Type 0
@@ -99,13 +85,14 @@ module _ (file : List ℕ) (total : ℕ) (options : Options) (all front : List R
         -- and was read
         pub line_is_read : (count_new : ℕ) → ((outputs : List ℕ) → recorded ≡ Some outputs → ReadsLines old new (line_replayed options outputs line ∷ [])) → CountsLine options old line count count_new →
             HasReadLines file all front before new (Ok true) (IsLeft total options recorded_new remaining_new count_new)
+        unfolding needed
         line_is_read count_new reads counts =
             let read = reads all_outputs has.more_is.outputs in
             let b = lines_before (behind before.events old) in
             let says = recorded_line b line in
             let then : lines_before (behind before.events new) ≡ before_rest b says =
             before_others options all_outputs (behind before.events old) (behind before.events new) line (one_read old new (line_replayed options all_outputs line) read before.events has.begun) in
-            let needs : needed options b (ended_lines has.more_is.text) ≡ needed_for options b says + needed options (before_rest b says) (ended_lines more) = ap (needed options b) lines_are ∙ needed_first options b line (ended_lines more) in
+            let needs : needed options b (ended_lines has.more_is.text) ≡ needed_for options b says + needed options (before_rest b says) (ended_lines more) = ap (needed options b) lines_are in
             let here : needed_for options (before_next old) (recorded_line (before_next old) line) ≡ needed_for options b says = ap (λ x. needed_for options x (recorded_line x line)) (sym (before_is before.events old has.begun)) in
             further new (line_replayed options all_outputs line ∷ []) others left_is read (Ok true) (IsLeft total options recorded_new remaining_new count_new) (record {
               all = all_outputs;
