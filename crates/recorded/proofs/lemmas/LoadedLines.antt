@@ -119,24 +119,12 @@ as_read stored e = Ok e
 wrong_value : (make : Makes) (says : Result (ParsedLine × List PlacedOutput) LineFault) (run : ParsedLines) (f : LineFault) → lines_with run (with_made as_read says) ≡ Err f → lines_with run (with_made make says) ≡ Err f
 wrong_value make says run f h = grind arith
 
--- where no more is made of its event, it is as it is read
-same_value : (make : Makes) (x : ParsedLine) (stored : List PlacedOutput) → ((e : SceneEvent) → x ≡ EventLine e → make stored e ≡ Ok e) → with_made make (Ok (x, stored)) ≡ with_made as_read (Ok (x, stored))
+-- where no more is made of its event, it says what it says, and nothing is needed
+same_value : (make : Makes) (x : ParsedLine) (stored : List PlacedOutput) → ((e : SceneEvent) → x ≡ EventLine e → make stored e ≡ Ok e) → with_made make (Ok (x, stored)) ≡ Ok x
 same_value make x stored same = grind (arith, same)
 
 nothing_needed : (options : Options) (before : LinesBefore) (stored : List PlacedOutput) (x : ParsedLine) → ((e : SceneEvent) → x ≡ EventLine e → needed_of (decider_for options before.config) e stored ≡ 0) → needed_by options before stored x ≡ 0
 nothing_needed options before stored x none = grind (arith, none)
-
--- of no stored outputs nothing is made, and nothing is needed
-nothing_made : (all : List ℕ) (d : OutputLoadDecider) (e : SceneEvent) → event_replayed all d [] e ≡ Ok e
-unfolding event_replayed
-nothing_made all d e = grind arith
-
-none_needed : (d : OutputLoadDecider) (e : SceneEvent) → needed_of d e [] ≡ 0
-none_needed d e = grind arith
-
--- two counts in turn are one of the sum
-counted-twice : (count a b : ℕ) → counted (counted count a) b ≡ counted count (a + b)
-counted-twice count a b = omega arith
 
 pub none_in : (ps : List PlacedOutput) (size : ℕ) (none : Bool) → none ≡ (size == 0) → none ≡ true → size ≡ length ps → ps ≡ []
 none_in ps size none says is same =
@@ -149,22 +137,13 @@ events_of NoEvent = []
 events_of (ConfigLine c) = []
 events_of (EventLine e) = e ∷ []
 
-as_read_is : (x : ParsedLine) (stored : List PlacedOutput) → with_made as_read (Ok (x, stored)) ≡ Ok x
-as_read_is x stored = grind arith
-
 events_with : (run : ParsedLines) (x : ParsedLine) → (with_line run x).events ≡ run.events ++ events_of x
 events_with run x = grind (arith, append-nil)
 
--- where there are more events now, an event was added, and the configuration is as it was
-record IsEvent (run : ParsedLines) (x : ParsedLine) : Type 0 where
-  pub event : SceneEvent
-  pub is : x ≡ EventLine event
-  pub config : (with_line run x).config ≡ run.config
-
-is_event : (run : ParsedLines) (x : ParsedLine) → 0 < length (events_of x) → IsEvent run x
-is_event run NoEvent some = absurd (omega arith)
-is_event run (ConfigLine c) some = absurd (omega arith)
-is_event run (EventLine e) some = record { event = e; is = refl; config = refl }
+is_event : (x : ParsedLine) → 0 < length (events_of x) → (e : SceneEvent) × (x ≡ EventLine e)
+is_event NoEvent some = absurd (omega arith)
+is_event (ConfigLine c) some = absurd (omega arith)
+is_event (EventLine e) some = (e, refl)
 
 -- a line, and what a replay with these options makes of its event
 module _ (options : Options) (t : List ℕ) (old mid : LinesRead) where
@@ -206,7 +185,7 @@ module _ (options : Options) (t : List ℕ) (old mid : LinesRead) where
 
     -- and what it adds
     with_value : (base : List SceneEvent) → is_begun base ≡ old.is_begun → with_line (behind base old) read.0 ≡ behind base mid
-    with_value base is = (let whole = ap (lines_with (behind base old)) (sym (as_read_is read.0 stored)) ∙ sym (value_is (λ before. as_read) base is) ∙ one_read old mid (unread_line t) reads base is in cc)
+    with_value base is = (let whole = ap (lines_with (behind base old)) (sym (same_value as_read read.0 stored (λ e is. refl))) ∙ sym (value_is (λ before. as_read) base is) ∙ one_read old mid (unread_line t) reads base is in cc)
 
     all_events : mid.run.events.items ≡ old.run.events.items ++ events_of read.0
     all_events =
@@ -239,22 +218,16 @@ module _ (options : Options) (t : List ℕ) (old mid : LinesRead) where
     -- no output is stored, or no event was added
     module _ (nothing : (stored ≡ []) ⊎ (length mid.run.events.items ≤ length old.run.events.items)) where
       nothing_more : (all : List ℕ) (e : SceneEvent) → read.0 ≡ EventLine e → makes all (before_next old) stored e ≡ Ok e
-      nothing_more all e is = elim nothing [
-        | inl none ↦ ap (λ s. makes all (before_next old) s e) none ∙ nothing_made all (decider_for options old.run.config) e
-        | inr none ↦ absurd (no_event none e is)
-      ]
+      unfolding event_replayed
+      nothing_more all e is = elim nothing [ inl none ↦ rw none (grind arith) | inr none ↦ absurd (no_event none e is) ]
 
       none_by : (e : SceneEvent) → read.0 ≡ EventLine e → needed_of (decider_for options old.run.config) e stored ≡ 0
-      none_by e is = elim nothing [
-        | inl none ↦ ap (needed_of (decider_for options old.run.config) e) none ∙ none_needed (decider_for options old.run.config) e
-        | inr none ↦ absurd (no_event none e is)
-      ]
+      none_by e is = elim nothing [ inl none ↦ rw none (grind arith) | inr none ↦ absurd (no_event none e is) ]
 
       -- nothing is made of it
       pub nothing_reads : (all : List ℕ) → ReadsLines old mid (line_replayed options all t ∷ [])
       nothing_reads all = reads_one mid (line_replayed options all t)
-          (λ base is.
-          value_is (makes all) base is ∙ ap (lines_with (behind base old)) (same_value (makes all (before_next old)) read.0 stored (nothing_more all)) ∙ sym (value_is (λ before. as_read) base is) ∙ one_read old mid (unread_line t) reads base is)
+          (λ base is. value_is (makes all) base is ∙ ap (lines_with (behind base old)) (same_value (makes all (before_next old)) read.0 stored (nothing_more all)) ∙ ap Ok (with_value base is))
           refl refl refl refl
 
       pub nothing_counted : (bytes_read : ℕ) → CountsLine options old t bytes_read bytes_read
@@ -264,21 +237,23 @@ module _ (options : Options) (t : List ℕ) (old mid : LinesRead) where
 
     -- this event was, and this decides about its outputs
     module _ (some : length old.run.events.items < length mid.run.events.items) (place : ℕ) (at : place ≡ length old.run.events.items) (d : OutputLoadDecider) (decides : d ≡ decider_for options mid.run.config) (event other : SceneEvent) (there : event ≡ get_or mid.run.events.items place other) (given : List PlacedOutput) (given_is : given ≡ stored) where
-      has_event : IsEvent (behind (some_base old.is_begun).0 old) read.0
-      has_event = is_event (behind (some_base old.is_begun).0 old) read.0 (omega (arith, as_many, some))
+      has_event : (e : SceneEvent) × (read.0 ≡ EventLine e)
+      has_event = is_event read.0 (omega (arith, as_many, some))
 
-      events_are : mid.run.events.items ≡ old.run.events.items ++ has_event.event ∷ []
-      events_are = all_events ∙ ap (λ x. old.run.events.items ++ events_of x) has_event.is
+      events_are : mid.run.events.items ≡ old.run.events.items ++ has_event.0 ∷ []
+      events_are = all_events ∙ ap (λ x. old.run.events.items ++ events_of x) has_event.1
 
       config_is : mid.run.config ≡ old.run.config
-      config_is = (let base = some_base old.is_begun in ap (λ (x : ParsedLines). x.config) (sym (with_value base.0 base.1)) ∙ has_event.config)
+      config_is =
+          let base = some_base old.is_begun in
+          ap (λ (x : ParsedLines). x.config) (sym (with_value base.0 base.1)) ∙ ap (λ x. (with_line (behind base.0 old) x).config) has_event.1
 
-      is_it : has_event.event ≡ event
+      is_it : has_event.0 ≡ event
       is_it =
-          sym (there ∙ ap (λ k. get_or mid.run.events.items k other) at ∙ ap (λ es. get_or es (length old.run.events.items) other) events_are ∙ get_or-append_seam old.run.events.items has_event.event [] other)
+          sym (there ∙ ap (λ k. get_or mid.run.events.items k other) at ∙ ap (λ es. get_or es (length old.run.events.items) other) events_are ∙ get_or-append_seam old.run.events.items has_event.0 [] other)
 
       says_it : read.0 ≡ EventLine event
-      says_it = has_event.is ∙ ap EventLine is_it
+      says_it = has_event.1 ∙ ap EventLine is_it
 
       decides_so : d ≡ decider_for options old.run.config
       decides_so = decides ∙ ap (decider_for options) config_is
@@ -306,18 +281,18 @@ module _ (options : Options) (t : List ℕ) (old mid : LinesRead) where
       loaded_counted old_count new_count is more =
           let needs : needed_for options (before_next old) (recorded_line (before_next old) t) ≡ needed_of d event given =
           ap (needed_for options (before_next old)) read.1 ∙ ap (needed_by options (before_next old) stored) says_it ∙ ap (λ x. needed_of x event stored) (sym decides_so) ∙ ap (needed_of d event) (sym given_is) in
-          ap (λ n. counted n more) is ∙ counted-twice old_count (needed_of d event given) more ∙ ap (λ n. counted old_count (n + more)) (sym needs)
+          omega (arith, is, needs)
 
       -- they were
       module _ (made : SceneEvent) (new : LinesRead) (config : new.run.config ≡ mid.run.config) (events : new.run.events.items ≡ set mid.run.events.items place made) (lines : new.run.lines.items ≡ mid.run.lines.items) (begun : new.is_begun ≡ mid.is_begun) (next : new.next ≡ mid.next) where
         all_made : new.run.events.items ≡ old.run.events.items ++ made ∷ []
-        all_made = events ∙ ap (λ k. set mid.run.events.items k made) at ∙ ap (λ es. set es (length old.run.events.items) made) events_are ∙ set-append_seam old.run.events.items has_event.event [] made
+        all_made = events ∙ ap (λ k. set mid.run.events.items k made) at ∙ ap (λ es. set es (length old.run.events.items) made) events_are ∙ set-append_seam old.run.events.items has_event.0 [] made
 
         same_run : (base : List SceneEvent) → with_line (behind base old) (EventLine made) ≡ behind base new
         same_run base = rw (config, config_is, all_made) (ap (λ es. record { config = old.run.config; events = es }) (append_assoc base old.run.events.items (made ∷ [])))
 
         same_size : length mid.run.events.items ≡ length new.run.events.items
-        same_size = ap length events_are ∙ length-append old.run.events.items (has_event.event ∷ []) ∙ sym (ap length all_made ∙ length-append old.run.events.items (made ∷ []))
+        same_size = ap length events_are ∙ length-append old.run.events.items (has_event.0 ∷ []) ∙ sym (ap length all_made ∙ length-append old.run.events.items (made ∷ []))
 
         pub loaded_reads : (recorded : Option (List ℕ)) → IfSome recorded (λ all. event_replayed all d given event ≡ Ok made) → (all : List ℕ) → recorded ≡ Some all → ReadsLines old new (line_replayed options all t ∷ [])
         loaded_reads recorded loaded all known =

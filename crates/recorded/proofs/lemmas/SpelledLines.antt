@@ -4,7 +4,7 @@ use native.Mathlib.Omega.{arith}
 use Rattle.std.specs.Result.{result_map_both}
 use Rattle.std.specs.Str.{is_utf8}
 use Rattle.std.proofs.lemmas.Bool.{cases_Bool}
-use Rattle.recorded.proofs.lemmas.KeptFields.{marked_iteration, marked_moment, marked_nanos, marked_number, marked_progress, marked_result_or_none, marked_run_id, marked_skips, marked_state, marked_stats, marked_stress}
+use Rattle.recorded.proofs.lemmas.MarkedFields.{marked_iteration, marked_moment, marked_nanos, marked_number, marked_progress, marked_result_or_none, marked_run_id, marked_skips, marked_state, marked_stats, marked_stress}
 use Rattle.recorded.proofs.lemmas.SpelledAttempts.{TestAttempts, attempts_inline, attempts_read}
 use Rattle.recorded.proofs.lemmas.SpelledOutputs.{attempt_loads, attempt_reads, output_loads, output_reads}
 use Rattle.recorded.proofs.lemmas.SpelledPlaces.{Change, Follows, HasNoted, HasOutput, Read, Reads, Refused, RowsRead, Same, by_row_reads, either_reads, exactly_reads, fields_read, if_reads, made_reads, next_reads, next_unmarked, output_made_reads, place_spelled, then_spells, turned_follows, with_attempts_reads, with_put}

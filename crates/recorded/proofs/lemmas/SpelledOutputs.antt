@@ -3,7 +3,7 @@ use Rattle.std.proofs.Common.{◌≡◌, ℕ, ◌+◌, Bool, true, false, List, 
 use Rattle.std.specs.Option.{option_map}
 use Rattle.std.proofs.lemmas.Bool.{and_parts, cases_Bool}
 use Rattle.std.proofs.lemmas.Slice.Eq.{bytes_eq-Decides}
-use Rattle.recorded.proofs.lemmas.KeptFields.{marked_highlight, marked_nanos, marked_result}
+use Rattle.recorded.proofs.lemmas.MarkedFields.{marked_highlight, marked_nanos, marked_result}
 use Rattle.recorded.proofs.lemmas.SpelledBytes.{bytes_at_bytes, bytes_read_back, stream_read_back}
 use Rattle.recorded.proofs.lemmas.SpelledPlaces.{Becomes, Follows, HasOutput, Reads, Same, Spells, by_row_reads, field_reads, fields_read, next_reads, output_made_reads, then_spells, turned_follows, valued_reads}
 use Rattle.recorded.specs.Events.{output_inline, stream_inline}

@@ -9,7 +9,7 @@ use Rattle.scene_fields.specs.declared.fault.LineFault.TheVariants.{WrongNumberO
 use Rattle.scene_fields.specs.declared.stored.PlacedOutput.{PlacedOutput}
 use Rattle.scene_fields.specs.declared.stored.StoredOutput.{StoredOutput}
 use Rattle.scene_text.specs.EventLines.{by_row}
-use Rattle.recorded.proofs.lemmas.KeptFields.{MarkedIsNone, marked}
+use Rattle.recorded.proofs.lemmas.MarkedFields.{MarkedIsNone, marked}
 use Rattle.recorded.specs.Events.{output_inline}
 use Rattle.recorded.specs.SpelledOut.{field_spelled}
 use Rattle.run_model.specs.declared.output.ChildOutputDescription.{ChildOutputDescription}

@@ -6,9 +6,9 @@ use Rattle.std.proofs.lemmas.Bool.{cases_Bool}
 use Rattle.std.proofs.lemmas.Bool.Decides.{nat_tests}
 use Rattle.std.proofs.lemmas.List.{length-append}
 use Rattle.std.proofs.lemmas.Str.{IsCharBoundary-after_ascii, IsCharBoundary-before_ascii, IsUtf8-append, IsUtf8-drop, IsUtf8-from_ascii, IsUtf8-from_is_utf8, IsUtf8-take, is_utf8-from_IsUtf8}
-use Rattle.recorded.proofs.lemmas.KeptFields.{marked}
+use Rattle.recorded.proofs.lemmas.MarkedFields.{marked}
 use Rattle.recorded.proofs.lemmas.SpelledBytes.{field_lacks_feed, field_lacks_tab, field_utf8}
-use Rattle.recorded.proofs.lemmas.WholeLines.{NoneHas, pieces}
+use Rattle.recorded.proofs.lemmas.WholeLines.{NoneHas, lacks-append, pieces}
 use Rattle.recorded.specs.Events.{event_inline}
 use Rattle.recorded.specs.Runs.{ended_lines, line_inline, lines_inline, without_last}
 use Rattle.recorded.specs.SpelledOut.{AreBytes, field_spelled, line_spelled, scene_spelled, tabbed, text_of_lines}
@@ -38,17 +38,17 @@ tabbed_back (c ∷ t) = (let h = pieces 9 t in let back = tabbed_back t in elim 
   | inr n ↦ rw (n, h.is) (tabbed_front c h.first h.more ∙ ap (λ u. c ∷ u) (rw h.is at back))
 ])
 
-module _ (all : List ℕ) where
-  none_has_tab : (ts : List (List ℕ)) → NoneHas 9 ts → NoneHas 9 (map (field_spelled all) ts)
-  none_has_tab [] h = tt
-  none_has_tab (t ∷ ts) h = (field_lacks_tab all t h.0, none_has_tab ts h.1)
+none_has_map : (b : ℕ) (f : List ℕ → List ℕ) → ((t : List ℕ) → Lacks b t → Lacks b (f t)) → (ts : List (List ℕ)) → NoneHas b ts → NoneHas b (map f ts)
+none_has_map b f each [] h = tt
+none_has_map b f each (t ∷ ts) h = (each t h.0, none_has_map b f each ts h.1)
 
+module _ (all : List ℕ) where
   -- the fields of a line, spelled out one by one
   pub line_fields : (t : List ℕ) → split_on 9 (line_spelled all t) ≡ map (field_spelled all) (split_on 9 t)
   line_fields t =
       let h = pieces 9 t in
       ap (λ ts. split_on 9 (tabbed (map (field_spelled all) ts))) h.is
-      ∙ split_tabbed (field_spelled all h.first) (map (field_spelled all) h.more) (field_lacks_tab all h.first h.lacks) (none_has_tab h.more h.none_has) ∙ ap (map (field_spelled all)) (sym h.is)
+      ∙ split_tabbed (field_spelled all h.first) (map (field_spelled all) h.more) (field_lacks_tab all h.first h.lacks) (none_has_map 9 (field_spelled all) (field_lacks_tab all) h.more h.none_has) ∙ ap (map (field_spelled all)) (sym h.is)
 
   -- what holds of a line where it holds of each of its fields
   module _ (Good : List ℕ → Type 0) (parts : (t r : List ℕ) → Good (t ++ 9 ∷ r) → Good t × Good r) (joined : (t r : List ℕ) → Good t → Good r → Good (t ++ 9 ∷ r)) (field : (t : List ℕ) → Good t → Good (field_spelled all t)) where
@@ -82,12 +82,8 @@ lacks_parts : (t r : List ℕ) → Lacks 10 (t ++ 9 ∷ r) → Lacks 10 t × Lac
 lacks_parts [] r h = (tt, h.1)
 lacks_parts (c ∷ t) r h = let more = lacks_parts t r h.1 in ((h.0, more.0), more.1)
 
-lacks_joined : (t r : List ℕ) → Lacks 10 t → Lacks 10 r → Lacks 10 (t ++ 9 ∷ r)
-lacks_joined [] r h k = (refl, k)
-lacks_joined (c ∷ t) r h k = (h.0, lacks_joined t r h.1 k)
-
 pub line_lacks_feed : (all t : List ℕ) → Lacks 10 t → Lacks 10 (line_spelled all t)
-line_lacks_feed all t h = line_good all (Lacks 10) lacks_parts lacks_joined (field_lacks_feed all) t h
+line_lacks_feed all t h = line_good all (Lacks 10) lacks_parts (λ t r h k. lacks-append t (9 ∷ r) h (refl, k)) (field_lacks_feed all) t h
 
 -- whether a line is passed over is told by its first field, where that is as it was
 told_by_first : (f : List ℕ → List ℕ) (first : List ℕ) (more : List (List ℕ)) → is_passed_over (tabbed (first ∷ map f more)) ≡ is_passed_over (tabbed (first ∷ more))
@@ -129,12 +125,8 @@ without_last_lacks (t ∷ u ∷ us) h = (h.0, without_last_lacks (u ∷ us) h.1)
 pub ended_lines_lack : (text : List ℕ) → NoneHas 10 (ended_lines text)
 ended_lines_lack text = let p = pieces 10 text in subst (λ ts. NoneHas 10 (without_last ts)) (sym p.is) (without_last_lacks (p.first ∷ p.more) (p.lacks, p.none_has))
 
-lines_lack_feeds : (all : List ℕ) (ts : List (List ℕ)) → NoneHas 10 ts → NoneHas 10 (map (line_spelled all) ts)
-lines_lack_feeds all [] h = tt
-lines_lack_feeds all (t ∷ ts) h = (line_lacks_feed all t h.0, lines_lack_feeds all ts h.1)
-
 pub lines_of_scene : (all text : List ℕ) → split_on 10 (scene_spelled all text) ≡ map (line_spelled all) (ended_lines text) ++ [] ∷ []
-lines_of_scene all text = scene_lines (map (line_spelled all) (ended_lines text)) (lines_lack_feeds all (ended_lines text) (ended_lines_lack text))
+lines_of_scene all text = scene_lines (map (line_spelled all) (ended_lines text)) (none_has_map 10 (line_spelled all) (line_lacks_feed all) (ended_lines text) (ended_lines_lack text))
 
 -- what is read of an empty line, which stands behind the last one
 empty_read : (before : ParsedLines) → line_read before (plain_line []) ≡ Ok before

@@ -41,7 +41,7 @@ ended_lines-more line more lacks =
 pub ended_lines-none : (text : List ℕ) → Lacks 10 text → ended_lines text ≡ []
 ended_lines-none text lacks = ap without_last (split_on-lacks 10 text lacks)
 
-lacks-append : (t u : List ℕ) → Lacks 10 t → Lacks 10 u → Lacks 10 (t ++ u)
+pub lacks-append : (t u : List ℕ) → Lacks 10 t → Lacks 10 u → Lacks 10 (t ++ u)
 lacks-append [] u h k = k
 lacks-append (c ∷ t) u h k = (h.0, lacks-append t u h.1 k)
 

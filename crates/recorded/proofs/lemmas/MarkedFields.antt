@@ -1,4 +1,4 @@
--- A field that says anything but an output is no reference, and stays as it is where outputs are spelled out.
+-- What a reference begins with begins no value of any other kind of field.
 use Rattle.std.proofs.Common.{◌≡◌, ℕ, List, [], ◌∷◌, true, false, drop, replicate, refl, ap, ◌∙◌, arith, Option, None, Some, inl, inr, ◌⊎◌}
 use Rattle.std.specs.Prelude.{nat_eq}
 use Rattle.std.specs.List.{list_all, onto_first, starts_with}
@@ -31,10 +31,6 @@ marked t = elim (cases_Bool (starts_with nat_eq t mark)) [ inl y ↦ inr (begins
 abbrev pub MarkedIsNone : {X : Type 0} → (List ℕ → Option X) → Type 0
 MarkedIsNone value_in = (u : List ℕ) → value_in (92 ∷ 64 ∷ u) ≡ None
 
--- so a field that has such a value stays as it is
-pub kept : {X : Type 0} (value_in : List ℕ → Option X) → MarkedIsNone value_in → (all t : List ℕ) (x : X) → value_in t ≡ Some x → field_spelled all t ≡ t
-kept value_in none all t x is = elim (marked t) [ inl no_reference ↦ rw no_reference refl | inr begins_so ↦ (let nothing = ap value_in begins_so ∙ none (drop 2 t) in cc) ]
-
 -- numbers
 pub marked_number : (bits : ℕ) → MarkedIsNone (number_in bits)
 unfolding number_in
@@ -51,14 +47,8 @@ marked_hyphenated : MarkedIsNone parsed_hyphenated
 unfolding by_index
 marked_hyphenated u = rw (no_simple (digits_of (92 ∷ 64 ∷ u)) refl) (grind arith)
 
-marked_braced : MarkedIsNone parsed_braced
-marked_braced u = grind (arith, and_right)
-
-marked_urn : MarkedIsNone parsed_urn
-marked_urn u = grind (arith, and_right)
-
 pub marked_run_id : MarkedIsNone parsed
-marked_run_id u = rw (no_simple (92 ∷ 64 ∷ u) refl, marked_hyphenated u, marked_braced u, marked_urn u) (grind arith)
+marked_run_id u = rw (no_simple (92 ∷ 64 ∷ u) refl, marked_hyphenated u) (grind (arith, and_right))
 
 -- iterations
 pub marked_stress : MarkedIsNone stress_in
