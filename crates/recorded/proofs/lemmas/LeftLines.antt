@@ -7,12 +7,12 @@ use Rattle.recorded.proofs.lemmas.WholeLines.{ended_lines-more}
 use Rattle.recorded.specs.Events.{event_replayed}
 use Rattle.recorded.specs.NextLines.{CountsLine, IsNextLine, LeavesLine}
 use Rattle.recorded.specs.Outputs.{counted}
-use Rattle.recorded.specs.Runs.{before_behind, before_rest, line_replayed, lines_replayed, needed, needed_for, ended_lines}
+use Rattle.recorded.specs.Runs.{before_rest, line_replayed, lines_replayed, needed, needed_for, ended_lines}
 use Rattle.recorded.specs.Source.{IsLeft}
 use Rattle.scene_events.specs.declared.scene.event.SceneEvent.{SceneEvent}
 use Rattle.scene_fields.specs.declared.fault.LineFault.{LineFault}
 use Rattle.scene_fields.specs.declared.stored.PlacedOutput.{PlacedOutput}
-use Rattle.scene_text.specs.SceneTexts.{ConfigLine, EventLine, LinesBefore, NoEvent, ParsedLine, ParsedLines, ReadsLines, RunLine, before_next, event_line, line_read, lines_before, lines_with, recorded_line, with_line, with_made}
+use Rattle.scene_text.specs.SceneTexts.{ParsedLine, ParsedLines, ReadsLines, RunLine, before_next, line_read, lines_before, lines_with, recorded_line, with_made}
 use Rattle.scene_text.specs.declared.reader.LinesRead.{LinesRead}
 use Rattle.scenes.proofs.lemmas.ReadLines.{begun_by, further as with_more, next_fault}
 use Rattle.scenes.specs.Read.{HasReadLines, IsMore}

@@ -185,7 +185,10 @@ module _ (options : Options) (t : List ℕ) (old mid : LinesRead) where
 
     -- and what it adds
     with_value : (base : List SceneEvent) → is_begun base ≡ old.is_begun → with_line (behind base old) read.0 ≡ behind base mid
-    with_value base is = (let whole = ap (lines_with (behind base old)) (sym (same_value as_read read.0 stored (λ e is. refl))) ∙ sym (value_is (λ before. as_read) base is) ∙ one_read old mid (unread_line t) reads base is in cc)
+    with_value base is =
+        let value = same_value as_read read.0 stored (λ e is. refl) in
+        let whole = ap (lines_with (behind base old)) (sym value) ∙ sym (value_is (λ before. as_read) base is) ∙ one_read old mid (unread_line t) reads base is in
+        cc
 
     all_events : mid.run.events.items ≡ old.run.events.items ++ events_of read.0
     all_events =

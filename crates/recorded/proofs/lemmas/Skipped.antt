@@ -1,5 +1,5 @@
 -- Outputs that are put into an event which the decider skips are gone once its skipped outputs are left unread.
-use Rattle.std.proofs.Common.{◌≡◌, ℕ, Bool, true, false, not, ◌==◌, List, [], ◌∷◌, refl, ap, sym, ◌∙◌, arith, inl, inr}
+use Rattle.std.proofs.Common.{◌≡◌, ℕ, true, not, ◌==◌, List, [], ◌∷◌, refl, ap, sym, ◌∙◌, arith, inl, inr}
 use Rattle.std.proofs.lemmas.Bool.{cases_Bool, false≢true}
 use Rattle.run_model.specs.Attempts.{attempt_with_output}
 use Rattle.run_model.specs.Unloaded.{unloaded_attempt, unloaded_attempts, unloaded_event, unloaded_kind, unloaded_script}
@@ -11,7 +11,7 @@ use Rattle.run_model.specs.declared.event.TestEventKind.TheVariants as kind
 use Rattle.run_model.specs.declared.output.ChildOutputDescription.{ChildOutputDescription}
 use Rattle.scene_fields.specs.declared.stored.PlacedOutput.{PlacedOutput}
 use Rattle.reporter_state.specs.Loads.{loads_finish}
-use Rattle.reporter_state.specs.Unread.{is_skipped, unread_call}
+use Rattle.reporter_state.specs.Unread.{unread_call}
 use Rattle.reporter_state.specs.declared.decider.OutputLoadDecider.{OutputLoadDecider}
 use Rattle.scene_events.specs.Loads.{attempts_with, event_with}
 use Rattle.scene_events.specs.SceneAttempts.{script_status}

@@ -43,7 +43,8 @@ module _ (flaky : FlakyResult) (captured : ChildOutputDescription) where
   get_there [] a back = refl
   get_there (x ∷ front) a back = get_there front a back
 
-  put_before : (front : List Attempt) (a : Attempt) (back : List Attempt) (last : Attempt) (rest : List Attempt) → attempts_with (length front) captured (attempts_of flaky (front ++ a ∷ back) last rest) ≡ attempts_of flaky (front ++ attempt_with_output a captured ∷ back) last rest
+  put_before : (front : List Attempt) (a : Attempt) (back : List Attempt) (last : Attempt) (rest : List Attempt) →
+      attempts_with (length front) captured (attempts_of flaky (front ++ a ∷ back) last rest) ≡ attempts_of flaky (front ++ attempt_with_output a captured ∷ back) last rest
   put_before front a back last [] =
       let other : (length front == length (front ++ a ∷ back)) ≡ false = (let size = length-append front (a ∷ back) in grind (arith, nat_tests, size)) in
       rw (other, get_there front a back) (ap (λ xs. record { earlier = xs; last = last; flaky_result = flaky }) (set-append_seam front a back (attempt_with_output a captured)))
@@ -51,12 +52,14 @@ module _ (flaky : FlakyResult) (captured : ChildOutputDescription) where
       ap (λ xs. attempts_with (length front) captured (attempts_of flaky xs next rest)) (append_assoc front (a ∷ back) (last ∷ []))
       ∙ put_before front a (back ++ last ∷ []) next rest ∙ ap (λ xs. attempts_of flaky xs next rest) (sym (append_assoc front (attempt_with_output a captured ∷ back) (last ∷ [])))
 
-  put_here : (earlier : List Attempt) (a : Attempt) (rest : List Attempt) → attempts_with (length earlier) captured (attempts_of flaky earlier a rest) ≡ attempts_of flaky earlier (attempt_with_output a captured) rest
+  put_here : (earlier : List Attempt) (a : Attempt) (rest : List Attempt) →
+      attempts_with (length earlier) captured (attempts_of flaky earlier a rest) ≡ attempts_of flaky earlier (attempt_with_output a captured) rest
   put_here earlier a [] = (let same : (length earlier == length earlier) ≡ true = grind (arith, nat_tests) in rw same refl)
   put_here earlier a (next ∷ rest) = put_before earlier a [] next rest
 
 module _ (all : List ℕ) (flaky : FlakyResult) where
-  put_one : (field : ℕ) (o : Option StoredOutput) (earlier : List Attempt) (a : Attempt) (rest : List Attempt) → attempts_inline all (placed (length earlier) field o) (attempts_of flaky earlier a rest) ≡ attempts_of flaky earlier (with_put all attempt_loads o a) rest
+  put_one : (field : ℕ) (o : Option StoredOutput) (earlier : List Attempt) (a : Attempt) (rest : List Attempt) →
+      attempts_inline all (placed (length earlier) field o) (attempts_of flaky earlier a rest) ≡ attempts_of flaky earlier (with_put all attempt_loads o a) rest
   put_one field None earlier a rest = refl
   put_one field (Some output) earlier a rest = put_here flaky (output_inline all output) earlier a rest
 
@@ -75,7 +78,8 @@ module _ (all : List ℕ) (flaky : FlakyResult) where
     puts = λ rest. put_one h.number h.output [] a rest ∙ ap (λ x. attempts_of flaky [] x rest) (sym h.value);
   }
 
-  more_read : (old now : Option Noted) (earlier : List Attempt) (last : Attempt) (earlier_spelled : List Attempt) (last_spelled a b : Attempt) → HasOutput all attempt_loads old a now b → AreRead old earlier last earlier_spelled last_spelled → AreRead now (earlier ++ last ∷ []) a (earlier_spelled ++ last_spelled ∷ []) b
+  more_read : (old now : Option Noted) (earlier : List Attempt) (last : Attempt) (earlier_spelled : List Attempt) (last_spelled a b : Attempt) → HasOutput all attempt_loads old a now b →
+      AreRead old earlier last earlier_spelled last_spelled → AreRead now (earlier ++ last ∷ []) a (earlier_spelled ++ last_spelled ∷ []) b
   more_read old now earlier last earlier_spelled last_spelled a b h are =
       let n = are.notes in
       let here = placed n.outputs h.number h.output in
@@ -97,16 +101,20 @@ module _ (all : List ℕ) (flaky : FlakyResult) where
     number_reads : (number : ℕ) → Reads all Same (attempt_number number)
     number_reads number = checked_reads all (λ p. nat_lt number (2 ^ 32)) WrongNumberOfFields (λ p. refl) (says_spells all (λ n. n) number)
 
-    attempts_follow : (more number : ℕ) (earlier : List Attempt) (last : Attempt) (earlier_spelled : List Attempt) (last_spelled : Attempt) (p : Place) → (Known → AreRead p.noted earlier last earlier_spelled last_spelled) →
+    attempts_follow : (more number : ℕ) (earlier : List Attempt) (last : Attempt) (earlier_spelled : List Attempt) (last_spelled : Attempt) (p : Place) →
+        (Known → AreRead p.noted earlier last earlier_spelled last_spelled) →
         Follows all HaveNoted p.noted (attempts_from flaky total number more earlier last p) (attempts_from flaky total number more earlier_spelled last_spelled (place_spelled all p))
     unfolding attempts_from
     attempts_follow zero number earlier last earlier_spelled last_spelled p are =
-        (record { earlier = earlier_spelled; last = last_spelled; flaky_result = flaky }, λ known. sym ((are known).puts []) ∙ ap (λ n. attempts_inline all (noted_outputs n) (attempts_of flaky earlier last [])) (sym (are known).is), refl)
+        let so_far = attempts_of flaky earlier last [] in
+        (attempts_of flaky earlier_spelled last_spelled [], λ known. sym ((are known).puts []) ∙ ap (λ n. attempts_inline all (noted_outputs n) so_far) (sym (are known).is), refl)
     attempts_follow (suc more) number earlier last earlier_spelled last_spelled p are =
         bind_follows all Same HaveNoted _ _ p.noted _ _ ((number_reads number).each p) (λ n m q h.
-        let next : Follows all (HasOutput all attempt_loads) p.noted (attempt_fields (retry_numbered total n) q) (attempt_fields (retry_numbered total m) (place_spelled all q)) = rw (h.value, ← h.noted) ((attempt_reads all bytes (retry_numbered total n)).each q) in
+        let next : Follows all (HasOutput all attempt_loads) p.noted (attempt_fields (retry_numbered total n) q) (attempt_fields (retry_numbered total m) (place_spelled all q)) =
+        rw (h.value, ← h.noted) ((attempt_reads all bytes (retry_numbered total n)).each q) in
         bind_follows all (HasOutput all attempt_loads) HaveNoted _ _ p.noted _ _ next (λ a b r c.
-        attempts_follow more (number + 1) (earlier ++ last ∷ []) a (earlier_spelled ++ last_spelled ∷ []) b r (λ known. more_read p.noted r.noted earlier last earlier_spelled last_spelled a b c (are known))))
+        attempts_follow more (number + 1) (earlier ++ last ∷ []) a (earlier_spelled ++ last_spelled ∷ []) b r
+        (λ known. more_read p.noted r.noted earlier last earlier_spelled last_spelled a b c (are known))))
 
   -- all of them
   pub attempts_read : AreBytes all → (total : ℕ) → Reads all (HasNoted (attempts_inline all)) (all_attempts flaky total)

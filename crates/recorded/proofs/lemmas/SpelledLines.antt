@@ -51,7 +51,8 @@ answer_loads captured answer = answer_with captured answer
 abbrev answer_made : UnitState × Option ExecutionResultDescription → SceneOutput → UnitAnswer
 answer_made read output = record { state = read.0; output = written read.1 output }
 
-answer_puts : (read : UnitState × Option ExecutionResultDescription) (captured : ChildOutputDescription) (output : SceneOutput) → answer_made read (output_loads captured output) ≡ answer_loads captured (answer_made read output)
+answer_puts : (read : UnitState × Option ExecutionResultDescription) (captured : ChildOutputDescription) (output : SceneOutput) →
+    answer_made read (output_loads captured output) ≡ answer_loads captured (answer_made read output)
 answer_puts read captured (Output output errors highlight) = refl
 answer_puts read captured (StartError error) = refl
 
@@ -93,7 +94,9 @@ module _ (all : List ℕ) where
   exactly_none n {line} h = exactly_reads all n (record { each = λ p. turned_follows all Same HasAll p.noted p.noted _ _ (λ x new y c none. rw (c.value, c.noted, none) refl) (h.each p) })
 
   exactly_one : (n : ℕ) {line : Line SceneEvent} → Reads all HasOne line → Reads all HasAll (exactly n line)
-  exactly_one n {line} h = exactly_reads all n (record { each = λ p. turned_follows all HasOne HasAll p.noted p.noted _ _ (λ x new y c none. rw (c.value, c.noted, none) (only_output c.output c.number x)) (h.each p) })
+  exactly_one n {line} h = exactly_reads all n (record {
+    each = λ p. turned_follows all HasOne HasAll p.noted p.noted _ _ (λ x new y c none. rw (c.value, c.noted, none) (only_output c.output c.number x)) (h.each p);
+  })
 
   module _ (bytes : AreBytes all) where
     -- an event of an attempt, of an answer, and of all attempts of a test
@@ -115,9 +118,11 @@ module _ (all : List ℕ) where
     finish_inline stats test success failure [] a = refl
     finish_inline stats test success failure (p ∷ ps) a = finish_inline stats test success failure ps (attempts_with p.place (output_inline all p.output) a)
 
-    finish_event_reads : (flaky : FlakyResult) (total : ℕ) (make : TestAttempts → SceneEvent) → ((stored : List PlacedOutput) (a : TestAttempts) → make (attempts_inline all stored a) ≡ event_inline all stored (make a)) →
+    finish_event_reads : (flaky : FlakyResult) (total : ℕ) (make : TestAttempts → SceneEvent) →
+        ((stored : List PlacedOutput) (a : TestAttempts) → make (attempts_inline all stored a) ≡ event_inline all stored (make a)) →
         Reads all HasAll (all_attempts flaky total >>= (λ a. says (make a)))
-    finish_event_reads flaky total make puts = made_reads all (HasNoted (attempts_inline all)) HasAll make (λ old a new b c none. ap make (c none) ∙ puts (noted_outputs new) a) (attempts_read all flaky bytes total)
+    finish_event_reads flaky total make puts =
+        made_reads all (HasNoted (attempts_inline all)) HasAll make (λ old a new b c none. ap make (c none) ∙ puts (noted_outputs new) a) (attempts_read all flaky bytes total)
 
     -- the rows of the table of lines
     ruleset lines = (exactly_none, exactly_one, with_attempts_reads, fields_read, attempt_event_reads, answer_event_reads, finish_event_reads, finish_inline, prefix_reads, values)
@@ -163,7 +168,8 @@ module _ (all : List ℕ) where
 
     module _ (before : LinesBefore) where
       config_line_reads : Reads all (HasNoted line_inlined) (config_words before)
-      config_line_reads = either_reads all before.is_begun (record { each = λ p. tt }) (made_reads all Same (HasNoted line_inlined) ConfigLine (λ old a new b c none. ap ConfigLine c.value) (exactly_reads all 2 (config_reads before.config)))
+      config_line_reads = either_reads all before.is_begun (record { each = λ p. tt })
+          (made_reads all Same (HasNoted line_inlined) ConfigLine (λ old a new b c none. ap ConfigLine c.value) (exactly_reads all 2 (config_reads before.config)))
 
       event_line_reads : (word : List ℕ) → Reads all (HasNoted line_inlined) (made EventLine (event_line_fields word))
       event_line_reads word =

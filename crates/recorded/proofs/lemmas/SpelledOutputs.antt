@@ -30,7 +30,8 @@ use Rattle.scene_fields.specs.declared.stored.StoredStream.TheVariants.{At}
 use Rattle.scene_text.specs.EventLines.{after_streams, attempt_fields, by_row, combined_fields, output_fields, output_fields_of, spelled_output_fields, split_fields, start_error_fields, stored_output_fields, stream_in, unloaded_fields}
 
 -- these words stay as they are
-words_kept : (all : List ℕ) → (field_spelled all (codes "split") ≡ codes "split") × (field_spelled all (codes "comb") ≡ codes "comb") × (field_spelled all (codes "-") ≡ codes "-") × (field_spelled all [] ≡ [])
+words_kept : (all : List ℕ) →
+    (field_spelled all (codes "split") ≡ codes "split") × (field_spelled all (codes "comb") ≡ codes "comb") × (field_spelled all (codes "-") ≡ codes "-") × (field_spelled all [] ≡ [])
 unfolding reference_in after_mark
 words_kept all = (refl, refl, refl, refl)
 
@@ -61,11 +62,13 @@ module _ (all : List ℕ) where
   -- an output that is not stored
   spelled_reads : Reads all Same spelled_output_fields
   unfolding spelled_output_fields after_streams unescaped_after
-  spelled_reads = next_reads all Same (by_row (valued None) output_rows) (λ u p. tt) (λ form. by_row_reads all Same (valued None) output_rows form (valued_reads all None) (search (fields_read, marked_highlight) depth 20 fits 3000))
+  spelled_reads = next_reads all Same (by_row (valued None) output_rows) (λ u p. tt)
+      (λ form. by_row_reads all Same (valued None) output_rows form (valued_reads all None) (search (fields_read, marked_highlight) depth 20 fits 3000))
 
   -- what is stored of streams
   module _ (bytes : AreBytes all) where
-    reference_spelled : (t : List ℕ) (stream : StoredStream) (o : Option Reference) → reference_in t ≡ o → option_map (λ reference. At reference) o ≡ Some stream → stream_in (field_spelled all t) ≡ Some (stream_inline all stream)
+    reference_spelled : (t : List ℕ) (stream : StoredStream) (o : Option Reference) → reference_in t ≡ o → option_map (λ reference. At reference) o ≡ Some stream →
+        stream_in (field_spelled all t) ≡ Some (stream_inline all stream)
     reference_spelled t stream None is h = absurd (cc)
     reference_spelled t stream (Some r) is h = rw is (stream_read_back (bytes_at all r) (bytes_at_bytes all r bytes) ∙ ap (option_map (stream_inline all)) h)
 
@@ -82,16 +85,19 @@ module _ (all : List ℕ) where
     -- the output as it is spelled out, with what follows its streams
     abbrev IsSpelled : List ℕ → List ℕ → List ℕ → StoredOutput → Type 0
     IsSpelled form first second output = (n : ℕ) (fields : List (List ℕ)) →
-        spelled_output_fields (record { number = n; left = form ∷ field_spelled all first ∷ second ∷ fields; noted = None }) ≡ after_streams (output_inline all output) (record { number = n + 1 + 1 + 1; left = fields; noted = None })
+        spelled_output_fields (record { number = n; left = form ∷ field_spelled all first ∷ second ∷ fields; noted = None })
+        ≡ after_streams (output_inline all output) (record { number = n + 1 + 1 + 1; left = fields; noted = None })
 
-    split_spelled : (first second : List ℕ) (output : StoredOutput) (one two : Option StoredStream) → stored_stream_in first ≡ one → stored_stream_in second ≡ two → stored_split one two ≡ Some output → IsSpelled (codes "split") first (field_spelled all second) output
+    split_spelled : (first second : List ℕ) (output : StoredOutput) (one two : Option StoredStream) → stored_stream_in first ≡ one → stored_stream_in second ≡ two →
+        stored_split one two ≡ Some output → IsSpelled (codes "split") first (field_spelled all second) output
     unfolding spelled_output_fields
     split_spelled first second output None two is also h n fields = absurd (cc)
     split_spelled first second output (Some stdout) None is also h n fields = absurd (cc)
     split_spelled first second output (Some stdout) (Some stderr) is also h n fields =
         rw (stream_spelled first stdout is, stream_spelled second stderr also, chosen (is_reference stdout || is_reference stderr) (Split stdout stderr) output h) refl
 
-    combined_spelled : (first : List ℕ) (output : StoredOutput) (o : Option Reference) → reference_in first ≡ o → option_map (λ reference. Combined reference) o ≡ Some output → IsSpelled (codes "comb") first (codes "-") output
+    combined_spelled : (first : List ℕ) (output : StoredOutput) (o : Option Reference) → reference_in first ≡ o → option_map (λ reference. Combined reference) o ≡ Some output →
+        IsSpelled (codes "comb") first (codes "-") output
     unfolding spelled_output_fields
     combined_spelled first output None is h n fields = absurd (cc)
     combined_spelled first output (Some r) is h n fields = (let same : output ≡ Combined r = cc in rw (is, bytes_read_back (bytes_at all r) (bytes_at_bytes all r bytes), same) refl)
@@ -102,7 +108,8 @@ module _ (all : List ℕ) where
       | inr n ↦ elim (cases_Bool (bytes_eq form (codes "comb") && bytes_eq second (codes "-"))) [
         | inl y ↦ (
             let both = and_parts (bytes_eq form (codes "comb")) (bytes_eq second (codes "-")) y in
-            rw ((bytes_eq-Decides form (codes "comb")).0 both.0, (bytes_eq-Decides second (codes "-")).0 both.1, (words_kept all).1, (words_kept all).2) (combined_spelled first output (reference_in first) refl (rw (n, y) at h))
+            rw ((bytes_eq-Decides form (codes "comb")).0 both.0, (bytes_eq-Decides second (codes "-")).0 both.1, (words_kept all).1, (words_kept all).2)
+            (combined_spelled first output (reference_in first) refl (rw (n, y) at h))
             )
         | inr m ↦ (let wrong = rw (n, m) at h in absurd (cc))
       ]
@@ -110,17 +117,20 @@ module _ (all : List ℕ) where
 
     -- the fields of a line from an output on, by what is stored of it
     output_follows : (n : ℕ) (left : List (List ℕ)) (noted : Option Noted) (o : Option StoredOutput) → stored_among left noted ≡ o →
-        Follows all (HasOutput all output_loads) noted (output_fields_of o (record { number = n; left = left; noted = with_noted o (n + 2) noted })) (spelled_output_fields (record { number = n; left = map (field_spelled all) left; noted = None }))
+        Follows all (HasOutput all output_loads) noted (output_fields_of o (record { number = n; left = left; noted = with_noted o (n + 2) noted }))
+        (spelled_output_fields (record { number = n; left = map (field_spelled all) left; noted = None }))
     unfolding stored_output_fields
     output_follows n left noted None is =
-        turned_follows all Same (HasOutput all output_loads) _ noted _ _ (λ x new y h. record { output = None; number = n + 2; noted = h.noted; value = h.value }) (spelled_reads.each (record { number = n; left = left; noted = with_noted None (n + 2) noted }))
+        turned_follows all Same (HasOutput all output_loads) _ noted _ _ (λ x new y h. record { output = None; number = n + 2; noted = h.noted; value = h.value })
+        (spelled_reads.each (record { number = n; left = left; noted = with_noted None (n + 2) noted }))
     output_follows n left None (Some output) is = absurd (cc)
     output_follows n [] (Some noted) (Some output) is = tt
     output_follows n (form ∷ []) (Some noted) (Some output) is = tt
     output_follows n (form ∷ first ∷ []) (Some noted) (Some output) is = tt
     output_follows n (form ∷ first ∷ second ∷ fields) (Some noted) (Some output) is =
         rw (stored_spelled form first second output is n (map (field_spelled all) fields))
-        (turned_follows all (Becomes (output_loads (output_inline all output))) (HasOutput all output_loads) _ (Some noted) _ _ (λ x new y h. record { output = Some output; number = n + 2; noted = h.noted; value = h.value })
+        (turned_follows all (Becomes (output_loads (output_inline all output))) (HasOutput all output_loads) _ (Some noted) _ _
+        (λ x new y h. record { output = Some output; number = n + 2; noted = h.noted; value = h.value })
         ((after_spells (output_inline all output)).each (record { number = n + 1 + 1 + 1; left = fields; noted = with_noted (Some output) (n + 2) (Some noted) })))
 
     pub output_reads : Reads all (HasOutput all output_loads) output_fields

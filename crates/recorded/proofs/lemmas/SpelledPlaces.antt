@@ -77,7 +77,8 @@ module _ (all : List ℕ) where
   bind_follows first change f g old (Ok a) s h others = rw h.2 (others a.0 h.0 a.1 h.1)
 
   -- a test before
-  checked_follows : {X : Type 0} (change : Change X) (old : Option Noted) (right : Bool) (f : LineFault) (r s : Read X) → Follows all change old r s → Follows all change old (if right then r else Err f) (if right then s else Err f)
+  checked_follows : {X : Type 0} (change : Change X) (old : Option Noted) (right : Bool) (f : LineFault) (r s : Read X) → Follows all change old r s →
+      Follows all change old (if right then r else Err f) (if right then s else Err f)
   checked_follows change old true f r s h = h
   checked_follows change old false f r s h = tt
 
@@ -116,7 +117,8 @@ module _ (all : List ℕ) where
   pub output_made_reads : {A B : Type 0} {put : ChildOutputDescription → A → A} {put_more : ChildOutputDescription → B → B} (make : A → B) {line : Line A} → Reads (HasOutput all put) line →
       ((captured : ChildOutputDescription) (a : A) → make (put captured a) ≡ put_more captured (make a)) → Reads (HasOutput all put_more) (line >>= (λ a. says (make a)))
   output_made_reads {A} {B} {put} {put_more} make {line} h puts =
-      made_reads (HasOutput all put) (HasOutput all put_more) make (λ old a new b c. record { output = c.output; number = c.number; noted = c.noted; value = ap make c.value ∙ puts_so put put_more make puts c.output a }) h
+      made_reads (HasOutput all put) (HasOutput all put_more) make
+      (λ old a new b c. record { output = c.output; number = c.number; noted = c.noted; value = ap make c.value ∙ puts_so put put_more make puts c.output a }) h
 
   -- the next field, where no reference is a good one
   module _ {X : Type 0} (change : Change X) (f : List ℕ → Line X) (refused : (u : List ℕ) (p : Place) → Refused (f (92 ∷ 64 ∷ u) p)) (others : (t : List ℕ) → Reads change (f t)) where
@@ -145,7 +147,8 @@ module _ (all : List ℕ) where
   field_reads value_in none = next_reads Same (λ t. valued (value_in t)) (λ u p. rw (none u) tt) (λ t. valued_reads (value_in t))
 
   -- so many fields are left, or a number is small enough
-  pub checked_reads : {X : Type 0} {change : Change X} (right : Place → Bool) (f : LineFault) → ((p : Place) → right (place_spelled all p) ≡ right p) → {line : Line X} → Reads change line → Reads change (λ p. if right p then line p else Err f)
+  pub checked_reads : {X : Type 0} {change : Change X} (right : Place → Bool) (f : LineFault) → ((p : Place) → right (place_spelled all p) ≡ right p) → {line : Line X} → Reads change line →
+      Reads change (λ p. if right p then line p else Err f)
   checked_reads {X} {change} right f same {line} h = record { each = λ p. rw (same p) (checked_follows change p.noted (right p) f (line p) (line (place_spelled all p)) (h.each p)) }
 
   pub exactly_reads : {X : Type 0} {change : Change X} (n : ℕ) {line : Line X} → Reads change line → Reads change (exactly n line)
@@ -167,7 +170,8 @@ module _ (all : List ℕ) where
   RowsRead change [] = Unit {0}
   RowsRead change (row ∷ rows) = Reads change row.1 × RowsRead change rows
 
-  pub by_row_reads : {X : Type 0} (change : Change X) (otherwise : Line X) (rows : List (List ℕ × Line X)) (word : List ℕ) → Reads change otherwise → RowsRead change rows → Reads change (by_row otherwise rows word)
+  pub by_row_reads : {X : Type 0} (change : Change X) (otherwise : Line X) (rows : List (List ℕ × Line X)) (word : List ℕ) → Reads change otherwise → RowsRead change rows →
+      Reads change (by_row otherwise rows word)
   by_row_reads change otherwise [] word none are = none
   by_row_reads change otherwise (row ∷ rows) word none are = if_reads (bytes_eq word row.0) are.0 (by_row_reads change otherwise rows word none are.1)
 

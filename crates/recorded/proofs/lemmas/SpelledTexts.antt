@@ -48,7 +48,8 @@ module _ (all : List ℕ) where
   line_fields t =
       let h = pieces 9 t in
       ap (λ ts. split_on 9 (tabbed (map (field_spelled all) ts))) h.is
-      ∙ split_tabbed (field_spelled all h.first) (map (field_spelled all) h.more) (field_lacks_tab all h.first h.lacks) (none_has_map 9 (field_spelled all) (field_lacks_tab all) h.more h.none_has) ∙ ap (map (field_spelled all)) (sym h.is)
+      ∙ split_tabbed (field_spelled all h.first) (map (field_spelled all) h.more) (field_lacks_tab all h.first h.lacks)
+      (none_has_map 9 (field_spelled all) (field_lacks_tab all) h.more h.none_has) ∙ ap (map (field_spelled all)) (sym h.is)
 
   -- what holds of a line where it holds of each of its fields
   module _ (Good : List ℕ → Type 0) (parts : (t r : List ℕ) → Good (t ++ 9 ∷ r) → Good t × Good r) (joined : (t r : List ℕ) → Good t → Good r → Good (t ++ 9 ∷ r)) (field : (t : List ℕ) → Good t → Good (field_spelled all t)) where
@@ -138,7 +139,8 @@ abbrev pub LineLaw : List ℕ → Type 0
 LineLaw all = (before : LinesBefore) (t : List ℕ) (x : ParsedLine × List PlacedOutput) → recorded_line before t ≡ Ok x → parsed_line before (line_spelled all t) ≡ with_made (λ stored e. Ok (event_inline all stored e)) (Ok x)
 
 module _ (all : List ℕ) (line_law : LineLaw all) where
-  line_alike : (before after : ParsedLines) (t : List ℕ) (found : Result (ParsedLine × List PlacedOutput) LineFault) → recorded_line (lines_before before) t ≡ found → line_read before (line_inline all t) ≡ Ok after → line_read before (plain_line (line_spelled all t)) ≡ Ok after
+  line_alike : (before after : ParsedLines) (t : List ℕ) (found : Result (ParsedLine × List PlacedOutput) LineFault) → recorded_line (lines_before before) t ≡ found →
+      line_read before (line_inline all t) ≡ Ok after → line_read before (plain_line (line_spelled all t)) ≡ Ok after
   unfolding line_read
   line_alike before after t (Ok x) is h =
       ap (lines_with before) (line_law (lines_before before) t x is ∙ ap (with_made (λ stored e. Ok (event_inline all stored e))) (sym is)) ∙ h
