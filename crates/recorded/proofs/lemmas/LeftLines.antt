@@ -12,6 +12,7 @@ use Rattle.recorded.specs.Source.{IsLeft}
 use Rattle.scene_events.specs.declared.scene.event.SceneEvent.{SceneEvent}
 use Rattle.scene_fields.specs.declared.fault.LineFault.{LineFault}
 use Rattle.scene_fields.specs.declared.stored.PlacedOutput.{PlacedOutput}
+use Rattle.scene_text.proofs.lemmas.Tellings.{reads_none}
 use Rattle.scene_text.specs.SceneTexts.{ParsedLine, ParsedLines, ReadsLines, RunLine, before_next, line_read, lines_before, lines_with, recorded_line, with_made}
 use Rattle.scene_text.specs.declared.reader.LinesRead.{LinesRead}
 use Rattle.scenes.proofs.lemmas.ReadLines.{begun_by, further as with_more, next_fault}
@@ -38,32 +39,22 @@ module _ (file : List ℕ) (total : ℕ) (options : Options) (all front : List R
 
     module _ (recorded_new remaining_new : Option (List ℕ)) (kept : recorded_new ≡ recorded) (line : List ℕ) where
       -- no line is left
-      pub none_left : ((text : List ℕ) → remaining ≡ Some text → IsNextLine text false line remaining_new) → (new : LinesRead) → new ≡ old → HasReadLines file all front before new (Ok false) (IsLeft total options recorded_new remaining_new count)
-      none_left next new same =
+      pub none_left : ((text : List ℕ) → remaining ≡ Some text → IsNextLine text false line remaining_new) → HasReadLines file all front before old (Ok false) (IsLeft total options recorded_new remaining_new count)
+      none_left next =
           let left = has.more_is in
           let ends = next left.text left.rest in
           let none : has.left ≡ [] = left.is ∙ ap (map (line_replayed options left.all)) ends.0 in
-          subst (λ r. HasReadLines file all front before r (Ok false) (IsLeft total options recorded_new remaining_new count)) (sym same) (record {
-            lines = has.lines;
-            left = has.left;
-            whole = has.whole;
-            forgotten = has.forgotten;
-            tells = has.tells;
-            noted = has.noted;
-            place = has.place;
-            begun = has.begun;
-            more_is = (
-              inr (none, refl),
-              record {
-                all = left.all;
-                text = ends.1.0;
-                outputs = kept ∙ left.outputs;
-                rest = ends.1.1;
-                is = ap (map (line_replayed options left.all)) (sym ends.1.2);
-                counts = left.counts ∙ ap (λ ts. counted count (needed options (lines_before (behind before.events old)) ts)) (ends.0 ∙ sym ends.1.2);
-              },
-            );
-          })
+          further old [] has.left refl (reads_none old) (Ok false) (IsLeft total options recorded_new remaining_new count) (
+            inr (none, refl),
+            record {
+              all = left.all;
+              text = ends.1.0;
+              outputs = kept ∙ left.outputs;
+              rest = ends.1.1;
+              is = ap (map (line_replayed options left.all)) (sym ends.1.2);
+              counts = left.counts ∙ ap (λ ts. counted count (needed options (lines_before (behind before.events old)) ts)) (ends.0 ∙ sym ends.1.2);
+            },
+          )
 
       -- the next one is there
       module _ (next : (text : List ℕ) → remaining ≡ Some text → IsNextLine text true line remaining_new) (new : LinesRead) where

@@ -181,7 +181,7 @@ module _ (options : Options) (t : List ℕ) (old mid : LinesRead) where
     -- its value with this made of its event, behind whatever events were forgotten
     value_is : (made : LinesBefore → Makes) (base : List SceneEvent) → is_begun base ≡ old.is_begun → line_read (behind base old) (RecordedLine t made) ≡ lines_with (behind base old) (with_made (made (before_next old)) (Ok (read.0, stored)))
     unfolding line_read
-    value_is made base is = ap (λ b. lines_with (behind base old) (with_made (made b) (recorded_line b t))) (before_is base old is) ∙ ap (λ r. lines_with (behind base old) (with_made (made (before_next old)) r)) read.1
+    value_is made base is = rw (before_is base old is, read.1) refl
 
     -- and what it adds
     with_value : (base : List SceneEvent) → is_begun base ≡ old.is_begun → with_line (behind base old) read.0 ≡ behind base mid

@@ -27,11 +27,7 @@ digit_is d h = eqb-true (digit_value (digit d)) d (agree_below_at (λ d. digit_v
 
 -- so two digits are the byte of their halves
 byte_of_digits : (high low : ℕ) → high < 16 → low < 16 → (t : List ℕ) → hex_escape 255 (digit high ∷ digit low ∷ t) ≡ Some (16 * high + low)
-byte_of_digits high low h l t =
-    let first : nat_lt high 16 ≡ true = grind (arith, nat_tests) in
-    let second : nat_lt low 16 ≡ true = grind (arith, nat_tests) in
-    let within : nat_le (16 * high + low) 255 ≡ true = grind (arith, nat_tests) in
-    rw (digit_is high h, digit_is low l, first, second, within) refl
+byte_of_digits high low h l t = rw (digit_is high h, digit_is low l) (grind (arith, nat_tests))
 
 -- a byte that is spelled out is read to the byte
 spelled_byte : (b : ℕ) → b < 256 → (t : List ℕ) → hex_escape 255 (digit (b / 16) ∷ digit (b % 16) ∷ t) ≡ Some b
