@@ -13,13 +13,9 @@ use Rattle.scene_events.specs.declared.scene.event.SceneEvent.{SceneEvent}
 use Rattle.scene_events.specs.declared.scene.unit_events.TestFinish.{TestFinish}
 use Rattle.recorded.specs.Skips.{skips}
 
-skip-if : (b : Bool) → is_skip (Some (load_if b)) ≡ not b
-skip-if true = refl
-skip-if false = refl
-
 -- an event that says the same
 pub skips-same : (d : OutputLoadDecider) (event : SceneEvent) (k : TestEventKind) → SaysSame event k → is_skipped d k ≡ skips d event
-skips-same d event k says = grind (arith, skip-if)
+skips-same d event k says = grind arith
 
 -- by how the last attempt ended (for `skips`)
 pub loads_by_last : (d : OutputLoadDecider) (e : TestFinish) → loads_last d e.success_output e.failure_output e.attempts.last.result ≡ loads_finish d e.success_output e.failure_output (summary_of e.attempts)

@@ -53,8 +53,7 @@ answer_made read output = record { state = read.0; output = written read.1 outpu
 
 answer_puts : (read : UnitState × Option ExecutionResultDescription) (captured : ChildOutputDescription) (output : SceneOutput) →
     answer_made read (output_loads captured output) ≡ answer_loads captured (answer_made read output)
-answer_puts read captured (Output output errors highlight) = refl
-answer_puts read captured (StartError error) = refl
+answer_puts read captured output = grind arith
 
 module _ (all : List ℕ) where
   -- the prefix of a header
@@ -87,8 +86,7 @@ module _ (all : List ℕ) where
   HasAll = HasNoted (event_inline all)
 
   only_output : (o : Option StoredOutput) (number : ℕ) (e : SceneEvent) → with_put all (event_with 0) o e ≡ event_inline all (placed 0 number o) e
-  only_output None number e = refl
-  only_output (Some output) number e = refl
+  only_output o number e = grind arith
 
   exactly_none : (n : ℕ) {line : Line SceneEvent} → Reads all Same line → Reads all HasAll (exactly n line)
   exactly_none n {line} h = exactly_reads all n (record { each = λ p. turned_follows all Same HasAll p.noted p.noted _ _ (λ x new y c none. rw (c.value, c.noted, none) refl) (h.each p) })

@@ -1,5 +1,5 @@
 -- The fields of an output, spelled out.
-use Rattle.std.proofs.Common.{◌≡◌, ℕ, ◌+◌, Bool, true, false, List, [], ◌∷◌, map, Option, None, Some, refl, ap, ◌∙◌, bytes_eq, codes, ◌||◌, ◌&&◌, if◌then◌else◌, inl, inr}
+use Rattle.std.proofs.Common.{◌≡◌, ℕ, ◌+◌, Bool, true, false, List, [], ◌∷◌, map, Option, None, Some, refl, ap, ◌∙◌, bytes_eq, codes, ◌||◌, ◌&&◌, if◌then◌else◌, inl, inr, arith}
 use Rattle.std.specs.Option.{option_map}
 use Rattle.std.proofs.lemmas.Bool.{and_parts, cases_Bool}
 use Rattle.std.proofs.lemmas.Slice.Eq.{bytes_eq-Decides}
@@ -140,8 +140,7 @@ module _ (all : List ℕ) where
     -- an attempt has one
     attempt_puts : (retry_data : RetryData) (result : ExecutionResultDescription) (time_taken : Nanos) (is_slow : Bool) (captured : ChildOutputDescription) (output : SceneOutput) →
         attempt_made retry_data result time_taken is_slow (output_loads captured output) ≡ attempt_loads captured (attempt_made retry_data result time_taken is_slow output)
-    attempt_puts retry_data result time_taken is_slow captured (Output output errors highlight) = refl
-    attempt_puts retry_data result time_taken is_slow captured (StartError error) = refl
+    attempt_puts retry_data result time_taken is_slow captured output = grind arith
 
     pub attempt_reads : (retry_data : RetryData) → Reads all (HasOutput all attempt_loads) (attempt_fields retry_data)
     unfolding attempt_fields

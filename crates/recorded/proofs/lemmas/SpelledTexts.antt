@@ -27,8 +27,7 @@ split_tabbed t (u ∷ us) h k = split_on-parts 9 t (tabbed (u ∷ us)) h ∙ ap 
 
 -- and the pieces of a text are its fields
 tabbed_front : (c : ℕ) (t : List ℕ) (ts : List (List ℕ)) → tabbed ((c ∷ t) ∷ ts) ≡ c ∷ tabbed (t ∷ ts)
-tabbed_front c t [] = refl
-tabbed_front c t (u ∷ us) = refl
+tabbed_front c t ts = grind arith
 
 tabbed_back : (t : List ℕ) → tabbed (split_on 9 t) ≡ t
 unfolding split_on
