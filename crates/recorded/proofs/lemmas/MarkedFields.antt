@@ -58,22 +58,13 @@ pub marked_iteration : MarkedIsNone (λ t. option_flatten (stress_in t))
 marked_iteration u = rw (marked_stress u) refl
 
 -- counts
-marked_pairs : {C : Type 0} (rows : C → List (Row C)) (none : Counted C) → ((w value : List ℕ) → row_in 0 (rows none.0) (92 ∷ 64 ∷ w) value ≡ None) → (pieces : List (List ℕ)) → in_turn (pair_in rows) none (onto_first 92 (onto_first 64 pieces)) ≡ None
-unfolding in_turn cut
-marked_pairs rows none no_row_has [] = refl
-marked_pairs rows none no_row_has (piece ∷ pieces) = grind (arith, no_row_has)
-
-marked_counts : {C : Type 0} (rows : C → List (Row C)) (none : C) → ((w value : List ℕ) → row_in 0 (rows none) (92 ∷ 64 ∷ w) value ≡ None) → MarkedIsNone (counts_in rows none)
-unfolding split_on
-marked_counts rows none no_row_has u = rw (marked_pairs rows (none, replicate 15 false) no_row_has (split_on 32 u)) refl
-
 pub marked_stats : MarkedIsNone stats_in
-unfolding stats_in
-marked_stats u = marked_counts stats_rows (planned_stats 0) (λ w value. refl) u
+unfolding stats_in in_turn cut split_on
+marked_stats u = grind arith
 
 pub marked_skips : MarkedIsNone skips_in
-unfolding skips_in
-marked_skips u = marked_counts skips_rows no_skips (λ w value. refl) u
+unfolding skips_in in_turn cut split_on
+marked_skips u = grind arith
 
 -- results
 pub marked_result : MarkedIsNone result_in

@@ -11,25 +11,11 @@ use Rattle.recorded.specs.declared.outputs.LoadFault.TheVariants.{OutOfMemory}
 use Rattle.recorded.specs.ReadAt.{HasRead}
 use Rattle.scene_fields.specs.References.{end_of, sum_of}
 
--- no stream ends behind the last byte
-stream_at-past : (all : List ℕ) (r : Reference) → length all < end_of r → stream_at all r ≡ None
-unfolding stream_at
-stream_at-past all r past = grind (arith, nat_tests)
-
--- bytes that are all there are the stream where they have its sum
-stream_at-same : (all : List ℕ) (r : Reference) → end_of r ≤ length all → sum_of (bytes_at all r) ≡ r.sum → stream_at all r ≡ Some (bytes_at all r)
-unfolding stream_at
-stream_at-same all r there same = (let is_same : bytes_eq (sum_of (bytes_at all r)) r.sum ≡ true = (bytes_eq-Decides _ _).1 same in grind (arith, nat_tests))
-
--- and no stream where they have another
-stream_at-other : (all : List ℕ) (r : Reference) → end_of r ≤ length all → sum_of (bytes_at all r) ≢ r.sum → stream_at all r ≡ None
-unfolding stream_at
-stream_at-other all r there other = (let if_same = (bytes_eq-Decides (sum_of (bytes_at all r)) r.sum).0 in grind (arith, nat_tests))
-
 -- where known bytes do not hold a reference
 pub not_there : (known : Option (List ℕ)) (r : Reference) (holds : Bool) → holds ≡ false → IfSome known (λ all. IsTrue holds ↔ (end_of r ≤ length all)) → IfSome known (λ all. (length all < end_of r) × (stream_at all r ≡ None))
+unfolding stream_at
 not_there None r holds is h = tt
-not_there (Some all) r holds is h = grind (arith, h, stream_at-past)
+not_there (Some all) r holds is h = grind (arith, h, nat_tests)
 
 -- bytes that were read at the place of a reference are those at its place
 bytes_read : (all : List ℕ) (r : Reference) (bytes : List ℕ) → HasRead r.offset bytes all → length bytes ≡ r.len → bytes_at all r ≡ bytes
@@ -37,13 +23,21 @@ bytes_read all r bytes read len = sym (read ∙ ap (λ n. take n (drop r.offset 
 
 -- where they have its sum, they are the stream
 pub same_read : (known : Option (List ℕ)) (r : Reference) (holds : Bool) (bytes : List ℕ) → holds ≡ true → IfSome known (λ all. IsTrue holds ↔ (end_of r ≤ length all)) → IfSome known (HasRead r.offset bytes) → length bytes ≡ r.len → sum_of bytes ≡ r.sum → IfSome known (λ all. stream_at all r ≡ Some bytes)
+unfolding stream_at
 same_read None r holds bytes is there read len same = tt
-same_read (Some all) r holds bytes is there read len same = grind (arith, bytes_read, stream_at-same)
+same_read (Some all) r holds bytes is there read len same =
+    let here = bytes_read all r bytes read len in
+    let tested = (bytes_eq-Decides (sum_of (bytes_at all r)) r.sum).1 (ap sum_of here ∙ same) in
+    grind (arith, nat_tests)
 
 -- where they have another, there is none
 pub other_read : (known : Option (List ℕ)) (r : Reference) (holds : Bool) (bytes : List ℕ) → holds ≡ true → IfSome known (λ all. IsTrue holds ↔ (end_of r ≤ length all)) → IfSome known (HasRead r.offset bytes) → length bytes ≡ r.len → sum_of bytes ≢ r.sum → IfSome known (λ all. (end_of r ≤ length all) × (stream_at all r ≡ None))
+unfolding stream_at
 other_read None r holds bytes is there read len other = tt
-other_read (Some all) r holds bytes is there read len other = grind (arith, bytes_read, stream_at-other)
+other_read (Some all) r holds bytes is there read len other =
+    let here = bytes_read all r bytes read len in
+    let tested = (bytes_eq-Decides (sum_of (bytes_at all r)) r.sum).0 in
+    grind (arith, nat_tests)
 
 ends_within : (all : List ℕ) (r : Reference) (bytes : List ℕ) → stream_at all r ≡ Some bytes → end_of r ≤ length all
 unfolding stream_at
