@@ -104,7 +104,7 @@ leaves_next file old new line f reads (inr (g, is, next)) =
         rest = line ∷ [];
         whole = refl;
         reads = reads;
-        wrong = λ base begun. subst (λ run. IsNextFault new.next run (line ∷ []) g) (reads.tells base begun) (subst (λ n. IsNextFault n (behind base old) (line ∷ []) g) (sym here) (next base begun));
+        wrong = λ base begun. rw (here, ← reads.tells base begun) (next base begun);
       },
     )
 
@@ -166,9 +166,7 @@ module _ (options : Options) (t : List ℕ) (old mid : LinesRead) where
         IsNextFault mid.next (behind base mid) rest f → IsNextFault old.next (behind base old) (line_replayed options all t ∷ []) f
     not_read f [] rest whole reads base is wrong =
         let here : mid.next ≡ old.next = omega (arith, reads.place) in
-        let unread = subst (λ ts. IsNextFault mid.next (behind base mid) ts f) (sym whole) wrong in
-        let behind_old = subst (λ run. IsNextFault mid.next run (unread_line t ∷ []) f) (sym (reads.tells base is)) unread in
-        next_wrong old.next (behind base old) f (subst (λ n. IsNextFault n (behind base old) (unread_line t ∷ []) f) here behind_old)
+        next_wrong old.next (behind base old) f (rw (here, ← reads.tells base is, ← whole) at wrong)
     not_read (fault.Line m f) (u ∷ []) rest whole reads base is wrong = (let none = wrong.1.2 in absurd (cc))
     not_read (fault.Line m f) (u ∷ v ∷ front) rest whole reads base is wrong = absurd (cc)
     not_read fault.OutOfMemory (u ∷ front) rest whole reads base is wrong = tt

@@ -83,12 +83,9 @@ pub marked_progress : MarkedIsNone progress_in
 unfolding cut
 marked_progress u = grind arith
 
-marked_highlight_of : MarkedIsNone highlight_of
-unfolding cut
-marked_highlight_of u = grind arith
-
 pub marked_highlight : MarkedIsNone highlight_in
-marked_highlight u = rw (marked_highlight_of u) refl
+unfolding cut
+marked_highlight u = grind arith
 
 pub marked_moment : MarkedIsNone moment_in
 unfolding cut code_in
