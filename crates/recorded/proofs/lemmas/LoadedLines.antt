@@ -1,6 +1,6 @@
 -- A line as it is read, and as it is replayed (for `read_line`, `read_and_load`).
-use Rattle.std.proofs.Common.{◌≡◌, ◌⊎◌, ℕ, ◌+◌, ◌<◌, ◌≤◌, Bool, true, false, List, [], ◌∷◌, ◌++◌, Option, Some, Result, Ok, Err, length, take, get_or, refl, sym, ap, ◌∙◌, subst, arith, ◌==◌, append_assoc, append-nil, inl, inr, if◌then◌else◌}
-use Rattle.std.specs.Prelude.{IfErr, IfSome, OnErr, nat_lt}
+use Rattle.std.proofs.Common.{◌≡◌, ◌⊎◌, ℕ, ◌+◌, ◌<◌, ◌≤◌, Bool, true, false, List, [], ◌∷◌, ◌++◌, Option, Some, Result, Ok, Err, length, take, get_or, refl, sym, ap, ◌∙◌, subst, arith, ◌==◌, append_assoc, append-nil, inl, inr}
+use Rattle.std.specs.Prelude.{IfErr, IfSome, OnErr}
 use Rattle.std.specs.Result.{IsErrAnd}
 use Rattle.std.proofs.Math.ListN.{set}
 use Rattle.std.proofs.Math.Seq.{get_or-append_seam, set-append_seam, take-append_seam}
@@ -203,11 +203,9 @@ module _ (options : Options) (t : List ℕ) (old mid : LinesRead) where
     reads_one new line tells size lines begun next = record {
       tells = λ base is. (behind base new, tells base is, refl);
       noted = λ base is. (
-          let same_size : length (base ++ mid.run.events.items) ≡ length (base ++ new.run.events.items) = length-append base mid.run.events.items ∙ ap (λ n. length base + n) size ∙ sym (length-append base new.run.events.items) in
-          let same_here : line_here old.next (behind base old) (behind base mid) ≡ line_here old.next (behind base old) (behind base new) =
-          ap (λ k. if nat_lt (length (base ++ old.run.events.items)) k then old.next ∷ [] else []) same_size in
-          lines ∙ reads.noted base is
-          ∙ ap (λ ls. old.run.lines.items ++ ls) (one_noted old.next (behind base old) (unread_line t) (behind base mid) (one_read old mid (unread_line t) reads base is) ∙ same_here ∙ sym (one_noted old.next (behind base old) line (behind base new) (tells base is)))
+          let old_line = one_noted old.next (behind base old) (unread_line t) (behind base mid) (one_read old mid (unread_line t) reads base is) in
+          let new_line = one_noted old.next (behind base old) line (behind base new) (tells base is) in
+          lines ∙ reads.noted base is ∙ rw (old_line, new_line, length-append base mid.run.events.items, length-append base new.run.events.items, size) refl
           );
       begun = begun ∙ reads.begun;
       place = omega (arith, next, reads.place);
@@ -261,8 +259,8 @@ module _ (options : Options) (t : List ℕ) (old mid : LinesRead) where
 
       value_by : (all : List ℕ) (r : Result SceneEvent LineFault) → event_replayed all d given event ≡ r → (base : List SceneEvent) → is_begun base ≡ old.is_begun → line_read (behind base old) (line_replayed options all t) ≡ lines_with (behind base old) (event_line r)
       value_by all r loaded base is =
-          let made : event_replayed all (decider_for options old.run.config) stored event ≡ r = subst (λ x. event_replayed all x stored event ≡ r) decides_so (subst (λ s. event_replayed all d s event ≡ r) given_is loaded) in
-          value_is (makes all) base is ∙ ap (λ x. lines_with (behind base old) (with_made (makes all (before_next old)) (Ok (x, stored)))) says_it ∙ ap (λ x. lines_with (behind base old) (event_line x)) made
+          let made : event_replayed all (decider_for options old.run.config) stored event ≡ r = rw (decides_so, given_is) at loaded in
+          rw (value_is (makes all) base is, says_it, made) refl
 
       -- its outputs were not loaded
       not_loaded : (all file : List ℕ) (f : LineFault) (told : Fault) → told ≡ fault_of_read (fault.Line old.next f) → event_replayed all d given event ≡ Err f → IsLineFault file old (line_replayed options all t) told
@@ -280,8 +278,7 @@ module _ (options : Options) (t : List ℕ) (old mid : LinesRead) where
 
       pub loaded_counted : (old_count new_count : ℕ) → new_count ≡ counted old_count (needed_of d event given) → CountsLine options old t old_count new_count
       loaded_counted old_count new_count is more =
-          let needs : needed_for options (before_next old) (recorded_line (before_next old) t) ≡ needed_of d event given =
-          ap (needed_for options (before_next old)) read.1 ∙ ap (needed_by options (before_next old) stored) says_it ∙ ap (λ x. needed_of x event stored) (sym decides_so) ∙ ap (needed_of d event) (sym given_is) in
+          let needs : needed_for options (before_next old) (recorded_line (before_next old) t) ≡ needed_of d event given = rw (read.1, says_it, decides_so, given_is) refl in
           omega (arith, is, needs)
 
       -- they were

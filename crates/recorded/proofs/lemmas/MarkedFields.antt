@@ -1,19 +1,18 @@
 -- What a reference begins with begins no value of any other kind of field.
-use Rattle.std.proofs.Common.{◌≡◌, ℕ, List, [], ◌∷◌, true, false, drop, replicate, refl, arith, Option, None, inl, inr, ◌⊎◌}
+use Rattle.std.proofs.Common.{◌≡◌, ℕ, List, [], ◌∷◌, true, false, drop, refl, arith, Option, None, inl, inr, ◌⊎◌}
 use Rattle.std.specs.Prelude.{nat_eq}
-use Rattle.std.specs.List.{list_all, onto_first, starts_with}
+use Rattle.std.specs.List.{list_all, starts_with}
 use Rattle.std.specs.Option.{option_flatten}
 use Rattle.std.proofs.lemmas.Bool.{and_right, cases_Bool}
 use Rattle.std.proofs.lemmas.Bool.Decides.{nat_tests}
 use Rattle.uuid.specs.Text.{by_index, digits_of, is_hex_digit, parsed, parsed_hyphenated, parsed_simple}
-use Rattle.run_model.specs.Stats.{planned_stats}
-use Rattle.scene_fields.specs.Counts.{Counted, Row, counts_in, in_turn, no_skips, pair_in, row_in, skips_in, skips_rows, stats_in, stats_rows}
+use Rattle.scene_fields.specs.Counts.{in_turn, skips_in, stats_in}
 use Rattle.scene_fields.specs.Numbers.{code_in, nanos_in, number_in}
 use Rattle.scene_fields.specs.References.{after_mark, mark, reference_in}
 use Rattle.scene_fields.specs.Results.{result_in}
 use Rattle.scene_fields.specs.Split.{cut, split_on}
 use Rattle.scene_fields.specs.Values.{stress_in}
-use Rattle.scene_text.specs.Parts.{highlight_in, highlight_of, moment_in, progress_in, result_or_none_in, state_in}
+use Rattle.scene_text.specs.Parts.{highlight_in, moment_in, progress_in, result_or_none_in, state_in}
 
 -- what a reference begins with
 begins : (t : List ℕ) → starts_with nat_eq t mark ≡ true → t ≡ 92 ∷ 64 ∷ drop 2 t

@@ -1,12 +1,12 @@
 -- The decider skips an event of a scene just where it skips the event of a reporter that the call has.
-use Rattle.std.proofs.Common.{◌≡◌, Bool, true, false, not, Some, refl}
+use Rattle.std.proofs.Common.{◌≡◌}
 use native.Mathlib.Omega.{arith}
 use Rattle.run_model.specs.Statuses.{summary_of}
 use Rattle.run_model.specs.declared.event.TestEventKind.{TestEventKind}
-use Rattle.reporter_state.specs.Loads.{load_if, loads_finish}
+use Rattle.reporter_state.specs.Loads.{loads_finish}
 use Rattle.reporter_state.specs.Metadata.{loads_last}
 use Rattle.reporter_state.proofs.lemmas.Metadata.{loads_last-same}
-use Rattle.reporter_state.specs.Unread.{is_skip, is_skipped}
+use Rattle.reporter_state.specs.Unread.{is_skipped}
 use Rattle.reporter_state.specs.declared.decider.OutputLoadDecider.{OutputLoadDecider}
 use Rattle.scene_events.specs.Scenes.{SaysSame}
 use Rattle.scene_events.specs.declared.scene.event.SceneEvent.{SceneEvent}

@@ -26,7 +26,6 @@ use Rattle.scene_events.specs.declared.scene.SceneConfig.{SceneConfig}
 use Rattle.scene_events.specs.declared.scene.event.SceneEvent.{SceneEvent}
 use Rattle.scene_events.specs.declared.scene.event.SceneEvent.TheVariants as event
 use Rattle.scene_events.specs.declared.scene.outputs.SceneOutput.{SceneOutput}
-use Rattle.scene_events.specs.declared.scene.outputs.SceneOutput.TheVariants.{Output, StartError}
 use Rattle.scene_events.specs.declared.scene.unit_events.SceneTest.{SceneTest}
 use Rattle.scene_events.specs.declared.scene.unit_events.UnitAnswer.{UnitAnswer}
 use Rattle.scene_fields.specs.Fields.{◌>>=◌, Line, Place, exactly, none_noted, noted_outputs, says}

@@ -17,7 +17,6 @@ use Rattle.run_model.specs.declared.status.RetryData.{RetryData}
 use Rattle.run_names.specs.declared.time.Nanos.{Nanos}
 use Rattle.scene_events.specs.SceneOutputs.{loaded, written}
 use Rattle.scene_events.specs.declared.scene.outputs.SceneOutput.{SceneOutput}
-use Rattle.scene_events.specs.declared.scene.outputs.SceneOutput.TheVariants.{Output, StartError}
 use Rattle.scene_fields.specs.Fields.{Line, Noted, next_stored, stored_among, valued, with_noted}
 use Rattle.scene_fields.specs.References.{after_mark, reference_in}
 use Rattle.scene_fields.specs.Stored.{is_reference, stored_output_in, stored_split, stored_stream_in}

@@ -1,7 +1,6 @@
 -- When bytes that were read are the stream that a reference names.
 use Rattle.std.proofs.Common.{◌≡◌, ◌≢◌, ℕ, ◌<◌, ◌≤◌, ◌↔◌, IsTrue, List, length, take, drop, Bool, true, false, Option, None, Some, IfSome, Result, Ok, Err, ap, sym, ◌∙◌, arith}
 use Rattle.std.specs.Result.{IsErrAnd}
-use Rattle.std.specs.Str.{bytes_eq}
 use Rattle.std.proofs.lemmas.Bool.Decides.{nat_tests}
 use Rattle.std.proofs.lemmas.Slice.Eq.{bytes_eq-Decides}
 use Rattle.scene_fields.specs.declared.reference.Reference.{Reference}
