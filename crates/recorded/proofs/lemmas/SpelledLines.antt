@@ -1,5 +1,5 @@
 -- A recorded line, spelled out, is read to the event with its outputs in it (`line_law`).
-use Rattle.std.proofs.Common.{◌≡◌, ℕ, true, false, List, [], ◌∷◌, Option, None, Some, Result, Ok, Err, refl, sym, ap, ◌∙◌, bytes_eq, codes, inl, inr}
+use Rattle.std.proofs.Common.{◌≡◌, ℕ, true, false, List, [], ◌∷◌, Option, None, Some, Result, Ok, Err, refl, sym, ap, ◌∙◌, bytes_eq, codes, inl, inr, ◌++◌, map}
 use native.Mathlib.Omega.{arith}
 use Rattle.std.specs.Result.{result_map_both}
 use Rattle.std.specs.Str.{is_utf8}
@@ -8,9 +8,9 @@ use Rattle.recorded.proofs.lemmas.MarkedFields.{marked_iteration, marked_moment,
 use Rattle.recorded.proofs.lemmas.SpelledAttempts.{TestAttempts, attempts_inline, attempts_read}
 use Rattle.recorded.proofs.lemmas.SpelledOutputs.{attempt_loads, attempt_reads, output_loads, output_reads}
 use Rattle.recorded.proofs.lemmas.SpelledPlaces.{Change, Follows, HasNoted, HasOutput, Read, Reads, Refused, RowsRead, Same, by_row_reads, either_reads, exactly_reads, fields_read, if_reads, made_reads, next_reads, next_unmarked, output_made_reads, place_spelled, then_spells, turned_follows, with_attempts_reads, with_put}
-use Rattle.recorded.proofs.lemmas.SpelledTexts.{line_fields, line_passed_over, line_utf8, passed_over_line, scene_reads}
+use Rattle.recorded.proofs.lemmas.SpelledTexts.{line_fields, line_passed_over, line_utf8, passed_over_line, lines_of_scene}
 use Rattle.recorded.specs.Events.{event_inline, output_inline}
-use Rattle.recorded.specs.Runs.{lines_inline}
+use Rattle.recorded.specs.Runs.{ended_lines, line_inline, lines_inline}
 use Rattle.recorded.specs.SpelledOut.{AreBytes, line_spelled, scene_spelled}
 use Rattle.run_model.specs.Attempts.{Attempt}
 use Rattle.run_model.specs.declared.info.UnitState.{UnitState}
@@ -38,7 +38,8 @@ use Rattle.scene_fields.specs.declared.values.ConfigKey.{ConfigKey}
 use Rattle.scene_fields.specs.declared.values.ConfigKey.TheVariants as key
 use Rattle.scene_fields.specs.Stored.{placed}
 use Rattle.scene_text.specs.EventLines.{all_attempts, attempt_fields, answer_fields, config_line_fields, event_line_fields, event_rows, made, other_event_rows, retry_fields, run_event_rows, script_fields, set_field, state_fields, test_fields, unique_prefix_fields, unknown}
-use Rattle.scene_text.specs.SceneTexts.{ConfigLine, EventLine, LinesBefore, NoEvent, ParsedLine, ParsedLines, config_words, is_passed_over, line_from, line_place, line_words, lines_read, no_lines, parsed_line, recorded_line, text_lines, with_made, words_behind}
+use Rattle.scene_text.proofs.lemmas.Tellings.{all_tell, all_told}
+use Rattle.scene_text.specs.SceneTexts.{AllRead, ConfigLine, EventLine, LinesBefore, NoEvent, ParsedLine, ParsedLines, config_words, is_passed_over, line_from, line_place, line_read, line_words, lines_before, lines_read, lines_with, no_lines, parsed_line, plain_line, recorded_line, text_lines, with_made, words_behind}
 
 -- the values of all kinds of field
 ruleset values = (marked_number, marked_nanos, marked_run_id, marked_stress, marked_iteration, marked_stats, marked_skips, marked_result_or_none, marked_state, marked_progress, marked_moment)
@@ -208,6 +209,25 @@ module _ (all : List ℕ) where
           ]
         ]
 
+-- what is read of an empty line, which stands behind the last one
+empty_read : (before : ParsedLines) → line_read before (plain_line []) ≡ Ok before
+unfolding line_read line_from
+empty_read before = refl
+
+-- the same of lines in turn
+module _ (all : List ℕ) (bytes : AreBytes all) where
+  line_alike : (before after : ParsedLines) (t : List ℕ) (found : Result (ParsedLine × List PlacedOutput) LineFault) → recorded_line (lines_before before) t ≡ found →
+      line_read before (line_inline all t) ≡ Ok after → line_read before (plain_line (line_spelled all t)) ≡ Ok after
+  unfolding line_read
+  line_alike before after t (Ok x) is h = ap (lines_with before) (line_law all bytes (lines_before before) t x is ∙ ap (as_inline all bytes) (sym is)) ∙ h
+  line_alike before after t (Err f) is h = let wrong : ◌≡◌ {A = Result ParsedLines LineFault} (Err f) (Ok after) = rw is at h in absurd (cc)
+
+  lines_alike : (before after : ParsedLines) (ts : List (List ℕ)) → AllRead before (map (line_inline all) ts) after → AllRead before (map plain_line (map (line_spelled all) ts ++ [] ∷ [])) after
+  lines_alike before after [] h = (before, empty_read before, h)
+  lines_alike before after (t ∷ ts) h = (h.0, line_alike before h.0 t (recorded_line (lines_before before) t) refl h.1, lines_alike h.0 after ts h.2)
+
 -- a recorded run with its outputs put in is read as the text of a scene in which they are spelled out
 pub scene_law : (all text : List ℕ) → AreBytes all → (run : ParsedLines) → lines_read 1 no_lines (lines_inline all text) ≡ Ok run → lines_read 1 no_lines (text_lines (scene_spelled all text)) ≡ Ok run
-scene_law = scene_reads line_law
+scene_law all text bytes run h =
+    let whole = all_tell 1 no_lines (lines_inline all text) run h in
+    ap (λ ts. lines_read 1 no_lines (map plain_line ts)) (lines_of_scene all text) ∙ all_told 1 no_lines _ run (lines_alike all bytes no_lines run (ended_lines text) whole)

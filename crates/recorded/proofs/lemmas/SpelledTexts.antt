@@ -1,5 +1,5 @@
 -- Lines whose outputs are spelled out, and the text that they make.
-use Rattle.std.proofs.Common.{◌≡◌, ℕ, ◌+◌, ◌<◌, List, [], ◌∷◌, ◌++◌, map, length, true, false, get_or, drop, refl, ap, sym, ◌∙◌, subst, arith, None, Result, Ok, Err, inl, inr, ◌==◌}
+use Rattle.std.proofs.Common.{◌≡◌, ℕ, ◌+◌, ◌<◌, List, [], ◌∷◌, ◌++◌, map, length, true, false, get_or, drop, refl, ap, sym, ◌∙◌, subst, arith, None, inl, inr, ◌==◌}
 use Rattle.std.specs.Str.{IsUtf8, is_utf8}
 use Rattle.std.proofs.Math.Seq.{drop-append-add, get_or-append_seam, take-append_seam}
 use Rattle.std.proofs.lemmas.Bool.{cases_Bool}
@@ -9,16 +9,12 @@ use Rattle.std.proofs.lemmas.Str.{IsCharBoundary-after_ascii, IsCharBoundary-bef
 use Rattle.recorded.proofs.lemmas.MarkedFields.{marked}
 use Rattle.recorded.proofs.lemmas.SpelledBytes.{field_lacks_feed, field_lacks_tab, field_utf8}
 use Rattle.recorded.proofs.lemmas.WholeLines.{NoneHas, lacks-append, pieces}
-use Rattle.recorded.specs.Events.{event_inline}
-use Rattle.recorded.specs.Runs.{ended_lines, line_inline, lines_inline, without_last}
-use Rattle.recorded.specs.SpelledOut.{AreBytes, field_spelled, line_spelled, scene_spelled, tabbed, text_of_lines}
+use Rattle.recorded.specs.Runs.{ended_lines, without_last}
+use Rattle.recorded.specs.SpelledOut.{field_spelled, line_spelled, scene_spelled, tabbed, text_of_lines}
 use Rattle.scene_fields.proofs.lemmas.Cuts.{split_on-lacks, split_on-parts}
 use Rattle.scene_fields.specs.References.{reference_in}
 use Rattle.scene_fields.specs.Split.{Lacks, split_on}
-use Rattle.scene_fields.specs.declared.fault.LineFault.{LineFault}
-use Rattle.scene_fields.specs.declared.stored.PlacedOutput.{PlacedOutput}
-use Rattle.scene_text.proofs.lemmas.Tellings.{all_tell, all_told}
-use Rattle.scene_text.specs.SceneTexts.{AllRead, LinesBefore, ParsedLine, ParsedLines, is_passed_over, line_from, line_read, lines_before, lines_read, lines_with, no_lines, parsed_line, plain_line, recorded_line, text_lines, with_made}
+use Rattle.scene_text.specs.SceneTexts.{is_passed_over}
 
 -- fields that tabs part are the pieces at the tabs
 split_tabbed : (t : List ℕ) (ts : List (List ℕ)) → Lacks 9 t → NoneHas 9 ts → split_on 9 (tabbed (t ∷ ts)) ≡ t ∷ ts
@@ -127,34 +123,3 @@ ended_lines_lack text = let p = pieces 10 text in subst (λ ts. NoneHas 10 (with
 
 pub lines_of_scene : (all text : List ℕ) → split_on 10 (scene_spelled all text) ≡ map (line_spelled all) (ended_lines text) ++ [] ∷ []
 lines_of_scene all text = scene_lines (map (line_spelled all) (ended_lines text)) (none_has_map 10 (line_spelled all) (line_lacks_feed all) (ended_lines text) (ended_lines_lack text))
-
--- what is read of an empty line, which stands behind the last one
-empty_read : (before : ParsedLines) → line_read before (plain_line []) ≡ Ok before
-unfolding line_read line_from
-empty_read before = refl
-
--- a line with its outputs put in, and the same line spelled out
-abbrev pub LineLaw : List ℕ → Type 0
-LineLaw all = (before : LinesBefore) (t : List ℕ) (x : ParsedLine × List PlacedOutput) → recorded_line before t ≡ Ok x → parsed_line before (line_spelled all t) ≡ with_made (λ stored e. Ok (event_inline all stored e)) (Ok x)
-
-module _ (all : List ℕ) (line_law : LineLaw all) where
-  line_alike : (before after : ParsedLines) (t : List ℕ) (found : Result (ParsedLine × List PlacedOutput) LineFault) → recorded_line (lines_before before) t ≡ found →
-      line_read before (line_inline all t) ≡ Ok after → line_read before (plain_line (line_spelled all t)) ≡ Ok after
-  unfolding line_read
-  line_alike before after t (Ok x) is h =
-      ap (lines_with before) (line_law (lines_before before) t x is ∙ ap (with_made (λ stored e. Ok (event_inline all stored e))) (sym is)) ∙ h
-  line_alike before after t (Err f) is h = let wrong : ◌≡◌ {A = Result ParsedLines LineFault} (Err f) (Ok after) = rw is at h in absurd (cc)
-
-  lines_alike : (before after : ParsedLines) (ts : List (List ℕ)) → AllRead before (map (line_inline all) ts) after → AllRead before (map plain_line (map (line_spelled all) ts ++ [] ∷ [])) after
-  lines_alike before after [] h = (before, empty_read before, h)
-  lines_alike before after (t ∷ ts) h = (h.0, line_alike before h.0 t (recorded_line (lines_before before) t) refl h.1, lines_alike h.0 after ts h.2)
-
-  spelled_reads : (text : List ℕ) (run : ParsedLines) → lines_read 1 no_lines (lines_inline all text) ≡ Ok run → lines_read 1 no_lines (text_lines (scene_spelled all text)) ≡ Ok run
-  spelled_reads text run h =
-      let whole = all_tell 1 no_lines (lines_inline all text) run h in
-      ap (λ ts. lines_read 1 no_lines (map plain_line ts)) (lines_of_scene all text) ∙ all_told 1 no_lines _ run (lines_alike no_lines run (ended_lines text) whole)
-
--- a recorded run with its outputs put in is read as the text of a scene in which they are spelled out
-module _ (line_law : (all : List ℕ) → AreBytes all → LineLaw all) where
-  pub scene_reads : (all text : List ℕ) → AreBytes all → (run : ParsedLines) → lines_read 1 no_lines (lines_inline all text) ≡ Ok run → lines_read 1 no_lines (text_lines (scene_spelled all text)) ≡ Ok run
-  scene_reads all text bytes run h = spelled_reads all (line_law all bytes) text run h
