@@ -51,6 +51,7 @@ answer_loads captured answer = answer_with captured answer
 abbrev answer_made : UnitState × Option ExecutionResultDescription → SceneOutput → UnitAnswer
 answer_made read output = record { state = read.0; output = written read.1 output }
 
+-- output put into it is put into the answer
 answer_puts : (read : UnitState × Option ExecutionResultDescription) (captured : ChildOutputDescription) (output : SceneOutput) →
     answer_made read (output_loads captured output) ≡ answer_loads captured (answer_made read output)
 answer_puts read captured output = grind arith
@@ -176,6 +177,7 @@ module _ (all : List ℕ) where
       words_read : (word : List ℕ) → Reads all (HasNoted line_inlined) (words_behind before word)
       words_read word = either_reads all (bytes_eq word (codes "config")) config_line_reads (event_line_reads word)
 
+      -- no reference is a word
       words_refuse : (u : List ℕ) (p : Place) → Refused (words_behind before (92 ∷ 64 ∷ u) p)
       unfolding event_rows other_event_rows run_event_rows
       words_refuse u p = tt
@@ -184,6 +186,7 @@ module _ (all : List ℕ) where
         abbrev recorded_place : Place
         recorded_place = line_place (Some none_noted) t
 
+        -- by what is read of its fields
         line_follows : (x : ParsedLine × List PlacedOutput) → is_passed_over t ≡ false → is_utf8 t ≡ true → (r : Read ParsedLine) → line_words before recorded_place ≡ r →
             Follows all (HasNoted line_inlined) (Some none_noted) r (line_words before (place_spelled all recorded_place)) → result_map_both (λ y. (y.0, noted_outputs y.1.noted)) (λ f. f) r ≡ Ok x →
             parsed_line before (line_spelled all t) ≡ as_inline (Ok x)

@@ -34,6 +34,7 @@ words_kept : (all : List ℕ) →
 unfolding reference_in after_mark
 words_kept all = (refl, refl, refl, refl)
 
+-- what comes of a test that holds
 chosen : {X : Type 0} (b : Bool) (x y : X) → (if b then Some x else None) ≡ Some y → y ≡ x
 chosen true x y h = cc
 chosen false x y h = absurd (cc)

@@ -50,6 +50,7 @@ HasNoted put old x new y = old ≡ Some none_noted → y ≡ put (noted_outputs 
 abbrev pub Read : Type 0 → Type 0
 Read X = Result (X × Place) LineFault
 
+-- there is no value
 abbrev pub Refused : {X : Type 0} → Read X → Type 0
 Refused (Ok x) = ⊥
 Refused (Err f) = ⊤
@@ -60,6 +61,7 @@ Follows all change old (Err f) r = ⊤
 Follows {X} all change old (Ok x) r = (y : X) × change old x.0 x.1.noted y × (r ≡ Ok (y, place_spelled all x.1))
 
 module _ (all : List ℕ) where
+  -- where there is none, anything follows
   refused_follows : {X : Type 0} (change : Change X) (old : Option Noted) (r s : Read X) → Refused r → Follows all change old r s
   refused_follows change old (Ok x) s h = absurd h
   refused_follows change old (Err f) s h = tt
@@ -89,6 +91,7 @@ module _ (all : List ℕ) where
   abbrev pub Reads : {X : Type 0} → Change X → Line X → Type 0
   Reads change line = Spells change line line
 
+  -- a value, and two readers in turn, of which the first one reads no output
   pub says_spells : {X : Type 0} (make : X → X) (x : X) → Spells (Becomes make) (says x) (says (make x))
   says_spells make x = record { each = λ p. (make x, record { noted = refl; value = refl }, refl) }
 
