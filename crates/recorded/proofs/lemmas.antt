@@ -1,9 +1,9 @@
 pub mod Fields
 pub mod Inline
-pub mod KeptFields
 pub mod LeftLines
-pub mod LoadedLines
 pub mod Loaded
+pub mod LoadedLines
+pub mod MarkedFields
 pub mod Reports
 pub mod Rows
 pub mod Skipped

@@ -142,6 +142,7 @@ impl<O: ReadAt + Drop> RecordedOutputs<O> {
     /// assert_eq!(stream.as_slice(), b"failed\n".as_slice());
     /// assert_eq!(outputs.bytes_read(), 7);
     /// ```
+    #[tactic(auto, using(crate::proofs::lemmas::Streams::not_there, crate::proofs::lemmas::Streams::same_read, crate::proofs::lemmas::Streams::other_read))]
     pub fn load(&mut self, alloc: Global, reference: &Reference) -> Result<Bytes, LoadFault>
         ensures loaded { IfSome (O.recorded self.old.source) (λ all. IsLoaded all reference.now result) }
         ensures sum { IfOk result (HasSum reference.now) }

@@ -1,5 +1,5 @@
 -- What is left of a recorded run, line by line (for `read_next`).
-use Rattle.std.proofs.Common.{◌≡◌, ℕ, ◌+◌, Bool, true, false, List, [], ◌∷◌, ◌++◌, Option, Some, Result, Ok, Err, map, refl, sym, ap, ◌∙◌, subst, append_assoc, inl, inr}
+use Rattle.std.proofs.Common.{◌≡◌, ℕ, ◌+◌, Bool, true, false, List, [], ◌∷◌, ◌++◌, Option, Some, Result, Ok, Err, map, refl, sym, ap, ◌∙◌, append_assoc, arith, inl, inr}
 use Rattle.command_line.specs.declared.args.Options.{Options}
 use Rattle.command_line.specs.declared.fault.Fault.{Fault}
 use Rattle.recorded.proofs.lemmas.LoadedLines.{before_is, behind, one_read}
@@ -7,38 +7,25 @@ use Rattle.recorded.proofs.lemmas.WholeLines.{ended_lines-more}
 use Rattle.recorded.specs.Events.{event_replayed}
 use Rattle.recorded.specs.NextLines.{CountsLine, IsNextLine, LeavesLine}
 use Rattle.recorded.specs.Outputs.{counted}
-use Rattle.recorded.specs.Runs.{before_behind, before_rest, line_replayed, lines_replayed, needed, needed_for, ended_lines}
+use Rattle.recorded.specs.Runs.{before_rest, line_replayed, lines_replayed, needed, needed_for, ended_lines}
 use Rattle.recorded.specs.Source.{IsLeft}
 use Rattle.scene_events.specs.declared.scene.event.SceneEvent.{SceneEvent}
 use Rattle.scene_fields.specs.declared.fault.LineFault.{LineFault}
 use Rattle.scene_fields.specs.declared.stored.PlacedOutput.{PlacedOutput}
-use Rattle.scene_text.specs.SceneTexts.{ConfigLine, EventLine, LinesBefore, NoEvent, ParsedLine, ParsedLines, ReadsLines, RunLine, before_next, event_line, is_begun, line_read, lines_before, lines_with, recorded_line, with_line, with_made}
+use Rattle.scene_text.proofs.lemmas.Tellings.{reads_none}
+use Rattle.scene_text.specs.SceneTexts.{ParsedLine, ParsedLines, ReadsLines, RunLine, before_next, line_read, lines_before, lines_with, recorded_line, with_made}
 use Rattle.scene_text.specs.declared.reader.LinesRead.{LinesRead}
 use Rattle.scenes.proofs.lemmas.ReadLines.{begun_by, further as with_more, next_fault}
 use Rattle.scenes.specs.Read.{HasReadLines, IsMore}
 use Rattle.scenes.specs.Reports.{decider_for}
 
 -- what stands before the line behind one that tells
-before_made : (run after : ParsedLines) (made : Result SceneEvent LineFault) (e : SceneEvent) → lines_with run (event_line made) ≡ Ok after → lines_before after ≡ before_behind (lines_before run) (EventLine e)
-before_made run after (Ok made) e h =
-    let same : with_line run (EventLine made) ≡ after = cc in
-    ap lines_before (sym same) ∙ ap (λ b. record { config = run.config; is_begun = b }) (begun_by run.events made)
-before_made run after (Err f) e h = absurd (cc)
-
 before_so : (run after : ParsedLines) (make : List PlacedOutput → SceneEvent → Result SceneEvent LineFault) (says : Result (ParsedLine × List PlacedOutput) LineFault) → lines_with run (with_made make says) ≡ Ok after → lines_before after ≡ before_rest (lines_before run) says
-before_so run after make (Ok (NoEvent, stored)) h = let same : run ≡ after = cc in ap lines_before (sym same)
-before_so run after make (Ok (ConfigLine c, stored)) h = let same : with_line run (ConfigLine c) ≡ after = cc in ap lines_before (sym same)
-before_so run after make (Ok (EventLine e, stored)) h = before_made run after (make stored e) e h
-before_so run after make (Err f) h = absurd (cc)
+before_so run after make says h = grind (arith, begun_by)
 
 before_others : (options : Options) (all : List ℕ) (run after : ParsedLines) (t : List ℕ) → line_read run (line_replayed options all t) ≡ Ok after → lines_before after ≡ before_rest (lines_before run) (recorded_line (lines_before run) t)
 unfolding line_read
 before_others options all run after t h = before_so run after (λ stored e. event_replayed all (decider_for options run.config) stored e) (recorded_line (lines_before run) t) h
-
--- what the first line needs, and the others
-needed_first : (options : Options) (before : LinesBefore) (t : List ℕ) (ts : List (List ℕ)) → needed options before (t ∷ ts) ≡ needed_for options before (recorded_line before t) + needed options (before_rest before (recorded_line before t)) ts
-unfolding needed
-needed_first options before t ts = refl
 
 module _ (file : List ℕ) (total : ℕ) (options : Options) (all front : List RunLine) (before : ParsedLines) (old : LinesRead) (recorded remaining : Option (List ℕ)) (count : ℕ) where
   abbrev Left : ParsedLines → List RunLine → Type 0
@@ -52,32 +39,22 @@ module _ (file : List ℕ) (total : ℕ) (options : Options) (all front : List R
 
     module _ (recorded_new remaining_new : Option (List ℕ)) (kept : recorded_new ≡ recorded) (line : List ℕ) where
       -- no line is left
-      pub none_left : ((text : List ℕ) → remaining ≡ Some text → IsNextLine text false line remaining_new) → (new : LinesRead) → new ≡ old → HasReadLines file all front before new (Ok false) (IsLeft total options recorded_new remaining_new count)
-      none_left next new same =
+      pub none_left : ((text : List ℕ) → remaining ≡ Some text → IsNextLine text false line remaining_new) → HasReadLines file all front before old (Ok false) (IsLeft total options recorded_new remaining_new count)
+      none_left next =
           let left = has.more_is in
           let ends = next left.text left.rest in
           let none : has.left ≡ [] = left.is ∙ ap (map (line_replayed options left.all)) ends.0 in
-          subst (λ r. HasReadLines file all front before r (Ok false) (IsLeft total options recorded_new remaining_new count)) (sym same) (record {
-            lines = has.lines;
-            left = has.left;
-            whole = has.whole;
-            forgotten = has.forgotten;
-            tells = has.tells;
-            noted = has.noted;
-            place = has.place;
-            begun = has.begun;
-            more_is = (
-              inr (none, refl),
-              record {
-                all = left.all;
-                text = ends.1.0;
-                outputs = kept ∙ left.outputs;
-                rest = ends.1.1;
-                is = ap (map (line_replayed options left.all)) (sym ends.1.2);
-                counts = left.counts ∙ ap (λ ts. counted count (needed options (lines_before (behind before.events old)) ts)) (ends.0 ∙ sym ends.1.2);
-              },
-            );
-          })
+          further old [] has.left refl (reads_none old) (Ok false) (IsLeft total options recorded_new remaining_new count) (
+            inr (none, refl),
+            record {
+              all = left.all;
+              text = ends.1.0;
+              outputs = kept ∙ left.outputs;
+              rest = ends.1.1;
+              is = ap (map (line_replayed options left.all)) (sym ends.1.2);
+              counts = left.counts ∙ ap (λ ts. counted count (needed options (lines_before (behind before.events old)) ts)) (ends.0 ∙ sym ends.1.2);
+            },
+          )
 
       -- the next one is there
       module _ (next : (text : List ℕ) → remaining ≡ Some text → IsNextLine text true line remaining_new) (new : LinesRead) where
@@ -99,13 +76,14 @@ module _ (file : List ℕ) (total : ℕ) (options : Options) (all front : List R
         -- and was read
         pub line_is_read : (count_new : ℕ) → ((outputs : List ℕ) → recorded ≡ Some outputs → ReadsLines old new (line_replayed options outputs line ∷ [])) → CountsLine options old line count count_new →
             HasReadLines file all front before new (Ok true) (IsLeft total options recorded_new remaining_new count_new)
+        unfolding needed
         line_is_read count_new reads counts =
             let read = reads all_outputs has.more_is.outputs in
             let b = lines_before (behind before.events old) in
             let says = recorded_line b line in
             let then : lines_before (behind before.events new) ≡ before_rest b says =
             before_others options all_outputs (behind before.events old) (behind before.events new) line (one_read old new (line_replayed options all_outputs line) read before.events has.begun) in
-            let needs : needed options b (ended_lines has.more_is.text) ≡ needed_for options b says + needed options (before_rest b says) (ended_lines more) = ap (needed options b) lines_are ∙ needed_first options b line (ended_lines more) in
+            let needs : needed options b (ended_lines has.more_is.text) ≡ needed_for options b says + needed options (before_rest b says) (ended_lines more) = ap (needed options b) lines_are in
             let here : needed_for options (before_next old) (recorded_line (before_next old) line) ≡ needed_for options b says = ap (λ x. needed_for options x (recorded_line x line)) (sym (before_is before.events old has.begun)) in
             further new (line_replayed options all_outputs line ∷ []) others left_is read (Ok true) (IsLeft total options recorded_new remaining_new count_new) (record {
               all = all_outputs;

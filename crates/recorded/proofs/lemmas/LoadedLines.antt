@@ -1,10 +1,9 @@
 -- A line as it is read, and as it is replayed (for `read_line`, `read_and_load`).
-use Rattle.std.proofs.Common.{◌≡◌, ◌⊎◌, ℕ, ◌+◌, ◌<◌, ◌≤◌, Bool, true, false, List, [], ◌∷◌, ◌++◌, Option, Some, Result, Ok, Err, length, take, get_or, refl, sym, ap, ◌∙◌, subst, arith, ◌==◌, append_assoc, append-nil, inl, inr, if◌then◌else◌}
-use Rattle.std.specs.Prelude.{IfErr, IfSome, OnErr, nat_lt}
+use Rattle.std.proofs.Common.{◌≡◌, ◌⊎◌, ℕ, ◌+◌, ◌<◌, ◌≤◌, Bool, true, false, List, [], ◌∷◌, ◌++◌, Option, Some, Result, Ok, Err, length, take, get_or, refl, sym, ap, ◌∙◌, subst, arith, ◌==◌, append_assoc, append-nil, inl, inr}
+use Rattle.std.specs.Prelude.{IfErr, IfSome, OnErr}
 use Rattle.std.specs.Result.{IsErrAnd}
 use Rattle.std.proofs.Math.ListN.{set}
-use Rattle.std.proofs.Math.Seq.{take-append_seam}
-use Rattle.std.proofs.lemmas.Bool.{cases_Bool}
+use Rattle.std.proofs.Math.Seq.{get_or-append_seam, set-append_seam, take-append_seam}
 use Rattle.std.proofs.lemmas.Bool.Decides.{nat_tests}
 use Rattle.std.proofs.lemmas.List.{append_cancel_left, length-append, nil_from_length, take-set}
 use Rattle.command_line.specs.Faults.{fault_of_read}
@@ -15,7 +14,6 @@ use Rattle.recorded.specs.Events.{IfDamaged, IsReplayed, event_replayed, needed_
 use Rattle.recorded.specs.NextLines.{CountsLine, IsFaultOfLoad, IsLineFault, KeepsRead, LeavesLine}
 use Rattle.recorded.specs.Outputs.{counted}
 use Rattle.recorded.specs.Runs.{line_replayed, needed_by, needed_for}
-use Rattle.recorded.specs.Skips.{skips}
 use Rattle.recorded.specs.declared.events.LoadEventFault.{LoadEventFault}
 use Rattle.recorded.specs.declared.outputs.LoadFault.{LoadFault}
 use Rattle.recorded.specs.declared.outputs.LoadFault.TheVariants as load
@@ -106,7 +104,7 @@ leaves_next file old new line f reads (inr (g, is, next)) =
         rest = line ∷ [];
         whole = refl;
         reads = reads;
-        wrong = λ base begun. subst (λ run. IsNextFault new.next run (line ∷ []) g) (reads.tells base begun) (subst (λ n. IsNextFault n (behind base old) (line ∷ []) g) (sym here) (next base begun));
+        wrong = λ base begun. rw (here, ← reads.tells base begun) (next base begun);
       },
     )
 
@@ -119,84 +117,33 @@ as_read stored e = Ok e
 
 -- a line that is wrong as it is read is as wrong with more made of it
 wrong_value : (make : Makes) (says : Result (ParsedLine × List PlacedOutput) LineFault) (run : ParsedLines) (f : LineFault) → lines_with run (with_made as_read says) ≡ Err f → lines_with run (with_made make says) ≡ Err f
-wrong_value make (Ok (NoEvent, stored)) run f h = absurd (cc)
-wrong_value make (Ok (ConfigLine c, stored)) run f h = absurd (cc)
-wrong_value make (Ok (EventLine e, stored)) run f h = absurd (cc)
-wrong_value make (Err g) run f h = h
+wrong_value make says run f h = grind arith
 
--- where no more is made of its event, it is as it is read
-same_value : (make : Makes) (x : ParsedLine) (stored : List PlacedOutput) → ((e : SceneEvent) → x ≡ EventLine e → make stored e ≡ Ok e) → with_made make (Ok (x, stored)) ≡ with_made as_read (Ok (x, stored))
-same_value make NoEvent stored same = refl
-same_value make (ConfigLine c) stored same = refl
-same_value make (EventLine e) stored same = ap (λ r. with_made (λ s x. r) (Ok (EventLine e, stored))) (same e refl)
+-- where no more is made of its event, it says what it says, and nothing is needed
+same_value : (make : Makes) (x : ParsedLine) (stored : List PlacedOutput) → ((e : SceneEvent) → x ≡ EventLine e → make stored e ≡ Ok e) → with_made make (Ok (x, stored)) ≡ Ok x
+same_value make x stored same = grind (arith, same)
 
 nothing_needed : (options : Options) (before : LinesBefore) (stored : List PlacedOutput) (x : ParsedLine) → ((e : SceneEvent) → x ≡ EventLine e → needed_of (decider_for options before.config) e stored ≡ 0) → needed_by options before stored x ≡ 0
-nothing_needed options before stored NoEvent none = refl
-nothing_needed options before stored (ConfigLine c) none = refl
-nothing_needed options before stored (EventLine e) none = none e refl
-
--- of no stored outputs nothing is made, and nothing is needed
-nothing_made : (all : List ℕ) (d : OutputLoadDecider) (e : SceneEvent) → event_replayed all d [] e ≡ Ok e
-unfolding event_replayed
-nothing_made all d e = elim (cases_Bool (skips d e)) [ inl y ↦ rw y refl | inr n ↦ rw n refl ]
-
-none_needed : (d : OutputLoadDecider) (e : SceneEvent) → needed_of d e [] ≡ 0
-none_needed d e = elim (cases_Bool (skips d e)) [ inl y ↦ rw y refl | inr n ↦ rw n refl ]
-
--- two counts in turn are one of the sum
-counted-twice : (count a b : ℕ) → counted (counted count a) b ≡ counted count (a + b)
-counted-twice count a b = omega arith
+nothing_needed options before stored x none = grind (arith, none)
 
 pub none_in : (ps : List PlacedOutput) (size : ℕ) (none : Bool) → none ≡ (size == 0) → none ≡ true → size ≡ length ps → ps ≡ []
 none_in ps size none says is same =
     let zero_size : size ≡ 0 = (let tested = sym says ∙ is in grind (arith, nat_tests, tested)) in
     nil_from_length ps (sym same ∙ zero_size)
 
--- the event at the end of those that were read, and another in its place
-event_there : (es : List SceneEvent) (e d : SceneEvent) → get_or (es ++ e ∷ []) (length es) d ≡ e
-event_there [] e d = refl
-event_there (x ∷ es) e d = event_there es e d
+-- the events that a value adds
+abbrev events_of : ParsedLine → List SceneEvent
+events_of NoEvent = []
+events_of (ConfigLine c) = []
+events_of (EventLine e) = e ∷ []
 
-event_set : (es : List SceneEvent) (e made : SceneEvent) → set (es ++ e ∷ []) (length es) made ≡ es ++ made ∷ []
-event_set [] e made = refl
-event_set (x ∷ es) e made = ap (λ ys. x ∷ ys) (event_set es e made)
+events_with : (run : ParsedLines) (x : ParsedLine) → (with_line run x).events ≡ run.events ++ events_of x
+events_with run x = grind (arith, append-nil)
 
--- what was added by a line that was read
-record AddsEvent (old mid : LinesRead) (x : ParsedLine) : Type 0 where
-  pub event : SceneEvent
-  pub is : x ≡ EventLine event
-  pub config : mid.run.config ≡ old.run.config
-  pub events : mid.run.events.items ≡ old.run.events.items ++ event ∷ []
-
-record AddsNone (old mid : LinesRead) (x : ParsedLine) : Type 0 where
-  pub none : (e : SceneEvent) → x ≡ EventLine e → ⊥
-  pub events : mid.run.events.items ≡ old.run.events.items
-
-added : (base : List SceneEvent) (old mid : LinesRead) (x : ParsedLine) (stored : List PlacedOutput) → lines_with (behind base old) (with_made as_read (Ok (x, stored))) ≡ Ok (behind base mid) → AddsEvent old mid x ⊎ AddsNone old mid x
-added base old mid NoEvent stored h =
-    let same : behind base old ≡ behind base mid = cc in
-    inr (record { none = λ e is. absurd (cc); events = append_cancel_left base mid.run.events.items old.run.events.items (ap (λ (x : ParsedLines). x.events) (sym same)) })
-added base old mid (ConfigLine c) stored h =
-    let same : with_line (behind base old) (ConfigLine c) ≡ behind base mid = cc in
-    inr (record { none = λ e is. absurd (cc); events = append_cancel_left base mid.run.events.items old.run.events.items (ap (λ (x : ParsedLines). x.events) (sym same)) })
-added base old mid (EventLine e) stored h =
-    let same : with_line (behind base old) (EventLine e) ≡ behind base mid = cc in
-    inl (record {
-      event = e;
-      is = refl;
-      config = ap (λ (x : ParsedLines). x.config) (sym same);
-      events = append_cancel_left base mid.run.events.items (old.run.events.items ++ e ∷ []) (ap (λ (x : ParsedLines). x.events) (sym same) ∙ append_assoc base old.run.events.items (e ∷ []));
-    })
-
-first_is : (t u : RunLine) (ts us : List RunLine) → t ∷ ts ≡ u ∷ us → t ≡ u
-first_is t u ts us h = cc
-
-others_are : (t u : RunLine) (ts us : List RunLine) → t ∷ ts ≡ u ∷ us → ts ≡ us
-others_are t u ts us h = cc
-
-nothing_behind : (front rest : List RunLine) (t : RunLine) (more : List RunLine) → [] ≡ front ++ rest → rest ≡ t ∷ more → ⊥
-nothing_behind [] rest t more none is = (let first : ◌≡◌ {A = List RunLine} [] (t ∷ more) = none ∙ is in cc)
-nothing_behind (u ∷ front) rest t more none is = cc
+is_event : (x : ParsedLine) → 0 < length (events_of x) → (e : SceneEvent) × (x ≡ EventLine e)
+is_event NoEvent some = absurd (omega arith)
+is_event (ConfigLine c) some = absurd (omega arith)
+is_event (EventLine e) some = (e, refl)
 
 -- a line, and what a replay with these options makes of its event
 module _ (options : Options) (t : List ℕ) (old mid : LinesRead) where
@@ -211,22 +158,17 @@ module _ (options : Options) (t : List ℕ) (old mid : LinesRead) where
 
     next_wrong : (n : ℕ) (run : ParsedLines) (f : ReadFault) → IsNextFault n run (unread_line t ∷ []) f → IsNextFault n run (line_replayed options all t ∷ []) f
     next_wrong n run (fault.Line m f) h =
-        let here = h.1 in
-        let same : here.0 ≡ unread_line t = sym (first_is (unread_line t) here.0 [] here.1 here.2) in
-        (h.0, (line_replayed options all t, [], refl, wrong_so run f (subst (λ u. line_read run u ≡ Err f) same here.3)))
+        let same : h.1.0 ≡ unread_line t = cc in
+        (h.0, (line_replayed options all t, [], refl, wrong_so run f (subst (λ u. line_read run u ≡ Err f) same h.1.3)))
     next_wrong n run fault.OutOfMemory h = tt
 
     not_read : (f : ReadFault) (front rest : List RunLine) → unread_line t ∷ [] ≡ front ++ rest → ReadsLines old mid front → (base : List SceneEvent) → is_begun base ≡ old.is_begun →
         IsNextFault mid.next (behind base mid) rest f → IsNextFault old.next (behind base old) (line_replayed options all t ∷ []) f
     not_read f [] rest whole reads base is wrong =
         let here : mid.next ≡ old.next = omega (arith, reads.place) in
-        let unread = subst (λ ts. IsNextFault mid.next (behind base mid) ts f) (sym whole) wrong in
-        let behind_old = subst (λ run. IsNextFault mid.next run (unread_line t ∷ []) f) (sym (reads.tells base is)) unread in
-        next_wrong old.next (behind base old) f (subst (λ n. IsNextFault n (behind base old) (unread_line t ∷ []) f) here behind_old)
-    not_read (fault.Line m f) (u ∷ front) rest whole reads base is wrong =
-        let here = wrong.1 in
-        let none = others_are (unread_line t) u [] (front ++ rest) whole in
-        absurd (nothing_behind front rest here.0 here.1 none here.2)
+        next_wrong old.next (behind base old) f (rw (here, ← reads.tells base is, ← whole) at wrong)
+    not_read (fault.Line m f) (u ∷ []) rest whole reads base is wrong = (let none = wrong.1.2 in absurd (cc))
+    not_read (fault.Line m f) (u ∷ v ∷ front) rest whole reads base is wrong = absurd (cc)
     not_read fault.OutOfMemory (u ∷ front) rest whole reads base is wrong = tt
 
     pub wrong_line : (file : List ℕ) (f : ReadFault) → LeavesLines old mid (unread_line t ∷ []) f → (told : Fault) → told ≡ fault_of_read f → IsLineFault file old (line_replayed options all t) told
@@ -237,12 +179,23 @@ module _ (options : Options) (t : List ℕ) (old mid : LinesRead) where
     -- its value with this made of its event, behind whatever events were forgotten
     value_is : (made : LinesBefore → Makes) (base : List SceneEvent) → is_begun base ≡ old.is_begun → line_read (behind base old) (RecordedLine t made) ≡ lines_with (behind base old) (with_made (made (before_next old)) (Ok (read.0, stored)))
     unfolding line_read
-    value_is made base is = ap (λ b. lines_with (behind base old) (with_made (made b) (recorded_line b t))) (before_is base old is) ∙ ap (λ r. lines_with (behind base old) (with_made (made (before_next old)) r)) read.1
+    value_is made base is = rw (before_is base old is, read.1) refl
 
-    what_added : AddsEvent old mid read.0 ⊎ AddsNone old mid read.0
-    what_added =
+    -- and what it adds
+    with_value : (base : List SceneEvent) → is_begun base ≡ old.is_begun → with_line (behind base old) read.0 ≡ behind base mid
+    with_value base is =
+        let value = same_value as_read read.0 stored (λ e is. refl) in
+        let whole = ap (lines_with (behind base old)) (sym value) ∙ sym (value_is (λ before. as_read) base is) ∙ one_read old mid (unread_line t) reads base is in
+        cc
+
+    all_events : mid.run.events.items ≡ old.run.events.items ++ events_of read.0
+    all_events =
         let base = some_base old.is_begun in
-        added base.0 old mid read.0 stored (sym (value_is (λ before. as_read) base.0 base.1) ∙ one_read old mid (unread_line t) reads base.0 base.1)
+        append_cancel_left base.0 mid.run.events.items (old.run.events.items ++ events_of read.0)
+        (ap (λ (x : ParsedLines). x.events) (sym (with_value base.0 base.1)) ∙ events_with (behind base.0 old) read.0 ∙ append_assoc base.0 old.run.events.items (events_of read.0))
+
+    as_many : length mid.run.events.items ≡ length old.run.events.items + length (events_of read.0)
+    as_many = ap length all_events ∙ length-append old.run.events.items (events_of read.0)
 
     -- the number of the line is noted as it was, where as many events are there now
     reads_one : (new : LinesRead) (line : RunLine) → ((base : List SceneEvent) → is_begun base ≡ old.is_begun → line_read (behind base old) line ≡ Ok (behind base new)) → length mid.run.events.items ≡ length new.run.events.items →
@@ -250,41 +203,30 @@ module _ (options : Options) (t : List ℕ) (old mid : LinesRead) where
     reads_one new line tells size lines begun next = record {
       tells = λ base is. (behind base new, tells base is, refl);
       noted = λ base is. (
-          let same_size : length (base ++ mid.run.events.items) ≡ length (base ++ new.run.events.items) = length-append base mid.run.events.items ∙ ap (λ n. length base + n) size ∙ sym (length-append base new.run.events.items) in
-          let same_here : line_here old.next (behind base old) (behind base mid) ≡ line_here old.next (behind base old) (behind base new) =
-          ap (λ k. if nat_lt (length (base ++ old.run.events.items)) k then old.next ∷ [] else []) same_size in
-          lines ∙ reads.noted base is
-          ∙ ap (λ ls. old.run.lines.items ++ ls) (one_noted old.next (behind base old) (unread_line t) (behind base mid) (one_read old mid (unread_line t) reads base is) ∙ same_here ∙ sym (one_noted old.next (behind base old) line (behind base new) (tells base is)))
+          let old_line = one_noted old.next (behind base old) (unread_line t) (behind base mid) (one_read old mid (unread_line t) reads base is) in
+          let new_line = one_noted old.next (behind base old) line (behind base new) (tells base is) in
+          lines ∙ reads.noted base is ∙ rw (old_line, new_line, length-append base mid.run.events.items, length-append base new.run.events.items, size) refl
           );
       begun = begun ∙ reads.begun;
       place = omega (arith, next, reads.place);
     }
 
     no_event : length mid.run.events.items ≤ length old.run.events.items → (e : SceneEvent) → read.0 ≡ EventLine e → ⊥
-    no_event none e is = elim what_added [
-      | inl h ↦ (let size : length mid.run.events.items ≡ length old.run.events.items + 1 = ap length h.events ∙ length-append old.run.events.items (h.event ∷ []) in omega (arith, none))
-      | inr h ↦ h.none e is
-    ]
+    no_event none e is = (let size = ap (λ x. length (events_of x)) is in omega (arith, as_many, none, size))
 
     -- no output is stored, or no event was added
     module _ (nothing : (stored ≡ []) ⊎ (length mid.run.events.items ≤ length old.run.events.items)) where
       nothing_more : (all : List ℕ) (e : SceneEvent) → read.0 ≡ EventLine e → makes all (before_next old) stored e ≡ Ok e
-      nothing_more all e is = elim nothing [
-        | inl none ↦ ap (λ s. makes all (before_next old) s e) none ∙ nothing_made all (decider_for options old.run.config) e
-        | inr none ↦ absurd (no_event none e is)
-      ]
+      unfolding event_replayed
+      nothing_more all e is = elim nothing [ inl none ↦ rw none (grind arith) | inr none ↦ absurd (no_event none e is) ]
 
       none_by : (e : SceneEvent) → read.0 ≡ EventLine e → needed_of (decider_for options old.run.config) e stored ≡ 0
-      none_by e is = elim nothing [
-        | inl none ↦ ap (needed_of (decider_for options old.run.config) e) none ∙ none_needed (decider_for options old.run.config) e
-        | inr none ↦ absurd (no_event none e is)
-      ]
+      none_by e is = elim nothing [ inl none ↦ rw none (grind arith) | inr none ↦ absurd (no_event none e is) ]
 
       -- nothing is made of it
       pub nothing_reads : (all : List ℕ) → ReadsLines old mid (line_replayed options all t ∷ [])
       nothing_reads all = reads_one mid (line_replayed options all t)
-          (λ base is.
-          value_is (makes all) base is ∙ ap (lines_with (behind base old)) (same_value (makes all (before_next old)) read.0 stored (nothing_more all)) ∙ sym (value_is (λ before. as_read) base is) ∙ one_read old mid (unread_line t) reads base is)
+          (λ base is. value_is (makes all) base is ∙ ap (lines_with (behind base old)) (same_value (makes all (before_next old)) read.0 stored (nothing_more all)) ∙ ap Ok (with_value base is))
           refl refl refl refl
 
       pub nothing_counted : (bytes_read : ℕ) → CountsLine options old t bytes_read bytes_read
@@ -294,26 +236,31 @@ module _ (options : Options) (t : List ℕ) (old mid : LinesRead) where
 
     -- this event was, and this decides about its outputs
     module _ (some : length old.run.events.items < length mid.run.events.items) (place : ℕ) (at : place ≡ length old.run.events.items) (d : OutputLoadDecider) (decides : d ≡ decider_for options mid.run.config) (event other : SceneEvent) (there : event ≡ get_or mid.run.events.items place other) (given : List PlacedOutput) (given_is : given ≡ stored) where
-      has_event : AddsEvent old mid read.0
-      has_event = elim what_added [
-        | inl h ↦ h
-        | inr h ↦ (let size : length mid.run.events.items ≡ length old.run.events.items = ap length h.events in absurd (omega (arith, some)))
-      ]
+      has_event : (e : SceneEvent) × (read.0 ≡ EventLine e)
+      has_event = is_event read.0 (omega (arith, as_many, some))
 
-      is_it : has_event.event ≡ event
+      events_are : mid.run.events.items ≡ old.run.events.items ++ has_event.0 ∷ []
+      events_are = all_events ∙ ap (λ x. old.run.events.items ++ events_of x) has_event.1
+
+      config_is : mid.run.config ≡ old.run.config
+      config_is =
+          let base = some_base old.is_begun in
+          ap (λ (x : ParsedLines). x.config) (sym (with_value base.0 base.1)) ∙ ap (λ x. (with_line (behind base.0 old) x).config) has_event.1
+
+      is_it : has_event.0 ≡ event
       is_it =
-          sym (there ∙ ap (λ k. get_or mid.run.events.items k other) at ∙ ap (λ es. get_or es (length old.run.events.items) other) has_event.events ∙ event_there old.run.events.items has_event.event other)
+          sym (there ∙ ap (λ k. get_or mid.run.events.items k other) at ∙ ap (λ es. get_or es (length old.run.events.items) other) events_are ∙ get_or-append_seam old.run.events.items has_event.0 [] other)
 
       says_it : read.0 ≡ EventLine event
-      says_it = has_event.is ∙ ap EventLine is_it
+      says_it = has_event.1 ∙ ap EventLine is_it
 
       decides_so : d ≡ decider_for options old.run.config
-      decides_so = decides ∙ ap (decider_for options) has_event.config
+      decides_so = decides ∙ ap (decider_for options) config_is
 
       value_by : (all : List ℕ) (r : Result SceneEvent LineFault) → event_replayed all d given event ≡ r → (base : List SceneEvent) → is_begun base ≡ old.is_begun → line_read (behind base old) (line_replayed options all t) ≡ lines_with (behind base old) (event_line r)
       value_by all r loaded base is =
-          let made : event_replayed all (decider_for options old.run.config) stored event ≡ r = subst (λ x. event_replayed all x stored event ≡ r) decides_so (subst (λ s. event_replayed all d s event ≡ r) given_is loaded) in
-          value_is (makes all) base is ∙ ap (λ x. lines_with (behind base old) (with_made (makes all (before_next old)) (Ok (x, stored)))) says_it ∙ ap (λ x. lines_with (behind base old) (event_line x)) made
+          let made : event_replayed all (decider_for options old.run.config) stored event ≡ r = rw (decides_so, given_is) at loaded in
+          rw (value_is (makes all) base is, says_it, made) refl
 
       -- its outputs were not loaded
       not_loaded : (all file : List ℕ) (f : LineFault) (told : Fault) → told ≡ fault_of_read (fault.Line old.next f) → event_replayed all d given event ≡ Err f → IsLineFault file old (line_replayed options all t) told
@@ -331,20 +278,19 @@ module _ (options : Options) (t : List ℕ) (old mid : LinesRead) where
 
       pub loaded_counted : (old_count new_count : ℕ) → new_count ≡ counted old_count (needed_of d event given) → CountsLine options old t old_count new_count
       loaded_counted old_count new_count is more =
-          let needs : needed_for options (before_next old) (recorded_line (before_next old) t) ≡ needed_of d event given =
-          ap (needed_for options (before_next old)) read.1 ∙ ap (needed_by options (before_next old) stored) says_it ∙ ap (λ x. needed_of x event stored) (sym decides_so) ∙ ap (needed_of d event) (sym given_is) in
-          ap (λ n. counted n more) is ∙ counted-twice old_count (needed_of d event given) more ∙ ap (λ n. counted old_count (n + more)) (sym needs)
+          let needs : needed_for options (before_next old) (recorded_line (before_next old) t) ≡ needed_of d event given = rw (read.1, says_it, decides_so, given_is) refl in
+          omega (arith, is, needs)
 
       -- they were
       module _ (made : SceneEvent) (new : LinesRead) (config : new.run.config ≡ mid.run.config) (events : new.run.events.items ≡ set mid.run.events.items place made) (lines : new.run.lines.items ≡ mid.run.lines.items) (begun : new.is_begun ≡ mid.is_begun) (next : new.next ≡ mid.next) where
         all_made : new.run.events.items ≡ old.run.events.items ++ made ∷ []
-        all_made = events ∙ ap (λ k. set mid.run.events.items k made) at ∙ ap (λ es. set es (length old.run.events.items) made) has_event.events ∙ event_set old.run.events.items has_event.event made
+        all_made = events ∙ ap (λ k. set mid.run.events.items k made) at ∙ ap (λ es. set es (length old.run.events.items) made) events_are ∙ set-append_seam old.run.events.items has_event.0 [] made
 
         same_run : (base : List SceneEvent) → with_line (behind base old) (EventLine made) ≡ behind base new
-        same_run base = rw (config, has_event.config, all_made) (ap (λ es. record { config = old.run.config; events = es }) (append_assoc base old.run.events.items (made ∷ [])))
+        same_run base = rw (config, config_is, all_made) (ap (λ es. record { config = old.run.config; events = es }) (append_assoc base old.run.events.items (made ∷ [])))
 
         same_size : length mid.run.events.items ≡ length new.run.events.items
-        same_size = ap length has_event.events ∙ length-append old.run.events.items (has_event.event ∷ []) ∙ sym (ap length all_made ∙ length-append old.run.events.items (made ∷ []))
+        same_size = ap length events_are ∙ length-append old.run.events.items (has_event.0 ∷ []) ∙ sym (ap length all_made ∙ length-append old.run.events.items (made ∷ []))
 
         pub loaded_reads : (recorded : Option (List ℕ)) → IfSome recorded (λ all. event_replayed all d given event ≡ Ok made) → (all : List ℕ) → recorded ≡ Some all → ReadsLines old new (line_replayed options all t ∷ [])
         loaded_reads recorded loaded all known =

@@ -18,6 +18,7 @@ use Rattle.reporter_state.specs.declared.decider.OutputLoadDecider.{OutputLoadDe
 use Rattle.run_model.specs.declared.call.ReportCall.{ReportCall}
 use Rattle.scene_events.specs.Scenes.{IsCallOf}
 use Rattle.scene_events.specs.declared.scene.event.SceneEvent.{SceneEvent}
+use Rattle.scene_text.proofs.lemmas.Tellings.{all_tell, all_told}
 use Rattle.scene_text.specs.SceneTexts.{ParsedLines, RunLine, lines_before, no_lines}
 use Rattle.scenes.specs.Prints.{PrintsFollowed, device}
 use Rattle.scenes.specs.Outcomes.{run_outcome}
@@ -26,26 +27,16 @@ use Rattle.scenes.specs.Reports.{configuration_for, report_of, stored_of, decide
 use Rattle.scenes.specs.declared.outcome.RunOutcome.{RunOutcome}
 use Rattle.scenes.proofs.lemmas.ReadyCalls.{outcome_unread}
 
--- calls of the events with every output in their place, which are the same once what is skipped is unread
-record HasCalls (d : OutputLoadDecider) (events : List SceneEvent) (calls : List ReportCall) : Type 0 where
-  pub inline : List ReportCall
-  pub of_events : AllZip IsCallOf events inline
-  pub same : unread d inline ≡ unread d calls
-
+-- a call of an event with every output in its place, which is the same once what is skipped is unread
 module _ (all : List ℕ) (d : OutputLoadDecider) where
-  record HasCall (event : SceneEvent) (call : ReportCall) : Type 0 where
-    pub inline : ReportCall
-    pub of_event : IsCallOf event inline
-    pub same : unread_call d inline ≡ unread_call d call
+  has_call : (replayed inline : SceneEvent) (call : ReportCall) → IsInline all d replayed inline → IsCallOf replayed call → (other : ReportCall) × IsCallOf inline other × (unread_call d other ≡ unread_call d call)
+  has_call replayed inline call (inl same) of_event = (call, subst (λ e. IsCallOf e call) (sym same) of_event, refl)
+  has_call replayed inline call (inr h) of_event = (let other = skipped_call d all h.0 replayed call of_event h.1 in (other.0, subst (λ e. IsCallOf e other.0) (sym h.2) other.1, other.2))
 
-  has_call : (replayed inline : SceneEvent) (call : ReportCall) → IsInline all d replayed inline → IsCallOf replayed call → HasCall inline call
-  has_call replayed inline call (inl same) of_event = record { inline = call; of_event = subst (λ e. IsCallOf e call) (sym same) of_event; same = refl }
-  has_call replayed inline call (inr h) of_event =
-      let other = skipped_call d all h.0 replayed call of_event h.1 in
-      record { inline = other.0; of_event = subst (λ e. IsCallOf e other.0) (sym h.2) other.1; same = other.2 }
-
-  has_calls : (replayed inline : List SceneEvent) (calls : List ReportCall) → AllZip (IsInline all d) replayed inline → AllZip IsCallOf replayed calls → HasCalls d inline calls
-  has_calls [] [] [] are of_events = record { inline = []; of_events = tt; same = refl }
+  -- the same of several
+  has_calls : (replayed inline : List SceneEvent) (calls : List ReportCall) → AllZip (IsInline all d) replayed inline → AllZip IsCallOf replayed calls →
+      (others : List ReportCall) × AllZip IsCallOf inline others × (unread d others ≡ unread d calls)
+  has_calls [] [] [] are of_events = ([], tt, refl)
   has_calls [] [] (c ∷ cs) are of_events = absurd of_events
   has_calls [] (f ∷ fs) calls are of_events = absurd are
   has_calls (e ∷ es) [] calls are of_events = absurd are
@@ -53,7 +44,7 @@ module _ (all : List ℕ) (d : OutputLoadDecider) where
   has_calls (e ∷ es) (f ∷ fs) (c ∷ cs) are of_events =
       let one = has_call e f c are.0 of_events.0 in
       let more = has_calls es fs cs are.1 of_events.1 in
-      record { inline = one.inline ∷ more.inline; of_events = (one.of_event, more.of_events); same = rw (one.same, more.same) refl }
+      (one.0 ∷ more.0, (one.1, more.1), rw (one.2, more.2) refl)
 
 -- lists that are the same once what is skipped is unread have the same report
 module _ (options : Options) (all : List ℕ) (run inline : ParsedLines) (are : AreInline options all run inline) where
@@ -64,22 +55,22 @@ module _ (options : Options) (all : List ℕ) (run inline : ParsedLines) (are : 
   prints_inline come_to old new prints =
       let printed = prints.holds.0 in
       let has = has_calls all d run.events inline.events prints.calls are.events prints.of_run in
-      let left = isolated d has.inline in
+      let left = isolated d has.0 in
       let right = isolated d prints.calls in
       let config = configuration_for options run.config in
-      let same_report : report_of options run.config has.inline ≡ report_of options run.config prints.calls = sym (left.1 config refl) ∙ ap (λ calls. report_of options run.config calls) has.same ∙ right.1 config refl in
-      let same_record : stored_of options has.inline ≡ stored_of options prints.calls = sym (left.3 config refl) ∙ ap (λ calls. stored_of options calls) has.same ∙ right.3 config refl in
+      let same_report : report_of options run.config has.0 ≡ report_of options run.config prints.calls = sym (left.1 config refl) ∙ ap (λ calls. report_of options run.config calls) has.2 ∙ right.1 config refl in
+      let same_record : stored_of options has.0 ≡ stored_of options prints.calls = sym (left.3 config refl) ∙ ap (λ calls. stored_of options calls) has.2 ∙ right.3 config refl in
       subst (λ c. PrintsFollowed device device options old new come_to (record { config = c; events = inline.events })) (sym are.config) (record {
-        calls = has.inline;
-        of_run = has.of_events;
-        accepted = sym left.5 ∙ ap (λ calls. first_refused d calls) has.same ∙ right.5 ∙ prints.accepted;
+        calls = has.0;
+        of_run = has.1;
+        accepted = sym left.5 ∙ ap (λ calls. first_refused d calls) has.2 ∙ right.5 ∙ prints.accepted;
         holds = (
           record {
             printed = subst (λ text. Appends old.0 new.0 text) (sym same_report) printed.printed;
             kept = subst (λ text. Appends old.1 new.1 text) (sym same_record) printed.kept;
             delivered = printed.delivered;
           },
-          prints.holds.1 ∙ sym (outcome_unread d prints.calls) ∙ ap (λ calls. run_outcome (reverse calls)) (sym has.same) ∙ outcome_unread d has.inline,
+          prints.holds.1 ∙ sym (outcome_unread d prints.calls) ∙ ap (λ calls. run_outcome (reverse calls)) (sym has.2) ∙ outcome_unread d has.0,
         );
       })
 
@@ -87,8 +78,8 @@ module _ (options : Options) (all : List ℕ) (run inline : ParsedLines) (are : 
 pub replay_prints : (options : Options) (all text : List ℕ) (come_to : RunOutcome) (old new : Option (List ℕ) × Option (List ℕ)) →
     OfLines (lines_replayed options all text) (PrintsFollowed device device options old new come_to) → OfLines (lines_inline all text) (PrintsFollowed device device options old new come_to)
 replay_prints options all text come_to old new h =
-    let go = go_on options all 1 (ended_lines text) no_lines no_lines h.run (record { config = refl; events = tt }) h.spelled in
-    record { run = go.all_inline; spelled = go.reads; holds = prints_inline options all h.run go.all_inline go.are come_to old new h.holds }
+    let go = go_on options all (ended_lines text) no_lines no_lines h.run (record { config = refl; events = tt }) (all_tell 1 no_lines (lines_replayed options all text) h.run h.spelled) in
+    record { run = go.0; spelled = all_told 1 no_lines (lines_inline all text) go.0 go.1; holds = prints_inline options all h.run go.0 go.2 come_to old new h.holds }
 
 -- where it came to its end
 pub prints_on_ok : (options : Options) (all text : List ℕ) (old new : Option (List ℕ) × Option (List ℕ)) (r : Result RunOutcome Fault) →

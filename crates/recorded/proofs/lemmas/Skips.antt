@@ -1,41 +1,21 @@
 -- The decider skips an event of a scene just where it skips the event of a reporter that the call has.
-use Rattle.std.proofs.Common.{◌≡◌, Bool, true, false, not, Some, refl, ap, ◌∙◌}
+use Rattle.std.proofs.Common.{◌≡◌}
+use native.Mathlib.Omega.{arith}
 use Rattle.run_model.specs.Statuses.{summary_of}
 use Rattle.run_model.specs.declared.event.TestEventKind.{TestEventKind}
-use Rattle.run_model.specs.declared.event.TestEventKind.TheVariants as kind
-use Rattle.reporter_state.specs.Loads.{load_if, loads_attempt, loads_finish, loads_script}
+use Rattle.reporter_state.specs.Loads.{loads_finish}
 use Rattle.reporter_state.specs.Metadata.{loads_last}
 use Rattle.reporter_state.proofs.lemmas.Metadata.{loads_last-same}
-use Rattle.reporter_state.specs.Unread.{is_skip, is_skipped}
+use Rattle.reporter_state.specs.Unread.{is_skipped}
 use Rattle.reporter_state.specs.declared.decider.OutputLoadDecider.{OutputLoadDecider}
 use Rattle.scene_events.specs.Scenes.{SaysSame}
 use Rattle.scene_events.specs.declared.scene.event.SceneEvent.{SceneEvent}
-use Rattle.scene_events.specs.declared.scene.event.SceneEvent.TheVariants as scene
 use Rattle.scene_events.specs.declared.scene.unit_events.TestFinish.{TestFinish}
 use Rattle.recorded.specs.Skips.{skips}
 
-skip-if : (b : Bool) → is_skip (Some (load_if b)) ≡ not b
-skip-if true = refl
-skip-if false = refl
-
 -- an event that says the same
 pub skips-same : (d : OutputLoadDecider) (event : SceneEvent) (k : TestEventKind) → SaysSame event k → is_skipped d k ≡ skips d event
-skips-same d (scene.SetupScriptFinished e) (kind.SetupScriptFinished stress id program args status) says =
-    skip-if (loads_script status.result) ∙ ap (λ s. not (loads_script s.result)) says.2
-skips-same d (scene.TestAttemptFailedWillRetry e) (kind.TestAttemptFailedWillRetry stress test status delay failure) says =
-    skip-if (loads_attempt d failure) ∙ ap (λ f. not (loads_attempt d f)) says.4
-skips-same d (scene.TestFinished e) (kind.TestFinished stress test success failure statuses stats) says =
-    skip-if (loads_finish d success failure (summary_of statuses))
-    ∙ ap (λ s. not (loads_finish d s failure (summary_of statuses))) says.2
-    ∙ ap (λ f. not (loads_finish d e.success_output f (summary_of statuses))) says.3
-    ∙ ap (λ a. not (loads_finish d e.success_output e.failure_output (summary_of a))) says.4
-skips-same d (scene.SetupScriptFinished e) k says = absurd says
-skips-same d (scene.TestAttemptFailedWillRetry e) k says = absurd says
-skips-same d (scene.TestFinished e) k says = absurd says
-skips-same d event (kind.SetupScriptFinished stress id program args status) says = absurd says
-skips-same d event (kind.TestAttemptFailedWillRetry stress test status delay failure) says = absurd says
-skips-same d event (kind.TestFinished stress test success failure statuses stats) says = absurd says
-skips-same d event k says = refl
+skips-same d event k says = grind arith
 
 -- by how the last attempt ended (for `skips`)
 pub loads_by_last : (d : OutputLoadDecider) (e : TestFinish) → loads_last d e.success_output e.failure_output e.attempts.last.result ≡ loads_finish d e.success_output e.failure_output (summary_of e.attempts)

@@ -1,11 +1,11 @@
 -- Bytes that are spelled out, and the fields in which they stand.
 use Rattle.std.proofs.Common.{◌≡◌, ℕ, zero, suc, ◌+◌, ◌*◌, ◌/◌, ◌%◌, ◌<◌, List, [], ◌∷◌, Bool, true, false, get_or, take, drop, refl, ap, ◌∙◌, arith, Option, None, Some, ◌==◌, ◌&&◌}
-use Rattle.std.specs.Prelude.{nat_le, nat_lt, not}
+use Rattle.std.specs.Prelude.{nat_lt, not}
 use Rattle.std.specs.Char.{digit_value}
 use Rattle.std.specs.List.{list_all}
 use Rattle.std.specs.Option.{option_map, option_map_or}
 use Rattle.std.specs.Str.{IsAscii, IsUtf8}
-use Rattle.std.proofs.lemmas.Bool.{agree_below_at, and_parts, eqb-true, ltb-true, not-true}
+use Rattle.std.proofs.lemmas.Bool.{agree_below_at, and_parts, eqb-true}
 use Rattle.std.proofs.lemmas.Bool.Decides.{nat_tests}
 use Rattle.std.proofs.lemmas.Str.{IsUtf8-from_ascii}
 use Rattle.hex.specs.Hex.{lower_digits}
@@ -27,11 +27,7 @@ digit_is d h = eqb-true (digit_value (digit d)) d (agree_below_at (λ d. digit_v
 
 -- so two digits are the byte of their halves
 byte_of_digits : (high low : ℕ) → high < 16 → low < 16 → (t : List ℕ) → hex_escape 255 (digit high ∷ digit low ∷ t) ≡ Some (16 * high + low)
-byte_of_digits high low h l t =
-    let first : nat_lt high 16 ≡ true = grind (arith, nat_tests) in
-    let second : nat_lt low 16 ≡ true = grind (arith, nat_tests) in
-    let within : nat_le (16 * high + low) 255 ≡ true = grind (arith, nat_tests) in
-    rw (digit_is high h, digit_is low l, first, second, within) refl
+byte_of_digits high low h l t = rw (digit_is high h, digit_is low l) (grind (arith, nat_tests))
 
 -- a byte that is spelled out is read to the byte
 spelled_byte : (b : ℕ) → b < 256 → (t : List ℕ) → hex_escape 255 (digit (b / 16) ∷ digit (b % 16) ∷ t) ≡ Some b
@@ -70,34 +66,21 @@ each_plain [] h d = refl
 each_plain (c ∷ ds) h zero = (and_parts (is_plain c) (list_all is_plain ds) h).0
 each_plain (c ∷ ds) h (suc d) = each_plain ds ((and_parts (is_plain c) (list_all is_plain ds) h).1) d
 
-digit_plain : (d : ℕ) → is_plain (digit d) ≡ true
-digit_plain d = each_plain lower_digits refl d
-
 spelled_plain : (bs : List ℕ) → list_all is_plain (bytes_spelled bs) ≡ true
 spelled_plain [] = refl
-spelled_plain (b ∷ bs) = let more = spelled_plain bs in rw (digit_plain (b / 16), digit_plain (b % 16)) more
+spelled_plain (b ∷ bs) = rw (each_plain lower_digits refl (b / 16), each_plain lower_digits refl (b % 16)) (spelled_plain bs)
 
 -- so it has none of them
-not_tab : (c : ℕ) → is_plain c ≡ true → (c == 9) ≡ false
-not_tab c h = let parts = and_parts (not (c == 9)) (not (c == 10) && nat_lt c 128) h in not-true (c == 9) parts.0
-
-not_feed : (c : ℕ) → is_plain c ≡ true → (c == 10) ≡ false
-not_feed c h =
-    let parts = and_parts (not (c == 9)) (not (c == 10) && nat_lt c 128) h in
-    not-true (c == 10) (and_parts (not (c == 10)) (nat_lt c 128) parts.1).0
-
-is_ascii : (c : ℕ) → is_plain c ≡ true → c < 128
-is_ascii c h =
-    let parts = and_parts (not (c == 9)) (not (c == 10) && nat_lt c 128) h in
-    ltb-true c 128 (and_parts (not (c == 10)) (nat_lt c 128) parts.1).1
-
-plain_lacks : (b : ℕ) → ((c : ℕ) → is_plain c ≡ true → (c == b) ≡ false) → (t : List ℕ) → list_all is_plain t ≡ true → Lacks b t
+plain_lacks : (b : ℕ) → is_plain b ≡ false → (t : List ℕ) → list_all is_plain t ≡ true → Lacks b t
 plain_lacks b other [] h = tt
-plain_lacks b other (c ∷ t) h = let parts = and_parts (is_plain c) (list_all is_plain t) h in (other c parts.0, plain_lacks b other t parts.1)
+plain_lacks b other (c ∷ t) h =
+    let parts = and_parts (is_plain c) (list_all is_plain t) h in
+    let same : (c == b) ≡ false = grind (arith, nat_tests) in
+    (same, plain_lacks b other t parts.1)
 
 plain_ascii : (t : List ℕ) → list_all is_plain t ≡ true → IsAscii t
 plain_ascii [] h i = omega arith
-plain_ascii (c ∷ t) h zero = is_ascii c (and_parts (is_plain c) (list_all is_plain t) h).0
+plain_ascii (c ∷ t) h zero = (let parts = and_parts (is_plain c) (list_all is_plain t) h in grind (arith, nat_tests))
 plain_ascii (c ∷ t) h (suc i) = plain_ascii t (and_parts (is_plain c) (list_all is_plain t) h).1 i
 
 -- a field is what it was, or bytes that are spelled out
@@ -110,10 +93,10 @@ module _ (Good : List ℕ → Type 0) (spelled : (bs : List ℕ) → Good (bytes
   field_good = field_found (reference_in t)
 
 pub field_lacks_tab : (all t : List ℕ) → Lacks 9 t → Lacks 9 (field_spelled all t)
-field_lacks_tab all t h = field_good (Lacks 9) (λ bs. plain_lacks 9 not_tab (bytes_spelled bs) (spelled_plain bs)) all t h
+field_lacks_tab all t h = field_good (Lacks 9) (λ bs. plain_lacks 9 refl (bytes_spelled bs) (spelled_plain bs)) all t h
 
 pub field_lacks_feed : (all t : List ℕ) → Lacks 10 t → Lacks 10 (field_spelled all t)
-field_lacks_feed all t h = field_good (Lacks 10) (λ bs. plain_lacks 10 not_feed (bytes_spelled bs) (spelled_plain bs)) all t h
+field_lacks_feed all t h = field_good (Lacks 10) (λ bs. plain_lacks 10 refl (bytes_spelled bs) (spelled_plain bs)) all t h
 
 pub field_utf8 : (all t : List ℕ) → IsUtf8 t → IsUtf8 (field_spelled all t)
 field_utf8 all t h = field_good IsUtf8 (λ bs. IsUtf8-from_ascii (bytes_spelled bs) (plain_ascii (bytes_spelled bs) (spelled_plain bs))) all t h

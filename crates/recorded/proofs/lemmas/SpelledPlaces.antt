@@ -1,16 +1,15 @@
 -- The fields of a recorded line, spelled out: what reads them, reads the same of them, and of an output what stands at its place.
-use Rattle.std.proofs.Common.{◌≡◌, ℕ, ◌+◌, ◌%◌, Bool, true, false, List, [], ◌∷◌, ◌++◌, map, length, Option, None, Some, Result, Ok, Err, refl, sym, ap, ◌∙◌, ◌==◌, ◌&&◌, if◌then◌else◌, subst, drop}
-use Rattle.std.specs.Prelude.{nat_le}
+use Rattle.std.proofs.Common.{◌≡◌, ℕ, ◌+◌, ◌%◌, Bool, true, false, List, [], ◌∷◌, map, length, Option, None, Some, Result, Ok, Err, refl, ap, ◌∙◌, ◌==◌, ◌&&◌, if◌then◌else◌, bytes_eq, drop, inl, inr, subst}
+use Rattle.std.specs.Prelude.{nat_le, ⊤}
 use Rattle.std.proofs.lemmas.List.{length-map}
-use Rattle.scene_fields.specs.Fields.{◌>>=◌, Line, Noted, Place, exactly, field, goes_on, next, none_noted, noted_outputs, says, taken, valued, with_attempts}
+use Rattle.scene_fields.specs.Fields.{◌>>=◌, Line, Noted, Place, exactly, field, goes_on, next, none_noted, noted_outputs, says, taken, valued, with_attempts, with_noted}
 use Rattle.scene_fields.specs.References.{reference_in}
-use Rattle.scene_fields.specs.Stored.{placed}
 use Rattle.scene_fields.specs.declared.fault.LineFault.{LineFault}
 use Rattle.scene_fields.specs.declared.fault.LineFault.TheVariants.{WrongNumberOfFields}
-use Rattle.scene_fields.specs.declared.reference.Reference.{Reference}
 use Rattle.scene_fields.specs.declared.stored.PlacedOutput.{PlacedOutput}
 use Rattle.scene_fields.specs.declared.stored.StoredOutput.{StoredOutput}
-use Rattle.recorded.proofs.lemmas.KeptFields.{Keeps, begins}
+use Rattle.scene_text.specs.EventLines.{by_row}
+use Rattle.recorded.proofs.lemmas.MarkedFields.{MarkedIsNone, marked}
 use Rattle.recorded.specs.Events.{output_inline}
 use Rattle.recorded.specs.SpelledOut.{field_spelled}
 use Rattle.run_model.specs.declared.output.ChildOutputDescription.{ChildOutputDescription}
@@ -19,245 +18,164 @@ use Rattle.run_model.specs.declared.output.ChildOutputDescription.{ChildOutputDe
 abbrev pub place_spelled : List ℕ → Place → Place
 place_spelled all p = record { number = p.number; left = map (field_spelled all) p.left; noted = None }
 
--- no reference is a good field here
-abbrev pub RefusesMarks : {X : Type 0} → (List ℕ → Line X) → Type 0
-RefusesMarks {X} f = (t : List ℕ) (r : Reference) → reference_in t ≡ Some r → (p : Place) (x : X × Place) → f t p ≡ Ok x → ⊥
+-- how a value, which was read between these notes, is read where outputs are spelled out
+abbrev pub Change : Type 0 → Type 1
+Change X = Option Noted → X → Option Noted → X → Type 0
 
-pub refuses_by_mark : {X : Type 0} (f : List ℕ → Line X) → ((u : List ℕ) (p : Place) (x : X × Place) → f (92 ∷ 64 ∷ u) p ≡ Ok x → ⊥) → RefusesMarks f
-refuses_by_mark f none t r is p x h = none (drop 2 t) p x (subst (λ u. f u p ≡ Ok x) (begins t r is) h)
+-- no output is among its fields, and this is made of it
+pub record Becomes {X : Type 0} (make : X → X) (old : Option Noted) (x : X) (new : Option Noted) (y : X) : Type 0 where
+  pub noted : new ≡ old
+  pub value : y ≡ make x
 
--- so the first of fields that are read is none
-pub record HasFirst (fields : List (List ℕ)) : Type 0 where
-  pub first : List ℕ
-  pub more : List (List ℕ)
-  pub is : fields ≡ first ∷ more
-  pub no_reference : reference_in first ≡ None
+abbrev pub Same : {X : Type 0} → Option Noted → X → Option Noted → X → Type 0
+Same = Becomes (λ x. x)
 
-first_so : {X : Type 0} (f : List ℕ → Line X) → RefusesMarks f → (p : Place) (t : List ℕ) (ts : List (List ℕ)) (o : Option Reference) → reference_in t ≡ o → (x : X × Place) → f t p ≡ Ok x → HasFirst (t ∷ ts)
-first_so f refuses p t ts None is x h = record { first = t; more = ts; is = refl; no_reference = is }
-first_so f refuses p t ts (Some r) is x h = absurd (refuses t r is p x h)
+-- an output put into a value, where one is stored
+abbrev pub with_put : {X : Type 0} → List ℕ → (ChildOutputDescription → X → X) → Option StoredOutput → X → X
+with_put all put None x = x
+with_put all put (Some output) x = put (output_inline all output) x
 
-pub has_first : {X : Type 0} (f : List ℕ → Line X) → RefusesMarks f → (n : ℕ) (noted : Option Noted) (ts : List (List ℕ)) (x : X × Place) → goes_on f (taken n noted ts) ≡ Ok x → HasFirst ts
-has_first f refuses n noted [] x h = absurd (cc)
-has_first f refuses n noted (t ∷ ts) x h = first_so f refuses (record { number = n + 1; left = ts; noted = noted }) t ts (reference_in t) refl x h
+-- an output is among its fields: it is counted, and where it is stored it is noted, and put into the value
+pub record HasOutput {X : Type 0} (all : List ℕ) (put : ChildOutputDescription → X → X) (old : Option Noted) (x : X) (new : Option Noted) (y : X) : Type 0 where
+  pub output : Option StoredOutput
+  pub number : ℕ
+  pub noted : new ≡ with_noted output number old
+  pub value : y ≡ with_put all put output x
+
+-- where nothing was noted before, the outputs that are noted are put into it
+abbrev pub HasNoted : {X : Type 0} → (List PlacedOutput → X → X) → Option Noted → X → Option Noted → X → Type 0
+HasNoted put old x new y = old ≡ Some none_noted → y ≡ put (noted_outputs new) x
+
+-- what is read of fields
+abbrev pub Read : Type 0 → Type 0
+Read X = Result (X × Place) LineFault
+
+-- there is no value
+abbrev pub Refused : {X : Type 0} → Read X → Type 0
+Refused (Ok x) = ⊥
+Refused (Err f) = ⊤
+
+-- what is read of the same fields as they are spelled out: a value with this change, where there is one
+abbrev pub Follows : {X : Type 0} → List ℕ → Change X → Option Noted → Read X → Read X → Type 0
+Follows all change old (Err f) r = ⊤
+Follows {X} all change old (Ok x) r = (y : X) × change old x.0 x.1.noted y × (r ≡ Ok (y, place_spelled all x.1))
 
 module _ (all : List ℕ) where
-  -- what was read, as it is spelled out
-  abbrev pub read_spelled : {X : Type 0} → X × Place → X × Place
-  read_spelled x = (x.0, place_spelled all x.1)
+  -- where there is none, anything follows
+  refused_follows : {X : Type 0} (change : Change X) (old : Option Noted) (r s : Read X) → Refused r → Follows all change old r s
+  refused_follows change old (Ok x) s h = absurd h
+  refused_follows change old (Err f) s h = tt
 
-  -- the fields of a value have no output among them: they are read to the same value as they are spelled out
-  pub record ReadsAlike {X : Type 0} (line : Line X) : Type 0 where
-    pub noted : (p : Place) (x : X × Place) → line p ≡ Ok x → x.1.noted ≡ p.noted
-    pub reads : (p : Place) (x : X × Place) → line p ≡ Ok x → line (place_spelled all p) ≡ Ok (read_spelled x)
-
-  pub says-alike : {X : Type 0} (x : X) → ReadsAlike (says x)
-  says-alike {X} x = record {
-    noted = λ p y h. (let same : (x, p) ≡ y = cc in ap (λ (z : X × Place). z.1.noted) (sym same));
-    reads = λ p y h. (let same : (x, p) ≡ y = cc in ap (λ (z : X × Place). Ok (read_spelled z)) same);
-  }
-
-  pub valued-alike : {X : Type 0} (o : Option X) → ReadsAlike (valued o)
-  valued-alike None = record { noted = λ p y h. absurd (cc); reads = λ p y h. absurd (cc) }
-  valued-alike (Some x) = says-alike x
+  -- what follows with a change follows with another that it implies
+  pub turned_follows : {X : Type 0} (one other : Change X) (before old : Option Noted) (r s : Read X) →
+      ((x : X) (new : Option Noted) (y : X) → one before x new y → other old x new y) → Follows all one before r s → Follows all other old r s
+  turned_follows one other before old (Err f) s turn h = tt
+  turned_follows one other before old (Ok x) s turn h = (h.0, turn x.0 x.1.noted h.0 h.1, h.2)
 
   -- two readers in turn
-  module _ {A B : Type 0} (line : Line A) (f : A → Line B) (first : ReadsAlike line) (others : (a : A) → ReadsAlike (f a)) where
-    bind_noted : (p : Place) (r : Result (A × Place) LineFault) → line p ≡ r → (x : B × Place) → goes_on f r ≡ Ok x → x.1.noted ≡ p.noted
-    bind_noted p (Ok a) is x h = (others a.0).noted a.1 x h ∙ first.noted p a is
-    bind_noted p (Err e) is x h = absurd (cc)
+  pub bind_follows : {A B : Type 0} (first : Change A) (change : Change B) (f g : A → Line B) (old : Option Noted) (r s : Read A) → Follows all first old r s →
+      ((a b : A) (p : Place) → first old a p.noted b → Follows all change old (f a p) (g b (place_spelled all p))) → Follows all change old (goes_on f r) (goes_on g s)
+  bind_follows first change f g old (Err e) s h others = tt
+  bind_follows first change f g old (Ok a) s h others = rw h.2 (others a.0 h.0 a.1 h.1)
 
-    bind_reads : (p : Place) (r : Result (A × Place) LineFault) → line p ≡ r → (x : B × Place) → goes_on f r ≡ Ok x → goes_on f (line (place_spelled all p)) ≡ Ok (read_spelled x)
-    bind_reads p (Ok a) is x h = ap (goes_on f) (first.reads p a is) ∙ (others a.0).reads a.1 x h
-    bind_reads p (Err e) is x h = absurd (cc)
+  -- a test before
+  checked_follows : {X : Type 0} (change : Change X) (old : Option Noted) (right : Bool) (f : LineFault) (r s : Read X) → Follows all change old r s →
+      Follows all change old (if right then r else Err f) (if right then s else Err f)
+  checked_follows change old true f r s h = h
+  checked_follows change old false f r s h = tt
 
-    pub bind-alike : ReadsAlike (line >>= f)
-    bind-alike = record { noted = λ p x h. bind_noted p (line p) refl x h; reads = λ p x h. bind_reads p (line p) refl x h }
+  -- a reader of fields, and one of them as they are spelled out; or one of both
+  pub record Spells {X : Type 0} (change : Change X) (line spelled : Line X) : Type 0 where
+    pub each : (p : Place) → Follows all change p.noted (line p) (spelled (place_spelled all p))
 
-  pub then_alike : {A B : Type 0} {line : Line A} {f : A → Line B} → ReadsAlike line → ((a : A) → ReadsAlike (f a)) → ReadsAlike (line >>= f)
-  then_alike {A} {B} {line} {f} first others = bind-alike line f first others
+  abbrev pub Reads : {X : Type 0} → Change X → Line X → Type 0
+  Reads change line = Spells change line line
 
-  -- the next field, which stays as it is
-  next_same : {X : Type 0} (f : List ℕ → Line X) → RefusesMarks f → (t : List ℕ) (o : Option Reference) → reference_in t ≡ o → (p : Place) (x : X × Place) → f t p ≡ Ok x → field_spelled all t ≡ t
-  next_same f refuses t None is p x h = rw is refl
-  next_same f refuses t (Some r) is p x h = absurd (refuses t r is p x h)
+  -- a value, and two readers in turn, of which the first one reads no output
+  pub says_spells : {X : Type 0} (make : X → X) (x : X) → Spells (Becomes make) (says x) (says (make x))
+  says_spells make x = record { each = λ p. (make x, record { noted = refl; value = refl }, refl) }
 
-  module _ {X : Type 0} (f : List ℕ → Line X) (refuses : RefusesMarks f) (each : (t : List ℕ) → ReadsAlike (f t)) where
-    next_noted : (n : ℕ) (noted : Option Noted) (ts : List (List ℕ)) (x : X × Place) → goes_on f (taken n noted ts) ≡ Ok x → x.1.noted ≡ noted
-    next_noted n noted [] x h = absurd (cc)
-    next_noted n noted (t ∷ ts) x h = (each t).noted (record { number = n + 1; left = ts; noted = noted }) x h
+  pub valued_reads : {X : Type 0} (o : Option X) → Reads Same (valued o)
+  valued_reads None = record { each = λ p. tt }
+  valued_reads (Some x) = says_spells (λ x. x) x
 
-    next_reads : (n : ℕ) (noted : Option Noted) (ts : List (List ℕ)) (x : X × Place) → goes_on f (taken n noted ts) ≡ Ok x → goes_on f (taken n None (map (field_spelled all) ts)) ≡ Ok (read_spelled x)
-    next_reads n noted [] x h = absurd (cc)
-    next_reads n noted (t ∷ ts) x h =
-        let behind : Place = record { number = n + 1; left = ts; noted = noted } in
-        ap (λ u. f u (place_spelled all behind)) (next_same f refuses t (reference_in t) refl behind x h) ∙ (each t).reads behind x h
-
-    pub next-alike : ReadsAlike (next >>= f)
-    next-alike = record { noted = λ p x h. next_noted p.number p.noted p.left x h; reads = λ p x h. next_reads p.number p.noted p.left x h }
-
-  valued_refuses : {X : Type 0} (value_in : List ℕ → Option X) → Keeps value_in → (t : List ℕ) (r : Reference) → reference_in t ≡ Some r → (o : Option X) → value_in t ≡ o → (p : Place) (x : X × Place) → valued o p ≡ Ok x → ⊥
-  valued_refuses value_in keeps t r is None there p x h = absurd (cc)
-  valued_refuses value_in keeps t r is (Some y) there p x h = (let none = keeps t y there in cc)
-
-  -- the value of the next field
-  pub field_alike : {X : Type 0} (value_in : List ℕ → Option X) → Keeps value_in → ReadsAlike (field value_in)
-  field_alike value_in keeps = next-alike (λ t. valued (value_in t)) (λ t r is p x h. valued_refuses value_in keeps t r is (value_in t) refl p x h) (λ t. valued-alike (value_in t))
-
-  pub field_then : {X Y : Type 0} (value_in : List ℕ → Option X) {f : X → Line Y} → Keeps value_in → ((x : X) → ReadsAlike (f x)) → ReadsAlike (field value_in >>= f)
-  field_then value_in keeps others = then_alike (field_alike value_in keeps) others
-
-  -- so many fields are left, as they are spelled out too
-  module _ {X : Type 0} (line : Line X) (alike : ReadsAlike line) where
-    checked_noted : (b : Bool) (f : LineFault) (p : Place) (x : X × Place) → (if b then line p else Err f) ≡ Ok x → x.1.noted ≡ p.noted
-    checked_noted true f p x h = alike.noted p x h
-    checked_noted false f p x h = absurd (cc)
-
-    checked_reads : (b : Bool) (f : LineFault) (p : Place) (x : X × Place) → (if b then line p else Err f) ≡ Ok x → (if b then line (place_spelled all p) else Err f) ≡ Ok (read_spelled x)
-    checked_reads true f p x h = alike.reads p x h
-    checked_reads false f p x h = absurd (cc)
-
-    pub exactly-alike : (n : ℕ) → ReadsAlike (exactly n line)
-    exactly-alike n = record {
-      noted = λ p x h. checked_noted (length p.left == n) WrongNumberOfFields p x h;
-      reads = λ p x h. rw length-map (checked_reads (length p.left == n) WrongNumberOfFields p x h);
-    }
+  pub then_spells : {A B : Type 0} {change : Change B} {line : Line A} {f g : A → Line B} → Reads Same line → ((a : A) → Spells change (f a) (g a)) → Spells change (line >>= f) (line >>= g)
+  then_spells {A} {B} {change} {line} {f} {g} first others = record {
+    each = λ p. bind_follows Same change f g p.noted (line p) (line (place_spelled all p)) (first.each p) (λ a b q h. rw (h.value, ← h.noted) ((others a).each q));
+  }
 
   -- what is made of a value
-  pub made_alike : {X Y : Type 0} (make : X → Y) {line : Line X} → ReadsAlike line → ReadsAlike (line >>= (λ x. says (make x)))
-  made_alike make alike = then_alike alike (λ x. says-alike (make x))
-
-  -- one or the other
-  pub if_alike : {X : Type 0} (b : Bool) (line other : Line X) → ReadsAlike line → ReadsAlike other → ReadsAlike (if b then line else other)
-  if_alike true line other first second = first
-  if_alike false line other first second = second
-
-  -- an output put into a value, where one is stored
-  abbrev pub with_put : {X : Type 0} → (ChildOutputDescription → X → X) → Option StoredOutput → X → X
-  with_put put None x = x
-  with_put put (Some output) x = put (output_inline all output) x
-
-  -- what was read of a value with an output
-  pub record OutputRead {X : Type 0} (put : ChildOutputDescription → X → X) (line : Line X) (n : Noted) (p : Place) (x : X × Place) : Type 0 where
-    pub output : Option StoredOutput
-    pub number : ℕ
-    pub noted : x.1.noted ≡ Some (record { outputs = n.outputs + 1; stored = n.stored ++ placed n.outputs number output })
-    pub reads : line (place_spelled all p) ≡ Ok (with_put put output x.0, place_spelled all x.1)
-
-  -- the fields of a value have one output among them. It is counted, and noted where it is stored; as they are spelled out, they are read to the
-  -- value with it put in
-  pub record ReadsOutput {X : Type 0} (put : ChildOutputDescription → X → X) (line : Line X) : Type 0 where
-    pub each : (n : Noted) (p : Place) (x : X × Place) → p.noted ≡ Some n → line p ≡ Ok x → OutputRead put line n p x
-
-  -- behind fields without any
-  module _ {A B : Type 0} (put : ChildOutputDescription → B → B) (line : Line A) (f : A → Line B) (first : ReadsAlike line) (others : (a : A) → ReadsOutput put (f a)) where
-    bind_output : (n : Noted) (p : Place) (x : B × Place) → p.noted ≡ Some n → (r : Result (A × Place) LineFault) → line p ≡ r → goes_on f r ≡ Ok x → OutputRead put (line >>= f) n p x
-    bind_output n p x at (Ok a) is h =
-        let more = (others a.0).each n a.1 x (first.noted p a is ∙ at) h in
-        record { output = more.output; number = more.number; noted = more.noted; reads = ap (goes_on f) (first.reads p a is) ∙ more.reads }
-    bind_output n p x at (Err e) is h = absurd (cc)
-
-  pub then_output : {A B : Type 0} {put : ChildOutputDescription → B → B} {line : Line A} {f : A → Line B} → ReadsAlike line → ((a : A) → ReadsOutput put (f a)) → ReadsOutput put (line >>= f)
-  then_output {A} {B} {put} {line} {f} first others = record { each = λ n p x at h. bind_output put line f first others n p x at (line p) refl h }
-
-  -- something is made of the value
-  module _ {A B : Type 0} (put : ChildOutputDescription → A → A) (put_more : ChildOutputDescription → B → B) (line : Line A) (first : ReadsOutput put line) (make : A → B) (puts : (captured : ChildOutputDescription) (a : A) → make (put captured a) ≡ put_more captured (make a)) where
-    puts_so : (o : Option StoredOutput) (a : A) → make (with_put put o a) ≡ with_put put_more o (make a)
-    puts_so None a = refl
-    puts_so (Some output) a = puts (output_inline all output) a
-
-    makes_output : (n : Noted) (p : Place) (x : B × Place) → p.noted ≡ Some n → (r : Result (A × Place) LineFault) → line p ≡ r → goes_on (λ a. says (make a)) r ≡ Ok x → OutputRead put_more (line >>= (λ a. says (make a))) n p x
-    makes_output n p x at (Ok a) is h =
-        let same : (make a.0, a.1) ≡ x = cc in
-        let more = first.each n p a at is in
-        record {
-          output = more.output;
-          number = more.number;
-          noted = ap (λ (z : B × Place). z.1.noted) (sym same) ∙ more.noted;
-          reads =
-              ap (goes_on (λ a. says (make a))) more.reads ∙ ap (λ b. Ok (b, place_spelled all a.1)) (puts_so more.output a.0)
-              ∙ ap (λ (z : B × Place). Ok (with_put put_more more.output z.0, place_spelled all z.1)) same;
-        }
-    makes_output n p x at (Err e) is h = absurd (cc)
-
-    pub output_says : ReadsOutput put_more (line >>= (λ a. says (make a)))
-    output_says = record { each = λ n p x at h. makes_output n p x at (line p) refl h }
-
-  pub field_output : {X Y : Type 0} {put : ChildOutputDescription → Y → Y} (value_in : List ℕ → Option X) {f : X → Line Y} → Keeps value_in → ((x : X) → ReadsOutput put (f x)) → ReadsOutput put (field value_in >>= f)
-  field_output value_in keeps others = then_output (field_alike value_in keeps) others
-
-  -- the fields of a line have outputs among them: as they are spelled out, they are read to the value with those put in that are noted
-  pub record ReadsNoted {X : Type 0} (put : List PlacedOutput → X → X) (line : Line X) : Type 0 where
-    pub reads : (p : Place) (x : X × Place) → p.noted ≡ Some none_noted → line p ≡ Ok x → line (place_spelled all p) ≡ Ok (put (noted_outputs x.1.noted) x.0, place_spelled all x.1)
-
-  -- they have none, or one
-  pub noted_alike : {X : Type 0} {put : List PlacedOutput → X → X} {line : Line X} → ((x : X) → put [] x ≡ x) → ReadsAlike line → ReadsNoted put line
-  noted_alike {X} {put} {line} none alike = record {
-    reads = λ p x at h. (
-        let nothing : noted_outputs x.1.noted ≡ [] = ap noted_outputs (alike.noted p x h ∙ at) in
-        alike.reads p x h ∙ ap (λ y. Ok (y, place_spelled all x.1)) (sym (ap (λ stored. put stored x.0) nothing ∙ none x.0))
-        );
+  pub made_reads : {A B : Type 0} (first : Change A) (change : Change B) (make : A → B) {line : Line A} →
+      ((old : Option Noted) (a : A) (new : Option Noted) (b : A) → first old a new b → change old (make a) new (make b)) → Reads first line → Reads change (line >>= (λ a. says (make a)))
+  made_reads first change make {line} makes h = record {
+    each = λ p. bind_follows first change _ _ p.noted (line p) (line (place_spelled all p)) (h.each p) (λ a b q c. (make b, makes p.noted a q.noted b c, refl));
   }
 
-  pub noted_output : {X : Type 0} {put : List PlacedOutput → X → X} {line : Line X} (put_one : ChildOutputDescription → X → X) → ((o : Option StoredOutput) (number : ℕ) (x : X) → put (placed 0 number o) x ≡ with_put put_one o x) → ReadsOutput put_one line →
-      ReadsNoted put line
-  noted_output {X} {put} {line} put_one one output = record {
-    reads = λ p x at h. (
-        let read = output.each none_noted p x at h in
-        let stored : noted_outputs x.1.noted ≡ placed 0 read.number read.output = ap noted_outputs read.noted in
-        read.reads ∙ ap (λ y. Ok (y, place_spelled all x.1)) (sym (ap (λ ps. put ps x.0) stored ∙ one read.output read.number x.0))
-        );
-  }
+  -- an output that is put into a value is put into what is made of it
+  puts_so : {A B : Type 0} (put : ChildOutputDescription → A → A) (put_more : ChildOutputDescription → B → B) (make : A → B) →
+      ((captured : ChildOutputDescription) (a : A) → make (put captured a) ≡ put_more captured (make a)) → (o : Option StoredOutput) (a : A) → make (with_put all put o a) ≡ with_put all put_more o (make a)
+  puts_so put put_more make puts None a = refl
+  puts_so put put_more make puts (Some output) a = puts (output_inline all output) a
 
-  -- behind fields without any
-  module _ {A B : Type 0} (put : List PlacedOutput → B → B) (line : Line A) (f : A → Line B) (first : ReadsAlike line) (others : (a : A) → ReadsNoted put (f a)) where
-    bind_spelled : (p : Place) (x : B × Place) → p.noted ≡ Some none_noted → (r : Result (A × Place) LineFault) → line p ≡ r → goes_on f r ≡ Ok x → goes_on f (line (place_spelled all p)) ≡ Ok (put (noted_outputs x.1.noted) x.0, place_spelled all x.1)
-    bind_spelled p x at (Ok a) is h = ap (goes_on f) (first.reads p a is) ∙ (others a.0).reads a.1 x (first.noted p a is ∙ at) h
-    bind_spelled p x at (Err e) is h = absurd (cc)
+  pub output_made_reads : {A B : Type 0} {put : ChildOutputDescription → A → A} {put_more : ChildOutputDescription → B → B} (make : A → B) {line : Line A} → Reads (HasOutput all put) line →
+      ((captured : ChildOutputDescription) (a : A) → make (put captured a) ≡ put_more captured (make a)) → Reads (HasOutput all put_more) (line >>= (λ a. says (make a)))
+  output_made_reads {A} {B} {put} {put_more} make {line} h puts =
+      made_reads (HasOutput all put) (HasOutput all put_more) make
+      (λ old a new b c. record { output = c.output; number = c.number; noted = c.noted; value = ap make c.value ∙ puts_so put put_more make puts c.output a }) h
 
-  pub then_spelled : {A B : Type 0} {put : List PlacedOutput → B → B} {line : Line A} {f : A → Line B} → ReadsAlike line → ((a : A) → ReadsNoted put (f a)) → ReadsNoted put (line >>= f)
-  then_spelled {A} {B} {put} {line} {f} first others = record { reads = λ p x at h. bind_spelled put line f first others p x at (line p) refl h }
-
-  pub field_spells : {X Y : Type 0} {put : List PlacedOutput → Y → Y} (value_in : List ℕ → Option X) {f : X → Line Y} → Keeps value_in → ((x : X) → ReadsNoted put (f x)) → ReadsNoted put (field value_in >>= f)
-  field_spells value_in keeps others = then_spelled (field_alike value_in keeps) others
-
-  -- something is made of the value
-  module _ {A B : Type 0} (put : List PlacedOutput → A → A) (put_more : List PlacedOutput → B → B) (line : Line A) (first : ReadsNoted put line) (make : A → B) (puts : (stored : List PlacedOutput) (a : A) → make (put stored a) ≡ put_more stored (make a)) where
-    makes_spelled : (p : Place) (x : B × Place) → p.noted ≡ Some none_noted → (r : Result (A × Place) LineFault) → line p ≡ r → goes_on (λ a. says (make a)) r ≡ Ok x →
-        goes_on (λ a. says (make a)) (line (place_spelled all p)) ≡ Ok (put_more (noted_outputs x.1.noted) x.0, place_spelled all x.1)
-    makes_spelled p x at (Ok a) is h =
-        let same : (make a.0, a.1) ≡ x = cc in
-        ap (goes_on (λ a. says (make a))) (first.reads p a at is) ∙ ap (λ b. Ok (b, place_spelled all a.1)) (puts (noted_outputs a.1.noted) a.0)
-        ∙ ap (λ (z : B × Place). Ok (put_more (noted_outputs z.1.noted) z.0, place_spelled all z.1)) same
-    makes_spelled p x at (Err e) is h = absurd (cc)
-
-    pub spelled_says : ReadsNoted put_more (line >>= (λ a. says (make a)))
-    spelled_says = record { reads = λ p x at h. makes_spelled p x at (line p) refl h }
-
-  -- the next field
-  module _ {X : Type 0} (put : List PlacedOutput → X → X) (f : List ℕ → Line X) (refuses : RefusesMarks f) (each : (t : List ℕ) → ReadsNoted put (f t)) where
-    next_spelled : (n : ℕ) (noted : Option Noted) (ts : List (List ℕ)) (x : X × Place) → noted ≡ Some none_noted → goes_on f (taken n noted ts) ≡ Ok x →
-        goes_on f (taken n None (map (field_spelled all) ts)) ≡ Ok (put (noted_outputs x.1.noted) x.0, place_spelled all x.1)
-    next_spelled n noted [] x at h = absurd (cc)
-    next_spelled n noted (t ∷ ts) x at h =
+  -- the next field, where no reference is a good one
+  module _ {X : Type 0} (change : Change X) (f : List ℕ → Line X) (refused : (u : List ℕ) (p : Place) → Refused (f (92 ∷ 64 ∷ u) p)) (others : (t : List ℕ) → Reads change (f t)) where
+    next_follows : (n : ℕ) (noted : Option Noted) (left : List (List ℕ)) → Follows all change noted (goes_on f (taken n noted left)) (goes_on f (taken n None (map (field_spelled all) left)))
+    next_follows n noted [] = tt
+    next_follows n noted (t ∷ ts) =
         let behind : Place = record { number = n + 1; left = ts; noted = noted } in
-        ap (λ u. f u (place_spelled all behind)) (next_same f refuses t (reference_in t) refl behind x h) ∙ (each t).reads behind x at h
+        elim (marked t) [
+          | inl none ↦ rw none ((others t).each behind)
+          | inr begins_so ↦ refused_follows change noted (f t behind) _ (rw begins_so (refused (drop 2 t) behind))
+        ]
 
-    pub next-spells : ReadsNoted put (next >>= f)
-    next-spells = record { reads = λ p x at h. next_spelled p.number p.noted p.left x at h }
+    pub next_reads : Reads change (next >>= f)
+    next_reads = record { each = λ p. next_follows p.number p.noted p.left }
 
-  -- so many fields are left, or one reader or the other
-  module _ {X : Type 0} (put : List PlacedOutput → X → X) (line : Line X) (spells : ReadsNoted put line) where
-    checked_spelled : (b : Bool) (f : LineFault) (p : Place) (x : X × Place) → p.noted ≡ Some none_noted → (if b then line p else Err f) ≡ Ok x → (if b then line (place_spelled all p) else Err f) ≡ Ok (put (noted_outputs x.1.noted) x.0, place_spelled all x.1)
-    checked_spelled true f p x at h = spells.reads p x at h
-    checked_spelled false f p x at h = absurd (cc)
+    -- so the first of fields that are read is none
+    pub next_unmarked : (n : ℕ) (noted : Option Noted) (left : List (List ℕ)) (x : X × Place) → goes_on f (taken n noted left) ≡ Ok x →
+        (t : List ℕ) × (ts : List (List ℕ)) × (left ≡ t ∷ ts) × (reference_in t ≡ None)
+    next_unmarked n noted [] x h = absurd (cc)
+    next_unmarked n noted (t ∷ ts) x h = elim (marked t) [
+      | inl none ↦ (t, ts, refl, none)
+      | inr begins_so ↦ absurd (subst Refused h (rw begins_so (refused (drop 2 t) (record { number = n + 1; left = ts; noted = noted }))))
+    ]
 
-    pub exactly-spells : (n : ℕ) → ReadsNoted put (exactly n line)
-    exactly-spells n = record { reads = λ p x at h. rw length-map (checked_spelled (length p.left == n) WrongNumberOfFields p x at h) }
+  pub field_reads : {X : Type 0} (value_in : List ℕ → Option X) → MarkedIsNone value_in → Reads Same (field value_in)
+  field_reads value_in none = next_reads Same (λ t. valued (value_in t)) (λ u p. rw (none u) tt) (λ t. valued_reads (value_in t))
 
-    pub with_attempts-spells : ReadsNoted put (with_attempts line)
-    with_attempts-spells = record { reads = λ p x at h. rw length-map (checked_spelled (nat_le 16 (length p.left) && (length p.left % 8 == 0)) WrongNumberOfFields p x at h) }
+  -- so many fields are left, or a number is small enough
+  pub checked_reads : {X : Type 0} {change : Change X} (right : Place → Bool) (f : LineFault) → ((p : Place) → right (place_spelled all p) ≡ right p) → {line : Line X} → Reads change line →
+      Reads change (λ p. if right p then line p else Err f)
+  checked_reads {X} {change} right f same {line} h = record { each = λ p. rw (same p) (checked_follows change p.noted (right p) f (line p) (line (place_spelled all p)) (h.each p)) }
 
-  pub if_spells : {X : Type 0} {put : List PlacedOutput → X → X} (b : Bool) (line other : Line X) → ReadsNoted put line → ReadsNoted put other → ReadsNoted put (if b then line else other)
-  if_spells true line other first second = first
-  if_spells false line other first second = second
+  pub exactly_reads : {X : Type 0} {change : Change X} (n : ℕ) {line : Line X} → Reads change line → Reads change (exactly n line)
+  exactly_reads n h = checked_reads (λ p. length p.left == n) WrongNumberOfFields (λ p. rw length-map refl) h
+
+  pub with_attempts_reads : {X : Type 0} {change : Change X} {line : Line X} → Reads change line → Reads change (with_attempts line)
+  with_attempts_reads h = checked_reads (λ p. nat_le 16 (length p.left) && (length p.left % 8 == 0)) WrongNumberOfFields (λ p. rw length-map refl) h
+
+  -- one reader or the other, as in a table
+  pub if_reads : {X : Type 0} {change : Change X} (b : Bool) {line other : Line X} → Reads change line → Reads change other → Reads change (if b then line else other)
+  if_reads true first second = first
+  if_reads false first second = second
+
+  pub either_reads : {X : Type 0} {change : Change X} (b : Bool) {line other : Line X} → Reads change line → Reads change other → Reads change (λ p. if b then line p else other p)
+  either_reads true first second = first
+  either_reads false first second = second
+
+  abbrev pub RowsRead : {X : Type 0} → Change X → List (List ℕ × Line X) → Type 0
+  RowsRead change [] = Unit {0}
+  RowsRead change (row ∷ rows) = Reads change row.1 × RowsRead change rows
+
+  pub by_row_reads : {X : Type 0} (change : Change X) (otherwise : Line X) (rows : List (List ℕ × Line X)) (word : List ℕ) → Reads change otherwise → RowsRead change rows →
+      Reads change (by_row otherwise rows word)
+  by_row_reads change otherwise [] word none are = none
+  by_row_reads change otherwise (row ∷ rows) word none are = if_reads (bytes_eq word row.0) are.0 (by_row_reads change otherwise rows word none are.1)
+
+pub ruleset fields_read = (then_spells, says_spells, valued_reads, field_reads)

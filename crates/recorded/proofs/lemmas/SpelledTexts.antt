@@ -1,46 +1,20 @@
 -- Lines whose outputs are spelled out, and the text that they make.
-use Rattle.std.proofs.Common.{◌≡◌, ℕ, zero, suc, ◌+◌, ◌<◌, List, [], ◌∷◌, ◌++◌, map, length, true, get_or, take, drop, refl, ap, sym, ◌∙◌, subst, arith, add-one, Option, None, Some, Result, Ok, Err, inl, inr, ◌==◌}
-use Rattle.std.specs.Prelude.{⊤}
-use Rattle.std.specs.List.{onto_first}
-use Rattle.std.specs.Str.{IsAscii, IsUtf8, is_utf8}
+use Rattle.std.proofs.Common.{◌≡◌, ℕ, ◌+◌, ◌<◌, List, [], ◌∷◌, ◌++◌, map, length, true, false, get_or, drop, refl, ap, sym, ◌∙◌, subst, arith, None, inl, inr, ◌==◌}
+use Rattle.std.specs.Str.{IsUtf8, is_utf8}
+use Rattle.std.proofs.Math.Seq.{drop-append-add, get_or-append_seam, take-append_seam}
 use Rattle.std.proofs.lemmas.Bool.{cases_Bool}
 use Rattle.std.proofs.lemmas.Bool.Decides.{nat_tests}
-use Rattle.std.proofs.lemmas.List.{length-append, length-map}
+use Rattle.std.proofs.lemmas.List.{length-append}
 use Rattle.std.proofs.lemmas.Str.{IsCharBoundary-after_ascii, IsCharBoundary-before_ascii, IsUtf8-append, IsUtf8-drop, IsUtf8-from_ascii, IsUtf8-from_is_utf8, IsUtf8-take, is_utf8-from_IsUtf8}
-use Rattle.recorded.proofs.lemmas.KeptFields.{begins}
+use Rattle.recorded.proofs.lemmas.MarkedFields.{marked}
 use Rattle.recorded.proofs.lemmas.SpelledBytes.{field_lacks_feed, field_lacks_tab, field_utf8}
-use Rattle.recorded.specs.Events.{event_inline}
-use Rattle.recorded.specs.Runs.{ended_lines, line_inline, lines_inline, without_last}
-use Rattle.recorded.specs.SpelledOut.{AreBytes, field_spelled, line_spelled, scene_spelled, tabbed, text_of_lines}
+use Rattle.recorded.proofs.lemmas.WholeLines.{NoneHas, lacks-append, pieces}
+use Rattle.recorded.specs.Runs.{ended_lines, without_last}
+use Rattle.recorded.specs.SpelledOut.{field_spelled, line_spelled, scene_spelled, tabbed, text_of_lines}
 use Rattle.scene_fields.proofs.lemmas.Cuts.{split_on-lacks, split_on-parts}
-use Rattle.scene_fields.specs.References.{after_mark, reference_in}
+use Rattle.scene_fields.specs.References.{reference_in}
 use Rattle.scene_fields.specs.Split.{Lacks, split_on}
-use Rattle.scene_fields.specs.declared.fault.LineFault.{LineFault}
-use Rattle.scene_fields.specs.declared.reference.Reference.{Reference}
-use Rattle.scene_fields.specs.declared.stored.PlacedOutput.{PlacedOutput}
-use Rattle.scene_text.proofs.lemmas.Tellings.{all_tell, all_told}
-use Rattle.scene_text.specs.SceneTexts.{AllRead, LinesBefore, ParsedLine, ParsedLines, is_passed_over, line_from, line_read, lines_before, lines_read, lines_with, no_lines, parsed_line, plain_line, recorded_line, text_lines, with_made}
-
--- a byte is in none of these texts
-abbrev pub NoneHas : ℕ → List (List ℕ) → Type 0
-NoneHas b [] = ⊤
-NoneHas b (t ∷ ts) = Lacks b t × NoneHas b ts
-
--- the pieces of a text: a first one and others, of which none has the byte at which it was split
-record HasPieces (b : ℕ) (t : List ℕ) : Type 0 where
-  pub first : List ℕ
-  pub more : List (List ℕ)
-  pub is : split_on b t ≡ first ∷ more
-  pub lacks : Lacks b first
-  pub none_has : NoneHas b more
-
-pieces : (b : ℕ) (t : List ℕ) → HasPieces b t
-unfolding split_on
-pieces b [] = record { first = []; more = []; is = refl; lacks = tt; none_has = tt }
-pieces b (c ∷ t) = (let h = pieces b t in elim (cases_Bool (c == b)) [
-  | inl y ↦ record { first = []; more = h.first ∷ h.more; is = rw y (ap (λ ts. [] ∷ ts) h.is); lacks = tt; none_has = (h.lacks, h.none_has) }
-  | inr n ↦ record { first = c ∷ h.first; more = h.more; is = rw n (ap (onto_first c) h.is); lacks = (n, h.lacks); none_has = h.none_has }
-])
+use Rattle.scene_text.specs.SceneTexts.{is_passed_over}
 
 -- fields that tabs part are the pieces at the tabs
 split_tabbed : (t : List ℕ) (ts : List (List ℕ)) → Lacks 9 t → NoneHas 9 ts → split_on 9 (tabbed (t ∷ ts)) ≡ t ∷ ts
@@ -49,8 +23,7 @@ split_tabbed t (u ∷ us) h k = split_on-parts 9 t (tabbed (u ∷ us)) h ∙ ap 
 
 -- and the pieces of a text are its fields
 tabbed_front : (c : ℕ) (t : List ℕ) (ts : List (List ℕ)) → tabbed ((c ∷ t) ∷ ts) ≡ c ∷ tabbed (t ∷ ts)
-tabbed_front c t [] = refl
-tabbed_front c t (u ∷ us) = refl
+tabbed_front c t ts = grind arith
 
 tabbed_back : (t : List ℕ) → tabbed (split_on 9 t) ≡ t
 unfolding split_on
@@ -60,17 +33,18 @@ tabbed_back (c ∷ t) = (let h = pieces 9 t in let back = tabbed_back t in elim 
   | inr n ↦ rw (n, h.is) (tabbed_front c h.first h.more ∙ ap (λ u. c ∷ u) (rw h.is at back))
 ])
 
-module _ (all : List ℕ) where
-  none_has_tab : (ts : List (List ℕ)) → NoneHas 9 ts → NoneHas 9 (map (field_spelled all) ts)
-  none_has_tab [] h = tt
-  none_has_tab (t ∷ ts) h = (field_lacks_tab all t h.0, none_has_tab ts h.1)
+none_has_map : (b : ℕ) (f : List ℕ → List ℕ) → ((t : List ℕ) → Lacks b t → Lacks b (f t)) → (ts : List (List ℕ)) → NoneHas b ts → NoneHas b (map f ts)
+none_has_map b f each [] h = tt
+none_has_map b f each (t ∷ ts) h = (each t h.0, none_has_map b f each ts h.1)
 
+module _ (all : List ℕ) where
   -- the fields of a line, spelled out one by one
   pub line_fields : (t : List ℕ) → split_on 9 (line_spelled all t) ≡ map (field_spelled all) (split_on 9 t)
   line_fields t =
       let h = pieces 9 t in
       ap (λ ts. split_on 9 (tabbed (map (field_spelled all) ts))) h.is
-      ∙ split_tabbed (field_spelled all h.first) (map (field_spelled all) h.more) (field_lacks_tab all h.first h.lacks) (none_has_tab h.more h.none_has) ∙ ap (map (field_spelled all)) (sym h.is)
+      ∙ split_tabbed (field_spelled all h.first) (map (field_spelled all) h.more) (field_lacks_tab all h.first h.lacks)
+      (none_has_map 9 (field_spelled all) (field_lacks_tab all) h.more h.none_has) ∙ ap (map (field_spelled all)) (sym h.is)
 
   -- what holds of a line where it holds of each of its fields
   module _ (Good : List ℕ → Type 0) (parts : (t r : List ℕ) → Good (t ++ 9 ∷ r) → Good t × Good r) (joined : (t r : List ℕ) → Good t → Good r → Good (t ++ 9 ∷ r)) (field : (t : List ℕ) → Good t → Good (field_spelled all t)) where
@@ -87,32 +61,14 @@ module _ (all : List ℕ) where
 -- a text whose fields are texts
 utf8_parts : (t r : List ℕ) → IsUtf8 (t ++ 9 ∷ r) → IsUtf8 t × IsUtf8 r
 utf8_parts t r h =
-    let size = length-append t (9 ∷ r) in
-    let within : length t < length (t ++ 9 ∷ r) = omega (arith, size) in
-    let tab : get_or (t ++ 9 ∷ r) (length t) 0 ≡ 9 = tab_there t r in
-    let ascii : get_or (t ++ 9 ∷ r) (length t) 0 < 128 = omega (arith, tab) in
+    let within : length t < length (t ++ 9 ∷ r) = omega (arith, length-append t (9 ∷ r)) in
+    let ascii : get_or (t ++ 9 ∷ r) (length t) 0 < 128 = omega (arith, get_or-append_seam t 9 r 0) in
     let front = IsUtf8-take (t ++ 9 ∷ r) (length t) h (IsCharBoundary-before_ascii (t ++ 9 ∷ r) (length t) within ascii) in
     let back = IsUtf8-drop (t ++ 9 ∷ r) (length t + 1) h (IsCharBoundary-after_ascii (t ++ 9 ∷ r) (length t) h within ascii) in
-    (subst IsUtf8 (before_tab t r) front, subst IsUtf8 (ap (λ n. drop n (t ++ 9 ∷ r)) (add-one (length t)) ∙ behind_tab t r) back)
-  where
-    tab_there : (t r : List ℕ) → get_or (t ++ 9 ∷ r) (length t) 0 ≡ 9
-    tab_there [] r = refl
-    tab_there (c ∷ t) r = tab_there t r
-
-    before_tab : (t r : List ℕ) → take (length t) (t ++ 9 ∷ r) ≡ t
-    before_tab [] r = refl
-    before_tab (c ∷ t) r = ap (λ u. c ∷ u) (before_tab t r)
-
-    behind_tab : (t r : List ℕ) → drop (suc (length t)) (t ++ 9 ∷ r) ≡ r
-    behind_tab [] r = refl
-    behind_tab (c ∷ t) r = behind_tab t r
+    (subst IsUtf8 (take-append_seam t (9 ∷ r)) front, subst IsUtf8 (drop-append-add t (9 ∷ r) 1) back)
 
 utf8_joined : (t r : List ℕ) → IsUtf8 t → IsUtf8 r → IsUtf8 (t ++ 9 ∷ r)
-utf8_joined t r h k = IsUtf8-append t (9 ∷ r) h (IsUtf8-append (9 ∷ []) r (IsUtf8-from_ascii (9 ∷ []) tab_ascii) k)
-  where
-    tab_ascii : IsAscii (9 ∷ [])
-    tab_ascii zero = omega arith
-    tab_ascii (suc i) = omega arith
+utf8_joined t r h k = IsUtf8-append t (9 ∷ r) h (IsUtf8-append (9 ∷ []) r (IsUtf8-from_ascii (9 ∷ []) (λ i. grind arith)) k)
 
 pub line_utf8 : (all t : List ℕ) → is_utf8 t ≡ true → is_utf8 (line_spelled all t) ≡ true
 line_utf8 all t h = is_utf8-from_IsUtf8 (line_spelled all t) (line_good all IsUtf8 utf8_parts utf8_joined (field_utf8 all) t (IsUtf8-from_is_utf8 t h))
@@ -122,41 +78,27 @@ lacks_parts : (t r : List ℕ) → Lacks 10 (t ++ 9 ∷ r) → Lacks 10 t × Lac
 lacks_parts [] r h = (tt, h.1)
 lacks_parts (c ∷ t) r h = let more = lacks_parts t r h.1 in ((h.0, more.0), more.1)
 
-lacks_joined : (t r : List ℕ) → Lacks 10 t → Lacks 10 r → Lacks 10 (t ++ 9 ∷ r)
-lacks_joined [] r h k = (refl, k)
-lacks_joined (c ∷ t) r h k = (h.0, lacks_joined t r h.1 k)
-
 pub line_lacks_feed : (all t : List ℕ) → Lacks 10 t → Lacks 10 (line_spelled all t)
-line_lacks_feed all t h = line_good all (Lacks 10) lacks_parts lacks_joined (field_lacks_feed all) t h
+line_lacks_feed all t h = line_good all (Lacks 10) lacks_parts (λ t r h k. lacks-append t (9 ∷ r) h (refl, k)) (field_lacks_feed all) t h
 
 -- whether a line is passed over is told by its first field, where that is as it was
-told_by_first : (first : List ℕ) (more more_spelled : List (List ℕ)) → length more ≡ length more_spelled → is_passed_over (tabbed (first ∷ more)) ≡ is_passed_over (tabbed (first ∷ more_spelled))
-told_by_first first [] [] h = refl
-told_by_first first [] (u ∷ us) h = absurd (omega arith)
-told_by_first first (t ∷ ts) [] h = absurd (omega arith)
-told_by_first [] (t ∷ ts) (u ∷ us) h = refl
-told_by_first (c ∷ first) (t ∷ ts) (u ∷ us) h = refl
+told_by_first : (f : List ℕ → List ℕ) (first : List ℕ) (more : List (List ℕ)) → is_passed_over (tabbed (first ∷ map f more)) ≡ is_passed_over (tabbed (first ∷ more))
+told_by_first f first [] = refl
+told_by_first f [] (t ∷ ts) = refl
+told_by_first f (c ∷ first) (t ∷ ts) = refl
 
 pub line_passed_over : (all t first : List ℕ) (more : List (List ℕ)) → split_on 9 t ≡ first ∷ more → reference_in first ≡ None → is_passed_over (line_spelled all t) ≡ is_passed_over t
 line_passed_over all t first more is no_reference =
     let same : field_spelled all first ≡ first = rw no_reference refl in
-    let size = length-map more (field_spelled all) in
     ap (λ ts. is_passed_over (tabbed (map (field_spelled all) ts))) is ∙ ap (λ u. is_passed_over (tabbed (u ∷ map (field_spelled all) more))) same
-    ∙ sym (told_by_first first more (map (field_spelled all) more) (sym size)) ∙ ap (λ ts. is_passed_over (tabbed ts)) (sym is) ∙ ap is_passed_over (tabbed_back t)
+    ∙ told_by_first (field_spelled all) first more ∙ ap (λ ts. is_passed_over (tabbed ts)) (sym is) ∙ ap is_passed_over (tabbed_back t)
 
 -- the first field of a line that is passed over is no reference, whatever the line holds
-no_mark : (c : ℕ) (t : List ℕ) (found : Option Reference) → reference_in (c ∷ t) ≡ found → (c == 35) ≡ true → reference_in (c ∷ t) ≡ None
-no_mark c t None is h = is
-no_mark c t (Some r) is h =
-    let marked = begins (c ∷ t) r is in
-    let first : c ≡ 92 = ap (λ u. get_or u 0 0) marked in
-    absurd (grind (arith, nat_tests))
-
 first_of_passed : (first : List ℕ) (more : List (List ℕ)) → is_passed_over (tabbed (first ∷ more)) ≡ true → reference_in first ≡ None
-unfolding reference_in after_mark
-first_of_passed [] more h = refl
-first_of_passed (c ∷ t) [] h = no_mark c t (reference_in (c ∷ t)) refl h
-first_of_passed (c ∷ t) (u ∷ us) h = no_mark c t (reference_in (c ∷ t)) refl h
+first_of_passed first more h = elim (marked first) [
+  | inl none ↦ none
+  | inr begins_so ↦ (let wrong : false ≡ true = ap is_passed_over (sym (tabbed_front 92 (64 ∷ drop 2 first) more)) ∙ ap (λ u. is_passed_over (tabbed (u ∷ more))) (sym begins_so) ∙ h in absurd (cc))
+]
 
 pub passed_over_line : (all t : List ℕ) → is_passed_over t ≡ true → is_passed_over (line_spelled all t) ≡ true
 passed_over_line all t h =
@@ -179,39 +121,5 @@ without_last_lacks (t ∷ u ∷ us) h = (h.0, without_last_lacks (u ∷ us) h.1)
 pub ended_lines_lack : (text : List ℕ) → NoneHas 10 (ended_lines text)
 ended_lines_lack text = let p = pieces 10 text in subst (λ ts. NoneHas 10 (without_last ts)) (sym p.is) (without_last_lacks (p.first ∷ p.more) (p.lacks, p.none_has))
 
-lines_lack_feeds : (all : List ℕ) (ts : List (List ℕ)) → NoneHas 10 ts → NoneHas 10 (map (line_spelled all) ts)
-lines_lack_feeds all [] h = tt
-lines_lack_feeds all (t ∷ ts) h = (line_lacks_feed all t h.0, lines_lack_feeds all ts h.1)
-
 pub lines_of_scene : (all text : List ℕ) → split_on 10 (scene_spelled all text) ≡ map (line_spelled all) (ended_lines text) ++ [] ∷ []
-lines_of_scene all text = scene_lines (map (line_spelled all) (ended_lines text)) (lines_lack_feeds all (ended_lines text) (ended_lines_lack text))
-
--- what is read of an empty line, which stands behind the last one
-empty_read : (before : ParsedLines) → line_read before (plain_line []) ≡ Ok before
-unfolding line_read line_from
-empty_read before = refl
-
--- a line with its outputs put in, and the same line spelled out
-abbrev pub LineLaw : List ℕ → Type 0
-LineLaw all = (before : LinesBefore) (t : List ℕ) (x : ParsedLine × List PlacedOutput) → recorded_line before t ≡ Ok x → parsed_line before (line_spelled all t) ≡ with_made (λ stored e. Ok (event_inline all stored e)) (Ok x)
-
-module _ (all : List ℕ) (line_law : LineLaw all) where
-  line_alike : (before after : ParsedLines) (t : List ℕ) (found : Result (ParsedLine × List PlacedOutput) LineFault) → recorded_line (lines_before before) t ≡ found → line_read before (line_inline all t) ≡ Ok after → line_read before (plain_line (line_spelled all t)) ≡ Ok after
-  unfolding line_read
-  line_alike before after t (Ok x) is h =
-      ap (lines_with before) (line_law (lines_before before) t x is ∙ ap (with_made (λ stored e. Ok (event_inline all stored e))) (sym is)) ∙ h
-  line_alike before after t (Err f) is h = let wrong : ◌≡◌ {A = Result ParsedLines LineFault} (Err f) (Ok after) = rw is at h in absurd (cc)
-
-  lines_alike : (before after : ParsedLines) (ts : List (List ℕ)) → AllRead before (map (line_inline all) ts) after → AllRead before (map plain_line (map (line_spelled all) ts ++ [] ∷ [])) after
-  lines_alike before after [] h = (before, empty_read before, h)
-  lines_alike before after (t ∷ ts) h = (h.0, line_alike before h.0 t (recorded_line (lines_before before) t) refl h.1, lines_alike h.0 after ts h.2)
-
-  spelled_reads : (text : List ℕ) (run : ParsedLines) → lines_read 1 no_lines (lines_inline all text) ≡ Ok run → lines_read 1 no_lines (text_lines (scene_spelled all text)) ≡ Ok run
-  spelled_reads text run h =
-      let whole = all_tell 1 no_lines (lines_inline all text) run h in
-      ap (λ ts. lines_read 1 no_lines (map plain_line ts)) (lines_of_scene all text) ∙ all_told 1 no_lines _ run (lines_alike no_lines run (ended_lines text) whole)
-
--- a recorded run with its outputs put in is read as the text of a scene in which they are spelled out
-module _ (line_law : (all : List ℕ) → AreBytes all → LineLaw all) where
-  pub scene_reads : (all text : List ℕ) → AreBytes all → (run : ParsedLines) → lines_read 1 no_lines (lines_inline all text) ≡ Ok run → lines_read 1 no_lines (text_lines (scene_spelled all text)) ≡ Ok run
-  scene_reads all text bytes run h = spelled_reads all (line_law all bytes) text run h
+lines_of_scene all text = scene_lines (map (line_spelled all) (ended_lines text)) (none_has_map 10 (line_spelled all) (line_lacks_feed all) (ended_lines text) (ended_lines_lack text))

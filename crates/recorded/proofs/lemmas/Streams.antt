@@ -1,8 +1,6 @@
 -- When bytes that were read are the stream that a reference names.
-use Rattle.std.proofs.Common.{◌≡◌, ◌≢◌, ℕ, ◌<◌, ◌≤◌, ◌↔◌, IsTrue, List, length, take, drop, Bool, true, false, nat_le, Option, None, Some, IfSome, Result, Ok, Err, refl, ap, sym, inl, inr, ◌∙◌, arith}
+use Rattle.std.proofs.Common.{◌≡◌, ◌≢◌, ℕ, ◌<◌, ◌≤◌, ◌↔◌, IsTrue, List, length, take, drop, Bool, true, false, Option, None, Some, IfSome, Result, Ok, Err, ap, sym, ◌∙◌, arith}
 use Rattle.std.specs.Result.{IsErrAnd}
-use Rattle.std.specs.Str.{bytes_eq}
-use Rattle.std.proofs.lemmas.Bool.{cases_Bool}
 use Rattle.std.proofs.lemmas.Bool.Decides.{nat_tests}
 use Rattle.std.proofs.lemmas.Slice.Eq.{bytes_eq-Decides}
 use Rattle.scene_fields.specs.declared.reference.Reference.{Reference}
@@ -12,33 +10,11 @@ use Rattle.recorded.specs.declared.outputs.LoadFault.TheVariants.{OutOfMemory}
 use Rattle.recorded.specs.ReadAt.{HasRead}
 use Rattle.scene_fields.specs.References.{end_of, sum_of}
 
--- no stream ends behind the last byte
-stream_at-past : (all : List ℕ) (r : Reference) → length all < end_of r → stream_at all r ≡ None
-unfolding stream_at
-stream_at-past all r past = let not_there : nat_le (end_of r) (length all) ≡ false = grind (arith, nat_tests) in rw not_there refl
-
--- bytes that are all there are the stream where they have its sum
-stream_at-same : (all : List ℕ) (r : Reference) → end_of r ≤ length all → sum_of (bytes_at all r) ≡ r.sum → stream_at all r ≡ Some (bytes_at all r)
-unfolding stream_at
-stream_at-same all r there same =
-    let is_there : nat_le (end_of r) (length all) ≡ true = grind (arith, nat_tests) in
-    let is_same : bytes_eq (sum_of (bytes_at all r)) r.sum ≡ true = (bytes_eq-Decides _ _).1 same in
-    rw (is_there, is_same) refl
-
--- and no stream where they have another
-stream_at-other : (all : List ℕ) (r : Reference) → end_of r ≤ length all → sum_of (bytes_at all r) ≢ r.sum → stream_at all r ≡ None
-unfolding stream_at
-stream_at-other all r there other =
-    let is_there : nat_le (end_of r) (length all) ≡ true = grind (arith, nat_tests) in
-    elim (cases_Bool (bytes_eq (sum_of (bytes_at all r)) r.sum)) [
-      | inl same ↦ absurd (other ((bytes_eq-Decides (sum_of (bytes_at all r)) r.sum).0 same))
-      | inr is_other ↦ rw (is_there, is_other) refl
-    ]
-
 -- where known bytes do not hold a reference
 pub not_there : (known : Option (List ℕ)) (r : Reference) (holds : Bool) → holds ≡ false → IfSome known (λ all. IsTrue holds ↔ (end_of r ≤ length all)) → IfSome known (λ all. (length all < end_of r) × (stream_at all r ≡ None))
+unfolding stream_at
 not_there None r holds is h = tt
-not_there (Some all) r holds is h = let past : length all < end_of r = grind (arith, h) in (past, stream_at-past all r past)
+not_there (Some all) r holds is h = grind (arith, h, nat_tests)
 
 -- bytes that were read at the place of a reference are those at its place
 bytes_read : (all : List ℕ) (r : Reference) (bytes : List ℕ) → HasRead r.offset bytes all → length bytes ≡ r.len → bytes_at all r ≡ bytes
@@ -46,25 +22,25 @@ bytes_read all r bytes read len = sym (read ∙ ap (λ n. take n (drop r.offset 
 
 -- where they have its sum, they are the stream
 pub same_read : (known : Option (List ℕ)) (r : Reference) (holds : Bool) (bytes : List ℕ) → holds ≡ true → IfSome known (λ all. IsTrue holds ↔ (end_of r ≤ length all)) → IfSome known (HasRead r.offset bytes) → length bytes ≡ r.len → sum_of bytes ≡ r.sum → IfSome known (λ all. stream_at all r ≡ Some bytes)
+unfolding stream_at
 same_read None r holds bytes is there read len same = tt
 same_read (Some all) r holds bytes is there read len same =
     let here = bytes_read all r bytes read len in
-    stream_at-same all r (there.0 is) (ap sum_of here ∙ same) ∙ ap Some here
+    let tested = (bytes_eq-Decides (sum_of (bytes_at all r)) r.sum).1 (ap sum_of here ∙ same) in
+    grind (arith, nat_tests)
 
 -- where they have another, there is none
 pub other_read : (known : Option (List ℕ)) (r : Reference) (holds : Bool) (bytes : List ℕ) → holds ≡ true → IfSome known (λ all. IsTrue holds ↔ (end_of r ≤ length all)) → IfSome known (HasRead r.offset bytes) → length bytes ≡ r.len → sum_of bytes ≢ r.sum → IfSome known (λ all. (end_of r ≤ length all) × (stream_at all r ≡ None))
+unfolding stream_at
 other_read None r holds bytes is there read len other = tt
 other_read (Some all) r holds bytes is there read len other =
     let here = bytes_read all r bytes read len in
-    (there.0 is, stream_at-other all r (there.0 is) (λ same. other (ap sum_of (sym here) ∙ same)))
+    let tested = (bytes_eq-Decides (sum_of (bytes_at all r)) r.sum).0 in
+    grind (arith, nat_tests)
 
 ends_within : (all : List ℕ) (r : Reference) (bytes : List ℕ) → stream_at all r ≡ Some bytes → end_of r ≤ length all
 unfolding stream_at
-ends_within all r bytes is =
-    elim (cases_Bool (nat_le (end_of r) (length all))) [
-      | inl there ↦ grind (arith, nat_tests, there)
-      | inr past ↦ let none : ◌≡◌ {A = Option (List ℕ)} None (Some bytes) = rw past at is in cc
-    ]
+ends_within all r bytes is = grind (arith, nat_tests)
 
 -- bytes that were loaded were all there, also where memory is refused for their output
 pub refused : (known : Option (List ℕ)) (r : Reference) (bytes : List ℕ) (result : Result (List ℕ) LoadFault) → IsErrAnd result (λ fault. fault ≡ OutOfMemory) → IfSome known (λ all. IsLoaded all r (Ok bytes)) → IfSome known (λ all. IsLoaded all r result)

@@ -1,5 +1,6 @@
 -- The whole lines of a text, one by one (for `next_line`, `take_at_hand`, `read_next`).
 use Rattle.std.proofs.Common.{◌≡◌, ℕ, ◌+◌, ◌<◌, true, false, List, [], ◌∷◌, ◌++◌, Option, None, Some, length, take, drop, refl, sym, ap, ◌∙◌, subst, arith, append_assoc, append-nil, inl, inr, ◌==◌}
+use Rattle.std.specs.Prelude.{⊤}
 use Rattle.std.specs.List.{onto_first}
 use Rattle.std.proofs.lemmas.Bool.{cases_Bool}
 use Rattle.std.proofs.lemmas.List.{drop-append-le, drop_all}
@@ -10,30 +11,37 @@ use Rattle.recorded.specs.NextLines.{IsNextLine, TakesOf}
 use Rattle.recorded.specs.Runs.{ended_lines, without_last}
 use Rattle.recorded.specs.declared.lines.Taken.TheVariants as taken
 
--- a text has a first piece
-record HasPiece (text : List ℕ) : Type 0 where
+-- a byte is in none of these texts
+abbrev pub NoneHas : ℕ → List (List ℕ) → Type 0
+NoneHas b [] = ⊤
+NoneHas b (t ∷ ts) = Lacks b t × NoneHas b ts
+
+-- the pieces of a text: a first one and others, of which none has the byte at which it was split
+pub record HasPieces (b : ℕ) (t : List ℕ) : Type 0 where
   pub first : List ℕ
   pub more : List (List ℕ)
-  pub is : split_on 10 text ≡ first ∷ more
+  pub is : split_on b t ≡ first ∷ more
+  pub lacks : Lacks b first
+  pub none_has : NoneHas b more
 
-has_piece : (text : List ℕ) → HasPiece text
+pub pieces : (b : ℕ) (t : List ℕ) → HasPieces b t
 unfolding split_on
-has_piece [] = record { first = []; more = []; is = refl }
-has_piece (c ∷ t) = elim (cases_Bool (c == 10)) [
-  | inl y ↦ record { first = []; more = split_on 10 t; is = rw y refl }
-  | inr n ↦ (let h = has_piece t in record { first = c ∷ h.first; more = h.more; is = rw n (ap (onto_first c) h.is) })
-]
+pieces b [] = record { first = []; more = []; is = refl; lacks = tt; none_has = tt }
+pieces b (c ∷ t) = (let h = pieces b t in elim (cases_Bool (c == b)) [
+  | inl y ↦ record { first = []; more = h.first ∷ h.more; is = rw y (ap (λ ts. [] ∷ ts) h.is); lacks = tt; none_has = (h.lacks, h.none_has) }
+  | inr n ↦ record { first = c ∷ h.first; more = h.more; is = rw n (ap (onto_first c) h.is); lacks = (n, h.lacks); none_has = h.none_has }
+])
 
 -- the first line and the others
 pub ended_lines-more : (line more : List ℕ) → Lacks 10 line → ended_lines (line ++ 10 ∷ more) ≡ line ∷ ended_lines more
 ended_lines-more line more lacks =
-    let h = has_piece more in
+    let h = pieces 10 more in
     ap without_last (split_on-parts 10 line more lacks) ∙ ap (λ ts. without_last (line ∷ ts)) h.is ∙ ap (λ ts. line ∷ without_last ts) (sym h.is)
 
 pub ended_lines-none : (text : List ℕ) → Lacks 10 text → ended_lines text ≡ []
 ended_lines-none text lacks = ap without_last (split_on-lacks 10 text lacks)
 
-lacks-append : (t u : List ℕ) → Lacks 10 t → Lacks 10 u → Lacks 10 (t ++ u)
+pub lacks-append : (t u : List ℕ) → Lacks 10 t → Lacks 10 u → Lacks 10 (t ++ u)
 lacks-append [] u h k = k
 lacks-append (c ∷ t) u h k = (h.0, lacks-append t u h.1 k)
 

@@ -7,7 +7,7 @@ use Rattle.recorded.proofs.runs.RecordedRunRunSource.read_next.Goals as goal
 pub returns-in-Ok-false-clause-read : goal.returns-in-Ok-false-clause-read
 returns-in-Ok-false-clause-read g c = λ total all front before has.
     none_left c.args.file.now total c.args.self.now.options all front before c.args.read.now _ _ _ has _ _ refl c.next_line.new.line.items
-    (λ text known. subst (λ is_whole. IsNextLine text is_whole c.next_line.new.line.items (reader_remaining g.R.Read.remaining c.next_line.new.reader)) c.in-Ok-false.field-0-test (c.in-Ok-false.ensures.line text known)) c.args.read.now refl
+    (λ text known. subst (λ is_whole. IsNextLine text is_whole c.next_line.new.line.items (reader_remaining g.R.Read.remaining c.next_line.new.reader)) c.in-Ok-false.field-0-test (c.in-Ok-false.ensures.line text known))
 
 pub returns-in-Ok-clause-read : goal.returns-in-Ok-clause-read
 returns-in-Ok-clause-read g c = λ total all front before has.

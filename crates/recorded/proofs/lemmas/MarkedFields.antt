@@ -1,0 +1,91 @@
+-- What a reference begins with begins no value of any other kind of field.
+use Rattle.std.proofs.Common.{◌≡◌, ℕ, List, [], ◌∷◌, true, false, drop, refl, arith, Option, None, inl, inr, ◌⊎◌}
+use Rattle.std.specs.Prelude.{nat_eq}
+use Rattle.std.specs.List.{list_all, starts_with}
+use Rattle.std.specs.Option.{option_flatten}
+use Rattle.std.proofs.lemmas.Bool.{and_right, cases_Bool}
+use Rattle.std.proofs.lemmas.Bool.Decides.{nat_tests}
+use Rattle.uuid.specs.Text.{by_index, digits_of, is_hex_digit, parsed, parsed_hyphenated, parsed_simple}
+use Rattle.scene_fields.specs.Counts.{in_turn, skips_in, stats_in}
+use Rattle.scene_fields.specs.Numbers.{code_in, nanos_in, number_in}
+use Rattle.scene_fields.specs.References.{after_mark, mark, reference_in}
+use Rattle.scene_fields.specs.Results.{result_in}
+use Rattle.scene_fields.specs.Split.{cut, split_on}
+use Rattle.scene_fields.specs.Values.{stress_in}
+use Rattle.scene_text.specs.Parts.{highlight_in, moment_in, progress_in, result_or_none_in, state_in}
+
+-- what a reference begins with
+begins : (t : List ℕ) → starts_with nat_eq t mark ≡ true → t ≡ 92 ∷ 64 ∷ drop 2 t
+begins [] h = cc
+begins (c ∷ []) h = grind (arith, nat_tests)
+begins (c ∷ d ∷ u) h = grind (arith, nat_tests)
+
+-- a field is no reference, or begins so
+pub marked : (t : List ℕ) → (reference_in t ≡ None) ⊎ (t ≡ 92 ∷ 64 ∷ drop 2 t)
+unfolding reference_in after_mark
+marked t = elim (cases_Bool (starts_with nat_eq t mark)) [ inl y ↦ inr (begins t y) | inr n ↦ inl (rw n refl) ]
+
+-- of what a reference begins with nothing is read
+abbrev pub MarkedIsNone : {X : Type 0} → (List ℕ → Option X) → Type 0
+MarkedIsNone value_in = (u : List ℕ) → value_in (92 ∷ 64 ∷ u) ≡ None
+
+-- numbers
+pub marked_number : (bits : ℕ) → MarkedIsNone (number_in bits)
+unfolding number_in
+marked_number bits u = grind arith
+
+pub marked_nanos : MarkedIsNone nanos_in
+marked_nanos u = rw (marked_number 128 u) refl
+
+-- ids
+no_simple : (s : List ℕ) → list_all is_hex_digit s ≡ false → parsed_simple s ≡ None
+no_simple s h = grind (arith, and_right)
+
+marked_hyphenated : MarkedIsNone parsed_hyphenated
+unfolding by_index
+marked_hyphenated u = rw (no_simple (digits_of (92 ∷ 64 ∷ u)) refl) (grind arith)
+
+pub marked_run_id : MarkedIsNone parsed
+marked_run_id u = rw (no_simple (92 ∷ 64 ∷ u) refl, marked_hyphenated u) (grind (arith, and_right))
+
+-- iterations
+pub marked_stress : MarkedIsNone stress_in
+unfolding cut
+marked_stress u = grind (arith, marked_number)
+
+pub marked_iteration : MarkedIsNone (λ t. option_flatten (stress_in t))
+marked_iteration u = rw (marked_stress u) refl
+
+-- counts
+pub marked_stats : MarkedIsNone stats_in
+unfolding stats_in in_turn cut split_on
+marked_stats u = grind arith
+
+pub marked_skips : MarkedIsNone skips_in
+unfolding skips_in in_turn cut split_on
+marked_skips u = grind arith
+
+-- results
+pub marked_result : MarkedIsNone result_in
+unfolding result_in cut
+marked_result u = grind arith
+
+pub marked_result_or_none : MarkedIsNone result_or_none_in
+marked_result_or_none u = rw (marked_result u) refl
+
+-- values in parts
+pub marked_state : MarkedIsNone state_in
+unfolding state_in cut
+marked_state u = grind arith
+
+pub marked_progress : MarkedIsNone progress_in
+unfolding cut
+marked_progress u = grind arith
+
+pub marked_highlight : MarkedIsNone highlight_in
+unfolding cut
+marked_highlight u = grind arith
+
+pub marked_moment : MarkedIsNone moment_in
+unfolding cut code_in
+marked_moment u = grind arith
