@@ -22,8 +22,6 @@ pub mod Indents
 pub mod LineSequences
 pub mod Marks
 pub mod Pieces
-pub mod Repeated
-pub mod Runs
 pub mod ScannerSteps
 pub mod Spaces
 pub mod Steps

@@ -38,25 +38,11 @@ reset_closed = ((λ u. refl), tt)
 prefix_closed : (s : Style) → IsClosedText (style_prefix s)
 unfolding pieces_after sequence_len
 prefix_closed style.Plain = tt
-prefix_closed style.Bold = ((λ u. refl), tt)
-prefix_closed style.BoldRed = ((λ u. refl), tt)
-prefix_closed style.BoldGreen = ((λ u. refl), tt)
-prefix_closed style.BoldYellow = ((λ u. refl), tt)
-prefix_closed style.BoldBlue = ((λ u. refl), tt)
-prefix_closed style.BoldMagenta = ((λ u. refl), tt)
-prefix_closed style.Cyan = ((λ u. refl), tt)
-prefix_closed style.BrightBlack = ((λ u. refl), tt)
+prefix_closed _ = ((λ u. refl), tt)
 
 suffix_closed : (s : Style) → IsClosedText (style_suffix s)
 suffix_closed style.Plain = closed-none
-suffix_closed style.Bold = reset_closed
-suffix_closed style.BoldRed = reset_closed
-suffix_closed style.BoldGreen = reset_closed
-suffix_closed style.BoldYellow = reset_closed
-suffix_closed style.BoldBlue = reset_closed
-suffix_closed style.BoldMagenta = reset_closed
-suffix_closed style.Cyan = reset_closed
-suffix_closed style.BrightBlack = reset_closed
+suffix_closed _ = reset_closed
 
 -- the words of a part
 abbrev pub words_of : PartText → Text

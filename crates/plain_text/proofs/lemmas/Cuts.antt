@@ -3,6 +3,8 @@ use Rattle.std.proofs.Common.{◌≡◌, ℕ, zero, suc, ◌+◌, ◌<◌, ◌�
 use Rattle.std.proofs.lemmas.Bool.{cases_Bool, and_parts}
 use Rattle.std.proofs.lemmas.Bool.Decides.{nat_tests}
 use Rattle.plain_text.specs.Texts.{Text}
+use Rattle.plain_text.specs.Scanner.{is_before_backslash}
+use Rattle.plain_text.proofs.lemmas.ScannerSteps.{osc_len-cons, rest_len-ended}
 use Rattle.plain_text.specs.Escapes.{is_within, is_parameter, is_intermediate, is_control, front_len, one_len, then_len, csi_end_len, csi_len, osc_len, short_len, sequence_len}
 
 -- what f counts after an ASCII character is there, and ASCII to its end
@@ -66,48 +68,38 @@ IsCut c t n = (n ≤ length t) × ((get_or (c ∷ t) n 0 < 128) ⊎ ((n ≡ leng
 control-ascii : (c : ℕ) → is_control c ≡ true → c < 128
 control-ascii c h = grind (arith, nat_tests)
 
+-- one character more
+pub cut_on : (c d : ℕ) (t : Text) (n : ℕ) → IsCut d t n → IsCut c (d ∷ t) (suc n)
+cut_on c d t n (h, inl a) = (omega arith, inl a)
+cut_on c d t n (h, inr (inl q)) = (omega arith, inr (inl (ap suc q)))
+cut_on c d t n (h, inr (inr r)) = (omega arith, inr (inr r))
+
 osc_len-any : (c : ℕ) (t : Text) → IsCut c t (osc_len t)
 osc_len-any c [] = (omega arith, inr (inl refl))
-osc_len-any c (d ∷ []) = elim (cases_Bool (d == 7)) [
-  | inl y ↦ (rw y (omega arith), inr (inl (rw y refl)))
-  | inr n ↦ elim (cases_Bool (is_control d)) [
-    | inl y ↦ (rw (n, y) (omega arith), inr (inr (rw (n, y) (control-ascii d y))))
-    | inr m ↦ (rw (n, m) (omega arith), inr (inl (rw (n, m) refl)))
+osc_len-any c (d ∷ t) = rw (osc_len-cons d t) (elim (cases_Bool (d == 7)) [
+  | inl y ↦ rw y (omega arith, inl (grind (arith, nat_tests)))
+  | inr n ↦ elim (cases_Bool ((d == 27) && is_before_backslash t)) [
+    | inl y ↦ rw (n, y) (backslash_cut c d t (and_parts (d == 27) (is_before_backslash t) y).1)
+    | inr m ↦ elim (cases_Bool (is_control d)) [ inl y ↦ rw (n, m, y) (omega arith, inr (inr (control-ascii d y))) | inr k ↦ rw (n, m, k) (cut_on c d t (osc_len t) (osc_len-any d t)) ]
   ]
-]
-osc_len-any c (d ∷ e ∷ t) = let more = osc_len-any d (e ∷ t) in elim (cases_Bool (d == 7)) [
-  | inl y ↦ (rw y (omega arith), inl (rw y (grind (arith, nat_tests))))
-  | inr n ↦ elim (cases_Bool ((d == 27) && (e == 92))) [
-    | inl y ↦ (rw (n, y) (omega arith), inl (rw (n, y) (let h = (and_parts (d == 27) (e == 92) y).1 in grind (arith, nat_tests))))
-    | inr m ↦ elim (cases_Bool (is_control d)) [
-      | inl y ↦ (rw (n, m, y) (omega arith), inr (inr (rw (n, m, y) (control-ascii d y))))
-      | inr k ↦ (
-        rw (n, m, k) (omega arith),
-        rw (n, m, k) (elim more.1 [
-          | inl a ↦ inl a
-          | inr b ↦ elim b [ inl q ↦ inr (inl (ap suc q)) | inr r ↦ inr (inr r) ]
-        ]),
-      )
-    ]
-  ]
-]
+])
+  where
+    backslash_cut : (c d : ℕ) (t : Text) → is_before_backslash t ≡ true → IsCut c (d ∷ t) 2
+    backslash_cut c d [] h = cc
+    backslash_cut c d (e ∷ t) h = (omega arith, inl (grind (arith, nat_tests)))
 
 pub sequence_len-cut : (c : ℕ) (t : Text) → c < 128 → IsCut c t (sequence_len t)
 unfolding sequence_len
 sequence_len-cut c [] l = (omega arith, inl l)
 sequence_len-cut c (d ∷ t) l = elim (cases_Bool (d == 0x5B)) [
-  | inl y ↦ (let h = csi_len-ascii d t (grind (arith, nat_tests)) in (rw y (omega arith), inl (rw y h.1)))
+  | inl y ↦ (let h = csi_len-ascii d t (grind (arith, nat_tests)) in rw y (cut_on c d t (csi_len t) (h.0, inl h.1)))
   | inr n ↦ elim (cases_Bool (d == 0x5D)) [
-    | inl y ↦ (let h = osc_len-any d t in (
-      rw (n, y) (omega arith),
-      rw (n, y) (elim h.1 [
-        | inl a ↦ inl a
-        | inr b ↦ elim b [ inl q ↦ inr (inl (ap suc q)) | inr r ↦ inr (inr r) ]
-      ]),
-    ))
-    | inr m ↦ (let h = short_len-ascii c (d ∷ t) l in (rw (n, m) h.0, inl (rw (n, m) h.1)))
+    | inl y ↦ rw (n, y) (cut_on c d t (osc_len t) (osc_len-any d t))
+    | inr m ↦ (let h = short_len-ascii c (d ∷ t) l in rw (n, m) (h.0, inl h.1))
   ]
 ]
 
 pub sequence_len-le : (t : Text) → sequence_len t ≤ length t
 sequence_len-le t = (sequence_len-cut 0 t (lit< tt)).0
+
+pub ruleset ended = (rest_len-ended, sequence_len-le)

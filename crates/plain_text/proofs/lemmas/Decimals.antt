@@ -1,6 +1,7 @@
 -- Texts of digits (for `write_decimals`, `write_seconds_right`).
 use Rattle.std.proofs.Common.{◌≡◌, ◌≤◌, inl, inr, true, false, nat_lt, sym, ℕ, zero, suc, ◌+◌, ◌-◌, ◌/◌, ◌%◌, ◌^◌, ◌<◌, [], ◌∷◌, ◌++◌, length, ap, ◌∙◌, arith, length-append, append_assoc, codes, lit<, refl}
 use Rattle.std.specs.Fmt.{decimal}
+use Rattle.std.specs.List.{AllByRecursion}
 use Rattle.std.specs.Str.{IsAscii, IsUtf8, chars}
 use Rattle.std.proofs.lemmas.Str.{chars-IsAscii, IsAscii-append, IsUtf8-from_ascii}
 use Rattle.std.proofs.lemmas.Bool.{cases_lt}
@@ -21,12 +22,12 @@ IsAscii-none i = omega arith
 abbrev pub decimals : ℕ → Text
 decimals r = 46 ∷ (48 + r / 10 / 10 % 10) ∷ (48 + r / 10 % 10) ∷ (48 + r % 10) ∷ []
 
+ascii_each : (t : Text) → AllByRecursion (λ c. c < 128) t → IsAscii t
+ascii_each [] h = IsAscii-none
+ascii_each (c ∷ t) h = IsAscii-cons c t h.0 (ascii_each t h.1)
+
 IsAscii-decimals : (r : ℕ) → IsAscii (decimals r)
-IsAscii-decimals r =
-    IsAscii-cons 46 ((48 + r / 10 / 10 % 10) ∷ (48 + r / 10 % 10) ∷ (48 + r % 10) ∷ []) (lit< tt)
-    (IsAscii-cons (48 + r / 10 / 10 % 10) ((48 + r / 10 % 10) ∷ (48 + r % 10) ∷ []) (omega arith)
-    (IsAscii-cons (48 + r / 10 % 10) ((48 + r % 10) ∷ []) (omega arith)
-    (IsAscii-cons (48 + r % 10) [] (omega arith) IsAscii-none)))
+IsAscii-decimals r = ascii_each (decimals r) (lit< tt, (omega arith, (omega arith, (omega arith, tt))))
 
 -- a number of thousandths, right in so many columns
 right-thousandths : (columns r : ℕ) → r / 1000 < 10 ^ 64 → right_in columns (decimal (r / 1000) ++ decimals r) ≡ spaces (columns - 4 - length (decimal (r / 1000))) ++ (decimal (r / 1000) ++ decimals r)
@@ -62,11 +63,8 @@ right-seconds columns n whole part padding text p q fits e f =
 -- the digits as the code makes them
 pub IsUtf8-digits : (n : ℕ) → n < 1000 → IsUtf8 (46 ∷ (48 + n / 100) ∷ (48 + n / 10 % 10) ∷ (48 + n % 10) ∷ [])
 IsUtf8-digits n h =
-    IsUtf8-from_ascii (46 ∷ (48 + n / 100) ∷ (48 + n / 10 % 10) ∷ (48 + n % 10) ∷ [])
-    (IsAscii-cons 46 ((48 + n / 100) ∷ (48 + n / 10 % 10) ∷ (48 + n % 10) ∷ []) (lit< tt)
-    (IsAscii-cons (48 + n / 100) ((48 + n / 10 % 10) ∷ (48 + n % 10) ∷ []) (omega arith)
-    (IsAscii-cons (48 + n / 10 % 10) ((48 + n % 10) ∷ []) (omega arith)
-    (IsAscii-cons (48 + n % 10) [] (omega arith) IsAscii-none))))
+    let digits : Text = 46 ∷ (48 + n / 100) ∷ (48 + n / 10 % 10) ∷ (48 + n % 10) ∷ [] in
+    IsUtf8-from_ascii digits (ascii_each digits (lit< tt, (omega arith, (omega arith, (omega arith, tt)))))
 
 -- the column of a number's digit at a power of ten
 below : (n p : ℕ) → n < p → digit_column n p ≡ 32
@@ -130,18 +128,11 @@ abbrev pub row_of : ℕ → ℕ → ℕ → ℕ → ℕ → Text
 row_of whole r a b c =
     91 ∷ a ∷ b ∷ c ∷ (48 + whole % 10) ∷ 46 ∷ (48 + r / 100 % 10) ∷ (48 + r / 10 % 10) ∷ (48 + r % 10) ∷ 115 ∷ 93 ∷ 32 ∷ []
 
-three-ascii : (x y z : ℕ) → x < 128 → y < 128 → z < 128 → IsAscii (x ∷ y ∷ z ∷ [])
-three-ascii x y z h k l = IsAscii-cons x (y ∷ z ∷ []) h (IsAscii-cons y (z ∷ []) k (IsAscii-cons z [] l IsAscii-none))
-
 pub IsUtf8-row : (whole r a b c : ℕ) → a ≡ digit_column whole 1000 → b ≡ digit_column whole 100 → c ≡ digit_column whole 10 → IsUtf8 (row_of whole r a b c)
 IsUtf8-row whole r a b c p q s =
-    let front = three-ascii 91 a b (lit< tt) (rw p (digit_column-small whole 1000)) (rw q (digit_column-small whole 100)) in
-    let point = three-ascii c (48 + whole % 10) 46 (rw s (digit_column-small whole 10)) (omega arith) (lit< tt) in
-    let thousandths = three-ascii (48 + r / 100 % 10) (48 + r / 10 % 10) (48 + r % 10) (omega arith) (omega arith) (omega arith) in
-    let end = three-ascii 115 93 32 (lit< tt) (lit< tt) (lit< tt) in
-    let last = IsAscii-append ((48 + r / 100 % 10) ∷ (48 + r / 10 % 10) ∷ (48 + r % 10) ∷ []) (115 ∷ 93 ∷ 32 ∷ []) thousandths end in
-    let rest = IsAscii-append (c ∷ (48 + whole % 10) ∷ 46 ∷ []) ((48 + r / 100 % 10) ∷ (48 + r / 10 % 10) ∷ (48 + r % 10) ∷ 115 ∷ 93 ∷ 32 ∷ []) point last in
-    IsUtf8-from_ascii (row_of whole r a b c) (IsAscii-append (91 ∷ a ∷ b ∷ []) (c ∷ (48 + whole % 10) ∷ 46 ∷ (48 + r / 100 % 10) ∷ (48 + r / 10 % 10) ∷ (48 + r % 10) ∷ 115 ∷ 93 ∷ 32 ∷ []) front rest)
+    let thousandths : AllByRecursion (λ d. d < 128) ((48 + r / 100 % 10) ∷ (48 + r / 10 % 10) ∷ (48 + r % 10) ∷ 115 ∷ 93 ∷ 32 ∷ []) = (omega arith, (omega arith, (omega arith, (lit< tt, (lit< tt, (lit< tt, tt)))))) in
+    IsUtf8-from_ascii (row_of whole r a b c)
+    (ascii_each (row_of whole r a b c) (lit< tt, (rw p (digit_column-small whole 1000), (rw q (digit_column-small whole 100), (rw s (digit_column-small whole 10), (omega arith, (lit< tt, thousandths)))))))
 
 -- they are what the definition says
 pub bracketed-row : (n whole r a b c : ℕ) → n < 9999000000000 → r ≡ rounded 1000000 n → whole ≡ r / 1000 → a ≡ digit_column whole 1000 → b ≡ digit_column whole 100 → c ≡ digit_column whole 10
@@ -152,3 +143,5 @@ bracketed-row n whole r a b c h is over p q s =
     let text : right_in 8 (seconds 3 n) ≡ (spaces (4 - length (decimal whole)) ++ decimal whole) ++ decimals r
     = ap (right_in 8) (seconds-thousandths n) ∙ right-thousandths 8 (rounded 1000000 n) (omega arith) ∙ rw (← is, ← over) (sym (append_assoc (spaces (4 - length (decimal whole))) (decimal whole) (decimals r))) in
     rw (text, in-columns whole small, p, q, s, hundreds) refl
+
+pub ruleset decimal_laws = (IsUtf8-digits, IsUtf8-row)

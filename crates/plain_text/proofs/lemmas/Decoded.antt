@@ -2,8 +2,8 @@
 use Rattle.std.proofs.Common.{◌≡◌, ℕ, zero, suc, ◌+◌, ◌-◌, ◌<◌, ◌≤◌, ◌↔◌, true, ◌&&◌, List, [], ◌∷◌, ◌++◌, length, get_or, take, drop, Option, None, Some, encode_utf8_all, IsUtf8, IsCharBoundary, refl, sym, ap, subst, ◌∙◌, arith, ⊎_elim, inl, inr, length-append, length-drop}
 use Rattle.std.proofs.lemmas.Bool.{cases_Bool, cases_lt}
 use Rattle.std.proofs.lemmas.Bool.Decides.{nat_tests}
-use Rattle.std.proofs.lemmas.List.{take-append-drop, take-append-le, get_or_append_left}
-use Rattle.std.proofs.lemmas.Str.{IsUtf8-append, encodes-append, utf8_lossy_chunk, IsCharBoundary-start}
+use Rattle.std.proofs.lemmas.List.{nil_from_length, drop-append-le, take-append-drop, take-append-le, get_or_append_left}
+use Rattle.std.proofs.lemmas.Str.{IsUtf8-append, IsUtf8-drop, encodes-append, utf8_lossy_chunk, IsCharBoundary-start}
 use Rattle.std.proofs.Math.Seq.{take-append_seam, drop-append_seam, drop-append-add, take-append-add, get_or-append-add}
 use Rattle.std.proofs.Math.Utf8.{scalars, scalar}
 use Rattle.std.specs.Str.Lossy.{utf8_valid_len, utf8_invalid_len, utf8_lossy}
@@ -108,21 +108,16 @@ past-take piece more n h = let e : length piece + (n - length piece) ≡ n = ome
 -- the first piece, as the code cuts it
 
 pub decoded-none : (bytes : List ℕ) → length bytes ≡ 0 → decoded_text bytes ≡ []
-decoded-none [] h = decoded-nil
-decoded-none (b ∷ bs) h = absurd (omega arith)
+decoded-none bytes h = rw (nil_from_length bytes h) decoded-nil
 
 module _ (bytes valid invalid after rest : List ℕ) (parts : bytes ≡ valid ++ (invalid ++ after)) where
   pub invalid_first : length after < length bytes → length valid ≡ utf8_valid_len bytes → length invalid ≡ utf8_invalid_len (drop (utf8_valid_len bytes) bytes)
       → length valid ≡ 0 → rest ≡ drop (length invalid) bytes → decoded_text bytes ≡ 239 ∷ 191 ∷ 189 ∷ decoded_text rest
   invalid_first less v i none cut =
-      let empty : valid ≡ [] = nil valid none in
+      let empty : valid ≡ [] = nil_from_length valid none in
       let some : 0 < length invalid = omega (arith, ap length parts, length-append valid (invalid ++ after), length-append invalid after) in
       let back : rest ≡ after = cut ∙ ap (drop (length invalid)) (parts ∙ ap (λ t. t ++ (invalid ++ after)) empty) ∙ drop-append_seam invalid after in
       decoded-invalid bytes valid invalid after parts v i empty some ∙ ap (λ t. 239 ∷ 191 ∷ 189 ∷ decoded_text t) (sym back)
-    where
-      nil : (t : List ℕ) → length t ≡ 0 → t ≡ []
-      nil [] h = refl
-      nil (b ∷ bs) h = absurd (omega arith)
 
   pub valid_first : IsUtf8 valid → rest ≡ drop (length valid) bytes → decoded_text bytes ≡ valid ++ decoded_text rest
   valid_first u cut =
@@ -173,9 +168,6 @@ prefix-step piece more wanted le =
       λ both. joined ∙ (λ i. sym both.0 i ++ both.1 i) ∙ take-append-drop k wanted,
     )
 
-pub prefix-end : (piece more wanted : Text) → length wanted ≤ length piece → take (length wanted) (piece ++ more) ≡ take (length wanted) piece
-prefix-end piece more wanted le = take-append-le (length wanted) piece more le
-
 -- one piece is as wanted: what follows it decides
 pub prefix_on : {P : Type 0} (piece more wanted : Text) → length piece ≤ length wanted → (next back : Text) → more ≡ next → take (length piece) wanted ≡ piece → back ≡ drop (length piece) wanted
     → P ↔ (take (length wanted) (piece ++ more) ≡ wanted) → P ↔ (take (length back) next ≡ back)
@@ -185,4 +177,8 @@ prefix_on piece more wanted le next back same front cut h =
       λ e. h.1 (step.1 (front, rw (← cut, same) e)),
     )
 
-pub ruleset decoded_laws = (decoded-utf8, decoded-lossy, decoded-same, decoded-front, front_text-take, front_text-none)
+pub ruleset decoded_laws = (decoded-utf8, shown-utf8, decoded-lossy, decoded-same, decoded-front, front_text-take, front_text-none)
+
+pub ruleset first_laws = (decoded-none, invalid_first, valid_first)
+
+pub ruleset place_laws = (within-boundary, decoded-utf8, IsUtf8-drop, drop-append-le)

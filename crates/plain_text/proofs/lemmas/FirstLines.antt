@@ -1,10 +1,11 @@
 -- The lines of a text, each with its line feed (for `split_line`).
 use Rattle.std.proofs.Common.{◌≡◌, ℕ, suc, ◌+◌, ◌<◌, ◌==◌, false, [], ◌∷◌, ◌++◌, refl, sym, ap, ◌∙◌, arith, length, get_or, take, drop, add-one}
-use Rattle.std.proofs.Math.Seq.{take-suc}
+use Rattle.std.proofs.Math.Seq.{take-suc, take-length}
+use Rattle.std.proofs.lemmas.List.{nil_from_length}
 use Rattle.memchr.specs.Find.{Nowhere, NoneBefore, Passes, is_byte}
 use Rattle.plain_text.specs.Lines.{onto_first_line, whole_lines}
 use Rattle.plain_text.specs.Texts.{Text}
-use Rattle.plain_text.proofs.lemmas.Feeds.{same_byte}
+use Rattle.plain_text.proofs.lemmas.Feeds.{boundary_after_feed, first_line, same_byte}
 use Rattle.plain_text.proofs.lemmas.Highlighted.{NoFeeds, none_found, none_before, parts_at}
 
 whole_lines-at : (a r : Text) → NoFeeds a → whole_lines (a ++ 10 ∷ r) ≡ (a ++ 10 ∷ []) ∷ whole_lines r
@@ -29,7 +30,8 @@ line_found t i h =
     ap whole_lines (parts_at t i h.0 h.1) ∙ whole_lines-at (take i t) (drop (i + 1) t) (none_before t i h.0) ∙ ap (λ l. l ∷ whole_lines (drop (i + 1) t)) (sym front)
 
 -- one without a line feed
-pub line_alone : (t back : Text) → Nowhere (Passes (is_byte 10) t) 0 (length t) → 0 < length t → length back ≡ 0 → whole_lines t ≡ t ∷ whole_lines back
+pub line_alone : (t front back : Text) → Nowhere (Passes (is_byte 10) t) 0 (length t) → 0 < length t → front ≡ take (length t) t → length back ≡ 0 → whole_lines t ≡ front ∷ whole_lines back
 unfolding whole_lines
-line_alone t [] h l e = whole_lines-one t (none_found t h) l
-line_alone t (c ∷ back) h l e = absurd (omega arith)
+line_alone t front back h l p e = rw (p, take-length t, nil_from_length back e) (whole_lines-one t (none_found t h) l)
+
+pub ruleset line_laws = (boundary_after_feed, first_line, same_byte, line_found, line_alone)

@@ -55,13 +55,14 @@ module _ (start end : ℕ) where
   kept_chars-cons : (pos c : ℕ) (cs : List ℕ) → encode_utf8_all (kept_chars start end pos (c ∷ cs)) ≡ cond (nat_le start pos && nat_le (pos + char_columns c) end) (encode_utf8 c) [] ++ encode_utf8_all (kept_chars start end (pos + char_columns c) cs)
   kept_chars-cons pos c cs = elim (cases_Bool (nat_le start pos && nat_le (pos + char_columns c) end)) [ inl y ↦ rw y refl | inr n ↦ rw n refl ]
 
-  -- a stretch that began before the end
-  record Kept (place pos : ℕ) (cs : List ℕ) (ms : List Mark) : Type 0 where
+  -- after a stretch, of which this front is kept
+  record Passed (is_open : Bool) (front : Text) (place pos : ℕ) (cs : List ℕ) (ms : List Mark) : Type 0 where
     next : ℕ
     is_place : IsPlace next (pos + columns_of cs)
-    kept : kept_marks place true (tagged false cs ++ ms) ≡ encode_utf8_all (kept_chars start end pos cs) ++ kept_marks next true ms
+    kept : kept_marks place is_open (tagged false cs ++ ms) ≡ front ++ kept_marks next is_open ms
 
-  open_stretch : (place pos : ℕ) (cs : List ℕ) (ms : List Mark) → IsPlace place pos → Kept place pos cs ms
+  -- a stretch that began before the end
+  open_stretch : (place pos : ℕ) (cs : List ℕ) (ms : List Mark) → IsPlace place pos → Passed true (encode_utf8_all (kept_chars start end pos cs)) place pos cs ms
   open_stretch place pos [] ms h = record { next = place; is_place = subst (IsPlace place) (omega arith) h; kept = refl }
   open_stretch place pos (c ∷ cs) ms h =
       let more = open_stretch (next_place end place (char_columns c)) (pos + char_columns c) cs ms (next_is place pos (char_columns c) h) in
@@ -74,12 +75,7 @@ module _ (start end : ℕ) where
       }
 
   -- a stretch that begins at the end or past it
-  record Passed (place pos : ℕ) (cs : List ℕ) (ms : List Mark) : Type 0 where
-    next : ℕ
-    is_place : IsPlace next (pos + columns_of cs)
-    kept : kept_marks place false (tagged false cs ++ ms) ≡ kept_marks next false ms
-
-  closed_stretch : (place pos : ℕ) (cs : List ℕ) (ms : List Mark) → IsPlace place pos → end ≤ pos → Passed place pos cs ms
+  closed_stretch : (place pos : ℕ) (cs : List ℕ) (ms : List Mark) → IsPlace place pos → end ≤ pos → Passed false [] place pos cs ms
   closed_stretch place pos [] ms h k = record { next = place; is_place = subst (IsPlace place) (omega arith) h; kept = refl }
   closed_stretch place pos (c ∷ cs) ms h k =
       let more = closed_stretch (next_place end place (char_columns c)) (pos + char_columns c) cs ms (next_is place pos (char_columns c) h) (omega arith) in
@@ -119,8 +115,7 @@ shut_after (c ∷ t) = let more = shut_after t in elim (cases_Bool (c == 27)) [
 
 apart_after : (n : ℕ) (t : Text) → AreApart (pieces_after n t)
 unfolding pieces_after
-apart_after zero [] = tt
-apart_after (suc n) [] = tt
+apart_after n [] = tt
 apart_after (suc n) (c ∷ t) = apart_after n t
 apart_after zero (c ∷ t) = elim (cases_Bool (c == 27)) [
   | inl y ↦ rw y (apart_after (sequence_len t) t)

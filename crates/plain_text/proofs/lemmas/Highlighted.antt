@@ -2,7 +2,7 @@
 use Rattle.std.proofs.Common.{◌≡◌, ℕ, suc, ◌+◌, ◌<◌, true, false, ◌==◌, inl, inr, [], ◌∷◌, ◌++◌, cond, refl, sym, ap, ◌∙◌, arith, length, get_or, take, drop, count_by, length-append, length-take-le, get_or-take, get_or-drop, add-one, take-append-drop}
 use lib.Seq.{take-add}
 use Rattle.std.proofs.Math.Seq.{drop-cons, take-suc}
-use Rattle.std.proofs.lemmas.Bool.Decides.{eqb_tells}
+use Rattle.std.proofs.lemmas.Bool.{false_from_ne_true}
 use Rattle.std.proofs.lemmas.List.{get_or_default}
 use Rattle.std.proofs.lemmas.List.Sums.{sum_by-cons, sum_by-append}
 use Rattle.std.proofs.lemmas.List.Splits.{slice_split_none, slice_split_at}
@@ -16,16 +16,13 @@ use Rattle.plain_text.proofs.lemmas.Feeds.{same_byte}
 abbrev pub NoFeeds : Text → Type 0
 NoFeeds t = All (λ c. (c == 10) ≡ false) t
 
-not_ten : (c : ℕ) → ((c == 10) ≡ true → ⊥) → (c == 10) ≡ false
-not_ten c h = elim (eqb_tells c 10) [ inl y ↦ absurd (h y.0) | inr n ↦ n.0 ]
-
 pub none_found : (t : Text) → Nowhere (Passes (is_byte 10) t) 0 (length t) → NoFeeds t
-none_found t h k d l = not_ten (get_or t k d) (λ e. h k (omega arith) l (ap (λ c. c == 10) (get_or_default t k 0 d l) ∙ e))
+none_found t h k d l = false_from_ne_true _ (λ e. h k (omega arith) l (ap (λ c. c == 10) (get_or_default t k 0 d l) ∙ e))
 
 pub none_before : (t : Text) (i : ℕ) → NoneBefore (Passes (is_byte 10) t) 0 (length t) i → NoFeeds (take i t)
 none_before t i h k d l =
     let below : k < i = rw (length-take-le i t (omega (arith, h.high))) at l in
-    not_ten (get_or (take i t) k d) (λ e. h.before k (omega arith) below (ap (λ c. c == 10) (get_or_default t k 0 d (omega (arith, h.high)) ∙ sym (get_or-take i t k d below)) ∙ e))
+    false_from_ne_true _ (λ e. h.before k (omega arith) below (ap (λ c. c == 10) (get_or_default t k 0 d (omega (arith, h.high)) ∙ sym (get_or-take i t k d below)) ∙ e))
 
 -- a text round its first line feed
 pub parts_at : (t : Text) (i : ℕ) → NoneBefore (Passes (is_byte 10) t) 0 (length t) i → Passes (is_byte 10) t i → t ≡ take i t ++ 10 ∷ drop (i + 1) t
@@ -59,11 +56,11 @@ count-none (c ∷ t) h =
     sum_by-cons (λ d. cond (d == 10) 1 0) c t ∙ rw first (omega (arith, count-none t (λ k d l. h (suc k) d (omega arith))))
 
 -- the first two line feeds
-module _ (t r : Text) (i j : ℕ) (first : NoneBefore (Passes (is_byte 10) t) 0 (length t) i × Passes (is_byte 10) t i) (after : r ≡ drop (i + 1) t) where
+module _ (t r : Text) (i : ℕ) (first : NoneBefore (Passes (is_byte 10) t) 0 (length t) i × Passes (is_byte 10) t i) (after : r ≡ drop (i + 1) t) where
   pub one_feed : NoFeeds r → length t ≡ highlight_end t
   one_feed none = end-one t (take i t) r (parts_at t i first.0 first.1 ∙ ap (λ x. take i t ++ 10 ∷ x) (sym after)) (none_before t i first.0) none
 
-  module _ (second : NoneBefore (Passes (is_byte 10) r) 0 (length r) j × Passes (is_byte 10) r j) where
+  module _ (j : ℕ) (second : NoneBefore (Passes (is_byte 10) r) 0 (length r) j × Passes (is_byte 10) r j) where
     pub two_feeds : i + 1 + j ≡ highlight_end t
     two_feeds = omega (
       arith,
@@ -80,3 +77,5 @@ module _ (t r : Text) (i j : ℕ) (first : NoneBefore (Passes (is_byte 10) t) 0 
 
     pub one_before : count_by (λ c. c == 10) (take (i + 1 + j) t) ≡ 1
     one_before = rw (take-add (i + 1) j t, ← after, count-append (take (i + 1) t) (take j r), front_feeds, count-none (take j r) (none_before r j second.0)) refl
+
+pub ruleset highlight_laws = (none_found, end-none, two_feeds, second_feed, one_before)

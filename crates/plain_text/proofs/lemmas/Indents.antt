@@ -1,6 +1,6 @@
 -- Lines that are indented (for `Indented::fmt_line`, `Indented::fmt_margin`, `Indented::write_line`, `Indented::write_margin` and others).
 use Rattle.std.proofs.Common.{◌≡◌, ◌≢◌, ℕ, suc, ◌+◌, ◌-◌, ◌<◌, [], ◌∷◌, ◌++◌, Bool, true, false, ◌==◌, nat_eq, length, take, get_or, get_or-take, length-take-le, refl, ap, sym, ◌∙◌, arith, inl, inr, Result, Ok, Err}
-use Rattle.std.proofs.lemmas.Bool.{cases_Bool}
+use Rattle.std.proofs.lemmas.Bool.{cases_Bool, ne_eqb}
 use Rattle.std.proofs.lemmas.Bool.Decides.{eqb_tells}
 use lib.Pointwise.{pointwise}
 use Rattle.plain_text.specs.Texts.{Text}
@@ -17,13 +17,10 @@ Line [] = ⊥
 Line (c ∷ []) = Unit {0}
 Line (c ∷ d ∷ t) = ((c == 10) ≡ false) × Line (d ∷ t)
 
-no_feed : (c : ℕ) → c ≢ 10 → (c == 10) ≡ false
-no_feed c h = elim (eqb_tells c 10) [ inl y ↦ absurd (h y.1) | inr n ↦ n.0 ]
-
 Line-from_each : (t : Text) → 0 < length t → ((i : ℕ) → i + 1 < length t → get_or t i 0 ≢ 10) → Line t
 Line-from_each [] h each = omega arith
 Line-from_each (c ∷ []) h each = tt
-Line-from_each (c ∷ d ∷ t) h each = (no_feed c (each 0 (omega arith)), Line-from_each (d ∷ t) (omega arith) (λ i l. each (suc i) (omega arith)))
+Line-from_each (c ∷ d ∷ t) h each = (ne_eqb c 10 (each 0 (omega arith)), Line-from_each (d ∷ t) (omega arith) (λ i l. each (suc i) (omega arith)))
 
 Line-from : (t : Text) → IsOneLine t → Line t
 Line-from t h = Line-from_each t h.is_there (λ i l e.
@@ -116,3 +113,5 @@ pub flush_put : {W : Type 0} (m : Meaning W) (a b : Indented W) (r : Result (Uni
 unfolding indent after
 flush_put m a b (Ok x) p f i o = record { below = p; line = f; indentation = i; same = o }
 flush_put m a b (Err e) p f i o = record { below = p; same = o }
+
+pub ruleset first_margin = (margin-first)

@@ -1,15 +1,16 @@
 -- The pieces of a text (for `control_len`, `piece_laws`, `split_escape`, `split_piece` and others).
 use Rattle.std.proofs.Common.{◌≡◌, ◌≢◌, ℕ, zero, suc, ◌+◌, ◌<◌, ◌≤◌, Bool, true, false, not, ◌==◌, inl, inr, [], ◌∷◌, ◌++◌, refl, sym, ap, ◌∙◌, arith, length, get_or, take, drop, ◌⊎◌, lit<, add-one}
-use Rattle.std.proofs.lemmas.Bool.{cases_Bool, and_parts, not-true}
+use Rattle.std.proofs.lemmas.Bool.{cases_Bool, and_parts, not-true, false_from_ne_true}
 use Rattle.std.proofs.lemmas.Bool.Decides.{eqb_tells}
-use Rattle.std.proofs.lemmas.List.{take-append-drop}
+use Rattle.std.proofs.lemmas.List.{take-append-drop, nil_from_length, drop_all}
+use Rattle.std.proofs.Math.Seq.{drop-cons}
 use Rattle.std.proofs.lemmas.Str.{IsCharBoundary-after_ascii}
 use Rattle.std.specs.Str.{IsUtf8, IsCharBoundary}
 use Rattle.plain_text.specs.Texts.{Text}
 use Rattle.plain_text.specs.Escapes.{front_len, is_visible, sequence_len, pieces_after, pieces, joined, stretches, visible_after, visible, has_no_escape, HasNoEscape}
 use Rattle.plain_text.specs.Escapes.PieceText.{SequenceText, StretchText}
 use Rattle.memchr.specs.Find.{Nowhere, NoneBefore, Passes, is_byte}
-use Rattle.plain_text.proofs.lemmas.Cuts.{IsCut, sequence_len-cut}
+use Rattle.plain_text.proofs.lemmas.Cuts.{IsCut, cut_on, csi_end_len-le, csi_len-le, csi_len-final, sequence_len-cut, sequence_len-le}
 
 pub front_len-le : (p : ℕ → Bool) (t : Text) → front_len p t ≤ length t
 front_len-le p [] = omega arith
@@ -17,9 +18,9 @@ front_len-le p (c ∷ t) = elim (cases_Bool (p c)) [ inl y ↦ (let more = front
 
 pub stretch_len-cut : (c : ℕ) (t : Text) → IsCut c t (front_len is_visible t)
 stretch_len-cut c [] = (omega arith, inr (inl refl))
-stretch_len-cut c (d ∷ t) = let more = stretch_len-cut d t in elim (eqb_tells d 27) [
-  | inl y ↦ (rw y.0 (omega arith), inr (inr (rw y.0 (omega arith))))
-  | inr n ↦ (rw n.0 (omega arith), rw n.0 (elim more.1 [ inl a ↦ inl a | inr b ↦ elim b [ inl q ↦ inr (inl (ap suc q)) | inr r ↦ inr (inr r) ] ]))
+stretch_len-cut c (d ∷ t) = elim (eqb_tells d 27) [
+  | inl y ↦ rw y.0 (omega arith, inr (inr (omega arith)))
+  | inr n ↦ rw n.0 (cut_on c d t (front_len is_visible t) (stretch_len-cut d t))
 ]
 
 -- a text may be cut at such a place
@@ -72,8 +73,7 @@ stretch-visible (c ∷ t) = elim (cases_Bool (c == 27)) [
 
 stretches-after : (n : ℕ) (t : Text) → stretches (pieces_after n t) ≡ visible_after n t
 unfolding pieces_after visible_after
-stretches-after zero [] = refl
-stretches-after (suc n) [] = refl
+stretches-after n [] = refl
 stretches-after (suc n) (c ∷ t) = stretches-after n t
 stretches-after zero (c ∷ t) = elim (cases_Bool (c == 27)) [
   | inl y ↦ rw (y, stretches-after (sequence_len t) t) refl
@@ -86,8 +86,7 @@ stretches-pieces t = stretches-after 0 t
 -- what is visible has no escape character
 pub visible_after-free : (n : ℕ) (t : Text) → HasNoEscape (visible_after n t)
 unfolding visible_after
-visible_after-free zero [] = refl
-visible_after-free (suc n) [] = refl
+visible_after-free n [] = refl
 visible_after-free (suc n) (c ∷ t) = visible_after-free n t
 visible_after-free zero (c ∷ t) = elim (cases_Bool (c == 27)) [
   | inl y ↦ rw y (visible_after-free (sequence_len t) t)
@@ -153,16 +152,14 @@ visible-front (c ∷ t) h = elim (cases_Bool (c == 27)) [
 
 pub visible-empty : (t : Text) → length t ≡ 0 → visible t ≡ []
 unfolding visible_after
-visible-empty [] h = refl
-visible-empty (c ∷ t) h = absurd (omega arith)
+visible-empty t h = rw (nil_from_length t h) refl
 
 pub visible-visible : (t : Text) → visible (visible t) ≡ visible t
 visible-visible t = visible-free (visible t) (visible_after-free 0 t)
 
 pub pieces-empty : (t : Text) → length t ≡ 0 → pieces t ≡ []
 unfolding pieces_after
-pieces-empty [] h = refl
-pieces-empty (c ∷ t) h = absurd (omega arith)
+pieces-empty t h = rw (nil_from_length t h) refl
 
 -- the first piece, as the code cuts it
 module _ (bs after : Text) (first count : ℕ) (e : bs ≡ first ∷ after) where
@@ -208,11 +205,29 @@ front_at (c ∷ t) (suc n) h before ends =
     let first : (c == 27) ≡ false = before 0 (omega arith) in
     rw first (ap suc (front_at t n (omega arith) (λ k l. before (suc k) (omega arith)) (elim ends [ inl e ↦ inl (omega arith) | inr e ↦ inr e ])))
 
-not_escape : (c : ℕ) → ((c == 27) ≡ true → ⊥) → (c == 27) ≡ false
-not_escape c h = elim (eqb_tells c 27) [ inl y ↦ absurd (h y.0) | inr n ↦ n.0 ]
-
 pub stretch_at : (t : Text) (i : ℕ) → NoneBefore (Passes (is_byte 27) t) 0 (length t) i × Passes (is_byte 27) t i → i ≡ front_len is_visible t
-stretch_at t i found = front_at t i (omega (arith, found.0.high)) (λ k l. not_escape (get_or t k 0) (found.0.before k (omega arith) l)) (inr found.1)
+stretch_at t i found = front_at t i (omega (arith, found.0.high)) (λ k l. false_from_ne_true _ (found.0.before k (omega arith) l)) (inr found.1)
 
 pub stretch_whole : (t : Text) → Nowhere (Passes (is_byte 27) t) 0 (length t) → length t ≡ front_len is_visible t
-stretch_whole t none = front_at t (length t) (omega arith) (λ k l. not_escape (get_or t k 0) (none k (omega arith) l)) (inl refl)
+stretch_whole t none = front_at t (length t) (omega arith) (λ k l. false_from_ne_true _ (none k (omega arith) l)) (inl refl)
+
+pub ruleset len_laws = (front_len-le, csi_end_len-le, csi_len-le, csi_len-final, sequence_len-le)
+
+pub ruleset first_piece = (pieces-empty, sequence_fits, sequence_boundary, stretch_fits, stretch_boundary)
+
+pub ruleset visible_laws = (visible_after-free, visible-visible, visible-free)
+
+pub ruleset fronts = (visible-front, visible-stretch, visible-sequence, front_boundary, front_stops, sequence_fits, sequence_boundary, nil_from_length)
+
+-- the run goes on with a byte that passes
+pub front_len-on : (p : ℕ → Bool) (t : Text) (i none : ℕ) → i < length t → p (get_or t i none) ≡ true → front_len p (drop i t) ≡ suc (front_len p (drop (i + 1) t))
+front_len-on p t i none h e = rw (drop-cons t i none, e, add-one) refl
+
+-- it ends at one that does not, or with the text
+pub front_len-off : (p : ℕ → Bool) (t : Text) (i none : ℕ) → i < length t → p (get_or t i none) ≡ false → front_len p (drop i t) ≡ 0
+front_len-off p t i none h e = rw (drop-cons t i none, e) refl
+
+pub front_len-end : (p : ℕ → Bool) (t : Text) (i : ℕ) → length t ≤ i → front_len p (drop i t) ≡ 0
+front_len-end p t i h = ap (front_len p) (drop_all i t h)
+
+pub ruleset runs = (front_len-on, front_len-off, front_len-end)

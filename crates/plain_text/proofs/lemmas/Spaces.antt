@@ -14,7 +14,7 @@ pub spaces_first : (n k : ℕ) (t : Text) → t ≡ spaces k → k ≤ n → spa
 spaces_first n k t is within = spaces-split n k within ∙ ap (λ u. u ++ spaces (n - k)) (sym is)
 
 -- the characters of four texts
-pub length-chars-joined : (a b c d : Text) → IsUtf8 a → IsUtf8 b → IsUtf8 c → length (chars (a ++ (b ++ (c ++ d)))) ≡ length (chars a) + (length (chars b) + (length (chars c) + length (chars d)))
-length-chars-joined a b c d p q r =
+pub joined_columns : (a b c d : Text) → IsUtf8 a → IsUtf8 b → IsUtf8 c → length (chars (a ++ (b ++ (c ++ d)))) ≡ length (chars a) + (length (chars b) + (length (chars c) + length (chars d)))
+joined_columns a b c d p q r =
     rw (chars-append a (b ++ (c ++ d)) p, chars-append b (c ++ d) q, chars-append c d r)
     (simp length-append)

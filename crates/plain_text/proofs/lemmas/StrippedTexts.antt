@@ -2,6 +2,7 @@
 use Rattle.std.proofs.Common.{◌≡◌, ℕ, zero, suc, ◌<◌, Bool, true, false, ◌==◌, inl, inr, List, [], ◌∷◌, ◌++◌, refl, sym, ap, ◌∙◌, append_assoc, arith, length, take, drop, take-append-drop, length-append, length-drop, Some, None, chars, encode_utf8, encode_utf8_all, if◌then◌else◌, lit<, Result}
 use Rattle.std.proofs.lemmas.Bool.{cases_Bool, cases_lt}
 use Rattle.std.proofs.lemmas.Bool.Decides.{eqb_tells, nat_tests}
+use Rattle.std.proofs.lemmas.List.{nil_from_length}
 use Rattle.std.proofs.lemmas.Str.{chars-append, chars-nil, chars_past_char, encode_ascii, encodes-chars, length-encode, len_utf8_bounds, IsUtf8-take}
 use Rattle.std.specs.Str.{IsUtf8}
 use Rattle.std.specs.Result.{IsErrAnd}
@@ -23,7 +24,8 @@ use Rattle.plain_text.specs.declared.escapes.Step.{Step}
 use Rattle.plain_text.specs.declared.escapes.Step.TheVariants.{Inside, Ends}
 use Rattle.plain_text.proofs.lemmas.Fits.{AreTexts, texts}
 use Rattle.plain_text.proofs.lemmas.Marks.{Mark, marks, tagged, piece_marks, marks-pieces, encode-high}
-use Rattle.plain_text.proofs.lemmas.Pieces.{free_parts, front_boundary, front_free, front_len-le, stretches-pieces}
+use Rattle.plain_text.proofs.lemmas.Widths.{free_back}
+use Rattle.plain_text.proofs.lemmas.Pieces.{front_boundary, front_free, front_len-le, stretches-pieces}
 
 -- characters in two parts
 pub visible_from-append : (m : Mode) (cs ds : List ℕ) → visible_from m (cs ++ ds) ≡ visible_from m cs ++ visible_from (modes_after m cs) ds
@@ -77,7 +79,7 @@ visible-from t u = sym (stretches-pieces t) ∙ sym (shown-pieces (pieces t) (te
 
 -- a character that belongs to no sequence is no escape character
 begun-none : (c : ℕ) → begun c ≡ None → (c == 27) ≡ false
-begun-none c h = elim (cases_Bool (c == 27)) [ inl y ↦ absurd (let e = rw y at h in cc) | inr n ↦ n ]
+begun-none c h = grind arith
 
 step-none : (c : ℕ) (x : Step) → mode_after_step c x ≡ None → (c == 27) ≡ false
 step-none c (Inside s) h = absurd (cc)
@@ -87,11 +89,8 @@ step-none c (Ends (suc k)) h = let z : (suc k == 0) ≡ false = grind (arith, na
 pub advanced-none : (m : Mode) (c : ℕ) → advanced m c ≡ None → (c == 27) ≡ false
 advanced-none mode.Text c h = begun-none c h
 advanced-none mode.Terminator c h = elim (cases_Bool (c == 92)) [ inl y ↦ absurd (let e = rw y at h in cc) | inr n ↦ step-none c (step_of Start c false) (rw n at h) ]
-advanced-none (mode.Sequence Start) c h = step-none c (step_of Start c false) h
-advanced-none (mode.Sequence Parameters) c h = step-none c (step_of Parameters c false) h
-advanced-none (mode.Sequence Intermediates) c h = step-none c (step_of Intermediates c false) h
 advanced-none (mode.Sequence Command) c h = elim (cases_Bool (c == 27)) [ inl y ↦ absurd (let e = rw y at h in cc) | inr n ↦ n ]
-advanced-none (mode.Sequence Short) c h = step-none c (step_of Short c false) h
+advanced-none (mode.Sequence s) c h = step-none c (step_of s c false) h
 
 -- where it is scanned from text all the same
 pub none_visible : (m : Mode) (c : ℕ) (cs : List ℕ) → advanced m c ≡ None → visible_from m (c ∷ cs) ≡ visible_from mode.Text (c ∷ cs)
@@ -103,10 +102,6 @@ unfolding modes_after
 none_mode m c cs h = rw (h, advanced-none m c h) refl
 
 -- a stretch without escape characters
-free_back : (t u : Text) → HasNoEscape (t ++ u) → HasNoEscape u
-free_back [] u h = h
-free_back (c ∷ t) u h = free_back t u (free_parts c (t ++ u) h).1
-
 free_char : (c : ℕ) (t : Text) → HasNoEscape (encode_utf8 c ++ t) → (c == 27) ≡ false
 free_char c t h = elim (eqb_tells c 27) [
   | inl y ↦ absurd (let e : encode_utf8 c ≡ 27 ∷ [] = ap encode_utf8 y.1 ∙ encode_ascii 27 (lit< tt) in let f = rw e at h in cc)
@@ -174,13 +169,11 @@ module _ (m : Mode) (t rest stretch after : Text) (c : ℕ) (u : IsUtf8 t) (e : 
 -- an empty text
 pub nothing_shown : (m : Mode) (t : Text) → length t ≡ 0 → visible_from m (chars t) ≡ []
 unfolding visible_from
-nothing_shown m [] h = rw chars-nil refl
-nothing_shown m (c ∷ t) h = absurd (omega arith)
+nothing_shown m t h = rw (nil_from_length t h, chars-nil) refl
 
 pub nothing_moved : (m : Mode) (t : Text) → length t ≡ 0 → modes_after m (chars t) ≡ m
 unfolding modes_after
-nothing_moved m [] h = rw chars-nil refl
-nothing_moved m (c ∷ t) h = absurd (omega arith)
+nothing_moved m t h = rw (nil_from_length t h, chars-nil) refl
 
 -- what is owed before the next piece, and after it
 pub stripped_next : (m next : Mode) (h k : Bool) (rest piece after : Text) → rest ≡ piece ++ after → IsUtf8 piece → next ≡ modes_after m (chars piece) → k ≡ ends_in_line_feed (held h ++ visible_from m (chars piece))

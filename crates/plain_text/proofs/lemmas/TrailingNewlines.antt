@@ -1,6 +1,7 @@
 -- A text in pieces, without one line feed that closes it (for `TrailingNewline::write`, `StrippedPieces::write`, `split_trailing_newline`, `write_stripped_pieces` and others).
 use Rattle.std.proofs.Common.{◌≡◌, ◌≢◌, ℕ, ◌<◌, Bool, true, false, inl, inr, [], ◌∷◌, ◌++◌, refl, sym, ap, ◌∙◌, arith, length, append-nil, append_assoc, Result, Ok, Err, OnOk}
 use Rattle.std.proofs.lemmas.Bool.Decides.{eqb_tells}
+use Rattle.std.proofs.lemmas.List.{nil_from_length}
 use Rattle.std.specs.Result.{IsErrAnd}
 use Rattle.plain_text.specs.Texts.{Text}
 use Rattle.plain_text.specs.TrailingNewline.{without_trailing_newline, ends_in_line_feed, held}
@@ -74,12 +75,10 @@ feed_absent (c ∷ d ∷ t) h = let more = feed_absent (d ∷ t) (λ front e. h 
 
 -- an empty piece
 pub piece_nothing : (b : Bool) (t : Text) → length t ≡ 0 → without_trailing_newline (held b ++ t) ≡ []
-piece_nothing b [] h = held-nothing b
-piece_nothing b (c ∷ t) h = absurd (omega arith)
+piece_nothing b t h = rw (nil_from_length t h) (held-nothing b)
 
 pub piece_still : (b : Bool) (t : Text) → length t ≡ 0 → ends_in_line_feed (held b ++ t) ≡ b
-piece_still b [] h = held-still b
-piece_still b (c ∷ t) h = absurd (omega arith)
+piece_still b t h = rw (nil_from_length t h) (held-still b)
 
 -- a fact that holds of any result
 pub on_any : {E : Type 0} {P : Type 0} (r : Result (Unit {0}) E) → P → OnOk r P
@@ -112,3 +111,5 @@ module _ {S : Type 0} {m : Meaning S} (laws : WriterLaws m) where
   -- after the last piece
   pub trailing_newline_done : (a b : S) (text rest : Text) (h : Bool) → Owes m a text b (without_trailing_newline (held h ++ rest)) → rest ≡ [] → m.accepts a text b
   trailing_newline_done a b text rest h o e = owes_nothing laws a b text _ o (rw e (held-nothing h))
+
+pub ruleset held_laws = (held-beyond, piece_still, on_any)
