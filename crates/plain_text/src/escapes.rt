@@ -266,7 +266,7 @@ enum Step {
 }
 
 // A step of a scan.
-#[tactic(auto, using(crate::proofs::lemmas::ScannerSteps::steps), unfolding(crate::specs::Escapes::sequence_len))]
+#[tactic(auto, using(crate::proofs::lemmas::Cuts::steps), unfolding(crate::specs::Escapes::sequence_len))]
 fn next_step(state: State, code: u32, precedes_backslash: bool) -> Step
     ensures counts { (t : List ℕ) → precedes_backslash ≡ is_before_backslash t → StepCounts result (rest_len state (code ∷ t)) t }
     ensures table { result ≡ step_of state code precedes_backslash }
@@ -285,7 +285,7 @@ fn next_step(state: State, code: u32, precedes_backslash: bool) -> Step
 }
 
 // A step where a parameter may come.
-#[tactic(auto, using(crate::proofs::lemmas::ScannerSteps::steps))]
+#[tactic(auto, using(crate::proofs::lemmas::Cuts::steps))]
 fn parameter_step(code: u32) -> Step
     ensures counts { (t : List ℕ) → StepCounts result (rest_len Parameters (code ∷ t)) t }
     ensures table { result ≡ step_of Parameters code false }
@@ -299,7 +299,7 @@ fn parameter_step(code: u32) -> Step
 }
 
 // A step where an intermediate or the final character may come.
-#[tactic(auto, using(crate::proofs::lemmas::ScannerSteps::steps))]
+#[tactic(auto, using(crate::proofs::lemmas::Cuts::steps))]
 fn final_step(code: u32) -> Step
     ensures counts { (t : List ℕ) → StepCounts result (rest_len Intermediates (code ∷ t)) t }
     ensures table { result ≡ final_step_of code }
@@ -312,7 +312,7 @@ fn final_step(code: u32) -> Step
 }
 
 // A step of a command.
-#[tactic(auto, using(crate::proofs::lemmas::ScannerSteps::steps))]
+#[tactic(auto, using(crate::proofs::lemmas::Cuts::steps))]
 fn command_step(code: u32, precedes_backslash: bool) -> Step
     ensures counts { (t : List ℕ) → precedes_backslash ≡ is_before_backslash t → StepCounts result (rest_len Command (code ∷ t)) t }
     ensures table { result ≡ step_of Command code precedes_backslash }
@@ -326,7 +326,7 @@ fn command_step(code: u32, precedes_backslash: bool) -> Step
 }
 
 // A step of any other sequence.
-#[tactic(auto, using(crate::proofs::lemmas::ScannerSteps::steps))]
+#[tactic(auto, using(crate::proofs::lemmas::Cuts::steps))]
 fn short_step(code: u32) -> Step
     ensures counts { (t : List ℕ) → StepCounts result (rest_len Short (code ∷ t)) t }
     ensures table { result ≡ short_step_of code }

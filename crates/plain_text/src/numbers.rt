@@ -249,7 +249,7 @@ pub fn write_right_joined<W: WriteStr>(
 }
 
 // How many of the columns four texts leave.
-#[tactic(auto, using(crate::proofs::lemmas::Spaces::joined_columns))]
+#[tactic(auto, using(crate::proofs::lemmas::Decimals::joined_columns))]
 fn columns_left(columns: usize, first: &str, second: &str, third: &str, fourth: &str) -> usize
     ensures { result ≡ columns - length (chars (first.now ++ (second.now ++ (third.now ++ fourth.now)))) }
 {

@@ -1,14 +1,15 @@
--- Texts of digits (for `write_decimals`, `write_seconds_right`).
-use Rattle.std.proofs.Common.{◌≡◌, ◌≤◌, inl, inr, true, false, nat_lt, sym, ℕ, zero, suc, ◌+◌, ◌-◌, ◌/◌, ◌%◌, ◌^◌, ◌<◌, [], ◌∷◌, ◌++◌, length, ap, ◌∙◌, arith, length-append, append_assoc, codes, lit<, refl}
+-- Texts of digits and of spaces (for `write_decimals`, `write_seconds_right`, `write_spaces`, `columns_left` and others).
+use Rattle.std.proofs.Common.{◌≡◌, ◌≤◌, inl, inr, true, false, nat_lt, sym, ℕ, zero, suc, ◌+◌, ◌-◌, ◌/◌, ◌%◌, ◌^◌, ◌<◌, [], ◌∷◌, ◌++◌, length, ap, ◌∙◌, arith, length-append, append_assoc, codes, lit<, refl, IsUtf8}
 use Rattle.std.specs.Fmt.{decimal}
 use Rattle.std.specs.List.{AllByRecursion}
 use Rattle.std.specs.Str.{IsAscii, IsUtf8, chars}
-use Rattle.std.proofs.lemmas.Str.{chars-IsAscii, IsAscii-append, IsUtf8-from_ascii}
+use Rattle.std.proofs.lemmas.Str.{chars-IsAscii, IsAscii-append, IsUtf8-from_ascii, chars-append}
 use Rattle.std.proofs.lemmas.Bool.{cases_lt}
 use Rattle.std.proofs.lemmas.Bool.Decides.{nat_tests}
 use Rattle.std.proofs.lemmas.Fmt.{IsAscii-decimal_wide, decimal_digit, decimal_step}
 use Rattle.plain_text.specs.Texts.{Text, spaces, right_in}
 use Rattle.plain_text.specs.Numbers.{digit_column, rounded, last_digits, with_point, seconds}
+use Rattle.std.proofs.lemmas.List.{replicate-append-replicate}
 
 -- one byte, and a list with one more in front
 pub IsAscii-cons : (c : ℕ) (t : Text) → c < 128 → IsAscii t → IsAscii (c ∷ t)
@@ -145,3 +146,17 @@ bracketed-row n whole r a b c h is over p q s =
     rw (text, in-columns whole small, p, q, s, hundreds) refl
 
 pub ruleset decimal_laws = (IsUtf8-digits, IsUtf8-row)
+
+-- some spaces, and those that are left
+pub spaces-split : (n k : ℕ) → k ≤ n → spaces n ≡ spaces k ++ spaces (n - k)
+spaces-split n k within = let e : n ≡ k + (n - k) = omega arith in ap spaces e ∙ sym (replicate-append-replicate k (n - k) 32)
+
+-- the first spaces are those of another text
+pub spaces_first : (n k : ℕ) (t : Text) → t ≡ spaces k → k ≤ n → spaces n ≡ t ++ spaces (n - k)
+spaces_first n k t is within = spaces-split n k within ∙ ap (λ u. u ++ spaces (n - k)) (sym is)
+
+-- the characters of four texts
+pub joined_columns : (a b c d : Text) → IsUtf8 a → IsUtf8 b → IsUtf8 c → length (chars (a ++ (b ++ (c ++ d)))) ≡ length (chars a) + (length (chars b) + (length (chars c) + length (chars d)))
+joined_columns a b c d p q r =
+    rw (chars-append a (b ++ (c ++ d)) p, chars-append b (c ++ d) q, chars-append c d r)
+    (simp length-append)

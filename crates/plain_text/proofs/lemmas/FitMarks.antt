@@ -1,5 +1,5 @@
--- What is kept while a text is written is what fitting keeps of the whole (for the lemmas of CounterPuts, FittedTexts).
-use Rattle.std.proofs.Common.{◌≡◌, ℕ, zero, suc, ◌+◌, ◌<◌, ◌≤◌, Bool, true, false, cond, ◌&&◌, ◌||◌, ◌==◌, ◌⊎◌, inl, inr, List, [], ◌∷◌, ◌++◌, refl, sym, ap, ◌∙◌, arith, take, append_assoc, subst, Option, Some, None, is_some, unwrap_or, nat_le, nat_lt, chars, encode_utf8, encode_utf8_all, lit<}
+-- What is kept while a text is written is what fitting keeps of the whole (for `write_fitted`, `count_columns`, `ColumnCounterWriteStr::write_str`).
+use Rattle.std.proofs.Common.{◌≡◌, ℕ, zero, suc, ◌+◌, ◌<◌, ◌≤◌, Bool, true, false, cond, ◌&&◌, ◌||◌, ◌==◌, ◌⊎◌, inl, inr, List, [], ◌∷◌, ◌++◌, refl, sym, ap, ◌∙◌, arith, take, append_assoc, subst, Option, Some, None, is_some, unwrap_or, nat_le, nat_lt, chars, encode_utf8, encode_utf8_all, lit<, Result, Ok, Err}
 use Rattle.std.proofs.lemmas.Bool.{cases_Bool, cases_lt, eqb-true}
 use Rattle.std.proofs.lemmas.Bool.Decides.{nat_tests}
 use Rattle.std.proofs.lemmas.Str.{encodes-chars, encode_ascii}
@@ -7,15 +7,20 @@ use Rattle.std.specs.Str.{IsUtf8}
 use Rattle.plain_text.specs.Texts.{Text}
 use Rattle.plain_text.specs.Escapes.{is_visible, front_len, sequence_len, PieceText, pieces, pieces_after}
 use Rattle.plain_text.specs.Escapes.PieceText.{SequenceText, StretchText}
-use Rattle.plain_text.specs.ColumnCounter.{columns_counted, columns_from}
-use Rattle.plain_text.specs.Scanner.{advanced, mode_after}
+use Rattle.plain_text.specs.ColumnCounter.{columns_counted, columns_from, saturated, CounterAccepts}
+use Rattle.plain_text.specs.Scanner.{advanced, mode_after, modes_after}
 use Rattle.plain_text.specs.Fitting.{char_columns, columns_of, columns, kept_chars, kept_stretch, fit_pieces, fit, stretch_columns}
-use Rattle.plain_text.specs.Fitted.{next_place, is_char_kept_by, moved_by, kept_from}
+use Rattle.plain_text.specs.Fitted.{next_place, is_char_kept_by, moved_by, kept_from, fitted_text, fitted_meaning, stops_kept}
 use Rattle.plain_text.proofs.lemmas.Fits.{columns_of-cons, kept_stretch-before, kept_stretch-past, AreTexts, texts, stretch_columns-pieces}
 use Rattle.plain_text.proofs.lemmas.Marks.{Mark, marks, tagged, piece_marks, marks-pieces, chars_past}
 use Rattle.plain_text.specs.declared.escapes.Mode.{Mode}
 use Rattle.plain_text.specs.declared.escapes.Mode.TheVariants as mode
 use Rattle.plain_text.specs.declared.fitting.scan_state.ScanState.{ScanState}
+use Rattle.plain_text.specs.Writer.{Meaning, WriterLaws, Puts}
+use Rattle.plain_text.specs.declared.fitting.fitted.Fitted.{Fitted}
+use Rattle.plain_text.specs.declared.write_str.WriteFault.{WriteFault}
+use Rattle.plain_text.proofs.lemmas.FittedPuts.{first_scalar, one_utf8, one_char}
+use Rattle.plain_text.specs.declared.fitting.column_counter.ColumnCounter.{ColumnCounter}
 
 module _ (start end : ℕ) where
   -- what is kept of the marks from a place on
@@ -197,3 +202,34 @@ piece_columns (StretchText s ∷ ps) = omega (arith, mark_columns-append (tagged
 -- the columns that the scan counts are those of the text
 pub columns_counted-columns : (t : Text) → IsUtf8 t → columns_from mode.Text (chars t) ≡ columns t
 columns_counted-columns t u = columns-marks mode.Text (chars t) ∙ ap mark_columns (marks-pieces t u) ∙ piece_columns (pieces t) ∙ stretch_columns-pieces t u
+
+module _ {W : Type 0} {m : Meaning W} (laws : WriterLaws m) where
+  put_below : (a b : Fitted W) (t : Text) (r : Result (Unit {0}) WriteFault) → Puts (fitted_meaning m) a t r b → Puts m a.inner.now (fitted_text a t) r b.inner.now
+  put_below a b t (Ok x) p = p.below
+  put_below a b t (Err e) p = stops_kept m laws a b t e p
+
+  same_name : (a b : Fitted W) (t : Text) (r : Result (Unit {0}) WriteFault) → Puts (fitted_meaning m) a t r b → b.inner.ghost_name ≡ a.inner.ghost_name
+  same_name a b t (Ok x) p = p.same
+  same_name a b t (Err e) p = p.same
+
+  -- through a writer that is given back
+  pub text_fitted : (old new : W) (a b : Fitted W) (t : Text) (start end : ℕ) (r : Result (Unit {0}) WriteFault) → IsUtf8 t → a.inner.now ≡ old → a.start ≡ start → a.end ≡ end
+      → a.scan.mode ≡ mode.Text → a.scan.place ≡ 0 → a.scan.is_open ≡ false → Puts (fitted_meaning m) a t r b → (b.inner.ghost_name ≡ a.inner.ghost_name → new ≡ b.inner.now) → Puts m old (fit t start end) r new
+  text_fitted old new a b t start end r u n s e k p o h back =
+      let below = rw (n, s, e, kept-fit start end a.scan t u k p o) at (put_below a b t r h) in
+      rw (back (same_name a b t r h)) below
+
+-- the next character of a text
+pub next_counted : (a b : ColumnCounter) (t rest : Text) (c : ℕ) → IsUtf8 t → t ≡ encode_utf8 c ++ rest → b.mode ≡ mode_after a.mode c → b.columns ≡ saturated (a.columns + columns_counted c (advanced a.mode c)) → CounterAccepts a (encode_utf8 c) b
+unfolding columns_from modes_after
+next_counted a b t rest c u e m k =
+    let s = first_scalar t rest c u e in
+    record {
+      utf8 = one_utf8 c s;
+      mode = rw (one_char c s) m;
+      columns = rw (one_char c s) (omega (arith, k));
+    }
+
+-- a text from the first count on
+pub all_counted : (a b : ColumnCounter) (t : Text) → a.mode ≡ mode.Text → a.columns ≡ 0 → CounterAccepts a t b → b.columns ≡ saturated (columns t)
+all_counted a b t m k p = p.columns ∙ rw (m, k, columns_counted-columns t p.utf8) (omega arith)

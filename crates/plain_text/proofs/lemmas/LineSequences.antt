@@ -4,9 +4,8 @@ use Rattle.std.proofs.lemmas.Bool.{cases_Bool}
 use Rattle.std.proofs.lemmas.List.{drop-append-le}
 use Rattle.plain_text.specs.Texts.{Text}
 use Rattle.plain_text.specs.Scanner.{is_before_backslash}
-use Rattle.plain_text.proofs.lemmas.Cuts.{sequence_len-le}
+use Rattle.plain_text.proofs.lemmas.Cuts.{sequence_len-le, osc_len-cons}
 use Rattle.plain_text.proofs.lemmas.Pieces.{front_len-le}
-use Rattle.plain_text.proofs.lemmas.ScannerSteps.{osc_len-cons}
 use Rattle.plain_text.specs.Escapes.{is_within, is_parameter, is_intermediate, front_len, one_len, then_len, csi_len, osc_len, short_len, sequence_len, visible_after, visible}
 
 -- a length that a line feed after the text does not change

@@ -12,7 +12,7 @@ use Rattle.plain_text.specs.Escapes.PieceText.{SequenceText, StretchText}
 use Rattle.plain_text.specs.Scanner.{rest_len, is_before_backslash, StepCounts, step_of, short_step_of, final_step_of, begun, mode_after_step, advanced, mode_after}
 use Rattle.plain_text.proofs.lemmas.FittedPuts.{one_utf8, one_char}
 use Rattle.plain_text.proofs.lemmas.Pieces.{pieces-sequence, pieces-stretch}
-use Rattle.plain_text.proofs.lemmas.ScannerSteps.{then_len-inside, then_len-past, osc_len-cons}
+use Rattle.plain_text.proofs.lemmas.Cuts.{then_len-inside, then_len-past, osc_len-cons}
 use Rattle.plain_text.specs.declared.escapes.Mode.{Mode}
 use Rattle.plain_text.specs.declared.escapes.Mode.TheVariants as mode
 use Rattle.plain_text.specs.declared.escapes.State.{State}
