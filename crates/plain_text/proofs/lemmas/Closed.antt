@@ -64,17 +64,14 @@ paint_closed (p ∷ ps) h = closed-append (part_text p) (part_texts ps) (part_cl
 
 -- words without escape characters
 glyph_free : (d : ℕ) (acc : Text) → HasNoEscape acc → HasNoEscape (digit_glyph false d ∷ acc)
-glyph_free d acc h = elim (cases_Bool (nat_lt d 10)) [
-  | inl y ↦ (let e : ((48 + d) == 27) ≡ false = grind (arith, nat_tests) in rw y (rw (e, h) refl))
-  | inr n ↦ (let e : ((87 + d) == 27) ≡ false = grind (arith, nat_tests) in rw n (rw (e, h) refl))
-]
+glyph_free d acc h = grind (arith, nat_tests)
 
 digits_free : (k n : ℕ) (acc : Text) → HasNoEscape acc → HasNoEscape (digits_onto k 10 false n acc)
 digits_free zero n acc h = h
 digits_free (suc k) n acc h =
     let here = glyph_free (n % 10) acc h in
     let more = digits_free k (n / 10) (digit_glyph false (n % 10) ∷ acc) here in
-    elim (cases_Bool (n / 10 == 0)) [ inl y ↦ rw y here | inr m ↦ rw m more ]
+    grind (arith, here, more)
 
 pub decimal_free : (n : ℕ) → HasNoEscape (decimal n)
 unfolding digits

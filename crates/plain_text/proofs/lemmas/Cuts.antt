@@ -37,17 +37,11 @@ IsAsciiRun f = (c : ℕ) (t : Text) → c < 128 → (f t ≤ length t) × (get_o
 
 front_len-ascii : (p : ℕ → Bool) → ((c : ℕ) → p c ≡ true → c < 128) → IsAsciiRun (front_len p)
 front_len-ascii p h c [] l = (omega arith, l)
-front_len-ascii p h c (d ∷ t) l = elim (cases_Bool (p d)) [
-  | inl y ↦ (let more = front_len-ascii p h d t (h d y) in (rw y (omega arith), rw y more.1))
-  | inr n ↦ (rw n (omega arith), rw n l)
-]
+front_len-ascii p h c (d ∷ t) l = (grind (arith, front_len-ascii p h d t, h d), grind (arith, front_len-ascii p h d t, h d))
 
 one_len-ascii : (p : ℕ → Bool) → ((c : ℕ) → p c ≡ true → c < 128) → IsAsciiRun (one_len p)
 one_len-ascii p h c [] l = (omega arith, l)
-one_len-ascii p h c (d ∷ t) l = elim (cases_Bool (p d)) [
-  | inl y ↦ (rw y (omega arith), rw y (h d y))
-  | inr n ↦ (rw n (omega arith), rw n l)
-]
+one_len-ascii p h c (d ∷ t) l = (grind (arith, h d), grind (arith, h d))
 
 moved : (c : ℕ) (t : Text) (n m : ℕ) → n ≤ length t → get_or (get_or (c ∷ t) n 0 ∷ drop n t) m 0 ≡ get_or (c ∷ t) (n + m) 0
 moved c t n zero h = rw add-zero refl

@@ -1,5 +1,5 @@
 -- What is kept while a text is written is what fitting keeps of the whole (for `write_fitted`, `count_columns`, `ColumnCounterWriteStr::write_str`).
-use Rattle.std.proofs.Common.{◌≡◌, ℕ, zero, suc, ◌+◌, ◌<◌, ◌≤◌, Bool, true, false, cond, ◌&&◌, ◌||◌, ◌==◌, ◌⊎◌, inl, inr, List, [], ◌∷◌, ◌++◌, refl, sym, ap, ◌∙◌, arith, take, append_assoc, subst, Option, Some, None, is_some, unwrap_or, nat_le, nat_lt, chars, encode_utf8, encode_utf8_all, lit<, Result, Ok, Err}
+use Rattle.std.proofs.Common.{ap₂, ◌≡◌, ℕ, zero, suc, ◌+◌, ◌<◌, ◌≤◌, Bool, true, false, cond, ◌&&◌, ◌||◌, ◌==◌, ◌⊎◌, inl, inr, List, [], ◌∷◌, ◌++◌, refl, sym, ap, ◌∙◌, arith, take, append_assoc, subst, Option, Some, None, is_some, unwrap_or, nat_le, nat_lt, chars, encode_utf8, encode_utf8_all, lit<, Result, Ok, Err}
 use Rattle.std.proofs.lemmas.Bool.{cases_Bool, cases_lt, eqb-true}
 use Rattle.std.proofs.lemmas.Bool.Decides.{nat_tests}
 use Rattle.std.proofs.lemmas.Str.{encodes-chars, encode_ascii}
@@ -46,8 +46,8 @@ module _ (start end : ℕ) where
 
   next_is : (place pos w : ℕ) → IsPlace place pos → IsPlace (next_place end place w) (pos + w)
   next_is place pos w h = elim (cases_lt end place) [
-    | inl l ↦ (let past : nat_lt end place ≡ true = grind (arith, nat_tests) in rw past (inr (l, elim h [ inl e ↦ omega arith | inr b ↦ omega arith ])))
-    | inr l ↦ (let within : nat_lt end place ≡ false = grind (arith, nat_tests) in rw within (elim h [ inl e ↦ inl (omega arith) | inr b ↦ absurd (omega arith) ]))
+    | inl l ↦ (let past : nat_lt end place ≡ true = grind (arith, nat_tests) in rw past (inr (l, grind (arith, h))))
+    | inr l ↦ (let within : nat_lt end place ≡ false = grind (arith, nat_tests) in rw within (inl (grind (arith, h))))
   ]
 
   -- whether a character fits does not depend on which of the two places is asked
@@ -58,7 +58,7 @@ module _ (start end : ℕ) where
   ]
 
   kept_chars-cons : (pos c : ℕ) (cs : List ℕ) → encode_utf8_all (kept_chars start end pos (c ∷ cs)) ≡ cond (nat_le start pos && nat_le (pos + char_columns c) end) (encode_utf8 c) [] ++ encode_utf8_all (kept_chars start end (pos + char_columns c) cs)
-  kept_chars-cons pos c cs = elim (cases_Bool (nat_le start pos && nat_le (pos + char_columns c) end)) [ inl y ↦ rw y refl | inr n ↦ rw n refl ]
+  kept_chars-cons pos c cs = grind (arith, nat_tests)
 
   -- after a stretch, of which this front is kept
   record Passed (is_open : Bool) (front : Text) (place pos : ℕ) (cs : List ℕ) (ms : List Mark) : Type 0 where
@@ -175,12 +175,11 @@ mark_columns (x ∷ ms) = cond x.0 0 (char_columns x.1) + mark_columns ms
 columns-marks : (m : Mode) (cs : List ℕ) → columns_from m cs ≡ mark_columns (marks m cs)
 unfolding columns_from
 columns-marks m [] = refl
-columns-marks m (c ∷ cs) = go (columns-marks (mode_after m c) cs) (advanced m c) refl
+columns-marks m (c ∷ cs) = ap₂ ◌+◌ (counted (advanced m c)) (columns-marks (mode_after m c) cs)
   where
-    go : columns_from (mode_after m c) cs ≡ mark_columns (marks (mode_after m c) cs) → (o : Option Mode) → advanced m c ≡ o
-        → columns_counted c o + columns_from (mode_after m c) cs ≡ cond (is_some o) 0 (char_columns c) + mark_columns (marks (mode_after m c) cs)
-    go more (Some n) e = ap (λ k. 0 + k) more
-    go more None e = ap (λ k. char_columns c + k) more
+    counted : (o : Option Mode) → columns_counted c o ≡ cond (is_some o) 0 (char_columns c)
+    counted (Some n) = refl
+    counted None = refl
 
 mark_columns-append : (ms ns : List Mark) → mark_columns (ms ++ ns) ≡ mark_columns ms + mark_columns ns
 mark_columns-append [] ns = omega arith

@@ -1,5 +1,5 @@
 -- Indentation, and texts that are alike (for `colour_pair-indent`).
-use Rattle.std.proofs.Common.{append_assoc, ap₂, ◌≢◌, ◌≡◌, ℕ, zero, suc, Bool, true, false, cond, ◌&&◌, ◌==◌, List, [], ◌∷◌, ◌++◌, map, refl, sym, ◌∙◌, ap, inl, inr, append-nil}
+use Rattle.std.proofs.Common.{arith, append_assoc, ap₂, ◌≢◌, ◌≡◌, ℕ, zero, suc, Bool, true, false, cond, ◌&&◌, ◌==◌, List, [], ◌∷◌, ◌++◌, map, refl, sym, ◌∙◌, ap, inl, inr, append-nil}
 use Rattle.std.specs.List.{AllByRecursion, onto_first, join_with_byte}
 use Rattle.std.proofs.lemmas.Bool.{cases_Bool}
 use Rattle.std.proofs.lemmas.List.Splits.{join_with_byte-slice_split}
@@ -67,10 +67,7 @@ some_lines (c ∷ t) = elim (cases_Bool (c == 10)) [
 
 lines-append : (t u : Text) → lines (t ++ 10 ∷ u) ≡ lines t ++ lines u
 lines-append [] u = refl
-lines-append (c ∷ t) u = rw (lines-append t u) (elim (cases_Bool (c == 10)) [
-  | inl e ↦ rw e refl
-  | inr n ↦ rw n (onto_first-append c (lines t) (lines u) (some_lines t))
-])
+lines-append (c ∷ t) u = grind (arith, lines-append t u, onto_first-append c (lines t) (lines u) (some_lines t))
 
 lines-are : (t : Text) → AllByRecursion IsLine (lines t)
 lines-are [] = (tt, tt)

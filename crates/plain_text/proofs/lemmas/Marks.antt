@@ -137,7 +137,7 @@ stretch_marks (b ∷ t) = elim (cases_Bool (b == 27)) [
 
 front_past : (c : ℕ) (t : Text) → (c == 27) ≡ false → front_len is_visible (encode_utf8 c ++ t) ≡ length (encode_utf8 c) + front_len is_visible t
 front_past c t h = elim (cases_lt c 128) [
-  | inl l ↦ (let e = encode_ascii c l in rw e (rw h (omega arith)))
+  | inl l ↦ rw (encode_ascii c l) (grind (arith, h))
   | inr l ↦ (let high = encode-high c l in rw high.2 (high_front (high.0 ∷ high.1) t high.3))
 ]
 

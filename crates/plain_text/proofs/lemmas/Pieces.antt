@@ -1,7 +1,7 @@
 -- The pieces of a text (for `control_len`, `piece_laws`, `split_escape`, `split_piece` and others).
 use Rattle.std.proofs.Common.{◌≡◌, ◌≢◌, ℕ, zero, suc, ◌+◌, ◌<◌, ◌≤◌, Bool, true, false, not, ◌==◌, inl, inr, [], ◌∷◌, ◌++◌, refl, sym, ap, ◌∙◌, arith, length, get_or, take, drop, ◌⊎◌, lit<, add-one}
 use Rattle.std.proofs.lemmas.Bool.{cases_Bool, and_parts, not-true, false_from_ne_true}
-use Rattle.std.proofs.lemmas.Bool.Decides.{eqb_tells}
+use Rattle.std.proofs.lemmas.Bool.Decides.{eqb_tells, nat_tests}
 use Rattle.std.proofs.lemmas.List.{take-append-drop, nil_from_length, drop_all}
 use Rattle.std.proofs.Math.Seq.{drop-cons}
 use Rattle.std.proofs.lemmas.Str.{IsCharBoundary-after_ascii}
@@ -66,19 +66,13 @@ joined-pieces t = joined-after 0 t
 stretch-visible : (t : Text) → take (front_len is_visible t) t ++ visible_after (front_len is_visible t) t ≡ visible_after 0 t
 unfolding visible_after
 stretch-visible [] = refl
-stretch-visible (c ∷ t) = elim (cases_Bool (c == 27)) [
-  | inl y ↦ rw y (rw y refl)
-  | inr n ↦ rw n (ap (λ x. c ∷ x) (stretch-visible t))
-]
+stretch-visible (c ∷ t) = grind (arith, stretch-visible t)
 
 stretches-after : (n : ℕ) (t : Text) → stretches (pieces_after n t) ≡ visible_after n t
 unfolding pieces_after visible_after
 stretches-after n [] = refl
 stretches-after (suc n) (c ∷ t) = stretches-after n t
-stretches-after zero (c ∷ t) = elim (cases_Bool (c == 27)) [
-  | inl y ↦ rw (y, stretches-after (sequence_len t) t) refl
-  | inr n ↦ rw (n, stretches-after (front_len is_visible t) t) (ap (λ x. c ∷ x) (stretch-visible t))
-]
+stretches-after zero (c ∷ t) = grind (arith, stretches-after (sequence_len t) t, stretches-after (front_len is_visible t) t, stretch-visible t)
 
 pub stretches-pieces : (t : Text) → stretches (pieces t) ≡ visible t
 stretches-pieces t = stretches-after 0 t
@@ -115,18 +109,12 @@ visible-stretch t front back p q = rw (p, q, ← visible_after-drop (front_len i
 -- an escape character comes first there
 pub front_stops : (t : Text) (c : ℕ) (r : Text) → drop (front_len is_visible t) t ≡ c ∷ r → c ≡ 27
 front_stops [] c r e = cc
-front_stops (x ∷ t) c r e = elim (eqb_tells x 27) [
-  | inl y ↦ (let f = rw y.0 at e in let g : x ≡ c = cc in sym g ∙ y.1)
-  | inr n ↦ front_stops t c r (rw n.0 at e)
-]
+front_stops (x ∷ t) c r e = grind (arith, eqb_tells, front_stops t c r)
 
 -- so a text may be cut there
 front_ascii : (t : Text) → front_len is_visible t < length t → get_or t (front_len is_visible t) 0 < 128
 front_ascii [] l = absurd (omega (arith, l))
-front_ascii (c ∷ t) l = elim (eqb_tells c 27) [
-  | inl y ↦ rw y.0 (omega (arith, y.1))
-  | inr n ↦ rw n.0 (front_ascii t (let more = rw n.0 at l in omega arith))
-]
+front_ascii (c ∷ t) l = grind (arith, nat_tests, front_ascii t)
 
 pub front_boundary : (t : Text) → IsCharBoundary t (front_len is_visible t)
 front_boundary t = (front_len-le is_visible t, λ l a. absurd (omega (arith, front_ascii t l)))
@@ -145,10 +133,7 @@ visible-sequence t after c e i = rw (e, i, add-one) (visible_after-drop (sequenc
 pub visible-front : (t : Text) → length (drop (front_len is_visible t) t) ≡ 0 → visible t ≡ t
 unfolding visible_after
 visible-front [] h = refl
-visible-front (c ∷ t) h = elim (cases_Bool (c == 27)) [
-  | inl y ↦ absurd (let l = rw y at h in omega arith)
-  | inr n ↦ rw n (ap (λ l. c ∷ l) (visible-front t (rw n at h)))
-]
+visible-front (c ∷ t) h = grind (arith, visible-front t)
 
 pub visible-empty : (t : Text) → length t ≡ 0 → visible t ≡ []
 unfolding visible_after

@@ -84,11 +84,11 @@ begun-none c h = grind arith
 step-none : (c : ℕ) (x : Step) → mode_after_step c x ≡ None → (c == 27) ≡ false
 step-none c (Inside s) h = absurd (cc)
 step-none c (Ends zero) h = begun-none c h
-step-none c (Ends (suc k)) h = let z : (suc k == 0) ≡ false = grind (arith, nat_tests) in absurd (let e = rw z at h in cc)
+step-none c (Ends (suc k)) h = grind (arith, nat_tests)
 
 pub advanced-none : (m : Mode) (c : ℕ) → advanced m c ≡ None → (c == 27) ≡ false
 advanced-none mode.Text c h = begun-none c h
-advanced-none mode.Terminator c h = elim (cases_Bool (c == 92)) [ inl y ↦ absurd (let e = rw y at h in cc) | inr n ↦ step-none c (step_of Start c false) (rw n at h) ]
+advanced-none mode.Terminator c h = grind (arith, step-none c (step_of Start c false))
 advanced-none (mode.Sequence Command) c h = elim (cases_Bool (c == 27)) [ inl y ↦ absurd (let e = rw y at h in cc) | inr n ↦ n ]
 advanced-none (mode.Sequence s) c h = step-none c (step_of s c false) h
 

@@ -1,6 +1,6 @@
 -- A text in pieces, without one line feed that closes it (for `TrailingNewline::write`, `StrippedPieces::write`, `split_trailing_newline`, `write_stripped_pieces` and others).
 use Rattle.std.proofs.Common.{◌≡◌, ◌≢◌, ℕ, ◌<◌, Bool, true, false, inl, inr, [], ◌∷◌, ◌++◌, refl, sym, ap, ◌∙◌, arith, length, append-nil, append_assoc, Result, Ok, Err, OnOk, subst, MatchResult}
-use Rattle.std.proofs.lemmas.Bool.Decides.{eqb_tells}
+use Rattle.std.proofs.lemmas.Bool.Decides.{eqb_tells, nat_tests}
 use Rattle.std.proofs.lemmas.List.{nil_from_length}
 use Rattle.std.specs.Result.{IsErrAnd}
 use Rattle.plain_text.specs.Texts.{Text}
@@ -26,7 +26,7 @@ ends_in_line_feed-after (c ∷ e ∷ t) d u = ends_in_line_feed-after (e ∷ t) 
 pub without_trailing_newline-held : (t : Text) → without_trailing_newline t ++ held (ends_in_line_feed t) ≡ t
 unfolding without_trailing_newline ends_in_line_feed
 without_trailing_newline-held [] = refl
-without_trailing_newline-held (c ∷ []) = elim (eqb_tells c 10) [ inl y ↦ rw y.0 (ap (λ x. x ∷ []) (sym y.1)) | inr n ↦ rw n.0 refl ]
+without_trailing_newline-held (c ∷ []) = grind (arith, nat_tests)
 without_trailing_newline-held (c ∷ d ∷ t) = ap (λ x. c ∷ x) (without_trailing_newline-held (d ∷ t))
 
 -- a line feed that is held back closes nothing that follows

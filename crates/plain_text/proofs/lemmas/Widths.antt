@@ -39,10 +39,7 @@ kept-scalars start end pos [] h = refl
 kept-scalars start end pos (c ∷ cs) h =
     let both = and_parts (scalar c) (all_scalars cs) h in
     let more = kept-scalars start end (pos + char_columns c) cs both.1 in
-    elim (cases_Bool (nat_le start pos && nat_le (pos + char_columns c) end)) [
-      | inl y ↦ rw y (rw (both.0, more) refl)
-      | inr n ↦ rw n more
-    ]
+    grind (arith, both, more)
 
 -- how much of the columns from start to end lies before pos
 abbrev part_before : ℕ → ℕ → ℕ → ℕ
@@ -52,11 +49,7 @@ kept_chars-columns : (start end pos : ℕ) (cs : List ℕ) → columns_of (kept_
 kept_chars-columns start end pos [] = omega arith
 kept_chars-columns start end pos (c ∷ cs) =
     let more = kept_chars-columns start end (pos + char_columns c) cs in let w = columns_of-cons c cs in
-    elim (cases_Bool (nat_le start pos && nat_le (pos + char_columns c) end)) [
-      | inl y ↦ (let both = and_parts (nat_le start pos) (nat_le (pos + char_columns c) end) y in
-          rw y (rw (columns_of-cons c (kept_chars start end (pos + char_columns c) cs)) (grind (arith, nat_tests, more, w, both))))
-      | inr n ↦ rw n (omega (arith, more, w))
-    ]
+    grind (arith, nat_tests, more, w, columns_of-cons c (kept_chars start end (pos + char_columns c) cs))
 
 -- of the characters of a text: what holds of nothing and of the characters that are kept
 module _ (start end pos : ℕ) (s : Text) where
@@ -91,10 +84,7 @@ free_after zero (c ∷ t) = elim (cases_Bool (c == 27)) [
 sequences-front : (t : Text) → sequences (pieces_after (front_len is_visible t) t) ≡ sequences (pieces t)
 unfolding pieces_after
 sequences-front [] = refl
-sequences-front (c ∷ t) = elim (cases_Bool (c == 27)) [
-  | inl y ↦ rw y (rw y refl)
-  | inr n ↦ rw n refl
-]
+sequences-front (c ∷ t) = grind arith
 
 pub visible-free_append : (w t : Text) → HasNoEscape w → visible (w ++ t) ≡ w ++ visible t
 unfolding visible_after
@@ -201,13 +191,7 @@ module _ (is_name : Bool) (t : Text) (r : ℕ) (h : IsPainted t) where
   shrunk-sequences = shrunk-any (λ x. sequences (pieces x) ≡ sequences (pieces t)) refl (λ start end. fit-sequences t start end h)
 
   shrunk-columns : columns (shrunk is_name t r) + (r - columns t) ≤ r
-  shrunk-columns = elim (leb_tells (columns t) r) [
-    | inl y ↦ rw y.0 (omega (arith, y.1))
-    | inr n ↦ rw n.0 (elim (cases_Bool is_name) [
-      | inl y ↦ rw y (omega (arith, n.1, fit-columns t (columns t - r) (columns t) h))
-      | inr m ↦ rw m (omega (arith, n.1, fit-columns t 0 r h))
-    ])
-  ]
+  shrunk-columns = grind (arith, nat_tests, fit-columns t (columns t - r) (columns t) h, fit-columns t 0 r h)
 
 pub parts-columns : (ts : List Text) (name : Text) (r : ℕ) → ArePainted ts → IsPainted name → columns (shrunk_parts ts name r) ≤ r
 parts-columns [] name r h k = omega (arith, shrunk-columns true name r k)
