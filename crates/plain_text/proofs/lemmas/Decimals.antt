@@ -46,11 +46,7 @@ seconds-thousandths n = append_assoc (decimal (rounded 1000000 n / 1000)) (codes
 
 -- the three digits are those of the number's last three
 decimals-last : (r : ℕ) → decimals r ≡ codes "." ++ last_digits 3 (r % 1000)
-decimals-last r =
-    let hundreds : r / 10 / 10 % 10 ≡ r % 1000 / 10 / 10 % 10 = omega arith in
-    let tens : r / 10 % 10 ≡ r % 1000 / 10 % 10 = omega arith in
-    let ones : r % 10 ≡ r % 1000 % 10 = omega arith in
-    rw (hundreds, tens, ones) refl
+decimals-last r = grind arith
 
 -- nanoseconds as seconds with three decimals, right in so many columns: spaces, the seconds, and the thousandths
 pub right-seconds : (columns n whole part : ℕ) (padding text : Text) → whole ≡ rounded 1000000 n / 1000 → part ≡ rounded 1000000 n % 1000 → n < 2 ^ 128
@@ -68,61 +64,25 @@ IsUtf8-digits n h =
     IsUtf8-from_ascii digits (ascii_each digits (lit< tt, (omega arith, (omega arith, (omega arith, tt)))))
 
 -- the column of a number's digit at a power of ten
-below : (n p : ℕ) → n < p → digit_column n p ≡ 32
-below n p h = let e : nat_lt n p ≡ true = grind (arith, nat_tests) in rw e refl
-
-above : (n p : ℕ) → p ≤ n → digit_column n p ≡ 48 + n / p % 10
-above n p h = let e : nat_lt n p ≡ false = grind (arith, nat_tests) in rw e refl
-
 digit_column-small : (n p : ℕ) → digit_column n p < 128
-digit_column-small n p = elim (cases_lt n p) [ inl l ↦ rw (below n p l) (lit< tt) | inr m ↦ rw (above n p m) (omega arith) ]
+digit_column-small n p = grind (arith, nat_tests)
 
 -- a number below ten thousand takes four columns
 abbrev columns_of : ℕ → Text
 columns_of n = digit_column n 1000 ∷ digit_column n 100 ∷ digit_column n 10 ∷ (48 + n % 10) ∷ []
 
-one-column : (n : ℕ) → n < 10 → spaces (4 - length (decimal n)) ++ decimal n ≡ columns_of n
-one-column n h =
-    let last : n % 10 ≡ n = omega arith in
-    rw (decimal_digit n h, below n 1000 (omega arith), below n 100 (omega arith), below n 10 h, last) refl
-
-two-columns : (n : ℕ) → 10 ≤ n → n < 100 → spaces (4 - length (decimal n)) ++ decimal n ≡ columns_of n
-two-columns n l h =
-    let tens : n / 10 % 10 ≡ n / 10 = omega arith in
-    rw (decimal_step n l (omega arith), decimal_digit (n / 10) (omega arith), below n 1000 (omega arith), below n 100 h, above n 10 l, tens) refl
-
-three-columns : (n : ℕ) → 100 ≤ n → n < 1000 → spaces (4 - length (decimal n)) ++ decimal n ≡ columns_of n
-three-columns n l h =
-    let hundreds : n / 100 % 10 ≡ n / 10 / 10 = omega arith in
-    rw (decimal_step n (omega arith) (omega arith), decimal_step (n / 10) (omega arith) (omega arith), decimal_digit (n / 10 / 10) (omega arith), below n 1000 h, above n 100 l, above n 10 (omega arith), hundreds) refl
-
-four-columns : (n : ℕ) → 1000 ≤ n → n < 10000 → spaces (4 - length (decimal n)) ++ decimal n ≡ columns_of n
-four-columns n l h =
-    let hundreds : n / 100 % 10 ≡ n / 10 / 10 % 10 = omega arith in
-    let thousands : n / 1000 % 10 ≡ n / 10 / 10 / 10 = omega arith in
-    rw (
-      decimal_step n (omega arith) (omega arith),
-      decimal_step (n / 10) (omega arith) (omega arith),
-      decimal_step (n / 10 / 10) (omega arith) (omega arith),
-      decimal_digit (n / 10 / 10 / 10) (omega arith),
-      above n 1000 l,
-      above n 100 (omega arith),
-      above n 10 (omega arith),
-      hundreds,
-      thousands,
-    ) refl
-
 in-columns : (n : ℕ) → n < 10000 → spaces (4 - length (decimal n)) ++ decimal n ≡ columns_of n
-in-columns n h =
-    elim (cases_lt n 10) [
-      | inl a ↦ one-column n a
-      | inr b ↦
-          elim (cases_lt n 100) [
-            | inl c ↦ two-columns n b c
-            | inr d ↦
-                elim (cases_lt n 1000) [ inl e ↦ three-columns n d e | inr f ↦ four-columns n f h ]
-          ]
+in-columns n h = elim (cases_lt n 10) [
+  | inl a ↦ rw (decimal_digit n a) (grind (arith, nat_tests))
+  | inr b ↦ elim (cases_lt n 100) [
+    | inl c ↦ rw (decimal_step n b (omega arith), decimal_digit (n / 10) (omega arith)) (grind (arith, nat_tests))
+    | inr d ↦ elim (cases_lt n 1000) [
+      | inl e ↦ rw (decimal_step n (omega arith) (omega arith), decimal_step (n / 10) (omega arith) (omega arith), decimal_digit (n / 10 / 10) (omega arith)) (grind (arith, nat_tests))
+      | inr f ↦ rw (decimal_step n (omega arith) (omega arith), decimal_step (n / 10) (omega arith) (omega arith), decimal_step (n / 10 / 10) (omega arith) (omega arith), decimal_digit (n / 10 / 10 / 10) (omega arith))
+          (grind (arith, nat_tests))
     ]
+  ]
+]
 
 -- the bytes of a short duration between brackets
 abbrev pub row_of : ℕ → ℕ → ℕ → ℕ → ℕ → Text

@@ -44,9 +44,7 @@ pub decoded-invalid : (bytes valid invalid rest : List ℕ) → bytes ≡ valid 
     → decoded_text bytes ≡ (239 ∷ 191 ∷ 189 ∷ []) ++ decoded_text rest
 unfolding decoded_text
 decoded-invalid bytes valid invalid rest parts v i none some =
-    lossy_chars-utf8_lossy bytes ∙ utf8_lossy_chunk bytes valid invalid rest parts v i some
-    ∙ ap (λ t. t ++ ((239 ∷ 191 ∷ 189 ∷ []) ++ utf8_lossy rest)) none
-    ∙ ap (λ t. (239 ∷ 191 ∷ 189 ∷ []) ++ t) (sym (lossy_chars-utf8_lossy rest))
+    lossy_chars-utf8_lossy bytes ∙ utf8_lossy_chunk bytes valid invalid rest parts v i some ∙ rw (none, lossy_chars-utf8_lossy rest) refl
 
 -- each character that bytes are decoded to is one
 scalar-decoded : (bytes : List ℕ) (o : Option ℕ) → (decoded bytes).char ≡ o → scalar (or_replacement o) ≡ true
@@ -129,16 +127,7 @@ pub within-boundary : (piece more : Text) (n : ℕ) → n ≤ length piece → I
 within-boundary piece more n h u =
     let size = length-append piece more in (
       λ b. (h, λ l a. let same = get_or_append_left piece more 0 n l in omega (arith, same, b.1 (omega arith) (omega arith))),
-      λ b. (
-        omega arith,
-        λ l a. ⊎_elim
-            (λ (inside : n < length piece). let same = get_or_append_left piece more 0 n inside in omega (arith, same, b.1 inside (omega arith)))
-            (λ (end : length piece ≤ n).
-            let byte : get_or (piece ++ more) n 0 ≡ get_or more 0 0 =
-            ap (λ i. get_or (piece ++ more) i 0) (let e : n ≡ length piece + 0 = omega arith in e) ∙ get_or-append-add piece more 0 0 in
-            omega (arith, byte, (IsCharBoundary-start more u).1 (omega arith) (omega arith)))
-            (cases_lt n (length piece)),
-      ),
+      λ b. (omega arith, λ l a. grind (arith, get_or_append_left piece more 0 n, get_or-append-add piece more 0 0, (IsCharBoundary-start more u).1, b.1)),
     )
 
 -- a step past a piece, to a place in what follows it

@@ -75,8 +75,7 @@ module _ (start end : ℕ) where
         next = more.next;
         is_place = subst (IsPlace more.next) (omega (arith, columns_of-cons c cs)) more.is_place;
         kept = rw (same_fit place pos (char_columns c) h, kept_chars-cons pos c cs)
-            (ap (λ x. cond (nat_le start pos && nat_le (pos + char_columns c) end) (encode_utf8 c) [] ++ x) more.kept
-            ∙ sym (append_assoc (cond (nat_le start pos && nat_le (pos + char_columns c) end) (encode_utf8 c) []) (encode_utf8_all (kept_chars start end (pos + char_columns c) cs)) (kept_marks more.next true ms)));
+            (rw more.kept (simp append_assoc));
       }
 
   -- a stretch that begins at the end or past it

@@ -51,9 +51,7 @@ count-append xs ys = sum_by-append (λ c. cond (c == 10) 1 0) xs ys
 
 count-none : (t : Text) → NoFeeds t → count_by (λ c. c == 10) t ≡ 0
 count-none [] h = refl
-count-none (c ∷ t) h =
-    let first : (c == 10) ≡ false = h 0 0 (omega arith) in
-    sum_by-cons (λ d. cond (d == 10) 1 0) c t ∙ rw first (omega (arith, count-none t (λ k d l. h (suc k) d (omega arith))))
+count-none (c ∷ t) h = grind (arith, h 0 0 (omega arith), sum_by-cons (λ d. cond (d == 10) 1 0) c t, count-none t (λ k d l. h (suc k) d (omega arith)))
 
 -- the first two line feeds
 module _ (t r : Text) (i : ℕ) (first : NoneBefore (Passes (is_byte 10) t) 0 (length t) i × Passes (is_byte 10) t i) (after : r ≡ drop (i + 1) t) where
@@ -83,9 +81,7 @@ pub ruleset highlight_laws = (none_found, end-none, two_feeds, second_feed, one_
 whole_lines-at : (a r : Text) → NoFeeds a → whole_lines (a ++ 10 ∷ r) ≡ (a ++ 10 ∷ []) ∷ whole_lines r
 unfolding whole_lines
 whole_lines-at [] r h = refl
-whole_lines-at (c ∷ a) r h =
-    let first : (c == 10) ≡ false = h 0 0 (omega arith) in
-    rw (first, whole_lines-at a r (λ k d l. h (suc k) d (omega arith))) refl
+whole_lines-at (c ∷ a) r h = rw (h 0 0 (omega arith), whole_lines-at a r (λ k d l. h (suc k) d (omega arith))) refl
 
 whole_lines-one : (a : Text) → NoFeeds a → 0 < length a → whole_lines a ≡ a ∷ []
 unfolding whole_lines

@@ -1,8 +1,8 @@
 -- Indentation, and texts that are alike (for `colour_pair-indent`).
-use Rattle.std.proofs.Common.{arith, append_assoc, ap₂, ◌≢◌, ◌≡◌, ℕ, zero, suc, Bool, true, false, cond, ◌&&◌, ◌==◌, List, [], ◌∷◌, ◌++◌, map, refl, sym, ◌∙◌, ap, inl, inr, append-nil}
+use Rattle.std.proofs.Common.{length, arith, append_assoc, ap₂, ◌≢◌, ◌≡◌, ℕ, zero, suc, Bool, true, false, cond, ◌&&◌, ◌==◌, List, [], ◌∷◌, ◌++◌, map, refl, sym, ◌∙◌, ap, inl, inr, append-nil}
 use Rattle.std.specs.List.{AllByRecursion, onto_first, join_with_byte}
 use Rattle.std.proofs.lemmas.Bool.{cases_Bool}
-use Rattle.std.proofs.lemmas.List.Splits.{join_with_byte-slice_split}
+use Rattle.std.proofs.lemmas.List.Splits.{join_with_byte-slice_split, length-slice_split}
 use Rattle.plain_text.specs.Texts.{Text}
 use Rattle.plain_text.specs.Escapes.{sequence_len, visible_after, visible, HasNoEscape}
 use Rattle.plain_text.specs.Lines.{lines}
@@ -20,17 +20,11 @@ alike-front (c ∷ t) u v h = ap (λ l. cond ((c == 32) && ends_line l) l (c ∷
 pub end_spaces-line : (t u : Text) → without_end_spaces (t ++ 10 ∷ u) ≡ without_end_spaces t ++ 10 ∷ without_end_spaces u
 unfolding without_end_spaces
 end_spaces-line [] u = refl
-end_spaces-line (c ∷ t) u =
-    rw (end_spaces-line t u) (elim (cases_Bool (c == 32)) [
-      | inl s ↦ rw s (go (without_end_spaces t))
-      | inr n ↦ rw n refl
-    ])
+end_spaces-line (c ∷ t) u = grind (arith, end_spaces-line t u, same_end (without_end_spaces t) (without_end_spaces u))
   where
-    go : (l : Text) → cond (ends_line (l ++ 10 ∷ without_end_spaces u)) (l ++ 10 ∷ without_end_spaces u) (c ∷ (l ++ 10 ∷ without_end_spaces u))
-        ≡ cond (ends_line l) l (c ∷ l) ++ 10 ∷ without_end_spaces u
-    go [] = refl
-    go (d ∷ l) = elim (d == 10) as (λ b. cond b (d ∷ (l ++ 10 ∷ without_end_spaces u)) (c ∷ d ∷ (l ++ 10 ∷ without_end_spaces u)) ≡ cond b (d ∷ l) (c ∷ d ∷ l) ++ 10 ∷ without_end_spaces u)
-        [ true ↦ refl | false ↦ refl ]
+    same_end : (l v : Text) → ends_line (l ++ 10 ∷ v) ≡ ends_line l
+    same_end [] v = refl
+    same_end (d ∷ l) v = refl
 
 pub alike-line : (t u v w : Text) → IsEqualButEndSpaces t u → IsEqualButEndSpaces v w → IsEqualButEndSpaces (t ++ 10 ∷ v) (u ++ 10 ∷ w)
 alike-line t u v w h k = end_spaces-line t v ∙ ap₂ (λ a b. a ++ 10 ∷ b) h k ∙ sym (end_spaces-line u w)
@@ -55,15 +49,7 @@ onto_first-append c [] ms h = absurd (h refl)
 onto_first-append c (l ∷ ls) ms h = refl
 
 some_lines : (t : Text) → lines t ≢ []
-some_lines [] = λ e. cc
-some_lines (c ∷ t) = elim (cases_Bool (c == 10)) [
-  | inl e ↦ rw e (λ h. cc)
-  | inr n ↦ rw n (go (lines t))
-]
-  where
-    go : (ls : List Text) → onto_first c ls ≢ []
-    go [] = λ e. cc
-    go (l ∷ ls) = λ e. cc
+some_lines t e = omega (arith, length-slice_split (λ c. c == 10) t, ap length e)
 
 lines-append : (t u : Text) → lines (t ++ 10 ∷ u) ≡ lines t ++ lines u
 lines-append [] u = refl

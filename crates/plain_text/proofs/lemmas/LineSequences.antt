@@ -47,12 +47,7 @@ unfolding visible_after
 visible_after-line zero [] y h = refl
 visible_after-line (suc n) [] y h = absurd (omega arith)
 visible_after-line (suc n) (c ∷ x) y h = visible_after-line n x y (omega arith)
-visible_after-line zero (c ∷ x) y h =
-    let skip = visible_after-line (sequence_len x) x y (sequence_len-le x) in let more = visible_after-line zero x y (omega arith) in
-    elim (cases_Bool (c == 27)) [
-      | inl t ↦ rw (t, sequence_len-line x y, skip)
-      | inr n ↦ rw (n, more)
-    ]
+visible_after-line zero (c ∷ x) y h = grind (arith, sequence_len-line x y, visible_after-line (sequence_len x) x y (sequence_len-le x), visible_after-line zero x y (omega arith))
 
 -- no sequence goes past a line feed
 pub visible-line : (x y : Text) → visible (x ++ 10 ∷ y) ≡ visible x ++ 10 ∷ visible y

@@ -83,14 +83,11 @@ high_command c h = grind (arith, nat_tests)
 
 high_osc : (bs t : Text) → AreHigh bs → osc_len (bs ++ t) ≡ length bs + osc_len t
 high_osc [] t h = omega arith
-high_osc (b ∷ bs) t h =
-    let l = h.0 in
-    let p : (b == 7) ≡ false = grind (arith, nat_tests) in let q : (b == 27) ≡ false = grind (arith, nat_tests) in let r : is_control b ≡ false = grind (arith, nat_tests) in
-    rw (osc_len-cons b (bs ++ t), p, q, r) (omega (arith, high_osc bs t h.1))
+high_osc (b ∷ bs) t h = grind (arith, nat_tests, osc_len-cons b (bs ++ t), high_osc bs t h.1, h.0)
 
 high_front : (bs t : Text) → AreHigh bs → front_len is_visible (bs ++ t) ≡ length bs + front_len is_visible t
 high_front [] t h = omega arith
-high_front (b ∷ bs) t h = let l = h.0 in let q : (b == 27) ≡ false = grind (arith, nat_tests) in rw q (omega (arith, high_front bs t h.1))
+high_front (b ∷ bs) t h = grind (arith, nat_tests, h.0, high_front bs t h.1)
 
 -- the characters with what the scan says of each
 abbrev pub Mark : Type 0
@@ -130,10 +127,7 @@ chars_past c t h = chars-append (encode_utf8 c) t (one_utf8 c h) ∙ ap (λ x. x
 stretch_marks : (t : Text) → piece_marks (pieces t) ≡ tagged false (chars (take (front_len is_visible t) t)) ++ piece_marks (pieces (drop (front_len is_visible t) t))
 unfolding pieces_after
 stretch_marks [] = rw chars-nil refl
-stretch_marks (b ∷ t) = elim (cases_Bool (b == 27)) [
-  | inl y ↦ rw y (rw chars-nil (rw y refl))
-  | inr n ↦ ap piece_marks (pieces-stretch b t n) ∙ rw n refl
-]
+stretch_marks (b ∷ t) = grind (arith, chars-nil, pieces-stretch b t)
 
 front_past : (c : ℕ) (t : Text) → (c == 27) ≡ false → front_len is_visible (encode_utf8 c ++ t) ≡ length (encode_utf8 c) + front_len is_visible t
 front_past c t h = elim (cases_lt c 128) [

@@ -25,13 +25,8 @@ stretch_len-cut c (d ∷ t) = elim (eqb_tells d 27) [
 
 -- a text may be cut at such a place
 pub boundary : (c : ℕ) (t : Text) (n : ℕ) → IsUtf8 (c ∷ t) → IsCut c t n → IsCharBoundary (c ∷ t) (n + 1)
-boundary c t n u (h, e) = elim e [
-  | inl a ↦ (let l : n < length (c ∷ t) = omega arith in IsCharBoundary-after_ascii (c ∷ t) n u l a)
-  | inr b ↦ elim b [
-    | inl q ↦ (omega arith, λ x y. absurd (omega (arith, x)))
-    | inr r ↦ (omega arith, rw add-one (λ x y. absurd (omega (arith, y))))
-  ]
-]
+boundary c t n u (h, inl a) = IsCharBoundary-after_ascii (c ∷ t) n u (omega arith) a
+boundary c t n u (h, inr b) = (omega arith, rw add-one (λ x y. absurd (omega (arith, b, x, y))))
 
 -- the rest has the pieces that are left
 pub pieces_after-drop : (n : ℕ) (t : Text) → pieces_after n t ≡ pieces (drop n t)
@@ -54,10 +49,8 @@ unfolding pieces_after
 joined-after zero [] = refl
 joined-after (suc n) [] = refl
 joined-after (suc n) (c ∷ t) = joined-after n t
-joined-after zero (c ∷ t) = elim (cases_Bool (c == 27)) [
-  | inl y ↦ rw (y, joined-after (sequence_len t) t) (ap (λ x. c ∷ x) (take-append-drop (sequence_len t) t))
-  | inr n ↦ rw (n, joined-after (front_len is_visible t) t) (ap (λ x. c ∷ x) (take-append-drop (front_len is_visible t) t))
-]
+joined-after zero (c ∷ t) =
+    grind (arith, joined-after (sequence_len t) t, joined-after (front_len is_visible t) t, take-append-drop (sequence_len t) t, take-append-drop (front_len is_visible t) t)
 
 pub joined-pieces : (t : Text) → joined (pieces t) ≡ t
 joined-pieces t = joined-after 0 t
@@ -82,10 +75,7 @@ pub visible_after-free : (n : ℕ) (t : Text) → HasNoEscape (visible_after n t
 unfolding visible_after
 visible_after-free n [] = refl
 visible_after-free (suc n) (c ∷ t) = visible_after-free n t
-visible_after-free zero (c ∷ t) = elim (cases_Bool (c == 27)) [
-  | inl y ↦ rw y (visible_after-free (sequence_len t) t)
-  | inr n ↦ rw n (rw n (visible_after-free zero t))
-]
+visible_after-free zero (c ∷ t) = grind (arith, visible_after-free (sequence_len t) t, visible_after-free zero t)
 
 pub free_parts : (c : ℕ) (t : Text) → HasNoEscape (c ∷ t) → ((c == 27) ≡ false) × HasNoEscape t
 free_parts c t h = let both = and_parts (not (c == 27)) (has_no_escape t) h in (not-true (c == 27) both.0, both.1)

@@ -31,9 +31,7 @@ use Rattle.plain_text.proofs.lemmas.Pieces.{front_boundary, front_free, front_le
 pub visible_from-append : (m : Mode) (cs ds : List ℕ) → visible_from m (cs ++ ds) ≡ visible_from m cs ++ visible_from (modes_after m cs) ds
 unfolding visible_from modes_after
 visible_from-append m [] ds = refl
-visible_from-append m (c ∷ cs) ds =
-    ap (λ x. visible_char m c ++ x) (visible_from-append (mode_after m c) cs ds)
-    ∙ sym (append_assoc (visible_char m c) (visible_from (mode_after m c) cs) (visible_from (modes_after (mode_after m c) cs) ds))
+visible_from-append m (c ∷ cs) ds = rw (visible_from-append (mode_after m c) cs ds) (simp append_assoc)
 
 -- the same of the characters of texts
 pub visible_from-texts : (m : Mode) (t u : Text) → IsUtf8 t → visible_from m (chars (t ++ u)) ≡ visible_from m (chars t) ++ visible_from (modes_after m (chars t)) (chars u)
@@ -78,19 +76,10 @@ pub visible-from : (t : Text) → IsUtf8 t → visible t ≡ visible_from mode.T
 visible-from t u = sym (stretches-pieces t) ∙ sym (shown-pieces (pieces t) (texts t u)) ∙ ap shown (sym (marks-pieces t u)) ∙ shown-marks mode.Text (chars t)
 
 -- a character that belongs to no sequence is no escape character
-begun-none : (c : ℕ) → begun c ≡ None → (c == 27) ≡ false
-begun-none c h = grind arith
-
-step-none : (c : ℕ) (x : Step) → mode_after_step c x ≡ None → (c == 27) ≡ false
-step-none c (Inside s) h = absurd (cc)
-step-none c (Ends zero) h = begun-none c h
-step-none c (Ends (suc k)) h = grind (arith, nat_tests)
-
 pub advanced-none : (m : Mode) (c : ℕ) → advanced m c ≡ None → (c == 27) ≡ false
-advanced-none mode.Text c h = begun-none c h
-advanced-none mode.Terminator c h = grind (arith, step-none c (step_of Start c false))
-advanced-none (mode.Sequence Command) c h = elim (cases_Bool (c == 27)) [ inl y ↦ absurd (let e = rw y at h in cc) | inr n ↦ n ]
-advanced-none (mode.Sequence s) c h = step-none c (step_of s c false) h
+advanced-none mode.Text c h = grind (arith, nat_tests)
+advanced-none (mode.Sequence Start) c h = grind (arith, nat_tests)
+advanced-none _ c h = grind (arith, nat_tests)
 
 -- where it is scanned from text all the same
 pub none_visible : (m : Mode) (c : ℕ) (cs : List ℕ) → advanced m c ≡ None → visible_from m (c ∷ cs) ≡ visible_from mode.Text (c ∷ cs)

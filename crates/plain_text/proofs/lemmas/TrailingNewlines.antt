@@ -44,10 +44,8 @@ held-still false = refl
 pub without_trailing_newline-append : (t u : Text) → without_trailing_newline (t ++ u) ≡ without_trailing_newline t ++ without_trailing_newline (held (ends_in_line_feed t) ++ u)
 without_trailing_newline-append t [] = ap without_trailing_newline (append-nil t) ∙ sym (ap (λ x. without_trailing_newline t ++ x) (held-nothing (ends_in_line_feed t)) ∙ append-nil (without_trailing_newline t))
 without_trailing_newline-append t (d ∷ u) =
-    without_trailing_newline-after t d u
-    ∙ ap (λ x. x ++ without_trailing_newline (d ∷ u)) (sym (without_trailing_newline-held t))
-    ∙ append_assoc (without_trailing_newline t) (held (ends_in_line_feed t)) (without_trailing_newline (d ∷ u))
-    ∙ ap (λ x. without_trailing_newline t ++ x) (sym (without_trailing_newline-after (held (ends_in_line_feed t)) d u))
+    let joined = append_assoc (without_trailing_newline t) (held (ends_in_line_feed t)) (without_trailing_newline (d ∷ u)) in
+    cc (without_trailing_newline-after t d u, without_trailing_newline-held t, joined, without_trailing_newline-after (held (ends_in_line_feed t)) d u)
 
 pub ends_in_line_feed-append : (t u : Text) → ends_in_line_feed (t ++ u) ≡ ends_in_line_feed (held (ends_in_line_feed t) ++ u)
 ends_in_line_feed-append t [] = ap ends_in_line_feed (append-nil t) ∙ sym (held-still (ends_in_line_feed t))

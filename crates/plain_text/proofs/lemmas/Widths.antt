@@ -29,17 +29,12 @@ kept-free : (start end pos : ℕ) (cs : List ℕ) → HasNoEscape (encode_utf8_a
 kept-free start end pos [] h = refl
 kept-free start end pos (c ∷ cs) h =
     let more = kept-free start end (pos + char_columns c) cs (free_back (encode_utf8 c) (encode_utf8_all cs) h) in
-    elim (cases_Bool (nat_le start pos && nat_le (pos + char_columns c) end)) [
-      | inl y ↦ rw y (free_both (encode_utf8 c) (encode_utf8_all (kept_chars start end (pos + char_columns c) cs)) (free_front (encode_utf8 c) (encode_utf8_all cs) h) more)
-      | inr n ↦ rw n more
-    ]
+    grind (arith, more, free_both (encode_utf8 c) (encode_utf8_all (kept_chars start end (pos + char_columns c) cs)) (free_front (encode_utf8 c) (encode_utf8_all cs) h) more)
 
 kept-scalars : (start end pos : ℕ) (cs : List ℕ) → all_scalars cs ≡ true → all_scalars (kept_chars start end pos cs) ≡ true
 kept-scalars start end pos [] h = refl
 kept-scalars start end pos (c ∷ cs) h =
-    let both = and_parts (scalar c) (all_scalars cs) h in
-    let more = kept-scalars start end (pos + char_columns c) cs both.1 in
-    grind (arith, both, more)
+    let both = and_parts (scalar c) (all_scalars cs) h in grind (arith, both, kept-scalars start end (pos + char_columns c) cs both.1)
 
 -- how much of the columns from start to end lies before pos
 abbrev part_before : ℕ → ℕ → ℕ → ℕ
@@ -48,8 +43,7 @@ part_before start end pos = min end pos - start
 kept_chars-columns : (start end pos : ℕ) (cs : List ℕ) → columns_of (kept_chars start end pos cs) + part_before start end pos ≤ part_before start end (pos + columns_of cs)
 kept_chars-columns start end pos [] = omega arith
 kept_chars-columns start end pos (c ∷ cs) =
-    let more = kept_chars-columns start end (pos + char_columns c) cs in let w = columns_of-cons c cs in
-    grind (arith, nat_tests, more, w, columns_of-cons c (kept_chars start end (pos + char_columns c) cs))
+    grind (arith, nat_tests, kept_chars-columns start end (pos + char_columns c) cs, columns_of-cons c cs, columns_of-cons c (kept_chars start end (pos + char_columns c) cs))
 
 -- of the characters of a text: what holds of nothing and of the characters that are kept
 module _ (start end pos : ℕ) (s : Text) where
