@@ -1,6 +1,6 @@
 -- Runs of bytes that are found by the mask of a block (for `escape_marks`, `other_marks`, `parameters_in_block`, `stretch_in_block`).
-use Rattle.std.proofs.Common.{◌≡◌, ℕ, zero, suc, ◌+◌, ◌-◌, ◌++◌, drop, ◌%◌, ◌^◌, ◌<◌, ◌≤◌, Bool, true, not, List, inl, inr, [], ◌∷◌, map, length, take, replicate, refl, sym, ap, ap₂, ◌∙◌, arith, w8, Fits}
-use Rattle.std.proofs.lemmas.Bool.{cases_Bool, agree_below, agree_below_at}
+use Rattle.std.proofs.Common.{◌≡◌, ℕ, zero, suc, ◌+◌, ◌-◌, ◌++◌, drop, ◌%◌, ◌^◌, ◌<◌, ◌≤◌, Bool, true, not, List, [], ◌∷◌, map, length, take, replicate, refl, sym, ap, ap₂, ◌∙◌, arith, w8, Fits}
+use Rattle.std.proofs.lemmas.Bool.{agree_below, agree_below_at}
 use Rattle.std.proofs.lemmas.List.{length-map, length-take-le, length-drop, take-take, take-append-le}
 use Rattle.std.proofs.Math.Seq.{take-append-add}
 use Rattle.std.proofs.lemmas.Simd.{map-map, mask_l-mod, trailing_mask_l, take_more_put_chunk, length-put_chunk}

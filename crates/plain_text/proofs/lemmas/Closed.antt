@@ -1,6 +1,6 @@
 -- Texts each of whose sequences ends by itself, made of styles and of words without escape characters (for the lemmas of InstanceWidths).
-use Rattle.std.proofs.Common.{◌≡◌, ◌≢◌, ℕ, zero, suc, ◌+◌, ◌-◌, false, ◌==◌, inl, inr, List, [], ◌∷◌, ◌++◌, refl, sym, ap, ◌∙◌, arith, length, encode_utf8, chars, nat_lt, ◌/◌, ◌%◌}
-use Rattle.std.proofs.lemmas.Bool.{cases_Bool, cases_lt}
+use Rattle.std.proofs.Common.{◌≡◌, ◌≢◌, ℕ, zero, suc, ◌+◌, ◌-◌, false, ◌==◌, inl, inr, List, [], ◌∷◌, ◌++◌, refl, sym, ap, ◌∙◌, arith, length, encode_utf8, chars, ◌/◌, ◌%◌}
+use Rattle.std.proofs.lemmas.Bool.{cases_lt}
 use Rattle.std.proofs.lemmas.Bool.Decides.{nat_tests, eqb_tells}
 use Rattle.std.proofs.lemmas.Str.{encode_ascii}
 use Rattle.std.specs.Fmt.{decimal, digits, digits_onto, digit_glyph}
@@ -69,9 +69,7 @@ glyph_free d acc h = grind (arith, nat_tests)
 digits_free : (k n : ℕ) (acc : Text) → HasNoEscape acc → HasNoEscape (digits_onto k 10 false n acc)
 digits_free zero n acc h = h
 digits_free (suc k) n acc h =
-    let here = glyph_free (n % 10) acc h in
-    let more = digits_free k (n / 10) (digit_glyph false (n % 10) ∷ acc) here in
-    grind (arith, here, more)
+    let here = glyph_free (n % 10) acc h in grind (arith, here, digits_free k (n / 10) (digit_glyph false (n % 10) ∷ acc) here)
 
 pub decimal_free : (n : ℕ) → HasNoEscape (decimal n)
 unfolding digits
@@ -87,7 +85,7 @@ right_free n t h = free_both (spaces (n - length (chars t))) t (spaces_free (n -
 
 high_free : (bs : Text) → AreHigh bs → HasNoEscape bs
 high_free [] h = refl
-high_free (b ∷ bs) h = let l = h.0 in let e : (b == 27) ≡ false = grind (arith, nat_tests) in rw (e, high_free bs h.1) refl
+high_free (b ∷ bs) h = grind (arith, nat_tests, h.0, high_free bs h.1)
 
 pub char_free : (c : ℕ) → c ≢ 27 → HasNoEscape (encode_utf8 c)
 char_free c h = elim (cases_lt c 128) [

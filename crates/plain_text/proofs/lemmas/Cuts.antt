@@ -7,7 +7,7 @@ use Rattle.plain_text.specs.Scanner.{is_before_backslash, rest_len}
 use Rattle.plain_text.specs.Escapes.{is_within, is_parameter, is_intermediate, is_control, front_len, one_len, then_len, csi_end_len, csi_len, osc_len, short_len, sequence_len}
 use Rattle.std.proofs.lemmas.List.{nil_from_length}
 use Rattle.plain_text.specs.declared.escapes.State.{State}
-use Rattle.plain_text.specs.declared.escapes.State.TheVariants.{Start, Parameters, Intermediates, Command, Short}
+use Rattle.plain_text.specs.declared.escapes.State.TheVariants.{Start}
 
 pub then_len-inside : (p : ℕ → Bool) (g : Text → ℕ) (c : ℕ) (t : Text) → p c ≡ true → then_len (front_len p) g (c ∷ t) ≡ suc (then_len (front_len p) g t)
 then_len-inside p g c t h = rw h (omega arith)
@@ -71,10 +71,7 @@ csi_len-le t = (csi_len-ascii 0 t (lit< tt)).0
 -- a control sequence with no intermediates ends with the byte after its parameters
 pub csi_len-final : (t rest : Text) (n b : ℕ) → n ≡ front_len is_parameter t → rest ≡ drop n t → 0 < length rest → b ≡ get_or rest 0 b → is_within 0x40 0x7E b ≡ true → n + 1 ≡ csi_len t
 csi_len-final t [] n b hn hd l hb h = absurd (omega (arith, l))
-csi_len-final t (c ∷ rest) n b hn hd l hb h = (
-    let final : is_within 0x40 0x7E c ≡ true = rw (← hb) h in
-    let other : is_intermediate c ≡ false = grind (arith, nat_tests, final) in
-    rw (← hn, ← hd, other, final) refl)
+csi_len-final t (c ∷ rest) n b hn hd l hb h = rw (← hn, ← hd) (grind (arith, nat_tests, hb, h))
 
 short_len-ascii : IsAsciiRun short_len
 short_len-ascii = then_len-ascii _ _ (front_len-ascii is_intermediate (λ c. within-ascii 0x20 0x2F c (lit< tt))) (one_len-ascii (is_within 0x30 0x7E) (λ c. within-ascii 0x30 0x7E c (lit< tt)))

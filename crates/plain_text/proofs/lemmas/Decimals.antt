@@ -1,5 +1,5 @@
 -- Texts of digits and of spaces (for `write_decimals`, `write_seconds_right`, `write_spaces`, `columns_left` and others).
-use Rattle.std.proofs.Common.{◌≡◌, ◌≤◌, inl, inr, true, false, nat_lt, sym, ℕ, zero, suc, ◌+◌, ◌-◌, ◌/◌, ◌%◌, ◌^◌, ◌<◌, [], ◌∷◌, ◌++◌, length, ap, ◌∙◌, arith, length-append, append_assoc, codes, lit<, refl, IsUtf8}
+use Rattle.std.proofs.Common.{◌≡◌, ◌≤◌, inl, inr, sym, ℕ, zero, suc, ◌+◌, ◌-◌, ◌/◌, ◌%◌, ◌^◌, ◌<◌, [], ◌∷◌, ◌++◌, length, ap, ◌∙◌, arith, length-append, append_assoc, codes, lit<, refl, IsUtf8}
 use Rattle.std.specs.Fmt.{decimal}
 use Rattle.std.specs.List.{AllByRecursion}
 use Rattle.std.specs.Str.{IsAscii, IsUtf8, chars}

@@ -1,8 +1,8 @@
 -- Decoded text (for `LossyText::skip`, `LossyText::split_after`, `LossyText::split_first`, `LossyText::starts_with` and others).
-use Rattle.std.proofs.Common.{◌≡◌, ℕ, zero, suc, ◌+◌, ◌-◌, ◌<◌, ◌≤◌, ◌↔◌, true, ◌&&◌, List, [], ◌∷◌, ◌++◌, length, get_or, take, drop, Option, None, Some, encode_utf8_all, IsUtf8, IsCharBoundary, refl, sym, ap, subst, ◌∙◌, arith, ⊎_elim, inl, inr, length-append, length-drop}
-use Rattle.std.proofs.lemmas.Bool.{cases_Bool, cases_lt}
+use Rattle.std.proofs.Common.{◌≡◌, ℕ, zero, suc, ◌+◌, ◌-◌, ◌<◌, ◌≤◌, ◌↔◌, true, ◌&&◌, List, [], ◌∷◌, ◌++◌, length, get_or, take, drop, Option, None, Some, encode_utf8_all, IsUtf8, IsCharBoundary, refl, sym, ap, subst, ◌∙◌, arith, inl, inr, length-append, length-drop}
+use Rattle.std.proofs.lemmas.Bool.{cases_Bool}
 use Rattle.std.proofs.lemmas.Bool.Decides.{nat_tests}
-use Rattle.std.proofs.lemmas.List.{nil_from_length, drop-append-le, take-append-drop, take-append-le, get_or_append_left}
+use Rattle.std.proofs.lemmas.List.{nil_from_length, drop-append-le, take-append-drop, get_or_append_left}
 use Rattle.std.proofs.lemmas.Str.{IsUtf8-append, IsUtf8-drop, encodes-append, utf8_lossy_chunk, IsCharBoundary-start}
 use Rattle.std.proofs.Math.Seq.{take-append_seam, drop-append_seam, drop-append-add, take-append-add, get_or-append-add}
 use Rattle.std.proofs.Math.Utf8.{scalars, scalar}
@@ -89,12 +89,9 @@ front_text-none n t b = elim (cases_Bool (ends_character n t)) [ inl y ↦ absur
 -- a place behind a piece is a place of what follows
 pub past-boundary : (piece more : Text) (n : ℕ) → length piece ≤ n → IsCharBoundary (piece ++ more) n ↔ IsCharBoundary more (n - length piece)
 past-boundary piece more n h =
-    let k = n - length piece in
-    let e : length piece + k ≡ n = omega arith in
-    let byte : get_or (piece ++ more) n 0 ≡ get_or more k 0 = ap (λ i. get_or (piece ++ more) i 0) (sym e) ∙ get_or-append-add piece more k 0 in
-    let size = length-append piece more in (
-      λ b. (omega (arith, b.0), λ l a. omega (arith, b.1 (omega arith) (omega arith))),
-      λ b. (omega (arith, b.0), λ l a. omega (arith, b.1 (omega arith) (omega arith))),
+    let byte = get_or-append-add piece more (n - length piece) 0 in let size = length-append piece more in (
+      λ b. (omega (arith, b.0), λ l a. grind (arith, byte, size, b.1)),
+      λ b. (omega (arith, b.0), λ l a. grind (arith, byte, size, b.1)),
     )
 
 pub past-drop : (piece more : Text) (n : ℕ) → length piece ≤ n → drop n (piece ++ more) ≡ drop (n - length piece) more

@@ -52,10 +52,7 @@ module _ (start end : ℕ) where
 
   -- whether a character fits does not depend on which of the two places is asked
   same_fit : (place pos w : ℕ) → IsPlace place pos → (nat_le start place && nat_le (place + w) end) ≡ (nat_le start pos && nat_le (pos + w) end)
-  same_fit place pos w h = elim h [
-    | inl e ↦ rw e refl
-    | inr b ↦ grind (arith, nat_tests)
-  ]
+  same_fit place pos w h = grind (arith, nat_tests)
 
   kept_chars-cons : (pos c : ℕ) (cs : List ℕ) → encode_utf8_all (kept_chars start end pos (c ∷ cs)) ≡ cond (nat_le start pos && nat_le (pos + char_columns c) end) (encode_utf8 c) [] ++ encode_utf8_all (kept_chars start end (pos + char_columns c) cs)
   kept_chars-cons pos c cs = grind (arith, nat_tests)

@@ -1,5 +1,5 @@
 -- Where the first lines of a text end (for `highlight_end`, `split_line`).
-use Rattle.std.proofs.Common.{◌≡◌, ℕ, suc, ◌+◌, ◌<◌, true, false, ◌==◌, inl, inr, [], ◌∷◌, ◌++◌, cond, refl, sym, ap, ◌∙◌, arith, length, get_or, take, drop, count_by, length-append, length-take-le, get_or-take, get_or-drop, add-one, take-append-drop}
+use Rattle.std.proofs.Common.{◌≡◌, ℕ, suc, ◌+◌, ◌<◌, false, ◌==◌, [], ◌∷◌, ◌++◌, cond, refl, sym, ap, ◌∙◌, arith, length, get_or, take, drop, count_by, length-append, length-take-le, get_or-take, get_or-drop, add-one, take-append-drop}
 use lib.Seq.{take-add}
 use Rattle.std.proofs.Math.Seq.{drop-cons, take-suc, take-length}
 use Rattle.std.proofs.lemmas.Bool.{false_from_ne_true}
@@ -87,9 +87,7 @@ whole_lines-one : (a : Text) → NoFeeds a → 0 < length a → whole_lines a �
 unfolding whole_lines
 whole_lines-one [] h l = absurd (omega arith)
 whole_lines-one (c ∷ []) h l = let first : (c == 10) ≡ false = h 0 0 (omega arith) in rw first refl
-whole_lines-one (c ∷ d ∷ a) h l =
-    let first : (c == 10) ≡ false = h 0 0 (omega arith) in
-    rw first (ap (onto_first_line c) (whole_lines-one (d ∷ a) (λ k e m. h (suc k) e (omega arith)) (omega arith)))
+whole_lines-one (c ∷ d ∷ a) h l = rw (h 0 0 (omega arith), whole_lines-one (d ∷ a) (λ k e m. h (suc k) e (omega arith)) (omega arith)) refl
 
 -- a text whose first line feed is found
 pub line_found : (t : Text) (i : ℕ) → NoneBefore (Passes (is_byte 10) t) 0 (length t) i × Passes (is_byte 10) t i → whole_lines t ≡ take (i + 1) t ∷ whole_lines (drop (i + 1) t)

@@ -1,6 +1,6 @@
 -- Lines that are indented (for `Indented::fmt_line`, `Indented::fmt_margin`, `Indented::write_line`, `Indented::write_margin` and others).
 use Rattle.std.proofs.Common.{◌≡◌, ◌≢◌, ℕ, suc, ◌+◌, ◌-◌, ◌<◌, [], ◌∷◌, ◌++◌, Bool, true, false, ◌==◌, nat_eq, length, take, get_or, get_or-take, length-take-le, refl, ap, sym, ◌∙◌, arith, inl, inr, Result, Ok, Err}
-use Rattle.std.proofs.lemmas.Bool.{cases_Bool, ne_eqb}
+use Rattle.std.proofs.lemmas.Bool.{ne_eqb}
 use Rattle.std.proofs.lemmas.Bool.Decides.{eqb_tells, nat_tests}
 use lib.Pointwise.{pointwise}
 use Rattle.plain_text.specs.Texts.{Text}

@@ -1,6 +1,5 @@
 -- No sequence goes past a line feed (for `colour_pair-line`).
-use Rattle.std.proofs.Common.{◌≡◌, ℕ, zero, suc, ◌≤◌, Bool, false, ◌&&◌, ◌==◌, [], ◌∷◌, ◌++◌, refl, arith, length, drop, inl, inr, length-drop}
-use Rattle.std.proofs.lemmas.Bool.{cases_Bool}
+use Rattle.std.proofs.Common.{◌≡◌, ℕ, zero, suc, ◌≤◌, Bool, false, [], ◌∷◌, ◌++◌, refl, arith, length, drop}
 use Rattle.std.proofs.lemmas.List.{drop-append-le}
 use Rattle.plain_text.specs.Texts.{Text}
 use Rattle.plain_text.specs.Scanner.{is_before_backslash}

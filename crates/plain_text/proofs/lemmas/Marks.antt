@@ -7,9 +7,9 @@ use Rattle.std.proofs.lemmas.Str.{chars-append, chars-nil, encode_ascii, scalars
 use Rattle.std.specs.Str.{IsUtf8, all_scalars}
 use lib.Utf8.{scalar, encode, next}
 use Rattle.plain_text.specs.Texts.{Text}
-use Rattle.plain_text.specs.Escapes.{is_within, is_parameter, is_intermediate, is_control, is_visible, front_len, then_len, one_len, csi_len, osc_len, short_len, sequence_len, PieceText, pieces, pieces_after}
+use Rattle.plain_text.specs.Escapes.{is_within, is_parameter, is_intermediate, is_control, is_visible, front_len, then_len, one_len, csi_len, osc_len, sequence_len, PieceText, pieces, pieces_after}
 use Rattle.plain_text.specs.Escapes.PieceText.{SequenceText, StretchText}
-use Rattle.plain_text.specs.Scanner.{rest_len, is_before_backslash, StepCounts, step_of, short_step_of, final_step_of, begun, mode_after_step, advanced, mode_after}
+use Rattle.plain_text.specs.Scanner.{rest_len, is_before_backslash, StepCounts, step_of, final_step_of, begun, mode_after_step, advanced, mode_after}
 use Rattle.plain_text.proofs.lemmas.FittedPuts.{one_utf8, one_char}
 use Rattle.plain_text.proofs.lemmas.Pieces.{pieces-sequence, pieces-stretch}
 use Rattle.plain_text.proofs.lemmas.Cuts.{then_len-inside, then_len-past, osc_len-cons}
@@ -218,10 +218,7 @@ terminator_step : (t : Text) → view_at (pending mode.Terminator (92 ∷ t)) (9
 terminator_step t = rw (encode_ascii 92 (lit< tt)) at (inside_step 92 0 t refl)
 
 no_backslash : (c : ℕ) (t : Text) → (c == 92) ≡ false → is_before_backslash (encode_utf8 c ++ t) ≡ false
-no_backslash c t h = elim (cases_lt c 128) [
-  | inl l ↦ rw (encode_ascii c l) h
-  | inr l ↦ (let e = encode-high c l in let high = e.3.0 in rw e.2 (grind (arith, nat_tests)))
-]
+no_backslash c t h = elim (cases_lt c 128) [ inl l ↦ rw (encode_ascii c l) h | inr l ↦ (let e = encode-high c l in let high = e.3.0 in rw e.2 (grind (arith, nat_tests))) ]
 
 -- the next character of a text
 mode_step : (m : Mode) (c : ℕ) (t : Text) → scalar c ≡ true → view_at (pending m (encode_utf8 c ++ t)) (encode_utf8 c ++ t) ≡ (is_some (advanced m c), c) ∷ view_at (pending (mode_after m c) t) t

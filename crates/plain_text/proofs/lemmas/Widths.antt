@@ -1,7 +1,7 @@
 -- How wide a cut text is (for `width_laws`).
-use Rattle.std.proofs.Common.{◌≡◌, ℕ, zero, suc, ◌+◌, ◌-◌, ◌<◌, ◌≤◌, Bool, true, false, not, ◌&&◌, ◌==◌, ◌⊎◌, inl, inr, List, [], ◌∷◌, ◌++◌, refl, sym, ap, ◌∙◌, arith, min, nat_le, chars, encode_utf8, encode_utf8_all, append-nil, append_assoc}
+use Rattle.std.proofs.Common.{◌≡◌, ℕ, zero, suc, ◌+◌, ◌-◌, ◌≤◌, Bool, true, false, not, ◌==◌, inl, inr, List, [], ◌∷◌, ◌++◌, refl, sym, ap, ◌∙◌, arith, min, nat_le, chars, encode_utf8, encode_utf8_all, append-nil, append_assoc}
 use Rattle.std.proofs.lemmas.Bool.{cases_Bool, cases_lt, and_parts}
-use Rattle.std.proofs.lemmas.Bool.Decides.{nat_tests, leb_tells}
+use Rattle.std.proofs.lemmas.Bool.Decides.{nat_tests}
 use Rattle.std.proofs.lemmas.Str.{chars-append, chars-encodes, scalars-chars, encodes-chars, IsUtf8-append, IsUtf8-nil, chars-nil}
 use lib.Utf8.{scalar}
 use Rattle.std.specs.Str.{IsUtf8, all_scalars}
