@@ -12,7 +12,6 @@ pub mod FitMarks
 pub mod Fits
 pub mod FittedPuts
 pub mod Flushes
-pub mod Highlighted
 pub mod IndentedCalls
 pub mod Indents
 pub mod LineSequences

@@ -13,7 +13,7 @@ use bstr::ByteSlice;
 /// ```
 /// assert_eq!(highlight_end(b"foo\nbar\nbaz\n"), 7);
 /// ```
-#[tactic(auto, using(crate::proofs::lemmas::Highlighted::highlight_laws))]
+#[tactic(auto, using(crate::proofs::lemmas::Feeds::highlight_laws))]
 pub fn highlight_end(slice: &[u8]) -> usize
     ensures value { result ≡ highlight_end slice.now }
     ensures within { result ≤ length slice.now }

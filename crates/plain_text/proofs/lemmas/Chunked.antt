@@ -1,7 +1,7 @@
 -- Chunks, from the places of line feeds (for `chunk_len`, `split_chunk`, `visit_chunks`).
 use Rattle.std.proofs.Common.{◌≡◌, ◌≢◌, ℕ, ◌+◌, ◌-◌, ◌<◌, ◌==◌, inl, inr, [], ◌∷◌, ◌++◌, refl, sym, ap, ◌∙◌, arith, length, get_or, take, drop, min, length-append, length-take, length-drop, add-one, get_or-take, get_or-drop}
 use Rattle.std.proofs.Math.Seq.{take-suc, get_or-append_seam}
-use Rattle.std.proofs.lemmas.Bool.{cases_lt}
+use Rattle.std.proofs.lemmas.Bool.{cases_lt, eqb-true}
 use Rattle.std.proofs.lemmas.List.{nil_from_length, drop_all}
 use Rattle.std.proofs.lemmas.Str.{IsCharBoundary-end}
 use Rattle.std.specs.Str.{IsUtf8, IsCharBoundary}
@@ -9,7 +9,7 @@ use Rattle.plain_text.specs.Texts.{Text}
 use Rattle.plain_text.specs.Chunks.{IsChunk, VisitsChunks}
 use Rattle.std.specs.Borrow.{Bor}
 use Rattle.memchr.specs.Find.{Nowhere, NoneBefore, Passes, is_byte}
-use Rattle.plain_text.proofs.lemmas.Feeds.{to_zero, same_byte, boundary_after_feed}
+use Rattle.plain_text.proofs.lemmas.Feeds.{to_zero, boundary_after_feed}
 use Rattle.plain_text.specs.ChunkEnds.{EndsFar, EndsText, IsChunkEnd}
 
 -- a text up to a line feed, and the line feed
@@ -66,7 +66,7 @@ ends_far limit near next t e h b p = record {
   after = refl;
   far = omega (arith, b.high, length-drop near t);
   inside = omega (arith, b.high, length-drop near t);
-  feed = sym (get_or-drop near t next 0) ∙ same_byte (get_or (drop near t) next 0) 10 p;
+  feed = sym (get_or-drop near t next 0) ∙ eqb-true (get_or (drop near t) next 0) 10 p;
   none = λ k l i. elim (cases_lt k near) [
     | inl m ↦ no_feed t near h k m (omega (arith, b.high, length-drop near t)) i
     | inr m ↦ b.before (k - near) (omega arith) (omega arith) (ap (λ c. c == 10) (get_or-drop near t (k - near) 0 ∙ ap (λ x. get_or t x 0) (omega arith) ∙ i))

@@ -6,7 +6,7 @@ use lib.Pointwise.{pointwise}
 use Rattle.plain_text.specs.Texts.{Text}
 use Rattle.plain_text.specs.Lines.{IsOneLine}
 use Rattle.plain_text.specs.Indent.{margin, indent, after}
-use Rattle.plain_text.specs.Indentation.{indent_onward, indent-onward, after_onward, after-onward, indented_meaning, IndentedStops, IndentedAccepts, PutsMargin}
+use Rattle.plain_text.specs.Indentation.{indent-append, indent_onward, indent-onward, after_onward, after-onward, indented_meaning, IndentedStops, IndentedAccepts, PutsMargin}
 use Rattle.plain_text.specs.Writer.{Meaning, WriterLaws, Puts}
 use Rattle.plain_text.specs.declared.indenter.indentation.Indented.{Indented}
 use Rattle.plain_text.specs.declared.write_str.WriteFault.{WriteFault}
@@ -108,3 +108,5 @@ flush_put m a b (Ok x) p f i o = record { below = p; line = f; indentation = i; 
 flush_put m a b (Err e) p f i o = record { below = p; same = o }
 
 pub ruleset first_margin = (margin-first)
+
+pub ruleset onward = (indent-append, indent-onward, after-onward)

@@ -1,4 +1,4 @@
-use Rattle.plain_text.proofs.lemmas.Highlighted.{none_found, one_feed}
+use Rattle.plain_text.proofs.lemmas.Feeds.{none_found, one_feed}
 use Rattle.plain_text.proofs.reporter_helpers.highlight_end.Goals as goal
 
 pub returns-in-None-clause-value : goal.returns-in-None-clause-value
