@@ -84,6 +84,7 @@ impl<'a> Iterator for Scanner<'a> {
 /// ```
 /// assert_eq!(strip(alloc, "a\x1b[31\nb")?.as_str(), "a\nb");
 /// ```
+#[tactic(auto, using(crate::proofs::lemmas::Pieces::visible_laws))]
 pub fn strip(alloc: Global, text: &str) -> Result<String, OutOfMemory>
     ensures visible { IfOk result (λ s. string_bytes s ≡ visible text.now) }
     ensures free { IfOk result (λ s. HasNoEscape (string_bytes s)) }
@@ -117,6 +118,7 @@ pub fn piece_laws()
 {}
 
 // The first piece of a text, and what follows it.
+#[tactic(auto, using(crate::proofs::lemmas::Pieces::first_piece))]
 fn split_piece(text: &str) -> Option<(Piece<'_>, &str)>
     ensures { MatchOption result (pieces text.now ≡ []) (λ x. pieces text.now ≡ piece_text x.0 ∷ pieces x.1.now) }
 {
@@ -135,6 +137,7 @@ fn split_piece(text: &str) -> Option<(Piece<'_>, &str)>
 
 /// How many bytes at the front are outside sequences.
 #[inline(always)]
+#[tactic(auto, using(crate::proofs::lemmas::Pieces::stretch_at, crate::proofs::lemmas::Pieces::stretch_whole))]
 pub(crate) fn stretch_len(bytes: &[u8]) -> usize
     ensures { result ≡ front_len is_visible bytes.now }
 {
@@ -148,7 +151,7 @@ pub(crate) fn stretch_len(bytes: &[u8]) -> usize
 }
 
 /// How many bytes of what follows an escape character belong to its sequence.
-#[tactic(auto, unfolding(crate::specs::Escapes::sequence_len))]
+#[tactic(auto, using(crate::proofs::lemmas::Pieces::len_laws), unfolding(crate::specs::Escapes::sequence_len))]
 #[inline(always)]
 pub(crate) fn sequence_len(after: &[u8]) -> usize
     ensures { result ≡ sequence_len after.now }
@@ -161,6 +164,7 @@ pub(crate) fn sequence_len(after: &[u8]) -> usize
 
 // The same, a step at a time.
 #[inline(never)]
+#[tactic(auto, using(crate::proofs::lemmas::Cuts::ended))]
 fn stepwise_len(after: &[u8]) -> usize
     ensures { result ≡ sequence_len after.now }
 {
@@ -180,6 +184,7 @@ fn stepwise_len(after: &[u8]) -> usize
 
 // How many bytes of what follows `ESC [` belong to its sequence. Most are colours, which have no intermediates.
 #[inline(always)]
+#[tactic(auto, using(crate::proofs::lemmas::Pieces::len_laws))]
 fn control_len(after: &[u8]) -> usize
     ensures { result ≡ csi_len after.now }
 {
@@ -204,6 +209,7 @@ fn parameters_len(bytes: &[u8]) -> usize
 
 // How many bytes of what follows its parameters belong to a control sequence.
 #[inline(never)]
+#[tactic(auto, using(crate::proofs::lemmas::Pieces::len_laws))]
 fn end_len(after: &[u8]) -> usize
     ensures { result ≡ csi_end_len after.now }
 {
@@ -217,6 +223,7 @@ fn end_len(after: &[u8]) -> usize
 
 // How many bytes at the front lie from low to high.
 #[inline(never)]
+#[tactic(auto, using(crate::proofs::lemmas::Pieces::runs))]
 fn run_len(bytes: &[u8], low: u8, high: u8) -> usize
     ensures { result ≡ front_len (is_within low high) bytes.now }
 {
@@ -259,7 +266,7 @@ enum Step {
 }
 
 // A step of a scan.
-#[tactic(auto, using(crate::proofs::lemmas::ScannerSteps::steps), unfolding(crate::specs::Escapes::sequence_len))]
+#[tactic(auto, using(crate::proofs::lemmas::Cuts::steps), unfolding(crate::specs::Escapes::sequence_len))]
 fn next_step(state: State, code: u32, precedes_backslash: bool) -> Step
     ensures counts { (t : List ℕ) → precedes_backslash ≡ is_before_backslash t → StepCounts result (rest_len state (code ∷ t)) t }
     ensures table { result ≡ step_of state code precedes_backslash }
@@ -278,7 +285,7 @@ fn next_step(state: State, code: u32, precedes_backslash: bool) -> Step
 }
 
 // A step where a parameter may come.
-#[tactic(auto, using(crate::proofs::lemmas::ScannerSteps::steps))]
+#[tactic(auto, using(crate::proofs::lemmas::Cuts::steps))]
 fn parameter_step(code: u32) -> Step
     ensures counts { (t : List ℕ) → StepCounts result (rest_len Parameters (code ∷ t)) t }
     ensures table { result ≡ step_of Parameters code false }
@@ -292,7 +299,7 @@ fn parameter_step(code: u32) -> Step
 }
 
 // A step where an intermediate or the final character may come.
-#[tactic(auto, using(crate::proofs::lemmas::ScannerSteps::steps))]
+#[tactic(auto, using(crate::proofs::lemmas::Cuts::steps))]
 fn final_step(code: u32) -> Step
     ensures counts { (t : List ℕ) → StepCounts result (rest_len Intermediates (code ∷ t)) t }
     ensures table { result ≡ final_step_of code }
@@ -305,7 +312,7 @@ fn final_step(code: u32) -> Step
 }
 
 // A step of a command.
-#[tactic(auto, using(crate::proofs::lemmas::ScannerSteps::steps))]
+#[tactic(auto, using(crate::proofs::lemmas::Cuts::steps))]
 fn command_step(code: u32, precedes_backslash: bool) -> Step
     ensures counts { (t : List ℕ) → precedes_backslash ≡ is_before_backslash t → StepCounts result (rest_len Command (code ∷ t)) t }
     ensures table { result ≡ step_of Command code precedes_backslash }
@@ -319,7 +326,7 @@ fn command_step(code: u32, precedes_backslash: bool) -> Step
 }
 
 // A step of any other sequence.
-#[tactic(auto, using(crate::proofs::lemmas::ScannerSteps::steps))]
+#[tactic(auto, using(crate::proofs::lemmas::Cuts::steps))]
 fn short_step(code: u32) -> Step
     ensures counts { (t : List ℕ) → StepCounts result (rest_len Short (code ∷ t)) t }
     ensures table { result ≡ short_step_of code }

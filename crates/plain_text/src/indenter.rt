@@ -56,6 +56,7 @@ impl<T: fmt::Display> fmt::Display for DisplayIndented<T> {
 }
 
 /// The law of indentation: a text may be cut anywhere, and a scan with one flag indents it.
+#[tactic(auto, using(crate::proofs::lemmas::Indents::onward))]
 pub fn indent_laws()
     ensures pieces { IndentsInPieces }
     ensures bytes { IndentsByBytes }

@@ -10,6 +10,7 @@ use memchr::memchr;
 /// ```
 /// assert_eq!(split_line("a\nb\n"), ("a\n", "b\n"));
 /// ```
+#[tactic(auto, using(crate::proofs::lemmas::Feeds::line_laws))]
 pub fn split_line(text: &str) -> (&str, &str)
     requires { 0 < length text.now }
     ensures whole { text.now ≡ result.0.now ++ result.1.now }

@@ -116,6 +116,7 @@ impl<'a> LossyText<'a> {
     }
 
     /// The text after its first `count` bytes. `None` says that these end no character of it.
+    #[tactic(auto, using(crate::proofs::lemmas::Decoded::decoded_laws))]
     pub fn skip(&self, count: usize) -> Option<LossyText<'a>>
         ensures some { IfSome result (λ t. IsCharBoundary self.now count × (t ≡ drop count self.now)) }
         ensures none { IfNone result (¬ (IsCharBoundary self.now count)) }
@@ -182,6 +183,7 @@ impl<'a> LossyText<'a> {
 
     // What is left of a piece after the first `count` bytes, and the bytes after it. `None` says that these end no
     // character.
+    #[tactic(auto, using(crate::proofs::lemmas::Decoded::place_laws))]
     fn split_after(&self, count: usize) -> Option<(&'a str, &'a [u8])>
         ensures some { IfSome result (λ x. IsCharBoundary self.now count × (x.0.now ++ decoded_text x.1.now ≡ drop count self.now) × IsUtf8 x.0.now) }
         ensures none { IfNone result (¬ (IsCharBoundary self.now count)) }
@@ -213,6 +215,7 @@ pub fn lossy_laws()
 {}
 
 // The first piece of the text that bytes are decoded to, and the bytes after it.
+#[tactic(auto, using(crate::proofs::lemmas::Decoded::first_laws))]
 fn first_piece(bytes: &[u8]) -> Option<(&str, &[u8])>
     ensures text { MatchOption result (decoded_text bytes.now ≡ []) (λ x. (decoded_text bytes.now ≡ x.0.now ++ decoded_text x.1.now) × (0 < length x.0.now)) }
     ensures utf8 { IfSome result (λ x. IsUtf8 x.0.now) }

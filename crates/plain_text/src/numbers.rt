@@ -79,6 +79,7 @@ fn write_spaces<W: WriteStr>(w: &mut W, count: usize) -> Result<(), WriteFault>
 }
 
 /// How many characters the text has.
+#[tactic(auto, using(std::proofs::lemmas::Str::chars_from_encodes))]
 fn char_count(text: &str) -> usize
     ensures { result ≡ length (chars text.now) }
 {
@@ -114,6 +115,7 @@ pub fn write_bracketed_seconds<W: WriteStr>(w: &mut W, nanos: u128) -> Result<()
 
 // The same of less than 9,999 seconds, which have four digits at most.
 #[inline]
+#[tactic(auto, using(crate::proofs::lemmas::Decimals::decimal_laws))]
 fn write_short_seconds<W: WriteStr>(w: &mut W, nanos: u64) -> Result<(), WriteFault>
     requires { nanos < 9999000000000 }
     ensures { Puts W.meaning w.old (codes "[" ++ (right_in 8 (seconds 3 nanos) ++ codes "s] ")) result w.new }
@@ -206,6 +208,7 @@ fn round_to_thousandths(nanos: u128) -> (u128, u32)
 }
 
 // Writes a point and three digits.
+#[tactic(auto, using(crate::proofs::lemmas::Decimals::decimal_laws))]
 fn write_decimals<W: WriteStr>(w: &mut W, thousandths: u32) -> Result<(), WriteFault>
     requires { thousandths < 1000 }
     ensures { Puts W.meaning w.old (codes "." ++ last_digits 3 thousandths) result w.new }
@@ -245,6 +248,7 @@ pub fn write_right_joined<W: WriteStr>(
 }
 
 // How many of the columns four texts leave.
+#[tactic(auto, using(crate::proofs::lemmas::Decimals::joined_columns))]
 fn columns_left(columns: usize, first: &str, second: &str, third: &str, fourth: &str) -> usize
     ensures { result ≡ columns - length (chars (first.now ++ (second.now ++ (third.now ++ fourth.now)))) }
 {

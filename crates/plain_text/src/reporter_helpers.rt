@@ -13,6 +13,7 @@ use bstr::ByteSlice;
 /// ```
 /// assert_eq!(highlight_end(b"foo\nbar\nbaz\n"), 7);
 /// ```
+#[tactic(auto, using(crate::proofs::lemmas::Feeds::highlight_laws))]
 pub fn highlight_end(slice: &[u8]) -> usize
     ensures value { result ≡ highlight_end slice.now }
     ensures within { result ≤ length slice.now }
@@ -61,6 +62,7 @@ fn visit_chunks<F: FnMut(&str)>(text: &str, limit: usize, print: &mut F)
 }
 
 // The first chunk of a text, and what follows it.
+#[tactic(auto, using(crate::proofs::lemmas::Chunked::chunk_from_end))]
 fn split_chunk(text: &str, limit: usize) -> (&str, &str)
     requires { 0 < length text.now }
     ensures whole { text.now ≡ result.0.now ++ result.1.now }
@@ -70,6 +72,7 @@ fn split_chunk(text: &str, limit: usize) -> (&str, &str)
 }
 
 // The length of the first chunk, in bytes.
+#[tactic(auto, using(crate::proofs::lemmas::Chunked::ends_far))]
 fn chunk_len(bytes: &[u8], limit: usize) -> usize
     ensures { IsChunkEnd limit bytes.now result }
 {

@@ -67,6 +67,7 @@ impl StrippedPieces {
 ///
 /// That is what [`StrippedPieces`] writes of a text in one piece, and it costs less: a sequence is scanned as a whole, and
 /// stretches between sequences are written together. It allocates nothing.
+#[tactic(auto, using(crate::proofs::lemmas::Pieces::fronts))]
 pub fn write_stripped_text<W: WriteStr>(w: &mut W, text: &str) -> Result<(), WriteFault>
     ensures { Puts W.meaning w.old (without_trailing_newline (visible text.now)) result w.new }
 {
@@ -94,6 +95,7 @@ fn write_gathered<W: WriteStr>(w: &mut W, text: &str) -> Result<(), WriteFault>
 
 // What follows the first sequence of a text, which stands after so many bytes.
 #[inline(always)]
+#[tactic(auto, using(crate::proofs::lemmas::Pieces::fronts))]
 fn after_sequence(text: &str, stretch: usize) -> &str
     requires { stretch ≡ front_len is_visible text.now }
     ensures visible { visible text.now ≡ take stretch text.now ++ visible result.now }
@@ -122,6 +124,7 @@ fn next_stretch(mode: Mode, text: &str) -> Option<(Mode, &str, &str)>
 }
 
 // The text before its first escape character, and what follows.
+#[tactic(auto, using(crate::proofs::lemmas::Pieces::front_boundary))]
 fn split_escape(text: &str) -> (&str, &str)
     ensures front { result.0.now ≡ take (front_len is_visible text.now) text.now }
     ensures back { result.1.now ≡ drop (front_len is_visible text.now) text.now }

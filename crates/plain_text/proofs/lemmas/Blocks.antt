@@ -1,6 +1,6 @@
 -- Runs of bytes that are found by the mask of a block (for `escape_marks`, `other_marks`, `parameters_in_block`, `stretch_in_block`).
-use Rattle.std.proofs.Common.{◌≡◌, ℕ, zero, suc, ◌+◌, ◌-◌, ◌++◌, drop, ◌%◌, ◌^◌, ◌<◌, ◌≤◌, Bool, true, not, List, inl, inr, [], ◌∷◌, map, length, take, replicate, refl, sym, ap, ap₂, ◌∙◌, arith, w8, Fits}
-use Rattle.std.proofs.lemmas.Bool.{cases_Bool, agree_below, agree_below_at}
+use Rattle.std.proofs.Common.{◌≡◌, ℕ, zero, suc, ◌+◌, ◌-◌, ◌++◌, drop, ◌%◌, ◌^◌, ◌<◌, ◌≤◌, Bool, true, not, List, [], ◌∷◌, map, length, take, replicate, refl, sym, ap, ap₂, ◌∙◌, arith, w8, Fits}
+use Rattle.std.proofs.lemmas.Bool.{agree_below, agree_below_at}
 use Rattle.std.proofs.lemmas.List.{length-map, length-take-le, length-drop, take-take, take-append-le}
 use Rattle.std.proofs.Math.Seq.{take-append-add}
 use Rattle.std.proofs.lemmas.Simd.{map-map, mask_l-mod, trailing_mask_l, take_more_put_chunk, length-put_chunk}
@@ -34,10 +34,7 @@ from_splat h f y n v long p =
 unmarked : (p : ℕ → Bool) (n : ℕ) (t : Text) → 0 < mask_l (map (λ c. not (p c)) (take n t)) → prefix_len (λ c. not (not (p c))) (take n t) ≡ front_len p t
 unmarked p zero t some = absurd (omega (arith, some))
 unmarked p (suc n) [] some = absurd (omega (arith, some))
-unmarked p (suc n) (c ∷ t) some = elim (cases_Bool (p c)) [
-  | inl y ↦ (let more : 0 < mask_l (map (λ d. not (p d)) (take n t)) = (let h = rw y at some in omega arith) in rw y (omega (arith, unmarked p n t more)))
-  | inr n ↦ rw n refl
-]
+unmarked p (suc n) (c ∷ t) some = grind (arith, unmarked p n t)
 
 pub run_ends : (p : ℕ → Bool) (n : ℕ) (t : Text) (marks : ℕ) → marks ≡ mask_l (map (λ c. not (p c)) (take n t)) → n ≤ length t → n ≤ 64 → 0 < marks
     → count_trailing_zeros 64 marks ≡ front_len p t

@@ -1,6 +1,6 @@
 -- Texts each of whose sequences ends by itself, made of styles and of words without escape characters (for the lemmas of InstanceWidths).
-use Rattle.std.proofs.Common.{◌≡◌, ◌≢◌, ℕ, zero, suc, ◌+◌, ◌-◌, false, ◌==◌, inl, inr, List, [], ◌∷◌, ◌++◌, refl, sym, ap, ◌∙◌, arith, length, encode_utf8, chars, nat_lt, ◌/◌, ◌%◌}
-use Rattle.std.proofs.lemmas.Bool.{cases_Bool, cases_lt}
+use Rattle.std.proofs.Common.{◌≡◌, ◌≢◌, ℕ, zero, suc, ◌+◌, ◌-◌, false, ◌==◌, inl, inr, List, [], ◌∷◌, ◌++◌, refl, sym, ap, ◌∙◌, arith, length, encode_utf8, chars, ◌/◌, ◌%◌}
+use Rattle.std.proofs.lemmas.Bool.{cases_lt}
 use Rattle.std.proofs.lemmas.Bool.Decides.{nat_tests, eqb_tells}
 use Rattle.std.proofs.lemmas.Str.{encode_ascii}
 use Rattle.std.specs.Fmt.{decimal, digits, digits_onto, digit_glyph}
@@ -38,25 +38,11 @@ reset_closed = ((λ u. refl), tt)
 prefix_closed : (s : Style) → IsClosedText (style_prefix s)
 unfolding pieces_after sequence_len
 prefix_closed style.Plain = tt
-prefix_closed style.Bold = ((λ u. refl), tt)
-prefix_closed style.BoldRed = ((λ u. refl), tt)
-prefix_closed style.BoldGreen = ((λ u. refl), tt)
-prefix_closed style.BoldYellow = ((λ u. refl), tt)
-prefix_closed style.BoldBlue = ((λ u. refl), tt)
-prefix_closed style.BoldMagenta = ((λ u. refl), tt)
-prefix_closed style.Cyan = ((λ u. refl), tt)
-prefix_closed style.BrightBlack = ((λ u. refl), tt)
+prefix_closed _ = ((λ u. refl), tt)
 
 suffix_closed : (s : Style) → IsClosedText (style_suffix s)
 suffix_closed style.Plain = closed-none
-suffix_closed style.Bold = reset_closed
-suffix_closed style.BoldRed = reset_closed
-suffix_closed style.BoldGreen = reset_closed
-suffix_closed style.BoldYellow = reset_closed
-suffix_closed style.BoldBlue = reset_closed
-suffix_closed style.BoldMagenta = reset_closed
-suffix_closed style.Cyan = reset_closed
-suffix_closed style.BrightBlack = reset_closed
+suffix_closed _ = reset_closed
 
 -- the words of a part
 abbrev pub words_of : PartText → Text
@@ -78,17 +64,12 @@ paint_closed (p ∷ ps) h = closed-append (part_text p) (part_texts ps) (part_cl
 
 -- words without escape characters
 glyph_free : (d : ℕ) (acc : Text) → HasNoEscape acc → HasNoEscape (digit_glyph false d ∷ acc)
-glyph_free d acc h = elim (cases_Bool (nat_lt d 10)) [
-  | inl y ↦ (let e : ((48 + d) == 27) ≡ false = grind (arith, nat_tests) in rw y (rw (e, h) refl))
-  | inr n ↦ (let e : ((87 + d) == 27) ≡ false = grind (arith, nat_tests) in rw n (rw (e, h) refl))
-]
+glyph_free d acc h = grind (arith, nat_tests)
 
 digits_free : (k n : ℕ) (acc : Text) → HasNoEscape acc → HasNoEscape (digits_onto k 10 false n acc)
 digits_free zero n acc h = h
 digits_free (suc k) n acc h =
-    let here = glyph_free (n % 10) acc h in
-    let more = digits_free k (n / 10) (digit_glyph false (n % 10) ∷ acc) here in
-    elim (cases_Bool (n / 10 == 0)) [ inl y ↦ rw y here | inr m ↦ rw m more ]
+    let here = glyph_free (n % 10) acc h in grind (arith, here, digits_free k (n / 10) (digit_glyph false (n % 10) ∷ acc) here)
 
 pub decimal_free : (n : ℕ) → HasNoEscape (decimal n)
 unfolding digits
@@ -104,7 +85,7 @@ right_free n t h = free_both (spaces (n - length (chars t))) t (spaces_free (n -
 
 high_free : (bs : Text) → AreHigh bs → HasNoEscape bs
 high_free [] h = refl
-high_free (b ∷ bs) h = let l = h.0 in let e : (b == 27) ≡ false = grind (arith, nat_tests) in rw (e, high_free bs h.1) refl
+high_free (b ∷ bs) h = grind (arith, nat_tests, h.0, high_free bs h.1)
 
 pub char_free : (c : ℕ) → c ≢ 27 → HasNoEscape (encode_utf8 c)
 char_free c h = elim (cases_lt c 128) [

@@ -1,13 +1,15 @@
--- Texts of digits (for `write_decimals`, `write_seconds_right`).
-use Rattle.std.proofs.Common.{◌≡◌, ◌≤◌, inl, inr, true, false, nat_lt, sym, ℕ, zero, suc, ◌+◌, ◌-◌, ◌/◌, ◌%◌, ◌^◌, ◌<◌, [], ◌∷◌, ◌++◌, length, ap, ◌∙◌, arith, length-append, append_assoc, codes, lit<, refl}
+-- Texts of digits and of spaces (for `write_decimals`, `write_seconds_right`, `write_spaces`, `columns_left` and others).
+use Rattle.std.proofs.Common.{◌≡◌, ◌≤◌, inl, inr, sym, ℕ, zero, suc, ◌+◌, ◌-◌, ◌/◌, ◌%◌, ◌^◌, ◌<◌, [], ◌∷◌, ◌++◌, length, ap, ◌∙◌, arith, length-append, append_assoc, codes, lit<, refl, IsUtf8}
 use Rattle.std.specs.Fmt.{decimal}
+use Rattle.std.specs.List.{AllByRecursion}
 use Rattle.std.specs.Str.{IsAscii, IsUtf8, chars}
-use Rattle.std.proofs.lemmas.Str.{chars-IsAscii, IsAscii-append, IsUtf8-from_ascii}
+use Rattle.std.proofs.lemmas.Str.{chars-IsAscii, IsAscii-append, IsUtf8-from_ascii, chars-append}
 use Rattle.std.proofs.lemmas.Bool.{cases_lt}
 use Rattle.std.proofs.lemmas.Bool.Decides.{nat_tests}
 use Rattle.std.proofs.lemmas.Fmt.{IsAscii-decimal_wide, decimal_digit, decimal_step}
 use Rattle.plain_text.specs.Texts.{Text, spaces, right_in}
 use Rattle.plain_text.specs.Numbers.{digit_column, rounded, last_digits, with_point, seconds}
+use Rattle.std.proofs.lemmas.List.{replicate-append-replicate}
 
 -- one byte, and a list with one more in front
 pub IsAscii-cons : (c : ℕ) (t : Text) → c < 128 → IsAscii t → IsAscii (c ∷ t)
@@ -21,12 +23,12 @@ IsAscii-none i = omega arith
 abbrev pub decimals : ℕ → Text
 decimals r = 46 ∷ (48 + r / 10 / 10 % 10) ∷ (48 + r / 10 % 10) ∷ (48 + r % 10) ∷ []
 
+ascii_each : (t : Text) → AllByRecursion (λ c. c < 128) t → IsAscii t
+ascii_each [] h = IsAscii-none
+ascii_each (c ∷ t) h = IsAscii-cons c t h.0 (ascii_each t h.1)
+
 IsAscii-decimals : (r : ℕ) → IsAscii (decimals r)
-IsAscii-decimals r =
-    IsAscii-cons 46 ((48 + r / 10 / 10 % 10) ∷ (48 + r / 10 % 10) ∷ (48 + r % 10) ∷ []) (lit< tt)
-    (IsAscii-cons (48 + r / 10 / 10 % 10) ((48 + r / 10 % 10) ∷ (48 + r % 10) ∷ []) (omega arith)
-    (IsAscii-cons (48 + r / 10 % 10) ((48 + r % 10) ∷ []) (omega arith)
-    (IsAscii-cons (48 + r % 10) [] (omega arith) IsAscii-none)))
+IsAscii-decimals r = ascii_each (decimals r) (lit< tt, (omega arith, (omega arith, (omega arith, tt))))
 
 -- a number of thousandths, right in so many columns
 right-thousandths : (columns r : ℕ) → r / 1000 < 10 ^ 64 → right_in columns (decimal (r / 1000) ++ decimals r) ≡ spaces (columns - 4 - length (decimal (r / 1000))) ++ (decimal (r / 1000) ++ decimals r)
@@ -44,11 +46,7 @@ seconds-thousandths n = append_assoc (decimal (rounded 1000000 n / 1000)) (codes
 
 -- the three digits are those of the number's last three
 decimals-last : (r : ℕ) → decimals r ≡ codes "." ++ last_digits 3 (r % 1000)
-decimals-last r =
-    let hundreds : r / 10 / 10 % 10 ≡ r % 1000 / 10 / 10 % 10 = omega arith in
-    let tens : r / 10 % 10 ≡ r % 1000 / 10 % 10 = omega arith in
-    let ones : r % 10 ≡ r % 1000 % 10 = omega arith in
-    rw (hundreds, tens, ones) refl
+decimals-last r = grind arith
 
 -- nanoseconds as seconds with three decimals, right in so many columns: spaces, the seconds, and the thousandths
 pub right-seconds : (columns n whole part : ℕ) (padding text : Text) → whole ≡ rounded 1000000 n / 1000 → part ≡ rounded 1000000 n % 1000 → n < 2 ^ 128
@@ -62,86 +60,40 @@ right-seconds columns n whole part padding text p q fits e f =
 -- the digits as the code makes them
 pub IsUtf8-digits : (n : ℕ) → n < 1000 → IsUtf8 (46 ∷ (48 + n / 100) ∷ (48 + n / 10 % 10) ∷ (48 + n % 10) ∷ [])
 IsUtf8-digits n h =
-    IsUtf8-from_ascii (46 ∷ (48 + n / 100) ∷ (48 + n / 10 % 10) ∷ (48 + n % 10) ∷ [])
-    (IsAscii-cons 46 ((48 + n / 100) ∷ (48 + n / 10 % 10) ∷ (48 + n % 10) ∷ []) (lit< tt)
-    (IsAscii-cons (48 + n / 100) ((48 + n / 10 % 10) ∷ (48 + n % 10) ∷ []) (omega arith)
-    (IsAscii-cons (48 + n / 10 % 10) ((48 + n % 10) ∷ []) (omega arith)
-    (IsAscii-cons (48 + n % 10) [] (omega arith) IsAscii-none))))
+    let digits : Text = 46 ∷ (48 + n / 100) ∷ (48 + n / 10 % 10) ∷ (48 + n % 10) ∷ [] in
+    IsUtf8-from_ascii digits (ascii_each digits (lit< tt, (omega arith, (omega arith, (omega arith, tt)))))
 
 -- the column of a number's digit at a power of ten
-below : (n p : ℕ) → n < p → digit_column n p ≡ 32
-below n p h = let e : nat_lt n p ≡ true = grind (arith, nat_tests) in rw e refl
-
-above : (n p : ℕ) → p ≤ n → digit_column n p ≡ 48 + n / p % 10
-above n p h = let e : nat_lt n p ≡ false = grind (arith, nat_tests) in rw e refl
-
 digit_column-small : (n p : ℕ) → digit_column n p < 128
-digit_column-small n p = elim (cases_lt n p) [ inl l ↦ rw (below n p l) (lit< tt) | inr m ↦ rw (above n p m) (omega arith) ]
+digit_column-small n p = grind (arith, nat_tests)
 
 -- a number below ten thousand takes four columns
 abbrev columns_of : ℕ → Text
 columns_of n = digit_column n 1000 ∷ digit_column n 100 ∷ digit_column n 10 ∷ (48 + n % 10) ∷ []
 
-one-column : (n : ℕ) → n < 10 → spaces (4 - length (decimal n)) ++ decimal n ≡ columns_of n
-one-column n h =
-    let last : n % 10 ≡ n = omega arith in
-    rw (decimal_digit n h, below n 1000 (omega arith), below n 100 (omega arith), below n 10 h, last) refl
-
-two-columns : (n : ℕ) → 10 ≤ n → n < 100 → spaces (4 - length (decimal n)) ++ decimal n ≡ columns_of n
-two-columns n l h =
-    let tens : n / 10 % 10 ≡ n / 10 = omega arith in
-    rw (decimal_step n l (omega arith), decimal_digit (n / 10) (omega arith), below n 1000 (omega arith), below n 100 h, above n 10 l, tens) refl
-
-three-columns : (n : ℕ) → 100 ≤ n → n < 1000 → spaces (4 - length (decimal n)) ++ decimal n ≡ columns_of n
-three-columns n l h =
-    let hundreds : n / 100 % 10 ≡ n / 10 / 10 = omega arith in
-    rw (decimal_step n (omega arith) (omega arith), decimal_step (n / 10) (omega arith) (omega arith), decimal_digit (n / 10 / 10) (omega arith), below n 1000 h, above n 100 l, above n 10 (omega arith), hundreds) refl
-
-four-columns : (n : ℕ) → 1000 ≤ n → n < 10000 → spaces (4 - length (decimal n)) ++ decimal n ≡ columns_of n
-four-columns n l h =
-    let hundreds : n / 100 % 10 ≡ n / 10 / 10 % 10 = omega arith in
-    let thousands : n / 1000 % 10 ≡ n / 10 / 10 / 10 = omega arith in
-    rw (
-      decimal_step n (omega arith) (omega arith),
-      decimal_step (n / 10) (omega arith) (omega arith),
-      decimal_step (n / 10 / 10) (omega arith) (omega arith),
-      decimal_digit (n / 10 / 10 / 10) (omega arith),
-      above n 1000 l,
-      above n 100 (omega arith),
-      above n 10 (omega arith),
-      hundreds,
-      thousands,
-    ) refl
-
 in-columns : (n : ℕ) → n < 10000 → spaces (4 - length (decimal n)) ++ decimal n ≡ columns_of n
-in-columns n h =
-    elim (cases_lt n 10) [
-      | inl a ↦ one-column n a
-      | inr b ↦
-          elim (cases_lt n 100) [
-            | inl c ↦ two-columns n b c
-            | inr d ↦
-                elim (cases_lt n 1000) [ inl e ↦ three-columns n d e | inr f ↦ four-columns n f h ]
-          ]
+in-columns n h = elim (cases_lt n 10) [
+  | inl a ↦ rw (decimal_digit n a) (grind (arith, nat_tests))
+  | inr b ↦ elim (cases_lt n 100) [
+    | inl c ↦ rw (decimal_step n b (omega arith), decimal_digit (n / 10) (omega arith)) (grind (arith, nat_tests))
+    | inr d ↦ elim (cases_lt n 1000) [
+      | inl e ↦ rw (decimal_step n (omega arith) (omega arith), decimal_step (n / 10) (omega arith) (omega arith), decimal_digit (n / 10 / 10) (omega arith)) (grind (arith, nat_tests))
+      | inr f ↦ rw (decimal_step n (omega arith) (omega arith), decimal_step (n / 10) (omega arith) (omega arith), decimal_step (n / 10 / 10) (omega arith) (omega arith), decimal_digit (n / 10 / 10 / 10) (omega arith))
+          (grind (arith, nat_tests))
     ]
+  ]
+]
 
 -- the bytes of a short duration between brackets
 abbrev pub row_of : ℕ → ℕ → ℕ → ℕ → ℕ → Text
 row_of whole r a b c =
     91 ∷ a ∷ b ∷ c ∷ (48 + whole % 10) ∷ 46 ∷ (48 + r / 100 % 10) ∷ (48 + r / 10 % 10) ∷ (48 + r % 10) ∷ 115 ∷ 93 ∷ 32 ∷ []
 
-three-ascii : (x y z : ℕ) → x < 128 → y < 128 → z < 128 → IsAscii (x ∷ y ∷ z ∷ [])
-three-ascii x y z h k l = IsAscii-cons x (y ∷ z ∷ []) h (IsAscii-cons y (z ∷ []) k (IsAscii-cons z [] l IsAscii-none))
-
 pub IsUtf8-row : (whole r a b c : ℕ) → a ≡ digit_column whole 1000 → b ≡ digit_column whole 100 → c ≡ digit_column whole 10 → IsUtf8 (row_of whole r a b c)
 IsUtf8-row whole r a b c p q s =
-    let front = three-ascii 91 a b (lit< tt) (rw p (digit_column-small whole 1000)) (rw q (digit_column-small whole 100)) in
-    let point = three-ascii c (48 + whole % 10) 46 (rw s (digit_column-small whole 10)) (omega arith) (lit< tt) in
-    let thousandths = three-ascii (48 + r / 100 % 10) (48 + r / 10 % 10) (48 + r % 10) (omega arith) (omega arith) (omega arith) in
-    let end = three-ascii 115 93 32 (lit< tt) (lit< tt) (lit< tt) in
-    let last = IsAscii-append ((48 + r / 100 % 10) ∷ (48 + r / 10 % 10) ∷ (48 + r % 10) ∷ []) (115 ∷ 93 ∷ 32 ∷ []) thousandths end in
-    let rest = IsAscii-append (c ∷ (48 + whole % 10) ∷ 46 ∷ []) ((48 + r / 100 % 10) ∷ (48 + r / 10 % 10) ∷ (48 + r % 10) ∷ 115 ∷ 93 ∷ 32 ∷ []) point last in
-    IsUtf8-from_ascii (row_of whole r a b c) (IsAscii-append (91 ∷ a ∷ b ∷ []) (c ∷ (48 + whole % 10) ∷ 46 ∷ (48 + r / 100 % 10) ∷ (48 + r / 10 % 10) ∷ (48 + r % 10) ∷ 115 ∷ 93 ∷ 32 ∷ []) front rest)
+    let thousandths : AllByRecursion (λ d. d < 128) ((48 + r / 100 % 10) ∷ (48 + r / 10 % 10) ∷ (48 + r % 10) ∷ 115 ∷ 93 ∷ 32 ∷ []) = (omega arith, (omega arith, (omega arith, (lit< tt, (lit< tt, (lit< tt, tt)))))) in
+    IsUtf8-from_ascii (row_of whole r a b c)
+    (ascii_each (row_of whole r a b c) (lit< tt, (rw p (digit_column-small whole 1000), (rw q (digit_column-small whole 100), (rw s (digit_column-small whole 10), (omega arith, (lit< tt, thousandths)))))))
 
 -- they are what the definition says
 pub bracketed-row : (n whole r a b c : ℕ) → n < 9999000000000 → r ≡ rounded 1000000 n → whole ≡ r / 1000 → a ≡ digit_column whole 1000 → b ≡ digit_column whole 100 → c ≡ digit_column whole 10
@@ -152,3 +104,19 @@ bracketed-row n whole r a b c h is over p q s =
     let text : right_in 8 (seconds 3 n) ≡ (spaces (4 - length (decimal whole)) ++ decimal whole) ++ decimals r
     = ap (right_in 8) (seconds-thousandths n) ∙ right-thousandths 8 (rounded 1000000 n) (omega arith) ∙ rw (← is, ← over) (sym (append_assoc (spaces (4 - length (decimal whole))) (decimal whole) (decimals r))) in
     rw (text, in-columns whole small, p, q, s, hundreds) refl
+
+pub ruleset decimal_laws = (IsUtf8-digits, IsUtf8-row)
+
+-- some spaces, and those that are left
+pub spaces-split : (n k : ℕ) → k ≤ n → spaces n ≡ spaces k ++ spaces (n - k)
+spaces-split n k within = let e : n ≡ k + (n - k) = omega arith in ap spaces e ∙ sym (replicate-append-replicate k (n - k) 32)
+
+-- the first spaces are those of another text
+pub spaces_first : (n k : ℕ) (t : Text) → t ≡ spaces k → k ≤ n → spaces n ≡ t ++ spaces (n - k)
+spaces_first n k t is within = spaces-split n k within ∙ ap (λ u. u ++ spaces (n - k)) (sym is)
+
+-- the characters of four texts
+pub joined_columns : (a b c d : Text) → IsUtf8 a → IsUtf8 b → IsUtf8 c → length (chars (a ++ (b ++ (c ++ d)))) ≡ length (chars a) + (length (chars b) + (length (chars c) + length (chars d)))
+joined_columns a b c d p q r =
+    rw (chars-append a (b ++ (c ++ d)) p, chars-append b (c ++ d) q, chars-append c d r)
+    (simp length-append)

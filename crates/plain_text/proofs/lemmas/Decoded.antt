@@ -1,9 +1,9 @@
 -- Decoded text (for `LossyText::skip`, `LossyText::split_after`, `LossyText::split_first`, `LossyText::starts_with` and others).
-use Rattle.std.proofs.Common.{◌≡◌, ℕ, zero, suc, ◌+◌, ◌-◌, ◌<◌, ◌≤◌, ◌↔◌, true, ◌&&◌, List, [], ◌∷◌, ◌++◌, length, get_or, take, drop, Option, None, Some, encode_utf8_all, IsUtf8, IsCharBoundary, refl, sym, ap, subst, ◌∙◌, arith, ⊎_elim, inl, inr, length-append, length-drop}
-use Rattle.std.proofs.lemmas.Bool.{cases_Bool, cases_lt}
+use Rattle.std.proofs.Common.{◌≡◌, ℕ, zero, suc, ◌+◌, ◌-◌, ◌<◌, ◌≤◌, ◌↔◌, true, ◌&&◌, List, [], ◌∷◌, ◌++◌, length, get_or, take, drop, Option, None, Some, encode_utf8_all, IsUtf8, IsCharBoundary, refl, sym, ap, subst, ◌∙◌, arith, inl, inr, length-append, length-drop}
+use Rattle.std.proofs.lemmas.Bool.{cases_Bool}
 use Rattle.std.proofs.lemmas.Bool.Decides.{nat_tests}
-use Rattle.std.proofs.lemmas.List.{take-append-drop, take-append-le, get_or_append_left}
-use Rattle.std.proofs.lemmas.Str.{IsUtf8-append, encodes-append, utf8_lossy_chunk, IsCharBoundary-start}
+use Rattle.std.proofs.lemmas.List.{nil_from_length, drop-append-le, take-append-drop, get_or_append_left}
+use Rattle.std.proofs.lemmas.Str.{IsUtf8-append, IsUtf8-drop, encodes-append, utf8_lossy_chunk, IsCharBoundary-start}
 use Rattle.std.proofs.Math.Seq.{take-append_seam, drop-append_seam, drop-append-add, take-append-add, get_or-append-add}
 use Rattle.std.proofs.Math.Utf8.{scalars, scalar}
 use Rattle.std.specs.Str.Lossy.{utf8_valid_len, utf8_invalid_len, utf8_lossy}
@@ -44,9 +44,7 @@ pub decoded-invalid : (bytes valid invalid rest : List ℕ) → bytes ≡ valid 
     → decoded_text bytes ≡ (239 ∷ 191 ∷ 189 ∷ []) ++ decoded_text rest
 unfolding decoded_text
 decoded-invalid bytes valid invalid rest parts v i none some =
-    lossy_chars-utf8_lossy bytes ∙ utf8_lossy_chunk bytes valid invalid rest parts v i some
-    ∙ ap (λ t. t ++ ((239 ∷ 191 ∷ 189 ∷ []) ++ utf8_lossy rest)) none
-    ∙ ap (λ t. (239 ∷ 191 ∷ 189 ∷ []) ++ t) (sym (lossy_chars-utf8_lossy rest))
+    lossy_chars-utf8_lossy bytes ∙ utf8_lossy_chunk bytes valid invalid rest parts v i some ∙ rw (none, lossy_chars-utf8_lossy rest) refl
 
 -- each character that bytes are decoded to is one
 scalar-decoded : (bytes : List ℕ) (o : Option ℕ) → (decoded bytes).char ≡ o → scalar (or_replacement o) ≡ true
@@ -91,12 +89,9 @@ front_text-none n t b = elim (cases_Bool (ends_character n t)) [ inl y ↦ absur
 -- a place behind a piece is a place of what follows
 pub past-boundary : (piece more : Text) (n : ℕ) → length piece ≤ n → IsCharBoundary (piece ++ more) n ↔ IsCharBoundary more (n - length piece)
 past-boundary piece more n h =
-    let k = n - length piece in
-    let e : length piece + k ≡ n = omega arith in
-    let byte : get_or (piece ++ more) n 0 ≡ get_or more k 0 = ap (λ i. get_or (piece ++ more) i 0) (sym e) ∙ get_or-append-add piece more k 0 in
-    let size = length-append piece more in (
-      λ b. (omega (arith, b.0), λ l a. omega (arith, b.1 (omega arith) (omega arith))),
-      λ b. (omega (arith, b.0), λ l a. omega (arith, b.1 (omega arith) (omega arith))),
+    let byte = get_or-append-add piece more (n - length piece) 0 in let size = length-append piece more in (
+      λ b. (omega (arith, b.0), λ l a. grind (arith, byte, size, b.1)),
+      λ b. (omega (arith, b.0), λ l a. grind (arith, byte, size, b.1)),
     )
 
 pub past-drop : (piece more : Text) (n : ℕ) → length piece ≤ n → drop n (piece ++ more) ≡ drop (n - length piece) more
@@ -108,21 +103,16 @@ past-take piece more n h = let e : length piece + (n - length piece) ≡ n = ome
 -- the first piece, as the code cuts it
 
 pub decoded-none : (bytes : List ℕ) → length bytes ≡ 0 → decoded_text bytes ≡ []
-decoded-none [] h = decoded-nil
-decoded-none (b ∷ bs) h = absurd (omega arith)
+decoded-none bytes h = rw (nil_from_length bytes h) decoded-nil
 
 module _ (bytes valid invalid after rest : List ℕ) (parts : bytes ≡ valid ++ (invalid ++ after)) where
   pub invalid_first : length after < length bytes → length valid ≡ utf8_valid_len bytes → length invalid ≡ utf8_invalid_len (drop (utf8_valid_len bytes) bytes)
       → length valid ≡ 0 → rest ≡ drop (length invalid) bytes → decoded_text bytes ≡ 239 ∷ 191 ∷ 189 ∷ decoded_text rest
   invalid_first less v i none cut =
-      let empty : valid ≡ [] = nil valid none in
+      let empty : valid ≡ [] = nil_from_length valid none in
       let some : 0 < length invalid = omega (arith, ap length parts, length-append valid (invalid ++ after), length-append invalid after) in
       let back : rest ≡ after = cut ∙ ap (drop (length invalid)) (parts ∙ ap (λ t. t ++ (invalid ++ after)) empty) ∙ drop-append_seam invalid after in
       decoded-invalid bytes valid invalid after parts v i empty some ∙ ap (λ t. 239 ∷ 191 ∷ 189 ∷ decoded_text t) (sym back)
-    where
-      nil : (t : List ℕ) → length t ≡ 0 → t ≡ []
-      nil [] h = refl
-      nil (b ∷ bs) h = absurd (omega arith)
 
   pub valid_first : IsUtf8 valid → rest ≡ drop (length valid) bytes → decoded_text bytes ≡ valid ++ decoded_text rest
   valid_first u cut =
@@ -134,16 +124,7 @@ pub within-boundary : (piece more : Text) (n : ℕ) → n ≤ length piece → I
 within-boundary piece more n h u =
     let size = length-append piece more in (
       λ b. (h, λ l a. let same = get_or_append_left piece more 0 n l in omega (arith, same, b.1 (omega arith) (omega arith))),
-      λ b. (
-        omega arith,
-        λ l a. ⊎_elim
-            (λ (inside : n < length piece). let same = get_or_append_left piece more 0 n inside in omega (arith, same, b.1 inside (omega arith)))
-            (λ (end : length piece ≤ n).
-            let byte : get_or (piece ++ more) n 0 ≡ get_or more 0 0 =
-            ap (λ i. get_or (piece ++ more) i 0) (let e : n ≡ length piece + 0 = omega arith in e) ∙ get_or-append-add piece more 0 0 in
-            omega (arith, byte, (IsCharBoundary-start more u).1 (omega arith) (omega arith)))
-            (cases_lt n (length piece)),
-      ),
+      λ b. (omega arith, λ l a. grind (arith, get_or_append_left piece more 0 n, get_or-append-add piece more 0 0, (IsCharBoundary-start more u).1, b.1)),
     )
 
 -- a step past a piece, to a place in what follows it
@@ -173,9 +154,6 @@ prefix-step piece more wanted le =
       λ both. joined ∙ (λ i. sym both.0 i ++ both.1 i) ∙ take-append-drop k wanted,
     )
 
-pub prefix-end : (piece more wanted : Text) → length wanted ≤ length piece → take (length wanted) (piece ++ more) ≡ take (length wanted) piece
-prefix-end piece more wanted le = take-append-le (length wanted) piece more le
-
 -- one piece is as wanted: what follows it decides
 pub prefix_on : {P : Type 0} (piece more wanted : Text) → length piece ≤ length wanted → (next back : Text) → more ≡ next → take (length piece) wanted ≡ piece → back ≡ drop (length piece) wanted
     → P ↔ (take (length wanted) (piece ++ more) ≡ wanted) → P ↔ (take (length back) next ≡ back)
@@ -185,4 +163,8 @@ prefix_on piece more wanted le next back same front cut h =
       λ e. h.1 (step.1 (front, rw (← cut, same) e)),
     )
 
-pub ruleset decoded_laws = (decoded-utf8, decoded-lossy, decoded-same, decoded-front, front_text-take, front_text-none)
+pub ruleset decoded_laws = (decoded-utf8, shown-utf8, decoded-lossy, decoded-same, decoded-front, front_text-take, front_text-none)
+
+pub ruleset first_laws = (decoded-none, invalid_first, valid_first)
+
+pub ruleset place_laws = (within-boundary, decoded-utf8, IsUtf8-drop, drop-append-le)

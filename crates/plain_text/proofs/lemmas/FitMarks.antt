@@ -1,5 +1,5 @@
--- What is kept while a text is written is what fitting keeps of the whole (for the lemmas of CounterPuts, FittedTexts).
-use Rattle.std.proofs.Common.{◌≡◌, ℕ, zero, suc, ◌+◌, ◌<◌, ◌≤◌, Bool, true, false, cond, ◌&&◌, ◌||◌, ◌==◌, ◌⊎◌, inl, inr, List, [], ◌∷◌, ◌++◌, refl, sym, ap, ◌∙◌, arith, take, append_assoc, subst, Option, Some, None, is_some, unwrap_or, nat_le, nat_lt, chars, encode_utf8, encode_utf8_all, lit<}
+-- What is kept while a text is written is what fitting keeps of the whole (for `write_fitted`, `count_columns`, `ColumnCounterWriteStr::write_str`).
+use Rattle.std.proofs.Common.{ap₂, ◌≡◌, ℕ, zero, suc, ◌+◌, ◌<◌, ◌≤◌, Bool, true, false, cond, ◌&&◌, ◌||◌, ◌==◌, ◌⊎◌, inl, inr, List, [], ◌∷◌, ◌++◌, refl, sym, ap, ◌∙◌, arith, take, append_assoc, subst, Option, Some, None, is_some, unwrap_or, nat_le, nat_lt, chars, encode_utf8, encode_utf8_all, lit<, Result, Ok, Err}
 use Rattle.std.proofs.lemmas.Bool.{cases_Bool, cases_lt, eqb-true}
 use Rattle.std.proofs.lemmas.Bool.Decides.{nat_tests}
 use Rattle.std.proofs.lemmas.Str.{encodes-chars, encode_ascii}
@@ -7,15 +7,20 @@ use Rattle.std.specs.Str.{IsUtf8}
 use Rattle.plain_text.specs.Texts.{Text}
 use Rattle.plain_text.specs.Escapes.{is_visible, front_len, sequence_len, PieceText, pieces, pieces_after}
 use Rattle.plain_text.specs.Escapes.PieceText.{SequenceText, StretchText}
-use Rattle.plain_text.specs.ColumnCounter.{columns_counted, columns_from}
-use Rattle.plain_text.specs.Scanner.{advanced, mode_after}
+use Rattle.plain_text.specs.ColumnCounter.{columns_counted, columns_from, saturated, CounterAccepts}
+use Rattle.plain_text.specs.Scanner.{advanced, mode_after, modes_after}
 use Rattle.plain_text.specs.Fitting.{char_columns, columns_of, columns, kept_chars, kept_stretch, fit_pieces, fit, stretch_columns}
-use Rattle.plain_text.specs.Fitted.{next_place, is_char_kept_by, moved_by, kept_from}
+use Rattle.plain_text.specs.Fitted.{next_place, is_char_kept_by, moved_by, kept_from, fitted_text, fitted_meaning, stops_kept}
 use Rattle.plain_text.proofs.lemmas.Fits.{columns_of-cons, kept_stretch-before, kept_stretch-past, AreTexts, texts, stretch_columns-pieces}
 use Rattle.plain_text.proofs.lemmas.Marks.{Mark, marks, tagged, piece_marks, marks-pieces, chars_past}
 use Rattle.plain_text.specs.declared.escapes.Mode.{Mode}
 use Rattle.plain_text.specs.declared.escapes.Mode.TheVariants as mode
 use Rattle.plain_text.specs.declared.fitting.scan_state.ScanState.{ScanState}
+use Rattle.plain_text.specs.Writer.{Meaning, WriterLaws, Puts}
+use Rattle.plain_text.specs.declared.fitting.fitted.Fitted.{Fitted}
+use Rattle.plain_text.specs.declared.write_str.WriteFault.{WriteFault}
+use Rattle.plain_text.proofs.lemmas.FittedPuts.{first_scalar, one_utf8, one_char}
+use Rattle.plain_text.specs.declared.fitting.column_counter.ColumnCounter.{ColumnCounter}
 
 module _ (start end : ℕ) where
   -- what is kept of the marks from a place on
@@ -41,27 +46,25 @@ module _ (start end : ℕ) where
 
   next_is : (place pos w : ℕ) → IsPlace place pos → IsPlace (next_place end place w) (pos + w)
   next_is place pos w h = elim (cases_lt end place) [
-    | inl l ↦ (let past : nat_lt end place ≡ true = grind (arith, nat_tests) in rw past (inr (l, elim h [ inl e ↦ omega arith | inr b ↦ omega arith ])))
-    | inr l ↦ (let within : nat_lt end place ≡ false = grind (arith, nat_tests) in rw within (elim h [ inl e ↦ inl (omega arith) | inr b ↦ absurd (omega arith) ]))
+    | inl l ↦ (let past : nat_lt end place ≡ true = grind (arith, nat_tests) in rw past (inr (l, grind (arith, h))))
+    | inr l ↦ (let within : nat_lt end place ≡ false = grind (arith, nat_tests) in rw within (inl (grind (arith, h))))
   ]
 
   -- whether a character fits does not depend on which of the two places is asked
   same_fit : (place pos w : ℕ) → IsPlace place pos → (nat_le start place && nat_le (place + w) end) ≡ (nat_le start pos && nat_le (pos + w) end)
-  same_fit place pos w h = elim h [
-    | inl e ↦ rw e refl
-    | inr b ↦ grind (arith, nat_tests)
-  ]
+  same_fit place pos w h = grind (arith, nat_tests)
 
   kept_chars-cons : (pos c : ℕ) (cs : List ℕ) → encode_utf8_all (kept_chars start end pos (c ∷ cs)) ≡ cond (nat_le start pos && nat_le (pos + char_columns c) end) (encode_utf8 c) [] ++ encode_utf8_all (kept_chars start end (pos + char_columns c) cs)
-  kept_chars-cons pos c cs = elim (cases_Bool (nat_le start pos && nat_le (pos + char_columns c) end)) [ inl y ↦ rw y refl | inr n ↦ rw n refl ]
+  kept_chars-cons pos c cs = grind (arith, nat_tests)
 
-  -- a stretch that began before the end
-  record Kept (place pos : ℕ) (cs : List ℕ) (ms : List Mark) : Type 0 where
+  -- after a stretch, of which this front is kept
+  record Passed (is_open : Bool) (front : Text) (place pos : ℕ) (cs : List ℕ) (ms : List Mark) : Type 0 where
     next : ℕ
     is_place : IsPlace next (pos + columns_of cs)
-    kept : kept_marks place true (tagged false cs ++ ms) ≡ encode_utf8_all (kept_chars start end pos cs) ++ kept_marks next true ms
+    kept : kept_marks place is_open (tagged false cs ++ ms) ≡ front ++ kept_marks next is_open ms
 
-  open_stretch : (place pos : ℕ) (cs : List ℕ) (ms : List Mark) → IsPlace place pos → Kept place pos cs ms
+  -- a stretch that began before the end
+  open_stretch : (place pos : ℕ) (cs : List ℕ) (ms : List Mark) → IsPlace place pos → Passed true (encode_utf8_all (kept_chars start end pos cs)) place pos cs ms
   open_stretch place pos [] ms h = record { next = place; is_place = subst (IsPlace place) (omega arith) h; kept = refl }
   open_stretch place pos (c ∷ cs) ms h =
       let more = open_stretch (next_place end place (char_columns c)) (pos + char_columns c) cs ms (next_is place pos (char_columns c) h) in
@@ -69,17 +72,11 @@ module _ (start end : ℕ) where
         next = more.next;
         is_place = subst (IsPlace more.next) (omega (arith, columns_of-cons c cs)) more.is_place;
         kept = rw (same_fit place pos (char_columns c) h, kept_chars-cons pos c cs)
-            (ap (λ x. cond (nat_le start pos && nat_le (pos + char_columns c) end) (encode_utf8 c) [] ++ x) more.kept
-            ∙ sym (append_assoc (cond (nat_le start pos && nat_le (pos + char_columns c) end) (encode_utf8 c) []) (encode_utf8_all (kept_chars start end (pos + char_columns c) cs)) (kept_marks more.next true ms)));
+            (rw more.kept (simp append_assoc));
       }
 
   -- a stretch that begins at the end or past it
-  record Passed (place pos : ℕ) (cs : List ℕ) (ms : List Mark) : Type 0 where
-    next : ℕ
-    is_place : IsPlace next (pos + columns_of cs)
-    kept : kept_marks place false (tagged false cs ++ ms) ≡ kept_marks next false ms
-
-  closed_stretch : (place pos : ℕ) (cs : List ℕ) (ms : List Mark) → IsPlace place pos → end ≤ pos → Passed place pos cs ms
+  closed_stretch : (place pos : ℕ) (cs : List ℕ) (ms : List Mark) → IsPlace place pos → end ≤ pos → Passed false [] place pos cs ms
   closed_stretch place pos [] ms h k = record { next = place; is_place = subst (IsPlace place) (omega arith) h; kept = refl }
   closed_stretch place pos (c ∷ cs) ms h k =
       let more = closed_stretch (next_place end place (char_columns c)) (pos + char_columns c) cs ms (next_is place pos (char_columns c) h) (omega arith) in
@@ -119,8 +116,7 @@ shut_after (c ∷ t) = let more = shut_after t in elim (cases_Bool (c == 27)) [
 
 apart_after : (n : ℕ) (t : Text) → AreApart (pieces_after n t)
 unfolding pieces_after
-apart_after zero [] = tt
-apart_after (suc n) [] = tt
+apart_after n [] = tt
 apart_after (suc n) (c ∷ t) = apart_after n t
 apart_after zero (c ∷ t) = elim (cases_Bool (c == 27)) [
   | inl y ↦ rw y (apart_after (sequence_len t) t)
@@ -175,12 +171,11 @@ mark_columns (x ∷ ms) = cond x.0 0 (char_columns x.1) + mark_columns ms
 columns-marks : (m : Mode) (cs : List ℕ) → columns_from m cs ≡ mark_columns (marks m cs)
 unfolding columns_from
 columns-marks m [] = refl
-columns-marks m (c ∷ cs) = go (columns-marks (mode_after m c) cs) (advanced m c) refl
+columns-marks m (c ∷ cs) = ap₂ ◌+◌ (counted (advanced m c)) (columns-marks (mode_after m c) cs)
   where
-    go : columns_from (mode_after m c) cs ≡ mark_columns (marks (mode_after m c) cs) → (o : Option Mode) → advanced m c ≡ o
-        → columns_counted c o + columns_from (mode_after m c) cs ≡ cond (is_some o) 0 (char_columns c) + mark_columns (marks (mode_after m c) cs)
-    go more (Some n) e = ap (λ k. 0 + k) more
-    go more None e = ap (λ k. char_columns c + k) more
+    counted : (o : Option Mode) → columns_counted c o ≡ cond (is_some o) 0 (char_columns c)
+    counted (Some n) = refl
+    counted None = refl
 
 mark_columns-append : (ms ns : List Mark) → mark_columns (ms ++ ns) ≡ mark_columns ms + mark_columns ns
 mark_columns-append [] ns = omega arith
@@ -202,3 +197,34 @@ piece_columns (StretchText s ∷ ps) = omega (arith, mark_columns-append (tagged
 -- the columns that the scan counts are those of the text
 pub columns_counted-columns : (t : Text) → IsUtf8 t → columns_from mode.Text (chars t) ≡ columns t
 columns_counted-columns t u = columns-marks mode.Text (chars t) ∙ ap mark_columns (marks-pieces t u) ∙ piece_columns (pieces t) ∙ stretch_columns-pieces t u
+
+module _ {W : Type 0} {m : Meaning W} (laws : WriterLaws m) where
+  put_below : (a b : Fitted W) (t : Text) (r : Result (Unit {0}) WriteFault) → Puts (fitted_meaning m) a t r b → Puts m a.inner.now (fitted_text a t) r b.inner.now
+  put_below a b t (Ok x) p = p.below
+  put_below a b t (Err e) p = stops_kept m laws a b t e p
+
+  same_name : (a b : Fitted W) (t : Text) (r : Result (Unit {0}) WriteFault) → Puts (fitted_meaning m) a t r b → b.inner.ghost_name ≡ a.inner.ghost_name
+  same_name a b t (Ok x) p = p.same
+  same_name a b t (Err e) p = p.same
+
+  -- through a writer that is given back
+  pub text_fitted : (old new : W) (a b : Fitted W) (t : Text) (start end : ℕ) (r : Result (Unit {0}) WriteFault) → IsUtf8 t → a.inner.now ≡ old → a.start ≡ start → a.end ≡ end
+      → a.scan.mode ≡ mode.Text → a.scan.place ≡ 0 → a.scan.is_open ≡ false → Puts (fitted_meaning m) a t r b → (b.inner.ghost_name ≡ a.inner.ghost_name → new ≡ b.inner.now) → Puts m old (fit t start end) r new
+  text_fitted old new a b t start end r u n s e k p o h back =
+      let below = rw (n, s, e, kept-fit start end a.scan t u k p o) at (put_below a b t r h) in
+      rw (back (same_name a b t r h)) below
+
+-- the next character of a text
+pub next_counted : (a b : ColumnCounter) (t rest : Text) (c : ℕ) → IsUtf8 t → t ≡ encode_utf8 c ++ rest → b.mode ≡ mode_after a.mode c → b.columns ≡ saturated (a.columns + columns_counted c (advanced a.mode c)) → CounterAccepts a (encode_utf8 c) b
+unfolding columns_from modes_after
+next_counted a b t rest c u e m k =
+    let s = first_scalar t rest c u e in
+    record {
+      utf8 = one_utf8 c s;
+      mode = rw (one_char c s) m;
+      columns = rw (one_char c s) (omega (arith, k));
+    }
+
+-- a text from the first count on
+pub all_counted : (a b : ColumnCounter) (t : Text) → a.mode ≡ mode.Text → a.columns ≡ 0 → CounterAccepts a t b → b.columns ≡ saturated (columns t)
+all_counted a b t m k p = p.columns ∙ rw (m, k, columns_counted-columns t p.utf8) (omega arith)

@@ -1,8 +1,8 @@
 -- What is kept of a text that is cut (for `ColumnCounterWriteStr::write_str`, `FittedWriteStr::write_str`).
-use Rattle.std.proofs.Common.{◌≡◌, ℕ, zero, suc, ◌+◌, ◌*◌, ◌<◌, ◌≤◌, false, inl, inr, List, [], ◌∷◌, ◌++◌, refl, ap, ◌∙◌, arith, length, chars, encode_utf8_all, drop, encode_utf8, add-one, lit<}
+use Rattle.std.proofs.Common.{◌≡◌, ℕ, zero, suc, ◌+◌, ◌*◌, ◌<◌, ◌≤◌, false, inl, inr, List, [], ◌∷◌, ◌++◌, refl, ap, ◌∙◌, arith, length, chars, encode_utf8_all, drop, add-one, lit<}
 use Rattle.std.proofs.lemmas.Bool.Decides.{nat_tests, eqb_tells}
 use Rattle.std.proofs.lemmas.List.Sums.{sum_by-cons, sum_by-append}
-use Rattle.std.proofs.lemmas.Str.{chars-append, IsUtf8-take, IsUtf8-drop, IsUtf8-append, IsUtf8-nil, chars-nil, IsUtf8-past_char}
+use Rattle.std.proofs.lemmas.Str.{chars-append, IsUtf8-take, IsUtf8-drop, IsUtf8-append, IsUtf8-nil, chars-nil}
 use Rattle.std.specs.Str.{IsUtf8}
 use Rattle.unicode_width.proofs.Rules.{width_or_zero-le}
 use Rattle.plain_text.proofs.lemmas.Cuts.{sequence_len-cut}
@@ -21,22 +21,6 @@ columns_of-cons c cs = sum_by-cons char_columns c cs
 
 pub columns_of-append : (cs ds : List ℕ) → columns_of (cs ++ ds) ≡ columns_of cs + columns_of ds
 columns_of-append cs ds = sum_by-append char_columns cs ds
-
-kept_after : (start end pos c : ℕ) (cs : List ℕ) → end < pos + char_columns c → kept_chars start end pos (c ∷ cs) ≡ kept_chars start end (pos + char_columns c) cs
-kept_after start end pos c cs h = grind (arith, nat_tests)
-
-pub kept_past : (start end pos : ℕ) (cs : List ℕ) → end < pos → kept_chars start end pos cs ≡ []
-kept_past start end pos [] h = refl
-kept_past start end pos (c ∷ cs) h = kept_after start end pos c cs (omega arith) ∙ kept_past start end (pos + char_columns c) cs (omega arith)
-
--- nothing is kept from a character on that goes past the end
-pub kept_break : (start end pos c : ℕ) (cs : List ℕ) → end < pos + char_columns c → kept_chars start end pos (c ∷ cs) ≡ []
-kept_break start end pos c cs h = kept_after start end pos c cs h ∙ kept_past start end (pos + char_columns c) cs h
-
--- a step over one character
-module _ (bs rest : Text) (c : ℕ) (u : IsUtf8 bs) (e : bs ≡ encode_utf8 c ++ rest) where
-  pub step_utf8 : IsUtf8 rest
-  step_utf8 = IsUtf8-past_char bs rest c u e
 
 pub kept_stretch-before : (start end pos : ℕ) (s : Text) → pos < end → kept_stretch start end pos s ≡ encode_utf8_all (kept_chars start end pos (chars s))
 unfolding kept_stretch
@@ -58,8 +42,7 @@ AreTexts (StretchText s ∷ ps) = IsUtf8 s × AreTexts ps
 
 texts_after : (n : ℕ) (t : Text) → IsUtf8 (drop n t) → AreTexts (pieces_after n t)
 unfolding pieces_after
-texts_after zero [] u = tt
-texts_after (suc n) [] u = tt
+texts_after n [] u = tt
 texts_after (suc n) (c ∷ t) u = texts_after n t u
 texts_after zero (c ∷ t) u = elim (eqb_tells c 27) [
   | inl y ↦ (let b = rw add-one at (boundary c t (sequence_len t) u (rw y.1 (sequence_len-cut 27 t (lit< tt)))) in

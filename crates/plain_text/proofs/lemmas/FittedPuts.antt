@@ -5,7 +5,7 @@ use Rattle.std.proofs.lemmas.Str.{chars-encodes, chars-nil, IsUtf8-nil, cons_fro
 use Rattle.std.specs.Str.{IsUtf8, all_scalars}
 use lib.Utf8.{scalar}
 use Rattle.plain_text.specs.Texts.{Text}
-use Rattle.plain_text.specs.Fitted.{FittedAccepts, FittedStops, kept_char, kept_from, fitted_text, fitted_text-nil, scan_after, PutsChar, fitted_meaning}
+use Rattle.plain_text.specs.Fitted.{kept_char, kept_from, fitted_text, fitted_text-nil, scan_after, PutsChar, fitted_meaning}
 use Rattle.plain_text.specs.Writer.{Meaning, Puts}
 use Rattle.plain_text.specs.declared.fitting.fitted.Fitted.{Fitted}
 use Rattle.plain_text.specs.declared.write_str.WriteFault.{WriteFault}
@@ -48,11 +48,8 @@ module _ {W : Type 0} (m : Meaning W) where
   }
 
   -- the next character of a text
-  pub next_accepted : (a b : Fitted W) (t rest : Text) (c : ℕ) → IsUtf8 t → t ≡ encode_utf8 c ++ rest → PutsChar m a c (Ok tt) b → FittedAccepts m a (encode_utf8 c) b
-  next_accepted a b t rest c u e p = char_put a b c (Ok tt) (first_scalar t rest c u e) p
-
-  pub next_stopped : (a b : Fitted W) (t rest : Text) (c : ℕ) (f : WriteFault) → IsUtf8 t → t ≡ encode_utf8 c ++ rest → PutsChar m a c (Err f) b → FittedStops m a (encode_utf8 c) f b
-  next_stopped a b t rest c f u e p = char_put a b c (Err f) (first_scalar t rest c u e) p
+  pub next_put : (a b : Fitted W) (t rest : Text) (c : ℕ) (r : Result (Unit {0}) WriteFault) → IsUtf8 t → t ≡ encode_utf8 c ++ rest → PutsChar m a c r b → Puts (fitted_meaning m) a (encode_utf8 c) r b
+  next_put a b t rest c r u e p = char_put a b c r (first_scalar t rest c u e) p
 
   -- nothing is written, as by a flush
   pub nothing_put : (a b : Fitted W) (r : Result (Unit {0}) WriteFault) → Puts m a.inner.now [] r b.inner.now → b.scan ≡ a.scan → b.start ≡ a.start → b.end ≡ a.end → b.inner.ghost_name ≡ a.inner.ghost_name → Puts (fitted_meaning m) a [] r b

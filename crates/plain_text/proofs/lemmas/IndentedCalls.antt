@@ -13,7 +13,7 @@ use Rattle.plain_text.specs.Lines.{IsOneLine}
 use Rattle.plain_text.specs.Indent.{margin, indent, after}
 use Rattle.plain_text.specs.Indentation.{IndentedTakes, TakesMargin, indent-append, after-append, indent-none, after-none}
 use Rattle.plain_text.specs.OnFormatter.{folds_append, concat_append, written_twice}
-use Rattle.plain_text.proofs.lemmas.Indents.{indent-line}
+use Rattle.plain_text.proofs.lemmas.Indents.{indent-line, margin-first}
 use Rattle.plain_text.specs.declared.indenter.indentation.Indented.{Indented}
 
 module _ {W : Type 0} (took : W → Text → W → Type 0) where
@@ -90,3 +90,5 @@ module _ {W : Type 0} (took : W → Text → W → Type 0) where
       let taken = taken_calls writes a b t h in
       let below = rw (e, n, i) at taken.below in
       rw (back taken.same) (written_calls f b.inner.now (indent p true t) plain below)
+
+pub ruleset margin_laws = (margin-first, margin_taken)

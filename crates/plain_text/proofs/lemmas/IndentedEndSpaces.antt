@@ -1,8 +1,8 @@
 -- Indentation, and texts that are alike (for `colour_pair-indent`).
-use Rattle.std.proofs.Common.{append_assoc, ap₂, ◌≢◌, ◌≡◌, ℕ, zero, suc, Bool, true, false, cond, ◌&&◌, ◌==◌, List, [], ◌∷◌, ◌++◌, map, refl, sym, ◌∙◌, ap, inl, inr, append-nil}
+use Rattle.std.proofs.Common.{length, arith, append_assoc, ap₂, ◌≢◌, ◌≡◌, ℕ, zero, suc, Bool, true, false, cond, ◌&&◌, ◌==◌, List, [], ◌∷◌, ◌++◌, map, refl, sym, ◌∙◌, ap, inl, inr, append-nil}
 use Rattle.std.specs.List.{AllByRecursion, onto_first, join_with_byte}
 use Rattle.std.proofs.lemmas.Bool.{cases_Bool}
-use Rattle.std.proofs.lemmas.List.Splits.{join_with_byte-slice_split}
+use Rattle.std.proofs.lemmas.List.Splits.{join_with_byte-slice_split, length-slice_split}
 use Rattle.plain_text.specs.Texts.{Text}
 use Rattle.plain_text.specs.Escapes.{sequence_len, visible_after, visible, HasNoEscape}
 use Rattle.plain_text.specs.Lines.{lines}
@@ -20,17 +20,11 @@ alike-front (c ∷ t) u v h = ap (λ l. cond ((c == 32) && ends_line l) l (c ∷
 pub end_spaces-line : (t u : Text) → without_end_spaces (t ++ 10 ∷ u) ≡ without_end_spaces t ++ 10 ∷ without_end_spaces u
 unfolding without_end_spaces
 end_spaces-line [] u = refl
-end_spaces-line (c ∷ t) u =
-    rw (end_spaces-line t u) (elim (cases_Bool (c == 32)) [
-      | inl s ↦ rw s (go (without_end_spaces t))
-      | inr n ↦ rw n refl
-    ])
+end_spaces-line (c ∷ t) u = grind (arith, end_spaces-line t u, same_end (without_end_spaces t) (without_end_spaces u))
   where
-    go : (l : Text) → cond (ends_line (l ++ 10 ∷ without_end_spaces u)) (l ++ 10 ∷ without_end_spaces u) (c ∷ (l ++ 10 ∷ without_end_spaces u))
-        ≡ cond (ends_line l) l (c ∷ l) ++ 10 ∷ without_end_spaces u
-    go [] = refl
-    go (d ∷ l) = elim (d == 10) as (λ b. cond b (d ∷ (l ++ 10 ∷ without_end_spaces u)) (c ∷ d ∷ (l ++ 10 ∷ without_end_spaces u)) ≡ cond b (d ∷ l) (c ∷ d ∷ l) ++ 10 ∷ without_end_spaces u)
-        [ true ↦ refl | false ↦ refl ]
+    same_end : (l v : Text) → ends_line (l ++ 10 ∷ v) ≡ ends_line l
+    same_end [] v = refl
+    same_end (d ∷ l) v = refl
 
 pub alike-line : (t u v w : Text) → IsEqualButEndSpaces t u → IsEqualButEndSpaces v w → IsEqualButEndSpaces (t ++ 10 ∷ v) (u ++ 10 ∷ w)
 alike-line t u v w h k = end_spaces-line t v ∙ ap₂ (λ a b. a ++ 10 ∷ b) h k ∙ sym (end_spaces-line u w)
@@ -41,8 +35,7 @@ IsLine t = AllByRecursion (λ c. (c == 10) ≡ false) t
 
 line-visible_after : (n : ℕ) (t : Text) → IsLine t → IsLine (visible_after n t)
 unfolding visible_after
-line-visible_after zero [] h = tt
-line-visible_after (suc n) [] h = tt
+line-visible_after n [] h = tt
 line-visible_after (suc n) (c ∷ t) h = line-visible_after n t h.1
 line-visible_after zero (c ∷ t) h = let skip = line-visible_after (sequence_len t) t h.1 in let more = line-visible_after 0 t h.1 in
     elim (cases_Bool (c == 27)) [ inl e ↦ rw e skip | inr n ↦ rw n (h.0, more) ]
@@ -56,22 +49,11 @@ onto_first-append c [] ms h = absurd (h refl)
 onto_first-append c (l ∷ ls) ms h = refl
 
 some_lines : (t : Text) → lines t ≢ []
-some_lines [] = λ e. cc
-some_lines (c ∷ t) = elim (cases_Bool (c == 10)) [
-  | inl e ↦ rw e (λ h. cc)
-  | inr n ↦ rw n (go (lines t))
-]
-  where
-    go : (ls : List Text) → onto_first c ls ≢ []
-    go [] = λ e. cc
-    go (l ∷ ls) = λ e. cc
+some_lines t e = omega (arith, length-slice_split (λ c. c == 10) t, ap length e)
 
 lines-append : (t u : Text) → lines (t ++ 10 ∷ u) ≡ lines t ++ lines u
 lines-append [] u = refl
-lines-append (c ∷ t) u = rw (lines-append t u) (elim (cases_Bool (c == 10)) [
-  | inl e ↦ rw e refl
-  | inr n ↦ rw n (onto_first-append c (lines t) (lines u) (some_lines t))
-])
+lines-append (c ∷ t) u = grind (arith, lines-append t u, onto_first-append c (lines t) (lines u) (some_lines t))
 
 lines-are : (t : Text) → AllByRecursion IsLine (lines t)
 lines-are [] = (tt, tt)
@@ -90,34 +72,54 @@ joined ls = join_with_byte 10 ls
 joined-lines : (t : Text) → joined (lines t) ≡ t
 joined-lines t = join_with_byte-slice_split 10 t
 
-visible-joined : (ls : List Text) → visible (joined ls) ≡ joined (map visible ls)
-unfolding visible_after
-visible-joined [] = refl
-visible-joined (l ∷ []) = refl
-visible-joined (l ∷ m ∷ ls) = visible-line l (joined (m ∷ ls)) ∙ ap (λ t. visible l ++ 10 ∷ t) (visible-joined (m ∷ ls))
+-- lines, joined, are cut into the same lines
+lines-joined : (l : Text) (ls : List Text) → AllByRecursion IsLine (l ∷ ls) → lines (joined (l ∷ ls)) ≡ l ∷ ls
+lines-joined l [] h = lines-line l h.0
+lines-joined l (m ∷ ls) h = lines-append l (joined (m ∷ ls)) ∙ ap₂ (λ a b. a ++ b) (lines-line l h.0) (lines-joined m ls h.1)
 
--- the lines of what is visible
-lines-visible : (l : Text) (ls : List Text) → AllByRecursion IsLine (l ∷ ls) → lines (visible (joined (l ∷ ls))) ≡ map visible (l ∷ ls)
-lines-visible l [] h = lines-line (visible l) (line-visible_after 0 l h.0)
-lines-visible l (m ∷ ls) h =
-    ap lines (visible-line l (joined (m ∷ ls))) ∙ lines-append (visible l) (visible (joined (m ∷ ls)))
-    ∙ ap₂ (λ a b. a ++ b) (lines-line (visible l) (line-visible_after 0 l h.0)) (lines-visible m ls h.1)
+-- what changes a text line by line
+abbrev IsByLines : (Text → Text) → Type 0
+IsByLines f = ((ls : List Text) → f (joined ls) ≡ joined (map f ls)) × ((t : Text) → lines (f t) ≡ map f (lines t))
+
+module _ (f : Text → Text) (none : f [] ≡ []) (line : (t u : Text) → f (t ++ 10 ∷ u) ≡ f t ++ 10 ∷ f u) (keeps : (t : Text) → IsLine t → IsLine (f t)) where
+  mapped-joined : (ls : List Text) → f (joined ls) ≡ joined (map f ls)
+  mapped-joined [] = none
+  mapped-joined (l ∷ []) = refl
+  mapped-joined (l ∷ m ∷ ls) = line l (joined (m ∷ ls)) ∙ ap (λ t. f l ++ 10 ∷ t) (mapped-joined (m ∷ ls))
+
+  keeps-all : (ls : List Text) → AllByRecursion IsLine ls → AllByRecursion IsLine (map f ls)
+  keeps-all [] h = tt
+  keeps-all (l ∷ ls) h = (keeps l h.0, keeps-all ls h.1)
+
+  by_lines : IsByLines f
+  by_lines = (mapped-joined, λ t. ap (λ x. lines (f x)) (sym (joined-lines t)) ∙ ap lines (mapped-joined (lines t)) ∙ go (lines t) (some_lines t) (lines-are t))
+    where
+      go : (ls : List Text) → ls ≢ [] → AllByRecursion IsLine ls → lines (joined (map f ls)) ≡ map f ls
+      go [] some h = absurd (some refl)
+      go (l ∷ ls) some h = lines-joined (f l) (map f ls) (keeps-all (l ∷ ls) h)
+
+line-end_spaces : (t : Text) → IsLine t → IsLine (without_end_spaces t)
+unfolding without_end_spaces
+line-end_spaces [] h = tt
+line-end_spaces (c ∷ t) h = let more = line-end_spaces t h.1 in elim (cases_Bool ((c == 32) && ends_line (without_end_spaces t))) [
+  | inl e ↦ rw e more
+  | inr n ↦ rw n (h.0, more)
+]
+
+visible-by_lines : IsByLines visible
+unfolding visible_after
+visible-by_lines = by_lines visible refl visible-line (line-visible_after 0)
+
+end_spaces-by_lines : IsByLines without_end_spaces
+unfolding without_end_spaces
+end_spaces-by_lines = by_lines without_end_spaces refl end_spaces-line line-end_spaces
 
 -- lines that are alike in turn
 abbrev AreEqualButEndSpaces : List Text → List Text → Type 0
-AreEqualButEndSpaces [] [] = Unit {0}
-AreEqualButEndSpaces [] (m ∷ ms) = ⊥
-AreEqualButEndSpaces (l ∷ ls) [] = ⊥
-AreEqualButEndSpaces (l ∷ ls) (m ∷ ms) = IsEqualButEndSpaces l m × AreEqualButEndSpaces ls ms
+AreEqualButEndSpaces ls ms = map without_end_spaces ls ≡ map without_end_spaces ms
 
 alike-joined : (ls ms : List Text) → AreEqualButEndSpaces ls ms → IsEqualButEndSpaces (joined ls) (joined ms)
-alike-joined [] [] h = refl
-alike-joined [] (m ∷ ms) h = absurd h
-alike-joined (l ∷ ls) [] h = absurd h
-alike-joined (l ∷ []) (m ∷ []) h = h.0
-alike-joined (l ∷ []) (m ∷ n ∷ ms) h = absurd h.1
-alike-joined (l ∷ k ∷ ls) (m ∷ []) h = absurd h.1
-alike-joined (l ∷ k ∷ ls) (m ∷ n ∷ ms) h = alike-line l m (joined (k ∷ ls)) (joined (n ∷ ms)) h.0 (alike-joined (k ∷ ls) (n ∷ ms) h.1)
+alike-joined ls ms h = end_spaces-by_lines.0 ls ∙ ap joined h ∙ sym (end_spaces-by_lines.0 ms)
 
 -- the text is all spaces
 abbrev pub IsBlank : Text → Type 0
@@ -138,51 +140,18 @@ visible-indented_line p true (c ∷ l) h blank = ap without_end_spaces (visible-
     go (d ∷ v) = refl
 
 visible-indented_lines : (p : Text) (b : Bool) (ls : List Text) → HasNoEscape p → IsBlank p → AreEqualButEndSpaces (map visible (indented_lines p b ls)) (indented_lines p b (map visible ls))
-visible-indented_lines p b [] h blank = tt
-visible-indented_lines p b (l ∷ ls) h blank = (visible-indented_line p b l h blank, visible-indented_lines p true ls h blank)
+visible-indented_lines p b [] h blank = refl
+visible-indented_lines p b (l ∷ ls) h blank = ap₂ (λ x xs. x ∷ xs) (visible-indented_line p b l h blank) (visible-indented_lines p true ls h blank)
 
 -- what is visible of an indented text is alike the indented visible text
 pub indent-visible : (p : Text) (b : Bool) (t : Text) → HasNoEscape p → IsBlank p → IsEqualButEndSpaces (visible (indent p b t)) (indent p b (visible t))
 unfolding indent
 indent-visible p b t h blank =
-    let all = go (lines t) (some_lines t) (lines-are t) in
-    let same : lines (visible t) ≡ map visible (lines t) = rw joined-lines at all in
-    ap without_end_spaces (visible-joined (indented_lines p b (lines t)))
-    ∙ rw same (alike-joined (map visible (indented_lines p b (lines t))) (indented_lines p b (map visible (lines t))) (visible-indented_lines p b (lines t) h blank))
-  where
-    go : (ls : List Text) → ls ≢ [] → AllByRecursion IsLine ls → lines (visible (joined ls)) ≡ map visible ls
-    go [] some h = absurd (some refl)
-    go (l ∷ ls) some h = lines-visible l ls h
-
-line-end_spaces : (t : Text) → IsLine t → IsLine (without_end_spaces t)
-unfolding without_end_spaces
-line-end_spaces [] h = tt
-line-end_spaces (c ∷ t) h = let more = line-end_spaces t h.1 in elim (cases_Bool ((c == 32) && ends_line (without_end_spaces t))) [
-  | inl e ↦ rw e more
-  | inr n ↦ rw n (h.0, more)
-]
-
-lines-end_spaces : (l : Text) (ls : List Text) → AllByRecursion IsLine (l ∷ ls) → lines (without_end_spaces (joined (l ∷ ls))) ≡ map without_end_spaces (l ∷ ls)
-lines-end_spaces l [] h = lines-line (without_end_spaces l) (line-end_spaces l h.0)
-lines-end_spaces l (m ∷ ls) h =
-    ap lines (end_spaces-line l (joined (m ∷ ls))) ∙ lines-append (without_end_spaces l) (without_end_spaces (joined (m ∷ ls)))
-    ∙ ap₂ (λ a b. a ++ b) (lines-line (without_end_spaces l) (line-end_spaces l h.0)) (lines-end_spaces m ls h.1)
-
-all_end_spaces : (t : Text) → lines (without_end_spaces t) ≡ map without_end_spaces (lines t)
-all_end_spaces t = rw joined-lines at (go (lines t) (some_lines t) (lines-are t))
-  where
-    go : (ls : List Text) → ls ≢ [] → AllByRecursion IsLine ls → lines (without_end_spaces (joined ls)) ≡ map without_end_spaces ls
-    go [] some h = absurd (some refl)
-    go (l ∷ ls) some h = lines-end_spaces l ls h
-
-are_alike : (ls ms : List Text) → map without_end_spaces ls ≡ map without_end_spaces ms → AreEqualButEndSpaces ls ms
-are_alike [] [] e = tt
-are_alike [] (m ∷ ms) e = cc
-are_alike (l ∷ ls) [] e = cc
-are_alike (l ∷ ls) (m ∷ ms) e = let first : IsEqualButEndSpaces l m = cc in let rest : map without_end_spaces ls ≡ map without_end_spaces ms = cc in (first, are_alike ls ms rest)
+    ap without_end_spaces (visible-by_lines.0 (indented_lines p b (lines t)))
+    ∙ rw (visible-by_lines.1 t) (alike-joined (map visible (indented_lines p b (lines t))) (indented_lines p b (map visible (lines t))) (visible-indented_lines p b (lines t) h blank))
 
 lines-alike : (t u : Text) → IsEqualButEndSpaces t u → AreEqualButEndSpaces (lines t) (lines u)
-lines-alike t u h = are_alike (lines t) (lines u) (sym (all_end_spaces t) ∙ ap lines h ∙ all_end_spaces u)
+lines-alike t u h = sym (end_spaces-by_lines.1 t) ∙ ap lines h ∙ end_spaces-by_lines.1 u
 
 indented_line-alike : (p : Text) (b : Bool) (l m : Text) → IsBlank p → IsEqualButEndSpaces l m → IsEqualButEndSpaces (indented_line p b l) (indented_line p b m)
 indented_line-alike p false l m blank h = ap without_end_spaces (unindented p l) ∙ h ∙ ap without_end_spaces (sym (unindented p m))
@@ -192,10 +161,12 @@ indented_line-alike p true (c ∷ l) [] blank h = alike-front p (c ∷ l) [] h �
 indented_line-alike p true (c ∷ l) (d ∷ m) blank h = alike-front p (c ∷ l) (d ∷ m) h
 
 indented_lines-alike : (p : Text) (b : Bool) (ls ms : List Text) → IsBlank p → AreEqualButEndSpaces ls ms → AreEqualButEndSpaces (indented_lines p b ls) (indented_lines p b ms)
-indented_lines-alike p b [] [] blank h = tt
-indented_lines-alike p b [] (m ∷ ms) blank h = absurd h
-indented_lines-alike p b (l ∷ ls) [] blank h = absurd h
-indented_lines-alike p b (l ∷ ls) (m ∷ ms) blank h = (indented_line-alike p b l m blank h.0, indented_lines-alike p true ls ms blank h.1)
+indented_lines-alike p b [] [] blank h = refl
+indented_lines-alike p b [] (m ∷ ms) blank h = cc
+indented_lines-alike p b (l ∷ ls) [] blank h = cc
+indented_lines-alike p b (l ∷ ls) (m ∷ ms) blank h =
+    let first : IsEqualButEndSpaces l m = cc in let rest : AreEqualButEndSpaces ls ms = cc in
+    ap₂ (λ x xs. x ∷ xs) (indented_line-alike p b l m blank first) (indented_lines-alike p true ls ms blank rest)
 
 -- texts that are alike are so when they are indented
 pub indent-alike : (p : Text) (b : Bool) (t u : Text) → IsBlank p → IsEqualButEndSpaces t u → IsEqualButEndSpaces (indent p b t) (indent p b u)

@@ -1,12 +1,12 @@
 -- Lines that are indented (for `Indented::fmt_line`, `Indented::fmt_margin`, `Indented::write_line`, `Indented::write_margin` and others).
 use Rattle.std.proofs.Common.{◌≡◌, ◌≢◌, ℕ, suc, ◌+◌, ◌-◌, ◌<◌, [], ◌∷◌, ◌++◌, Bool, true, false, ◌==◌, nat_eq, length, take, get_or, get_or-take, length-take-le, refl, ap, sym, ◌∙◌, arith, inl, inr, Result, Ok, Err}
-use Rattle.std.proofs.lemmas.Bool.{cases_Bool}
-use Rattle.std.proofs.lemmas.Bool.Decides.{eqb_tells}
+use Rattle.std.proofs.lemmas.Bool.{ne_eqb}
+use Rattle.std.proofs.lemmas.Bool.Decides.{eqb_tells, nat_tests}
 use lib.Pointwise.{pointwise}
 use Rattle.plain_text.specs.Texts.{Text}
 use Rattle.plain_text.specs.Lines.{IsOneLine}
 use Rattle.plain_text.specs.Indent.{margin, indent, after}
-use Rattle.plain_text.specs.Indentation.{indent_onward, indent-onward, after_onward, after-onward, indented_meaning, IndentedStops, IndentedAccepts, PutsMargin}
+use Rattle.plain_text.specs.Indentation.{indent-append, indent_onward, indent-onward, after_onward, after-onward, indented_meaning, IndentedStops, IndentedAccepts, PutsMargin}
 use Rattle.plain_text.specs.Writer.{Meaning, WriterLaws, Puts}
 use Rattle.plain_text.specs.declared.indenter.indentation.Indented.{Indented}
 use Rattle.plain_text.specs.declared.write_str.WriteFault.{WriteFault}
@@ -17,13 +17,10 @@ Line [] = ⊥
 Line (c ∷ []) = Unit {0}
 Line (c ∷ d ∷ t) = ((c == 10) ≡ false) × Line (d ∷ t)
 
-no_feed : (c : ℕ) → c ≢ 10 → (c == 10) ≡ false
-no_feed c h = elim (eqb_tells c 10) [ inl y ↦ absurd (h y.1) | inr n ↦ n.0 ]
-
 Line-from_each : (t : Text) → 0 < length t → ((i : ℕ) → i + 1 < length t → get_or t i 0 ≢ 10) → Line t
 Line-from_each [] h each = omega arith
 Line-from_each (c ∷ []) h each = tt
-Line-from_each (c ∷ d ∷ t) h each = (no_feed c (each 0 (omega arith)), Line-from_each (d ∷ t) (omega arith) (λ i l. each (suc i) (omega arith)))
+Line-from_each (c ∷ d ∷ t) h each = (ne_eqb c 10 (each 0 (omega arith)), Line-from_each (d ∷ t) (omega arith) (λ i l. each (suc i) (omega arith)))
 
 Line-from : (t : Text) → IsOneLine t → Line t
 Line-from t h = Line-from_each t h.is_there (λ i l e.
@@ -45,10 +42,8 @@ indent-rest p (c ∷ d ∷ t) h = rw h.0 (ap (λ x. c ∷ x) (indent-rest p (d �
 
 margin-onward : (p : Text) (b : Bool) (t : Text) → Line t → indent_onward p b t ≡ margin p b t ++ t
 margin-onward p b [] h = absurd h
-margin-onward p true (c ∷ []) h = elim (eqb_tells c 10) [ inl y ↦ rw (y.0, y.1) refl | inr n ↦ rw n.0 refl ]
-margin-onward p false (c ∷ []) h = elim (eqb_tells c 10) [ inl y ↦ rw (y.0, y.1) refl | inr n ↦ rw n.0 refl ]
-margin-onward p true (c ∷ d ∷ t) h = rw h.0 (ap (λ x. p ++ c ∷ x) (indent-rest p (d ∷ t) h.1))
-margin-onward p false (c ∷ d ∷ t) h = rw h.0 (ap (λ x. c ∷ x) (indent-rest p (d ∷ t) h.1))
+margin-onward p b (c ∷ []) h = grind (arith, nat_tests)
+margin-onward p b (c ∷ d ∷ t) h = rw (h.0, indent-rest p (d ∷ t) h.1) (grind arith)
 
 after-line : (b : Bool) (t : Text) → Line t → after_onward b t ≡ ends t
 after-line b [] h = absurd h
@@ -76,16 +71,11 @@ front_of (c ∷ []) h = elim (eqb_tells c 10) [ inl y ↦ ([], rw y.1 refl) | in
 front_of (c ∷ d ∷ t) h = let more = front_of (d ∷ t) h in (c ∷ more.0, ap (λ x. c ∷ x) more.1)
 
 pub after-ends : (b : Bool) (t : Text) (r : Bool) → IsOneLine t → (r ≡ true → t ≡ take (length t - 1) t ++ 10 ∷ []) × ((front : Text) → t ≡ front ++ 10 ∷ [] → r ≡ true) → r ≡ after b t
-after-ends b t r line h = tells ∙ sym (after-onward b t ∙ after-line b t (Line-from t line))
-  where
-    tells : r ≡ ends t
-    tells = elim (cases_Bool r) [
-      | inl y ↦ y ∙ sym (ap ends (h.0 y) ∙ ends-append (take (length t - 1) t))
-      | inr n ↦ elim (cases_Bool (ends t)) [
-        | inl e ↦ (let front = front_of t e in h.1 front.0 front.1 ∙ sym e)
-        | inr e ↦ n ∙ sym e
-      ]
-    ]
+after-ends b t r line h =
+    let there : r ≡ true → ends t ≡ true = λ y. ap ends (h.0 y) ∙ ends-append (take (length t - 1) t) in
+    let back : ends t ≡ true → r ≡ true = λ e. h.1 (front_of t e).0 (front_of t e).1 in
+    let tells : r ≡ ends t = grind (arith, there, back) in
+    tells ∙ sym (after-onward b t ∙ after-line b t (Line-from t line))
 
 module _ {W : Type 0} {m : Meaning W} (laws : WriterLaws m) (t : Text) (line : IsOneLine t) where
   -- what stands before the line is stopped
@@ -116,3 +106,7 @@ pub flush_put : {W : Type 0} (m : Meaning W) (a b : Indented W) (r : Result (Uni
 unfolding indent after
 flush_put m a b (Ok x) p f i o = record { below = p; line = f; indentation = i; same = o }
 flush_put m a b (Err e) p f i o = record { below = p; same = o }
+
+pub ruleset first_margin = (margin-first)
+
+pub ruleset onward = (indent-append, indent-onward, after-onward)

@@ -1,19 +1,21 @@
 -- The characters of a text with what the scan says of each: that a sequence holds it, or that none does (for the lemmas of Closed, FitMarks, StrippedTexts).
 use Rattle.std.proofs.Common.{◌≡◌, ℕ, zero, suc, ◌+◌, ◌≤◌, Bool, true, false, cond, ◌==◌, inl, inr, List, [], ◌∷◌, ◌++◌, refl, sym, ap, ◌∙◌, arith, length, take, drop, Some, is_some, unwrap_or, chars, encode_utf8, encode_utf8_all, lit<, nat_lt, subst, ◌/◌}
+use Rattle.std.proofs.Math.Seq.{take-append-add, drop-append-add}
 use Rattle.std.proofs.lemmas.Bool.{cases_Bool, and_parts, cases_lt}
 use Rattle.std.proofs.lemmas.Bool.Decides.{nat_tests, eqb_tells}
 use Rattle.std.proofs.lemmas.Str.{chars-append, chars-nil, encode_ascii, scalars-chars, encodes-chars}
 use Rattle.std.specs.Str.{IsUtf8, all_scalars}
 use lib.Utf8.{scalar, encode, next}
 use Rattle.plain_text.specs.Texts.{Text}
-use Rattle.plain_text.specs.Escapes.{is_within, is_parameter, is_intermediate, is_control, is_visible, front_len, then_len, one_len, csi_len, osc_len, short_len, sequence_len, PieceText, pieces, pieces_after}
+use Rattle.plain_text.specs.Escapes.{is_within, is_parameter, is_intermediate, is_control, is_visible, front_len, then_len, one_len, csi_len, osc_len, sequence_len, PieceText, pieces, pieces_after}
 use Rattle.plain_text.specs.Escapes.PieceText.{SequenceText, StretchText}
-use Rattle.plain_text.specs.Scanner.{rest_len, is_before_backslash, StepCounts, step_of, short_step_of, final_step_of, begun, mode_after_step, advanced, mode_after}
+use Rattle.plain_text.specs.Scanner.{rest_len, is_before_backslash, StepCounts, step_of, final_step_of, begun, mode_after_step, advanced, mode_after}
 use Rattle.plain_text.proofs.lemmas.FittedPuts.{one_utf8, one_char}
 use Rattle.plain_text.proofs.lemmas.Pieces.{pieces-sequence, pieces-stretch}
-use Rattle.plain_text.proofs.lemmas.ScannerSteps.{then_len-inside, then_len-past, osc_len-bell, osc_len-terminator, osc_len-control, osc_len-inside}
+use Rattle.plain_text.proofs.lemmas.Cuts.{then_len-inside, then_len-past, osc_len-cons}
 use Rattle.plain_text.specs.declared.escapes.Mode.{Mode}
 use Rattle.plain_text.specs.declared.escapes.Mode.TheVariants as mode
+use Rattle.plain_text.specs.declared.escapes.State.{State}
 use Rattle.plain_text.specs.declared.escapes.State.TheVariants.{Start, Parameters, Intermediates, Command, Short}
 use Rattle.plain_text.specs.declared.escapes.Step.{Step}
 use Rattle.plain_text.specs.declared.escapes.Step.TheVariants.{Inside, Ends}
@@ -39,27 +41,18 @@ encode-high c h = elim (cases_lt c 128) [
 
 -- a step, and how many bytes belong from here on
 
-final-counts : (b : ℕ) (t : Text) → StepCounts (final_step_of b) (rest_len Intermediates (b ∷ t)) t
-final-counts b t = go (is_intermediate b) (is_within 0x40 0x7E b) refl refl
-  where
-    go : (p q : Bool) → is_intermediate b ≡ p → is_within 0x40 0x7E b ≡ q → StepCounts (cond p (Inside Intermediates) (cond q (Ends 1) (Ends 0))) (rest_len Intermediates (b ∷ t)) t
-    go true q y z = then_len-inside is_intermediate (one_len (is_within 0x40 0x7E)) b t y
-    go false true y z = then_len-past is_intermediate (one_len (is_within 0x40 0x7E)) b t y ∙ rw z refl
-    go false false y z = then_len-past is_intermediate (one_len (is_within 0x40 0x7E)) b t y ∙ rw z refl
-
-short-counts : (b : ℕ) (t : Text) → StepCounts (short_step_of b) (short_len (b ∷ t)) t
-short-counts b t = go (is_intermediate b) (is_within 0x30 0x7E b) refl refl
-  where
-    go : (p q : Bool) → is_intermediate b ≡ p → is_within 0x30 0x7E b ≡ q → StepCounts (cond p (Inside Short) (cond q (Ends 1) (Ends 0))) (short_len (b ∷ t)) t
-    go true q y z = then_len-inside is_intermediate (one_len (is_within 0x30 0x7E)) b t y
-    go false true y z = then_len-past is_intermediate (one_len (is_within 0x30 0x7E)) b t y ∙ rw z refl
-    go false false y z = then_len-past is_intermediate (one_len (is_within 0x30 0x7E)) b t y ∙ rw z refl
+last-counts : (s : State) (p : ℕ → Bool) → rest_len s ≡ then_len (front_len is_intermediate) (one_len p) → (b : ℕ) (t : Text)
+    → StepCounts (cond (is_intermediate b) (Inside s) (cond (p b) (Ends 1) (Ends 0))) (then_len (front_len is_intermediate) (one_len p) (b ∷ t)) t
+last-counts s p e b t = elim (cases_Bool (is_intermediate b)) [
+  | inl y ↦ rw y (omega (arith, ap (λ f. f t) e))
+  | inr n ↦ rw n (elim (cases_Bool (p b)) [ inl y ↦ rw y (omega arith) | inr m ↦ rw m (omega arith) ])
+]
 
 start-counts : (b : ℕ) (t : Text) → StepCounts (step_of Start b false) (rest_len Start (b ∷ t)) t
 unfolding sequence_len
 start-counts b t = elim (cases_Bool (b == 0x5B)) [
   | inl y ↦ rw y refl
-  | inr n ↦ elim (cases_Bool (b == 0x5D)) [ inl y ↦ rw (n, y) refl | inr m ↦ rw (n, m) (short-counts b t) ]
+  | inr n ↦ elim (cases_Bool (b == 0x5D)) [ inl y ↦ rw (n, y) refl | inr m ↦ rw (n, m) (last-counts Short (is_within 0x30 0x7E) refl b t) ]
 ]
 
 parameter-counts : (b : ℕ) (t : Text) → StepCounts (step_of Parameters b false) (rest_len Parameters (b ∷ t)) t
@@ -67,47 +60,34 @@ parameter-counts b t = go (is_parameter b) refl
   where
     go : (p : Bool) → is_parameter b ≡ p → StepCounts (cond p (Inside Parameters) (final_step_of b)) (csi_len (b ∷ t)) t
     go true y = then_len-inside is_parameter (then_len (front_len is_intermediate) (one_len (is_within 0x40 0x7E))) b t y
-    go false n = subst (λ k. StepCounts (final_step_of b) k t) (sym (then_len-past is_parameter (then_len (front_len is_intermediate) (one_len (is_within 0x40 0x7E))) b t n)) (final-counts b t)
+    go false n = subst (λ k. StepCounts (final_step_of b) k t) (sym (then_len-past is_parameter (then_len (front_len is_intermediate) (one_len (is_within 0x40 0x7E))) b t n)) (last-counts Intermediates (is_within 0x40 0x7E) refl b t)
 
 -- in a command, unless an escape character comes
 command-counts : (b : ℕ) (t : Text) → (b == 27) ≡ false → StepCounts (step_of Command b false) (rest_len Command (b ∷ t)) t
-command-counts b t h = elim (eqb_tells b 7) [
-  | inl y ↦ rw y.0 (ap (λ x. osc_len (x ∷ t)) y.1 ∙ osc_len-bell t)
-  | inr n ↦ go (is_control b) refl n.0
+command-counts b t h = elim (cases_Bool (b == 7)) [
+  | inl y ↦ rw (osc_len-cons b t, y) refl
+  | inr n ↦ elim (cases_Bool (is_control b)) [ inl y ↦ rw (osc_len-cons b t, n, h, y) refl | inr m ↦ rw (osc_len-cons b t, n, h, m) refl ]
 ]
-  where
-    go : (p : Bool) → is_control b ≡ p → (b == 7) ≡ false → StepCounts (step_of Command b false) (rest_len Command (b ∷ t)) t
-    go true y n = rw (n, h, y) (osc_len-control b t n (rw h refl) y)
-    go false y n = rw (n, h, y) (osc_len-inside b t n h y)
 
 -- a byte past ASCII ends each sequence but a command
-high_short : (b : ℕ) → 128 ≤ b → short_step_of b ≡ Ends 0
-high_short b h = let p : is_intermediate b ≡ false = grind (arith, nat_tests) in let q : is_within 0x30 0x7E b ≡ false = grind (arith, nat_tests) in rw (p, q) refl
+abbrev EndsHigh : State → Type 0
+EndsHigh Command = ⊥
+EndsHigh _ = Unit {0}
 
-high_last : (b : ℕ) → 128 ≤ b → final_step_of b ≡ Ends 0
-high_last b h = let p : is_intermediate b ≡ false = grind (arith, nat_tests) in let q : is_within 0x40 0x7E b ≡ false = grind (arith, nat_tests) in rw (p, q) refl
-
-high_start : (b : ℕ) → 128 ≤ b → step_of Start b false ≡ Ends 0
-high_start b h = let p : (b == 0x5B) ≡ false = grind (arith, nat_tests) in let q : (b == 0x5D) ≡ false = grind (arith, nat_tests) in rw (p, q) (high_short b h)
-
-high_parameter : (b : ℕ) → 128 ≤ b → step_of Parameters b false ≡ Ends 0
-high_parameter b h = let p : is_parameter b ≡ false = grind (arith, nat_tests) in rw p (high_last b h)
+high : (s : State) (b : ℕ) → EndsHigh s → 128 ≤ b → step_of s b false ≡ Ends 0
+high Command b e h = absurd e
+high _ b e h = grind (arith, nat_tests)
 
 high_command : (c : ℕ) → 128 ≤ c → advanced (mode.Sequence Command) c ≡ Some (mode.Sequence Command)
-high_command c h =
-    let p : (c == 7) ≡ false = grind (arith, nat_tests) in let q : (c == 27) ≡ false = grind (arith, nat_tests) in let r : is_control c ≡ false = grind (arith, nat_tests) in
-    rw (p, q, r) refl
+high_command c h = grind (arith, nat_tests)
 
 high_osc : (bs t : Text) → AreHigh bs → osc_len (bs ++ t) ≡ length bs + osc_len t
 high_osc [] t h = omega arith
-high_osc (b ∷ bs) t h =
-    let l = h.0 in
-    let p : (b == 7) ≡ false = grind (arith, nat_tests) in let q : (b == 27) ≡ false = grind (arith, nat_tests) in let r : is_control b ≡ false = grind (arith, nat_tests) in
-    osc_len-inside b (bs ++ t) p q r ∙ omega (arith, high_osc bs t h.1)
+high_osc (b ∷ bs) t h = grind (arith, nat_tests, osc_len-cons b (bs ++ t), high_osc bs t h.1, h.0)
 
 high_front : (bs t : Text) → AreHigh bs → front_len is_visible (bs ++ t) ≡ length bs + front_len is_visible t
 high_front [] t h = omega arith
-high_front (b ∷ bs) t h = let l = h.0 in let q : (b == 27) ≡ false = grind (arith, nat_tests) in rw q (omega (arith, high_front bs t h.1))
+high_front (b ∷ bs) t h = grind (arith, nat_tests, h.0, high_front bs t h.1)
 
 -- the characters with what the scan says of each
 abbrev pub Mark : Type 0
@@ -140,14 +120,6 @@ view_at-zero : (t : Text) → view_at 0 t ≡ piece_marks (pieces t)
 unfolding view_at
 view_at-zero t = rw chars-nil refl
 
-take_past : (xs t : Text) (n : ℕ) → take (length xs + n) (xs ++ t) ≡ xs ++ take n t
-take_past [] t n = let e : length {A = ℕ} [] + n ≡ n = omega arith in rw e refl
-take_past (x ∷ xs) t n = let e : length (x ∷ xs) + n ≡ suc (length xs + n) = omega arith in rw e (ap (λ l. x ∷ l) (take_past xs t n))
-
-drop_past : (xs t : Text) (n : ℕ) → drop (length xs + n) (xs ++ t) ≡ drop n t
-drop_past [] t n = let e : length {A = ℕ} [] + n ≡ n = omega arith in rw e refl
-drop_past (x ∷ xs) t n = let e : length (x ∷ xs) + n ≡ suc (length xs + n) = omega arith in rw e (drop_past xs t n)
-
 pub chars_past : (c : ℕ) (t : Text) → scalar c ≡ true → chars (encode_utf8 c ++ t) ≡ c ∷ chars t
 chars_past c t h = chars-append (encode_utf8 c) t (one_utf8 c h) ∙ ap (λ x. x ++ chars t) (one_char c h)
 
@@ -155,26 +127,23 @@ chars_past c t h = chars-append (encode_utf8 c) t (one_utf8 c h) ∙ ap (λ x. x
 stretch_marks : (t : Text) → piece_marks (pieces t) ≡ tagged false (chars (take (front_len is_visible t) t)) ++ piece_marks (pieces (drop (front_len is_visible t) t))
 unfolding pieces_after
 stretch_marks [] = rw chars-nil refl
-stretch_marks (b ∷ t) = elim (cases_Bool (b == 27)) [
-  | inl y ↦ rw y (rw chars-nil (rw y refl))
-  | inr n ↦ ap piece_marks (pieces-stretch b t n) ∙ rw n refl
-]
+stretch_marks (b ∷ t) = grind (arith, chars-nil, pieces-stretch b t)
 
 front_past : (c : ℕ) (t : Text) → (c == 27) ≡ false → front_len is_visible (encode_utf8 c ++ t) ≡ length (encode_utf8 c) + front_len is_visible t
 front_past c t h = elim (cases_lt c 128) [
-  | inl l ↦ (let e = encode_ascii c l in rw e (rw h (omega arith)))
+  | inl l ↦ rw (encode_ascii c l) (grind (arith, h))
   | inr l ↦ (let high = encode-high c l in rw high.2 (high_front (high.0 ∷ high.1) t high.3))
 ]
 
 visible_step : (c : ℕ) (t : Text) → scalar c ≡ true → (c == 27) ≡ false → piece_marks (pieces (encode_utf8 c ++ t)) ≡ (false, c) ∷ piece_marks (pieces t)
 visible_step c t s h =
     stretch_marks (encode_utf8 c ++ t)
-    ∙ rw (front_past c t h, take_past (encode_utf8 c) t (front_len is_visible t), drop_past (encode_utf8 c) t (front_len is_visible t), chars_past c (take (front_len is_visible t) t) s)
+    ∙ rw (front_past c t h, take-append-add (encode_utf8 c) t (front_len is_visible t), drop-append-add (encode_utf8 c) t (front_len is_visible t), chars_past c (take (front_len is_visible t) t) s)
     (ap (λ x. (false, c) ∷ x) (sym (stretch_marks t)))
 
 inside_step : (c k : ℕ) (t : Text) → scalar c ≡ true → view_at (length (encode_utf8 c) + k) (encode_utf8 c ++ t) ≡ (true, c) ∷ view_at k t
 unfolding view_at
-inside_step c k t s = rw (take_past (encode_utf8 c) t k, drop_past (encode_utf8 c) t k, chars_past c (take k t) s) refl
+inside_step c k t s = rw (take-append-add (encode_utf8 c) t k, drop-append-add (encode_utf8 c) t k, chars_past c (take k t) s) refl
 
 escape_step : (t : Text) → view_at 0 (27 ∷ t) ≡ (true, 27) ∷ view_at (sequence_len t) t
 unfolding view_at
@@ -190,62 +159,51 @@ text_step c t s = elim (eqb_tells c 27) [
   | inr n ↦ rw n.0 (rw (view_at-zero (encode_utf8 c ++ t), view_at-zero t) (visible_step c t s n.0))
 ]
 
--- a step that ends at most one character on
-abbrev IsNear : Step → Type 0
-IsNear (Inside s) = Unit {0}
-IsNear (Ends k) = k ≤ 1
-
-near_cond : (b : Bool) (x y : Step) → IsNear x → IsNear y → IsNear (cond b x y)
-near_cond true x y h k = h
-near_cond false x y h k = k
-
-near_short : (c : ℕ) → IsNear (short_step_of c)
-near_short c = near_cond (is_intermediate c) _ _ tt (near_cond (is_within 0x30 0x7E c) (Ends 1) (Ends 0) (omega arith) (omega arith))
-
-near_final : (c : ℕ) → IsNear (final_step_of c)
-near_final c = near_cond (is_intermediate c) _ _ tt (near_cond (is_within 0x40 0x7E c) (Ends 1) (Ends 0) (omega arith) (omega arith))
+-- a step ends at most one character on
+near : (s : State) (c k : ℕ) → step_of s c false ≡ Ends k → k ≤ 1
+near Start c k e = grind (arith, nat_tests)
+near _ c k e = grind (arith, nat_tests)
 
 -- a character of ASCII, by its step
-ascii_step : (c k : ℕ) (t : Text) (x : Step) → scalar c ≡ true → IsNear x → encode_utf8 c ≡ c ∷ [] → StepCounts x k t
+ascii_step : (c k : ℕ) (t : Text) (x : Step) → scalar c ≡ true → ((n : ℕ) → x ≡ Ends n → n ≤ 1) → encode_utf8 c ≡ c ∷ [] → StepCounts x k t
     → view_at k (encode_utf8 c ++ t) ≡ (is_some (mode_after_step c x), c) ∷ view_at (pending (unwrap_or (mode_after_step c x) mode.Text) t) t
 ascii_step c k t (Inside y) s near e h = subst (λ n. view_at n (encode_utf8 c ++ t) ≡ (true, c) ∷ view_at (rest_len y t) t) (rw e (omega (arith, h))) (inside_step c (rest_len y t) t s)
 ascii_step c k t (Ends zero) s near e h = subst (λ n. view_at n (encode_utf8 c ++ t) ≡ (is_some (begun c), c) ∷ view_at (pending (unwrap_or (begun c) mode.Text) t) t) (sym h) (text_step c t s)
-ascii_step c k t (Ends (suc n)) s near e h = let z : (suc n == 0) ≡ false = grind (arith, nat_tests) in rw z (subst (λ n. view_at n (encode_utf8 c ++ t) ≡ (true, c) ∷ view_at 0 t) (rw e (omega (arith, h, near))) (inside_step c 0 t s))
+ascii_step c k t (Ends (suc n)) s near e h = let z : (suc n == 0) ≡ false = grind (arith, nat_tests) in rw z (subst (λ n. view_at n (encode_utf8 c ++ t) ≡ (true, c) ∷ view_at 0 t) (rw e (omega (arith, h, near (suc n) refl))) (inside_step c 0 t s))
 
--- a character in a state, whose lengths follow the steps
-seq_step : (step : ℕ → Step) (len : Text → ℕ) → ((b : ℕ) (x : Text) → StepCounts (step b) (len (b ∷ x)) x) → ((b : ℕ) → 128 ≤ b → step b ≡ Ends 0) → ((b : ℕ) → IsNear (step b))
-    → (c : ℕ) (t : Text) → scalar c ≡ true → view_at (len (encode_utf8 c ++ t)) (encode_utf8 c ++ t) ≡ (is_some (mode_after_step c (step c)), c) ∷ view_at (pending (unwrap_or (mode_after_step c (step c)) mode.Text) t) t
-seq_step step len counts high near c t s = elim (cases_lt c 128) [
-  | inl l ↦ ascii_step c (len (encode_utf8 c ++ t)) t (step c) s (near c) (encode_ascii c l) (rw (encode_ascii c l) (counts c t))
+-- the lengths follow the steps
+counts : (s : State) (b : ℕ) (t : Text) → EndsHigh s → StepCounts (step_of s b false) (rest_len s (b ∷ t)) t
+counts Start b t e = start-counts b t
+counts Parameters b t e = parameter-counts b t
+counts Intermediates b t e = last-counts Intermediates (is_within 0x40 0x7E) refl b t
+counts Command b t e = absurd e
+counts Short b t e = last-counts Short (is_within 0x30 0x7E) refl b t
+
+-- a character in a state other than a command
+seq_step : (q : State) (c : ℕ) (t : Text) → EndsHigh q → scalar c ≡ true
+    → view_at (rest_len q (encode_utf8 c ++ t)) (encode_utf8 c ++ t) ≡ (is_some (mode_after_step c (step_of q c false)), c) ∷ view_at (pending (unwrap_or (mode_after_step c (step_of q c false)) mode.Text) t) t
+seq_step q c t h s = elim (cases_lt c 128) [
+  | inl l ↦ ascii_step c (rest_len q (encode_utf8 c ++ t)) t (step_of q c false) s (near q c) (encode_ascii c l) (rw (encode_ascii c l) (counts q c t h))
   | inr l ↦ (
       let e = encode-high c l in
-      let none : len (encode_utf8 c ++ t) ≡ 0 = rw e.2 (rw (high e.0 e.3.0) at (counts e.0 (e.1 ++ t))) in
-      rw (high c l) (subst (λ n. view_at n (encode_utf8 c ++ t) ≡ (is_some (begun c), c) ∷ view_at (pending (unwrap_or (begun c) mode.Text) t) t) (sym none) (text_step c t s))
+      let none : rest_len q (encode_utf8 c ++ t) ≡ 0 = rw e.2 (rw (high q e.0 h e.3.0) at (counts q e.0 (e.1 ++ t) h)) in
+      rw (high q c h l) (subst (λ n. view_at n (encode_utf8 c ++ t) ≡ (is_some (begun c), c) ∷ view_at (pending (unwrap_or (begun c) mode.Text) t) t) (sym none) (text_step c t s))
       )
 ]
-
-near_start : (c : ℕ) → IsNear (step_of Start c false)
-near_start c = near_cond (c == 0x5B) _ _ tt (near_cond (c == 0x5D) _ _ tt (near_short c))
-
-near_parameter : (c : ℕ) → IsNear (step_of Parameters c false)
-near_parameter c = near_cond (is_parameter c) _ _ tt (near_final c)
-
-near_command : (c : ℕ) → (c == 27) ≡ false → IsNear (step_of Command c false)
-near_command c h = rw h (near_cond (c == 7) (Ends 1) _ (omega arith) (near_cond (is_control c) (Ends 0) _ (omega arith) tt))
 
 -- an escape character in a command
 command_escape : (t : Text) → view_at (osc_len (27 ∷ t)) (27 ∷ t) ≡ (true, 27) ∷ view_at (pending mode.Terminator t) t
 command_escape t = go (is_before_backslash t) refl
   where
     go : (b : Bool) → is_before_backslash t ≡ b → view_at (osc_len (27 ∷ t)) (27 ∷ t) ≡ (true, 27) ∷ view_at (cond b 1 (sequence_len t)) t
-    go true y = rw (osc_len-terminator t (sym y)) (rw (encode_ascii 27 (lit< tt)) at (inside_step 27 1 t refl))
-    go false n = rw (osc_len-control 27 t refl n refl) (escape_step t)
+    go true y = rw (osc_len-cons 27 t, y) (rw (encode_ascii 27 (lit< tt)) at (inside_step 27 1 t refl))
+    go false n = rw (osc_len-cons 27 t, n) (escape_step t)
 
 command_step : (c : ℕ) (t : Text) → scalar c ≡ true → view_at (osc_len (encode_utf8 c ++ t)) (encode_utf8 c ++ t) ≡ (is_some (advanced (mode.Sequence Command) c), c) ∷ view_at (pending (mode_after (mode.Sequence Command) c) t) t
 command_step c t s = elim (eqb_tells c 27) [
   | inl y ↦ rw y.0 (subst (λ x. view_at (osc_len (encode_utf8 x ++ t)) (encode_utf8 x ++ t) ≡ (true, x) ∷ view_at (pending mode.Terminator t) t) (sym y.1) (rw (encode_ascii 27 (lit< tt)) (command_escape t)))
   | inr n ↦ elim (cases_lt c 128) [
-    | inl l ↦ rw n.0 (rw n.0 at (ascii_step c (osc_len (encode_utf8 c ++ t)) t (step_of Command c false) s (near_command c n.0) (encode_ascii c l) (rw (encode_ascii c l) (command-counts c t n.0))))
+    | inl l ↦ rw n.0 (rw n.0 at (ascii_step c (osc_len (encode_utf8 c ++ t)) t (step_of Command c false) s (near Command c) (encode_ascii c l) (rw (encode_ascii c l) (command-counts c t n.0))))
     | inr l ↦ (
         let e = encode-high c l in
         let len : osc_len (encode_utf8 c ++ t) ≡ length (encode_utf8 c) + osc_len t = rw e.2 (high_osc (e.0 ∷ e.1) t e.3) in
@@ -260,33 +218,22 @@ terminator_step : (t : Text) → view_at (pending mode.Terminator (92 ∷ t)) (9
 terminator_step t = rw (encode_ascii 92 (lit< tt)) at (inside_step 92 0 t refl)
 
 no_backslash : (c : ℕ) (t : Text) → (c == 92) ≡ false → is_before_backslash (encode_utf8 c ++ t) ≡ false
-no_backslash c t h = elim (cases_lt c 128) [
-  | inl l ↦ rw (encode_ascii c l) h
-  | inr l ↦ (let e = encode-high c l in let high = e.3.0 in rw e.2 (grind (arith, nat_tests)))
-]
+no_backslash c t h = elim (cases_lt c 128) [ inl l ↦ rw (encode_ascii c l) h | inr l ↦ (let e = encode-high c l in let high = e.3.0 in rw e.2 (grind (arith, nat_tests))) ]
 
 -- the next character of a text
 mode_step : (m : Mode) (c : ℕ) (t : Text) → scalar c ≡ true → view_at (pending m (encode_utf8 c ++ t)) (encode_utf8 c ++ t) ≡ (is_some (advanced m c), c) ∷ view_at (pending (mode_after m c) t) t
 mode_step mode.Text c t s = text_step c t s
-mode_step (mode.Sequence Start) c t s = seq_step (λ b. step_of Start b false) sequence_len start-counts high_start near_start c t s
-mode_step (mode.Sequence Parameters) c t s = seq_step (λ b. step_of Parameters b false) csi_len parameter-counts high_parameter near_parameter c t s
-mode_step (mode.Sequence Intermediates) c t s = seq_step final_step_of (rest_len Intermediates) final-counts high_last near_final c t s
 mode_step (mode.Sequence Command) c t s = command_step c t s
-mode_step (mode.Sequence Short) c t s = seq_step short_step_of short_len short-counts high_short near_short c t s
+mode_step (mode.Sequence q) c t s = seq_step q c t tt s
 mode_step mode.Terminator c t s = elim (eqb_tells c 92) [
   | inl y ↦ rw y.0 (subst (λ x. view_at (pending mode.Terminator (encode_utf8 x ++ t)) (encode_utf8 x ++ t) ≡ (true, x) ∷ view_at 0 t) (sym y.1) (rw (encode_ascii 92 (lit< tt)) (terminator_step t)))
-  | inr n ↦ rw (n.0, no_backslash c t n.0) (seq_step (λ b. step_of Start b false) sequence_len start-counts high_start near_start c t s)
+  | inr n ↦ rw (n.0, no_backslash c t n.0) (seq_step Start c t tt s)
 ]
 
 marks-none : (m : Mode) → view_at (pending m []) [] ≡ []
 unfolding view_at pieces_after sequence_len
-marks-none mode.Text = rw chars-nil refl
-marks-none mode.Terminator = rw chars-nil refl
 marks-none (mode.Sequence Start) = rw chars-nil refl
-marks-none (mode.Sequence Parameters) = rw chars-nil refl
-marks-none (mode.Sequence Intermediates) = rw chars-nil refl
-marks-none (mode.Sequence Command) = rw chars-nil refl
-marks-none (mode.Sequence Short) = rw chars-nil refl
+marks-none _ = rw chars-nil refl
 
 marks-view : (m : Mode) (cs : List ℕ) → all_scalars cs ≡ true → view_at (pending m (encode_utf8_all cs)) (encode_utf8_all cs) ≡ marks m cs
 marks-view m [] h = marks-none m

@@ -1,15 +1,16 @@
 -- The pieces of a text (for `control_len`, `piece_laws`, `split_escape`, `split_piece` and others).
-use Rattle.std.proofs.Common.{◌≡◌, ◌≢◌, ℕ, zero, suc, ◌+◌, ◌<◌, ◌≤◌, Bool, true, false, not, ◌==◌, inl, inr, [], ◌∷◌, ◌++◌, refl, sym, ap, ◌∙◌, arith, length, get_or, take, drop, ◌⊎◌, lit<, add-one}
-use Rattle.std.proofs.lemmas.Bool.{cases_Bool, and_parts, not-true}
-use Rattle.std.proofs.lemmas.Bool.Decides.{eqb_tells}
-use Rattle.std.proofs.lemmas.List.{take-append-drop}
+use Rattle.std.proofs.Common.{◌≡◌, ◌≢◌, ℕ, zero, suc, ◌+◌, ◌<◌, ◌≤◌, Bool, true, false, not, ◌==◌, inl, inr, [], ◌∷◌, ◌++◌, refl, sym, ap, arith, length, get_or, take, drop, ◌⊎◌, lit<, add-one}
+use Rattle.std.proofs.lemmas.Bool.{cases_Bool, and_parts, not-true, false_from_ne_true}
+use Rattle.std.proofs.lemmas.Bool.Decides.{eqb_tells, nat_tests}
+use Rattle.std.proofs.lemmas.List.{take-append-drop, nil_from_length, drop_all}
+use Rattle.std.proofs.Math.Seq.{drop-cons}
 use Rattle.std.proofs.lemmas.Str.{IsCharBoundary-after_ascii}
 use Rattle.std.specs.Str.{IsUtf8, IsCharBoundary}
 use Rattle.plain_text.specs.Texts.{Text}
 use Rattle.plain_text.specs.Escapes.{front_len, is_visible, sequence_len, pieces_after, pieces, joined, stretches, visible_after, visible, has_no_escape, HasNoEscape}
 use Rattle.plain_text.specs.Escapes.PieceText.{SequenceText, StretchText}
 use Rattle.memchr.specs.Find.{Nowhere, NoneBefore, Passes, is_byte}
-use Rattle.plain_text.proofs.lemmas.Cuts.{IsCut, sequence_len-cut}
+use Rattle.plain_text.proofs.lemmas.Cuts.{IsCut, cut_on, csi_end_len-le, csi_len-le, csi_len-final, sequence_len-cut, sequence_len-le}
 
 pub front_len-le : (p : ℕ → Bool) (t : Text) → front_len p t ≤ length t
 front_len-le p [] = omega arith
@@ -17,20 +18,15 @@ front_len-le p (c ∷ t) = elim (cases_Bool (p c)) [ inl y ↦ (let more = front
 
 pub stretch_len-cut : (c : ℕ) (t : Text) → IsCut c t (front_len is_visible t)
 stretch_len-cut c [] = (omega arith, inr (inl refl))
-stretch_len-cut c (d ∷ t) = let more = stretch_len-cut d t in elim (eqb_tells d 27) [
-  | inl y ↦ (rw y.0 (omega arith), inr (inr (rw y.0 (omega arith))))
-  | inr n ↦ (rw n.0 (omega arith), rw n.0 (elim more.1 [ inl a ↦ inl a | inr b ↦ elim b [ inl q ↦ inr (inl (ap suc q)) | inr r ↦ inr (inr r) ] ]))
+stretch_len-cut c (d ∷ t) = elim (eqb_tells d 27) [
+  | inl y ↦ rw y.0 (omega arith, inr (inr (omega arith)))
+  | inr n ↦ rw n.0 (cut_on c d t (front_len is_visible t) (stretch_len-cut d t))
 ]
 
 -- a text may be cut at such a place
 pub boundary : (c : ℕ) (t : Text) (n : ℕ) → IsUtf8 (c ∷ t) → IsCut c t n → IsCharBoundary (c ∷ t) (n + 1)
-boundary c t n u (h, e) = elim e [
-  | inl a ↦ (let l : n < length (c ∷ t) = omega arith in IsCharBoundary-after_ascii (c ∷ t) n u l a)
-  | inr b ↦ elim b [
-    | inl q ↦ (omega arith, λ x y. absurd (omega (arith, x)))
-    | inr r ↦ (omega arith, rw add-one (λ x y. absurd (omega (arith, y))))
-  ]
-]
+boundary c t n u (h, inl a) = IsCharBoundary-after_ascii (c ∷ t) n u (omega arith) a
+boundary c t n u (h, inr b) = (omega arith, rw add-one (λ x y. absurd (omega (arith, b, x, y))))
 
 -- the rest has the pieces that are left
 pub pieces_after-drop : (n : ℕ) (t : Text) → pieces_after n t ≡ pieces (drop n t)
@@ -53,10 +49,8 @@ unfolding pieces_after
 joined-after zero [] = refl
 joined-after (suc n) [] = refl
 joined-after (suc n) (c ∷ t) = joined-after n t
-joined-after zero (c ∷ t) = elim (cases_Bool (c == 27)) [
-  | inl y ↦ rw (y, joined-after (sequence_len t) t) (ap (λ x. c ∷ x) (take-append-drop (sequence_len t) t))
-  | inr n ↦ rw (n, joined-after (front_len is_visible t) t) (ap (λ x. c ∷ x) (take-append-drop (front_len is_visible t) t))
-]
+joined-after zero (c ∷ t) =
+    grind (arith, joined-after (sequence_len t) t, joined-after (front_len is_visible t) t, take-append-drop (sequence_len t) t, take-append-drop (front_len is_visible t) t)
 
 pub joined-pieces : (t : Text) → joined (pieces t) ≡ t
 joined-pieces t = joined-after 0 t
@@ -65,20 +59,13 @@ joined-pieces t = joined-after 0 t
 stretch-visible : (t : Text) → take (front_len is_visible t) t ++ visible_after (front_len is_visible t) t ≡ visible_after 0 t
 unfolding visible_after
 stretch-visible [] = refl
-stretch-visible (c ∷ t) = elim (cases_Bool (c == 27)) [
-  | inl y ↦ rw y (rw y refl)
-  | inr n ↦ rw n (ap (λ x. c ∷ x) (stretch-visible t))
-]
+stretch-visible (c ∷ t) = grind (arith, stretch-visible t)
 
 stretches-after : (n : ℕ) (t : Text) → stretches (pieces_after n t) ≡ visible_after n t
 unfolding pieces_after visible_after
-stretches-after zero [] = refl
-stretches-after (suc n) [] = refl
+stretches-after n [] = refl
 stretches-after (suc n) (c ∷ t) = stretches-after n t
-stretches-after zero (c ∷ t) = elim (cases_Bool (c == 27)) [
-  | inl y ↦ rw (y, stretches-after (sequence_len t) t) refl
-  | inr n ↦ rw (n, stretches-after (front_len is_visible t) t) (ap (λ x. c ∷ x) (stretch-visible t))
-]
+stretches-after zero (c ∷ t) = grind (arith, stretches-after (sequence_len t) t, stretches-after (front_len is_visible t) t, stretch-visible t)
 
 pub stretches-pieces : (t : Text) → stretches (pieces t) ≡ visible t
 stretches-pieces t = stretches-after 0 t
@@ -86,13 +73,9 @@ stretches-pieces t = stretches-after 0 t
 -- what is visible has no escape character
 pub visible_after-free : (n : ℕ) (t : Text) → HasNoEscape (visible_after n t)
 unfolding visible_after
-visible_after-free zero [] = refl
-visible_after-free (suc n) [] = refl
+visible_after-free n [] = refl
 visible_after-free (suc n) (c ∷ t) = visible_after-free n t
-visible_after-free zero (c ∷ t) = elim (cases_Bool (c == 27)) [
-  | inl y ↦ rw y (visible_after-free (sequence_len t) t)
-  | inr n ↦ rw n (rw n (visible_after-free zero t))
-]
+visible_after-free zero (c ∷ t) = grind (arith, visible_after-free (sequence_len t) t, visible_after-free zero t)
 
 pub free_parts : (c : ℕ) (t : Text) → HasNoEscape (c ∷ t) → ((c == 27) ≡ false) × HasNoEscape t
 free_parts c t h = let both = and_parts (not (c == 27)) (has_no_escape t) h in (not-true (c == 27) both.0, both.1)
@@ -116,18 +99,12 @@ visible-stretch t front back p q = rw (p, q, ← visible_after-drop (front_len i
 -- an escape character comes first there
 pub front_stops : (t : Text) (c : ℕ) (r : Text) → drop (front_len is_visible t) t ≡ c ∷ r → c ≡ 27
 front_stops [] c r e = cc
-front_stops (x ∷ t) c r e = elim (eqb_tells x 27) [
-  | inl y ↦ (let f = rw y.0 at e in let g : x ≡ c = cc in sym g ∙ y.1)
-  | inr n ↦ front_stops t c r (rw n.0 at e)
-]
+front_stops (x ∷ t) c r e = grind (arith, eqb_tells, front_stops t c r)
 
 -- so a text may be cut there
 front_ascii : (t : Text) → front_len is_visible t < length t → get_or t (front_len is_visible t) 0 < 128
 front_ascii [] l = absurd (omega (arith, l))
-front_ascii (c ∷ t) l = elim (eqb_tells c 27) [
-  | inl y ↦ rw y.0 (omega (arith, y.1))
-  | inr n ↦ rw n.0 (front_ascii t (let more = rw n.0 at l in omega arith))
-]
+front_ascii (c ∷ t) l = grind (arith, nat_tests, front_ascii t)
 
 pub front_boundary : (t : Text) → IsCharBoundary t (front_len is_visible t)
 front_boundary t = (front_len-le is_visible t, λ l a. absurd (omega (arith, front_ascii t l)))
@@ -146,23 +123,18 @@ visible-sequence t after c e i = rw (e, i, add-one) (visible_after-drop (sequenc
 pub visible-front : (t : Text) → length (drop (front_len is_visible t) t) ≡ 0 → visible t ≡ t
 unfolding visible_after
 visible-front [] h = refl
-visible-front (c ∷ t) h = elim (cases_Bool (c == 27)) [
-  | inl y ↦ absurd (let l = rw y at h in omega arith)
-  | inr n ↦ rw n (ap (λ l. c ∷ l) (visible-front t (rw n at h)))
-]
+visible-front (c ∷ t) h = grind (arith, visible-front t)
 
 pub visible-empty : (t : Text) → length t ≡ 0 → visible t ≡ []
 unfolding visible_after
-visible-empty [] h = refl
-visible-empty (c ∷ t) h = absurd (omega arith)
+visible-empty t h = rw (nil_from_length t h) refl
 
 pub visible-visible : (t : Text) → visible (visible t) ≡ visible t
 visible-visible t = visible-free (visible t) (visible_after-free 0 t)
 
 pub pieces-empty : (t : Text) → length t ≡ 0 → pieces t ≡ []
 unfolding pieces_after
-pieces-empty [] h = refl
-pieces-empty (c ∷ t) h = absurd (omega arith)
+pieces-empty t h = rw (nil_from_length t h) refl
 
 -- the first piece, as the code cuts it
 module _ (bs after : Text) (first count : ℕ) (e : bs ≡ first ∷ after) where
@@ -208,11 +180,29 @@ front_at (c ∷ t) (suc n) h before ends =
     let first : (c == 27) ≡ false = before 0 (omega arith) in
     rw first (ap suc (front_at t n (omega arith) (λ k l. before (suc k) (omega arith)) (elim ends [ inl e ↦ inl (omega arith) | inr e ↦ inr e ])))
 
-not_escape : (c : ℕ) → ((c == 27) ≡ true → ⊥) → (c == 27) ≡ false
-not_escape c h = elim (eqb_tells c 27) [ inl y ↦ absurd (h y.0) | inr n ↦ n.0 ]
-
 pub stretch_at : (t : Text) (i : ℕ) → NoneBefore (Passes (is_byte 27) t) 0 (length t) i × Passes (is_byte 27) t i → i ≡ front_len is_visible t
-stretch_at t i found = front_at t i (omega (arith, found.0.high)) (λ k l. not_escape (get_or t k 0) (found.0.before k (omega arith) l)) (inr found.1)
+stretch_at t i found = front_at t i (omega (arith, found.0.high)) (λ k l. false_from_ne_true _ (found.0.before k (omega arith) l)) (inr found.1)
 
 pub stretch_whole : (t : Text) → Nowhere (Passes (is_byte 27) t) 0 (length t) → length t ≡ front_len is_visible t
-stretch_whole t none = front_at t (length t) (omega arith) (λ k l. not_escape (get_or t k 0) (none k (omega arith) l)) (inl refl)
+stretch_whole t none = front_at t (length t) (omega arith) (λ k l. false_from_ne_true _ (none k (omega arith) l)) (inl refl)
+
+pub ruleset len_laws = (front_len-le, csi_end_len-le, csi_len-le, csi_len-final, sequence_len-le)
+
+pub ruleset first_piece = (pieces-empty, sequence_fits, sequence_boundary, stretch_fits, stretch_boundary)
+
+pub ruleset visible_laws = (visible_after-free, visible-visible, visible-free)
+
+pub ruleset fronts = (visible-front, visible-stretch, visible-sequence, front_boundary, front_stops, sequence_fits, sequence_boundary, nil_from_length)
+
+-- the run goes on with a byte that passes
+pub front_len-on : (p : ℕ → Bool) (t : Text) (i none : ℕ) → i < length t → p (get_or t i none) ≡ true → front_len p (drop i t) ≡ suc (front_len p (drop (i + 1) t))
+front_len-on p t i none h e = rw (drop-cons t i none, e, add-one) refl
+
+-- it ends at one that does not, or with the text
+pub front_len-off : (p : ℕ → Bool) (t : Text) (i none : ℕ) → i < length t → p (get_or t i none) ≡ false → front_len p (drop i t) ≡ 0
+front_len-off p t i none h e = rw (drop-cons t i none, e) refl
+
+pub front_len-end : (p : ℕ → Bool) (t : Text) (i : ℕ) → length t ≤ i → front_len p (drop i t) ≡ 0
+front_len-end p t i h = ap (front_len p) (drop_all i t h)
+
+pub ruleset runs = (front_len-on, front_len-off, front_len-end)

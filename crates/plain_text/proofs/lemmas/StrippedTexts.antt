@@ -1,7 +1,8 @@
 -- A text in pieces, without its escape sequences (for `StrippedPieces::write`, `next_stretch`, `write_stripped_pieces`).
-use Rattle.std.proofs.Common.{◌≡◌, ℕ, zero, suc, ◌<◌, Bool, true, false, ◌==◌, inl, inr, List, [], ◌∷◌, ◌++◌, refl, sym, ap, ◌∙◌, append_assoc, arith, length, take, drop, take-append-drop, length-append, length-drop, Some, None, chars, encode_utf8, encode_utf8_all, if◌then◌else◌, lit<, Result}
-use Rattle.std.proofs.lemmas.Bool.{cases_Bool, cases_lt}
+use Rattle.std.proofs.Common.{◌≡◌, ℕ, ◌<◌, Bool, true, false, ◌==◌, inl, inr, List, [], ◌∷◌, ◌++◌, refl, sym, ap, ◌∙◌, append_assoc, arith, length, take, drop, take-append-drop, length-append, length-drop, Some, None, chars, encode_utf8, encode_utf8_all, if◌then◌else◌, lit<, Result}
+use Rattle.std.proofs.lemmas.Bool.{cases_lt, eqb-true, false_from_ne_true}
 use Rattle.std.proofs.lemmas.Bool.Decides.{eqb_tells, nat_tests}
+use Rattle.std.proofs.lemmas.List.{nil_from_length}
 use Rattle.std.proofs.lemmas.Str.{chars-append, chars-nil, chars_past_char, encode_ascii, encodes-chars, length-encode, len_utf8_bounds, IsUtf8-take}
 use Rattle.std.specs.Str.{IsUtf8}
 use Rattle.std.specs.Result.{IsErrAnd}
@@ -13,25 +14,22 @@ use Rattle.plain_text.proofs.lemmas.TrailingNewlines.{piece_next, trailing_newli
 use Rattle.plain_text.proofs.lemmas.Steps.{owes_all, owes_accepted, owes_stopped}
 use Rattle.plain_text.specs.Escapes.{front_len, is_visible, PieceText, pieces, stretches, visible, HasNoEscape}
 use Rattle.plain_text.specs.Escapes.PieceText.{SequenceText, StretchText}
-use Rattle.plain_text.specs.Scanner.{begun, mode_after_step, step_of, advanced, mode_after, modes_after}
+use Rattle.plain_text.specs.Scanner.{advanced, mode_after, modes_after}
 use Rattle.plain_text.specs.ColumnCounter.{modes_after-append}
 use Rattle.plain_text.specs.Stripped.{visible_char, visible_from, Takes}
 use Rattle.plain_text.specs.declared.escapes.Mode.{Mode}
 use Rattle.plain_text.specs.declared.escapes.Mode.TheVariants as mode
-use Rattle.plain_text.specs.declared.escapes.State.TheVariants.{Start, Parameters, Intermediates, Command, Short}
-use Rattle.plain_text.specs.declared.escapes.Step.{Step}
-use Rattle.plain_text.specs.declared.escapes.Step.TheVariants.{Inside, Ends}
+use Rattle.plain_text.specs.declared.escapes.State.TheVariants.{Start}
 use Rattle.plain_text.proofs.lemmas.Fits.{AreTexts, texts}
 use Rattle.plain_text.proofs.lemmas.Marks.{Mark, marks, tagged, piece_marks, marks-pieces, encode-high}
-use Rattle.plain_text.proofs.lemmas.Pieces.{free_parts, front_boundary, front_free, front_len-le, stretches-pieces}
+use Rattle.plain_text.proofs.lemmas.Widths.{free_back}
+use Rattle.plain_text.proofs.lemmas.Pieces.{front_boundary, front_free, front_len-le, stretches-pieces}
 
 -- characters in two parts
 pub visible_from-append : (m : Mode) (cs ds : List ℕ) → visible_from m (cs ++ ds) ≡ visible_from m cs ++ visible_from (modes_after m cs) ds
 unfolding visible_from modes_after
 visible_from-append m [] ds = refl
-visible_from-append m (c ∷ cs) ds =
-    ap (λ x. visible_char m c ++ x) (visible_from-append (mode_after m c) cs ds)
-    ∙ sym (append_assoc (visible_char m c) (visible_from (mode_after m c) cs) (visible_from (modes_after (mode_after m c) cs) ds))
+visible_from-append m (c ∷ cs) ds = rw (visible_from-append (mode_after m c) cs ds) (simp append_assoc)
 
 -- the same of the characters of texts
 pub visible_from-texts : (m : Mode) (t u : Text) → IsUtf8 t → visible_from m (chars (t ++ u)) ≡ visible_from m (chars t) ++ visible_from (modes_after m (chars t)) (chars u)
@@ -76,42 +74,19 @@ pub visible-from : (t : Text) → IsUtf8 t → visible t ≡ visible_from mode.T
 visible-from t u = sym (stretches-pieces t) ∙ sym (shown-pieces (pieces t) (texts t u)) ∙ ap shown (sym (marks-pieces t u)) ∙ shown-marks mode.Text (chars t)
 
 -- a character that belongs to no sequence is no escape character
-begun-none : (c : ℕ) → begun c ≡ None → (c == 27) ≡ false
-begun-none c h = elim (cases_Bool (c == 27)) [ inl y ↦ absurd (let e = rw y at h in cc) | inr n ↦ n ]
-
-step-none : (c : ℕ) (x : Step) → mode_after_step c x ≡ None → (c == 27) ≡ false
-step-none c (Inside s) h = absurd (cc)
-step-none c (Ends zero) h = begun-none c h
-step-none c (Ends (suc k)) h = let z : (suc k == 0) ≡ false = grind (arith, nat_tests) in absurd (let e = rw z at h in cc)
-
 pub advanced-none : (m : Mode) (c : ℕ) → advanced m c ≡ None → (c == 27) ≡ false
-advanced-none mode.Text c h = begun-none c h
-advanced-none mode.Terminator c h = elim (cases_Bool (c == 92)) [ inl y ↦ absurd (let e = rw y at h in cc) | inr n ↦ step-none c (step_of Start c false) (rw n at h) ]
-advanced-none (mode.Sequence Start) c h = step-none c (step_of Start c false) h
-advanced-none (mode.Sequence Parameters) c h = step-none c (step_of Parameters c false) h
-advanced-none (mode.Sequence Intermediates) c h = step-none c (step_of Intermediates c false) h
-advanced-none (mode.Sequence Command) c h = elim (cases_Bool (c == 27)) [ inl y ↦ absurd (let e = rw y at h in cc) | inr n ↦ n ]
-advanced-none (mode.Sequence Short) c h = step-none c (step_of Short c false) h
+advanced-none mode.Text c h = grind (arith, nat_tests)
+advanced-none (mode.Sequence Start) c h = grind (arith, nat_tests)
+advanced-none _ c h = grind (arith, nat_tests)
 
 -- where it is scanned from text all the same
-pub none_visible : (m : Mode) (c : ℕ) (cs : List ℕ) → advanced m c ≡ None → visible_from m (c ∷ cs) ≡ visible_from mode.Text (c ∷ cs)
-unfolding visible_from
-none_visible m c cs h = rw (h, advanced-none m c h) refl
-
-pub none_mode : (m : Mode) (c : ℕ) (cs : List ℕ) → advanced m c ≡ None → modes_after m (c ∷ cs) ≡ modes_after mode.Text (c ∷ cs)
-unfolding modes_after
-none_mode m c cs h = rw (h, advanced-none m c h) refl
+none_taken : (m : Mode) (c : ℕ) (cs : List ℕ) → advanced m c ≡ None → (visible_from m (c ∷ cs) ≡ visible_from mode.Text (c ∷ cs)) × (modes_after m (c ∷ cs) ≡ modes_after mode.Text (c ∷ cs))
+unfolding visible_from modes_after
+none_taken m c cs h = (rw (h, advanced-none m c h) refl, rw (h, advanced-none m c h) refl)
 
 -- a stretch without escape characters
-free_back : (t u : Text) → HasNoEscape (t ++ u) → HasNoEscape u
-free_back [] u h = h
-free_back (c ∷ t) u h = free_back t u (free_parts c (t ++ u) h).1
-
 free_char : (c : ℕ) (t : Text) → HasNoEscape (encode_utf8 c ++ t) → (c == 27) ≡ false
-free_char c t h = elim (eqb_tells c 27) [
-  | inl y ↦ absurd (let e : encode_utf8 c ≡ 27 ∷ [] = ap encode_utf8 y.1 ∙ encode_ascii 27 (lit< tt) in let f = rw e at h in cc)
-  | inr n ↦ n.0
-]
+free_char c t h = false_from_ne_true (c == 27) (λ y. let e : encode_utf8 c ≡ 27 ∷ [] = ap encode_utf8 (eqb-true c 27 y) ∙ encode_ascii 27 (lit< tt) in let f = rw e at h in cc)
 
 stretch_shown : (cs : List ℕ) → HasNoEscape (encode_utf8_all cs) → (visible_from mode.Text cs ≡ encode_utf8_all cs) × (modes_after mode.Text cs ≡ mode.Text)
 unfolding visible_from modes_after
@@ -124,19 +99,15 @@ pub free_shown : (s : Text) → IsUtf8 s → HasNoEscape s → (visible_from mod
 free_shown s u h = let e = encodes-chars s u in let both = stretch_shown (chars s) (rw e h) in (both.0 ∙ e, both.1)
 
 -- after a character of a sequence
-some_visible : (m n : Mode) (c : ℕ) (cs : List ℕ) → advanced m c ≡ Some n → visible_from m (c ∷ cs) ≡ visible_from n cs
-unfolding visible_from
-some_visible m n c cs h = rw h refl
-
-some_mode : (m n : Mode) (c : ℕ) (cs : List ℕ) → advanced m c ≡ Some n → modes_after m (c ∷ cs) ≡ modes_after n cs
-unfolding modes_after
-some_mode m n c cs h = rw h refl
+some_taken : (m n : Mode) (c : ℕ) (cs : List ℕ) → advanced m c ≡ Some n → (visible_from m (c ∷ cs) ≡ visible_from n cs) × (modes_after m (c ∷ cs) ≡ modes_after n cs)
+unfolding visible_from modes_after
+some_taken m n c cs h = (rw h refl, rw h refl)
 
 -- what the scan takes from the front of a text: a character of a sequence
 pub taken_char : (m n : Mode) (t rest : Text) (c : ℕ) → IsUtf8 t → t ≡ encode_utf8 c ++ rest → advanced m c ≡ Some n → Takes m t n [] rest
 taken_char m n t rest c u e h = record {
-  shown = ap (visible_from m) (chars_past_char t rest c u e) ∙ some_visible m n c (chars rest) h;
-  mode = ap (modes_after m) (chars_past_char t rest c u e) ∙ some_mode m n c (chars rest) h;
+  shown = ap (visible_from m) (chars_past_char t rest c u e) ∙ (some_taken m n c (chars rest) h).0;
+  mode = ap (modes_after m) (chars_past_char t rest c u e) ∙ (some_taken m n c (chars rest) h).1;
   shorter = rw (e, length-append) (omega (arith, length-encode c, (len_utf8_bounds c).0));
 }
 
@@ -162,10 +133,10 @@ module _ (m : Mode) (t rest stretch after : Text) (c : ℕ) (u : IsUtf8 t) (e : 
 
   pub taken_stretch : Takes m t mode.Text stretch after
   taken_stretch = record {
-    shown = ap (visible_from m) (chars_past_char t rest c u e) ∙ none_visible m c (chars rest) h ∙ ap (visible_from mode.Text) (sym (chars_past_char t rest c u e))
+    shown = ap (visible_from m) (chars_past_char t rest c u e) ∙ (none_taken m c (chars rest) h).0 ∙ ap (visible_from mode.Text) (sym (chars_past_char t rest c u e))
         ∙ ap (λ x. visible_from mode.Text (chars x)) front_whole ∙ visible_from-texts mode.Text stretch after front_utf8
         ∙ rw (front_shown.0, front_shown.1) refl;
-    mode = ap (modes_after m) (chars_past_char t rest c u e) ∙ none_mode m c (chars rest) h ∙ ap (modes_after mode.Text) (sym (chars_past_char t rest c u e))
+    mode = ap (modes_after m) (chars_past_char t rest c u e) ∙ (none_taken m c (chars rest) h).1 ∙ ap (modes_after mode.Text) (sym (chars_past_char t rest c u e))
         ∙ ap (λ x. modes_after mode.Text (chars x)) front_whole ∙ modes_after-texts mode.Text stretch after front_utf8
         ∙ rw front_shown.1 refl;
     shorter = rw (q, length-drop) (omega (arith, front_there, front_len-le is_visible t));
@@ -174,13 +145,11 @@ module _ (m : Mode) (t rest stretch after : Text) (c : ℕ) (u : IsUtf8 t) (e : 
 -- an empty text
 pub nothing_shown : (m : Mode) (t : Text) → length t ≡ 0 → visible_from m (chars t) ≡ []
 unfolding visible_from
-nothing_shown m [] h = rw chars-nil refl
-nothing_shown m (c ∷ t) h = absurd (omega arith)
+nothing_shown m t h = rw (nil_from_length t h, chars-nil) refl
 
 pub nothing_moved : (m : Mode) (t : Text) → length t ≡ 0 → modes_after m (chars t) ≡ m
 unfolding modes_after
-nothing_moved m [] h = rw chars-nil refl
-nothing_moved m (c ∷ t) h = absurd (omega arith)
+nothing_moved m t h = rw (nil_from_length t h, chars-nil) refl
 
 -- what is owed before the next piece, and after it
 pub stripped_next : (m next : Mode) (h k : Bool) (rest piece after : Text) → rest ≡ piece ++ after → IsUtf8 piece → next ≡ modes_after m (chars piece) → k ≡ ends_in_line_feed (held h ++ visible_from m (chars piece))

@@ -1,5 +1,5 @@
 -- How wide a cut text is (for `width_laws`).
-use Rattle.std.proofs.Common.{◌≡◌, ℕ, zero, suc, ◌+◌, ◌-◌, ◌<◌, ◌≤◌, Bool, true, false, not, ◌&&◌, ◌==◌, ◌⊎◌, inl, inr, List, [], ◌∷◌, ◌++◌, refl, sym, ap, ◌∙◌, arith, min, nat_le, chars, encode_utf8, encode_utf8_all, append-nil, append_assoc}
+use Rattle.std.proofs.Common.{◌≡◌, ℕ, zero, suc, ◌+◌, ◌-◌, ◌≤◌, Bool, true, false, not, ◌==◌, inl, inr, List, [], ◌∷◌, ◌++◌, refl, sym, ap, ◌∙◌, arith, min, nat_le, chars, encode_utf8, encode_utf8_all, append-nil, append_assoc}
 use Rattle.std.proofs.lemmas.Bool.{cases_Bool, cases_lt, and_parts}
 use Rattle.std.proofs.lemmas.Bool.Decides.{nat_tests}
 use Rattle.std.proofs.lemmas.Str.{chars-append, chars-encodes, scalars-chars, encodes-chars, IsUtf8-append, IsUtf8-nil, chars-nil}
@@ -29,20 +29,12 @@ kept-free : (start end pos : ℕ) (cs : List ℕ) → HasNoEscape (encode_utf8_a
 kept-free start end pos [] h = refl
 kept-free start end pos (c ∷ cs) h =
     let more = kept-free start end (pos + char_columns c) cs (free_back (encode_utf8 c) (encode_utf8_all cs) h) in
-    elim (cases_Bool (nat_le start pos && nat_le (pos + char_columns c) end)) [
-      | inl y ↦ rw y (free_both (encode_utf8 c) (encode_utf8_all (kept_chars start end (pos + char_columns c) cs)) (free_front (encode_utf8 c) (encode_utf8_all cs) h) more)
-      | inr n ↦ rw n more
-    ]
+    grind (arith, more, free_both (encode_utf8 c) (encode_utf8_all (kept_chars start end (pos + char_columns c) cs)) (free_front (encode_utf8 c) (encode_utf8_all cs) h) more)
 
 kept-scalars : (start end pos : ℕ) (cs : List ℕ) → all_scalars cs ≡ true → all_scalars (kept_chars start end pos cs) ≡ true
 kept-scalars start end pos [] h = refl
 kept-scalars start end pos (c ∷ cs) h =
-    let both = and_parts (scalar c) (all_scalars cs) h in
-    let more = kept-scalars start end (pos + char_columns c) cs both.1 in
-    elim (cases_Bool (nat_le start pos && nat_le (pos + char_columns c) end)) [
-      | inl y ↦ rw y (rw (both.0, more) refl)
-      | inr n ↦ rw n more
-    ]
+    let both = and_parts (scalar c) (all_scalars cs) h in grind (arith, both, kept-scalars start end (pos + char_columns c) cs both.1)
 
 -- how much of the columns from start to end lies before pos
 abbrev part_before : ℕ → ℕ → ℕ → ℕ
@@ -51,32 +43,22 @@ part_before start end pos = min end pos - start
 kept_chars-columns : (start end pos : ℕ) (cs : List ℕ) → columns_of (kept_chars start end pos cs) + part_before start end pos ≤ part_before start end (pos + columns_of cs)
 kept_chars-columns start end pos [] = omega arith
 kept_chars-columns start end pos (c ∷ cs) =
-    let more = kept_chars-columns start end (pos + char_columns c) cs in let w = columns_of-cons c cs in
-    elim (cases_Bool (nat_le start pos && nat_le (pos + char_columns c) end)) [
-      | inl y ↦ (let both = and_parts (nat_le start pos) (nat_le (pos + char_columns c) end) y in
-          rw y (rw (columns_of-cons c (kept_chars start end (pos + char_columns c) cs)) (grind (arith, nat_tests, more, w, both))))
-      | inr n ↦ rw n (omega (arith, more, w))
-    ]
+    grind (arith, nat_tests, kept_chars-columns start end (pos + char_columns c) cs, columns_of-cons c cs, columns_of-cons c (kept_chars start end (pos + char_columns c) cs))
 
--- of the characters of a text
+-- of the characters of a text: what holds of nothing and of the characters that are kept
 module _ (start end pos : ℕ) (s : Text) where
+  kept_stretch-any : (P : Text → Type 0) → P [] → P (encode_utf8_all (kept_chars start end pos (chars s))) → P (kept_stretch start end pos s)
+  kept_stretch-any P none some = elim (cases_lt pos end) [ inl h ↦ rw (kept_stretch-before start end pos s h) some | inr h ↦ rw (kept_stretch-past start end pos s h) none ]
+
   kept_stretch-columns : IsUtf8 s → columns_of (chars (kept_stretch start end pos s)) + part_before start end pos ≤ part_before start end (pos + columns_of (chars s))
-  kept_stretch-columns u = elim (cases_lt pos end) [
-    | inl h ↦ rw (kept_stretch-before start end pos s h, chars-encodes (kept_chars start end pos (chars s)) (kept-scalars start end pos (chars s) (scalars-chars s u))) (kept_chars-columns start end pos (chars s))
-    | inr h ↦ rw (kept_stretch-past start end pos s h, chars-nil) (omega arith)
-  ]
+  kept_stretch-columns u = kept_stretch-any (λ x. columns_of (chars x) + part_before start end pos ≤ part_before start end (pos + columns_of (chars s))) (rw chars-nil (omega arith))
+      (rw (chars-encodes (kept_chars start end pos (chars s)) (kept-scalars start end pos (chars s) (scalars-chars s u))) (kept_chars-columns start end pos (chars s)))
 
   kept_stretch-free : IsUtf8 s → HasNoEscape s → HasNoEscape (kept_stretch start end pos s)
-  kept_stretch-free u f = elim (cases_lt pos end) [
-    | inl h ↦ rw (kept_stretch-before start end pos s h) (kept-free start end pos (chars s) (rw (← encodes-chars s u) at f))
-    | inr h ↦ rw (kept_stretch-past start end pos s h) refl
-  ]
+  kept_stretch-free u f = kept_stretch-any HasNoEscape refl (kept-free start end pos (chars s) (rw (← encodes-chars s u) at f))
 
   kept_stretch-utf8 : IsUtf8 s → IsUtf8 (kept_stretch start end pos s)
-  kept_stretch-utf8 u = elim (cases_lt pos end) [
-    | inl h ↦ rw (kept_stretch-before start end pos s h) (kept_chars start end pos (chars s), (kept-scalars start end pos (chars s) (scalars-chars s u), refl))
-    | inr h ↦ rw (kept_stretch-past start end pos s h) IsUtf8-nil
-  ]
+  kept_stretch-utf8 u = kept_stretch-any IsUtf8 IsUtf8-nil (kept_chars start end pos (chars s), (kept-scalars start end pos (chars s) (scalars-chars s u), refl))
 
 -- stretches have no escape character
 abbrev pub AreFree : List PieceText → Type 0
@@ -86,51 +68,37 @@ AreFree (StretchText s ∷ ps) = HasNoEscape s × AreFree ps
 
 pub free_after : (n : ℕ) (t : Text) → AreFree (pieces_after n t)
 unfolding pieces_after
-free_after zero [] = tt
-free_after (suc n) [] = tt
+free_after n [] = tt
 free_after (suc n) (c ∷ t) = free_after n t
 free_after zero (c ∷ t) = elim (cases_Bool (c == 27)) [
   | inl y ↦ rw y (free_after (sequence_len t) t)
   | inr n ↦ rw n (rw (n, front_free t) refl, free_after (front_len is_visible t) t)
 ]
 
--- a visible character before a text
-visible-cons : (c : ℕ) (t : Text) → (c == 27) ≡ false → visible (c ∷ t) ≡ c ∷ visible t
-unfolding visible_after
-visible-cons c t h = rw h refl
-
 sequences-front : (t : Text) → sequences (pieces_after (front_len is_visible t) t) ≡ sequences (pieces t)
 unfolding pieces_after
 sequences-front [] = refl
-sequences-front (c ∷ t) = elim (cases_Bool (c == 27)) [
-  | inl y ↦ rw y (rw y refl)
-  | inr n ↦ rw n refl
-]
-
-sequences-cons : (c : ℕ) (t : Text) → (c == 27) ≡ false → sequences (pieces (c ∷ t)) ≡ sequences (pieces t)
-unfolding pieces_after
-sequences-cons c t h = rw h (sequences-front t)
+sequences-front (c ∷ t) = grind arith
 
 pub visible-free_append : (w t : Text) → HasNoEscape w → visible (w ++ t) ≡ w ++ visible t
+unfolding visible_after
 visible-free_append [] t h = refl
-visible-free_append (c ∷ w) t h = let both = free_parts c w h in visible-cons c (w ++ t) both.0 ∙ ap (λ x. c ∷ x) (visible-free_append w t both.1)
+visible-free_append (c ∷ w) t h = let both = free_parts c w h in rw both.0 (ap (λ x. c ∷ x) (visible-free_append w t both.1))
 
 pub sequences-free_append : (w t : Text) → HasNoEscape w → sequences (pieces (w ++ t)) ≡ sequences (pieces t)
+unfolding pieces_after
 sequences-free_append [] t h = refl
-sequences-free_append (c ∷ w) t h = let both = free_parts c w h in sequences-cons c (w ++ t) both.0 ∙ sequences-free_append w t both.1
+sequences-free_append (c ∷ w) t h = let both = free_parts c w h in rw both.0 (sequences-front (w ++ t) ∙ sequences-free_append w t both.1)
 
 pub visible-closed_append : (s t : Text) → IsClosed s → visible (s ++ t) ≡ visible t
 visible-closed_append s t h = sym (stretches-pieces (s ++ t)) ∙ ap stretches (h t) ∙ stretches-pieces t
-
-pub sequences-closed_append : (s t : Text) → IsClosed s → sequences (pieces (s ++ t)) ≡ s ∷ sequences (pieces t)
-sequences-closed_append s t h = ap sequences (h t)
 
 module _ (start end : ℕ) where
   -- all sequences stay
   fit_pieces-sequences : (pos : ℕ) (ps : List PieceText) → AreTexts ps → AreFree ps → AreClosed (sequences ps) → sequences (pieces (fit_pieces start end pos ps)) ≡ sequences ps
   unfolding pieces_after
   fit_pieces-sequences pos [] u f k = refl
-  fit_pieces-sequences pos (SequenceText s ∷ ps) u f k = sequences-closed_append s (fit_pieces start end pos ps) k.0 ∙ ap (λ x. s ∷ x) (fit_pieces-sequences pos ps u.1 f k.1)
+  fit_pieces-sequences pos (SequenceText s ∷ ps) u f k = ap sequences (k.0 (fit_pieces start end pos ps)) ∙ ap (λ x. s ∷ x) (fit_pieces-sequences pos ps u.1 f k.1)
   fit_pieces-sequences pos (StretchText s ∷ ps) u f k =
       sequences-free_append (kept_stretch start end pos s) (fit_pieces start end (pos + columns_of (chars s)) ps) (kept_stretch-free start end pos s u.0 f.0)
       ∙ fit_pieces-sequences (pos + columns_of (chars s)) ps u.1 f.1 k
@@ -175,14 +143,11 @@ visible-joined (StretchText s ∷ ps) t f k = simp append_assoc (visible-free_ap
 
 pub sequences-joined : (ps : List PieceText) (t : Text) → AreFree ps → AreClosed (sequences ps) → sequences (pieces (joined ps ++ t)) ≡ sequences ps ++ sequences (pieces t)
 sequences-joined [] t f k = refl
-sequences-joined (SequenceText s ∷ ps) t f k = simp append_assoc (sequences-closed_append s (joined ps ++ t) k.0 ∙ ap (λ x. s ∷ x) (sequences-joined ps t f k.1))
+sequences-joined (SequenceText s ∷ ps) t f k = simp append_assoc (ap sequences (k.0 (joined ps ++ t)) ∙ ap (λ x. s ∷ x) (sequences-joined ps t f k.1))
 sequences-joined (StretchText s ∷ ps) t f k = simp append_assoc (sequences-free_append s (joined ps ++ t) f.0 ∙ sequences-joined ps t f.1 k)
 
 pub visible-utf8 : (t : Text) → IsUtf8 t → IsUtf8 (visible t)
 visible-utf8 t u = rw (← stretches-pieces t) (stretches-utf8 (pieces t) (texts t u))
-
-cases_le_tells : (m n : ℕ) → ((nat_le m n ≡ true) × (m ≤ n)) ⊎ ((nat_le m n ≡ false) × (n < m))
-cases_le_tells m n = elim (cases_lt n m) [ inl h ↦ inr (grind (arith, nat_tests), h) | inr h ↦ inl (grind (arith, nat_tests), h) ]
 
 pub closed_both : (ss ts : List Text) → AreClosed ss → AreClosed ts → AreClosed (ss ++ ts)
 closed_both [] ts h k = k
@@ -207,26 +172,20 @@ fit-painted t start end h = (fit-utf8 t start end h.0, rw (fit-sequences t start
 
 -- a part that is cut
 module _ (is_name : Bool) (t : Text) (r : ℕ) (h : IsPainted t) where
-  shrunk-painted : IsPainted (shrunk is_name t r)
-  shrunk-painted = elim (cases_Bool (nat_le (columns t) r)) [
-    | inl y ↦ rw y h
-    | inr n ↦ rw n (elim (cases_Bool is_name) [ inl y ↦ rw y (fit-painted t (columns t - r) (columns t) h) | inr m ↦ rw m (fit-painted t 0 r h) ])
+  shrunk-any : (P : Text → Type 0) → P t → ((start end : ℕ) → P (fit t start end)) → P (shrunk is_name t r)
+  shrunk-any P whole cut = elim (cases_Bool (nat_le (columns t) r)) [
+    | inl y ↦ rw y whole
+    | inr n ↦ rw n (elim (cases_Bool is_name) [ inl y ↦ rw y (cut (columns t - r) (columns t)) | inr m ↦ rw m (cut 0 r) ])
   ]
+
+  shrunk-painted : IsPainted (shrunk is_name t r)
+  shrunk-painted = shrunk-any IsPainted h (λ start end. fit-painted t start end h)
 
   shrunk-sequences : sequences (pieces (shrunk is_name t r)) ≡ sequences (pieces t)
-  shrunk-sequences = elim (cases_Bool (nat_le (columns t) r)) [
-    | inl y ↦ rw y refl
-    | inr n ↦ rw n (elim (cases_Bool is_name) [ inl y ↦ rw y (fit-sequences t (columns t - r) (columns t) h) | inr m ↦ rw m (fit-sequences t 0 r h) ])
-  ]
+  shrunk-sequences = shrunk-any (λ x. sequences (pieces x) ≡ sequences (pieces t)) refl (λ start end. fit-sequences t start end h)
 
   shrunk-columns : columns (shrunk is_name t r) + (r - columns t) ≤ r
-  shrunk-columns = elim (cases_le_tells (columns t) r) [
-    | inl y ↦ rw y.0 (omega (arith, y.1))
-    | inr n ↦ rw n.0 (elim (cases_Bool is_name) [
-      | inl y ↦ rw y (omega (arith, n.1, fit-columns t (columns t - r) (columns t) h))
-      | inr m ↦ rw m (omega (arith, n.1, fit-columns t 0 r h))
-    ])
-  ]
+  shrunk-columns = grind (arith, nat_tests, fit-columns t (columns t - r) (columns t) h, fit-columns t 0 r h)
 
 pub parts-columns : (ts : List Text) (name : Text) (r : ℕ) → ArePainted ts → IsPainted name → columns (shrunk_parts ts name r) ≤ r
 parts-columns [] name r h k = omega (arith, shrunk-columns true name r k)

@@ -80,6 +80,7 @@ impl<W: WriteStr> WriteStr for Fitted<'_, W> {
         Ok(())
     }
 
+    #[tactic(auto, using(crate::proofs::lemmas::FittedPuts::nothing_put))]
     fn write_str_flush(&mut self) -> Result<(), WriteFault> {
         self.inner.write_str_flush()
     }

@@ -66,6 +66,7 @@ impl<'a, W> Indented<'a, W> {
 
 impl<W: WriteStr> Indented<'_, W> {
     // Writes the indentation, where it stands before this line.
+    #[tactic(auto, using(crate::proofs::lemmas::Indents::first_margin))]
     fn write_margin(&mut self, line: &str) -> Result<(), WriteFault>
         requires { IsOneLine line.now }
         ensures { PutsMargin W.meaning self.old line.now result self.new }
@@ -103,6 +104,7 @@ impl<W: WriteStr> WriteStr for Indented<'_, W> {
         Ok(())
     }
 
+    #[tactic(auto, using(crate::proofs::lemmas::Indents::flush_put))]
     fn write_str_flush(&mut self) -> Result<(), WriteFault> {
         self.inner.write_str_flush()
     }
@@ -110,6 +112,7 @@ impl<W: WriteStr> WriteStr for Indented<'_, W> {
 
 impl<W: fmt::Write> Indented<'_, W> {
     // As `write_margin`, over a destination of `fmt`.
+    #[tactic(auto, using(crate::proofs::lemmas::IndentedCalls::margin_laws))]
     fn fmt_margin(&mut self, line: &str) -> fmt::Result
         requires { IsOneLine line.now }
         ensures { OnOk result (TakesMargin W.write_str_gives self.old line.now self.new) }

@@ -1,5 +1,5 @@
 use Rattle.std.proofs.Common.{◌∙◌}
-use Rattle.plain_text.proofs.lemmas.CounterPuts.{all_counted}
+use Rattle.plain_text.proofs.lemmas.FitMarks.{all_counted}
 use Rattle.plain_text.proofs.fitting.count_columns.Goals as goal
 
 pub returns-clause-value : goal.returns-clause-value

@@ -1,5 +1,5 @@
 use Rattle.std.proofs.Common.{rules}
-use Rattle.plain_text.proofs.lemmas.FittedTexts.{text_fitted}
+use Rattle.plain_text.proofs.lemmas.FitMarks.{text_fitted}
 use Rattle.plain_text.proofs.fitting.write_fitted.Goals as goal
 
 pub returns : goal.returns

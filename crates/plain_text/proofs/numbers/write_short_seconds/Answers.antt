@@ -1,9 +1,6 @@
 use Rattle.std.proofs.Common.{refl}
-use Rattle.plain_text.proofs.lemmas.Decimals.{IsUtf8-row, bracketed-row}
+use Rattle.plain_text.proofs.lemmas.Decimals.{bracketed-row}
 use Rattle.plain_text.proofs.numbers.write_short_seconds.Goals as goal
-
-pub from_utf8_unchecked-requires : goal.from_utf8_unchecked-requires
-from_utf8_unchecked-requires g c = IsUtf8-row _ _ _ _ _ c.digit_or_space.ensures c.digit_or_space-2.ensures c.digit_or_space-3.ensures
 
 pub returns : goal.returns
 returns g c =

@@ -1,6 +1,6 @@
 use Rattle.std.proofs.Common.{arith}
 use Rattle.plain_text.proofs.lemmas.Steps.{owes_accepted, owes_stopped}
-use Rattle.plain_text.proofs.lemmas.Spaces.{spaces_first}
+use Rattle.plain_text.proofs.lemmas.Decimals.{spaces_first}
 use Rattle.plain_text.proofs.numbers.write_spaces.Goals as goal
 
 pub returns-in_err-write_str : goal.returns-in_err-write_str

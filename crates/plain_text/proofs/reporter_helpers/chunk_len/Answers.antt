@@ -1,12 +1,6 @@
-use Rattle.std.proofs.Common.{rules, inl, inr}
-use Rattle.plain_text.proofs.lemmas.Chunked.{ends_far, ends_text}
+use Rattle.std.proofs.Common.{inr}
+use Rattle.plain_text.proofs.lemmas.Chunked.{ends_text}
 use Rattle.plain_text.proofs.reporter_helpers.chunk_len.Goals as goal
-
-pub returns-in-Some-find_byte : goal.returns-in-Some-find_byte
-returns-in-Some-find_byte c =
-    let none = rw c.split_at.ensures.front at c.in-None.ensures in
-    let some = rw c.split_at.ensures.back at c.in-Some-find_byte.ensures in
-    inr (inl (ends_far c.args.limit c.min-near.result c.in-Some-find_byte.next c.args.bytes.now (search rules) none some.0 some.1))
 
 pub returns-in-None-find_byte : goal.returns-in-None-find_byte
 returns-in-None-find_byte c =

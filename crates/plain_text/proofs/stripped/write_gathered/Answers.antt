@@ -1,7 +1,7 @@
 use Rattle.std.proofs.Common.{◌≡◌, ◌++◌, [], ap, rules, refl, take, drop}
 use Rattle.plain_text.specs.Escapes.{visible}
 use Rattle.plain_text.specs.GatheredPieces.{unwritten}
-use Rattle.plain_text.proofs.lemmas.Gathered.{none_gathered, carried_off, carried, flushed}
+use Rattle.plain_text.proofs.lemmas.TrailingNewlines.{none_gathered, carried_off, carried, flushed}
 use Rattle.plain_text.proofs.lemmas.Pieces.{front_boundary, visible-empty, visible-stretch}
 use Rattle.plain_text.proofs.stripped.write_gathered.Goals as goal
 

@@ -1,6 +1,7 @@
 use Rattle.std.proofs.Common.{arith, rules, ◌≡◌, ◌∙◌, ◌≤◌, ◌≢◌, ◌++◌, ◌↔◌, IsTrue, length, sym, take}
+use Rattle.std.proofs.lemmas.List.{take-append-le}
 use Rattle.plain_text.specs.Lossy.{decoded_text}
-use Rattle.plain_text.proofs.lemmas.Decoded.{prefix-step, prefix-end, prefix_on}
+use Rattle.plain_text.proofs.lemmas.Decoded.{prefix-step, prefix_on}
 use Rattle.plain_text.proofs.lossy.LossyText.starts_with.Goals as goal
 
 pub returns-then-ne : goal.returns-then-ne
@@ -25,5 +26,5 @@ returns c =
     let piece = c.loop-piece.piece.now in
     let wanted = c.loop-piece.wanted.now in
     let here : IsTrue c.starts_with.result ↔ (take (length wanted) piece ≡ wanted) = search rules in
-    let whole = prefix-end piece (decoded_text c.loop-piece.rest.now) wanted c.loop-piece-test.false in
+    let whole = take-append-le (length wanted) piece (decoded_text c.loop-piece.rest.now) c.loop-piece-test.false in
     (λ h. c.loop-piece.invariant.1 (whole ∙ here.0 h), λ e. here.1 (sym whole ∙ c.loop-piece.invariant.0 e))

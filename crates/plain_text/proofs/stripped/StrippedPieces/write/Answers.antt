@@ -1,5 +1,4 @@
-use Rattle.std.proofs.Common.{rules, ◌∙◌, ◌++◌, sym, ap}
-use Rattle.plain_text.specs.TrailingNewline.{held, ends_in_line_feed}
+use Rattle.std.proofs.Common.{rules, ◌∙◌, sym}
 use Rattle.plain_text.proofs.lemmas.TrailingNewlines.{trailing_newline_written, trailing_newline_stopped, trailing_newline_done, piece_still-next, held-still}
 use Rattle.plain_text.proofs.lemmas.StrippedTexts.{nothing_shown, nothing_moved}
 use Rattle.plain_text.proofs.stripped.StrippedPieces.write.Goals as goal
@@ -19,10 +18,7 @@ pub returns-clause-text : goal.returns-clause-text
 returns-clause-text g c = trailing_newline_done g.met.W.WriteStr.laws _ _ _ _ _ c.loop-mode.invariant.owed (nothing_shown _ _ c.in_default.ensures)
 
 pub returns-clause-held : goal.returns-clause-held
-returns-clause-held g c =
-    sym (held-still c.loop-mode.self.trailing_newline.is_held)
-    ∙ ap (λ x. ends_in_line_feed (held c.loop-mode.self.trailing_newline.is_held ++ x)) (sym (nothing_shown c.loop-mode.self.mode c.loop-mode.rest.now c.in_default.ensures))
-    ∙ c.loop-mode.invariant.held
+returns-clause-held g c = rw (nothing_shown c.loop-mode.self.mode c.loop-mode.rest.now c.in_default.ensures, held-still c.loop-mode.self.trailing_newline.is_held) at c.loop-mode.invariant.held
 
 pub returns-clause-mode : goal.returns-clause-mode
 returns-clause-mode g c = sym (nothing_moved _ _ c.in_default.ensures) ∙ c.loop-mode.invariant.mode

@@ -1,14 +1,11 @@
-use Rattle.std.proofs.Common.{◌<◌, ◌∙◌, sym, rules, length}
-use Rattle.plain_text.proofs.lemmas.TrailingNewlines.{held-before, held-beyond, piece_nothing, piece_still, on_any}
+use Rattle.std.proofs.Common.{◌<◌, rules, length}
+use Rattle.plain_text.proofs.lemmas.TrailingNewlines.{held-before, piece_nothing}
 use Rattle.plain_text.proofs.lemmas.Steps.{at_exit, puts_then, stops_early}
 use Rattle.plain_text.specs.TrailingNewline.{held}
 use Rattle.plain_text.proofs.trailing_newline.TrailingNewline.write.Goals as goal
 
 pub returns-then-is_empty-clause-text : goal.returns-then-is_empty-clause-text
 returns-then-is_empty-clause-text g c = rw (piece_nothing c.args.self.now.is_held c.args.piece.now (search rules)) (g.met.W.WriteStr.laws.nothing _)
-
-pub returns-then-is_empty-clause-held : goal.returns-then-is_empty-clause-held
-returns-then-is_empty-clause-held g c = sym (piece_still c.args.self.now.is_held c.args.piece.now (search rules))
 
 pub returns-in_err-write_held-clause-text : goal.returns-in_err-write_held-clause-text
 returns-in_err-write_held-clause-text g c =
@@ -20,8 +17,3 @@ returns-clause-text g c =
     let l : 0 < length c.args.piece.now = search rules in
     rw (held-before c.args.self.now.is_held c.args.piece.now l, ← c.split_trailing_newline-is_held.ensures.front)
     (puts_then g.met.W.WriteStr.laws _ _ _ _ _ _ c.in_ok-write_held.ensures c.write_str.ensures)
-
-pub returns-clause-held : goal.returns-clause-held
-returns-clause-held g c =
-    let l : 0 < length c.args.piece.now = search rules in
-    on_any c.write_str.result (c.split_trailing_newline-is_held.ensures.held ∙ sym (held-beyond c.args.self.now.is_held c.args.piece.now l))

@@ -1,7 +1,7 @@
 use Rattle.std.proofs.Common.{rules}
 use Rattle.std.proofs.lemmas.List.{nil_from_length}
-use Rattle.plain_text.proofs.lemmas.CounterPuts.{next_counted}
-use Rattle.plain_text.proofs.lemmas.Fits.{step_utf8}
+use Rattle.std.proofs.lemmas.Str.{IsUtf8-past_char}
+use Rattle.plain_text.proofs.lemmas.FitMarks.{next_counted}
 use Rattle.plain_text.proofs.lemmas.Steps.{owes_accepted, owes_nothing}
 use Rattle.plain_text.specs.ColumnCounter.{counter_laws}
 use Rattle.plain_text.proofs.fitting.column_counter.ColumnCounterWriteStr.write_str.Goals as goal
@@ -11,7 +11,7 @@ loop-c-preserved c =
     let e = c.in-Some.ensures.steps.0 in record {
       can_next = search rules;
       ends = search rules;
-      utf8 = step_utf8 _ _ _ c.loop-c.invariant.utf8 e;
+      utf8 = IsUtf8-past_char _ _ _ c.loop-c.invariant.utf8 e;
       owed = owes_accepted counter_laws _ _ _ _ _ _ _ c.loop-c.invariant.owed e
           (next_counted _ _ _ _ _ c.loop-c.invariant.utf8 e c.count.ensures.mode c.count.ensures.columns);
     }

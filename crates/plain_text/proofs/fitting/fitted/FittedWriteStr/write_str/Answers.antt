@@ -1,7 +1,7 @@
-use Rattle.std.proofs.Common.{rules}
+use Rattle.std.proofs.Common.{rules, Ok, Err}
 use Rattle.std.proofs.lemmas.List.{nil_from_length}
-use Rattle.plain_text.proofs.lemmas.Fits.{step_utf8}
-use Rattle.plain_text.proofs.lemmas.FittedPuts.{next_accepted, next_stopped}
+use Rattle.std.proofs.lemmas.Str.{IsUtf8-past_char}
+use Rattle.plain_text.proofs.lemmas.FittedPuts.{next_put}
 use Rattle.plain_text.proofs.lemmas.Steps.{owes_accepted, owes_stopped, owes_nothing}
 use Rattle.plain_text.specs.Fitted.{fitted_laws}
 use Rattle.plain_text.proofs.fitting.fitted.FittedWriteStr.write_str.Goals as goal
@@ -10,16 +10,16 @@ pub returns-in_err-put : goal.returns-in_err-put
 returns-in_err-put g c =
     let e = c.in-Some.ensures.steps.0 in
     owes_stopped (fitted_laws _ g.met.W.WriteStr.laws) _ _ _ _ _ _ _ _ _ c.loop-c.invariant.owed e c.from_residual.ensures.1
-    (next_stopped _ _ _ _ _ _ _ c.loop-c.invariant.utf8 e c.in_err-put.ensures)
+    (next_put _ _ _ _ _ _ (Err _) c.loop-c.invariant.utf8 e c.in_err-put.ensures)
 
 pub loop-c-preserved : goal.loop-c-preserved
 loop-c-preserved g c =
     let e = c.in-Some.ensures.steps.0 in record {
       can_next = search rules;
       ends = search rules;
-      utf8 = step_utf8 _ _ _ c.loop-c.invariant.utf8 e;
+      utf8 = IsUtf8-past_char _ _ _ c.loop-c.invariant.utf8 e;
       owed = owes_accepted (fitted_laws _ g.met.W.WriteStr.laws) _ _ _ _ _ _ _ c.loop-c.invariant.owed e
-          (next_accepted _ _ _ _ _ _ c.loop-c.invariant.utf8 e c.in_ok-put.ensures);
+          (next_put _ _ _ _ _ _ (Ok _) c.loop-c.invariant.utf8 e c.in_ok-put.ensures);
     }
 
 pub returns : goal.returns

@@ -1,4 +1,4 @@
-use Rattle.plain_text.proofs.lemmas.Gathered.{begun}
+use Rattle.plain_text.proofs.lemmas.TrailingNewlines.{begun}
 use Rattle.plain_text.proofs.stripped.gathered_pieces.GatheredPieces.begin.Goals as goal
 
 pub returns : goal.returns

@@ -1,4 +1,4 @@
-use Rattle.plain_text.proofs.lemmas.Gathered.{flush_done, flush_stopped}
+use Rattle.plain_text.proofs.lemmas.TrailingNewlines.{flush_done, flush_stopped}
 use Rattle.plain_text.proofs.stripped.gathered_pieces.GatheredPieces.flush.Goals as goal
 
 pub returns-in_err-write-clause-text : goal.returns-in_err-write-clause-text

@@ -1,5 +1,5 @@
 use Rattle.std.proofs.Common.{◌++◌}
-use Rattle.plain_text.proofs.lemmas.Gathered.{carried_on}
+use Rattle.plain_text.proofs.lemmas.TrailingNewlines.{carried_on}
 use Rattle.plain_text.proofs.stripped.gathered_pieces.GatheredPieces.write.Goals as goal
 
 pub returns : goal.returns
