@@ -219,19 +219,13 @@ module _ (file text : List ℕ) (read : LinesRead) (Has : ParsedLines → List R
 abbrev behind : SceneConfig → LinesBefore
 behind config = record { config = config; is_begun = true }
 
-abbrev Said : Type 0
-Said = Result ParsedLine LineFault
-
 -- it says no configuration
-abbrev SaysNone : Said → Type 0
+abbrev SaysNone : Result ParsedLine LineFault → Type 0
 SaysNone (Ok (ConfigLine c)) = ⊥
 SaysNone other = Unit {0}
 
 -- the same of what its fields say, wherever they end
-abbrev Read : Type 0
-Read = Result (ParsedLine × Place) LineFault
-
-abbrev ReadsNone : Read → Type 0
+abbrev ReadsNone : Result (ParsedLine × Place) LineFault → Type 0
 ReadsNone r = SaysNone (value_of r)
 
 by_event : (r : Result (SceneEvent × Place) LineFault) → ReadsNone (goes_on (λ e. says (EventLine e)) r)
@@ -247,7 +241,7 @@ by_line config number noted (word ∷ fields) =
 reads_none_behind : (config : SceneConfig) (noted : Option Noted) (t : List ℕ) → ReadsNone (line_from noted (behind config) t)
 unfolding line_from
 reads_none_behind config noted t =
-    let words : Read = line_words (behind config) (line_place noted t) in
+    let words = line_words (behind config) (line_place noted t) in
     cond_both (is_passed_over t) (says NoEvent (line_place noted t)) (if is_utf8 t then words else Err NotUtf8) ReadsNone (λ passed. tt)
     (λ told. cond_both (is_utf8 t) words (Err NotUtf8) ReadsNone (λ good. by_line config 0 noted (split_on 9 t)) (λ bad. tt))
 
@@ -255,7 +249,7 @@ made_none : (r : Result SceneEvent LineFault) → SaysNone (event_line r)
 made_none (Ok x) = tt
 made_none (Err f) = tt
 
-with_none_made : (make : List PlacedOutput → SceneEvent → Result SceneEvent LineFault) (r : Read) → ReadsNone r → SaysNone (with_made make (result_map_both (λ x. (x.0, noted_outputs x.1.noted)) (λ f. f) r))
+with_none_made : (make : List PlacedOutput → SceneEvent → Result SceneEvent LineFault) (r : Result (ParsedLine × Place) LineFault) → ReadsNone r → SaysNone (with_made make (result_map_both (λ x. (x.0, noted_outputs x.1.noted)) (λ f. f) r))
 with_none_made make (Ok (NoEvent, p)) none = tt
 with_none_made make (Ok (ConfigLine c, p)) none = none
 with_none_made make (Ok (EventLine e, p)) none = made_none (make (noted_outputs p.noted) e)
@@ -280,7 +274,7 @@ record ReadsOne (before after : ParsedLines) (t : RunLine) : Type 0 where
 abbrev Does : ParsedLines → ParsedLines → RunLine → Type 0
 Does before after t = ((after.events ≡ before.events) × (is_begun before.events ≡ true → after.config ≡ before.config)) ⊎ ReadsOne before after t
 
-with_cases : (before after : ParsedLines) (t : RunLine) (r : Said) → line_value (lines_before before) t ≡ r → (is_begun before.events ≡ true → SaysNone r) → lines_with before r ≡ Ok after → Does before after t
+with_cases : (before after : ParsedLines) (t : RunLine) (r : Result ParsedLine LineFault) → line_value (lines_before before) t ≡ r → (is_begun before.events ≡ true → SaysNone r) → lines_with before r ≡ Ok after → Does before after t
 with_cases before after t (Ok (EventLine e)) says none h = (let same : with_line before (EventLine e) ≡ after = cc in inr (rw (← same) (record { event = e; says = says; events = refl; config = refl })))
 with_cases before after t (Ok (ConfigLine c)) says none h = (let same : with_line before (ConfigLine c) ≡ after = cc in inl (rw (← same) (refl, λ begun. absurd (none begun))))
 with_cases before after t (Ok NoEvent) says none h = (let same : before ≡ after = cc in inl (rw (← same) (refl, λ begun. refl)))

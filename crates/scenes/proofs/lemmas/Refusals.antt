@@ -23,7 +23,7 @@ use Rattle.run_model.specs.declared.call.ReportCall.TheVariants as call
 use Rattle.scene_events.specs.SceneAttempts.{script_status}
 use Rattle.scene_events.specs.Scenes.{SaysSame, may_be_refused, nothing_counted, elapsed_in}
 use Rattle.scene_events.specs.declared.scene.event.SceneEvent.TheVariants as scene
-use Rattle.std.proofs.lemmas.Bool.{not-false, or_parts}
+use Rattle.std.proofs.lemmas.Bool.{or_parts}
 use Rattle.reporter_state.specs.KeptTests.{lent}
 use Rattle.run_names.specs.declared.name.TestInstanceId.{TestInstanceId}
 use Rattle.scene_events.specs.declared.scene.unit_events.SceneTest.{SceneTest}
@@ -87,14 +87,12 @@ zip_after (e ∷ es) fs [] h = absurd h
 zip_after (e ∷ es) fs (c ∷ calls) h = zip_after es fs calls h.1
 
 -- of output that is there nothing is lacking
-none_lacking : (is_needed : Bool) (output : Written) → has_loaded_output output ≡ true → lacking is_needed output ≡ None
+none_lacking : (is_needed : Bool) (output : Written) → not (has_loaded_output output) ≡ false → lacking is_needed output ≡ None
 none_lacking true output there = rw there refl
 none_lacking false output there = refl
 
 attempt_lacks_none : (is_needed : Bool) (attempt : Attempt) → (is_success attempt.result || not (has_loaded_output attempt.output)) ≡ false → lacking_attempt is_needed attempt ≡ None
-attempt_lacks_none is_needed attempt h =
-    let both = or_parts (is_success attempt.result) (not (has_loaded_output attempt.output)) h in
-    rw both.0 (none_lacking is_needed attempt.output (not-false _ both.1))
+attempt_lacks_none is_needed attempt h = let both = or_parts (is_success attempt.result) _ h in rw both.0 (none_lacking is_needed attempt.output both.1)
 
 -- a test as a call names it
 abbrev named : SceneTest → TestInstanceId
@@ -118,7 +116,7 @@ judged_unmade d (scene.SetupScriptStarted e) off = judged_by d _ (kind.SetupScri
 judged_unmade d (scene.SetupScriptSlow e) off = judged_by d _ (kind.SetupScriptSlow e.stress_index e.script.script_id e.script.program e.script.args e.elapsed e.will_terminate) (refl, (refl, refl, refl), refl, refl) refl
 judged_unmade d (scene.SetupScriptFinished e) off =
     judged_by d _ (kind.SetupScriptFinished e.stress_index e.script.script_id e.script.program e.script.args (script_status e.attempt)) (refl, (refl, refl, refl), refl)
-    (none_lacking (loads_script e.attempt.result) e.attempt.output (not-false _ off))
+    (none_lacking (loads_script e.attempt.result) e.attempt.output off)
 judged_unmade d (scene.TestStarted e) off = judged_by d _ (kind.TestStarted e.test.stress_index (named e.test) e.current_stats e.command_line) (refl, (refl, refl), refl, refl) refl
 judged_unmade d (scene.TestSlow e) off = judged_by d _ (kind.TestSlow e.test.stress_index (named e.test) e.retry_data e.elapsed e.will_terminate) (refl, (refl, refl), refl, refl, refl) refl
 judged_unmade d (scene.TestAttemptFailedWillRetry e) off =
@@ -127,7 +125,7 @@ judged_unmade d (scene.TestAttemptFailedWillRetry e) off =
 judged_unmade d (scene.TestRetryStarted e) off = judged_by d _ (kind.TestRetryStarted e.test.stress_index (named e.test) e.retry_data e.command_line) (refl, (refl, refl), refl, refl) refl
 judged_unmade d (scene.TestFinished e) off =
     judged_by d _ (kind.TestFinished e.test.stress_index (named e.test) e.success_output e.failure_output e.attempts e.current_stats) (refl, (refl, refl), refl, refl, refl, refl)
-    (none_lacking (loads_finish d e.success_output e.failure_output (summary_of e.attempts)) e.attempts.last.output (not-false _ off))
+    (none_lacking (loads_finish d e.success_output e.failure_output (summary_of e.attempts)) e.attempts.last.output off)
 judged_unmade d (scene.TestSkipped e) off = judged_by d _ (kind.TestSkipped e.stress_index (named e)) (refl, (refl, refl)) refl
 judged_unmade d (scene.RunBeginCancel e) off = judged_by d _ (kind.RunBeginCancel e.setup_scripts_running (nothing_counted e.reason) e.running) (refl, refl, refl) refl
 judged_unmade d (scene.RunBeginKill e) off = judged_by d _ (kind.RunBeginKill e.setup_scripts_running (nothing_counted e.reason) e.running) (refl, refl, refl) refl
@@ -137,11 +135,11 @@ judged_unmade d (scene.InfoStarted e) off = judged_by d _ (kind.InfoStarted e.ru
 judged_unmade d (scene.ScriptAnswered e) off =
     judged_by d _
     (kind.InfoResponse e.index e.total (response.SetupScript (record { stress_index = e.stress_index; script_id = e.script.script_id; program = e.script.program; args = e.script.args; state = e.answer.state; output = e.answer.output })))
-    (refl, refl, refl, (refl, refl, refl), refl, refl) (none_lacking (has_valid_output e.answer.state) e.answer.output (not-false _ off))
+    (refl, refl, refl, (refl, refl, refl), refl, refl) (none_lacking (has_valid_output e.answer.state) e.answer.output off)
 judged_unmade d (scene.TestAnswered e) off =
     judged_by d _
     (kind.InfoResponse e.index e.total (response.Test (record { stress_index = e.test.stress_index; test_instance = named e.test; retry_data = e.retry_data; state = e.answer.state; output = e.answer.output })))
-    (refl, refl, refl, (refl, refl), refl, refl, refl) (none_lacking (has_valid_output e.answer.state) e.answer.output (not-false _ off))
+    (refl, refl, refl, (refl, refl), refl, refl, refl) (none_lacking (has_valid_output e.answer.state) e.answer.output off)
 judged_unmade d (scene.InfoFinished e) off = judged_by d _ (kind.InfoFinished e) refl refl
 judged_unmade d (scene.InputEnter e) off = judged_by d _ (kind.InputEnter e.current_stats e.running) (refl, refl) refl
 judged_unmade d (scene.StressSubRunFinished e) off = judged_by d _ (kind.StressSubRunFinished e.progress e.sub_elapsed e.sub_stats) (refl, refl, refl) refl

@@ -45,20 +45,12 @@ returns-in-Err-clause-err g c = λ total all known.
     (ap (λ refused. (g.W.Write.contents refused.0, g.S.Write.contents refused.1)) (sym c.in-Err.ensures.err))
     (nothing_stops device device c.args.options.now all _ (Appends-nil _) (Appends-nil _) _ OutOfMemory refl)
 
-pub returns-in-Unused-clause-ok : goal.returns-in-Unused-clause-ok
-returns-in-Unused-clause-ok g c = λ total all known. (alone g (goal.at.returns-in-Unused-clause-ok g c).After-into_inner-writer total all known).0
+pub returns-in-Unused : goal.returns-in-Unused
+returns-in-Unused g c =
+    let ends = alone g (goal.at.returns-in-Unused g c).After-into_inner-writer in
+    record { ok = λ total all known. (ends total all known).0; rest = λ total all known. (ends total all known).1; err = λ total all known. (ends total all known).2; no_store = search rules }
 
-pub returns-in-Unused-clause-rest : goal.returns-in-Unused-clause-rest
-returns-in-Unused-clause-rest g c = λ total all known. (alone g (goal.at.returns-in-Unused-clause-rest g c).After-into_inner-writer total all known).1
-
-pub returns-in-Unused-clause-err : goal.returns-in-Unused-clause-err
-returns-in-Unused-clause-err g c = λ total all known. (alone g (goal.at.returns-in-Unused-clause-err g c).After-into_inner-writer total all known).2
-
-pub returns-in-Some-clause-ok : goal.returns-in-Some-clause-ok
-returns-in-Some-clause-ok g c = λ total all known. (both g (goal.at.returns-in-Some-clause-ok g c).After-into_inner-store_writer total all known).0
-
-pub returns-in-Some-clause-rest : goal.returns-in-Some-clause-rest
-returns-in-Some-clause-rest g c = λ total all known. (both g (goal.at.returns-in-Some-clause-rest g c).After-into_inner-store_writer total all known).1
-
-pub returns-in-Some-clause-err : goal.returns-in-Some-clause-err
-returns-in-Some-clause-err g c = λ total all known. (both g (goal.at.returns-in-Some-clause-err g c).After-into_inner-store_writer total all known).2
+pub returns-in-Some : goal.returns-in-Some
+returns-in-Some g c =
+    let ends = both g (goal.at.returns-in-Some g c).After-into_inner-store_writer in
+    record { ok = λ total all known. (ends total all known).0; rest = λ total all known. (ends total all known).1; err = λ total all known. (ends total all known).2; no_store = search rules }

@@ -40,14 +40,8 @@ both g c =
     (both_begun options g.W.Write.contents g.S.Write.contents c.in-Ok.devices.0 made.result.1.now store.result c.in-Some.store out.1 empty run) made.result.0
     (subst (λ y. Reported (buffer_meaning g.W.Write.contents) (store_meaning (buffer_meaning g.S.Write.contents)) options (c.in-Ok.devices.0, Some store.result) (made.result.1.now, y) run made.result.0) c.in-Some.is made.ensures.ends))
 
-pub returns-in-Unused-clause-ok : goal.returns-in-Unused-clause-ok
-returns-in-Unused-clause-ok g c = rw (← c.judged.view_is) ((alone g (goal.at.returns-in-Unused-clause-ok g c).After-into_inner-writer).0)
+pub returns-in-Unused : goal.returns-in-Unused
+returns-in-Unused g c = let ends = alone g (goal.at.returns-in-Unused g c).After-into_inner-writer in rw (← c.judged.view_is) (record { ok = ends.0; err = ends.1; no_store = search rules })
 
-pub returns-in-Unused-clause-err : goal.returns-in-Unused-clause-err
-returns-in-Unused-clause-err g c = rw (← c.judged.view_is) ((alone g (goal.at.returns-in-Unused-clause-err g c).After-into_inner-writer).1)
-
-pub returns-in-Some-clause-ok : goal.returns-in-Some-clause-ok
-returns-in-Some-clause-ok g c = rw (← c.judged.view_is) ((both g (goal.at.returns-in-Some-clause-ok g c).After-into_inner-store_writer).0)
-
-pub returns-in-Some-clause-err : goal.returns-in-Some-clause-err
-returns-in-Some-clause-err g c = rw (← c.judged.view_is) ((both g (goal.at.returns-in-Some-clause-err g c).After-into_inner-store_writer).1)
+pub returns-in-Some : goal.returns-in-Some
+returns-in-Some g c = let ends = both g (goal.at.returns-in-Some g c).After-into_inner-store_writer in rw (← c.judged.view_is) (record { ok = ends.0; err = ends.1; no_store = search rules })
