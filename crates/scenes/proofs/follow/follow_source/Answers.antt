@@ -1,5 +1,5 @@
-use Rattle.std.proofs.Common.{◌∙◌, [], ℕ, List, Some, ap, refl, rules, subst, sym}
-use Rattle.scenes.proofs.Common.{Appends-nil, Begins, buffer_meaning, device, Followed, no_lines, OutOfMemory, Prints, RunLine, StopsBy, store_meaning}
+use Rattle.std.proofs.Common.{◌∙◌, [], ℕ, List, Some, ap, refl, rules, subst}
+use Rattle.scenes.proofs.Common.{Appends-nil, buffer_meaning, device, Followed, no_lines, OutOfMemory, RunLine, store_meaning}
 use Rattle.scenes.proofs.lemmas.Devices.{alone_begun, alone_whole, begun_here, both_begun, both_whole, same_there, whole_here}
 use Rattle.scenes.proofs.lemmas.FollowedRuns.{followed_so, nothing_stops}
 use Rattle.scenes.proofs.lemmas.Prints.{calls_so, moved, pair}
@@ -41,9 +41,7 @@ both g c total all known =
 
 pub returns-in-Err-clause-err : goal.returns-in-Err-clause-err
 returns-in-Err-clause-err g c = λ total all known.
-    moved (λ old new. StopsBy c.args.options.now all (Prints device device c.args.options.now old new) (Begins device device c.args.options.now old new) OutOfMemory) refl
-    (ap (λ refused. (g.W.Write.contents refused.0, g.S.Write.contents refused.1)) (sym c.in-Err.ensures.err))
-    (nothing_stops device device c.args.options.now all _ (Appends-nil _) (Appends-nil _) _ OutOfMemory refl)
+    rw (ap (λ x. x.0) c.in-Err.ensures.err, ap (λ x. x.1) c.in-Err.ensures.err) (nothing_stops device device c.args.options.now all _ (Appends-nil _) (Appends-nil _) _ OutOfMemory refl)
 
 pub returns-in-Unused : goal.returns-in-Unused
 returns-in-Unused g c =

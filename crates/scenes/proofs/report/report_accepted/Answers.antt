@@ -1,7 +1,6 @@
 use Rattle.std.proofs.Common.{◌≡◌, ◌∙◌, Some, ap, rules, subst, ℕ, List, Option, refl}
 use Rattle.scenes.proofs.Common.{buffer_meaning, device, Reported, scene_lines, store_meaning, string_meaning}
-use Rattle.scenes.proofs.lemmas.Deferred.{delivered}
-use Rattle.scenes.proofs.lemmas.Devices.{both_begun, both_whole, same_there}
+use Rattle.scenes.proofs.lemmas.Devices.{both_begun, both_whole, delivered, same_there}
 use Rattle.scenes.proofs.lemmas.Prints.{moved, pair, reported_so}
 use Rattle.scenes.proofs.report.report_accepted.Given as given
 use Rattle.scenes.proofs.report.report_accepted.Goals as goal
