@@ -1,5 +1,5 @@
 -- What two writers have of a report that stopped, and of a longer one (for `SceneReporter::report_events`, `report_to`, `follow_to`).
-use Rattle.std.proofs.Common.{◌≡◌, ℕ, true, List, [], ◌∷◌, ◌++◌, reverse, refl, sym, ap, ap₂, ◌∙◌, subst, append-nil, append_assoc, ◌⊎◌, None, Result, Ok, Err, inl, inr}
+use Rattle.std.proofs.Common.{◌≡◌, ℕ, true, List, [], ◌∷◌, ◌++◌, reverse, refl, sym, ap, ◌∙◌, subst, append-nil, append_assoc, ◌⊎◌, None, Result, Ok, Err, inl, inr}
 use Rattle.scenes.proofs.Common.{AllZip, AreWhole, Begins, configuration_for, decider_for, Failed, Fault, fault_at_call, first_refused, HasBeginning, HasFirstCalls, Io, is_some, IsCallOf, Meaning, OfCalls, Options, OutOfMemory, OutputNotLoaded, ParsedLines, Prints, PrintsFollowed, Records, report, ReportCall, Reported, RetriedSuccess, reverse-append, RunOutcome, SceneConfig, SceneEvent, Stops, store_for, stored, stored_text, StoreFailed, StoreIo, Text, text, WriteEventError, WriteFailed, WriterLaws}
 use Rattle.plain_text.specs.declared.write_str.WriteFault.TheVariants.{Device, Memory as RefusedMemory}
 use Rattle.console_reporter.specs.Outcomes.{HasFront, Side, error_for}
@@ -24,11 +24,8 @@ pub write_no_store : WriteFailed ≡ StoreFailed → ⊥
 write_no_store is = cc
 
 -- what holds of two pairs of writers holds of the same ones
-pub moved : {W T : Type 0} (P : W × T → W × T → Type 0) {old old' new new' : W × T} → old ≡ old' → new ≡ new' → P old new → P old' new'
-moved P {old} {old'} {new} {new'} d e h = subst (λ a. P a new') d (subst (λ b. P old b) e h)
-
-pub pair : {W T : Type 0} {a b : W} {c d : T} → a ≡ b → c ≡ d → ◌≡◌ {A = W × T} (a, c) (b, d)
-pair e f = ap₂ (λ x y. (x, y)) e f
+pub moved : {W T : Type 0} (P : W × T → W × T → Type 0) {a a' c c' : W} {b b' d d' : T} → a ≡ a' → b ≡ b' → c ≡ c' → d ≡ d' → P (a, b) (c, d) → P (a', b') (c', d')
+moved P e f g h held = rw (← e, ← f, ← g, ← h) held
 
 -- what follows from what holds of calls holds of them
 pub calls_so : {options : Options} {run : ParsedLines} {P Q : List ReportCall → Type 0} → ((calls : List ReportCall) → P calls → Q calls) → OfCalls options run P → OfCalls options run Q

@@ -100,18 +100,10 @@ module _ (file : List ℕ) (all front : List RunLine) (before : ParsedLines) (ol
         further (λ run. AreLeftOf remaining) (λ run. AreLeftOf after) has leaves.front (leaves.rest ++ here.0) (here.1 ∙ ap (λ ls. ls ++ here.0) leaves.whole ∙ append_assoc leaves.front leaves.rest here.0) leaves.reads (Err fault)
         (inr (f, is, next_fault new.next (lines_after before.events (parsed_lines new.run)) leaves.rest here.0 f (leaves.wrong before.events has.begun)))
 
-  -- no line more was read
-  module _ (Has Next : ParsedLines → List RunLine → Type 0) (has : HasReadLines file all front before old (Ok true) Has) (same : new ≡ old) where
-    still : (more : Result Bool Fault) → IsMore file more (lines_after before.events (parsed_lines new.run)) has.left new.next Next → HasReadLines file all front before new more Next
-    still more more_is = further Has Next has [] has.left refl (subst (λ r. ReadsLines old r []) (sym same) (reads_none old)) more more_is
-
-    -- there is none
-    pub none_left : ((run : ParsedLines) (left : List RunLine) → Has run left → AreLeft left [] × Next run []) → HasReadLines file all front before new (Ok false) Next
-    none_left none = still (Ok false) (none _ has.left (subst (λ r. Has (lines_after before.events (parsed_lines r.run)) has.left) (sym same) has.more_is))
-
-    -- or it could not be read
-    pub unread : (fault : Fault) → IsUnread file fault → HasReadLines file all front before new (Err fault) Next
-    unread fault is = still (Err fault) (inl is)
+-- no line is left to be read
+pub none_left : (file : List ℕ) (all front : List RunLine) (before : ParsedLines) (old : LinesRead) (Has Next : ParsedLines → List RunLine → Type 0) (has : HasReadLines file all front before old (Ok true) Has) →
+    ((run : ParsedLines) (left : List RunLine) → Has run left → AreLeft left [] × Next run []) → HasReadLines file all front before old (Ok false) Next
+none_left file all front before old Has Next has none = further file all front before old old Has Next has [] has.left refl (reads_none old) (Ok false) (none _ has.left has.more_is)
 
 -- a line tells what it says
 pub line_reads : (run : ParsedLines) (t : RunLine) (s : ParsedLine) → line_value (lines_before run) t ≡ Ok s → line_read run t ≡ Ok (with_line run s)

@@ -15,7 +15,7 @@ use Rattle.std.specs.List.{position}
 use Rattle.scenes.specs.Outcomes.{run_outcome}
 use Rattle.scenes.specs.declared.outcome.RunOutcome.TheVariants as outcome
 use Rattle.scenes.specs.Reports.{IsReadyCall, ready_if, unloaded_for}
-use Rattle.scenes.proofs.lemmas.ReadyCalls.{more_ready, none_ready, outcome_ready, refusal_ready, report_ready, stored_ready}
+use Rattle.scenes.proofs.lemmas.ReadyCalls.{more_if, none_ready, outcome_if, refusal_if, report_ready, stored_ready}
 use Rattle.scenes.proofs.lemmas.Refusals.{fails_behind, none_mapped, none_more, first_of, refusal_of_call, told_refusal, zip_after}
 use Rattle.scenes.proofs.lemmas.Prints.{begins_longer, begins_no_more, call_stopped, is_stop, last_next, prints_only}
 
@@ -66,7 +66,7 @@ module _ {W S : Type 0} {m : Meaning W} {n : Meaning S} (laws : WriterLaws m) (o
     of_run = all_zipped_more IsCallOf run.events before e r.made follows.reported.of_run r.of_event
 
     past_is : reverse (unloaded_for options run.config calls) ≡ call ∷ past
-    past_is = ap reverse (more_ready options run.config before r.made) ∙ reverse-append (unloaded_for options run.config before) (ready_if options.unload_skipped (decider_for options run.config) r.made ∷ []) ∙ ap (λ c. c ∷ past) (sym r.ready)
+    past_is = ap reverse (more_if options.unload_skipped (decider_for options run.config) before r.made) ∙ reverse-append (unloaded_for options run.config before) (ready_if options.unload_skipped (decider_for options run.config) r.made ∷ []) ∙ ap (λ c. c ∷ past) (sym r.ready)
 
     text_is : report_of options run.config before ++ text config past call ≡ report_of options run.config calls
     text_is = ap (λ t. t ++ text config past call) (sym (report_ready options run.config before)) ∙ ap (report config) (sym past_is) ∙ report_ready options run.config calls
@@ -75,7 +75,7 @@ module _ {W S : Type 0} {m : Meaning W} {n : Meaning S} (laws : WriterLaws m) (o
     record_is = ap (λ t. t ++ stored_text config.store call) (sym (stored_ready options run.config before)) ∙ ap (stored config.store) (sym past_is) ∙ stored_ready options run.config calls
 
     refusal_is : refusal_by (decider_for options run.config) call ≡ refusal_by (decider_for options run.config) r.made
-    refusal_is = ap (refusal_by (decider_for options run.config)) r.ready ∙ refusal_ready options run.config r.made
+    refusal_is = ap (refusal_by (decider_for options run.config)) r.ready ∙ refusal_if options.unload_skipped (decider_for options run.config) r.made
 
     accepted : refusal_by (decider_for options run.config) call ≡ None → first_refused (decider_for options run.config) calls ≡ None
     accepted none = none_more (λ c. is_some (refusal_by (decider_for options run.config) c)) before r.made follows.reported.accepted (ap is_some (sym refusal_is ∙ none))
@@ -94,7 +94,7 @@ module _ {W S : Type 0} {m : Meaning W} {n : Meaning S} (laws : WriterLaws m) (o
             kept = subst (λ t. (store_meaning n).accepts start.reporter.store t next.reporter.store) record_is ((store-laws others).joins _ _ _ _ _ whole.kept (promises.ok.stored config past follows.stands));
             delivered = (delivered.writer, delivered.store);
           }),
-          outcome ∙ ap (outcome_after now.outcome) r.ready ∙ outcome_ready options run.config now.outcome r.made ∙ ap (λ o. outcome_after o r.made) follows.reported.holds.1 ∙ ap run_outcome (sym (reverse-append before (r.made ∷ []))),
+          outcome ∙ ap (outcome_after now.outcome) r.ready ∙ outcome_if options.unload_skipped (decider_for options run.config) now.outcome r.made ∙ ap (λ o. outcome_after o r.made) follows.reported.holds.1 ∙ ap run_outcome (sym (reverse-append before (r.made ∷ []))),
         );
       };
       stands = subst (λ cs. StandsAfter config cs next.reporter) (sym past_is) (promises.ok.stands config past follows.stands);

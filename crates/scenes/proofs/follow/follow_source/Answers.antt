@@ -2,7 +2,7 @@ use Rattle.std.proofs.Common.{◌∙◌, [], ℕ, List, Some, ap, refl, rules, s
 use Rattle.scenes.proofs.Common.{Appends-nil, buffer_meaning, device, Followed, no_lines, OutOfMemory, RunLine, store_meaning}
 use Rattle.scenes.proofs.lemmas.Devices.{alone_begun, alone_whole, begun_here, both_begun, both_whole, same_there, whole_here}
 use Rattle.scenes.proofs.lemmas.FollowedRuns.{followed_so, nothing_stops}
-use Rattle.scenes.proofs.lemmas.Prints.{calls_so, moved, pair}
+use Rattle.scenes.proofs.lemmas.Prints.{calls_so, moved}
 use Rattle.scenes.proofs.follow.follow_source.Given as given
 use Rattle.scenes.proofs.follow.follow_source.Goals as goal
 use Rattle.scenes.proofs.follow.follow_source.Goals.{After-into_inner-writer, After-into_inner-store_writer}
@@ -17,7 +17,7 @@ alone g c total all known =
     let out = c.in-Ok.ensures.ok in
     let unused = rw c.in-Unused.is at out.2 in
     let made = c.follow_to-lent in
-    moved (λ old new. Followed device device options all old new (λ run. g.L.RunSource.left total made.new.source run []) made.result.0) (pair (ap g.W.Write.contents out.0) (ap g.S.Write.contents unused.0)) (pair (ap g.W.Write.contents (search rules)) refl)
+    moved (λ old new. Followed device device options all old new (λ run. g.L.RunSource.left total made.new.source run []) made.result.0) (ap g.W.Write.contents out.0) (ap g.S.Write.contents unused.0) (ap g.W.Write.contents (search rules)) refl
     (followed_so options all _ (λ config calls h. alone_whole options unused.1 _ _ held config calls (whole_here g.W.Write.contents c.in-Ok.devices.0 made.result.1.now out.1 _ h.printed h.delivered.0))
     (λ run f. calls_so (λ calls h. alone_begun options unused.1 _ _ held run.config calls f h.0 (begun_here g.W.Write.contents c.in-Ok.devices.0 made.result.1.now out.1 _ _ h.1.begun))) made.result.0 (made.ensures.ends total all known))
 
@@ -34,7 +34,7 @@ both g c total all known =
     let names = same_there store.result c.in-Some.store made.result.2 c.in-Some.is made.ensures.same_store ∙ ap (λ s. s.writer.ghost_name) store.ensures in
     let empty = ap (λ s. s.writer.now.pending) store.ensures ∙ records.1 in
     moved (λ old new. Followed device device options all old new (λ run. g.L.RunSource.left total made.new.source run []) made.result.0)
-    (pair (ap g.W.Write.contents out.0) (ap g.S.Write.contents (ap (λ s. s.writer.now.writer) store.ensures ∙ records.0))) (pair (ap g.W.Write.contents (search rules)) (ap g.S.Write.contents (search rules)))
+    (ap g.W.Write.contents out.0) (ap g.S.Write.contents (ap (λ s. s.writer.now.writer) store.ensures ∙ records.0)) (ap g.W.Write.contents (search rules)) (ap g.S.Write.contents (search rules))
     (followed_so options all _ (both_whole options g.W.Write.contents g.S.Write.contents c.in-Ok.devices.0 made.result.1.now store.result c.in-Some.store out.1 empty)
     (both_begun options g.W.Write.contents g.S.Write.contents c.in-Ok.devices.0 made.result.1.now store.result c.in-Some.store out.1 empty) made.result.0
     (subst (λ y. Followed (buffer_meaning g.W.Write.contents) (store_meaning (buffer_meaning g.S.Write.contents)) options all (c.in-Ok.devices.0, Some store.result) (made.result.1.now, y) (λ run. g.L.RunSource.left total made.new.source run []) made.result.0) c.in-Some.is (made.ensures.ends total all known)))

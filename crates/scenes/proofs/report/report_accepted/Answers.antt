@@ -1,7 +1,7 @@
-use Rattle.std.proofs.Common.{◌≡◌, ◌∙◌, Some, ap, rules, subst, ℕ, List, Option, refl}
+use Rattle.std.proofs.Common.{◌≡◌, ◌∙◌, Some, ap, rules, subst, refl}
 use Rattle.scenes.proofs.Common.{buffer_meaning, device, Reported, scene_lines, store_meaning, string_meaning}
 use Rattle.scenes.proofs.lemmas.Devices.{both_begun, both_whole, delivered, same_there}
-use Rattle.scenes.proofs.lemmas.Prints.{moved, pair, reported_so}
+use Rattle.scenes.proofs.lemmas.Prints.{moved, reported_so}
 use Rattle.scenes.proofs.report.report_accepted.Given as given
 use Rattle.scenes.proofs.report.report_accepted.Goals as goal
 use Rattle.scenes.proofs.report.report_accepted.Goals.{After-into_inner-writer, After-into_inner-store_writer}
@@ -17,7 +17,7 @@ alone g c =
     let settled : c.deferred-in-Unused-1.given.0 ≡ made.result.1.now = search rules in
     let ends = rest.ensures in
     let after = rw settled at ends in
-    moved (λ old new. Reported device device c.judged.inside.options.now old new (scene_lines c.judged.inside.scene.now) rest.result) (pair (ap g.W.Write.contents out.0) (ap g.S.Write.contents unused.0)) (pair {T = Option (List ℕ)} (ap g.W.Write.contents (search rules)) refl)
+    moved (λ old new. Reported device device c.judged.inside.options.now old new (scene_lines c.judged.inside.scene.now) rest.result) (ap g.W.Write.contents out.0) (ap g.S.Write.contents unused.0) (ap g.W.Write.contents (search rules)) refl
     (delivered g.W.Write.contents (record { writer = c.in-Ok.devices.0 }) made.result.1.now rest.new.out string_meaning c.judged.inside.options.now unused.1 (scene_lines c.judged.inside.scene.now) out.1 (g.S.Write.contents c.in-Unused.store_writer)
     made.result.2 made.ensures.same_store made.result.0 rest.result made.ensures.ends after.ok after.err)
 
@@ -34,7 +34,7 @@ both g c =
     let names = same_there store.result c.in-Some.store made.result.2 c.in-Some.is made.ensures.same_store ∙ ap (λ s. s.writer.ghost_name) store.ensures in
     let empty = ap (λ s. s.writer.now.pending) store.ensures ∙ records.1 in
     moved (λ old new. Reported device device options old new run made.result.0)
-    (pair (ap g.W.Write.contents out.0) (ap g.S.Write.contents (ap (λ s. s.writer.now.writer) store.ensures ∙ records.0))) (pair (ap g.W.Write.contents (search rules)) (ap g.S.Write.contents (search rules)))
+    (ap g.W.Write.contents out.0) (ap g.S.Write.contents (ap (λ s. s.writer.now.writer) store.ensures ∙ records.0)) (ap g.W.Write.contents (search rules)) (ap g.S.Write.contents (search rules))
     (reported_so run (both_whole options g.W.Write.contents g.S.Write.contents c.in-Ok.devices.0 made.result.1.now store.result c.in-Some.store out.1 empty run.config)
     (both_begun options g.W.Write.contents g.S.Write.contents c.in-Ok.devices.0 made.result.1.now store.result c.in-Some.store out.1 empty run) made.result.0
     (subst (λ y. Reported (buffer_meaning g.W.Write.contents) (store_meaning (buffer_meaning g.S.Write.contents)) options (c.in-Ok.devices.0, Some store.result) (made.result.1.now, y) run made.result.0) c.in-Some.is made.ensures.ends))
