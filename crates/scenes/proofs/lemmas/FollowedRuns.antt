@@ -1,12 +1,12 @@
 -- What is read of lines that are followed is reported, or left (for `follow_lines`, `follow_to`, `follow_source`).
-use Rattle.std.proofs.Common.{◌≡◌, ℕ, ◌+◌, Bool, true, false, List, [], ◌∷◌, ◌++◌, Result, Ok, Err, length, get_or, refl, sym, ap, ◌∙◌, subst, arith, append_assoc, inl, inr, ◌⊎◌}
+use Rattle.std.proofs.Common.{◌≡◌, ℕ, ◌+◌, Bool, true, false, List, [], ◌∷◌, ◌++◌, Result, Ok, Err, length, get_or, refl, sym, ap, ◌∙◌, subst, append_assoc, inl, inr, ◌⊎◌}
 use Rattle.std.specs.Borrow.{Bor}
-use Rattle.scenes.proofs.Common.{all_append, AreWhole, AtLine, Begins, begun_behind, Followed, EventLine, Fault, fault_of_read, Follows, HasReadLines, is_begun, is_begun_behind, IsMore, IsNextFault, IsUnread, KeepsUp, length-append, Line, line_value, LineFault, lines_after, lines_before, lines_with, LinesRead, Meaning, no_lines, Options, OutOfMemory, parsed_lines, ParsedLine, ParsedLines, Prints, ReadFault, ReportCall, RunLine, RunOutcome, SceneConfig, SceneEvent, SceneReporter, StopsAtEvent, StopsBy, store-laws, store_meaning, with_line, WriterLaws, writers}
+use Rattle.scenes.proofs.Common.{AreWhole, AtLine, Begins, begun_behind, Followed, EventLine, Fault, fault_of_read, Follows, HasReadLines, is_begun, is_begun_behind, IsMore, IsNextFault, IsUnread, KeepsUp, Line, line_value, LineFault, lines_after, lines_before, lines_with, LinesRead, Meaning, no_lines, Options, OutOfMemory, parsed_lines, ParsedLine, ParsedLines, Prints, ReadFault, ReportCall, RunLine, RunOutcome, SceneConfig, SceneEvent, SceneReporter, StopsAtEvent, StopsBy, store-laws, store_meaning, with_line, WriterLaws, writers}
 use Rattle.command_line.specs.declared.fault.Fault.TheVariants.{CannotRead}
 use Rattle.scenes.specs.Follow.{IsWrongLine}
 use Rattle.scene_fields.specs.declared.fault.ReadFault.TheVariants as read
 use Rattle.scene_text.specs.SceneTexts.{line_read}
-use Rattle.scenes.proofs.lemmas.ReadLines.{config_kept, event_at, at_more, forgets, line_reads, spells}
+use Rattle.scenes.proofs.lemmas.ReadLines.{config_kept, at_behind, event_at, forgets, line_reads, spells}
 use Rattle.scenes.proofs.lemmas.Prints.{begins_no_more, calls_so, memory_no_device, memory_no_store, prints_only}
 use Rattle.scenes.proofs.lemmas.SceneReporters.{StopsAt}
 
@@ -60,7 +60,7 @@ module _ {W S : Type 0} {m : Meaning W} {n : Meaning S} (laws : WriterLaws m) (o
   one_stopped : (next : SceneReporter W S) (run : ParsedLines) (t : RunLine) (more : List RunLine) (number : ℕ) → AtLine all run (t ∷ more) number → (e : SceneEvent) → line_value (lines_before run) t ≡ Ok (EventLine e) →
       (f : Fault) → StopsAt m n options start next run number e f → Stops next f
   one_stopped next run t more number at e says f (inl begins) = stopped at (inr begins)
-  one_stopped next run t more number at e says f (inr (inl begins)) = stopped (at_more all run t more number (with_line run (EventLine e)) at (line_reads run t (EventLine e) says)) (inr begins)
+  one_stopped next run t more number at e says f (inr (inl begins)) = stopped (at_behind all run (t ∷ []) more number (with_line run (EventLine e)) at (with_line run (EventLine e), line_reads run t (EventLine e) says, refl)) (inr begins)
   one_stopped next run t more number at e says f (inr (inr refused)) = stopped at (inl (refused.0, inl (record { t = t; more = more; first = refl; f = refused.1.0; is = refused.1.1; wrong = inr (e, says, refused.1.2) })))
 
   -- nothing was reported yet
@@ -84,18 +84,11 @@ module _ {W S : Type 0} {m : Meaning W} {n : Meaning S} (laws : WriterLaws m) (o
     abbrev run : ParsedLines
     run = lines_after k.before.events (parsed_lines read.run)
 
-    here : AtLine all run k.has.left read.next
-    here =
-        let size = length-append k.front k.has.lines in
-        record {
-          front = k.front ++ k.has.lines;
-          whole = k.has.whole ∙ sym (append_assoc k.front k.has.lines k.has.left);
-          place = (let place = k.has.place in omega (arith, place, size));
-          tells = all_append no_lines k.front k.before k.has.lines run k.has.forgotten k.has.tells;
-        }
-
     behind : AtLine all k.before (k.has.lines ++ k.has.left) (length k.front + 1)
     behind = record { front = k.front; whole = k.has.whole; place = refl; tells = k.has.forgotten }
+
+    here : AtLine all run k.has.left read.next
+    here = subst (AtLine all run k.has.left) (sym k.has.place) (at_behind all k.before k.has.lines k.has.left _ run behind k.has.tells)
 
     -- an event of what was read was stopped
     pub stops_run : (next : SceneReporter W S) (f : Fault) → StopsAtEvent m n options start next read.run.config read.run.events.items read.run.lines.items k.before.events f → Stops next f

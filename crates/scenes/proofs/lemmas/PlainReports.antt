@@ -8,7 +8,7 @@ use Rattle.std.proofs.lemmas.Option.{slice_get_cases}
 use Rattle.std.specs.List.{position}
 use Rattle.std.specs.Option.{option_and_then, option_map_or}
 use Rattle.std.specs.Prelude.{slice_get}
-use Rattle.scenes.proofs.Common.{AllZip, Appends-nil, AreReadyCallsOf, AreWhole, Begins, buffer_meaning, BufferAccepts, common_steps, device, Prints, scene_lines, TextBuffer, IsCallOf, position_or_len, configuration_for, decider_for, false≢true, Fault, fault_at_call, first_refused, HasBeginning, HasFirstCalls, IsSceneRefused, is_some, Meaning, option_map, Options, OutOfMemory, OutputLoadDecider, Records, refusal_by, report, report_of, ReportCall, reverse-append, Scene, SceneConfig, Stops, store_for, stored, stored_of, stored_text, take_all, Text, text, unloaded_for, unread, WriteEventError, Io, StoreIo}
+use Rattle.scenes.proofs.Common.{AllZip, Appends-nil, AreReadyCallsOf, AreWhole, Begins, buffer_meaning, BufferAccepts, common_steps, device, Prints, scene_lines, TextBuffer, IsCallOf, position_or_len, configuration_for, decider_for, false≢true, Fault, fault_at_call, first_refused, HasBeginning, HasFirstCalls, IsSceneRefused, is_some, Meaning, option_map, Options, OutOfMemory, OutputLoadDecider, Records, refusal_by, report, report_of, ReportCall, reverse-append, Scene, SceneConfig, Stops, store_for, stored, stored_of, stored_text, take_all, Text, text, unloaded_for, unread, WriteEventError, Io, StoreIo, StoreFailed, WriteFailed}
 use Rattle.console_reporter.specs.Accepted.{refusal_at}
 use Rattle.console_reporter.specs.Configuration.{Configuration, configured_in}
 use Rattle.console_reporter.specs.Outcomes.Side.{Report}
@@ -21,7 +21,7 @@ use Rattle.store_text.specs.declared.config.StoreConfig.{StoreConfig}
 use Rattle.console_reporter.specs.declared.imp.builder.DisplayReporterBuilder.{DisplayReporterBuilder}
 use Rattle.scenes.specs.Judged.{fault_of_first}
 use Rattle.scenes.specs.Reports.{builder_for, surroundings_of}
-use Rattle.scenes.proofs.lemmas.Devices.{alone_begun, alone_whole, beginning_here, begun_here, whole_here}
+use Rattle.scenes.proofs.lemmas.Devices.{alone_begun, beginning_here, begun_here}
 use Rattle.scenes.specs.Prints.{AreBegun}
 use Rattle.scenes.proofs.lemmas.Prints.{Begun, call_stopped, front_of_more, HasText, is_stop, IsNext}
 use Rattle.scenes.proofs.lemmas.ReadyCalls.{report_ready, stored_ready}
@@ -78,9 +78,6 @@ module _ (options : Options) (config : SceneConfig) (calls : List ReportCall) (a
         ∙ none_of (refusal_by (decider_for options config) h.0) (fails_behind (λ c. is_some (refusal_by (decider_for options config) c)) (take i calls) h.0 (drop (suc i) calls) none)
     | inr h ↦ ap (option_and_then (refusal_by (decider_for options config))) h.1
   ]
-
-  unrefused : (given : Configuration) → given ≡ configuration_for options config → (e : WriteEventError) → refusal_at given calls i ≡ refusal_in e → refusal_in e ≡ None
-  unrefused given is e refused = sym refused ∙ ap (λ c. refusal_at c calls i) is ∙ none_refused
 
   in_report : IsNext (report_of options config) calls (report (configuration_for options config) (past_at calls i)) (text_at (configuration_for options config) calls i)
   in_report = next_at (report (configuration_for options config)) (text (configuration_for options config)) (λ call past. refl) calls i
@@ -211,45 +208,32 @@ untouched options config calls held = (
 pub configured_so : (options : Options) (config : SceneConfig) (store : Option StoreConfig) → store_for options ≡ store → (builder : DisplayReporterBuilder) → builder ≡ builder_for options config → configured_in builder (surroundings_of config) store ≡ configuration_for options config
 configured_so options config store asked builder is = ap₂ (λ b s. configured_in b (surroundings_of config) s) is (sym asked)
 
--- what devices have of a run over buffers
-module _ (options : Options) (config : SceneConfig) (calls : List ReportCall) (given : Configuration) (is : given ≡ configuration_for options config) {W : Type 0} (contents : W → Option (List ℕ)) (a b : TextBuffer W) (empty : a.pending ≡ []) where
-  -- of a report alone
-  pub alone_ends : store_for options ≡ None → BufferAccepts contents a (report given (reverse calls)) b → b.pending ≡ [] → (held : Option (List ℕ)) → AreWhole device device options (contents a.writer, held) (contents b.writer, held) config calls
-  alone_ends off accepted delivered held =
-      alone_whole options off (contents a.writer) (contents b.writer) held config calls (whole_here contents a b empty (report_of options config calls) (subst (λ c. BufferAccepts contents a (report c (reverse calls)) b) is accepted) delivered)
+-- what devices have of a run over buffers that an error stopped
+module _ (options : Options) (config : SceneConfig) (calls : List ReportCall) (all : first_refused (decider_for options config) calls ≡ None) (n i : ℕ) (e : WriteEventError)
+    (given : Configuration) (is : given ≡ configuration_for options config) (refused : refusal_at given calls i ≡ refusal_in e)
+    {W : Type 0} (contents : W → Option (List ℕ)) (a b : TextBuffer W) (empty : a.pending ≡ [])
+    (ran : (mid : TextBuffer W) × BufferAccepts contents a (report (configuration_for options config) (past_at calls i)) mid × Stops Report (buffer_meaning contents) mid (text_at (configuration_for options config) calls i) e b) where
+  no_refusal : refusal_in e ≡ None
+  no_refusal = sym refused ∙ ap (λ c. refusal_at c calls i) is ∙ none_refused options config calls all i
 
-  pub alone_stops : store_for options ≡ None → first_refused (decider_for options config) calls ≡ None → (n i : ℕ) (e : WriteEventError) → refusal_at given calls i ≡ refusal_in e → (e ≡ StoreIo → ⊥) →
-      (mid : TextBuffer W) × BufferAccepts contents a (report given (past_at calls i)) mid × Stops Report (buffer_meaning contents) mid (text_at given calls i) e b →
-      (held : Option (List ℕ)) → AreBegun device device options (contents a.writer, held) (contents b.writer, held) config (fault_at_call n e) calls
-  alone_stops off all n i e refused no_store ran held =
-      let there = subst (λ c. (mid : TextBuffer W) × BufferAccepts contents a (report c (past_at calls i)) mid × Stops Report (buffer_meaning contents) mid (text_at c calls i) e b) is ran in
-      let none = unrefused options config calls all i given is e refused in
-      let stopped = call_stopped (buffer_laws contents) Report (in_report options config calls all i) a there.0 b there.1 n e none (λ is. absurd (no_store is)) there.2 in
-      alone_begun options off (contents a.writer) (contents b.writer) held config calls (fault_at_call n e) (is_stop options n e none (λ is. absurd (no_store is))) (begun_here contents a b empty _ (report_of options config calls) stopped.begun)
+  printed : (e ≡ StoreIo → b.pending ≡ []) → HasBeginning (buffer_meaning contents) (report_of options config) (fault_at_call n e ≡ WriteFailed) (fault_at_call n e ≡ StoreFailed) calls a b
+  printed delivered = call_stopped (buffer_laws contents) Report (in_report options config calls all i) a ran.0 b ran.1 n e no_refusal delivered ran.2
+
+  -- of a report alone
+  pub alone_stops : store_for options ≡ None → (e ≡ StoreIo → ⊥) → (held : Option (List ℕ)) → AreBegun device device options (contents a.writer, held) (contents b.writer, held) config (fault_at_call n e) calls
+  alone_stops off no_store held =
+      alone_begun options off (contents a.writer) (contents b.writer) held config calls (fault_at_call n e) (is_stop options n e no_refusal (λ is. absurd (no_store is)))
+      (begun_here contents a b empty _ (report_of options config calls) (printed (λ is. absurd (no_store is))).begun)
 
   -- of a report and its records
-  module _ {S : Type 0} (stored_in : S → Option (List ℕ)) (c d : TextBuffer S) (none_stored : c.pending ≡ []) (store : StoreConfig) (asked : store_for options ≡ Some store) where
-    pub both_end : BufferAccepts contents a (report given (reverse calls)) b → b.pending ≡ [] → BufferAccepts stored_in c (stored (Some store) (reverse calls)) d → d.pending ≡ [] →
-        AreWhole device device options (contents a.writer, stored_in c.writer) (contents b.writer, stored_in d.writer) config calls
-    both_end accepted delivered kept kept_delivered = record {
-      printed = whole_here contents a b empty (report_of options config calls) (subst (λ g. BufferAccepts contents a (report g (reverse calls)) b) is accepted) delivered;
-      kept = whole_here stored_in c d none_stored (stored_of options calls) (subst (λ s. BufferAccepts stored_in c (stored s (reverse calls)) d) (sym asked) kept) kept_delivered;
-      delivered = (tt, tt);
-    }
-
-    pub both_stop : first_refused (decider_for options config) calls ≡ None → (n i : ℕ) (e : WriteEventError) → refusal_at given calls i ≡ refusal_in e →
-        (mid : TextBuffer W) × BufferAccepts contents a (report given (past_at calls i)) mid × Stops Report (buffer_meaning contents) mid (text_at given calls i) e b →
-        (mid : TextBuffer S) × BufferAccepts stored_in c (stored (Some store) (past_at calls i)) mid × Stops Records (buffer_meaning stored_in) mid (stored_at (Some store) calls i) e d →
-        (e ≡ StoreIo → b.pending ≡ []) → (e ≡ Io → d.pending ≡ []) →
-        AreBegun device device options (contents a.writer, stored_in c.writer) (contents b.writer, stored_in d.writer) config (fault_at_call n e) calls
-    both_stop all n i e refused ran kept text_delivered records_delivered =
-        let there = subst (λ g. (mid : TextBuffer W) × BufferAccepts contents a (report g (past_at calls i)) mid × Stops Report (buffer_meaning contents) mid (text_at g calls i) e b) is ran in
-        let behind = subst (λ s. (mid : TextBuffer S) × BufferAccepts stored_in c (stored s (past_at calls i)) mid × Stops Records (buffer_meaning stored_in) mid (stored_at s calls i) e d) (sym asked) kept in
-        let none = unrefused options config calls all i given is e refused in (
-          is_stop options n e none (λ is. ap is_some asked),
-          beginning_here contents a b empty (report_of options config) _ _ calls (call_stopped (buffer_laws contents) Report (in_report options config calls all i) a there.0 b there.1 n e none text_delivered there.2),
-          beginning_here stored_in c d none_stored (stored_of options) _ _ calls (call_stopped (buffer_laws stored_in) Records (in_records options config calls all i) c behind.0 d behind.1 n e none records_delivered behind.2),
-        )
+  pub both_stop : is_some (store_for options) ≡ true → {S : Type 0} (stored_in : S → Option (List ℕ)) (c d : TextBuffer S) → c.pending ≡ [] →
+      (mid : TextBuffer S) × BufferAccepts stored_in c (stored (store_for options) (past_at calls i)) mid × Stops Records (buffer_meaning stored_in) mid (stored_at (store_for options) calls i) e d →
+      (e ≡ StoreIo → b.pending ≡ []) → (e ≡ Io → d.pending ≡ []) → AreBegun device device options (contents a.writer, stored_in c.writer) (contents b.writer, stored_in d.writer) config (fault_at_call n e) calls
+  both_stop asked stored_in c d none kept text_delivered records_delivered = (
+    is_stop options n e no_refusal (λ is. asked),
+    beginning_here contents a b empty (report_of options config) _ _ calls (printed text_delivered),
+    beginning_here stored_in c d none (stored_of options) _ _ calls (call_stopped (buffer_laws stored_in) Records (in_records options config calls all i) c kept.0 d kept.1 n e no_refusal records_delivered kept.2),
+  )
 
 -- the report of the calls of a scene is that of the scene
 module _ (options : Options) (scene : Scene) (calls : List ReportCall) (ready : AreReadyCallsOf options scene calls) (accepted : first_refused (decider_for options scene.config) calls ≡ None) (old new : Option (List ℕ) × Option (List ℕ)) where

@@ -110,13 +110,13 @@ pub line_reads : (run : ParsedLines) (t : RunLine) (s : ParsedLine) → line_val
 unfolding line_read
 line_reads run t s h = rw h refl
 
--- the place behind a line that tells
-pub at_more : (all : List RunLine) (run : ParsedLines) (t : RunLine) (lines : List RunLine) (number : ℕ) (after : ParsedLines) → AtLine all run (t ∷ lines) number → line_read run t ≡ Ok after → AtLine all after lines (number + 1)
-at_more all run t lines number after at parsed_lines = record {
-  front = at.front ++ t ∷ [];
-  whole = at.whole ∙ sym (append_assoc at.front (t ∷ []) lines);
-  place = omega (arith, at.place, length-append at.front (t ∷ []));
-  tells = all_append no_lines at.front run (t ∷ []) after at.tells (after, parsed_lines, refl);
+-- the place behind lines that tell
+pub at_behind : (all : List RunLine) (run : ParsedLines) (lines left : List RunLine) (number : ℕ) (after : ParsedLines) → AtLine all run (lines ++ left) number → AllRead run lines after → AtLine all after left (number + length lines)
+at_behind all run lines left number after at tells = record {
+  front = at.front ++ lines;
+  whole = at.whole ∙ sym (append_assoc at.front lines left);
+  place = omega (arith, at.place, length-append at.front lines);
+  tells = all_append no_lines at.front run lines after at.tells tells;
 }
 
 -- the events that were read are forgotten
@@ -345,7 +345,7 @@ module _ (all left : List RunLine) (after : ParsedLines) (events : List SceneEve
   pub event_at : (n : ℕ) (before : ParsedLines) (lines : List RunLine) → AtLine all before (lines ++ left) n → AllRead before lines after → (front : List SceneEvent) → events ≡ before.events ++ front → get_or (event_lines n before lines) (length front) 0 ≡ number → Found
   event_at n before [] at h front here numbered = absurd (omega (arith, ap length (ap (λ x. x.events) h ∙ is), ap length here, length-append before.events front, length-append events (e ∷ rest)))
   event_at n before (t ∷ ts) at h front here numbered =
-      let next_at = at_more all before t (ts ++ left) n h.0 at h.1 in
+      let next_at = at_behind all before (t ∷ []) (ts ++ left) n h.0 at (h.0, h.1, refl) in
       elim (cases before h.0 t h.1) [
         | inl same ↦ event_at (n + 1) h.0 ts next_at h.2 front (here ∙ ap (λ es. es ++ front) (sym same.0)) (sym (ap (λ ls. get_or ls (length front) 0) (notes_none n before h.0 t ts h.1 same.0)) ∙ numbered)
         | inr one ↦

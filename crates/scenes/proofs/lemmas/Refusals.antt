@@ -16,9 +16,6 @@ use Rattle.run_model.specs.Outputs.{has_loaded_output}
 use Rattle.run_model.specs.Statuses.{is_success, summary_of}
 use Rattle.run_model.specs.declared.event.TestEventKind.TheVariants as kind
 use Rattle.run_model.specs.declared.info.InfoResponse.TheVariants as response
-use Rattle.run_model.specs.declared.output.ChildOutputDescription.{ChildOutputDescription}
-use Rattle.run_model.specs.declared.output.LiveSpec.{LiveSpec}
-use Rattle.run_model.specs.declared.status.SetupScriptExecuteStatus.{SetupScriptExecuteStatus}
 use Rattle.run_model.specs.declared.call.ReportCall.TheVariants as call
 use Rattle.scene_events.specs.SceneAttempts.{script_status}
 use Rattle.scene_events.specs.Scenes.{SaysSame, may_be_refused, nothing_counted, elapsed_in}
@@ -36,12 +33,9 @@ lacking is_needed output =
 abbrev pub lacking_attempt : Bool → Attempt → Option WriteEventError
 lacking_attempt is_needed attempt = if is_success attempt.result then Some RetriedSuccess else lacking is_needed attempt.output
 
-abbrev pub lacking_script : SetupScriptExecuteStatus LiveSpec ChildOutputDescription → Option WriteEventError
-lacking_script status = lacking (loads_script status.result) status.output
-
 -- why each call of an event is refused
 abbrev pub told_refusal : OutputLoadDecider → SceneEvent → Option WriteEventError
-told_refusal d (scene.SetupScriptFinished e) = lacking_script (script_status e.attempt)
+told_refusal d (scene.SetupScriptFinished e) = lacking (loads_script e.attempt.result) e.attempt.output
 told_refusal d (scene.TestAttemptFailedWillRetry e) = lacking_attempt (loads_attempt d e.failure_output) e.attempt
 told_refusal d (scene.TestFinished e) = lacking (loads_finish d e.success_output e.failure_output (summary_of e.attempts)) e.attempts.last.output
 told_refusal d (scene.ScriptAnswered e) = lacking (has_valid_output e.answer.state) e.answer.output
@@ -49,7 +43,7 @@ told_refusal d (scene.TestAnswered e) = lacking (has_valid_output e.answer.state
 told_refusal d other = None
 
 refusal_told : (d : OutputLoadDecider) (event : SceneEvent) (k : TestEventKind) → SaysSame event k → event_refusal d k ≡ told_refusal d event
-refusal_told d (scene.SetupScriptFinished e) (kind.SetupScriptFinished stress id program args status) h = ap lacking_script h.2
+refusal_told d (scene.SetupScriptFinished e) (kind.SetupScriptFinished stress id program args status) h = ap (λ s. lacking (loads_script s.result) s.output) h.2
 refusal_told d (scene.TestAttemptFailedWillRetry e) (kind.TestAttemptFailedWillRetry stress test status delay failure) h =
     ap₂ (λ display attempt. lacking_attempt (loads_attempt d display) attempt) h.4 h.2
 refusal_told d (scene.TestFinished e) (kind.TestFinished stress test success failure statuses stats) h = rw (h.2, h.3, h.4) refl
