@@ -66,8 +66,8 @@ pub first_of : (d : OutputLoadDecider) (es : List SceneEvent) (calls : List Repo
 first_of d es calls h = ap₂ (λ (n long : ℕ). cond (nat_lt n long) (Some n) None) (first_told d es calls h) (AllZip-long IsCallOf es calls h)
 
 -- one more element of each of two lists
-pub AllZip-more : {A B : Type 0} (R : A → B → Type 0) (xs : List A) (ys : List B) (i : ℕ) (x : A) (y : B) → i < length xs → x ≡ get_or xs i x → AllZip R (take i xs) ys → R x y → AllZip R (take (i + 1) xs) (ys ++ y ∷ [])
-AllZip-more R xs ys i x y l e h r = rw (take_more xs i x l, ← e) (all_zipped_more R (take i xs) ys x y h r)
+pub zipped_more : {A B : Type 0} (R : A → B → Type 0) (xs : List A) (ys : List B) (i : ℕ) (x : A) (y : B) → i < length xs → x ≡ get_or xs i x → AllZip R (take i xs) ys → R x y → AllZip R (take (i + 1) xs) (ys ++ y ∷ [])
+zipped_more R xs ys i x y l e h r = rw (take_more xs i x l, ← e) (all_zipped_more R (take i xs) ys x y h r)
 
 -- the calls of the first events and those of the others
 pub zip_both : (es fs : List SceneEvent) (calls more : List ReportCall) → AllZip IsCallOf es calls → AllZip IsCallOf fs more → AllZip IsCallOf (es ++ fs) (calls ++ more)
@@ -228,6 +228,6 @@ module _ (options : Options) (scene : Scene) where
       let long : length now.calls ≡ i = AllZip-long IsCallOf (take i scene.events.items) now.calls now.of_first ∙ grind (arith, common_steps, within) in
       record {
         calls = now.calls ++ j.call ∷ [];
-        of_first = AllZip-more IsCallOf scene.events.items now.calls i e j.call within is now.of_first j.of_event;
+        of_first = zipped_more IsCallOf scene.events.items now.calls i e j.call within is now.of_first j.of_event;
         first = first_more now.calls j.call refused fault now.first (j.is ∙ ap (λ k. option_map (fault_at_call k) (refusal_by (decider_for options scene.config) j.call)) (line ∙ ap (λ k. get_or scene.lines.items k 0) (sym long)));
       }
