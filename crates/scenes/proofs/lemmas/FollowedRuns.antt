@@ -6,7 +6,7 @@ use Rattle.command_line.specs.declared.fault.Fault.TheVariants.{CannotRead}
 use Rattle.scenes.specs.Follow.{IsWrongLine}
 use Rattle.scene_fields.specs.declared.fault.ReadFault.TheVariants as read
 use Rattle.scene_text.specs.SceneTexts.{line_read}
-use Rattle.scenes.proofs.lemmas.ReadLines.{config_kept, at_behind, event_at, forgets, line_reads, spells}
+use Rattle.scenes.proofs.lemmas.ReadLines.{config_kept, at_behind, event_at, forgets, spells}
 use Rattle.scenes.proofs.lemmas.Prints.{begins_no_more, calls_so, memory_no_device, memory_no_store, prints_only}
 use Rattle.scenes.proofs.lemmas.SceneReporters.{StopsAt}
 
@@ -59,8 +59,9 @@ module _ {W S : Type 0} {m : Meaning W} {n : Meaning S} (laws : WriterLaws m) (o
   -- the event of the next line was stopped
   one_stopped : (next : SceneReporter W S) (run : ParsedLines) (t : RunLine) (more : List RunLine) (number : ℕ) → AtLine all run (t ∷ more) number → (e : SceneEvent) → line_value (lines_before run) t ≡ Ok (EventLine e) →
       (f : Fault) → StopsAt m n options start next run number e f → Stops next f
+  unfolding line_read
   one_stopped next run t more number at e says f (inl begins) = stopped at (inr begins)
-  one_stopped next run t more number at e says f (inr (inl begins)) = stopped (at_behind all run (t ∷ []) more number (with_line run (EventLine e)) at (with_line run (EventLine e), line_reads run t (EventLine e) says, refl)) (inr begins)
+  one_stopped next run t more number at e says f (inr (inl begins)) = stopped (at_behind all run (t ∷ []) more number (with_line run (EventLine e)) at (with_line run (EventLine e), rw says refl, refl)) (inr begins)
   one_stopped next run t more number at e says f (inr (inr refused)) = stopped at (inl (refused.0, inl (record { t = t; more = more; first = refl; f = refused.1.0; is = refused.1.1; wrong = inr (e, says, refused.1.2) })))
 
   -- nothing was reported yet

@@ -105,11 +105,6 @@ pub none_left : (file : List ℕ) (all front : List RunLine) (before : ParsedLin
     ((run : ParsedLines) (left : List RunLine) → Has run left → AreLeft left [] × Next run []) → HasReadLines file all front before old (Ok false) Next
 none_left file all front before old Has Next has none = further file all front before old old Has Next has [] has.left refl (reads_none old) (Ok false) (none _ has.left has.more_is)
 
--- a line tells what it says
-pub line_reads : (run : ParsedLines) (t : RunLine) (s : ParsedLine) → line_value (lines_before run) t ≡ Ok s → line_read run t ≡ Ok (with_line run s)
-unfolding line_read
-line_reads run t s h = rw h refl
-
 -- the place behind lines that tell
 pub at_behind : (all : List RunLine) (run : ParsedLines) (lines left : List RunLine) (number : ℕ) (after : ParsedLines) → AtLine all run (lines ++ left) number → AllRead run lines after → AtLine all after left (number + length lines)
 at_behind all run lines left number after at tells = record {
