@@ -52,6 +52,7 @@ pub record IsNext (texts : List ReportCall → Text) (calls : List ReportCall) (
   pub up_to : HasText texts calls (had ++ more)
   pub whole : IsFront (had ++ more) (texts calls)
 
+-- the last call is the next behind the others
 pub last_next : (texts : List ReportCall → Text) (calls : List ReportCall) (call : ReportCall) (more : Text) → texts calls ++ more ≡ texts (calls ++ call ∷ []) → IsNext texts (calls ++ call ∷ []) (texts calls) more
 last_next texts calls call more is = record {
   before = record { first = calls; rest = call ∷ []; is = refl; has = refl };
@@ -80,7 +81,7 @@ module _ {S : Type 0} {m : Meaning S} (laws : WriterLaws m) (texts : List Report
     whole = λ other. let w = h.whole other in record { first = w.first; rest = w.rest ++ more; is = ap (λ cs. cs ++ more) w.is ∙ append_assoc w.first w.rest more; accepted = w.accepted; delivered = w.delivered };
   }
 
-  -- It had the texts of the first of some calls, and then, of the text of the next,
+  -- It had the texts of the first of some calls, and of the text of the next it has this.
   module _ (calls : List ReportCall) (had more : Text) (is : IsNext texts calls had more) (a b c : S) (before : m.accepts a had b) where
     begins_next : Begun m OfOwn a (had ++ more) c → (OfOther → HasFirstCalls m texts calls a c) → HasBeginning m texts OfOwn OfOther calls a c
     begins_next begun whole = record { begun = subst (λ t. Begun m OfOwn a t c) (sym is.whole.is) (begun_longer a c (had ++ more) is.whole.rest begun); whole = whole }
@@ -90,13 +91,14 @@ module _ {S : Type 0} {m : Meaning S} (laws : WriterLaws m) (texts : List Report
         begins_next (inr (inr (record { front = t; rest = u; whole = whole; accepted = accepted })))
         (λ other. record { first = f.first; rest = f.rest; is = f.is; accepted = subst (λ x. m.accepts a x c) (sym f.has) accepted; delivered = delivered other })
 
-    -- a beginning of that, where memory was refused
+    -- a beginning, where memory was refused
     refused_call : (OfOther → ⊥) → (m.stops b more RefusedMemory c ⊎ HasFront m b more c) → HasBeginning m texts OfOwn OfOther calls a c
     refused_call other (inl stops) = begins_next (inr (inl (laws.goes_on a b c had more _ before stops))) (λ is. absurd (other is))
     refused_call other (inr f) =
         begins_next (inr (inr (record { front = had ++ f.front; rest = f.rest; whole = ap (λ t. had ++ t) f.whole ∙ sym (append_assoc had f.front f.rest); accepted = laws.joins a b c had f.front before f.accepted })))
         (λ is. absurd (other is))
 
+-- the side of the other writer
 abbrev pub other : Side → Side
 other Report = Records
 other Records = Report

@@ -1,6 +1,6 @@
 -- All calls of one event are refused alike, and some need not be made to judge it; and the first event of a scene that is refused (for
 -- `check_refusal`, `check_refusals`, `report_events`, `report_to`).
-use Rattle.std.proofs.Common.{◌≡◌, ℕ, ◌+◌, ◌<◌, ◌≤◌, List, [], ◌∷◌, ◌++◌, Bool, Option, false, length, take, arith, get_or, refl, sym, ap, subst, ◌∙◌, ◌⊎◌, None, Some, append_assoc, inl, inr, not, if◌then◌else◌, ap₂, true, ◌||◌, rules}
+use Rattle.std.proofs.Common.{◌≡◌, ℕ, ◌+◌, ◌<◌, ◌≤◌, List, [], ◌∷◌, ◌++◌, Bool, Option, false, length, take, arith, get_or, refl, sym, ap, subst, ◌∙◌, ◌⊎◌, None, Some, append_assoc, inl, inr, not, if◌then◌else◌, ap₂, true, rules}
 use Rattle.scenes.proofs.Common.{AllZip, cases_Bool, ChecksEvent, common_steps, decider_for, Event, Fault, fault_at_call, first_refused, Header, is_some, IsCallOf, IsSceneRefused, length-append, Line, LineFault, option_map, Options, position_or_len, Prefix, refusal_by, Refuses, ReportCall, Scene, SceneConfig, SceneEvent, take_all, WriteEventError, all_zipped_more, cond, false≢true, nat_lt, OutputLoadDecider, OutputNotLoaded, RetriedSuccess, take_more, TestEventKind}
 use Rattle.std.specs.Option.{option_or, option_map_or}
 use Rattle.std.specs.List.{position}
@@ -85,9 +85,6 @@ none_lacking : (is_needed : Bool) (output : Written) → not (has_loaded_output 
 none_lacking true output there = rw there refl
 none_lacking false output there = refl
 
-attempt_lacks_none : (is_needed : Bool) (attempt : Attempt) → (is_success attempt.result || not (has_loaded_output attempt.output)) ≡ false → lacking_attempt is_needed attempt ≡ None
-attempt_lacks_none is_needed attempt h = let both = or_parts (is_success attempt.result) _ h in rw both.0 (none_lacking is_needed attempt.output both.1)
-
 -- a test as a call names it
 abbrev named : SceneTest → TestInstanceId
 named t = record { binary_id = lent t.binary_id; test_name = lent t.test_name }
@@ -115,7 +112,7 @@ judged_unmade d (scene.TestStarted e) off = judged_by d _ (kind.TestStarted e.te
 judged_unmade d (scene.TestSlow e) off = judged_by d _ (kind.TestSlow e.test.stress_index (named e.test) e.retry_data e.elapsed e.will_terminate) (refl, (refl, refl), refl, refl, refl) refl
 judged_unmade d (scene.TestAttemptFailedWillRetry e) off =
     judged_by d _ (kind.TestAttemptFailedWillRetry e.test.stress_index (named e.test) e.attempt e.delay_before_next_attempt e.failure_output) (refl, (refl, refl), refl, refl, refl)
-    (attempt_lacks_none (loads_attempt d e.failure_output) e.attempt off)
+    (let both = or_parts (is_success e.attempt.result) _ off in rw both.0 (none_lacking (loads_attempt d e.failure_output) e.attempt.output both.1))
 judged_unmade d (scene.TestRetryStarted e) off = judged_by d _ (kind.TestRetryStarted e.test.stress_index (named e.test) e.retry_data e.command_line) (refl, (refl, refl), refl, refl) refl
 judged_unmade d (scene.TestFinished e) off =
     judged_by d _ (kind.TestFinished e.test.stress_index (named e.test) e.success_output e.failure_output e.attempts e.current_stats) (refl, (refl, refl), refl, refl, refl, refl)
