@@ -2,7 +2,7 @@ use Rattle.std.proofs.Common.{◌<◌, ◌≤◌, [], ◌∷◌, ◌∙◌, leng
 use Rattle.std.proofs.lemmas.Str.{IsCharBoundary-start, IsCharBoundary-after_ascii}
 use Rattle.scene_fields.specs.Split.{split_on, Lacks, field_texts}
 use Rattle.scene_fields.proofs.lemmas.Cuts.{byte_at, split_on-lacks, split_on-parts, Lacks-from_each, cut_at}
-use Rattle.scene_fields.proofs.lemmas.Marks.{all_left, fewer_left, inside, next_left, none_left}
+use Rattle.scene_fields.proofs.lemmas.Marks.{fewer_left, inside, next_left}
 use Rattle.std.proofs.lemmas.List.{get_or-drop, drop-drop, map-append}
 use Rattle.memchr.specs.Find.{is_byte, Nowhere, NoneBefore, Passes}
 use Rattle.std.specs.Borrow.{Bor}
@@ -56,13 +56,6 @@ loop-from-init c = record {
   fields = rw c.clear.ensures.items refl;
 }
 
-pub loop-tabs-init : goal.loop-tabs-init
-loop-tabs-init c =
-    let so_far = c.loop-from.invariant in
-    let bits = rw c.as_bytes-bytes.ensures.value at c.marks_from-tabs.ensures in
-    let within : c.loop-from.from < length c.args.line.now = omega (arith, ap length c.as_bytes-bytes.ensures.value) in
-    record { near = so_far.near; high = omega arith; boundary = so_far.boundary; left = all_left _ _ _ _ _ within so_far.seen bits; fields = so_far.fields }
-
 pub range-requires-clause-end_boundary : goal.range-requires-clause-end_boundary
 range-requires-clause-end_boundary c =
     let tab = next_left _ _ _ _ _ _ c.loop-tabs.invariant.left _ c.loop-tabs-test.true c.first_place-place.ensures.first c.loop-tabs.invariant.near in
@@ -82,11 +75,6 @@ loop-tabs-preserved c =
       left = fewer_left _ _ _ _ _ _ so_far.left _ c.loop-tabs-test.true first 1 _ (omega (arith, tab.0.high)) c.shift_past-tabs.ensures.behind;
       fields = rw c.in_ok-push.ensures.items (one_more _ _ _ _ _ so_far.fields (rw c.range.ensures.value (ap (split_on 9) cut.1 ∙ split_on-parts 9 _ _ cut.0)));
     }
-
-pub loop-from-preserved : goal.loop-from-preserved
-loop-from-preserved c =
-    let so_far = c.loop-tabs.invariant in
-    record { near = omega (arith, so_far.near, so_far.high); boundary = so_far.boundary; seen = λ k low high p. none_left _ _ _ _ _ _ so_far.left c.loop-tabs-test.false k low (omega arith) p; fields = so_far.fields }
 
 pub returns : goal.returns
 returns c =
