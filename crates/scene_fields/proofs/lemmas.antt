@@ -1,14 +1,9 @@
 pub mod Cuts
 pub mod Marks
-pub mod Moves
-pub mod NonZero
 pub mod Numbers
-pub mod Pairs
 pub mod ReferenceMarks
 pub mod ReferenceRows
 pub mod ShortNumbers
-pub mod Tabs
 pub mod Unescaped
 pub mod UsualStats
 pub mod Utf8
-pub mod WordLists

@@ -20,6 +20,7 @@ use std::mem;
 pub const LARGE: usize = 65_536;
 
 /// Splits a line into its fields, which tabs separate. They take the place of what the list held.
+#[tactic(auto, using(crate::proofs::lemmas::Marks::all_left, crate::proofs::lemmas::Marks::none_left))]
 pub fn split_fields<'a>(line: &'a str, fields: &mut Vec<&'a str>) -> Result<(), OutOfMemory>
     ensures { OnOk result (field_texts fields.new.items ≡ split_on 9 line.now) }
 {

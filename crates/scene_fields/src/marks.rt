@@ -44,6 +44,7 @@ pub fn load_block(bytes: &[u8], from: usize) -> u8x32
 /// Where the first of these bytes stands, in bytes from 0. It is for names, of which most have no such byte, and for the front of a text: it
 /// looks at 32 bytes at once, and a call of memchr costs more than that.
 #[inline(always)]
+#[tactic(auto, using(crate::proofs::lemmas::Marks::all_left, crate::proofs::lemmas::Marks::none_left))]
 pub fn find_byte(byte: u8, bytes: &[u8]) -> Option<usize>
     requires { byte ≢ 0 }
     ensures { IsFirstByte (is_byte byte) bytes.now result }

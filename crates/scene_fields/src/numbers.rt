@@ -40,6 +40,7 @@ fn parse_count(text: &str) -> Option<usize>
 
 // The number that at most nineteen digits write.
 #[inline]
+#[tactic(auto, using(crate::proofs::lemmas::ShortNumbers::not_whole))]
 fn short_number(text: &[u8]) -> Option<u64>
     ensures { SomeIff result (IsNumeral 10 text.now × (length text.now ≤ 19)) (digits_value 10 text.now) }
 {

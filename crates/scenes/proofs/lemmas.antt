@@ -1,4 +1,3 @@
-pub mod Deferred
 pub mod Devices
 pub mod FollowedRuns
 pub mod PlainReports

@@ -118,6 +118,7 @@ pub fn accept_scene<'a>(
 
 // Checks the events of a scene: the first whose call its reporter would refuse is the fault of its line. Those after it are checked too,
 // so that a fault is that of a scene that has all its calls.
+#[tactic(auto, using(crate::proofs::lemmas::Refusals::all_judged, crate::proofs::lemmas::Refusals::judged_more))]
 fn check_refusals(alloc: Global, options: &Options<'_>, scene: &Scene) -> Result<(), Fault<'static>>
     ensures ok { OnOk result (IsSceneAccepted options.now scene.now) }
     ensures err { IfErr result (IsSceneRefused options.now scene.now) }

@@ -54,6 +54,7 @@ impl Scene {
 }
 
 // The calls of events, in order, with what they say of output.
+#[tactic(auto, using(crate::proofs::lemmas::Refusals::zipped_more))]
 fn whole_calls<'a>(
     alloc: Global,
     events: &'a [event::SceneEvent],

@@ -1,5 +1,5 @@
 -- The places of a byte as the bits of a mask (for `load_block`, `find_byte`, `marks_from`, `plain_len`, `split_fields`).
-use Rattle.std.proofs.Common.{◌≡◌, ◌≢◌, ℕ, zero, suc, ◌+◌, ◌-◌, ◌*◌, ◌/◌, ◌^◌, ◌<◌, ◌≤◌, ◌==◌, ◌++◌, ◌∙◌, List, [], ◌∷◌, Bool, true, false, not, cond, length, get_or, drop, take, min, map, replicate, refl, ap, sym, arith, inl, inr, w64}
+use Rattle.std.proofs.Common.{◌≡◌, ◌≢◌, ℕ, zero, suc, ◌+◌, ◌-◌, ◌*◌, ◌/◌, ◌^◌, ◌<◌, ◌≤◌, ◌==◌, ◌++◌, ◌∙◌, List, [], ◌∷◌, Bool, false, not, cond, length, get_or, drop, take, min, map, replicate, refl, ap, sym, arith, inl, inr, w64}
 use native.Mathlib.Nat.{div-one, div-div-eq-div-mul, mul_comm, pow-suc, zero-div}
 use Rattle.std.specs.Int.{trailing_zeros}
 use Rattle.std.specs.List.{prefix_len}
@@ -34,8 +34,7 @@ module _ (b : ℕ) (t : List ℕ) (from : ℕ) (within : from ≤ length t) wher
   marks-block n some = marks-padded b n (take 32 (drop from t)) some ∙ ap (marks b) cut_off
 
 half : (m : Bool) (n : ℕ) → (cond m 1 0 + 2 * n) / 2 ≡ n
-half true n = omega arith
-half false n = omega arith
+half m n = grind arith
 
 -- a mask without its first bits
 later : (ms : List Bool) (s : ℕ) → mask_l ms / 2 ^ s ≡ mask_l (drop s ms)

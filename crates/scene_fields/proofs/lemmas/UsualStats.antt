@@ -6,7 +6,6 @@ use Rattle.std.specs.Char.{digit_value}
 use Rattle.std.specs.Option.{option_map}
 use Rattle.std.specs.Str.Parse.{AllDigits, digits_value}
 use Rattle.std.proofs.lemmas.Int.Digits.{digits_value-lt}
-use Rattle.std.proofs.lemmas.Bool.{cases_Bool}
 use Rattle.std.proofs.lemmas.Bool.Decides.{nat_tests}
 use Rattle.std.proofs.lemmas.List.{append-nil, take-append-le}
 use Rattle.run_model.specs.Stats.{planned_stats}
@@ -49,10 +48,7 @@ get_or-replicate zero (suc n) = refl
 get_or-replicate (suc k) (suc n) = get_or-replicate k n
 
 no_digit : (b c : ℕ) → digit_value b ≡ 36 → digit_value c < 10 → (c == b) ≡ false
-no_digit b c not h = elim (cases_Bool (c == b)) [
-  | inl e ↦ (let same : c ≡ b = grind (arith, nat_tests, e) in absurd (omega (arith, ap digit_value same)))
-  | inr e ↦ e
-]
+no_digit b c not h = grind (arith, nat_tests, not, h)
 
 digits_lack : (b : ℕ) (ds : List ℕ) → digit_value b ≡ 36 → AllDigits 10 ds → Lacks b ds
 digits_lack b [] not h = tt

@@ -1,11 +1,12 @@
 -- What is read of lines that are followed is reported, or left (for `follow_lines`, `follow_to`, `follow_source`).
-use Rattle.std.proofs.Common.{◌≡◌, ℕ, ◌+◌, Bool, true, false, List, [], ◌∷◌, ◌++◌, Result, Ok, Err, length, get_or, refl, sym, ap, ◌∙◌, subst, arith, append_assoc, inl, inr}
+use Rattle.std.proofs.Common.{◌≡◌, ℕ, ◌+◌, Bool, true, false, List, [], ◌∷◌, ◌++◌, Result, Ok, Err, length, get_or, refl, sym, ap, ◌∙◌, subst, append_assoc, inl, inr, ◌⊎◌}
 use Rattle.std.specs.Borrow.{Bor}
-use Rattle.scenes.proofs.Common.{all_append, AreWhole, AtLine, Begins, begun_behind, Followed, EventLine, Fault, fault_of_read, Follows, HasReadLines, is_begun, is_begun_behind, IsMore, IsNextFault, IsUnread, KeepsUp, length-append, Line, line_value, LineFault, lines_after, lines_before, lines_with, LinesRead, Meaning, no_lines, Options, OutOfMemory, parsed_lines, ParsedLine, ParsedLines, Prints, ReadFault, ReportCall, RunLine, RunOutcome, SceneConfig, SceneEvent, SceneReporter, StopsAtEvent, StopsBy, store-laws, store_meaning, with_line, WriterLaws, writers}
+use Rattle.scenes.proofs.Common.{AreWhole, AtLine, Begins, begun_behind, Followed, EventLine, Fault, fault_of_read, Follows, HasReadLines, is_begun, is_begun_behind, IsMore, IsNextFault, IsUnread, KeepsUp, Line, line_value, LineFault, lines_after, lines_before, lines_with, LinesRead, Meaning, no_lines, Options, OutOfMemory, parsed_lines, ParsedLine, ParsedLines, Prints, ReadFault, ReportCall, RunLine, RunOutcome, SceneConfig, SceneEvent, SceneReporter, StopsAtEvent, StopsBy, store-laws, store_meaning, with_line, WriterLaws, writers}
 use Rattle.command_line.specs.declared.fault.Fault.TheVariants.{CannotRead}
+use Rattle.scenes.specs.Follow.{IsWrongLine}
 use Rattle.scene_fields.specs.declared.fault.ReadFault.TheVariants as read
 use Rattle.scene_text.specs.SceneTexts.{line_read}
-use Rattle.scenes.proofs.lemmas.ReadLines.{config_kept, event_at, at_more, forgets, line_reads, spells}
+use Rattle.scenes.proofs.lemmas.ReadLines.{config_kept, at_behind, event_at, forgets, spells}
 use Rattle.scenes.proofs.lemmas.Prints.{begins_no_more, calls_so, memory_no_device, memory_no_store, prints_only}
 use Rattle.scenes.proofs.lemmas.SceneReporters.{StopsAt}
 
@@ -17,22 +18,21 @@ wrong_said : (run : ParsedLines) (t : RunLine) (f : LineFault) → line_read run
 unfolding line_read
 wrong_said run t f h = wrong_with run f (line_value (lines_before run) t) h
 
+-- a fault stops lines behind those that tell this run
+stopped : {options : Options} {all : List RunLine} {P : ParsedLines → Type 0} {Q : ParsedLines → Fault → Type 0} {f : Fault} {run : ParsedLines} {lines : List RunLine} {number : ℕ} → AtLine all run lines number →
+    (P run × (IsWrongLine options run lines number f ⊎ ((file : Bor (List ℕ)) × (f ≡ CannotRead file)))) ⊎ Q run f → StopsBy options all P Q f
+stopped {run = run} {lines = lines} {number = number} at holds = record { run = run; lines = lines; number = number; at = at; holds = holds }
+
 -- what was read so far holds, and nothing more could be read behind it
 module _ (options : Options) (all : List RunLine) (P : ParsedLines → Type 0) (Q : ParsedLines → Fault → Type 0) (run : ParsedLines) (holds : P run) (refused : Q run OutOfMemory) (left : List RunLine) (number : ℕ) (at : AtLine all run left number) where
   left_unread : (file : List ℕ) (f : Fault) → IsUnread file f → StopsBy options all P Q f
-  left_unread file (CannotRead name) h = record { run = run; lines = left; number = number; at = at; holds = inl (holds, inr (name, refl)) }
-  left_unread file OutOfMemory h = record { run = run; lines = left; number = number; at = at; holds = inr refused }
+  left_unread file (CannotRead name) h = stopped at (inl (holds, inr (name, refl)))
+  left_unread file OutOfMemory h = stopped at (inr refused)
   left_unread file other h = absurd h
 
   left_wrong : (f : ReadFault) → IsNextFault number run left f → StopsBy options all P Q (fault_of_read f)
-  left_wrong (read.Line j f) h = record {
-    run = run;
-    lines = left;
-    number = number;
-    at = at;
-    holds = inl (holds, inl (record { t = h.1.0; more = h.1.1; first = h.1.2; f = f; is = ap (λ n. Line n f) h.0; wrong = inl (wrong_said run h.1.0 f h.1.3) }));
-  }
-  left_wrong read.OutOfMemory h = record { run = run; lines = left; number = number; at = at; holds = inr refused }
+  left_wrong (read.Line j f) h = stopped at (inl (holds, inl (record { t = h.1.0; more = h.1.1; first = h.1.2; f = f; is = ap (λ n. Line n f) h.0; wrong = inl (wrong_said run h.1.0 f h.1.3) })))
+  left_wrong read.OutOfMemory h = stopped at (inr refused)
 
   nothing_more : (file : List ℕ) (f : Fault) (Has : ParsedLines → List RunLine → Type 0) → IsMore file (Err f) run left number Has → StopsBy options all P Q f
   nothing_more file f Has (inl h) = left_unread file f h
@@ -41,22 +41,16 @@ module _ (options : Options) (all : List RunLine) (P : ParsedLines → Type 0) (
 -- memory was refused before anything was written
 pub nothing_stops : {W T : Type 0} (m : Meaning W) (k : Meaning T) (options : Options) (all : List RunLine) (held : W × T) → m.accepts held.0 [] held.0 → k.accepts held.1 [] held.1 → (P : ParsedLines → Type 0) (f : Fault) → f ≡ OutOfMemory →
     StopsBy options all P (Begins m k options held held) f
-nothing_stops m k options all held nothing also P f is = rw is (record {
-  run = no_lines;
-  lines = all;
-  number = 1;
-  at = record { front = []; whole = refl; place = refl; tells = refl };
-  holds = inr (record {
-    calls = [];
-    of_run = tt;
-    accepted = refl;
-    holds = (
-      inr (inl refl),
-      record { begun = inr (inr (record { front = []; rest = _; whole = refl; accepted = nothing })); whole = λ is. absurd (memory_no_store is) },
-      record { begun = inr (inr (record { front = []; rest = _; whole = refl; accepted = also })); whole = λ is. absurd (memory_no_device is) },
-    );
-  });
-})
+nothing_stops m k options all held nothing also P f is = rw is (stopped {run = no_lines} {lines = all} {number = 1} (record { front = []; whole = refl; place = refl; tells = refl }) (inr (record {
+  calls = [];
+  of_run = tt;
+  accepted = refl;
+  holds = (
+    inr (inl refl),
+    record { begun = inr (inr (record { front = []; rest = _; whole = refl; accepted = nothing })); whole = λ is. absurd (memory_no_store is) },
+    record { begun = inr (inr (record { front = []; rest = _; whole = refl; accepted = also })); whole = λ is. absurd (memory_no_device is) },
+  );
+})))
 
 module _ {W S : Type 0} {m : Meaning W} {n : Meaning S} (laws : WriterLaws m) (others : WriterLaws n) (options : Options) (all : List RunLine) (start : SceneReporter W S) where
   abbrev Stops : SceneReporter W S → Fault → Type 0
@@ -65,21 +59,10 @@ module _ {W S : Type 0} {m : Meaning W} {n : Meaning S} (laws : WriterLaws m) (o
   -- the event of the next line was stopped
   one_stopped : (next : SceneReporter W S) (run : ParsedLines) (t : RunLine) (more : List RunLine) (number : ℕ) → AtLine all run (t ∷ more) number → (e : SceneEvent) → line_value (lines_before run) t ≡ Ok (EventLine e) →
       (f : Fault) → StopsAt m n options start next run number e f → Stops next f
-  one_stopped next run t more number at e says f (inl begins) = record { run = run; lines = t ∷ more; number = number; at = at; holds = inr begins }
-  one_stopped next run t more number at e says f (inr (inl begins)) = record {
-    run = with_line run (EventLine e);
-    lines = more;
-    number = number + 1;
-    at = at_more all run t more number (with_line run (EventLine e)) at (line_reads run t (EventLine e) says);
-    holds = inr begins;
-  }
-  one_stopped next run t more number at e says f (inr (inr refused)) = record {
-    run = run;
-    lines = t ∷ more;
-    number = number;
-    at = at;
-    holds = inl (refused.0, inl (record { t = t; more = more; first = refl; f = refused.1.0; is = refused.1.1; wrong = inr (e, says, refused.1.2) }));
-  }
+  unfolding line_read
+  one_stopped next run t more number at e says f (inl begins) = stopped at (inr begins)
+  one_stopped next run t more number at e says f (inr (inl begins)) = stopped (at_behind all run (t ∷ []) more number (with_line run (EventLine e)) at (with_line run (EventLine e), rw says refl, refl)) (inr begins)
+  one_stopped next run t more number at e says f (inr (inr refused)) = stopped at (inl (refused.0, inl (record { t = t; more = more; first = refl; f = refused.1.0; is = refused.1.1; wrong = inr (e, says, refused.1.2) })))
 
   -- nothing was reported yet
   pub keeps_up : (read : LinesRead) (more : Result Bool Fault) (Has : ParsedLines → List RunLine → Type 0) → HasReadLines options.file.now all [] no_lines read more Has → (more ≡ Ok true → is_begun read.run.events.items ≡ true) →
@@ -102,18 +85,11 @@ module _ {W S : Type 0} {m : Meaning W} {n : Meaning S} (laws : WriterLaws m) (o
     abbrev run : ParsedLines
     run = lines_after k.before.events (parsed_lines read.run)
 
-    here : AtLine all run k.has.left read.next
-    here =
-        let size = length-append k.front k.has.lines in
-        record {
-          front = k.front ++ k.has.lines;
-          whole = k.has.whole ∙ sym (append_assoc k.front k.has.lines k.has.left);
-          place = (let place = k.has.place in omega (arith, place, size));
-          tells = all_append no_lines k.front k.before k.has.lines run k.has.forgotten k.has.tells;
-        }
-
     behind : AtLine all k.before (k.has.lines ++ k.has.left) (length k.front + 1)
     behind = record { front = k.front; whole = k.has.whole; place = refl; tells = k.has.forgotten }
+
+    here : AtLine all run k.has.left read.next
+    here = subst (AtLine all run k.has.left) (sym k.has.place) (at_behind all k.before k.has.lines k.has.left _ run behind k.has.tells)
 
     -- an event of what was read was stopped
     pub stops_run : (next : SceneReporter W S) (f : Fault) → StopsAtEvent m n options start next read.run.config read.run.events.items read.run.lines.items k.before.events f → Stops next f
@@ -125,13 +101,7 @@ module _ {W S : Type 0} {m : Meaning W} {n : Meaning S} (laws : WriterLaws m) (o
 
     -- there are lines that no number counts
     pub reported_uncounted : (file : Bor (List ℕ)) → Stops now (CannotRead file)
-    reported_uncounted file = record {
-      run = k.before;
-      lines = k.has.lines ++ k.has.left;
-      number = length k.front + 1;
-      at = behind;
-      holds = inl (k.printed, inr (file, refl));
-    }
+    reported_uncounted file = stopped behind (inl (k.printed, inr (file, refl)))
 
     -- all that was read was reported
     module _ (next : SceneReporter W S) (reported : Follows m n options start next (record { config = read.run.config; events = k.before.events ++ read.run.events.items })) where
@@ -175,17 +145,4 @@ pub followed_so : {W T W' T' : Type 0} {m : Meaning W} {k : Meaning T} {m' : Mea
     (r : Result RunOutcome Fault) → Followed m k options all old new IsDone r → Followed m' k' options all old' new' IsDone r
 followed_so options all IsDone whole begun (Ok come_to) h = (record { run = h.0.run; spelled = h.0.spelled; holds = calls_so (λ calls p. (whole h.0.run.config calls p.0, p.1)) h.0.holds }, h.1, tt)
 followed_so options all IsDone whole begun (Err f) h =
-    let s = h.2 in (
-      tt,
-      tt,
-      record {
-        run = s.run;
-        lines = s.lines;
-        number = s.number;
-        at = s.at;
-        holds = elim s.holds [
-          | inl p ↦ inl (calls_so (whole s.run.config) p.0, p.1)
-          | inr q ↦ inr (begun s.run f q)
-        ];
-      },
-    )
+    (tt, tt, stopped h.2.at (elim h.2.holds [ inl p ↦ inl (calls_so (whole h.2.run.config) p.0, p.1) | inr q ↦ inr (begun h.2.run f q) ]))

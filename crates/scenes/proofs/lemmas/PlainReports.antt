@@ -1,6 +1,6 @@
 -- A run of all calls that stopped at one of them, and calls whose output was left unread (for `write_calls`, `write_calls_and_records`,
 -- `write_report`).
-use Rattle.std.proofs.Common.{◌≡◌, ◌⊎◌, ℕ, suc, ◌<◌, true, false, Bool, List, [], ◌∷◌, ◌++◌, Option, None, Some, length, take, drop, get_or, reverse, refl, sym, ap, ◌∙◌, subst, ap₂, append-nil, append_assoc, arith, inl, inr, if◌then◌else◌}
+use Rattle.std.proofs.Common.{◌≡◌, ℕ, suc, ◌<◌, true, false, Bool, List, [], ◌∷◌, ◌++◌, Option, None, Some, length, take, drop, get_or, reverse, refl, sym, ap, ◌∙◌, subst, ap₂, append-nil, append_assoc, arith, inl, inr, if◌then◌else◌}
 use Rattle.std.proofs.Math.Seq.{drop-cons, take-append_seam}
 use Rattle.std.proofs.lemmas.List.{get_or-take, length-take-le, take-append-drop, take-map}
 use Rattle.std.proofs.lemmas.List.Quantifiers.{position-Some}
@@ -8,25 +8,22 @@ use Rattle.std.proofs.lemmas.Option.{slice_get_cases}
 use Rattle.std.specs.List.{position}
 use Rattle.std.specs.Option.{option_and_then, option_map_or}
 use Rattle.std.specs.Prelude.{slice_get}
-use Rattle.scenes.proofs.Common.{AllZip, Appends-nil, AreReadyCallsOf, AreWhole, Begins, buffer_meaning, BufferAccepts, common_steps, device, Prints, scene_lines, TextBuffer, IsCallOf, position_or_len, configuration_for, decider_for, false≢true, Fault, fault_at_call, first_refused, HasBeginning, HasFirstCalls, IsSceneRefused, is_some, Meaning, option_map, Options, OutOfMemory, OutputLoadDecider, Records, refusal_by, report, report_of, ReportCall, reverse-append, Scene, SceneConfig, Stops, store_for, stored, stored_of, stored_text, StoreFailed, take_all, Text, text, unloaded_for, unread, WriteEventError, WriteFailed, WriterLaws, Failed, Io, OutputNotLoaded, RetriedSuccess, StoreIo}
-use Rattle.plain_text.specs.declared.write_str.WriteFault.TheVariants.{Device, Memory as RefusedMemory}
+use Rattle.scenes.proofs.Common.{AllZip, Appends-nil, AreReadyCallsOf, AreWhole, Begins, buffer_meaning, BufferAccepts, common_steps, device, Prints, scene_lines, TextBuffer, IsCallOf, position_or_len, configuration_for, decider_for, false≢true, Fault, fault_at_call, first_refused, HasBeginning, HasFirstCalls, IsSceneRefused, is_some, Meaning, option_map, Options, OutOfMemory, OutputLoadDecider, Records, refusal_by, report, report_of, ReportCall, reverse-append, Scene, SceneConfig, Stops, store_for, stored, stored_of, stored_text, take_all, Text, text, unloaded_for, unread, WriteEventError, Io, StoreIo, StoreFailed, WriteFailed}
 use Rattle.console_reporter.specs.Accepted.{refusal_at}
 use Rattle.console_reporter.specs.Configuration.{Configuration, configured_in}
-use Rattle.console_reporter.specs.Outcomes.{HasFront}
 use Rattle.console_reporter.specs.Outcomes.Side.{Report}
 use Rattle.console_reporter.specs.Report.{past_at, text_at}
 use Rattle.console_reporter.specs.Stored.{stored_at}
 use Rattle.reporter_state.specs.Refusals.{refusal_at_by, refusal_in}
-use Rattle.reporter_state.specs.declared.faults.WriteEventError.TheVariants.{Memory}
 use Rattle.plain_text.specs.TextBuffer.{buffer_laws}
 use Rattle.std.specs.Io.KnownBytes.{Appends}
 use Rattle.store_text.specs.declared.config.StoreConfig.{StoreConfig}
 use Rattle.console_reporter.specs.declared.imp.builder.DisplayReporterBuilder.{DisplayReporterBuilder}
 use Rattle.scenes.specs.Judged.{fault_of_first}
 use Rattle.scenes.specs.Reports.{builder_for, surroundings_of}
-use Rattle.scenes.proofs.lemmas.Devices.{alone_begun, alone_whole, beginning_here, begun_here, whole_here}
-use Rattle.scenes.specs.Prints.{AreBegun, IsStop}
-use Rattle.scenes.proofs.lemmas.Prints.{Begun, begun_longer, front_of_more, memory_no_device, memory_no_store, write_no_store}
+use Rattle.scenes.proofs.lemmas.Devices.{alone_begun, beginning_here, begun_here}
+use Rattle.scenes.specs.Prints.{AreBegun}
+use Rattle.scenes.proofs.lemmas.Prints.{Begun, call_stopped, front_of_more, HasText, is_stop, IsNext}
 use Rattle.scenes.proofs.lemmas.ReadyCalls.{report_ready, stored_ready}
 use Rattle.scenes.proofs.lemmas.Refusals.{all_judged, fails_behind, mapped_none}
 
@@ -34,79 +31,38 @@ use Rattle.scenes.proofs.lemmas.Refusals.{all_judged, fails_behind, mapped_none}
 around : (calls : List ReportCall) (i : ℕ) (c : ReportCall) → i < length calls → get_or calls i c ≡ c → calls ≡ take i calls ++ c ∷ drop (suc i) calls
 around calls i c within is = sym (take-append-drop i calls) ∙ ap (λ cs. take i calls ++ cs) (drop-cons calls i c within ∙ ap (λ x. x ∷ drop (suc i) calls) is)
 
--- texts that are parts joined: those of the calls before a place, and that of the call there, past the end none
-module _ (whole : List ReportCall → Text) (part : List ReportCall → ReportCall → Text) (none : whole [] ≡ []) (one_more : (call : ReportCall) (past : List ReportCall) → whole (call ∷ past) ≡ whole past ++ part past call) (calls : List ReportCall) (i : ℕ) where
-  abbrev before : Text
-  before = whole (past_at calls i)
+-- texts that are parts joined: the first calls before a place, and the one there; past the end there is none
+module _ (whole : List ReportCall → Text) (part : List ReportCall → ReportCall → Text) (one_more : (call : ReportCall) (past : List ReportCall) → whole (call ∷ past) ≡ whole past ++ part past call) (calls : List ReportCall) (i : ℕ) where
+  abbrev texts : List ReportCall → Text
+  texts cs = whole (reverse cs)
 
   abbrev at : Option ReportCall → Text
   at call = option_map_or (part (past_at calls i)) call []
 
-  abbrev here : Text
-  here = at (slice_get calls i)
-
-  -- the first calls, the last of which is that at the place
-  record UpTo : Type 0 where
-    pub first : List ReportCall
-    pub rest : List ReportCall
-    pub is : calls ≡ first ++ rest
-    pub texts : whole (reverse first) ≡ before ++ here
-
-  up_to : UpTo
+  up_to : HasText texts calls (whole (past_at calls i) ++ at (slice_get calls i))
   up_to = elim ((slice_get_cases calls i).1) [
     | inl h ↦ record {
       first = take i calls ++ h.0 ∷ [];
       rest = drop (suc i) calls;
       is = around calls i h.0 h.1 h.3 ∙ sym (append_assoc (take i calls) (h.0 ∷ []) (drop (suc i) calls));
-      texts = ap whole (reverse-append (take i calls) (h.0 ∷ [])) ∙ one_more h.0 (past_at calls i) ∙ ap (λ o. before ++ at o) (sym h.2);
+      has = ap whole (reverse-append (take i calls) (h.0 ∷ [])) ∙ one_more h.0 (past_at calls i) ∙ ap (λ o. whole (past_at calls i) ++ at o) (sym h.2);
     }
     | inr h ↦ record {
       first = calls;
       rest = [];
       is = sym (append-nil calls);
-      texts = ap (λ cs. whole (reverse cs)) (sym (take_all i calls h.0)) ∙ sym (append-nil before) ∙ ap (λ o. before ++ at o) (sym h.1);
+      has = ap texts (sym (take_all i calls h.0)) ∙ sym (append-nil _) ∙ ap (λ o. whole (past_at calls i) ++ at o) (sym h.1);
     }
   ]
 
-  -- a writer that has the texts of the calls before has, where the call there was stopped,
-  module _ {S : Type 0} {m : Meaning S} (laws : WriterLaws m) (OfOwn OfOther : Type 0) (old mid new : S) (accepted : m.accepts old before mid) where
-    abbrev texts : List ReportCall → Text
-    texts cs = whole (reverse cs)
-
-    longer : Begun m OfOwn old (before ++ here) new → Begun m OfOwn old (texts calls) new
-    longer b =
-        let f = front_of_more whole part none one_more up_to.first up_to.rest in
-        subst (λ cs. Begun m OfOwn old (texts cs) new) (sym up_to.is)
-        (subst (λ t. Begun m OfOwn old t new) (sym f.is) (begun_longer laws texts OfOwn OfOther old new (texts up_to.first) f.rest (subst (λ t. Begun m OfOwn old t new) (sym up_to.texts) b)))
-
-    -- a beginning, since its device failed, or memory was refused
-    pub device_stopped : OfOwn → (OfOther → ⊥) → m.stops mid here Device new → HasBeginning m texts OfOwn OfOther calls old new
-    device_stopped own other stops = record { begun = longer (inl (own, laws.goes_on old mid new before here _ accepted stops)); whole = λ is. absurd (other is) }
-
-    pub memory_stopped : (OfOther → ⊥) → (m.stops mid here RefusedMemory new ⊎ HasFront m mid here new) → HasBeginning m texts OfOwn OfOther calls old new
-    memory_stopped other (inl stops) = record { begun = longer (inr (inl (laws.goes_on old mid new before here _ accepted stops))); whole = λ is. absurd (other is) }
-    memory_stopped other (inr f) = record {
-      begun = longer (inr (inr (record { front = before ++ f.front; rest = f.rest; whole = ap (λ t. before ++ t) f.whole ∙ sym (append_assoc before f.front f.rest); accepted = laws.joins old mid new before f.front accepted f.accepted })));
-      whole = λ is. absurd (other is);
-    }
-
-    -- its whole text
-    pub text_accepted : m.accepts mid here new → (OfOther → m.is_delivered new) → HasBeginning m texts OfOwn OfOther calls old new
-    text_accepted told delivered =
-        let all = laws.joins old mid new before here accepted told in
-        record {
-          begun = longer (inr (inr (record { front = before ++ here; rest = []; whole = sym (append-nil (before ++ here)); accepted = all })));
-          whole = λ other. record { first = up_to.first; rest = up_to.rest; is = up_to.is; accepted = subst (λ t. m.accepts old t new) (sym up_to.texts) all; delivered = delivered other };
-        }
-
-    -- or nothing of it
-    pub nothing_accepted : new ≡ mid → (OfOther → m.is_delivered new) → HasBeginning m texts OfOwn OfOther calls old new
-    nothing_accepted same delivered =
-        let all : m.accepts old before new = subst (λ x. m.accepts old before x) (sym same) accepted in
-        record {
-          begun = longer (inr (inr (record { front = before; rest = here; whole = refl; accepted = all })));
-          whole = λ other. record { first = take i calls; rest = drop i calls; is = sym (take-append-drop i calls); accepted = all; delivered = delivered other };
-        }
+  next_at : IsNext texts calls (whole (past_at calls i)) (at (slice_get calls i))
+  next_at =
+      let more = front_of_more whole part one_more up_to.first up_to.rest in
+      record {
+        before = record { first = take i calls; rest = drop i calls; is = sym (take-append-drop i calls); has = refl };
+        up_to = up_to;
+        whole = record { rest = more.rest; is = ap texts up_to.is ∙ more.is ∙ ap (λ t. t ++ more.rest) up_to.has };
+      }
 
 none_of : {X : Type 0} (o : Option X) → is_some o ≡ false → o ≡ None
 none_of None h = refl
@@ -123,49 +79,11 @@ module _ (options : Options) (config : SceneConfig) (calls : List ReportCall) (a
     | inr h ↦ ap (option_and_then (refusal_by (decider_for options config))) h.1
   ]
 
-  -- the text of the report
-  abbrev in_report : Text
-  in_report = report (configuration_for options config) (past_at calls i)
+  in_report : IsNext (report_of options config) calls (report (configuration_for options config) (past_at calls i)) (text_at (configuration_for options config) calls i)
+  in_report = next_at (report (configuration_for options config)) (text (configuration_for options config)) (λ call past. refl) calls i
 
-  abbrev call_text : Text
-  call_text = text_at (configuration_for options config) calls i
-
-  -- a writer alone
-  pub alone_stopped : {W : Type 0} {m : Meaning W} (laws : WriterLaws m) (old mid new : W) → m.accepts old in_report mid → (n : ℕ) (e : WriteEventError) →
-      refusal_at (configuration_for options config) calls i ≡ refusal_in e → Stops Report m mid call_text e new → (e ≡ StoreIo → ⊥) →
-      IsStop options (fault_at_call n e) × HasBeginning m (report_of options config) (fault_at_call n e ≡ WriteFailed) (fault_at_call n e ≡ StoreFailed) calls old new
-  alone_stopped laws old mid new before n RetriedSuccess refused stops no_store = let x = sym none_refused ∙ refused in absurd (cc)
-  alone_stopped laws old mid new before n OutputNotLoaded refused stops no_store = let x = sym none_refused ∙ refused in absurd (cc)
-  alone_stopped laws old mid new before n Io refused stops no_store =
-      (inl refl, device_stopped (report (configuration_for options config)) (text (configuration_for options config)) refl (λ call past. refl) calls i laws _ _ old mid new before refl write_no_store stops)
-  alone_stopped laws old mid new before n Memory refused stops no_store =
-      (inr (inl refl), memory_stopped (report (configuration_for options config)) (text (configuration_for options config)) refl (λ call past. refl) calls i laws _ _ old mid new before memory_no_store stops)
-  alone_stopped laws old mid new before n Failed refused stops no_store = absurd stops
-  alone_stopped laws old mid new before n StoreIo refused stops no_store = absurd (no_store refl)
-
-  -- two writers
-  pub both_stopped : {W T : Type 0} {m : Meaning W} {k : Meaning T} (laws : WriterLaws m) (others : WriterLaws k) (old mid new : W × T) → m.accepts old.0 in_report mid.0 → k.accepts old.1 (stored (store_for options) (past_at calls i)) mid.1 →
-      is_some (store_for options) ≡ true → (n : ℕ) (e : WriteEventError) → refusal_at (configuration_for options config) calls i ≡ refusal_in e →
-      Stops Report m mid.0 call_text e new.0 → Stops Records k mid.1 (stored_at (store_for options) calls i) e new.1 → (e ≡ StoreIo → m.is_delivered new.0) → (e ≡ Io → k.is_delivered new.1) →
-      AreBegun m k options old new config (fault_at_call n e) calls
-  both_stopped laws others old mid new before kept there n RetriedSuccess refused stops store_stops told stored_told = let x = sym none_refused ∙ refused in absurd (cc)
-  both_stopped laws others old mid new before kept there n OutputNotLoaded refused stops store_stops told stored_told = let x = sym none_refused ∙ refused in absurd (cc)
-  both_stopped laws others old mid new before kept there n Io refused stops store_stops told stored_told = (
-    inl refl,
-    device_stopped (report (configuration_for options config)) (text (configuration_for options config)) refl (λ call past. refl) calls i laws _ _ old.0 mid.0 new.0 before refl write_no_store stops,
-    nothing_accepted (stored (store_for options)) (λ past. stored_text (store_for options)) refl (λ call past. refl) calls i others _ _ old.1 mid.1 new.1 kept store_stops (λ is. stored_told refl),
-  )
-  both_stopped laws others old mid new before kept there n Memory refused stops store_stops told stored_told = (
-    inr (inl refl),
-    memory_stopped (report (configuration_for options config)) (text (configuration_for options config)) refl (λ call past. refl) calls i laws _ _ old.0 mid.0 new.0 before memory_no_store stops,
-    memory_stopped (stored (store_for options)) (λ past. stored_text (store_for options)) refl (λ call past. refl) calls i others _ _ old.1 mid.1 new.1 kept memory_no_device store_stops,
-  )
-  both_stopped laws others old mid new before kept there n Failed refused stops store_stops told stored_told = absurd stops
-  both_stopped laws others old mid new before kept there n StoreIo refused stops store_stops told stored_told = (
-    inr (inr (refl, there)),
-    text_accepted (report (configuration_for options config)) (text (configuration_for options config)) refl (λ call past. refl) calls i laws _ _ old.0 mid.0 new.0 before stops (λ is. told refl),
-    device_stopped (stored (store_for options)) (λ past. stored_text (store_for options)) refl (λ call past. refl) calls i others _ _ old.1 mid.1 new.1 kept refl (λ is. write_no_store (sym is)) store_stops,
-  )
+  in_records : IsNext (stored_of options) calls (stored (store_for options) (past_at calls i)) (stored_at (store_for options) calls i)
+  in_records = next_at (stored (store_for options)) (λ past. stored_text (store_for options)) (λ call past. refl) calls i
 
 -- the first of calls with their output left unread are the first of those that were made
 take_if : (unloads : Bool) (d : OutputLoadDecider) (n : ℕ) (made : List ReportCall) → (if unloads then unread d (take n made) else take n made) ≡ take n (if unloads then unread d made else made)
@@ -290,41 +208,32 @@ untouched options config calls held = (
 pub configured_so : (options : Options) (config : SceneConfig) (store : Option StoreConfig) → store_for options ≡ store → (builder : DisplayReporterBuilder) → builder ≡ builder_for options config → configured_in builder (surroundings_of config) store ≡ configuration_for options config
 configured_so options config store asked builder is = ap₂ (λ b s. configured_in b (surroundings_of config) s) is (sym asked)
 
--- what devices have of a run over buffers
-module _ (options : Options) (config : SceneConfig) (calls : List ReportCall) (given : Configuration) (is : given ≡ configuration_for options config) {W : Type 0} (contents : W → Option (List ℕ)) (a b : TextBuffer W) (none : a.pending ≡ []) where
-  -- of a report alone
-  pub alone_ends : store_for options ≡ None → BufferAccepts contents a (report given (reverse calls)) b → b.pending ≡ [] → (held : Option (List ℕ)) → AreWhole device device options (contents a.writer, held) (contents b.writer, held) config calls
-  alone_ends off accepted delivered held =
-      alone_whole options off (contents a.writer) (contents b.writer) held config calls (whole_here contents a b none (report_of options config calls) (subst (λ c. BufferAccepts contents a (report c (reverse calls)) b) is accepted) delivered)
+-- what devices have of a run over buffers that an error stopped
+module _ (options : Options) (config : SceneConfig) (calls : List ReportCall) (all : first_refused (decider_for options config) calls ≡ None) (n i : ℕ) (e : WriteEventError)
+    (given : Configuration) (is : given ≡ configuration_for options config) (refused : refusal_at given calls i ≡ refusal_in e)
+    {W : Type 0} (contents : W → Option (List ℕ)) (a b : TextBuffer W) (empty : a.pending ≡ [])
+    (ran : (mid : TextBuffer W) × BufferAccepts contents a (report (configuration_for options config) (past_at calls i)) mid × Stops Report (buffer_meaning contents) mid (text_at (configuration_for options config) calls i) e b) where
+  no_refusal : refusal_in e ≡ None
+  no_refusal = sym refused ∙ ap (λ c. refusal_at c calls i) is ∙ none_refused options config calls all i
 
-  pub alone_stops : store_for options ≡ None → first_refused (decider_for options config) calls ≡ None → (n i : ℕ) (e : WriteEventError) → refusal_at given calls i ≡ refusal_in e → (e ≡ StoreIo → ⊥) →
-      (mid : TextBuffer W) × BufferAccepts contents a (report given (past_at calls i)) mid × Stops Report (buffer_meaning contents) mid (text_at given calls i) e b →
-      (held : Option (List ℕ)) → AreBegun device device options (contents a.writer, held) (contents b.writer, held) config (fault_at_call n e) calls
-  alone_stops off all n i e refused no_store ran held =
-      let there = subst (λ c. (mid : TextBuffer W) × BufferAccepts contents a (report c (past_at calls i)) mid × Stops Report (buffer_meaning contents) mid (text_at c calls i) e b) is ran in
-      let stops = alone_stopped options config calls all i (buffer_laws contents) a there.0 b there.1 n e (subst (λ c. refusal_at c calls i ≡ refusal_in e) is refused) there.2 no_store in
-      alone_begun options off (contents a.writer) (contents b.writer) held config calls (fault_at_call n e) stops.0 (begun_here contents a b none _ (report_of options config calls) stops.1.begun)
+  printed : (e ≡ StoreIo → b.pending ≡ []) → HasBeginning (buffer_meaning contents) (report_of options config) (fault_at_call n e ≡ WriteFailed) (fault_at_call n e ≡ StoreFailed) calls a b
+  printed delivered = call_stopped (buffer_laws contents) Report (in_report options config calls all i) a ran.0 b ran.1 n e no_refusal delivered ran.2
+
+  -- of a report alone
+  pub alone_stops : store_for options ≡ None → (e ≡ StoreIo → ⊥) → (held : Option (List ℕ)) → AreBegun device device options (contents a.writer, held) (contents b.writer, held) config (fault_at_call n e) calls
+  alone_stops off no_store held =
+      alone_begun options off (contents a.writer) (contents b.writer) held config calls (fault_at_call n e) (is_stop options n e no_refusal (λ is. absurd (no_store is)))
+      (begun_here contents a b empty _ (report_of options config calls) (printed (λ is. absurd (no_store is))).begun)
 
   -- of a report and its records
-  module _ {S : Type 0} (stored_in : S → Option (List ℕ)) (c d : TextBuffer S) (empty : c.pending ≡ []) (store : StoreConfig) (asked : store_for options ≡ Some store) where
-    pub both_end : BufferAccepts contents a (report given (reverse calls)) b → b.pending ≡ [] → BufferAccepts stored_in c (stored (Some store) (reverse calls)) d → d.pending ≡ [] →
-        AreWhole device device options (contents a.writer, stored_in c.writer) (contents b.writer, stored_in d.writer) config calls
-    both_end accepted delivered kept kept_delivered = record {
-      printed = whole_here contents a b none (report_of options config calls) (subst (λ g. BufferAccepts contents a (report g (reverse calls)) b) is accepted) delivered;
-      kept = whole_here stored_in c d empty (stored_of options calls) (subst (λ s. BufferAccepts stored_in c (stored s (reverse calls)) d) (sym asked) kept) kept_delivered;
-      delivered = (tt, tt);
-    }
-
-    pub both_stop : first_refused (decider_for options config) calls ≡ None → (n i : ℕ) (e : WriteEventError) → refusal_at given calls i ≡ refusal_in e →
-        (mid : TextBuffer W) × BufferAccepts contents a (report given (past_at calls i)) mid × Stops Report (buffer_meaning contents) mid (text_at given calls i) e b →
-        (mid : TextBuffer S) × BufferAccepts stored_in c (stored (Some store) (past_at calls i)) mid × Stops Records (buffer_meaning stored_in) mid (stored_at (Some store) calls i) e d →
-        (e ≡ StoreIo → b.pending ≡ []) → (e ≡ Io → d.pending ≡ []) →
-        AreBegun device device options (contents a.writer, stored_in c.writer) (contents b.writer, stored_in d.writer) config (fault_at_call n e) calls
-    both_stop all n i e refused ran kept text_delivered records_delivered =
-        let there = subst (λ g. (mid : TextBuffer W) × BufferAccepts contents a (report g (past_at calls i)) mid × Stops Report (buffer_meaning contents) mid (text_at g calls i) e b) is ran in
-        let behind = subst (λ s. (mid : TextBuffer S) × BufferAccepts stored_in c (stored s (past_at calls i)) mid × Stops Records (buffer_meaning stored_in) mid (stored_at s calls i) e d) (sym asked) kept in
-        let stops = both_stopped options config calls all i (buffer_laws contents) (buffer_laws stored_in) (a, c) (there.0, behind.0) (b, d) there.1 behind.1 (ap is_some asked) n e (subst (λ g. refusal_at g calls i ≡ refusal_in e) is refused) there.2 behind.2 text_delivered records_delivered in
-        (stops.0, beginning_here contents a b none (report_of options config) _ _ calls stops.1, beginning_here stored_in c d empty (stored_of options) _ _ calls stops.2)
+  pub both_stop : is_some (store_for options) ≡ true → {S : Type 0} (stored_in : S → Option (List ℕ)) (c d : TextBuffer S) → c.pending ≡ [] →
+      (mid : TextBuffer S) × BufferAccepts stored_in c (stored (store_for options) (past_at calls i)) mid × Stops Records (buffer_meaning stored_in) mid (stored_at (store_for options) calls i) e d →
+      (e ≡ StoreIo → b.pending ≡ []) → (e ≡ Io → d.pending ≡ []) → AreBegun device device options (contents a.writer, stored_in c.writer) (contents b.writer, stored_in d.writer) config (fault_at_call n e) calls
+  both_stop asked stored_in c d none kept text_delivered records_delivered = (
+    is_stop options n e no_refusal (λ is. asked),
+    beginning_here contents a b empty (report_of options config) _ _ calls (printed text_delivered),
+    beginning_here stored_in c d none (stored_of options) _ _ calls (call_stopped (buffer_laws stored_in) Records (in_records options config calls all i) c kept.0 d kept.1 n e no_refusal records_delivered kept.2),
+  )
 
 -- the report of the calls of a scene is that of the scene
 module _ (options : Options) (scene : Scene) (calls : List ReportCall) (ready : AreReadyCallsOf options scene calls) (accepted : first_refused (decider_for options scene.config) calls ≡ None) (old new : Option (List ℕ) × Option (List ℕ)) where

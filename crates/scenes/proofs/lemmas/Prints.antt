@@ -1,8 +1,12 @@
 -- What two writers have of a report that stopped, and of a longer one (for `SceneReporter::report_events`, `report_to`, `follow_to`).
-use Rattle.std.proofs.Common.{◌≡◌, List, [], ◌∷◌, ◌++◌, reverse, refl, sym, ap, ap₂, ◌∙◌, subst, append-nil, append_assoc, ◌⊎◌, None, Result, Ok, Err, inl, inr}
-use Rattle.scenes.proofs.Common.{AllZip, AreWhole, Begins, configuration_for, decider_for, Fault, first_refused, HasBeginning, HasFirstCalls, IsCallOf, Meaning, OfCalls, Options, OutOfMemory, ParsedLines, Prints, PrintsFollowed, report, ReportCall, Reported, reverse-append, RunOutcome, SceneConfig, SceneEvent, store_for, stored, stored_text, StoreFailed, Text, text, WriteFailed, WriterLaws}
+use Rattle.std.proofs.Common.{◌≡◌, ℕ, true, List, [], ◌∷◌, ◌++◌, reverse, refl, sym, ap, ◌∙◌, subst, append-nil, append_assoc, ◌⊎◌, None, Result, Ok, Err, inl, inr}
+use Rattle.scenes.proofs.Common.{AllZip, AreWhole, Begins, configuration_for, decider_for, Failed, Fault, fault_at_call, first_refused, HasBeginning, HasFirstCalls, Io, is_some, IsCallOf, Meaning, OfCalls, Options, OutOfMemory, OutputNotLoaded, ParsedLines, Prints, PrintsFollowed, Records, report, ReportCall, Reported, RetriedSuccess, reverse-append, RunOutcome, SceneConfig, SceneEvent, Stops, store_for, stored, stored_text, StoreFailed, StoreIo, Text, text, WriteEventError, WriteFailed, WriterLaws}
 use Rattle.plain_text.specs.declared.write_str.WriteFault.TheVariants.{Device, Memory as RefusedMemory}
-use Rattle.console_reporter.specs.Outcomes.{HasFront}
+use Rattle.console_reporter.specs.Outcomes.{HasFront, Side, error_for}
+use Rattle.console_reporter.specs.Outcomes.Side.{Report}
+use Rattle.reporter_state.specs.Refusals.{refusal_in}
+use Rattle.reporter_state.specs.declared.faults.WriteEventError.TheVariants.{Memory}
+use Rattle.scenes.specs.Prints.{IsStop}
 use Rattle.scenes.proofs.lemmas.Refusals.{zip_both}
 
 -- of a text a beginning was accepted, as `HasBeginning` says it
@@ -20,11 +24,8 @@ pub write_no_store : WriteFailed ≡ StoreFailed → ⊥
 write_no_store is = cc
 
 -- what holds of two pairs of writers holds of the same ones
-pub moved : {W T : Type 0} (P : W × T → W × T → Type 0) {old old' new new' : W × T} → old ≡ old' → new ≡ new' → P old new → P old' new'
-moved P {old} {old'} {new} {new'} d e h = subst (λ a. P a new') d (subst (λ b. P old b) e h)
-
-pub pair : {W T : Type 0} {a b : W} {c d : T} → a ≡ b → c ≡ d → ◌≡◌ {A = W × T} (a, c) (b, d)
-pair e f = ap₂ (λ x y. (x, y)) e f
+pub moved : {W T : Type 0} (P : W × T → W × T → Type 0) {a a' c c' : W} {b b' d d' : T} → a ≡ a' → b ≡ b' → c ≡ c' → d ≡ d' → P (a, b) (c, d) → P (a', b') (c', d')
+moved P e f g h held = rw (← e, ← f, ← g, ← h) held
 
 -- what follows from what holds of calls holds of them
 pub calls_so : {options : Options} {run : ParsedLines} {P Q : List ReportCall → Type 0} → ((calls : List ReportCall) → P calls → Q calls) → OfCalls options run P → OfCalls options run Q
@@ -33,60 +34,99 @@ calls_so so h = record { calls = h.calls; of_run = h.of_run; accepted = h.accept
 pub prints_only : {W T : Type 0} {m : Meaning W} {k : Meaning T} {options : Options} {old new : W × T} {come_to : RunOutcome} {run : ParsedLines} → PrintsFollowed m k options old new come_to run → Prints m k options old new run
 prints_only h = calls_so (λ calls both. both.0) h
 
+-- a text begins so
+pub record IsFront (front whole : Text) : Type 0 where
+  pub rest : Text
+  pub is : whole ≡ front ++ rest
+
+-- the first of these calls have this text
+pub record HasText (texts : List ReportCall → Text) (calls : List ReportCall) (text : Text) : Type 0 where
+  pub first : List ReportCall
+  pub rest : List ReportCall
+  pub is : calls ≡ first ++ rest
+  pub has : texts first ≡ text
+
+-- the first of them have a text, and with the next one more of it
+pub record IsNext (texts : List ReportCall → Text) (calls : List ReportCall) (had more : Text) : Type 0 where
+  pub before : HasText texts calls had
+  pub up_to : HasText texts calls (had ++ more)
+  pub whole : IsFront (had ++ more) (texts calls)
+
+-- the last call is the next behind the others
+pub last_next : (texts : List ReportCall → Text) (calls : List ReportCall) (call : ReportCall) (more : Text) → texts calls ++ more ≡ texts (calls ++ call ∷ []) → IsNext texts (calls ++ call ∷ []) (texts calls) more
+last_next texts calls call more is = record {
+  before = record { first = calls; rest = call ∷ []; is = refl; has = refl };
+  up_to = record { first = calls ++ call ∷ []; rest = []; is = sym (append-nil _); has = sym is };
+  whole = record { rest = []; is = sym is ∙ sym (append-nil _) };
+}
+
 -- of one writer
 module _ {S : Type 0} {m : Meaning S} (laws : WriterLaws m) (texts : List ReportCall → Text) (OfOwn OfOther : Type 0) where
   -- of all calls it has the texts whole
-  pub whole_texts : (calls : List ReportCall) (a b : S) → m.accepts a (texts calls) b → (OfOther → m.is_delivered b) → HasBeginning m texts OfOwn OfOther calls a b
+  whole_texts : (calls : List ReportCall) (a b : S) → m.accepts a (texts calls) b → (OfOther → m.is_delivered b) → HasBeginning m texts OfOwn OfOther calls a b
   whole_texts calls a b accepted delivered = record {
     begun = inr (inr (record { front = texts calls; rest = []; whole = sym (append-nil (texts calls)); accepted = accepted }));
     whole = λ other. record { first = calls; rest = []; is = sym (append-nil calls); accepted = accepted; delivered = delivered other };
   }
 
   -- a beginning of the texts of some calls is one of those of more
-  pub begun_longer : (a b : S) (t u : Text) → Begun m OfOwn a t b → Begun m OfOwn a (t ++ u) b
+  begun_longer : (a b : S) (t u : Text) → Begun m OfOwn a t b → Begun m OfOwn a (t ++ u) b
   begun_longer a b t u (inl h) = inl (h.0, laws.stops_within a b t u _ h.1)
   begun_longer a b t u (inr (inl h)) = inr (inl (laws.stops_within a b t u _ h))
   begun_longer a b t u (inr (inr f)) = inr (inr (record { front = f.front; rest = f.rest ++ u; whole = ap (λ x. x ++ u) f.whole ∙ append_assoc f.front f.rest u; accepted = f.accepted }))
 
-  pub longer_texts : (calls more : List ReportCall) (rest : Text) → texts (calls ++ more) ≡ texts calls ++ rest → (a b : S) → HasBeginning m texts OfOwn OfOther calls a b → HasBeginning m texts OfOwn OfOther (calls ++ more) a b
+  longer_texts : (calls more : List ReportCall) (rest : Text) → texts (calls ++ more) ≡ texts calls ++ rest → (a b : S) → HasBeginning m texts OfOwn OfOther calls a b → HasBeginning m texts OfOwn OfOther (calls ++ more) a b
   longer_texts calls more rest is a b h = record {
     begun = subst (λ t. Begun m OfOwn a t b) (sym is) (begun_longer a b (texts calls) rest h.begun);
     whole = λ other. let w = h.whole other in record { first = w.first; rest = w.rest ++ more; is = ap (λ cs. cs ++ more) w.is ∙ append_assoc w.first w.rest more; accepted = w.accepted; delivered = w.delivered };
   }
 
-  -- It had the texts of the calls before one, and then, of the text of that one,
-  module _ (calls : List ReportCall) (call : ReportCall) (text : Text) (is : texts calls ++ text ≡ texts (calls ++ call ∷ [])) (a b c : S) (before : m.accepts a (texts calls) b) where
-    begins_call : Begun m OfOwn a (texts calls ++ text) c → (OfOther → HasFirstCalls m texts (calls ++ call ∷ []) a c) → HasBeginning m texts OfOwn OfOther (calls ++ call ∷ []) a c
-    begins_call begun whole = record { begun = subst (λ t. Begun m OfOwn a t c) is begun; whole = whole }
+  -- It had the texts of the first of some calls, and of the text of the next it has this.
+  module _ (calls : List ReportCall) (had more : Text) (is : IsNext texts calls had more) (a b c : S) (before : m.accepts a had b) where
+    begins_next : Begun m OfOwn a (had ++ more) c → (OfOther → HasFirstCalls m texts calls a c) → HasBeginning m texts OfOwn OfOther calls a c
+    begins_next begun whole = record { begun = subst (λ t. Begun m OfOwn a t c) (sym is.whole.is) (begun_longer a c (had ++ more) is.whole.rest begun); whole = whole }
 
-    -- all
-    pub whole_call : m.accepts b text c → m.is_delivered c → HasBeginning m texts OfOwn OfOther (calls ++ call ∷ []) a c
-    whole_call here delivered = whole_texts (calls ++ call ∷ []) a c (subst (λ t. m.accepts a t c) is (laws.joins a b c (texts calls) text before here)) (λ other. delivered)
+    has_first : (t u : Text) → had ++ more ≡ t ++ u → HasText texts calls t → m.accepts a t c → (OfOther → m.is_delivered c) → HasBeginning m texts OfOwn OfOther calls a c
+    has_first t u whole f accepted delivered =
+        begins_next (inr (inr (record { front = t; rest = u; whole = whole; accepted = accepted })))
+        (λ other. record { first = f.first; rest = f.rest; is = f.is; accepted = subst (λ x. m.accepts a x c) (sym f.has) accepted; delivered = delivered other })
 
-    -- nothing
-    pub no_call : c ≡ b → m.is_delivered b → HasBeginning m texts OfOwn OfOther (calls ++ call ∷ []) a c
-    no_call same delivered =
-        let accepted = subst (λ x. m.accepts a (texts calls) x) (sym same) before in
-        begins_call (inr (inr (record { front = texts calls; rest = text; whole = refl; accepted = accepted })))
-        (λ other. record { first = calls; rest = call ∷ []; is = refl; accepted = accepted; delivered = subst m.is_delivered (sym same) delivered })
-
-    -- a beginning, where its device failed, or memory was refused
-    pub failed_call : OfOwn → (OfOther → ⊥) → m.stops b text Device c → HasBeginning m texts OfOwn OfOther (calls ++ call ∷ []) a c
-    failed_call own other stops = begins_call (inl (own, laws.goes_on a b c (texts calls) text _ before stops)) (λ is. absurd (other is))
-
-    pub refused_call : (OfOther → ⊥) → (m.stops b text RefusedMemory c ⊎ HasFront m b text c) → HasBeginning m texts OfOwn OfOther (calls ++ call ∷ []) a c
-    refused_call other (inl stops) = begins_call (inr (inl (laws.goes_on a b c (texts calls) text _ before stops))) (λ is. absurd (other is))
+    -- a beginning, where memory was refused
+    refused_call : (OfOther → ⊥) → (m.stops b more RefusedMemory c ⊎ HasFront m b more c) → HasBeginning m texts OfOwn OfOther calls a c
+    refused_call other (inl stops) = begins_next (inr (inl (laws.goes_on a b c had more _ before stops))) (λ is. absurd (other is))
     refused_call other (inr f) =
-        begins_call (inr (inr (record { front = texts calls ++ f.front; rest = f.rest; whole = ap (λ t. texts calls ++ t) f.whole ∙ sym (append_assoc (texts calls) f.front f.rest); accepted = laws.joins a b c (texts calls) f.front before f.accepted })))
+        begins_next (inr (inr (record { front = had ++ f.front; rest = f.rest; whole = ap (λ t. had ++ t) f.whole ∙ sym (append_assoc had f.front f.rest); accepted = laws.joins a b c had f.front before f.accepted })))
         (λ is. absurd (other is))
 
--- a text begins so
-pub record IsFront (front whole : Text) : Type 0 where
-  pub rest : Text
-  pub is : whole ≡ front ++ rest
+-- the side of the other writer
+abbrev pub other : Side → Side
+other Report = Records
+other Records = Report
+
+-- what a side has where an error stopped the next call that is no refusal; an error of the other side's device leaves the side as it is
+pub call_stopped : {S : Type 0} {m : Meaning S} (laws : WriterLaws m) (side : Side) {texts : List ReportCall → Text} {calls : List ReportCall} {had more : Text} → IsNext texts calls had more → (a b c : S) → m.accepts a had b →
+    (n : ℕ) (e : WriteEventError) → refusal_in e ≡ None → (e ≡ error_for (other side) Device → m.is_delivered c) → Stops side m b more e c →
+    HasBeginning m texts (fault_at_call n e ≡ fault_at_call n (error_for side Device)) (fault_at_call n e ≡ fault_at_call n (error_for (other side) Device)) calls a c
+call_stopped laws side is a b c before n RetriedSuccess none told stops = absurd (cc)
+call_stopped laws side is a b c before n OutputNotLoaded none told stops = absurd (cc)
+call_stopped laws side is a b c before n Failed none told stops = absurd stops
+call_stopped laws Report is a b c before n Memory none told stops = refused_call laws _ _ _ _ _ _ is a b c before memory_no_store stops
+call_stopped laws Records is a b c before n Memory none told stops = refused_call laws _ _ _ _ _ _ is a b c before memory_no_device stops
+call_stopped laws Report is a b c before n Io none told stops = begins_next laws _ _ _ _ _ _ is a b c before (inl (refl, laws.goes_on a b c _ _ _ before stops)) (λ is. absurd (write_no_store is))
+call_stopped laws Records is a b c before n StoreIo none told stops = begins_next laws _ _ _ _ _ _ is a b c before (inl (refl, laws.goes_on a b c _ _ _ before stops)) (λ is. absurd (write_no_store (sym is)))
+call_stopped laws Report is a b c before n StoreIo none told stops = has_first laws _ _ _ _ _ _ is a b c before _ [] (sym (append-nil _)) is.up_to (laws.joins a b c _ _ before stops) (λ is. told refl)
+call_stopped {m = m} laws Records {had = had} is a b c before n Io none told stops = has_first laws _ _ _ _ _ _ is a b c before _ _ refl is.before (subst (m.accepts a had) (sym stops) before) (λ is. told refl)
+
+-- and such an error stops a report
+pub is_stop : (options : Options) (n : ℕ) (e : WriteEventError) → refusal_in e ≡ None → (e ≡ StoreIo → is_some (store_for options) ≡ true) → IsStop options (fault_at_call n e)
+is_stop options n Memory none there = inr (inl refl)
+is_stop options n StoreIo none there = inr (inr (refl, there refl))
+is_stop options n RetriedSuccess none there = absurd (cc)
+is_stop options n OutputNotLoaded none there = absurd (cc)
+is_stop options n e none there = inl refl
 
 -- texts that are parts joined: the report of a past, and what is stored of one
-module _ (whole : List ReportCall → Text) (part : List ReportCall → ReportCall → Text) (none : whole [] ≡ []) (one_more : (call : ReportCall) (past : List ReportCall) → whole (call ∷ past) ≡ whole past ++ part past call) where
+module _ (whole : List ReportCall → Text) (part : List ReportCall → ReportCall → Text) (one_more : (call : ReportCall) (past : List ReportCall) → whole (call ∷ past) ≡ whole past ++ part past call) where
   front_of_later : (later past : List ReportCall) → IsFront (whole past) (whole (later ++ past))
   front_of_later [] past = record { rest = []; is = sym (append-nil (whole past)) }
   front_of_later (call ∷ later) past =
@@ -111,8 +151,8 @@ module _ {W T : Type 0} {m : Meaning W} {k : Meaning T} (laws : WriterLaws m) (o
       ((calls : List ReportCall) → AllZip IsCallOf (es ++ fs) calls → first_refused (decider_for options config) calls ≡ None) → Begins m k options old new (record { config = config; events = es ++ fs }) f
   begins_longer config es fs f h more of_more accepted =
       let of_all = zip_both es fs h.calls more h.of_run of_more in
-      let t = front_of_more (report (configuration_for options config)) (text (configuration_for options config)) refl (λ call past. refl) h.calls more in
-      let s = front_of_more (stored (store_for options)) (λ past. stored_text (store_for options)) refl (λ call past. refl) h.calls more in
+      let t = front_of_more (report (configuration_for options config)) (text (configuration_for options config)) (λ call past. refl) h.calls more in
+      let s = front_of_more (stored (store_for options)) (λ past. stored_text (store_for options)) (λ call past. refl) h.calls more in
       record {
         calls = h.calls ++ more;
         of_run = of_all;

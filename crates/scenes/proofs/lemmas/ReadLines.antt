@@ -100,31 +100,18 @@ module _ (file : List ℕ) (all front : List RunLine) (before : ParsedLines) (ol
         further (λ run. AreLeftOf remaining) (λ run. AreLeftOf after) has leaves.front (leaves.rest ++ here.0) (here.1 ∙ ap (λ ls. ls ++ here.0) leaves.whole ∙ append_assoc leaves.front leaves.rest here.0) leaves.reads (Err fault)
         (inr (f, is, next_fault new.next (lines_after before.events (parsed_lines new.run)) leaves.rest here.0 f (leaves.wrong before.events has.begun)))
 
-  -- no line more was read
-  module _ (Has Next : ParsedLines → List RunLine → Type 0) (has : HasReadLines file all front before old (Ok true) Has) (same : new ≡ old) where
-    still : (more : Result Bool Fault) → IsMore file more (lines_after before.events (parsed_lines new.run)) has.left new.next Next → HasReadLines file all front before new more Next
-    still more more_is = further Has Next has [] has.left refl (subst (λ r. ReadsLines old r []) (sym same) (reads_none old)) more more_is
+-- no line is left to be read
+pub none_left : (file : List ℕ) (all front : List RunLine) (before : ParsedLines) (old : LinesRead) (Has Next : ParsedLines → List RunLine → Type 0) (has : HasReadLines file all front before old (Ok true) Has) →
+    ((run : ParsedLines) (left : List RunLine) → Has run left → AreLeft left [] × Next run []) → HasReadLines file all front before old (Ok false) Next
+none_left file all front before old Has Next has none = further file all front before old old Has Next has [] has.left refl (reads_none old) (Ok false) (none _ has.left has.more_is)
 
-    -- there is none
-    pub none_left : ((run : ParsedLines) (left : List RunLine) → Has run left → AreLeft left [] × Next run []) → HasReadLines file all front before new (Ok false) Next
-    none_left none = still (Ok false) (none _ has.left (subst (λ r. Has (lines_after before.events (parsed_lines r.run)) has.left) (sym same) has.more_is))
-
-    -- or it could not be read
-    pub unread : (fault : Fault) → IsUnread file fault → HasReadLines file all front before new (Err fault) Next
-    unread fault is = still (Err fault) (inl is)
-
--- a line tells what it says
-pub line_reads : (run : ParsedLines) (t : RunLine) (s : ParsedLine) → line_value (lines_before run) t ≡ Ok s → line_read run t ≡ Ok (with_line run s)
-unfolding line_read
-line_reads run t s h = rw h refl
-
--- the place behind a line that tells
-pub at_more : (all : List RunLine) (run : ParsedLines) (t : RunLine) (lines : List RunLine) (number : ℕ) (after : ParsedLines) → AtLine all run (t ∷ lines) number → line_read run t ≡ Ok after → AtLine all after lines (number + 1)
-at_more all run t lines number after at parsed_lines = record {
-  front = at.front ++ t ∷ [];
-  whole = at.whole ∙ sym (append_assoc at.front (t ∷ []) lines);
-  place = omega (arith, at.place, length-append at.front (t ∷ []));
-  tells = all_append no_lines at.front run (t ∷ []) after at.tells (after, parsed_lines, refl);
+-- the place behind lines that tell
+pub at_behind : (all : List RunLine) (run : ParsedLines) (lines left : List RunLine) (number : ℕ) (after : ParsedLines) → AtLine all run (lines ++ left) number → AllRead run lines after → AtLine all after left (number + length lines)
+at_behind all run lines left number after at tells = record {
+  front = at.front ++ lines;
+  whole = at.whole ∙ sym (append_assoc at.front lines left);
+  place = omega (arith, at.place, length-append at.front lines);
+  tells = all_append no_lines at.front run lines after at.tells tells;
 }
 
 -- the events that were read are forgotten
@@ -219,19 +206,13 @@ module _ (file text : List ℕ) (read : LinesRead) (Has : ParsedLines → List R
 abbrev behind : SceneConfig → LinesBefore
 behind config = record { config = config; is_begun = true }
 
-abbrev Said : Type 0
-Said = Result ParsedLine LineFault
-
 -- it says no configuration
-abbrev SaysNone : Said → Type 0
+abbrev SaysNone : Result ParsedLine LineFault → Type 0
 SaysNone (Ok (ConfigLine c)) = ⊥
 SaysNone other = Unit {0}
 
 -- the same of what its fields say, wherever they end
-abbrev Read : Type 0
-Read = Result (ParsedLine × Place) LineFault
-
-abbrev ReadsNone : Read → Type 0
+abbrev ReadsNone : Result (ParsedLine × Place) LineFault → Type 0
 ReadsNone r = SaysNone (value_of r)
 
 by_event : (r : Result (SceneEvent × Place) LineFault) → ReadsNone (goes_on (λ e. says (EventLine e)) r)
@@ -247,7 +228,7 @@ by_line config number noted (word ∷ fields) =
 reads_none_behind : (config : SceneConfig) (noted : Option Noted) (t : List ℕ) → ReadsNone (line_from noted (behind config) t)
 unfolding line_from
 reads_none_behind config noted t =
-    let words : Read = line_words (behind config) (line_place noted t) in
+    let words = line_words (behind config) (line_place noted t) in
     cond_both (is_passed_over t) (says NoEvent (line_place noted t)) (if is_utf8 t then words else Err NotUtf8) ReadsNone (λ passed. tt)
     (λ told. cond_both (is_utf8 t) words (Err NotUtf8) ReadsNone (λ good. by_line config 0 noted (split_on 9 t)) (λ bad. tt))
 
@@ -255,7 +236,7 @@ made_none : (r : Result SceneEvent LineFault) → SaysNone (event_line r)
 made_none (Ok x) = tt
 made_none (Err f) = tt
 
-with_none_made : (make : List PlacedOutput → SceneEvent → Result SceneEvent LineFault) (r : Read) → ReadsNone r → SaysNone (with_made make (result_map_both (λ x. (x.0, noted_outputs x.1.noted)) (λ f. f) r))
+with_none_made : (make : List PlacedOutput → SceneEvent → Result SceneEvent LineFault) (r : Result (ParsedLine × Place) LineFault) → ReadsNone r → SaysNone (with_made make (result_map_both (λ x. (x.0, noted_outputs x.1.noted)) (λ f. f) r))
 with_none_made make (Ok (NoEvent, p)) none = tt
 with_none_made make (Ok (ConfigLine c, p)) none = none
 with_none_made make (Ok (EventLine e, p)) none = made_none (make (noted_outputs p.noted) e)
@@ -280,7 +261,7 @@ record ReadsOne (before after : ParsedLines) (t : RunLine) : Type 0 where
 abbrev Does : ParsedLines → ParsedLines → RunLine → Type 0
 Does before after t = ((after.events ≡ before.events) × (is_begun before.events ≡ true → after.config ≡ before.config)) ⊎ ReadsOne before after t
 
-with_cases : (before after : ParsedLines) (t : RunLine) (r : Said) → line_value (lines_before before) t ≡ r → (is_begun before.events ≡ true → SaysNone r) → lines_with before r ≡ Ok after → Does before after t
+with_cases : (before after : ParsedLines) (t : RunLine) (r : Result ParsedLine LineFault) → line_value (lines_before before) t ≡ r → (is_begun before.events ≡ true → SaysNone r) → lines_with before r ≡ Ok after → Does before after t
 with_cases before after t (Ok (EventLine e)) says none h = (let same : with_line before (EventLine e) ≡ after = cc in inr (rw (← same) (record { event = e; says = says; events = refl; config = refl })))
 with_cases before after t (Ok (ConfigLine c)) says none h = (let same : with_line before (ConfigLine c) ≡ after = cc in inl (rw (← same) (refl, λ begun. absurd (none begun))))
 with_cases before after t (Ok NoEvent) says none h = (let same : before ≡ after = cc in inl (rw (← same) (refl, λ begun. refl)))
@@ -359,7 +340,7 @@ module _ (all left : List RunLine) (after : ParsedLines) (events : List SceneEve
   pub event_at : (n : ℕ) (before : ParsedLines) (lines : List RunLine) → AtLine all before (lines ++ left) n → AllRead before lines after → (front : List SceneEvent) → events ≡ before.events ++ front → get_or (event_lines n before lines) (length front) 0 ≡ number → Found
   event_at n before [] at h front here numbered = absurd (omega (arith, ap length (ap (λ x. x.events) h ∙ is), ap length here, length-append before.events front, length-append events (e ∷ rest)))
   event_at n before (t ∷ ts) at h front here numbered =
-      let next_at = at_more all before t (ts ++ left) n h.0 at h.1 in
+      let next_at = at_behind all before (t ∷ []) (ts ++ left) n h.0 at (h.0, h.1, refl) in
       elim (cases before h.0 t h.1) [
         | inl same ↦ event_at (n + 1) h.0 ts next_at h.2 front (here ∙ ap (λ es. es ++ front) (sym same.0)) (sym (ap (λ ls. get_or ls (length front) 0) (notes_none n before h.0 t ts h.1 same.0)) ∙ numbered)
         | inr one ↦

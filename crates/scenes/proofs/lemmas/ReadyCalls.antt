@@ -29,7 +29,7 @@ unloaded_outcome : (before : RunOutcome) (k : TestEventKind) → outcome_after_e
 unloaded_outcome before (kind.RunFinished elapsed stats outstanding) = refl
 unloaded_outcome before other = refl
 
-outcome_if : (unloads : Bool) (d : OutputLoadDecider) (before : RunOutcome) (call : ReportCall) → outcome_after before (ready_if unloads d call) ≡ outcome_after before call
+pub outcome_if : (unloads : Bool) (d : OutputLoadDecider) (before : RunOutcome) (call : ReportCall) → outcome_after before (ready_if unloads d call) ≡ outcome_after before call
 outcome_if true d before (Event e) = elim (cases_Bool (is_skipped d e.kind)) [ inl skipped ↦ rw skipped (unloaded_outcome before e.kind) | inr loaded ↦ rw loaded refl ]
 outcome_if unloads d before call = search rules
 
@@ -46,11 +46,11 @@ same_if : {X : Type 0} (f : List ReportCall → X) (unloads : Bool) (d : OutputL
 same_if f true d calls same = same
 same_if f false d calls same = refl
 
-more_if : (unloads : Bool) (d : OutputLoadDecider) (calls : List ReportCall) (call : ReportCall) → (if unloads then unread d (calls ++ call ∷ []) else calls ++ call ∷ []) ≡ (if unloads then unread d calls else calls) ++ ready_if unloads d call ∷ []
+pub more_if : (unloads : Bool) (d : OutputLoadDecider) (calls : List ReportCall) (call : ReportCall) → (if unloads then unread d (calls ++ call ∷ []) else calls ++ call ∷ []) ≡ (if unloads then unread d calls else calls) ++ ready_if unloads d call ∷ []
 more_if true d calls call = map-append (unread_call d) calls (call ∷ [])
 more_if false d calls call = refl
 
-refusal_if : (unloads : Bool) (d : OutputLoadDecider) (call : ReportCall) → refusal_by d (ready_if unloads d call) ≡ refusal_by d call
+pub refusal_if : (unloads : Bool) (d : OutputLoadDecider) (call : ReportCall) → refusal_by d (ready_if unloads d call) ≡ refusal_by d call
 refusal_if true d call = (isolated d (call ∷ [])).6 0
 refusal_if false d call = refl
 
@@ -67,12 +67,3 @@ module _ (options : Options) (scene : SceneConfig) where
 
   pub none_ready : unloaded_for options scene [] ≡ []
   none_ready = same_if (λ calls. calls) options.unload_skipped d [] refl
-
-  pub more_ready : (calls : List ReportCall) (call : ReportCall) → unloaded_for options scene (calls ++ call ∷ []) ≡ unloaded_for options scene calls ++ ready_if options.unload_skipped d call ∷ []
-  more_ready = more_if options.unload_skipped d
-
-  pub refusal_ready : (call : ReportCall) → refusal_by d (ready_if options.unload_skipped d call) ≡ refusal_by d call
-  refusal_ready = refusal_if options.unload_skipped d
-
-  pub outcome_ready : (before : RunOutcome) (call : ReportCall) → outcome_after before (ready_if options.unload_skipped d call) ≡ outcome_after before call
-  outcome_ready = outcome_if options.unload_skipped d

@@ -1,6 +1,6 @@
 -- All calls of one event are refused alike, and some need not be made to judge it; and the first event of a scene that is refused (for
 -- `check_refusal`, `check_refusals`, `report_events`, `report_to`).
-use Rattle.std.proofs.Common.{◌≡◌, ℕ, ◌+◌, ◌<◌, ◌≤◌, List, [], ◌∷◌, ◌++◌, Bool, Option, false, length, take, arith, get_or, refl, sym, ap, subst, ◌∙◌, ◌⊎◌, None, Some, append_assoc, inl, inr, not, if◌then◌else◌, ap₂, true, ◌||◌, rules}
+use Rattle.std.proofs.Common.{◌≡◌, ℕ, ◌+◌, ◌<◌, ◌≤◌, List, [], ◌∷◌, ◌++◌, Bool, Option, false, length, take, arith, get_or, refl, sym, ap, subst, ◌∙◌, ◌⊎◌, None, Some, append_assoc, inl, inr, not, if◌then◌else◌, ap₂, true, rules}
 use Rattle.scenes.proofs.Common.{AllZip, cases_Bool, ChecksEvent, common_steps, decider_for, Event, Fault, fault_at_call, first_refused, Header, is_some, IsCallOf, IsSceneRefused, length-append, Line, LineFault, option_map, Options, position_or_len, Prefix, refusal_by, Refuses, ReportCall, Scene, SceneConfig, SceneEvent, take_all, WriteEventError, all_zipped_more, cond, false≢true, nat_lt, OutputLoadDecider, OutputNotLoaded, RetriedSuccess, take_more, TestEventKind}
 use Rattle.std.specs.Option.{option_or, option_map_or}
 use Rattle.std.specs.List.{position}
@@ -16,14 +16,11 @@ use Rattle.run_model.specs.Outputs.{has_loaded_output}
 use Rattle.run_model.specs.Statuses.{is_success, summary_of}
 use Rattle.run_model.specs.declared.event.TestEventKind.TheVariants as kind
 use Rattle.run_model.specs.declared.info.InfoResponse.TheVariants as response
-use Rattle.run_model.specs.declared.output.ChildOutputDescription.{ChildOutputDescription}
-use Rattle.run_model.specs.declared.output.LiveSpec.{LiveSpec}
-use Rattle.run_model.specs.declared.status.SetupScriptExecuteStatus.{SetupScriptExecuteStatus}
 use Rattle.run_model.specs.declared.call.ReportCall.TheVariants as call
 use Rattle.scene_events.specs.SceneAttempts.{script_status}
 use Rattle.scene_events.specs.Scenes.{SaysSame, may_be_refused, nothing_counted, elapsed_in}
 use Rattle.scene_events.specs.declared.scene.event.SceneEvent.TheVariants as scene
-use Rattle.std.proofs.lemmas.Bool.{not-false, or_parts}
+use Rattle.std.proofs.lemmas.Bool.{or_parts}
 use Rattle.reporter_state.specs.KeptTests.{lent}
 use Rattle.run_names.specs.declared.name.TestInstanceId.{TestInstanceId}
 use Rattle.scene_events.specs.declared.scene.unit_events.SceneTest.{SceneTest}
@@ -36,12 +33,9 @@ lacking is_needed output =
 abbrev pub lacking_attempt : Bool → Attempt → Option WriteEventError
 lacking_attempt is_needed attempt = if is_success attempt.result then Some RetriedSuccess else lacking is_needed attempt.output
 
-abbrev pub lacking_script : SetupScriptExecuteStatus LiveSpec ChildOutputDescription → Option WriteEventError
-lacking_script status = lacking (loads_script status.result) status.output
-
 -- why each call of an event is refused
 abbrev pub told_refusal : OutputLoadDecider → SceneEvent → Option WriteEventError
-told_refusal d (scene.SetupScriptFinished e) = lacking_script (script_status e.attempt)
+told_refusal d (scene.SetupScriptFinished e) = lacking (loads_script e.attempt.result) e.attempt.output
 told_refusal d (scene.TestAttemptFailedWillRetry e) = lacking_attempt (loads_attempt d e.failure_output) e.attempt
 told_refusal d (scene.TestFinished e) = lacking (loads_finish d e.success_output e.failure_output (summary_of e.attempts)) e.attempts.last.output
 told_refusal d (scene.ScriptAnswered e) = lacking (has_valid_output e.answer.state) e.answer.output
@@ -49,7 +43,7 @@ told_refusal d (scene.TestAnswered e) = lacking (has_valid_output e.answer.state
 told_refusal d other = None
 
 refusal_told : (d : OutputLoadDecider) (event : SceneEvent) (k : TestEventKind) → SaysSame event k → event_refusal d k ≡ told_refusal d event
-refusal_told d (scene.SetupScriptFinished e) (kind.SetupScriptFinished stress id program args status) h = ap lacking_script h.2
+refusal_told d (scene.SetupScriptFinished e) (kind.SetupScriptFinished stress id program args status) h = ap (λ s. lacking (loads_script s.result) s.output) h.2
 refusal_told d (scene.TestAttemptFailedWillRetry e) (kind.TestAttemptFailedWillRetry stress test status delay failure) h =
     ap₂ (λ display attempt. lacking_attempt (loads_attempt d display) attempt) h.4 h.2
 refusal_told d (scene.TestFinished e) (kind.TestFinished stress test success failure statuses stats) h = rw (h.2, h.3, h.4) refl
@@ -72,8 +66,8 @@ pub first_of : (d : OutputLoadDecider) (es : List SceneEvent) (calls : List Repo
 first_of d es calls h = ap₂ (λ (n long : ℕ). cond (nat_lt n long) (Some n) None) (first_told d es calls h) (AllZip-long IsCallOf es calls h)
 
 -- one more element of each of two lists
-pub AllZip-more : {A B : Type 0} (R : A → B → Type 0) (xs : List A) (ys : List B) (i : ℕ) (x : A) (y : B) → i < length xs → x ≡ get_or xs i x → AllZip R (take i xs) ys → R x y → AllZip R (take (i + 1) xs) (ys ++ y ∷ [])
-AllZip-more R xs ys i x y l e h r = rw (take_more xs i x l, ← e) (all_zipped_more R (take i xs) ys x y h r)
+pub zipped_more : {A B : Type 0} (R : A → B → Type 0) (xs : List A) (ys : List B) (i : ℕ) (x : A) (y : B) → i < length xs → x ≡ get_or xs i x → AllZip R (take i xs) ys → R x y → AllZip R (take (i + 1) xs) (ys ++ y ∷ [])
+zipped_more R xs ys i x y l e h r = rw (take_more xs i x l, ← e) (all_zipped_more R (take i xs) ys x y h r)
 
 -- the calls of the first events and those of the others
 pub zip_both : (es fs : List SceneEvent) (calls more : List ReportCall) → AllZip IsCallOf es calls → AllZip IsCallOf fs more → AllZip IsCallOf (es ++ fs) (calls ++ more)
@@ -87,14 +81,9 @@ zip_after (e ∷ es) fs [] h = absurd h
 zip_after (e ∷ es) fs (c ∷ calls) h = zip_after es fs calls h.1
 
 -- of output that is there nothing is lacking
-none_lacking : (is_needed : Bool) (output : Written) → has_loaded_output output ≡ true → lacking is_needed output ≡ None
+none_lacking : (is_needed : Bool) (output : Written) → not (has_loaded_output output) ≡ false → lacking is_needed output ≡ None
 none_lacking true output there = rw there refl
 none_lacking false output there = refl
-
-attempt_lacks_none : (is_needed : Bool) (attempt : Attempt) → (is_success attempt.result || not (has_loaded_output attempt.output)) ≡ false → lacking_attempt is_needed attempt ≡ None
-attempt_lacks_none is_needed attempt h =
-    let both = or_parts (is_success attempt.result) (not (has_loaded_output attempt.output)) h in
-    rw both.0 (none_lacking is_needed attempt.output (not-false _ both.1))
 
 -- a test as a call names it
 abbrev named : SceneTest → TestInstanceId
@@ -118,16 +107,16 @@ judged_unmade d (scene.SetupScriptStarted e) off = judged_by d _ (kind.SetupScri
 judged_unmade d (scene.SetupScriptSlow e) off = judged_by d _ (kind.SetupScriptSlow e.stress_index e.script.script_id e.script.program e.script.args e.elapsed e.will_terminate) (refl, (refl, refl, refl), refl, refl) refl
 judged_unmade d (scene.SetupScriptFinished e) off =
     judged_by d _ (kind.SetupScriptFinished e.stress_index e.script.script_id e.script.program e.script.args (script_status e.attempt)) (refl, (refl, refl, refl), refl)
-    (none_lacking (loads_script e.attempt.result) e.attempt.output (not-false _ off))
+    (none_lacking (loads_script e.attempt.result) e.attempt.output off)
 judged_unmade d (scene.TestStarted e) off = judged_by d _ (kind.TestStarted e.test.stress_index (named e.test) e.current_stats e.command_line) (refl, (refl, refl), refl, refl) refl
 judged_unmade d (scene.TestSlow e) off = judged_by d _ (kind.TestSlow e.test.stress_index (named e.test) e.retry_data e.elapsed e.will_terminate) (refl, (refl, refl), refl, refl, refl) refl
 judged_unmade d (scene.TestAttemptFailedWillRetry e) off =
     judged_by d _ (kind.TestAttemptFailedWillRetry e.test.stress_index (named e.test) e.attempt e.delay_before_next_attempt e.failure_output) (refl, (refl, refl), refl, refl, refl)
-    (attempt_lacks_none (loads_attempt d e.failure_output) e.attempt off)
+    (let both = or_parts (is_success e.attempt.result) _ off in rw both.0 (none_lacking (loads_attempt d e.failure_output) e.attempt.output both.1))
 judged_unmade d (scene.TestRetryStarted e) off = judged_by d _ (kind.TestRetryStarted e.test.stress_index (named e.test) e.retry_data e.command_line) (refl, (refl, refl), refl, refl) refl
 judged_unmade d (scene.TestFinished e) off =
     judged_by d _ (kind.TestFinished e.test.stress_index (named e.test) e.success_output e.failure_output e.attempts e.current_stats) (refl, (refl, refl), refl, refl, refl, refl)
-    (none_lacking (loads_finish d e.success_output e.failure_output (summary_of e.attempts)) e.attempts.last.output (not-false _ off))
+    (none_lacking (loads_finish d e.success_output e.failure_output (summary_of e.attempts)) e.attempts.last.output off)
 judged_unmade d (scene.TestSkipped e) off = judged_by d _ (kind.TestSkipped e.stress_index (named e)) (refl, (refl, refl)) refl
 judged_unmade d (scene.RunBeginCancel e) off = judged_by d _ (kind.RunBeginCancel e.setup_scripts_running (nothing_counted e.reason) e.running) (refl, refl, refl) refl
 judged_unmade d (scene.RunBeginKill e) off = judged_by d _ (kind.RunBeginKill e.setup_scripts_running (nothing_counted e.reason) e.running) (refl, refl, refl) refl
@@ -137,11 +126,11 @@ judged_unmade d (scene.InfoStarted e) off = judged_by d _ (kind.InfoStarted e.ru
 judged_unmade d (scene.ScriptAnswered e) off =
     judged_by d _
     (kind.InfoResponse e.index e.total (response.SetupScript (record { stress_index = e.stress_index; script_id = e.script.script_id; program = e.script.program; args = e.script.args; state = e.answer.state; output = e.answer.output })))
-    (refl, refl, refl, (refl, refl, refl), refl, refl) (none_lacking (has_valid_output e.answer.state) e.answer.output (not-false _ off))
+    (refl, refl, refl, (refl, refl, refl), refl, refl) (none_lacking (has_valid_output e.answer.state) e.answer.output off)
 judged_unmade d (scene.TestAnswered e) off =
     judged_by d _
     (kind.InfoResponse e.index e.total (response.Test (record { stress_index = e.test.stress_index; test_instance = named e.test; retry_data = e.retry_data; state = e.answer.state; output = e.answer.output })))
-    (refl, refl, refl, (refl, refl), refl, refl, refl) (none_lacking (has_valid_output e.answer.state) e.answer.output (not-false _ off))
+    (refl, refl, refl, (refl, refl), refl, refl, refl) (none_lacking (has_valid_output e.answer.state) e.answer.output off)
 judged_unmade d (scene.InfoFinished e) off = judged_by d _ (kind.InfoFinished e) refl refl
 judged_unmade d (scene.InputEnter e) off = judged_by d _ (kind.InputEnter e.current_stats e.running) (refl, refl) refl
 judged_unmade d (scene.StressSubRunFinished e) off = judged_by d _ (kind.StressSubRunFinished e.progress e.sub_elapsed e.sub_stats) (refl, refl, refl) refl
@@ -236,6 +225,6 @@ module _ (options : Options) (scene : Scene) where
       let long : length now.calls ≡ i = AllZip-long IsCallOf (take i scene.events.items) now.calls now.of_first ∙ grind (arith, common_steps, within) in
       record {
         calls = now.calls ++ j.call ∷ [];
-        of_first = AllZip-more IsCallOf scene.events.items now.calls i e j.call within is now.of_first j.of_event;
+        of_first = zipped_more IsCallOf scene.events.items now.calls i e j.call within is now.of_first j.of_event;
         first = first_more now.calls j.call refused fault now.first (j.is ∙ ap (λ k. option_map (fault_at_call k) (refusal_by (decider_for options scene.config) j.call)) (line ∙ ap (λ k. get_or scene.lines.items k 0) (sym long)));
       }

@@ -1,23 +1,23 @@
 -- Events reported one after the other, and one that is stopped (for `SceneReporter::report_events`, `report_to`).
 use Rattle.std.proofs.Common.{◌≡◌, ◌⊎◌, ℕ, suc, ◌+◌, ◌<◌, true, List, [], ◌∷◌, ◌++◌, Option, None, Some, length, take, drop, get_or, reverse, refl, sym, ap, ◌∙◌, subst, arith, append_assoc, inl, inr, Result, Ok, Err, IfErr, OnOk}
 use Rattle.std.proofs.Math.Seq.{drop-cons}
-use Rattle.scenes.proofs.Common.{all_zipped_more, AllZip, AreWhole, Begins, configuration_for, decider_for, EventLine, Failed, Fault, fault_at_call, first_refused, Follows, HasBeginning, Io, is_some, IsCallOf, Line, LineFault, Meaning, option_map, Options, outcome_after, OutOfMemory, OutputLoadDecider, OutputNotLoaded, ParsedLines, Prints, Records, refusal_by, report, report_of, ReportCall, Reported, RetriedSuccess, reverse-append, Scene, scene_lines, SceneConfig, SceneEvent, SceneReporter, Stops, StopsAtEvent, Store, store-laws, store_for, store_meaning, stored, stored_of, stored_text, StoreFailed, StoreIo, take_more, Text, text, with_line, WriteEventError, WriteFailed, WriterLaws, writers}
+use Rattle.scenes.proofs.Common.{all_zipped_more, AllZip, AreWhole, Begins, configuration_for, decider_for, EventLine, Fault, fault_at_call, first_refused, Follows, Io, is_some, IsCallOf, Line, LineFault, Meaning, option_map, Options, outcome_after, OutOfMemory, OutputLoadDecider, OutputNotLoaded, ParsedLines, Prints, Records, refusal_by, report, report_of, ReportCall, Reported, RetriedSuccess, reverse-append, Scene, scene_lines, SceneConfig, SceneEvent, SceneReporter, Stops, StopsAtEvent, Store, store-laws, store_for, store_meaning, stored, stored_of, stored_text, StoreIo, take_more, Text, text, with_line, WriteEventError, WriterLaws, writers}
 use Rattle.std.proofs.lemmas.List.{length-take-le, take-append-drop}
 use Rattle.console_reporter.specs.Configuration.{Configuration}
 use Rattle.console_reporter.specs.OptionalStore.{config_of}
 use Rattle.console_reporter.specs.HeldState.{StandsAfter}
 use Rattle.console_reporter.specs.Telling.{AreDelivered, Promises}
-use Rattle.reporter_state.specs.declared.faults.WriteEventError.TheVariants.{Memory}
+use Rattle.console_reporter.specs.Outcomes.Side.{Report}
+use Rattle.reporter_state.specs.Refusals.{refusal_in}
 use Rattle.scene_fields.specs.declared.fault.LineFault.TheVariants as line
-use Rattle.scenes.specs.Prints.{IsStop}
 use Rattle.scenes.specs.Judged.{IsSceneAccepted, RefusesEvent}
 use Rattle.std.specs.List.{position}
 use Rattle.scenes.specs.Outcomes.{run_outcome}
 use Rattle.scenes.specs.declared.outcome.RunOutcome.TheVariants as outcome
 use Rattle.scenes.specs.Reports.{IsReadyCall, ready_if, unloaded_for}
-use Rattle.scenes.proofs.lemmas.ReadyCalls.{more_ready, none_ready, outcome_ready, refusal_ready, report_ready, stored_ready}
+use Rattle.scenes.proofs.lemmas.ReadyCalls.{more_if, none_ready, outcome_if, refusal_if, report_ready, stored_ready}
 use Rattle.scenes.proofs.lemmas.Refusals.{fails_behind, none_mapped, none_more, first_of, refusal_of_call, told_refusal, zip_after}
-use Rattle.scenes.proofs.lemmas.Prints.{begins_longer, begins_no_more, failed_call, memory_no_device, memory_no_store, no_call, prints_only, refused_call, whole_call, write_no_store}
+use Rattle.scenes.proofs.lemmas.Prints.{begins_longer, begins_no_more, call_stopped, is_stop, last_next, prints_only}
 
 -- a store is there where its device failed
 store_there : {S : Type 0} (n : Meaning S) (options : Options) (old new : Option (Store S)) (text : Text) → config_of old ≡ store_for options → Stops Records (store_meaning n) old text StoreIo new → is_some (store_for options) ≡ true
@@ -66,7 +66,7 @@ module _ {W S : Type 0} {m : Meaning W} {n : Meaning S} (laws : WriterLaws m) (o
     of_run = all_zipped_more IsCallOf run.events before e r.made follows.reported.of_run r.of_event
 
     past_is : reverse (unloaded_for options run.config calls) ≡ call ∷ past
-    past_is = ap reverse (more_ready options run.config before r.made) ∙ reverse-append (unloaded_for options run.config before) (ready_if options.unload_skipped (decider_for options run.config) r.made ∷ []) ∙ ap (λ c. c ∷ past) (sym r.ready)
+    past_is = ap reverse (more_if options.unload_skipped (decider_for options run.config) before r.made) ∙ reverse-append (unloaded_for options run.config before) (ready_if options.unload_skipped (decider_for options run.config) r.made ∷ []) ∙ ap (λ c. c ∷ past) (sym r.ready)
 
     text_is : report_of options run.config before ++ text config past call ≡ report_of options run.config calls
     text_is = ap (λ t. t ++ text config past call) (sym (report_ready options run.config before)) ∙ ap (report config) (sym past_is) ∙ report_ready options run.config calls
@@ -75,7 +75,7 @@ module _ {W S : Type 0} {m : Meaning W} {n : Meaning S} (laws : WriterLaws m) (o
     record_is = ap (λ t. t ++ stored_text config.store call) (sym (stored_ready options run.config before)) ∙ ap (stored config.store) (sym past_is) ∙ stored_ready options run.config calls
 
     refusal_is : refusal_by (decider_for options run.config) call ≡ refusal_by (decider_for options run.config) r.made
-    refusal_is = ap (refusal_by (decider_for options run.config)) r.ready ∙ refusal_ready options run.config r.made
+    refusal_is = ap (refusal_by (decider_for options run.config)) r.ready ∙ refusal_if options.unload_skipped (decider_for options run.config) r.made
 
     accepted : refusal_by (decider_for options run.config) call ≡ None → first_refused (decider_for options run.config) calls ≡ None
     accepted none = none_more (λ c. is_some (refusal_by (decider_for options run.config) c)) before r.made follows.reported.accepted (ap is_some (sym refusal_is ∙ none))
@@ -94,41 +94,40 @@ module _ {W S : Type 0} {m : Meaning W} {n : Meaning S} (laws : WriterLaws m) (o
             kept = subst (λ t. (store_meaning n).accepts start.reporter.store t next.reporter.store) record_is ((store-laws others).joins _ _ _ _ _ whole.kept (promises.ok.stored config past follows.stands));
             delivered = (delivered.writer, delivered.store);
           }),
-          outcome ∙ ap (outcome_after now.outcome) r.ready ∙ outcome_ready options run.config now.outcome r.made ∙ ap (λ o. outcome_after o r.made) follows.reported.holds.1 ∙ ap run_outcome (sym (reverse-append before (r.made ∷ []))),
+          outcome ∙ ap (outcome_after now.outcome) r.ready ∙ outcome_if options.unload_skipped (decider_for options run.config) now.outcome r.made ∙ ap (λ o. outcome_after o r.made) follows.reported.holds.1 ∙ ap run_outcome (sym (reverse-append before (r.made ∷ []))),
         );
       };
       stands = subst (λ cs. StandsAfter config cs next.reporter) (sym past_is) (promises.ok.stands config past follows.stands);
     }
 
-    -- or answered an error that is no refusal
-    begun : None ≡ refusal_by (decider_for options run.config) call → (f : Fault) → IsStop options f
-        → HasBeginning m (report_of options run.config) (f ≡ WriteFailed) (f ≡ StoreFailed) calls start.reporter.writer.now next.reporter.writer.now
-        → HasBeginning (store_meaning n) (stored_of options) (f ≡ StoreFailed) (f ≡ WriteFailed) calls start.reporter.store next.reporter.store
-        → Begins m (store_meaning n) options (writers start) (writers next) (with_line run (EventLine e)) f
-    begun none f stopped printed kept = record { calls = calls; of_run = of_run; accepted = accepted (sym none); holds = (stopped, printed, kept) }
-
-    -- or is refused
+    -- or refused,
     refused : (number : ℕ) (error : WriteEventError) (f : LineFault) → Some error ≡ refusal_by (decider_for options run.config) call → ((n : ℕ) → fault_at_call n error ≡ Line n f) → next.reporter ≡ now.reporter → StopsAt m n options start next run number e (fault_at_call number error)
     refused number error f refuses is same = inr (inr (
       subst (λ r. Prints m (store_meaning n) options (writers start) (r.writer.now, r.store) run) (sym same) (prints_only follows.reported),
       (f, is number, record { call = r.made; of_event = r.of_event; refused = λ n. ap (option_map (fault_at_call n)) (sym refusal_is ∙ sym refuses) ∙ ap Some (is n) }),
     ))
 
+    -- or an error stopped it
+    stopped : (number : ℕ) (error : WriteEventError) → refusal_in error ≡ None → Promises m n now.reporter (Some call) (Err error) next.reporter → StopsAt m n options start next run number e (fault_at_call number error)
+    stopped number error none promises =
+        let stops = promises.err.store_stopped config past follows.stands in
+        let store_stops = λ (other : WriteEventError) (is : error ≡ other). subst (λ x. Stops Records (store_meaning n) now.reporter.store (stored_text config.store call) x next.reporter.store) is stops in
+        inr (inl (record {
+          calls = calls;
+          of_run = of_run;
+          accepted = accepted (sym (promises.refused config past follows.stands) ∙ none);
+          holds = (
+            is_stop options number error none (λ is. store_there n options now.reporter.store next.reporter.store _ follows.stands.store (store_stops StoreIo is)),
+            call_stopped laws Report (last_next (report_of options run.config) before r.made _ text_is) _ _ _ whole.printed number error none promises.err.delivered (promises.err.stopped config past follows.stands),
+            call_stopped (store-laws others) Records (last_next (stored_of options) before r.made _ record_is) _ _ _ whole.kept number error none
+                (λ is. subst (store_meaning n).is_delivered (sym (store_stops Io is)) whole.delivered.1) stops,
+          );
+        }))
+
     pub one_stopped : (number : ℕ) (error : WriteEventError) → Promises m n now.reporter (Some call) (Err error) next.reporter → StopsAt m n options start next run number e (fault_at_call number error)
     one_stopped number RetriedSuccess promises = refused number RetriedSuccess line.RetriedSuccess (promises.refused config past follows.stands) (λ n. refl) (promises.untouched refl)
     one_stopped number OutputNotLoaded promises = refused number OutputNotLoaded line.OutputNotLoaded (promises.refused config past follows.stands) (λ n. refl) (promises.untouched refl)
-    one_stopped number Io promises = inr (inl (begun (promises.refused config past follows.stands) WriteFailed (inl refl)
-        (failed_call laws _ _ _ before r.made _ text_is _ _ _ whole.printed refl write_no_store (promises.err.stopped config past follows.stands))
-        (no_call (store-laws others) _ _ _ before r.made _ record_is _ _ _ whole.kept (promises.err.store_stopped config past follows.stands) whole.delivered.1)))
-    one_stopped number Memory promises = inr (inl (begun (promises.refused config past follows.stands) OutOfMemory (inr (inl refl))
-        (refused_call laws _ _ _ before r.made _ text_is _ _ _ whole.printed memory_no_store (promises.err.stopped config past follows.stands))
-        (refused_call (store-laws others) _ _ _ before r.made _ record_is _ _ _ whole.kept memory_no_device (promises.err.store_stopped config past follows.stands))))
-    one_stopped number Failed promises = absurd (promises.err.stopped config past follows.stands)
-    one_stopped number StoreIo promises =
-        let stops = promises.err.store_stopped config past follows.stands in
-        inr (inl (begun (promises.refused config past follows.stands) StoreFailed (inr (inr (refl, store_there n options now.reporter.store next.reporter.store _ follows.stands.store stops)))
-        (whole_call laws _ _ _ before r.made _ text_is _ _ _ whole.printed (promises.err.stopped config past follows.stands) (promises.err.delivered refl))
-        (failed_call (store-laws others) _ _ _ before r.made _ record_is _ _ _ whole.kept refl (λ is. write_no_store (sym is)) stops)))
+    one_stopped number error promises = stopped number error refl promises
 
   -- the event at this place, behind those that were reported
   module _ (config : SceneConfig) (events : List SceneEvent) (base : List SceneEvent) (place : ℕ) (now next : SceneReporter W S) (e : SceneEvent) (within : place < length events) (is : e ≡ get_or events place e)

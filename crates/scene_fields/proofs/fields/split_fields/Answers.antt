@@ -1,10 +1,52 @@
-use Rattle.std.proofs.Common.{◌<◌, ◌≤◌, [], ◌∷◌, ◌∙◌, length, ap, sym, refl, arith}
+use Rattle.std.proofs.Common.{◌<◌, ◌≤◌, [], ◌∷◌, ◌∙◌, length, ap, sym, refl, arith, ◌≡◌, ℕ, ◌+◌, ◌-◌, List, ◌++◌, true, ◌==◌, take, drop, subst, length-drop, append_assoc}
 use Rattle.std.proofs.lemmas.Str.{IsCharBoundary-start, IsCharBoundary-after_ascii}
-use Rattle.scene_fields.specs.Split.{split_on}
-use Rattle.scene_fields.proofs.lemmas.Cuts.{byte_at, split_on-lacks, split_on-parts}
-use Rattle.scene_fields.proofs.lemmas.Marks.{all_left, fewer_left, inside, next_left, none_left}
-use Rattle.scene_fields.proofs.lemmas.Tabs.{cut_here, lacks_here, one_more, one_last}
+use Rattle.scene_fields.specs.Split.{split_on, Lacks, field_texts}
+use Rattle.scene_fields.proofs.lemmas.Cuts.{byte_at, split_on-lacks, split_on-parts, Lacks-from_each, cut_at}
+use Rattle.scene_fields.proofs.lemmas.Marks.{fewer_left, inside, next_left}
+use Rattle.std.proofs.lemmas.List.{get_or-drop, drop-drop, map-append}
+use Rattle.memchr.specs.Find.{is_byte, Nowhere, NoneBefore, Passes}
+use Rattle.std.specs.Borrow.{Bor}
 use Rattle.scene_fields.proofs.fields.split_fields.Goals as goal
+
+module _ (b : ℕ) (t : List ℕ) (start : ℕ) (within : start ≤ length t) where
+  abbrev rest : List ℕ
+  rest = drop start t
+
+  -- places in the rest are places in the text
+  back : (k : ℕ) → Passes (is_byte b) rest k → Passes (is_byte b) t (start + k)
+  back k p = subst (λ c. (c == b) ≡ true) (get_or-drop start t k 0) p
+
+  forth : (k : ℕ) → Passes (is_byte b) t (start + k) → Passes (is_byte b) rest k
+  forth k p = subst (λ c. (c == b) ≡ true) (sym (get_or-drop start t k 0)) p
+
+  -- the text from start on, cut at its first such byte
+  cut_here : (place : ℕ) → NoneBefore (Passes (is_byte b) t) start (length t) place → Passes (is_byte b) t place → Lacks b (take (place - start) rest) × (rest ≡ take (place - start) rest ++ (b ∷ drop (place + 1) t))
+  cut_here place first passes =
+      let at : place ≡ start + (place - start) = omega (arith, first.low) in
+      let room : place - start < length rest = simp length-drop (omega (arith, first.low, first.high)) in
+      let here : NoneBefore (Passes (is_byte b) rest) 0 (length rest) (place - start) = record { low = omega arith; high = room; before = λ j l u p. first.before (start + j) (omega arith) (omega arith) (back j p) } in
+      let cut = cut_at b rest (place - start) here (forth (place - start) (subst (λ n. Passes (is_byte b) t n) at passes)) in
+      let e : start + (place - start + 1) ≡ place + 1 = omega (arith, first.low) in
+      (cut.0, cut.1 ∙ ap (λ u. take (place - start) rest ++ (b ∷ u)) (drop-drop _ _ t ∙ ap (λ n. drop n t) e))
+
+  -- no such byte is left
+  lacks_here : Nowhere (Passes (is_byte b) t) start (length t) → Lacks b rest
+  lacks_here none = Lacks-from_each b rest (λ j l u p. none (start + j) (omega arith) (bound j u) (back j p))
+    where
+      bound : (j : ℕ) → j < length rest → start + j < length t
+      bound j u = let d = length-drop start t in omega (arith, d, u)
+
+-- one more piece was found
+module _ (front : List (Bor (List ℕ))) (piece : Bor (List ℕ)) (rest : List (List ℕ)) (whole : List (List ℕ)) where
+  one_more : (later : List (List ℕ)) → field_texts front ++ rest ≡ whole → rest ≡ piece.now ∷ later → field_texts (front ++ piece ∷ []) ++ later ≡ whole
+  one_more later so_far cut =
+      ap (λ us. us ++ later) (map-append (λ (u : Bor (List ℕ)). u.now) front (piece ∷ []))
+      ∙ append_assoc (field_texts front) (piece.now ∷ []) later
+      ∙ ap (λ us. field_texts front ++ us) (sym cut)
+      ∙ so_far
+
+  one_last : field_texts front ++ rest ≡ whole → rest ≡ piece.now ∷ [] → field_texts (front ++ piece ∷ []) ≡ whole
+  one_last so_far cut = map-append (λ (u : Bor (List ℕ)). u.now) front (piece ∷ []) ∙ ap (λ us. field_texts front ++ us) (sym cut) ∙ so_far
 
 pub loop-from-init : goal.loop-from-init
 loop-from-init c = record {
@@ -13,13 +55,6 @@ loop-from-init c = record {
   seen = λ k low high p. omega arith;
   fields = rw c.clear.ensures.items refl;
 }
-
-pub loop-tabs-init : goal.loop-tabs-init
-loop-tabs-init c =
-    let so_far = c.loop-from.invariant in
-    let bits = rw c.as_bytes-bytes.ensures.value at c.marks_from-tabs.ensures in
-    let within : c.loop-from.from < length c.args.line.now = omega (arith, ap length c.as_bytes-bytes.ensures.value) in
-    record { near = so_far.near; high = omega arith; boundary = so_far.boundary; left = all_left _ _ _ _ _ within so_far.seen bits; fields = so_far.fields }
 
 pub range-requires-clause-end_boundary : goal.range-requires-clause-end_boundary
 range-requires-clause-end_boundary c =
@@ -40,11 +75,6 @@ loop-tabs-preserved c =
       left = fewer_left _ _ _ _ _ _ so_far.left _ c.loop-tabs-test.true first 1 _ (omega (arith, tab.0.high)) c.shift_past-tabs.ensures.behind;
       fields = rw c.in_ok-push.ensures.items (one_more _ _ _ _ _ so_far.fields (rw c.range.ensures.value (ap (split_on 9) cut.1 ∙ split_on-parts 9 _ _ cut.0)));
     }
-
-pub loop-from-preserved : goal.loop-from-preserved
-loop-from-preserved c =
-    let so_far = c.loop-tabs.invariant in
-    record { near = omega (arith, so_far.near, so_far.high); boundary = so_far.boundary; seen = λ k low high p. none_left _ _ _ _ _ _ so_far.left c.loop-tabs-test.false k low (omega arith) p; fields = so_far.fields }
 
 pub returns : goal.returns
 returns c =

@@ -1,16 +1,8 @@
 use Rattle.std.proofs.Common.{arith}
-use Rattle.scene_fields.proofs.lemmas.Marks.{all_left, next_left, none_left}
+use Rattle.scene_fields.proofs.lemmas.Marks.{all_left, next_left}
 use Rattle.scene_fields.proofs.marks.find_byte.Goals as goal
 
 pub returns-then-marks-ne0 : goal.returns-then-marks-ne0
 returns-then-marks-ne0 c =
     let left = all_left _ _ _ _ _ c.loop-from-test.true c.loop-from.invariant c.marks_from-marks.ensures in
     next_left _ _ _ _ _ _ left _ c.if-marks-ne0.true c.first_place.ensures.first (omega arith)
-
-pub loop-from-preserved : goal.loop-from-preserved
-loop-from-preserved c =
-    let left = all_left _ _ _ _ _ c.loop-from-test.true c.loop-from.invariant c.marks_from-marks.ensures in
-    λ k low high p. none_left _ _ _ _ _ _ left (omega (arith, c.if-marks-ne0.false)) k low (omega arith) p
-
-pub returns : goal.returns
-returns c = λ k low high p. c.loop-from.invariant k low (omega arith) p

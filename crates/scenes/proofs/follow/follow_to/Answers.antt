@@ -1,7 +1,6 @@
-use Rattle.std.proofs.Common.{[], ap, sym}
-use Rattle.scenes.proofs.Common.{Followed, store-laws, store_meaning}
+use Rattle.std.proofs.Common.{ap}
+use Rattle.scenes.proofs.Common.{store-laws, store_meaning}
 use Rattle.scenes.proofs.lemmas.FollowedRuns.{nothing_stops}
-use Rattle.scenes.proofs.lemmas.Prints.{moved, pair}
 use Rattle.scenes.proofs.lemmas.ReadLines.{none_read}
 use Rattle.scenes.proofs.follow.follow_to.Goals as goal
 
@@ -14,7 +13,6 @@ returns-clause-ends g c = λ total all known.
     let made = c.build-reporter in
     let parts = c.into_parts-writer.ensures in
     let first = none_read c.args.options.now.file.now all c.new-read.result _ c.new-read.ensures.read c.new-read.ensures.lines c.new-read.ensures.begun c.new-read.ensures.next known in
-    moved (λ old new. Followed g.W.WriteStr.meaning (store_meaning g.S.WriteStr.meaning) c.args.options.now all old new (λ run. g.L.RunSource.left total c.follow_lines-followed.new.source run []) c.follow_lines-followed.result)
-    made.ensures.writers (pair (ap (λ w. w.now) (sym parts.writer)) (sym parts.store))
+    rw (parts.writer, parts.store, ← ap (λ w. w.0) made.ensures.writers, ← ap (λ w. w.1) made.ensures.writers)
     (c.follow_lines-followed.ensures.ends total all (c.read_lines-more.ensures.read total all _ _ first) (λ is. (c.read_lines-more.ensures.event is).1)
     (made.ensures.start c.args.options.now c.in-Ok.ensures.ok c.requires.store_asked c.requires.delivered c.requires.store_delivered))

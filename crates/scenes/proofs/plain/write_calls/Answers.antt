@@ -1,7 +1,6 @@
-use Rattle.std.proofs.Common.{None, subst, sym, get_or}
-use Rattle.scenes.proofs.Common.{AreWhole, device, fault_at_call}
-use Rattle.scenes.specs.Prints.{AreBegun}
-use Rattle.scenes.proofs.lemmas.PlainReports.{alone_ends, alone_stops, configured_so, untouched}
+use Rattle.std.proofs.Common.{None, get_or}
+use Rattle.scenes.proofs.lemmas.Devices.{alone_whole, whole_here}
+use Rattle.scenes.proofs.lemmas.PlainReports.{alone_stops, configured_so, untouched}
 use Rattle.scenes.proofs.plain.write_calls.Goals as goal
 
 pub returns-in_default-clause-err : goal.returns-in_default-clause-err
@@ -12,14 +11,12 @@ returns-in-Err-clause-err g c = (c.args.writer, λ held. untouched c.args.option
 
 pub returns-in-Ok-run_report-clause-ok : goal.returns-in-Ok-run_report-clause-ok
 returns-in-Ok-run_report-clause-ok g c =
-    let options = c.args.options.now in
-    let config = c.args.scene.now.config in
     let out = c.in-Ok-new.ensures.ok in
     let last = c.run_report.new.writer in
-    let is = configured_so options config None c.requires.no_store c.in-Ok.builder c.in-Ok.ensures.ok in (
+    let ran = c.in-Ok-run_report.ensures in
+    let is = configured_so c.args.options.now c.args.scene.now.config None c.requires.no_store c.in-Ok.builder c.in-Ok.ensures.ok in (
       last.writer,
-      λ held. subst (λ w. AreWhole device device options (g.W.Write.contents w, held) (g.W.Write.contents last.writer, held) config c.args.calls.now) out.0
-          (alone_ends options config c.args.calls.now _ is g.W.Write.contents c.in-Ok-new.out last out.1 c.requires.no_store c.in-Ok-run_report.ensures.ok c.in-Ok-run_report.ensures.delivered held),
+      λ held. rw (← out.0) (alone_whole c.args.options.now c.requires.no_store _ _ held c.args.scene.now.config c.args.calls.now (whole_here g.W.Write.contents c.in-Ok-new.out last out.1 _ (rw is at ran.ok) ran.delivered)),
     )
 
 pub returns-clause-err : goal.returns-clause-err
@@ -33,7 +30,6 @@ returns-clause-err g c =
     let number = get_or c.args.scene.now.lines.items stop.position 0 in
     let is = configured_so options config None c.requires.no_store c.in-Ok.builder c.in-Ok.ensures.ok in (
       last.writer,
-      λ held. subst (λ f. AreBegun device device options (g.W.Write.contents c.args.writer, held) (g.W.Write.contents last.writer, held) config f c.args.calls.now) (sym c.fault_of_stop.ensures)
-          (subst (λ w. AreBegun device device options (g.W.Write.contents w, held) (g.W.Write.contents last.writer, held) config (fault_at_call number stop.fault) c.args.calls.now) out.0
-          (alone_stops options config c.args.calls.now _ is g.W.Write.contents c.in-Ok-new.out last out.1 c.requires.no_store c.requires.accepted number stop.position stop.fault ran.refused (λ fails. let h = ran.store_io fails in cc) ran.err held)),
+      λ held. rw (c.fault_of_stop.ensures, ← out.0)
+          (alone_stops options config c.args.calls.now c.requires.accepted number stop.position stop.fault _ is ran.refused g.W.Write.contents c.in-Ok-new.out last out.1 (rw is at ran.err) c.requires.no_store (λ fails. let h = ran.store_io fails in cc) held),
     )

@@ -1,8 +1,7 @@
-use Rattle.std.proofs.Common.{Some, subst, sym, get_or, ℕ, List, Option, ap}
-use Rattle.scenes.proofs.Common.{AreWhole, device, fault_at_call}
-use Rattle.scenes.specs.Prints.{AreBegun}
-use Rattle.scenes.proofs.lemmas.PlainReports.{both_end, both_stop, configured_so, untouched}
-use Rattle.scenes.proofs.lemmas.Prints.{pair}
+use Rattle.std.proofs.Common.{Some, ap, get_or}
+use Rattle.scenes.proofs.Common.{is_some}
+use Rattle.scenes.proofs.lemmas.Devices.{whole_here}
+use Rattle.scenes.proofs.lemmas.PlainReports.{both_stop, configured_so, untouched}
 use Rattle.scenes.proofs.plain.write_calls_and_records.Goals as goal
 
 pub returns-in_default-clause-err : goal.returns-in_default-clause-err
@@ -16,18 +15,19 @@ returns-in-Err-new-clause-err g c = (c.args.writer, c.args.store_writer, untouch
 
 pub returns-in-Ok-run_report_with_store-clause-ok : goal.returns-in-Ok-run_report_with_store-clause-ok
 returns-in-Ok-run_report_with_store-clause-ok g c =
-    let options = c.args.options.now in
-    let config = c.args.scene.now.config in
     let out = c.in-Ok-new.ensures.ok in
     let records = c.in-Ok-new-2.ensures.ok in
     let last = c.run_report_with_store.new.writer in
     let store_last = c.run_report_with_store.new.store_writer in
     let ran = c.in-Ok-run_report_with_store.ensures in
-    let is = configured_so options config (Some c.args.store) c.requires.store c.in-Ok.builder c.in-Ok.ensures.ok in (
+    let is = configured_so c.args.options.now c.args.scene.now.config (Some c.args.store) c.requires.store c.in-Ok.builder c.in-Ok.ensures.ok in (
       last.writer,
       store_last.writer,
-      subst (λ old. AreWhole device device options old (g.W.Write.contents last.writer, g.S.Write.contents store_last.writer) config c.args.calls.now) (pair {T = Option (List ℕ)} (ap g.W.Write.contents out.0) (ap g.S.Write.contents records.0))
-          (both_end options config c.args.calls.now _ is g.W.Write.contents c.in-Ok-new.out last out.1 g.S.Write.contents c.in-Ok-new-2.records store_last records.1 c.args.store c.requires.store ran.ok ran.delivered ran.stored ran.store_delivered),
+      rw (← out.0, ← records.0) (record {
+        printed = whole_here g.W.Write.contents c.in-Ok-new.out last out.1 _ (rw is at ran.ok) ran.delivered;
+        kept = whole_here g.S.Write.contents c.in-Ok-new-2.records store_last records.1 _ (rw (← c.requires.store) at ran.stored) ran.store_delivered;
+        delivered = (tt, tt);
+      }),
     )
 
 pub returns-clause-err : goal.returns-clause-err
@@ -44,7 +44,7 @@ returns-clause-err g c =
     let is = configured_so options config (Some c.args.store) c.requires.store c.in-Ok.builder c.in-Ok.ensures.ok in (
       last.writer,
       store_last.writer,
-      subst (λ f. AreBegun device device options (g.W.Write.contents c.args.writer, g.S.Write.contents c.args.store_writer) (g.W.Write.contents last.writer, g.S.Write.contents store_last.writer) config f c.args.calls.now) (sym c.fault_of_stop.ensures)
-          (subst (λ old. AreBegun device device options old (g.W.Write.contents last.writer, g.S.Write.contents store_last.writer) config (fault_at_call number stop.fault) c.args.calls.now) (pair {T = Option (List ℕ)} (ap g.W.Write.contents out.0) (ap g.S.Write.contents records.0))
-          (both_stop options config c.args.calls.now _ is g.W.Write.contents c.in-Ok-new.out last out.1 g.S.Write.contents c.in-Ok-new-2.records store_last records.1 c.args.store c.requires.store c.requires.accepted number stop.position stop.fault ran.refused ran.err ran.store_err ran.text_delivered (ran.records_delivered out.1 records.1))),
+      rw (c.fault_of_stop.ensures, ← out.0, ← records.0)
+          (both_stop options config c.args.calls.now c.requires.accepted number stop.position stop.fault _ is ran.refused g.W.Write.contents c.in-Ok-new.out last out.1 (rw is at ran.err) (ap is_some c.requires.store)
+          g.S.Write.contents c.in-Ok-new-2.records store_last records.1 (rw (← c.requires.store) at ran.store_err) ran.text_delivered (ran.records_delivered out.1 records.1)),
     )

@@ -1,8 +1,7 @@
-use Rattle.std.proofs.Common.{◌≡◌, ◌∙◌, Some, ap, rules, subst, ℕ, List, Option, refl}
+use Rattle.std.proofs.Common.{◌≡◌, ◌∙◌, Some, ap, rules, subst, refl}
 use Rattle.scenes.proofs.Common.{buffer_meaning, device, Reported, scene_lines, store_meaning, string_meaning}
-use Rattle.scenes.proofs.lemmas.Deferred.{delivered}
-use Rattle.scenes.proofs.lemmas.Devices.{both_begun, both_whole, same_there}
-use Rattle.scenes.proofs.lemmas.Prints.{moved, pair, reported_so}
+use Rattle.scenes.proofs.lemmas.Devices.{both_begun, both_whole, delivered, same_there}
+use Rattle.scenes.proofs.lemmas.Prints.{moved, reported_so}
 use Rattle.scenes.proofs.report.report_accepted.Given as given
 use Rattle.scenes.proofs.report.report_accepted.Goals as goal
 use Rattle.scenes.proofs.report.report_accepted.Goals.{After-into_inner-writer, After-into_inner-store_writer}
@@ -18,7 +17,7 @@ alone g c =
     let settled : c.deferred-in-Unused-1.given.0 ≡ made.result.1.now = search rules in
     let ends = rest.ensures in
     let after = rw settled at ends in
-    moved (λ old new. Reported device device c.judged.inside.options.now old new (scene_lines c.judged.inside.scene.now) rest.result) (pair (ap g.W.Write.contents out.0) (ap g.S.Write.contents unused.0)) (pair {T = Option (List ℕ)} (ap g.W.Write.contents (search rules)) refl)
+    moved (λ old new. Reported device device c.judged.inside.options.now old new (scene_lines c.judged.inside.scene.now) rest.result) (ap g.W.Write.contents out.0) (ap g.S.Write.contents unused.0) (ap g.W.Write.contents (search rules)) refl
     (delivered g.W.Write.contents (record { writer = c.in-Ok.devices.0 }) made.result.1.now rest.new.out string_meaning c.judged.inside.options.now unused.1 (scene_lines c.judged.inside.scene.now) out.1 (g.S.Write.contents c.in-Unused.store_writer)
     made.result.2 made.ensures.same_store made.result.0 rest.result made.ensures.ends after.ok after.err)
 
@@ -35,19 +34,13 @@ both g c =
     let names = same_there store.result c.in-Some.store made.result.2 c.in-Some.is made.ensures.same_store ∙ ap (λ s. s.writer.ghost_name) store.ensures in
     let empty = ap (λ s. s.writer.now.pending) store.ensures ∙ records.1 in
     moved (λ old new. Reported device device options old new run made.result.0)
-    (pair (ap g.W.Write.contents out.0) (ap g.S.Write.contents (ap (λ s. s.writer.now.writer) store.ensures ∙ records.0))) (pair (ap g.W.Write.contents (search rules)) (ap g.S.Write.contents (search rules)))
+    (ap g.W.Write.contents out.0) (ap g.S.Write.contents (ap (λ s. s.writer.now.writer) store.ensures ∙ records.0)) (ap g.W.Write.contents (search rules)) (ap g.S.Write.contents (search rules))
     (reported_so run (both_whole options g.W.Write.contents g.S.Write.contents c.in-Ok.devices.0 made.result.1.now store.result c.in-Some.store out.1 empty run.config)
     (both_begun options g.W.Write.contents g.S.Write.contents c.in-Ok.devices.0 made.result.1.now store.result c.in-Some.store out.1 empty run) made.result.0
     (subst (λ y. Reported (buffer_meaning g.W.Write.contents) (store_meaning (buffer_meaning g.S.Write.contents)) options (c.in-Ok.devices.0, Some store.result) (made.result.1.now, y) run made.result.0) c.in-Some.is made.ensures.ends))
 
-pub returns-in-Unused-clause-ok : goal.returns-in-Unused-clause-ok
-returns-in-Unused-clause-ok g c = rw (← c.judged.view_is) ((alone g (goal.at.returns-in-Unused-clause-ok g c).After-into_inner-writer).0)
+pub returns-in-Unused : goal.returns-in-Unused
+returns-in-Unused g c = let ends = alone g (goal.at.returns-in-Unused g c).After-into_inner-writer in rw (← c.judged.view_is) (record { ok = ends.0; err = ends.1; no_store = search rules })
 
-pub returns-in-Unused-clause-err : goal.returns-in-Unused-clause-err
-returns-in-Unused-clause-err g c = rw (← c.judged.view_is) ((alone g (goal.at.returns-in-Unused-clause-err g c).After-into_inner-writer).1)
-
-pub returns-in-Some-clause-ok : goal.returns-in-Some-clause-ok
-returns-in-Some-clause-ok g c = rw (← c.judged.view_is) ((both g (goal.at.returns-in-Some-clause-ok g c).After-into_inner-store_writer).0)
-
-pub returns-in-Some-clause-err : goal.returns-in-Some-clause-err
-returns-in-Some-clause-err g c = rw (← c.judged.view_is) ((both g (goal.at.returns-in-Some-clause-err g c).After-into_inner-store_writer).1)
+pub returns-in-Some : goal.returns-in-Some
+returns-in-Some g c = let ends = both g (goal.at.returns-in-Some g c).After-into_inner-store_writer in rw (← c.judged.view_is) (record { ok = ends.0; err = ends.1; no_store = search rules })

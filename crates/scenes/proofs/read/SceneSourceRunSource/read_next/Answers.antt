@@ -5,7 +5,7 @@ use Rattle.scenes.proofs.read.SceneSourceRunSource.read_next.Goals as goal
 
 pub returns-in-Ok-false-clause-read : goal.returns-in-Ok-false-clause-read
 returns-in-Ok-false-clause-read g c = λ total all front before has.
-    none_left c.args.file.now all front before c.args.read.now c.args.read.now _ _ has refl
+    none_left c.args.file.now all front before c.args.read.now _ _ has
     (λ run left h.
     let none = subst (λ has_piece. IsNextPiece h.0 has_piece c.next_piece.new.piece.items (reader_remaining g.R.Read.remaining c.next_piece.new.reader)) c.in-Ok-false.field-0-test (c.in-Ok-false.ensures.piece h.0 h.1) in
     (subst (AreLeft left) none.0 h.2, ([], none.1, inr (refl, refl))))
