@@ -1,6 +1,5 @@
 //! Texts and tests that are cut: wide, combining and control characters at the cut, sequences, and parts that meet.
 
-
 use plain_text::fitting::{WriteText, count_columns, write_fitted};
 use plain_text::style::ListStyles;
 use plain_text::write_str::{WriteFault, WriteStr};

@@ -20,5 +20,4 @@ pub returns : goal.returns
 unfolding waiting_line
 returns g c =
     let laws = g.met.W.WriteStr.laws in
-    search (puts_then laws, c.in_ok-write_unit_start.ensures, c.in_ok-write_info_result.ensures, c.in_ok-write_plain.ensures, c.in_ok-write.ensures,
-      c.write_plain-2.ensures) depth 6
+    search (puts_then laws, c.in_ok-write_unit_start.ensures, c.in_ok-write_info_result.ensures, c.in_ok-write_plain.ensures, c.in_ok-write.ensures, c.write_plain-2.ensures) depth 6

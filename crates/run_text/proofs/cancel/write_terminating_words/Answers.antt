@@ -6,7 +6,8 @@ pub returns-in_err-write : goal.returns-in_err-write
 unfolding terminating_words
 returns-in_err-write g c =
     let laws = g.met.W.WriteStr.laws in
-    at_exit laws _ _ _ _ _ c.from_residual-in_err-write.ensures.1 (search (laws.goes_on, laws.stops_within, c.in_ok-write_plain.ensures, c.in_err-write.ensures))
+    at_exit laws _ _ _ _ _ c.from_residual-in_err-write.ensures.1
+    (search (laws.goes_on, laws.stops_within, c.in_ok-write_plain.ensures, c.in_err-write.ensures))
 
 pub returns : goal.returns
 unfolding terminating_words

@@ -14,12 +14,10 @@ unfolding iterations_run_text
 returns-in_err-write_plain-2 g c =
     let laws = g.met.W.WriteStr.laws in
     at_exit laws _ _ _ _ _ c.from_residual-in_err-write_plain-2.ensures.1
-    (search (laws.goes_on, laws.stops_within, c.in_ok-write_number.ensures, c.in_ok-write_of_total.ensures, c.in_ok-write_plain.ensures, (rw (c.iterations_str.ensures,
-      c.last_number.ensures) at c.in_err-write_plain-2.ensures)))
+    (search (laws.goes_on, laws.stops_within, c.in_ok-write_number.ensures, c.in_ok-write_of_total.ensures, c.in_ok-write_plain.ensures, (rw (c.iterations_str.ensures, c.last_number.ensures) at c.in_err-write_plain-2.ensures)))
 
 pub returns : goal.returns
 unfolding iterations_run_text
 returns g c =
     let laws = g.met.W.WriteStr.laws in
-    search (puts_then laws, c.in_ok-write_number.ensures, c.in_ok-write_of_total.ensures, c.in_ok-write_plain.ensures, (rw (c.iterations_str.ensures,
-      c.last_number.ensures) at c.in_ok-write_plain-2.ensures), c.write_plain-3.ensures) depth 6
+    search (puts_then laws, c.in_ok-write_number.ensures, c.in_ok-write_of_total.ensures, c.in_ok-write_plain.ensures, (rw (c.iterations_str.ensures, c.last_number.ensures) at c.in_ok-write_plain-2.ensures), c.write_plain-3.ensures) depth 6
