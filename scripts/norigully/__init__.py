@@ -16,5 +16,14 @@ TOP = pathlib.Path(__file__).resolve().parent.parent.parent
 def print_help_if_asked(doc):
     """Prints the docstring of a script and ends it, where that is all that it is asked for."""
     if sys.argv[1:] in (["--help"], ["-h"]):
-        print(doc, end="" if doc.endswith("\n") else "\n")
-        sys.exit(0)
+        from norigully import entry
+
+        entry.run(pathlib.Path(sys.argv[0]).name, lambda: entry.write(f"{(doc or own_doc()).rstrip()}\n"))
+
+
+def own_doc(name="__main__"):
+    """The docstring of a script or a module, which Python leaves out where PYTHONOPTIMIZE is 2."""
+    import ast
+
+    module = sys.modules[name]
+    return module.__doc__ or ast.get_docstring(ast.parse(module.__loader__.get_source(name)), clean=False)

@@ -1,62 +1,43 @@
 """What a person's call of the programs has around them: its words, help and version, colours on a terminal, and files
 that are looked at before a program starts. ./run has it, and the `norigully` that ./build installs."""
 
+import importlib
 import os
 import signal
 import stat
 import sys
 
-from norigully import VERSION, print_help_if_asked
+from norigully import VERSION, entry, print_help_if_asked
+from norigully.entry import INPUT, OUTPUT, WRONG, NotWritten, is_same_file
 from norigully.words import options_of, usage
 
-WRONG_WORDS, FAILED, NOT_BUILT, INTERRUPTED = 2, 3, 1, 130
-# The standard descriptors.
-INPUT, OUTPUT, ERROR = range(3)
 # The first words that name another program than `report`.
 PROGRAMS = {"--follow": "follow", "--recorded": "replay"}
-# The first word that makes a page.
+# The first word that makes a page, and those that make a scene.
 PAGE = "--page"
+CONVERTERS = {"--junit": "norigully.junit", "--libtest": "norigully.libtest_json"}
 
 
 def fault(name, what, status):
     """Ends this as the program does: one line on standard error, and the status."""
-    print(f"{name}: {what}", file=sys.stderr)
-    sys.exit(status)
-
-
-def fill_standard_descriptors():
-    """Opens /dev/null in the place of each standard descriptor that is closed, as the programs do with a folder. What
-    is opened gets the lowest free number, so without this a file of Python's could be standard output."""
-    while (opened := os.open(os.devnull, os.O_RDONLY)) <= ERROR:
-        pass
-    os.close(opened)
-    # Without it `print` takes standard output.
-    sys.stderr = sys.stderr or open(os.devnull, "w")
+    sys.exit(entry.fault(name, what, status))
 
 
 def check_files(name, options):
     """Ends this where a file cannot be read, or the file of the records is one that is read and would be emptied. None
     is opened: a pipe can be read once."""
     if not all(can_read(name, file) for file in options.files):
-        fault(name, f"cannot read {options.file}", WRONG_WORDS)
+        fault(name, f"cannot read {options.file}", WRONG)
     if options.store_at is not None:
         store = options.given[options.store_at]
         if any(is_same_file(store, file) for file in options.files or [INPUT]):
-            fault(name, f"cannot write {store}", WRONG_WORDS)
+            fault(name, f"cannot write {store}", WRONG)
 
 
 def can_read(name, file):
     """Whether a program reads such a file. Those of a recorded run are no pipes."""
     is_right = os.path.isfile(file) if name == "replay" else not os.path.isdir(file)
     return is_right and os.access(file, os.R_OK)
-
-
-def is_same_file(store, file):
-    """Whether both are the same file, by whatever path; one that is a pipe or a device is not emptied."""
-    try:
-        return os.path.isfile(store) and os.path.samefile(store, file)
-    except OSError:
-        return False
 
 
 def words_for(name, options):
@@ -81,43 +62,34 @@ def follows_pipe(name, options):
     return stat.S_ISFIFO(mode) or stat.S_ISSOCK(mode)
 
 
-def make_page(called, words, program_of):
-    """Makes the page that the words ask for. A call answers where a proved program stands, or None."""
+def make_page(words, program_of):
+    """Makes the page that the words ask for. A call returns where a proved program is, or None."""
     # Others need not wait for what only this one needs.
-    from norigully import converters, page
+    from norigully import page
 
-    fill_standard_descriptors()
     try:
         page.main(words, program_of)
-    except page.NoProgram as error:
-        fault(called, str(error), NOT_BUILT)
-    except converters.Bad as error:
-        fault(called, str(error), WRONG_WORDS)
-    except (OSError, MemoryError):
-        fault(called, "write failed", FAILED)
-    except KeyboardInterrupt:
-        sys.exit(INTERRUPTED)
+    except OSError as error:
+        raise NotWritten(*error.args) from error
 
 
 def start(called, doc, kit_line, run_program, program_of):
     """Does what the words ask, by a call that runs a program: it gets the program's name, what is asked of it, and its
-    words. `called` is what this is called in its own lines. Another call answers where a proved program stands."""
-    fill_standard_descriptors()
-    words = sys.argv[1:]
-    if sys.stdout is None and words in (["--help"], ["-h"], ["--version"], ["-V"]):
-        fault(called, "write failed", FAILED)
+    words. `called` is what this is called in its own lines. Another call returns where a proved program is."""
     print_help_if_asked(doc)
+    entry.run(called, lambda: do(sys.argv[1:], kit_line, run_program, program_of))
+
+
+def do(words, kit_line, run_program, program_of):
     if words in (["--version"], ["-V"]):
-        print(f"norigully {VERSION}, the console reporter of nextest-runner 0.129.0 with a proof")
-        print(kit_line(), end="")
-        return
-    if words[:1] == [PAGE]:
-        make_page(called, words[1:], program_of)
-        return
-    try:
+        about = f"norigully {VERSION}, the console reporter of nextest-runner 0.129.0 with a proof\n"
+        entry.write(about + kit_line())
+    elif words[:1] == [PAGE]:
+        make_page(words[1:], program_of)
+    elif words[:1] and words[0] in CONVERTERS:
+        entry.write("".join(importlib.import_module(CONVERTERS[words[0]]).convert(words[1:])))
+    else:
         run_words(words, run_program)
-    except KeyboardInterrupt:
-        sys.exit(INTERRUPTED)
 
 
 def run_words(words, run_program):
@@ -125,7 +97,7 @@ def run_words(words, run_program):
     name = PROGRAMS.get(words[0] if words else None, "report")
     options = options_of(name, words[name != "report" :])
     if options is None:
-        fault(name, usage(name), WRONG_WORDS)
+        fault(name, usage(name), WRONG)
     check_files(name, options)
     words = words_for(name, options)
     if follows_pipe(name, options):

@@ -34,12 +34,14 @@ import sys
 import tempfile
 import zipapp
 
-from norigully.front import NOT_BUILT, fault, start
+from norigully import own_doc
+from norigully.entry import NotBuilt
+from norigully.front import start
 
 # What it is made of.
 MODULES = (
-    *("__init__.py", "front.py", "installed.py", "words.py"),
-    *("converters.py", "page.py", "page_table.py", "scene_lines.py"),
+    *("__init__.py", "entry.py", "front.py", "installed.py", "words.py"),
+    *("page.py", "page_table.py", "scene_lines.py", "junit.py", "libtest_json.py", "cargo.py"),
 )
 HERE = pathlib.Path(__file__).parent
 MAIN = "from norigully.installed import main\n\nmain()\n"
@@ -73,8 +75,8 @@ def run_program(name, _options, words):
     try:
         os.execv(program, [name, *words])
     except OSError as error:
-        fault("norigully", f"cannot run {program}: {error.strerror}", NOT_BUILT)
+        raise NotBuilt(f"cannot run {program}: {error.strerror}") from error
 
 
 def main():
-    start("norigully", __doc__, str, run_program, program_of)
+    start("norigully", own_doc(__name__), str, run_program, program_of)

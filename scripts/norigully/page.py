@@ -7,15 +7,14 @@ import itertools
 import json
 import os
 import pkgutil
-import shutil
 import subprocess
-import sys
 import tempfile
 import zlib
 from dataclasses import dataclass
 from pathlib import Path
 
-from norigully.converters import Bad
+from norigully import entry
+from norigully.entry import INPUT, OUTPUT, Bad, NotBuilt, is_same_file
 from norigully.page_table import Reports, Table
 from norigully.scene_lines import unescaped
 from norigully.words import FILES_OF_RUN, LEVELS
@@ -32,14 +31,8 @@ SUCCESS = ("immediate", "", "never")
 # Of more lines than that a page has few choices, unless it is told otherwise: those of successes as the run says.
 LARGE = 32 * 10**6
 PIECE = 3 << 16
-# Standard output.
-OUTPUT = 1
 # A recorded run that failed is told by the status of `replay`.
 ENDED = {"report": (0,), "replay": (0, 3, 4, 100)}
-
-
-class NoProgram(Exception):
-    """There is no program that prints the reports."""
 
 
 @dataclass
@@ -51,6 +44,13 @@ class Asked:
     title: str = "Test report"
     choices: str | None = None
     to: str | None = None
+
+    @property
+    def files(self):
+        """The files that are read."""
+        if self.is_recorded:
+            return [os.path.join(self.source, it) for it in FILES_OF_RUN]
+        return [INPUT if self.source == "-" else self.source]
 
 
 def asked_by(words):
@@ -106,12 +106,12 @@ class Run:
         self.name = "replay" if asked.is_recorded else "report"
         self.asked, self.program, self.folder = asked, program_of(self.name), folder
         if self.program is None:
-            raise NoProgram(f"a page needs the proved program {self.name}: ./build makes it")
+            raise NotBuilt(f"a page needs the proved program {self.name}: ./build makes it")
         self.words = folder / "changed"
         self.lines = folder / "lines"
         self.changed = self.words / FILES_OF_RUN[0] if asked.is_recorded else self.words
         if asked.is_recorded:
-            source, outputs = (os.path.join(asked.source, it) for it in FILES_OF_RUN)
+            source, outputs = asked.files
             if not os.path.isfile(source) or not os.path.isfile(outputs):
                 raise Bad(f"cannot read {asked.source}")
             self.words.mkdir()
@@ -119,11 +119,9 @@ class Run:
             (self.words / FILES_OF_RUN[1]).symlink_to(os.path.abspath(outputs))
         else:
             source = asked.source
-        try:
-            with sys.stdin.buffer if source == "-" else open(source, "rb") as lines, open(self.lines, "wb") as copy:
-                shutil.copyfileobj(lines, copy)
-        except OSError:
-            raise Bad(f"cannot read {asked.source}") from None
+        with open(self.lines, "wb") as copy:
+            for piece in entry.pieces_of(source):
+                copy.write(piece)
         self.size = self.lines.stat().st_size
 
     def change(self, success, failure):
@@ -139,11 +137,7 @@ class Run:
         """Has the program print a report, gives its lines to a call, and answers what that does."""
         words = [self.program, "--color", "--level", level, str(self.words)]
         with tempfile.TemporaryFile() as said:
-            try:
-                ran = subprocess.Popen(words, stdin=subprocess.DEVNULL, stdout=subprocess.PIPE, stderr=said)
-            except OSError as error:
-                raise NoProgram(f"cannot run {self.program}: {error.strerror}") from None
-            with ran:
+            with entry.started(words, stdin=subprocess.DEVNULL, stdout=subprocess.PIPE, stderr=said) as ran:
                 found = read(ran.stdout)
             said.seek(0)
             fault = said.read().decode(errors="replace").strip()
@@ -224,10 +218,12 @@ def main(words, program_of):
     asked = asked_by(words)
     if asked is None:
         raise Bad(f"usage: page {USAGE}")
+    if asked.to is not None and any(is_same_file(asked.to, it) for it in asked.files):
+        raise Bad(f"cannot write {asked.to}")
     with tempfile.TemporaryDirectory(prefix="norigully-") as folder:
         made = Path(folder, "page")
         with open(made, "wb") as file:
             make(Run(asked, Path(folder), program_of), file)
-        with open(made, "rb") as page:
-            with open(OUTPUT, "wb", closefd=False) if asked.to is None else open(asked.to, "wb") as file:
-                shutil.copyfileobj(page, file)
+        with open(OUTPUT, "wb", closefd=False) if asked.to is None else open(asked.to, "wb") as file:
+            for piece in entry.pieces_of(made):
+                entry.write(piece, file.fileno())

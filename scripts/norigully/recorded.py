@@ -2,6 +2,7 @@
 again need not read what is not shown. `Recorder` writes the folder of a run line by line, `RecordedRun` reads one.
 """
 
+import errno
 import io
 import os
 import re
@@ -9,7 +10,7 @@ import struct
 import sys
 from dataclasses import dataclass
 
-from norigully.converters import Bad
+from norigully.entry import Bad, pieces_of, write
 from norigully.scene_lines import stream, unescaped
 from norigully.words import FILES_OF_RUN
 
@@ -124,16 +125,21 @@ def references_of(number, line):
         yield Reference(place, int(found[1]), int(found[2]), found[3])
 
 
-def write_all(file, data):
-    """Writes all of it: a file without a buffer may take less than it is given."""
-    view = memoryview(data)
-    while view:
-        view = view[file.write(view) :]
-
-
 def comment(length):
     """So many bytes that are one line which is passed over: `#`, spaces and a line feed."""
     return b"#".ljust(length - 1)[: length - 1] + b"\n" if length else b""
+
+
+def check_place(folder):
+    """Whether a run can be recorded in this folder, as far as that can be known before one is."""
+    there = [name for name in (LINES, OUTPUTS) if os.path.lexists(os.path.join(folder, name))]
+    if there:
+        raise Bad(f"{folder} has {' and '.join(there)} already")
+    while folder and not os.path.lexists(folder):
+        folder = os.path.dirname(folder)
+    code = 0 if os.path.isdir(folder or ".") else errno.EEXIST
+    if code or not os.access(folder or ".", os.W_OK | os.X_OK):
+        raise Bad(f"cannot write {folder}: {os.strerror(code or errno.EACCES)}")
 
 
 class Recorder:
@@ -142,12 +148,13 @@ class Recorder:
     def __init__(self, folder, headers=None):
         """Makes the files, and the folder where there is none. How the run ends is not known yet: `headers` has a line
         for each way."""
-        there = [name for name in (LINES, OUTPUTS) if os.path.lexists(os.path.join(folder, name))]
-        if there:
-            raise Bad(f"{folder} has {' and '.join(there)} already")
-        os.makedirs(folder, exist_ok=True)
-        self.outputs = open(os.path.join(folder, OUTPUTS), "xb+", buffering=0)
-        self.lines = open(os.path.join(folder, LINES), "xb", buffering=0)
+        check_place(folder)
+        try:
+            os.makedirs(folder, exist_ok=True)
+            self.outputs = open(os.path.join(folder, OUTPUTS), "xb+", buffering=0)
+            self.lines = open(os.path.join(folder, LINES), "xb", buffering=0)
+        except OSError as error:
+            raise Bad(f"cannot write {folder}: {error.strerror}") from error
         self.headers, self.room_at = headers or {}, None
         self.number, self.size = 0, 0
         # By test: where that stands which its attempts wrote that were tried again.
@@ -164,13 +171,13 @@ class Recorder:
         if fields and fields[0] != b"config":
             self.leave_room()
             line = b"\t".join(self.referring(fields))
-        write_all(self.lines, line + b"\n")
+        write(line + b"\n", self.lines.fileno())
 
     def leave_room(self):
         """Leaves room for the header once, in front of the first event."""
         if self.room_at is None:
             self.room_at = self.lines.tell()
-            write_all(self.lines, comment(self.room()))
+            write(comment(self.room()), self.lines.fileno())
 
     def room(self):
         return max(map(len, self.headers.values()), default=0)
@@ -197,7 +204,7 @@ class Recorder:
         offset = known.get(key)
         if offset is None or os.pread(self.outputs.fileno(), len(data), offset) != data:
             offset = known[key] = self.size
-            write_all(self.outputs, data)
+            write(data, self.outputs.fileno())
             self.size += len(data)
         return b"\\@%d:%d:%b" % (offset, *key)
 
@@ -231,8 +238,7 @@ class RecordedRun:
         missing = [name for name in (LINES, OUTPUTS) if not os.path.isfile(os.path.join(folder, name))]
         if missing:
             raise Bad(f"{folder} has no {' and no '.join(missing)}")
-        with open(os.path.join(folder, LINES), "rb") as file:
-            *self.lines, self.rest = file.read().split(b"\n")
+        *self.lines, self.rest = b"".join(pieces_of(os.path.join(folder, LINES))).split(b"\n")
         self.outputs = open(os.path.join(folder, OUTPUTS), "rb")
 
     def size(self):

@@ -4,10 +4,8 @@
 with the statistics after it. The statistics follow nextest's `RunStats`; each rule stands where it is used.
 """
 
-import os
 import re
 import signal
-import sys
 from decimal import ROUND_HALF_UP, Decimal
 
 NAMED = {"\n": "\\n", "\t": "\\t", "\r": "\\r", "\x1b": "\\e", "\\": "\\\\"}
@@ -35,7 +33,14 @@ def text(value, may_be_byte=False):
     """A text, or `-` for None. A text that is `-` itself is spelled by its code."""
     if value is None:
         return "-"
-    return "\\x2d" if value == "-" else SPELLED.sub(lambda found: spelled(found[0], may_be_byte), value)
+    if value == "-":
+        return "\\x2d"
+    if SPELLED.search(value):
+        value = value.replace("\\", NAMED["\\"])
+        # An output may be long, and few characters in it are different ones.
+        for it in {*value} - {"\\"}:
+            value = value.replace(it, spelled(it, may_be_byte)) if SPELLED.match(it) else value
+    return value
 
 
 def stream(output):
@@ -85,15 +90,6 @@ def nanos(seconds):
 def header(started, status):
     """The line of a replay's header: when the run started, as Python's `time` has it, and how it ended."""
     return "\t".join(["header", RUN_ID, "-", "-", ",".join(map(str, started[:6])), text(status)]) + "\n"
-
-
-def write_out(line):
-    """Writes a line to standard output at once. Where nobody reads any more it is dropped."""
-    try:
-        sys.stdout.buffer.write(line)
-        sys.stdout.buffer.flush()
-    except BrokenPipeError:
-        os.dup2(os.open(os.devnull, os.O_WRONLY), sys.stdout.fileno())
 
 
 class Attempt:

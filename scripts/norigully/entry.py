@@ -1,0 +1,172 @@
+"""How each script begins and ends: its standard descriptors are there, a signal ends what it started and removes its
+folders, what it writes is written whole, and a fault is one line and a status."""
+
+import contextlib
+import os
+import re
+import select
+import signal
+import subprocess
+import sys
+import time
+
+NOT_BUILT, WRONG, FAILED = 1, 2, 3
+# The standard descriptors.
+INPUT, OUTPUT, ERROR = range(3)
+# So long a process has to end by itself, in seconds.
+GRACE = 10.0
+TICK = 0.02
+# The signals that came, and the standard descriptors that were closed.
+CAME, CLOSED = [], []
+
+
+class Bad(Exception):
+    """What is wrong with the words or with what was read."""
+
+
+class NotBuilt(Exception):
+    """What is missing that must be built first."""
+
+
+class NotWritten(OSError):
+    """An output takes no more."""
+
+
+class Signal(BaseException):
+    """A signal that ends the script."""
+
+
+def run(name, work):
+    """Does the work of a script of this name and ends it: with what the work returns, or in one line."""
+    fill_standard_descriptors()
+    for number in (signal.SIGINT, signal.SIGTERM, signal.SIGHUP):
+        # One that is ignored, as by `nohup`, stays so.
+        if signal.getsignal(number) is not signal.SIG_IGN:
+            signal.signal(number, unwind)
+    try:
+        status = work()
+    except Signal:
+        status = 128 + CAME[0]
+    except (Bad, RecursionError) as error:
+        status = fault(name, error if isinstance(error, Bad) else "its input is nested too deeply", WRONG)
+    except NotBuilt as error:
+        status = fault(name, error, NOT_BUILT)
+    except MemoryError:
+        status = fault(name, "out of memory", FAILED)
+    except NotWritten:
+        status = fault(name, "write failed", FAILED)
+    except OSError as error:
+        status = fault(name, unread(error.filename, error) if error.filename else error.strerror, WRONG)
+    sys.exit(status)
+
+
+def unwind(number, _frame):
+    """The first signal ends the script by way of all that it has to leave."""
+    CAME.append(number)
+    if len(CAME) == 1:
+        raise Signal
+
+
+def fill_standard_descriptors():
+    """Opens a folder in the place of each standard descriptor that is closed, as the programs do: it can be neither
+    read nor written. What is opened gets the lowest free number, so without this a file could be standard output."""
+    while (opened := os.open("/", os.O_RDONLY)) <= ERROR:
+        CLOSED.append(opened)
+    os.close(opened)
+    # Without it `print` takes standard output.
+    sys.stderr = sys.stderr or open(os.devnull, "w")
+
+
+def encoded(text):
+    """The bytes of a text, in which bytes that are not UTF-8 are surrogates, whatever the locale is."""
+    return re.sub("[\ud800-\udc7f\udd00-\udfff]", "\ufffd", text).encode("utf-8", "surrogateescape")
+
+
+def fault(name, what, status):
+    """Says what is wrong in one line, and returns the status."""
+    with contextlib.suppress(OSError):
+        write(f"{name}: {what}".replace("\n", "\\n") + "\n", ERROR)
+    return status
+
+
+def write(text, to=OUTPUT):
+    """Writes all of it to a descriptor, which may be one that does not block."""
+    rest = memoryview(encoded(text) if isinstance(text, str) else text)
+    while rest:
+        try:
+            rest = rest[os.write(to, rest) :]
+        except BlockingIOError:
+            select.select([], [to], [])
+        except OSError as error:
+            raise NotWritten(*error.args) from error
+
+
+def lines_of(path):
+    """The lines of a file, or of standard input for `-`, each as it comes."""
+    held = []
+    for piece in pieces_of(path):
+        *whole, rest = piece.split(b"\n")
+        for line in whole:
+            yield b"".join([*held, line, b"\n"])
+            held = []
+        held.append(rest)
+    if any(held):
+        yield b"".join(held)
+
+
+def pieces_of(path):
+    """The bytes of a file, or of standard input for `-`, as they come."""
+    try:
+        with open(INPUT if path == "-" else path, "rb", buffering=0, closefd=path != "-") as file:
+            while (piece := file.read(1 << 20)) != b"":
+                if piece is None:
+                    # It does not block.
+                    select.select([file], [], [])
+                else:
+                    yield piece
+    except OSError as error:
+        if path == "-":
+            raise Bad(f"cannot read standard input: {'it is closed' if INPUT in CLOSED else error.strerror}") from error
+        raise Bad(unread(path, error)) from error
+
+
+def unread(path, error):
+    return f"cannot read {path}: {error.strerror}"
+
+
+def is_same_file(path, other):
+    """Whether writing the one would change the other, by whatever paths or descriptors; one that is a pipe or a device
+    is not emptied."""
+    with contextlib.suppress(OSError):
+        return os.path.isfile(path) and os.path.samefile(path, other)
+    return False
+
+
+@contextlib.contextmanager
+def started(command, **how):
+    """A process that ends with all that it started where this is left by a fault or a signal."""
+    try:
+        child = subprocess.Popen(command, start_new_session=True, **how)
+    except OSError as error:
+        raise NotBuilt(f"cannot run {command[0]}: {error.strerror}") from error
+    with child:
+        try:
+            yield child
+        except BaseException:
+            end(child)
+            raise
+
+
+def end(child):
+    """Ends a process and what it started: by SIGTERM, and by SIGKILL after a grace or a second signal."""
+    send(child, signal.SIGTERM)
+    until = time.monotonic() + GRACE
+    while child.poll() is None and time.monotonic() < until and len(CAME) < 2:
+        time.sleep(TICK)
+    send(child, signal.SIGKILL)
+
+
+def send(child, number):
+    """Sends a signal to a process and to what it started, unless they are gone."""
+    with contextlib.suppress(ProcessLookupError):
+        os.killpg(child.pid, number)

@@ -1,0 +1,177 @@
+"""libtest's JSON, among what else `cargo test` prints, and the scene of it."""
+
+import json
+import re
+from dataclasses import dataclass
+
+from norigully.cargo import binary_id, package_of
+from norigully.entry import Bad, lines_of
+from norigully.scene_lines import UNKNOWN_FAILURE, Attempt, Run, nanos, signal_result
+
+# A test may have printed a line: each of these takes time in proportion to its length. No file has a longer name.
+HASHED = re.compile(r"(.{1,255})-[0-9a-f]{16}(?:\.exe)?")
+DOC_TESTS = re.compile(r"\s*Doc-tests (\S+)")
+DIED = "process didn't exit successfully: "
+ENDED_BY = re.compile(r" \((?:signal: (\d{1,9})|exit status: (\d{1,9}))\b", re.A)
+OWN = re.compile(r'\{\s*"type"\s*:\s*"(?:suite|test)"')
+ENDS = ("ok", "failed", "ignored", "timeout")
+# libtest warns of a test after this time.
+SLOW_AFTER = 60
+
+
+@dataclass
+class Ended:
+    """How a test ended, or that it takes long: a word of libtest's, and what else is known."""
+
+    place: tuple
+    how: str
+    seconds: object = None
+    wrote: str = ""
+    result: str = UNKNOWN_FAILURE
+
+
+class Reader:
+    """Collects what became of each test, in the order in which they ended."""
+
+    def __init__(self):
+        self.binary_ids, self.suites, self.tests = {}, [], []
+        self.binary, self.total, self.began = "unknown", 0, {}
+        self.nanos = 0
+
+    def line(self, line):
+        doc, event = DOC_TESTS.match(line), event_in(line)
+        if event is not None:
+            self.event(event)
+        elif binary := binary_in(line):
+            self.binary = self.binary_ids.get(binary[0], binary[1])
+        elif doc:
+            self.binary = f"{doc[1]}::doc"
+        elif DIED in line:
+            ended = None
+            for ended in ENDED_BY.finditer(line, line.index(DIED)):
+                pass
+            if ended:
+                self.died(signal_result(int(ended[1])) if ended[1] else f"fail:{ended[2]}")
+
+    def died(self, result):
+        """Where a test ends its process, each test that had begun is said to have ended so: which one did it is not
+        known."""
+        self.tests += [Ended(place, "failed", result=result) for place in self.began]
+        self.began = {}
+
+    def place(self, name):
+        """The binary and the test of an event: nextest's JSON has both in the name."""
+        binary, found, test = name.partition("$")
+        if not found:
+            return self.binary, name
+        package, _, target = binary.partition("::")
+        return (package if target == package else binary), test
+
+    def event(self, event):
+        kind, what = event.get("type"), event.get("event")
+        if event.get("reason") == "compiler-artifact" and event.get("executable"):
+            target, package = event["target"], package_of(text_of(event, "package_id"))
+            self.binary_ids[file_in(text_of(event, "executable"))] = binary_id(package, target)
+        elif kind == "suite" and what == "started":
+            self.suites.append(self.binary)
+            self.total += whole(event["test_count"])
+            self.began = {}
+        elif kind == "suite":
+            self.nanos += int(nanos(event.get("exec_time")))
+        elif kind == "test":
+            self.test(self.place(text_of(event, "name")), text_of(event, "event"), event)
+
+    def test(self, place, what, event):
+        if what == "started":
+            self.began[place] = True
+            return
+        if what not in ENDS:
+            raise ValueError(what)
+        # `stdout` has both streams; of a test that passed it is there with --show-output alone.
+        wrote = [text_of(event, it) for it in ("stdout", "message") if event.get(it)]
+        self.tests.append(Ended(place, what, event.get("exec_time"), "\n".join(wrote)))
+        self.total -= what == "ignored"
+        if what != "timeout":
+            self.began.pop(place, None)
+
+
+def event_in(line):
+    """The object that a line is, or None for a text, such as what a process printed that a test started."""
+    if not line.startswith("{"):
+        return None
+    try:
+        event = json.loads(line)
+    except (ValueError, RecursionError):
+        if OWN.match(line):
+            raise
+        return None
+    return event if isinstance(event, dict) else None
+
+
+def binary_in(line):
+    """The file and the name of the binary that a line of cargo's says is next: `Running .. (target/deps/NAME-HASH)`."""
+    line = line.strip()
+    file = file_in(line.removesuffix(")")) if line.startswith("Running ") else ""
+    found = HASHED.fullmatch(file)
+    return (file, found[1]) if found else None
+
+
+def file_in(path):
+    """The last part of a path, which may be the last word of a line."""
+    for before in ("/", "\\", "(", ")"):
+        path = path.rpartition(before)[2]
+    return path.rsplit(None, 1)[-1] if path.strip() else ""
+
+
+def text_of(event, key):
+    """A field that is a text."""
+    if not isinstance(event[key], str):
+        raise TypeError(key)
+    return event[key]
+
+
+def whole(count):
+    """A number of tests."""
+    if isinstance(count, bool) or not isinstance(count, int) or not 0 <= count < 1 << 32:
+        raise ValueError(count)
+    return count
+
+
+def read(lines, name):
+    reader = Reader()
+    for number, line in enumerate(lines, 1):
+        try:
+            reader.line(line.decode("utf-8", "replace").rstrip("\r\n"))
+        except (ValueError, KeyError, TypeError, IndexError, AttributeError, RecursionError) as error:
+            raise Bad(f"{name}: line {number}: no line of libtest's JSON") from error
+    if not reader.suites:
+        raise Bad(f"{name}: no suite of tests in it: were the words `--format json` there?")
+    if reader.total < 0:
+        raise Bad(f"{name}: more tests are ignored than its suites have")
+    return reader
+
+
+def scene_of(file, name):
+    """The lines of the scene of the lines of a file with this name."""
+    reader, lines, slow = read(file, name), [], set()
+    ignored = sum(it.how == "ignored" for it in reader.tests)
+    run = Run(lines.append, reader.total, len(reader.suites), ignored)
+    for it in reader.tests:
+        if it.how == "timeout":  # a warning: the test goes on
+            slow.add(it.place)
+            run.slow(*it.place, 1, 1, SLOW_AFTER)
+        elif it.how == "ignored":
+            run.skip(*it.place)
+        else:
+            result = "pass" if it.how == "ok" else it.result
+            run.done(*it.place, [Attempt(result, it.seconds, combined=it.wrote, is_slow=it.place in slow)])
+    run.end(f"{reader.nanos // 10**9}.{reader.nanos % 10**9:09}")
+    return lines
+
+
+def convert(words):
+    """The lines of the scene of the file that the words name, or of standard input."""
+    if len(words) > 1 or (words and words[0].startswith("-") and words[0] != "-"):
+        raise Bad("usage: scene-of-libtest-json [FILE]")
+    path = words[0] if words else "-"
+    return scene_of(lines_of(path), "standard input" if path == "-" else path)
