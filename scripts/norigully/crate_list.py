@@ -16,7 +16,7 @@ NOT_BUILT_FROM = ("out", "must-fail", "mistakes")
 
 def lines_of(top=TOP):
     """The lines of crates.txt by their crate, lowest first, without comments."""
-    lines = (line.partition("#")[0].strip() for line in (top / "crates.txt").read_text().splitlines())
+    lines = (line.partition("#")[0].strip() for line in (top / "crates.txt").read_text(encoding="utf-8").splitlines())
     return {line.partition(":")[0].split()[0]: line for line in lines if line}
 
 
