@@ -73,9 +73,7 @@ class Package:
             if words[at].partition("=")[0] in OF_METADATA or words[at] in ("--offline", "--locked", "--frozen"):
                 given += words[at : at + count]
             at += count
-        told = subprocess.run(
-            ["cargo", "metadata", "--no-deps", "--format-version", "1", *given], capture_output=True, text=True
-        )
+        told = subprocess.run(["cargo", "metadata", "--no-deps", "--format-version", "1", *given], capture_output=True)
         if told.returncode:
             return {}
         return {it["id"]: Package.from_metadata(it) for it in json.loads(told.stdout)["packages"]}

@@ -39,10 +39,7 @@ class Signal(BaseException):
 def run(name, work):
     """Does the work of a script of this name and ends it: with what the work returns, or in one line."""
     fill_standard_descriptors()
-    for number in (signal.SIGINT, signal.SIGTERM, signal.SIGHUP):
-        # One that is ignored, as by `nohup`, stays so.
-        if signal.getsignal(number) is not signal.SIG_IGN:
-            signal.signal(number, unwind)
+    on_signals(unwind)
     try:
         status = work()
     except Signal:
@@ -60,7 +57,14 @@ def run(name, work):
     sys.exit(status)
 
 
-def unwind(number, _frame):
+def on_signals(call):
+    """Makes a call with the number of each signal that comes, but for one that is ignored, as by `nohup`."""
+    for number in (signal.SIGINT, signal.SIGTERM, signal.SIGHUP):
+        if signal.getsignal(number) is not signal.SIG_IGN:
+            signal.signal(number, lambda number, _frame: call(number))
+
+
+def unwind(number):
     """The first signal ends the script by way of all that it has to leave."""
     CAME.append(number)
     if len(CAME) == 1:

@@ -96,7 +96,16 @@ class Attempt:
     """An attempt of a test: how it ended (a result as docs/SCENES.md has it), how long it took, and what it wrote."""
 
     def __init__(
-        self, result, seconds, stdout=None, stderr=None, combined=None, is_slow=False, start_error=None, highlight=None
+        self,
+        result,
+        seconds,
+        stdout=None,
+        stderr=None,
+        combined=None,
+        is_slow=False,
+        start_error=None,
+        errors=None,
+        highlight=None,
     ):
         self.result, self.is_slow = result, is_slow
         output = ["split", stream(stdout), stream(stderr)]
@@ -104,7 +113,11 @@ class Attempt:
             output = ["comb", stream(combined), "-"]
         if start_error is not None:
             output = ["start", words(start_error), "-"]
-        self.fields = [result, nanos(seconds), str(int(is_slow)), *output, "-", part(highlight)]
+        self.fields = [result, nanos(seconds), str(int(is_slow)), *output, words(errors), part(highlight)]
+
+    def forget(self, errors):
+        """Leaves out what it wrote, and says why."""
+        self.fields[3:] = ["split", "-", "-", words(errors), "-"]
 
 
 class Run:
@@ -173,6 +186,10 @@ class Run:
     def done(self, binary, name, attempts, success="never", failure="immediate", total=None):
         """A test finished, of whose attempts so many are allowed; as many as were made where that is not known."""
         self.count_finished(attempts)
+        self.line_of(binary, name, attempts, success, failure, total)
+
+    def line_of(self, binary, name, attempts, success="never", failure="immediate", total=None):
+        """Writes the line of a finished test, which is counted."""
         fields = [field for attempt in attempts for field in attempt.fields]
         self.line(
             "done",

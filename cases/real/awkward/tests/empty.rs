@@ -1,0 +1,1 @@
+//! No library: the package is its tests.

@@ -1,0 +1,13 @@
+//! A harness of its own, which lists its tests as AWKWARD_LIST has it.
+
+use std::io::{stdout, Write};
+use std::{env, process};
+
+fn main() {
+    match env::var("AWKWARD_LIST").as_deref() {
+        Ok("fails") => process::exit(5),
+        Ok("bytes") => stdout().write_all(b"\xff: test\n").unwrap(),
+        Ok("separator") if !env::args().any(|it| it == "--ignored") => println!("one\u{2028}name: test"),
+        _ => {}
+    }
+}
