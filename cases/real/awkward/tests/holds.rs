@@ -32,15 +32,15 @@ fn sleeps() {
 }
 
 #[test]
-fn passes() {}
+fn zero() {}
 
 #[test]
-fn leaves_a_child() {
+fn passes_and_leaves_a_child() {
     start(&["sleep", HELD]);
 }
 
 #[test]
-fn leaves_a_session() {
+fn passes_and_leaves_a_session() {
     start(&["setsid", "sleep", HELD]);
 }
 
@@ -70,8 +70,9 @@ fn ignores_signals() {
 }
 
 #[test]
-fn passes_after_a_signal() {
+fn outlives_a_signal() {
     unsafe { signal(SIGINT, SIG_IGN) };
+    note(process::id());
     thread::sleep(Duration::from_millis(1500));
 }
 
