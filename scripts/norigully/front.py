@@ -1,6 +1,8 @@
 """What a person's call of the programs has around them: its words, help and version, colours on a terminal, and files
 that are looked at before a program starts. ./run has it, and the `norigully` that ./build installs."""
 
+import codecs
+import errno
 import importlib
 import os
 import signal
@@ -9,7 +11,7 @@ import sys
 
 from norigully import VERSION, entry, print_help_if_asked
 from norigully.entry import INPUT, OUTPUT, WRONG, NotWritten, is_same_file
-from norigully.words import options_of, usage
+from norigully.words import options_of, usage, why_wrong
 
 # The first words that name another program than `report`.
 PROGRAMS = {"--follow": "follow", "--recorded": "replay"}
@@ -24,26 +26,55 @@ def fault(name, what, status):
 
 
 def check_files(name, options):
-    """Ends this where a file cannot be read, or the file of the records is one that is read and would be emptied. None
-    is opened: a pipe can be read once."""
-    if not all(can_read(name, file) for file in options.files):
-        fault(name, f"cannot read {options.file}", WRONG)
+    """Ends this where a file cannot be read, or the file of the records is one that is read, or that the report goes to.
+    None is opened: a pipe can be read once."""
+    for file in options.files:
+        if why := why_unread(name, file):
+            fault(name, f"cannot read {file}: {why}", WRONG)
     if options.store_at is not None:
         store = options.given[options.store_at]
-        if any(is_same_file(store, file) for file in options.files or [INPUT]):
+        if any(is_same_file(store, file) for file in [*(options.files or [INPUT]), OUTPUT]):
             fault(name, f"cannot write {store}", WRONG)
 
 
-def can_read(name, file):
-    """Whether a program reads such a file. Those of a recorded run are no pipes."""
-    is_right = os.path.isfile(file) if name == "replay" else not os.path.isdir(file)
-    return is_right and os.access(file, os.R_OK)
+def why_unread(name, file):
+    """Why a program cannot read such a file, or None. Those of a recorded run are no pipes."""
+    try:
+        mode = os.stat(file).st_mode
+    except (OSError, ValueError) as error:
+        return getattr(error, "strerror", None) or str(error)
+    if stat.S_ISDIR(mode) or (name == "replay" and not stat.S_ISREG(mode)):
+        return os.strerror(errno.EISDIR) if stat.S_ISDIR(mode) else "it is no file"
+    return None if os.access(file, os.R_OK) else os.strerror(errno.EACCES)
+
+
+def looks_like(typed, name, options):
+    """What a file looks like that is no scene, by its beginning; None for a pipe, which can be read once."""
+    path = INPUT if options.reads_input else options.file
+    try:
+        if name == "replay" or not stat.S_ISREG(os.stat(path).st_mode):
+            return None
+        with open(path, "rb", buffering=0, closefd=not options.reads_input) as file:
+            text = os.pread(file.fileno(), 4096, file.tell()).removeprefix(codecs.BOM_UTF8).lstrip()
+    except OSError:
+        return None
+    for begin, kind, option, script in ((b"<", "XML", "--junit", "junit"), (b"{", "JSON", "--libtest", "libtest-json")):
+        if text.startswith(begin):
+            maker = f"scripts/scene-of-{script}" if typed == "./run" else f"{typed} {option}"
+            return f"this is {kind}: {maker} makes a scene of it"
+    line = next((it for it in text.split(b"\n") if it and not it.startswith(b"#")), b"")
+    if line.endswith(b"\r"):
+        return "its lines end with CR LF, and those of a scene with LF"
+    if b"\t" not in line and line.split(b" ")[0] in (b"run", b"config", b"header", b"start", b"done", b"skip"):
+        return "its fields are separated by spaces, and those of a scene by tabs"
+    return None
 
 
 def words_for(name, options):
     """The words for the program: colours on a terminal, and the file. `report` reads standard input by its path."""
     given = list(options.given)
-    if "--color" not in given and options.wants_color and os.isatty(OUTPUT) and not os.environ.get("NO_COLOR"):
+    is_plain = os.environ.get("NO_COLOR") or os.environ.get("TERM") == "dumb"
+    if "--color" not in given and options.wants_color and os.isatty(OUTPUT) and not is_plain:
         given.append("--color")
     if options.file is None:
         return given
@@ -77,10 +108,11 @@ def start(called, doc, kit_line, run_program, program_of):
     """Does what the words ask, by a call that runs a program: it gets the program's name, what is asked of it, and its
     words. `called` is what this is called in its own lines. Another call returns where a proved program is."""
     print_help_if_asked(doc)
-    entry.run(called, lambda: do(sys.argv[1:], kit_line, run_program, program_of))
+    typed = "./run" if called == "run" else called
+    entry.run(called, lambda: do(typed, sys.argv[1:], kit_line, run_program, program_of))
 
 
-def do(words, kit_line, run_program, program_of):
+def do(typed, words, kit_line, run_program, program_of):
     if words in (["--version"], ["-V"]):
         about = f"norigully {VERSION}, the console reporter of nextest-runner 0.129.0 with a proof\n"
         entry.write(about + kit_line())
@@ -89,18 +121,33 @@ def do(words, kit_line, run_program, program_of):
     elif words[:1] and words[0] in CONVERTERS:
         entry.write("".join(importlib.import_module(CONVERTERS[words[0]]).convert(words[1:])))
     else:
-        run_words(words, run_program)
+        run_words(typed, words, run_program)
 
 
-def run_words(words, run_program):
+def run_words(typed, words, run_program):
     """Runs the program that the words name, unless they are wrong."""
     name = PROGRAMS.get(words[0] if words else None, "report")
-    options = options_of(name, words[name != "report" :])
-    if options is None:
-        fault(name, usage(name), WRONG)
+    words = words[name != "report" :]
+    options = options_of(name, words)
+    is_file = options and (not (options.file or "").startswith("-") or options.file == "-" or os.path.lexists(options.file))
+    if not is_file and (why := why_wrong(name, words) or (None if options else usage(name))):
+        fault(typed, f"{why} ({typed} --help)", WRONG)
     check_files(name, options)
     words = words_for(name, options)
     if follows_pipe(name, options):
         # Ctrl-C is for the producer, which then writes how its run ends; what it writes is reported to the end.
         signal.signal(signal.SIGINT, signal.SIG_IGN)
+    looks = looks_like(typed, name, options)
+    if looks and (child := os.fork()):
+        sys.exit(said_behind(child, typed, looks))
     run_program(name, options, words)
+
+
+def said_behind(child, typed, what):
+    """Waits for a program, says what is wrong with its input where it does not take that, and returns its status."""
+    try:
+        status = os.waitstatus_to_exitcode(os.waitpid(child, 0)[1])
+    except BaseException:
+        os.kill(child, signal.SIGTERM)
+        raise
+    return entry.fault(typed, what, WRONG) if status == WRONG else status if status >= 0 else 128 - status

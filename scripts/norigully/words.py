@@ -11,6 +11,11 @@ LEVELS = ("none", "fail", "retry", "slow", "leak", "pass", "skip", "all")
 SHOWN = ("--color", "--counter", "--replay", "--unload", "--level L", "--store PATH", *FLAGS[-2:])
 # How usage shows the last word.
 LAST = {"report": "FILE", "follow": "[FILE]", "replay": "DIR"}
+WITH_VALUE = ("--level", "--store")
+# Words of ./run that are not where they may be.
+FIRST, ONLY = "the first word where it is used", "used alone"
+ALONE = {**dict.fromkeys(("--help", "-h", "--version", "-V"), ONLY)}
+ALONE |= dict.fromkeys(("--follow", "--recorded", "--page", "--junit", "--libtest"), FIRST)
 # The files in the folder of a recorded run.
 FILES_OF_RUN = ("run.scene", "outputs")
 
@@ -73,6 +78,36 @@ def options_of(program, words):
     if (keeps_output and options.store_at is None) or (program != "follow" and options.file is None):
         return None
     return options
+
+
+def why_wrong(program, words):
+    """Why words are used wrongly, or None where they are not."""
+    given, at, file = set(), 0, None
+    if re.search("[\ud800-\udfff]", "".join(words)):
+        return "a word that is not UTF-8"
+    while at < len(words):
+        word, more = words[at], words[at + 1 :]
+        if word in given:
+            return f"{word} is given twice"
+        if word in WITH_VALUE and not more:
+            return f"{word} needs a value"
+        if word == "--level" and more[0] not in LEVELS:
+            return f"unknown level {more[0]}: {', '.join(LEVELS[:-1])} or {LEVELS[-1]}"
+        if word in ALONE:
+            return f"{word} is {ALONE[word]}"
+        if word.startswith("-") and word not in ("-", "--no-color", *FLAGS, *WITH_VALUE):
+            return f"unknown option {word}"
+        is_file = word == "-" or not word.startswith("-")
+        if more and is_file:
+            return f"{more[0]} after {LAST[program].strip('[]')}, which is the last word"
+        file = word if is_file else None
+        given.add(word)
+        at += 2 if word in WITH_VALUE else 1
+    if {"--color", "--no-color"} <= given:
+        return "both --color and --no-color"
+    if "--store" not in given and (kept := given & {"--store-success", "--store-failure"}):
+        return f"{kept.pop()} needs --store PATH"
+    return f"no {LAST[program]}" if program != "follow" and file is None else None
 
 
 def is_option(options, word):
