@@ -2,6 +2,7 @@
        norigully --follow [OPTIONS] [FILE]
        norigully --recorded [OPTIONS] DIR
        norigully --page [-o PAGE] FILE
+       norigully --junit [FILE..] | --libtest [FILE]
 
 Prints the console report of a run that is written as text. FILE is the last word; - is standard input.
 
@@ -10,6 +11,8 @@ Prints the console report of a run that is written as text. FILE is the last wor
                     the captured output that the report shows
   --page            as the first word: makes an HTML page of the run, which goes to PAGE or standard output; --recorded
                     DIR is a recorded run, --title T its title, and --choices all or few says how many reports it has
+  --junit           as the first word: writes JUnit XML, of FILEs or of standard input, as a run that FILE can be
+  --libtest         as the first word: the same of the lines of libtest's JSON
   --color           with colours, which is the default on a terminal unless NO_COLOR is set
   --no-color        without colours, also on a terminal
   --counter         a counter on the line of each test
