@@ -81,14 +81,14 @@ def follows_pipe(name, options):
     return stat.S_ISFIFO(mode) or stat.S_ISSOCK(mode)
 
 
-def make_page(called, words, program_of):
-    """Makes the page that the words ask for. A call answers where a proved program stands, or None."""
+def make_page(called, words, find):
+    """Makes the page that the words ask for. A call returns the path of a program."""
     # Others need not wait for what only this one needs.
     from norigully import converters, page
 
     fill_standard_descriptors()
     try:
-        page.main(words, program_of)
+        page.main(words, find)
     except page.NoProgram as error:
         fault(called, str(error), NOT_BUILT)
     except converters.Bad as error:
@@ -99,9 +99,9 @@ def make_page(called, words, program_of):
         sys.exit(INTERRUPTED)
 
 
-def start(called, doc, kit_line, run_program, program_of):
-    """Does what the words ask, by a call that runs a program: it gets the program's name, what is asked of it, and its
-    words. `called` is what this is called in its own lines. Another call answers where a proved program stands."""
+def start(called, doc, kit_line, find):
+    """Does what the words ask. `called` is what this is called in its own lines. A call returns the path of a program,
+    and may build it first."""
     fill_standard_descriptors()
     words = sys.argv[1:]
     if sys.stdout is None and words in (["--help"], ["-h"], ["--version"], ["-V"]):
@@ -112,23 +112,26 @@ def start(called, doc, kit_line, run_program, program_of):
         print(kit_line(), end="")
         return
     if words[:1] == [PAGE]:
-        make_page(called, words[1:], program_of)
+        make_page(called, words[1:], find)
         return
     try:
-        run_words(words, run_program)
+        run_words(called, words, find)
     except KeyboardInterrupt:
         sys.exit(INTERRUPTED)
 
 
-def run_words(words, run_program):
-    """Runs the program that the words name, unless they are wrong."""
+def run_words(called, words, find):
+    """Becomes the program that the words name, unless they are wrong."""
     name = PROGRAMS.get(words[0] if words else None, "report")
     options = options_of(name, words[name != "report" :])
     if options is None:
         fault(name, usage(name), WRONG_WORDS)
     check_files(name, options)
-    words = words_for(name, options)
+    words, program = words_for(name, options), find(name)
     if follows_pipe(name, options):
         # Ctrl-C is for the producer, which then writes how its run ends; what it writes is reported to the end.
         signal.signal(signal.SIGINT, signal.SIG_IGN)
-    run_program(name, options, words)
+    try:
+        os.execv(program, [name, *words])
+    except OSError as error:
+        fault(called, f"cannot run {program}: {error.strerror}", NOT_BUILT)

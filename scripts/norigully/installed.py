@@ -27,14 +27,13 @@ the program is not beside it. With --follow or --recorded it is that of the run:
 cancelled, 4 where no test ran, and 3 where it did not end.
 """
 
-import os
 import pathlib
 import shutil
 import sys
 import tempfile
 import zipapp
 
-from norigully.front import NOT_BUILT, fault, start
+from norigully.front import start
 
 # What it is made of.
 MODULES = (
@@ -67,14 +66,5 @@ def program_of(name):
     return pathlib.Path(sys.argv[0]).resolve().parent / beside(name)
 
 
-def run_program(name, _options, words):
-    """Becomes the program."""
-    program = program_of(name)
-    try:
-        os.execv(program, [name, *words])
-    except OSError as error:
-        fault("norigully", f"cannot run {program}: {error.strerror}", NOT_BUILT)
-
-
 def main():
-    start("norigully", __doc__, str, run_program, program_of)
+    start("norigully", __doc__, str, program_of)

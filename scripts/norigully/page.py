@@ -102,11 +102,9 @@ def failures(lines):
 class Run:
     """The run that a page is made of, in a folder of files that go in the end."""
 
-    def __init__(self, asked, folder, program_of):
+    def __init__(self, asked, folder, find):
         self.name = "replay" if asked.is_recorded else "report"
-        self.asked, self.program, self.folder = asked, program_of(self.name), folder
-        if self.program is None:
-            raise NoProgram(f"a page needs the proved program {self.name}: ./build makes it")
+        self.asked, self.program, self.folder = asked, find(self.name), folder
         self.words = folder / "changed"
         self.lines = folder / "lines"
         self.changed = self.words / FILES_OF_RUN[0] if asked.is_recorded else self.words
@@ -219,15 +217,15 @@ def write_packed(source, file):
     file.write(base64.b64encode(held + packer.flush()))
 
 
-def main(words, program_of):
-    """Makes the page that the words ask for. A call answers where a program stands."""
+def main(words, find):
+    """Makes the page that the words ask for. A call returns the path of a program."""
     asked = asked_by(words)
     if asked is None:
         raise Bad(f"usage: page {USAGE}")
     with tempfile.TemporaryDirectory(prefix="norigully-") as folder:
         made = Path(folder, "page")
         with open(made, "wb") as file:
-            make(Run(asked, Path(folder), program_of), file)
+            make(Run(asked, Path(folder), find), file)
         with open(made, "rb") as page:
             with open(OUTPUT, "wb", closefd=False) if asked.to is None else open(asked.to, "wb") as file:
                 shutil.copyfileobj(page, file)
