@@ -27,6 +27,7 @@ the program is not beside it. With --follow or --recorded it is that of the run:
 cancelled, 4 where no test ran, and 3 where it did not end.
 """
 
+import os
 import pathlib
 import shutil
 import sys
@@ -41,6 +42,8 @@ MODULES = (
     *("converters.py", "page.py", "page_table.py", "scene_lines.py"),
 )
 HERE = pathlib.Path(__file__).parent
+# The least that a zip file can tell, and a day for other time zones.
+TIME = 315_619_200
 MAIN = "from norigully.installed import main\n\nmain()\n"
 
 
@@ -58,6 +61,10 @@ def write(target):
             shutil.copy(HERE / module, made / "norigully")
         shutil.copytree(HERE / "page", made / "norigully/page")
         (made / "__main__.py").write_text(MAIN)
+        for it in made.rglob("*"):
+            # The same sources give the same bytes.
+            it.chmod(0o755 if it.is_dir() else 0o644)
+            os.utime(it, (TIME, TIME))
         zipapp.create_archive(made, target, "/usr/bin/env python3")
 
 

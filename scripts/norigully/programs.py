@@ -81,13 +81,13 @@ def take(name, sources, top=TOP):
     return is_of(name, sources, top)
 
 
-def put(text, to):
-    """Puts a program in its place at once: one that runs there keeps its file."""
+def put(text, to, mode=0o755):
+    """Puts a program or another file in its place at once: one that runs there keeps its file."""
     to.parent.mkdir(parents=True, exist_ok=True)
     with tempfile.TemporaryDirectory(dir=to.parent) as made:
         new = pathlib.Path(made) / to.name
         new.write_bytes(text)
-        new.chmod(0o755)
+        new.chmod(mode)
         os.replace(new, to)
 
 
