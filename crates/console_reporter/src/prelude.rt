@@ -10,8 +10,8 @@
 
 pub use crate::error::ReportError;
 pub use crate::imp::{
-    ConsoleReporter, DisplayReporter, DisplayReporterBuilder, DisplayerKind, OutputLoadDecider, ReportCall,
-    RunFault, StoreConfig, Surroundings, WriteEventError, first_refused, run_report,
+    ConsoleReporter, DisplayReporter, DisplayReporterBuilder, DisplayerKind, OutputLoadDecider,
+    ReportCall, RunFault, StoreConfig, Surroundings, WriteEventError, first_refused, run_report,
     run_report_with_store, unload_skipped,
 };
 pub use bytes::Bytes;
